@@ -1,0 +1,14 @@
+-- What a change does to a slot's number, and what takes it back.
+use Rattle.std.specs.Prelude.{ℕ, ◌+◌, ◌-◌, ◌%◌, ◌^◌}
+use Rattle.page_core.specs.declared.change.Change.{Change}
+use Rattle.page_core.specs.declared.change.Change.TheVariants.{Set, Add}
+
+-- the slot's number after the change: Set replaces it, Add adds to it modulo 2^64
+abbrev pub changed : Change → ℕ → ℕ
+changed (Set before after) number = after
+changed (Add amount) number = (number + amount) % 2 ^ 64
+
+-- the change that takes it back: Set to the number before, Add of what is missing to 2^64
+abbrev pub undo_of : Change → Change
+undo_of (Set before after) = Set 0 before
+undo_of (Add amount) = Add ((2 ^ 64 - amount) % 2 ^ 64)

@@ -1,0 +1,40 @@
+//! What a change does to a slot, and what takes it back.
+
+ghost use Rattle.std.specs.Prelude.{◌≡◌};
+ghost use Rattle.page_core.specs.Change.{changed, undo_of as inverse_of};
+
+/// A change of one slot. It has what redo needs and what undo needs.
+#[derive(Clone, Copy, Debug, PartialEq, Eq)]
+pub enum Change {
+    /// Replaces the slot's number. `before` is the number that it replaces.
+    Set { before: u64, after: u64 },
+    /// Adds to the slot's number, modulo 2^64.
+    Add { amount: u64 },
+}
+
+impl Change {
+    /// The slot's number after this change.
+    pub fn changed(&self, number: u64) -> u64
+        ensures { result ≡ changed self.now number }
+    {
+        match *self {
+            Change::Set { after, .. } => after,
+            Change::Add { amount } => number.wrapping_add(amount),
+        }
+    }
+}
+
+/// The change that takes a change back.
+pub fn undo_of(change: &Change) -> Change
+    ensures { result ≡ inverse_of change.now }
+{
+    match *change {
+        Change::Set { before, .. } => Change::Set {
+            before: 0,
+            after: before,
+        },
+        Change::Add { amount } => Change::Add {
+            amount: 0u64.wrapping_sub(amount),
+        },
+    }
+}

@@ -1,0 +1,46 @@
+//! Numbers that name a page, a slot of a page, and a place in the log.
+
+use std::marker::Model;
+
+/// The number of a page in its volume, counted from 0.
+#[derive(Clone, Copy, Debug, PartialEq, Eq, PartialOrd, Ord, Hash)]
+pub struct PageNo(pub u32);
+
+impl Model for PageNo {
+    ghost use Rattle.std.specs.Prelude.{ℕ};
+
+    ghost Value = { ℕ };
+
+    ghost view = { λ number. number.0 };
+
+    ghost inverse = { λ n. record { 0 = n } };
+}
+
+/// The number of a slot in its page, counted from 0.
+#[derive(Clone, Copy, Debug, PartialEq, Eq, PartialOrd, Ord, Hash)]
+pub struct SlotNo(pub u16);
+
+impl Model for SlotNo {
+    ghost use Rattle.std.specs.Prelude.{ℕ};
+
+    ghost Value = { ℕ };
+
+    ghost view = { λ slot. slot.0 };
+
+    ghost inverse = { λ n. record { 0 = n } };
+}
+
+/// A log sequence number: the byte offset of a record in the log. 0 means "none", since the log
+/// begins with its header.
+#[derive(Clone, Copy, Debug, PartialEq, Eq, PartialOrd, Ord, Hash)]
+pub struct Lsn(pub u64);
+
+impl Model for Lsn {
+    ghost use Rattle.std.specs.Prelude.{ℕ};
+
+    ghost Value = { ℕ };
+
+    ghost view = { λ lsn. lsn.0 };
+
+    ghost inverse = { λ n. record { 0 = n } };
+}
