@@ -1,0 +1,125 @@
+//! A record as bytes, and back.
+
+ghost use Rattle.std.specs.Prelude.{◌≡◌, ◌<◌, ◌↔◌, IfSome, Some, IsTrue};
+ghost use Rattle.page_core.specs.declared.change.Change.{Change};
+ghost use Rattle.log_store.specs.declared.record.Record.{Record};
+ghost use Rattle.log_store.specs.Fields.{fields_of, change_kind, before_of, after_of};
+ghost use Rattle.log_store.specs.Record.{IsLsn, IsTxn, IsBefore, IsChange, IsRecord, SpellsRecord, record_bytes};
+
+use crate::fields::{ADD, BEGIN, COMMIT, Fields, SET, UPDATE};
+use crate::number::TxnNo;
+use crate::record::{Body, RECORD_BYTES, Record};
+use page_core::{Change, Lsn, PageNo, SlotNo};
+
+/// The bytes of a record.
+pub fn encode(record: &Record) -> [u8; RECORD_BYTES]
+    ensures { result ≡ record_bytes «record».now }
+{
+    Fields::of(record).write()
+}
+
+/// The record that these bytes spell at this LSN, if they do.
+pub fn decode(bytes: &[u8; RECORD_BYTES], at: Lsn) -> Option<Record>
+    ensures found { IfSome result (λ r. (r.lsn ≡ at) × SpellsRecord r bytes.now) }
+    ensures only { (r : Record) → r.lsn ≡ at → SpellsRecord r bytes.now → result ≡ Some r }
+{
+    let fields = Fields::read(bytes);
+    let body = body_of(&fields)?;
+    let record = Record { lsn: at, body };
+    if is_record(&record) && has_fields(&record, &fields) {
+        Some(record)
+    } else {
+        None
+    }
+}
+
+fn has_fields(record: &Record, fields: &Fields) -> bool
+    ensures { IsTrue result ↔ (fields_of «record».now ≡ fields.now) }
+{
+    Fields::of(record) == *fields
+}
+
+/// The only body that may have these numbers.
+fn body_of(fields: &Fields) -> Option<Body>
+    ensures { (r : Record) → fields_of r ≡ fields.now → result ≡ Some r.body }
+{
+    let txn = TxnNo(fields.txn);
+    let prev = Lsn(fields.prev);
+    match fields.kind {
+        BEGIN => Some(Body::Begin { txn }),
+        UPDATE => Some(Body::Update {
+            txn,
+            prev,
+            page: PageNo(fields.page),
+            slot: SlotNo(fields.slot),
+            change: change_of(fields)?,
+        }),
+        COMMIT => Some(Body::Commit { txn, prev }),
+        _ => None,
+    }
+}
+
+/// The only change that may have these numbers.
+fn change_of(fields: &Fields) -> Option<Change>
+    ensures { (change : Change) → change_kind change ≡ fields.now.change → before_of change ≡ fields.now.before
+        → after_of change ≡ fields.now.after → result ≡ Some change }
+{
+    match fields.change {
+        SET => Some(Change::Set {
+            before: fields.before,
+            after: fields.after,
+        }),
+        ADD => Some(Change::Add {
+            amount: fields.after,
+        }),
+        _ => None,
+    }
+}
+
+fn is_record(record: &Record) -> bool
+    ensures { IsTrue result ↔ IsRecord «record».now }
+{
+    let at = record.lsn;
+    is_lsn(at)
+        && match record.body {
+            Body::Begin { txn } => is_txn(txn),
+            Body::Update {
+                txn,
+                prev,
+                page,
+                slot,
+                change,
+            } => is_txn(txn) && is_before(at, prev) && is_change(page, slot, &change),
+            Body::Commit { txn, prev } => is_txn(txn) && is_before(at, prev),
+        }
+}
+
+fn is_lsn(lsn: Lsn) -> bool
+    ensures { IsTrue result ↔ IsLsn lsn }
+{
+    lsn.0 >= 64 && lsn.0 % 64 == 0
+}
+
+fn is_before(at: Lsn, lsn: Lsn) -> bool
+    ensures { IsTrue result ↔ IsBefore at lsn }
+{
+    is_lsn(lsn) && lsn < at
+}
+
+fn is_txn(txn: TxnNo) -> bool
+    ensures { IsTrue result ↔ IsTxn txn }
+{
+    txn.0 >= 1
+}
+
+fn is_change(page: PageNo, slot: SlotNo, change: &Change) -> bool
+    ensures { IsTrue result ↔ ((page < 65536) × (slot < 62) × IsChange change.now) }
+{
+    match *change {
+        Change::Set {
+            before: _before,
+            after: _after,
+        } => page.0 < 65536 && slot.0 < 62,
+        Change::Add { amount: _amount } => page.0 < 65536 && slot.0 < 62,
+    }
+}

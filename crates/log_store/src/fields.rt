@@ -1,0 +1,137 @@
+//! The numbers that the bytes of a transaction record spell.
+
+ghost use Rattle.std.specs.Prelude.{◌≡◌};
+
+use crate::record::{Body, RECORD_BYTES, Record};
+use page_core::Change;
+use page_core::field::{u16_at, u32_at, u64_at};
+
+/// The numbers of a transaction record in the order of its bytes. A field that a kind does not have is 0.
+/// Where a byte is followed by bytes that are always 0, the byte and these are one number.
+#[derive(Clone, Copy, Debug, PartialEq, Eq)]
+pub struct Fields {
+    pub kind: u32,
+    pub txn: u32,
+    pub prev: u64,
+    pub undo_next: u64,
+    pub page: u32,
+    pub slot: u16,
+    pub change: u16,
+    pub before: u64,
+    pub after: u64,
+    pub spare: u64,
+    pub lsn: u64,
+}
+
+/// The kinds of record, as their first byte has them.
+pub const BEGIN: u32 = 1;
+pub const UPDATE: u32 = 2;
+pub const COMMIT: u32 = 4;
+
+/// The kinds of change.
+pub const SET: u16 = 1;
+pub const ADD: u16 = 2;
+
+const NO_FIELDS: Fields = Fields {
+    kind: 0,
+    txn: 0,
+    prev: 0,
+    undo_next: 0,
+    page: 0,
+    slot: 0,
+    change: 0,
+    before: 0,
+    after: 0,
+    spare: 0,
+    lsn: 0,
+};
+
+impl Fields {
+    ghost use Rattle.log_store.specs.Fields.{fields_bytes, fields_of, AreInRange};
+    ghost use Rattle.log_store.specs.declared.fields.Fields.{Fields};
+
+    /// The numbers that these bytes spell.
+    pub fn read(bytes: &[u8; RECORD_BYTES]) -> Fields
+        ensures found { bytes.now ≡ fields_bytes result }
+        ensures only { (fields : Fields) → AreInRange fields → bytes.now ≡ fields_bytes fields → result ≡ fields }
+    {
+        Fields {
+            kind: u32_at(bytes, 0),
+            txn: u32_at(bytes, 4),
+            prev: u64_at(bytes, 8),
+            undo_next: u64_at(bytes, 16),
+            page: u32_at(bytes, 24),
+            slot: u16_at(bytes, 28),
+            change: u16_at(bytes, 30),
+            before: u64_at(bytes, 32),
+            after: u64_at(bytes, 40),
+            spare: u64_at(bytes, 48),
+            lsn: u64_at(bytes, 56),
+        }
+    }
+
+    /// The bytes that spell these numbers.
+    pub fn write(&self) -> [u8; RECORD_BYTES]
+        ensures { result ≡ fields_bytes self.now }
+    {
+        let mut bytes = [0; RECORD_BYTES];
+        bytes[..4].copy_from_slice(&self.kind.to_le_bytes());
+        bytes[4..8].copy_from_slice(&self.txn.to_le_bytes());
+        bytes[8..16].copy_from_slice(&self.prev.to_le_bytes());
+        bytes[16..24].copy_from_slice(&self.undo_next.to_le_bytes());
+        bytes[24..28].copy_from_slice(&self.page.to_le_bytes());
+        bytes[28..30].copy_from_slice(&self.slot.to_le_bytes());
+        bytes[30..32].copy_from_slice(&self.change.to_le_bytes());
+        bytes[32..40].copy_from_slice(&self.before.to_le_bytes());
+        bytes[40..48].copy_from_slice(&self.after.to_le_bytes());
+        bytes[48..56].copy_from_slice(&self.spare.to_le_bytes());
+        bytes[56..].copy_from_slice(&self.lsn.to_le_bytes());
+        bytes
+    }
+
+    /// The numbers of a record.
+    pub fn of(record: &Record) -> Fields
+        ensures { result ≡ fields_of «record».now }
+    {
+        let lsn = record.lsn.0;
+        match record.body {
+            Body::Begin { txn } => Fields {
+                kind: BEGIN,
+                txn: txn.0,
+                lsn,
+                ..NO_FIELDS
+            },
+            Body::Update {
+                txn,
+                prev,
+                page,
+                slot,
+                change,
+            } => {
+                let (kind, before, after) = match change {
+                    Change::Set { before, after } => (SET, before, after),
+                    Change::Add { amount } => (ADD, 0, amount),
+                };
+                Fields {
+                    kind: UPDATE,
+                    txn: txn.0,
+                    prev: prev.0,
+                    page: page.0,
+                    slot: slot.0,
+                    change: kind,
+                    before,
+                    after,
+                    lsn,
+                    ..NO_FIELDS
+                }
+            }
+            Body::Commit { txn, prev } => Fields {
+                kind: COMMIT,
+                txn: txn.0,
+                prev: prev.0,
+                lsn,
+                ..NO_FIELDS
+            },
+        }
+    }
+}
