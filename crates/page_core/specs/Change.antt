@@ -1,5 +1,5 @@
 -- What a change does to a slot's number, and what takes it back.
-use Rattle.std.specs.Prelude.{ℕ, ◌+◌, ◌-◌, ◌%◌, ◌^◌}
+use Rattle.std.specs.Prelude.{ℕ, ◌≡◌, ◌+◌, ◌-◌, ◌%◌, ◌^◌}
 use Rattle.page_core.specs.declared.change.Change.{Change}
 use Rattle.page_core.specs.declared.change.Change.TheVariants.{Set, Add}
 
@@ -12,3 +12,8 @@ changed (Add amount) number = (number + amount) % 2 ^ 64
 abbrev pub undo_of : Change → Change
 undo_of (Set before after) = Set 0 before
 undo_of (Add amount) = Add ((2 ^ 64 - amount) % 2 ^ 64)
+
+-- the change was made of this number: it is the one that a Set says it replaces
+abbrev pub Replaces : Change → ℕ → Type 0
+Replaces (Set before after) number = before ≡ number
+Replaces (Add amount) number = Unit {0}

@@ -1,7 +1,7 @@
 //! What a change does to a slot, and what takes it back.
 
-ghost use Rattle.std.specs.Prelude.{◌≡◌};
-ghost use Rattle.page_core.specs.Change.{changed, undo_of as inverse_of};
+ghost use Rattle.std.specs.Prelude.{ℕ, ◌≡◌, ◌<◌, ◌^◌};
+ghost use Rattle.page_core.specs.Change.{changed, undo_of as inverse_of, Replaces};
 
 /// A change of one slot. It has what redo needs and what undo needs.
 #[derive(Clone, Copy, Debug, PartialEq, Eq)]
@@ -26,7 +26,10 @@ impl Change {
 
 /// The change that takes a change back.
 pub fn undo_of(change: &Change) -> Change
-    ensures { result ≡ inverse_of change.now }
+    ensures inverse { result ≡ inverse_of change.now }
+    // Undoing puts the number back.
+    ensures restores { (number : ℕ) → number < 2 ^ 64 → Replaces change.now number
+        → changed result (changed change.now number) ≡ number }
 {
     match *change {
         Change::Set { before, .. } => Change::Set {

@@ -1,0 +1,2 @@
+pub mod EightBytes
+pub mod PageBytes
