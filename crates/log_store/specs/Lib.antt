@@ -1,2 +1,5 @@
+pub mod Fault
 pub mod Fields
+pub mod Image
+pub mod Log
 pub mod Record

@@ -1,0 +1,68 @@
+-- What may be wrong with the bytes of a log, and which fault is the first.
+use Rattle.std.specs.Prelude.{ℕ, ◌≡◌, ◌+◌, ◌*◌, ◌%◌, ◌<◌, ◌≤◌, List, length, take, slice_range, ◌++◌}
+use Rattle.std.specs.Int.{w32, from_le_bytes}
+use Rattle.log_store.specs.declared.fault.LogReadFault.{LogReadFault}
+use Rattle.log_store.specs.declared.fault.LogReadFault.TheVariants.{OutOfMemory, BadHeader, BadRecord, Torn, ReadFault, TooLong}
+use Rattle.log_store.specs.declared.record.Record.{Record}
+use Rattle.log_store.specs.Record.{record_bytes}
+use Rattle.log_store.specs.Log.{Log, IsPageCount, StandsAt, SpellsLog, header_bytes}
+
+-- the bytes of the longest log: its header and 1,048,576 records
+abbrev pub longest : ℕ
+longest = 67108928
+
+-- an offset at which a record may stand
+pub record IsPlace (at : ℕ) : Type 0 where
+  pub aligned : at % 64 ≡ 0
+  pub past_header : 64 ≤ at
+  pub in_longest : at < longest
+
+-- these 64 bytes are the header of a log
+abbrev pub IsHeader : List ℕ → Type 0
+IsHeader bytes = (pages : ℕ) × IsPageCount pages × (bytes ≡ header_bytes pages)
+
+-- the page count that a header has
+abbrev pub pages_in : List ℕ → ℕ
+pages_in bytes = from_le_bytes w32 (slice_range bytes 8 12)
+
+-- the 64 bytes at this offset are a record that stands there
+abbrev pub HasRecord : List ℕ → ℕ → Type 0
+HasRecord bytes at = (r : Record) × StandsAt (pages_in bytes) at r × (slice_range bytes at (at + 64) ≡ record_bytes r)
+
+-- the bytes have this fault
+abbrev pub HasFault : List ℕ → LogReadFault → Type 0
+HasFault bytes BadHeader = ¬ IsHeader (take 64 bytes)
+HasFault bytes (BadRecord at) = IsPlace at × (at + 64 ≤ length bytes) × ¬ HasRecord bytes at
+HasFault bytes (Torn at) = IsPlace at × (at < length bytes) × (length bytes < at + 64)
+HasFault bytes TooLong = longest < length bytes
+HasFault bytes OutOfMemory = ⊥
+HasFault bytes ReadFault = ⊥
+
+-- where a fault lies
+abbrev pub offset_of : LogReadFault → ℕ
+offset_of BadHeader = 0
+offset_of (BadRecord at) = at
+offset_of (Torn at) = at
+offset_of TooLong = longest
+offset_of OutOfMemory = 0
+offset_of ReadFault = 0
+
+-- the bytes have this fault, and none before it
+pub record IsFirstFault (bytes : List ℕ) (fault : LogReadFault) : Type 0 where
+  pub there : HasFault bytes fault
+  pub first : (other : LogReadFault) → HasFault bytes other → offset_of fault ≤ offset_of other
+
+-- however these bytes go on, nothing in them is wrong yet: a header or a record that is not whole is no fault
+pub record HoldsNoFault (given : List ℕ) : Type 0 where
+  pub header : 64 ≤ length given → IsHeader (take 64 given)
+  pub records : (at : ℕ) → IsPlace at → at + 64 ≤ length given → HasRecord given at
+  pub short : length given ≤ longest
+
+-- what a refusal says of the input
+abbrev pub Refuses : LogReadFault → List ℕ → Type 0
+Refuses OutOfMemory input = Unit {0}
+Refuses ReadFault input = (given : List ℕ) × (rest : List ℕ) × (input ≡ given ++ rest) × HoldsNoFault given
+Refuses BadHeader input = IsFirstFault input BadHeader
+Refuses (BadRecord at) input = IsFirstFault input (BadRecord at)
+Refuses (Torn at) input = IsFirstFault input (Torn at)
+Refuses TooLong input = IsFirstFault input TooLong

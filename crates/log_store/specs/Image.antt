@@ -1,0 +1,27 @@
+-- The pages that a log makes.
+use Rattle.std.specs.Prelude.{ℕ, ◌==◌, List, [], ◌∷◌, map, if◌then◌else◌}
+use Rattle.std.specs.List.{range_with_len}
+use Rattle.page_core.specs.declared.page.Page.{Page}
+use Rattle.page_core.specs.Page.{formatted, put}
+use Rattle.log_store.specs.declared.record.Record.{Record}
+use Rattle.log_store.specs.declared.record.Body.{Body}
+use Rattle.log_store.specs.declared.record.Body.TheVariants.{Begin, Update, Commit}
+
+-- the page with what a record at this LSN changes on it
+abbrev pub with_body : Page → ℕ → Body → Page
+with_body page lsn (Begin txn) = page
+with_body page lsn (Update txn prev number slot change) = if number == page.number then put page lsn slot change else page
+with_body page lsn (Commit txn prev) = page
+
+-- a page with the changes of these records on it, in their order, whatever its LSN
+abbrev pub image_from : Page → List Record → Page
+image_from page [] = page
+image_from page (r ∷ rs) = image_from (with_body page r.lsn r.body) rs
+
+-- a page as the log makes it, from its formatting on
+abbrev pub image : List Record → ℕ → Page
+image records number = image_from (formatted number) records
+
+-- the volume as the log makes it
+abbrev pub redo_all : List Record → ℕ → List Page
+redo_all records pages = map (image records) (range_with_len 0 pages)

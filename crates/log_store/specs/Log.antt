@@ -1,0 +1,51 @@
+-- A whole log, and its bytes.
+use Rattle.std.specs.Prelude.{ℕ, ◌≡◌, ◌+◌, ◌*◌, ◌<◌, ◌≤◌, List, length, ◌++◌, slice_index_or, replicate, codes}
+use Rattle.std.specs.List.{flat_map}
+use Rattle.std.specs.Int.{w32, to_le_bytes}
+use Rattle.log_store.specs.declared.record.Record.{Record}
+use Rattle.log_store.specs.declared.record.Body.{Body}
+use Rattle.log_store.specs.declared.record.Body.TheVariants.{Begin, Update, Commit}
+use Rattle.log_store.specs.Record.{IsRecord, record_bytes}
+
+-- the page count of the volume, and the records, the oldest first
+pub record Log : Type 0 where
+  pub pages : ℕ
+  pub records : List Record
+
+-- where the record at an index stands: behind the header and the records before it, 64 bytes each
+abbrev pub lsn_of : ℕ → ℕ
+lsn_of i = 64 * (i + 1)
+
+-- a record names no page past the page count
+abbrev pub IsWithin : ℕ → Body → Type 0
+IsWithin pages (Begin txn) = Unit {0}
+IsWithin pages (Update txn prev page slot change) = page < pages
+IsWithin pages (Commit txn prev) = Unit {0}
+
+-- a record of a log of so many pages that stands at this LSN
+pub record StandsAt (pages at : ℕ) (r : Record) : Type 0 where
+  pub lsn : r.lsn ≡ at
+  pub valid : IsRecord r
+  pub within : IsWithin pages r.body
+
+pub record IsPageCount (pages : ℕ) : Type 0 where
+  pub least : 1 ≤ pages
+  pub most : pages ≤ 65536
+
+-- a log that has a spelling
+pub record IsLog (log : Log) : Type 0 where
+  pub pages : IsPageCount log.pages
+  pub count : length log.records ≤ 1048576
+  pub records : (i : ℕ) (d : Record) → i < length log.records → StandsAt log.pages (lsn_of i) (slice_index_or log.records i d)
+
+-- the 64 bytes in front of the records
+unfoldable pub header_bytes : ℕ → List ℕ
+header_bytes pages = codes "AIMGLOG1" ++ to_le_bytes w32 pages ++ replicate 52 0
+
+abbrev pub log_bytes : Log → List ℕ
+log_bytes log = header_bytes log.pages ++ flat_map record_bytes log.records
+
+-- the bytes are the one spelling of the log
+pub record SpellsLog (log : Log) (bytes : List ℕ) : Type 0 where
+  pub valid : IsLog log
+  pub spelled : bytes ≡ log_bytes log

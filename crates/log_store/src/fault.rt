@@ -1,0 +1,63 @@
+//! Why a log could not be read.
+
+ghost use Rattle.std.specs.Prelude.{◌≡◌};
+ghost use Rattle.log_store.specs.declared.fault.LogReadFault.TheVariants.{OutOfMemory};
+
+use page_core::Lsn;
+use std::alloc::{AllocError, AllocFailed};
+use std::error::Error;
+use std::fmt;
+
+/// Why a log could not be read: the first fault of its bytes, or what kept them from being read.
+#[derive(Clone, Copy, Debug, PartialEq, Eq)]
+pub enum LogReadFault {
+    /// Memory ran out.
+    OutOfMemory,
+    /// The first 64 bytes are no header, or there are fewer.
+    BadHeader,
+    /// The 64 bytes at this offset are no record that may stand there, or name a page outside the volume.
+    BadRecord(Lsn),
+    /// The input ends within the record at this offset.
+    Torn(Lsn),
+    /// The reader failed, or did not come to an end, and what it gave until then holds no fault.
+    ReadFault,
+    /// Bytes follow the last record that a log may have.
+    TooLong,
+}
+
+impl fmt::Display for LogReadFault {
+    fn fmt<W: fmt::Write>(&self, f: &mut fmt::Formatter<W>) -> fmt::Result {
+        match self {
+            LogReadFault::OutOfMemory => write!(f, "out of memory"),
+            LogReadFault::BadHeader => write!(f, "the log's header is misspelt"),
+            LogReadFault::BadRecord(at) => {
+                let at = at.0;
+                write!(f, "the record at {at} is misspelt")
+            }
+            LogReadFault::Torn(at) => {
+                let at = at.0;
+                write!(f, "the log ends within the record at {at}")
+            }
+            LogReadFault::ReadFault => write!(f, "the log could not be read"),
+            LogReadFault::TooLong => write!(f, "bytes follow the last record that a log may have"),
+        }
+    }
+}
+
+impl Error for LogReadFault {}
+
+impl From<AllocError> for LogReadFault {
+    ghost from_gives = { λ _ e. e ≡ OutOfMemory };
+
+    fn from(_error: AllocError) -> LogReadFault {
+        LogReadFault::OutOfMemory
+    }
+}
+
+impl<T: Drop> From<AllocFailed<T>> for LogReadFault {
+    ghost from_gives = { λ _ e. e ≡ OutOfMemory };
+
+    fn from(_error: AllocFailed<T>) -> LogReadFault {
+        LogReadFault::OutOfMemory
+    }
+}
