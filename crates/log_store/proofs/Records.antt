@@ -1,12 +1,18 @@
 -- The numbers of a record that a log may have.
-use Rattle.std.proofs.Common.{◌≡◌, ℕ, ◌<◌, ◌^◌, arith, lit<}
+use Rattle.std.proofs.Common.{◌≡◌, ℕ, ◌<◌, ◌^◌, List, ◌++◌, length, take, refl, sym, ap, ◌∙◌, arith, lit<}
+use Rattle.std.specs.Prelude.{slice_range}
+use Rattle.std.specs.Int.{w16, w32, w64, to_le_bytes, from_le_bytes}
+use Rattle.std.proofs.lemmas.List.{take_at}
+use Rattle.std.proofs.lemmas.Nat.{from_le_bytes-to_le_bytes_2, from_le_bytes-to_le_bytes_4, from_le_bytes-to_le_bytes_8}
+use Rattle.page_core.specs.Pieces.{HaveLength}
 use Rattle.page_core.specs.declared.change.Change.{Change}
 use Rattle.page_core.specs.declared.change.Change.TheVariants.{Set, Add}
 use Rattle.log_store.specs.declared.record.Record.{Record}
 use Rattle.log_store.specs.declared.record.Body.{Body}
 use Rattle.log_store.specs.declared.record.Body.TheVariants.{Begin, Update, Commit}
-use Rattle.log_store.specs.Fields.{fields_of, body_fields, AreInRange, change_kind, before_of, after_of}
-use Rattle.log_store.specs.Record.{IsLsn, IsBody, IsRecord, IsChange}
+use Rattle.log_store.specs.declared.fields.Fields.{Fields}
+use Rattle.log_store.specs.Fields.{fields_bytes, fields_of, body_fields, AreInRange, change_kind, before_of, after_of}
+use Rattle.log_store.specs.Record.{record_bytes, IsLsn, IsBody, IsRecord, IsChange}
 
 before_fits : (change : Change) → IsChange change → before_of change < 2 ^ 64
 before_fits (Set before after) fits = fits.0
@@ -37,3 +43,76 @@ body_in_range lsn (Commit txn prev) place fits = record {
 -- they fit their bytes
 pub in_range : (r : Record) → IsRecord r → AreInRange (fields_of r)
 in_range r fits = body_in_range r.lsn r.body fits.lsn fits.body
+
+pub record_length : HaveLength record_bytes 64
+unfolding fields_bytes
+record_length = record { each = λ r. refl }
+
+-- ---- two records with the same bytes are one
+
+same_u16 : (m n : ℕ) → m < 2 ^ 16 → n < 2 ^ 16 → to_le_bytes w16 m ≡ to_le_bytes w16 n → m ≡ n
+same_u16 m n m_fits n_fits e = sym (from_le_bytes-to_le_bytes_2 m m_fits) ∙ ap (from_le_bytes w16) e ∙ from_le_bytes-to_le_bytes_2 n n_fits
+
+same_u32 : (m n : ℕ) → m < 2 ^ 32 → n < 2 ^ 32 → to_le_bytes w32 m ≡ to_le_bytes w32 n → m ≡ n
+same_u32 m n m_fits n_fits e = sym (from_le_bytes-to_le_bytes_4 m m_fits) ∙ ap (from_le_bytes w32) e ∙ from_le_bytes-to_le_bytes_4 n n_fits
+
+same_u64 : (m n : ℕ) → m < 2 ^ 64 → n < 2 ^ 64 → to_le_bytes w64 m ≡ to_le_bytes w64 n → m ≡ n
+same_u64 m n m_fits n_fits e = sym (from_le_bytes-to_le_bytes_8 m m_fits) ∙ ap (from_le_bytes w64) e ∙ from_le_bytes-to_le_bytes_8 n n_fits
+
+same_fields : (f g : Fields) → AreInRange f → AreInRange g → fields_bytes f ≡ fields_bytes g → f ≡ g
+unfolding fields_bytes
+same_fields f g f_fits g_fits e =
+    let part = λ (a b : ℕ). ap (λ (bs : List ℕ). slice_range bs a b) e in
+    rw (
+      same_u32 f.kind g.kind f_fits.kind g_fits.kind (part 0 4),
+      same_u32 f.txn g.txn f_fits.txn g_fits.txn (part 4 8),
+      same_u64 f.prev g.prev f_fits.prev g_fits.prev (part 8 16),
+      same_u64 f.undo_next g.undo_next f_fits.undo_next g_fits.undo_next (part 16 24),
+      same_u32 f.page g.page f_fits.page g_fits.page (part 24 28),
+      same_u16 f.slot g.slot f_fits.slot g_fits.slot (part 28 30),
+      same_u16 f.change g.change f_fits.change g_fits.change (part 30 32),
+      same_u64 f.before g.before f_fits.before g_fits.before (part 32 40),
+      same_u64 f.after g.after f_fits.after g_fits.after (part 40 48),
+      same_u64 f.spare g.spare f_fits.spare g_fits.spare (part 48 56),
+      same_u64 f.lsn g.lsn f_fits.lsn g_fits.lsn (part 56 64)
+    ) refl
+
+same_change : (a b : Change) → change_kind a ≡ change_kind b → before_of a ≡ before_of b → after_of a ≡ after_of b → a ≡ b
+same_change (Set before after) (Set before' after') kind e d = rw (e, d) refl
+same_change (Set before after) (Add amount) kind e d = absurd (omega arith)
+same_change (Add amount) (Set before after) kind e d = absurd (omega arith)
+same_change (Add amount) (Add amount') kind e d = rw d refl
+
+unequal : (m n : ℕ) → m ≡ n → m < n → ⊥
+unequal m n e lt = omega arith
+
+same_body : (lsn : ℕ) (a b : Body) → body_fields lsn a ≡ body_fields lsn b → a ≡ b
+same_body lsn (Begin txn) (Begin txn') e = ap (λ (f : Fields). Begin f.txn) e
+same_body lsn (Begin txn) (Update txn' prev page slot change) e = absurd (unequal 1 2 (ap (λ (f : Fields). f.kind) e) (lit< tt))
+same_body lsn (Begin txn) (Commit txn' prev) e = absurd (unequal 1 4 (ap (λ (f : Fields). f.kind) e) (lit< tt))
+same_body lsn (Update txn prev page slot change) (Begin txn') e = absurd (unequal 1 2 (sym (ap (λ (f : Fields). f.kind) e)) (lit< tt))
+same_body lsn (Update txn prev page slot change) (Update txn' prev' page' slot' change') e =
+    let changes : change ≡ change' = same_change change change' (ap (λ (f : Fields). f.change) e) (ap (λ (f : Fields). f.before) e) (ap (λ (f : Fields). f.after) e) in
+    ap (λ (f : Fields). Update f.txn f.prev f.page f.slot change) e ∙ ap (Update txn' prev' page' slot') changes
+same_body lsn (Update txn prev page slot change) (Commit txn' prev') e = absurd (unequal 2 4 (ap (λ (f : Fields). f.kind) e) (lit< tt))
+same_body lsn (Commit txn prev) (Begin txn') e = absurd (unequal 1 4 (sym (ap (λ (f : Fields). f.kind) e)) (lit< tt))
+same_body lsn (Commit txn prev) (Update txn' prev' page slot change) e = absurd (unequal 2 4 (sym (ap (λ (f : Fields). f.kind) e)) (lit< tt))
+same_body lsn (Commit txn prev) (Commit txn' prev') e = ap (λ (f : Fields). Commit f.txn f.prev) e
+
+lsn_in : (lsn : ℕ) (body : Body) → (body_fields lsn body).lsn ≡ lsn
+lsn_in lsn (Begin txn) = refl
+lsn_in lsn (Update txn prev page slot change) = refl
+lsn_in lsn (Commit txn prev) = refl
+
+pub same_record : (r s : Record) → IsRecord r → IsRecord s → record_bytes r ≡ record_bytes s → r ≡ s
+same_record r s r_valid s_valid e =
+    let numbers : fields_of r ≡ fields_of s = same_fields (fields_of r) (fields_of s) (in_range r r_valid) (in_range s s_valid) e in
+    let lsns : r.lsn ≡ s.lsn = sym (lsn_in r.lsn r.body) ∙ ap (λ (f : Fields). f.lsn) numbers ∙ lsn_in s.lsn s.body in
+    let bodies : r.body ≡ s.body = same_body s.lsn r.body s.body (ap (λ (n : ℕ). body_fields n r.body) (sym lsns) ∙ numbers) in
+    rw (lsns, bodies) refl
+
+-- no record's bytes begin another's
+pub records_apart : (r s : Record) (x y : List ℕ) → IsRecord r → IsRecord s → record_bytes r ++ x ≡ record_bytes s ++ y → r ≡ s
+records_apart r s x y r_valid s_valid e =
+    same_record r s r_valid s_valid
+    (sym (take_at (record_bytes r) x 64 (record_length.each r)) ∙ ap (take 64) e ∙ take_at (record_bytes s) y 64 (record_length.each s))
