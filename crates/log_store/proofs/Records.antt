@@ -8,11 +8,10 @@ use Rattle.page_core.specs.Pieces.{HaveLength}
 use Rattle.page_core.specs.declared.change.Change.{Change}
 use Rattle.page_core.specs.declared.change.Change.TheVariants.{Set, Add}
 use Rattle.log_store.specs.declared.record.Record.{Record}
-use Rattle.log_store.specs.declared.record.Body.{Body}
-use Rattle.log_store.specs.declared.record.Body.TheVariants.{Begin, Update, Commit}
+use Rattle.log_store.specs.declared.record.Record.TheVariants.{Begin, Update, Commit}
 use Rattle.log_store.specs.declared.fields.Fields.{Fields}
-use Rattle.log_store.specs.Fields.{fields_bytes, fields_of, body_fields, AreInRange, change_kind, before_of, after_of}
-use Rattle.log_store.specs.Record.{record_bytes, IsLsn, IsBody, IsRecord, IsChange}
+use Rattle.log_store.specs.Fields.{fields_bytes, fields_of, AreInRange, change_kind, before_of, after_of}
+use Rattle.log_store.specs.Record.{record_bytes, IsRecord, IsChange}
 
 before_fits : (change : Change) → IsChange change → before_of change < 2 ^ 64
 before_fits (Set before after) fits = fits.0
@@ -26,23 +25,20 @@ kind_fits : (change : Change) → change_kind change < 2 ^ 16
 kind_fits (Set before after) = lit< tt
 kind_fits (Add amount) = lit< tt
 
-body_in_range : (lsn : ℕ) (body : Body) → IsLsn lsn → IsBody lsn body → AreInRange (body_fields lsn body)
-body_in_range lsn (Begin txn) place fits = record {
-  kind = lit< tt; txn = fits.fits; prev = lit< tt; undo_next = lit< tt; page = lit< tt; slot = lit< tt;
-  change = lit< tt; before = lit< tt; after = lit< tt; spare = lit< tt; lsn = place.fits;
-}
-body_in_range lsn (Update txn prev page slot change) place fits = record {
-  kind = lit< tt; txn = fits.0.fits; prev = fits.1.place.fits; undo_next = lit< tt; page = omega (arith, fits.2); slot = omega (arith, fits.3);
-  change = kind_fits change; before = before_fits change fits.4; after = after_fits change fits.4; spare = lit< tt; lsn = place.fits;
-}
-body_in_range lsn (Commit txn prev) place fits = record {
-  kind = lit< tt; txn = fits.0.fits; prev = fits.1.place.fits; undo_next = lit< tt; page = lit< tt; slot = lit< tt;
-  change = lit< tt; before = lit< tt; after = lit< tt; spare = lit< tt; lsn = place.fits;
-}
-
 -- they fit their bytes
 pub in_range : (r : Record) → IsRecord r → AreInRange (fields_of r)
-in_range r fits = body_in_range r.lsn r.body fits.lsn fits.body
+in_range (Begin lsn txn) valid = record {
+  kind = lit< tt; txn = valid.1.fits; prev = lit< tt; undo_next = lit< tt; page = lit< tt; slot = lit< tt;
+  change = lit< tt; before = lit< tt; after = lit< tt; spare = lit< tt; lsn = valid.0.fits;
+}
+in_range (Update lsn txn prev page slot change) valid = record {
+  kind = lit< tt; txn = valid.1.fits; prev = valid.2.place.fits; undo_next = lit< tt; page = omega (arith, valid.3); slot = omega (arith, valid.4);
+  change = kind_fits change; before = before_fits change valid.5; after = after_fits change valid.5; spare = lit< tt; lsn = valid.0.fits;
+}
+in_range (Commit lsn txn prev) valid = record {
+  kind = lit< tt; txn = valid.1.fits; prev = valid.2.place.fits; undo_next = lit< tt; page = lit< tt; slot = lit< tt;
+  change = lit< tt; before = lit< tt; after = lit< tt; spare = lit< tt; lsn = valid.0.fits;
+}
 
 pub record_length : HaveLength record_bytes 64
 unfolding fields_bytes
@@ -86,30 +82,21 @@ same_change (Add amount) (Add amount') kind e d = rw d refl
 unequal : (m n : ℕ) → m ≡ n → m < n → ⊥
 unequal m n e lt = omega arith
 
-same_body : (lsn : ℕ) (a b : Body) → body_fields lsn a ≡ body_fields lsn b → a ≡ b
-same_body lsn (Begin txn) (Begin txn') e = ap (λ (f : Fields). Begin f.txn) e
-same_body lsn (Begin txn) (Update txn' prev page slot change) e = absurd (unequal 1 2 (ap (λ (f : Fields). f.kind) e) (lit< tt))
-same_body lsn (Begin txn) (Commit txn' prev) e = absurd (unequal 1 4 (ap (λ (f : Fields). f.kind) e) (lit< tt))
-same_body lsn (Update txn prev page slot change) (Begin txn') e = absurd (unequal 1 2 (sym (ap (λ (f : Fields). f.kind) e)) (lit< tt))
-same_body lsn (Update txn prev page slot change) (Update txn' prev' page' slot' change') e =
+from_fields : (r s : Record) → fields_of r ≡ fields_of s → r ≡ s
+from_fields (Begin lsn txn) (Begin lsn' txn') e = ap (λ (f : Fields). Begin f.lsn f.txn) e
+from_fields (Begin lsn txn) (Update lsn' txn' prev' page' slot' change') e = absurd (unequal 1 2 (ap (λ (f : Fields). f.kind) e) (lit< tt))
+from_fields (Begin lsn txn) (Commit lsn' txn' prev') e = absurd (unequal 1 4 (ap (λ (f : Fields). f.kind) e) (lit< tt))
+from_fields (Update lsn txn prev page slot change) (Begin lsn' txn') e = absurd (unequal 1 2 (sym (ap (λ (f : Fields). f.kind) e)) (lit< tt))
+from_fields (Update lsn txn prev page slot change) (Update lsn' txn' prev' page' slot' change') e =
     let changes : change ≡ change' = same_change change change' (ap (λ (f : Fields). f.change) e) (ap (λ (f : Fields). f.before) e) (ap (λ (f : Fields). f.after) e) in
-    ap (λ (f : Fields). Update f.txn f.prev f.page f.slot change) e ∙ ap (Update txn' prev' page' slot') changes
-same_body lsn (Update txn prev page slot change) (Commit txn' prev') e = absurd (unequal 2 4 (ap (λ (f : Fields). f.kind) e) (lit< tt))
-same_body lsn (Commit txn prev) (Begin txn') e = absurd (unequal 1 4 (sym (ap (λ (f : Fields). f.kind) e)) (lit< tt))
-same_body lsn (Commit txn prev) (Update txn' prev' page slot change) e = absurd (unequal 2 4 (sym (ap (λ (f : Fields). f.kind) e)) (lit< tt))
-same_body lsn (Commit txn prev) (Commit txn' prev') e = ap (λ (f : Fields). Commit f.txn f.prev) e
-
-lsn_in : (lsn : ℕ) (body : Body) → (body_fields lsn body).lsn ≡ lsn
-lsn_in lsn (Begin txn) = refl
-lsn_in lsn (Update txn prev page slot change) = refl
-lsn_in lsn (Commit txn prev) = refl
+    ap (λ (f : Fields). Update f.lsn f.txn f.prev f.page f.slot change) e ∙ ap (Update lsn' txn' prev' page' slot') changes
+from_fields (Update lsn txn prev page slot change) (Commit lsn' txn' prev') e = absurd (unequal 2 4 (ap (λ (f : Fields). f.kind) e) (lit< tt))
+from_fields (Commit lsn txn prev) (Begin lsn' txn') e = absurd (unequal 1 4 (sym (ap (λ (f : Fields). f.kind) e)) (lit< tt))
+from_fields (Commit lsn txn prev) (Update lsn' txn' prev' page' slot' change') e = absurd (unequal 2 4 (sym (ap (λ (f : Fields). f.kind) e)) (lit< tt))
+from_fields (Commit lsn txn prev) (Commit lsn' txn' prev') e = ap (λ (f : Fields). Commit f.lsn f.txn f.prev) e
 
 pub same_record : (r s : Record) → IsRecord r → IsRecord s → record_bytes r ≡ record_bytes s → r ≡ s
-same_record r s r_valid s_valid e =
-    let numbers : fields_of r ≡ fields_of s = same_fields (fields_of r) (fields_of s) (in_range r r_valid) (in_range s s_valid) e in
-    let lsns : r.lsn ≡ s.lsn = sym (lsn_in r.lsn r.body) ∙ ap (λ (f : Fields). f.lsn) numbers ∙ lsn_in s.lsn s.body in
-    let bodies : r.body ≡ s.body = same_body s.lsn r.body s.body (ap (λ (n : ℕ). body_fields n r.body) (sym lsns) ∙ numbers) in
-    rw (lsns, bodies) refl
+same_record r s r_valid s_valid e = from_fields r s (same_fields (fields_of r) (fields_of s) (in_range r r_valid) (in_range s s_valid) e)
 
 -- no record's bytes begin another's
 pub records_apart : (r s : Record) (x y : List ℕ) → IsRecord r → IsRecord s → record_bytes r ++ x ≡ record_bytes s ++ y → r ≡ s

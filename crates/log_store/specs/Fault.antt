@@ -58,11 +58,20 @@ pub record HoldsNoFault (given : List ℕ) : Type 0 where
   pub records : (at : ℕ) → IsPlace at → at + 64 ≤ length given → HasRecord given at
   pub short : length given ≤ longest
 
--- what a refusal says of the input
-abbrev pub Refuses : LogReadFault → List ℕ → Type 0
-Refuses OutOfMemory input = Unit {0}
-Refuses ReadFault input = (given : List ℕ) × (rest : List ℕ) × (input ≡ given ++ rest) × HoldsNoFault given
-Refuses BadHeader input = IsFirstFault input BadHeader
-Refuses (BadRecord at) input = IsFirstFault input (BadRecord at)
-Refuses (Torn at) input = IsFirstFault input (Torn at)
-Refuses TooLong input = IsFirstFault input TooLong
+-- a fault is out of memory, or the first one of the bytes
+abbrev pub IsFaultOf : List ℕ → LogReadFault → Type 0
+IsFaultOf bytes OutOfMemory = Unit {0}
+IsFaultOf bytes ReadFault = ⊥
+IsFaultOf bytes BadHeader = IsFirstFault bytes BadHeader
+IsFaultOf bytes (BadRecord at) = IsFirstFault bytes (BadRecord at)
+IsFaultOf bytes (Torn at) = IsFirstFault bytes (Torn at)
+IsFaultOf bytes TooLong = IsFirstFault bytes TooLong
+
+-- what a refusal says of the input of a reader: the same, or what was given until the reader failed holds no fault
+abbrev pub Refuses : List ℕ → LogReadFault → Type 0
+Refuses input OutOfMemory = Unit {0}
+Refuses input ReadFault = (given : List ℕ) × (rest : List ℕ) × (input ≡ given ++ rest) × HoldsNoFault given
+Refuses input BadHeader = IsFirstFault input BadHeader
+Refuses input (BadRecord at) = IsFirstFault input (BadRecord at)
+Refuses input (Torn at) = IsFirstFault input (Torn at)
+Refuses input TooLong = IsFirstFault input TooLong

@@ -4,8 +4,7 @@ use Rattle.std.specs.Int.{w16, w32, w64, to_le_bytes}
 use Rattle.page_core.specs.declared.change.Change.{Change}
 use Rattle.page_core.specs.declared.change.Change.TheVariants.{Set, Add}
 use Rattle.log_store.specs.declared.record.Record.{Record}
-use Rattle.log_store.specs.declared.record.Body.{Body}
-use Rattle.log_store.specs.declared.record.Body.TheVariants.{Begin, Update, Commit}
+use Rattle.log_store.specs.declared.record.Record.TheVariants.{Begin, Update, Commit}
 use Rattle.log_store.specs.declared.fields.Fields.{Fields}
 
 -- each number with its lowest byte first, one after another: 64 bytes
@@ -44,18 +43,15 @@ abbrev pub after_of : Change → ℕ
 after_of (Set before after) = after
 after_of (Add amount) = amount
 
--- the numbers of a record with this LSN; what a kind does not have is 0
-abbrev pub body_fields : ℕ → Body → Fields
-body_fields lsn (Begin txn) = record {
+-- the numbers of a record; what a kind does not have is 0
+abbrev pub fields_of : Record → Fields
+fields_of (Begin lsn txn) = record {
   kind = 1; txn = txn; prev = 0; undo_next = 0; page = 0; slot = 0; change = 0; before = 0; after = 0; spare = 0; lsn = lsn;
 }
-body_fields lsn (Update txn prev page slot change) = record {
+fields_of (Update lsn txn prev page slot change) = record {
   kind = 2; txn = txn; prev = prev; undo_next = 0; page = page; slot = slot;
   change = change_kind change; before = before_of change; after = after_of change; spare = 0; lsn = lsn;
 }
-body_fields lsn (Commit txn prev) = record {
+fields_of (Commit lsn txn prev) = record {
   kind = 4; txn = txn; prev = prev; undo_next = 0; page = 0; slot = 0; change = 0; before = 0; after = 0; spare = 0; lsn = lsn;
 }
-
-abbrev pub fields_of : Record → Fields
-fields_of r = body_fields r.lsn r.body

@@ -4,19 +4,18 @@ use Rattle.std.specs.List.{range_with_len}
 use Rattle.page_core.specs.declared.page.Page.{Page}
 use Rattle.page_core.specs.Page.{formatted, put}
 use Rattle.log_store.specs.declared.record.Record.{Record}
-use Rattle.log_store.specs.declared.record.Body.{Body}
-use Rattle.log_store.specs.declared.record.Body.TheVariants.{Begin, Update, Commit}
+use Rattle.log_store.specs.declared.record.Record.TheVariants.{Begin, Update, Commit}
 
--- the page with what a record at this LSN changes on it
-abbrev pub with_body : Page → ℕ → Body → Page
-with_body page lsn (Begin txn) = page
-with_body page lsn (Update txn prev number slot change) = if number == page.number then put page lsn slot change else page
-with_body page lsn (Commit txn prev) = page
+-- the page with what a record changes on it, if it does
+abbrev pub with_record : Page → Record → Page
+with_record page (Begin lsn txn) = page
+with_record page (Update lsn txn prev number slot change) = if number == page.number then put page lsn slot change else page
+with_record page (Commit lsn txn prev) = page
 
 -- a page with the changes of these records on it, in their order, whatever its LSN
 abbrev pub image_from : Page → List Record → Page
 image_from page [] = page
-image_from page (r ∷ rs) = image_from (with_body page r.lsn r.body) rs
+image_from page (r ∷ rs) = image_from (with_record page r) rs
 
 -- a page as the log makes it, from its formatting on
 abbrev pub image : List Record → ℕ → Page

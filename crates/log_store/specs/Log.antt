@@ -1,11 +1,10 @@
 -- A whole log, and its bytes.
-use Rattle.std.specs.Prelude.{ℕ, ◌≡◌, ◌+◌, ◌*◌, ◌<◌, ◌≤◌, List, length, ◌++◌, slice_index_or, replicate, codes}
+use Rattle.std.specs.Prelude.{ℕ, ◌≡◌, ◌+◌, ◌-◌, ◌*◌, ◌/◌, ◌<◌, ◌≤◌, min, List, length, ◌++◌, slice_index_or, slice_range, take, replicate, codes}
 use Rattle.std.specs.List.{flat_map}
 use Rattle.std.specs.Int.{w32, to_le_bytes}
 use Rattle.log_store.specs.declared.record.Record.{Record}
-use Rattle.log_store.specs.declared.record.Body.{Body}
-use Rattle.log_store.specs.declared.record.Body.TheVariants.{Begin, Update, Commit}
-use Rattle.log_store.specs.Record.{IsRecord, record_bytes}
+use Rattle.log_store.specs.declared.record.Record.TheVariants.{Begin, Update, Commit}
+use Rattle.log_store.specs.Record.{own_lsn, IsRecord, record_bytes}
 
 -- the page count of the volume, and the records, the oldest first
 pub record Log : Type 0 where
@@ -17,16 +16,16 @@ abbrev pub lsn_of : ℕ → ℕ
 lsn_of i = 64 * (i + 1)
 
 -- a record names no page past the page count
-abbrev pub IsWithin : ℕ → Body → Type 0
-IsWithin pages (Begin txn) = Unit {0}
-IsWithin pages (Update txn prev page slot change) = page < pages
-IsWithin pages (Commit txn prev) = Unit {0}
+abbrev pub IsWithin : ℕ → Record → Type 0
+IsWithin pages (Begin lsn txn) = Unit {0}
+IsWithin pages (Update lsn txn prev page slot change) = page < pages
+IsWithin pages (Commit lsn txn prev) = Unit {0}
 
 -- a record of a log of so many pages that stands at this LSN
 pub record StandsAt (pages at : ℕ) (r : Record) : Type 0 where
-  pub lsn : r.lsn ≡ at
+  pub lsn : own_lsn r ≡ at
   pub valid : IsRecord r
-  pub within : IsWithin pages r.body
+  pub within : IsWithin pages r
 
 pub record IsPageCount (pages : ℕ) : Type 0 where
   pub least : 1 ≤ pages
@@ -49,3 +48,19 @@ log_bytes log = header_bytes log.pages ++ flat_map record_bytes log.records
 pub record SpellsLog (log : Log) (bytes : List ℕ) : Type 0 where
   pub valid : IsLog log
   pub spelled : bytes ≡ log_bytes log
+
+-- the bytes begin with the header of a log of so many pages
+pub record HasHeader (pages : ℕ) (bytes : List ℕ) : Type 0 where
+  pub count : IsPageCount pages
+  pub long : 64 ≤ length bytes
+  pub spelled : take 64 bytes ≡ header_bytes pages
+
+-- how many whole records stand behind the header, of those that a log may have
+abbrev pub whole_records : List ℕ → ℕ
+whole_records bytes = min (length bytes / 64 - 1) 1048576
+
+-- these are the first n records behind the header
+pub record AreFirst (n pages : ℕ) (bytes : List ℕ) (rs : List Record) : Type 0 where
+  pub count : length rs ≡ n
+  pub each : (i : ℕ) (d : Record) → i < n → StandsAt pages (lsn_of i) (slice_index_or rs i d)
+  pub spelled : (i : ℕ) (d : Record) → i < n → slice_range bytes (lsn_of i) (lsn_of i + 64) ≡ record_bytes (slice_index_or rs i d)

@@ -3,8 +3,7 @@ use Rattle.std.specs.Prelude.{ℕ, ◌≡◌, ◌<◌, ◌≤◌, ◌^◌, ◌%�
 use Rattle.page_core.specs.declared.change.Change.{Change}
 use Rattle.page_core.specs.declared.change.Change.TheVariants.{Set, Add}
 use Rattle.log_store.specs.declared.record.Record.{Record}
-use Rattle.log_store.specs.declared.record.Body.{Body}
-use Rattle.log_store.specs.declared.record.Body.TheVariants.{Begin, Update, Commit}
+use Rattle.log_store.specs.declared.record.Record.TheVariants.{Begin, Update, Commit}
 use Rattle.log_store.specs.Fields.{fields_of, fields_bytes}
 
 -- the number of a transaction
@@ -27,16 +26,17 @@ abbrev pub IsChange : Change → Type 0
 IsChange (Set before after) = (before < 2 ^ 64) × (after < 2 ^ 64)
 IsChange (Add amount) = amount < 2 ^ 64
 
--- what a record at `at` may say
-abbrev pub IsBody : ℕ → Body → Type 0
-IsBody at (Begin txn) = IsTxn txn
-IsBody at (Update txn prev page slot change) = IsTxn txn × IsBefore at prev × (page < 65536) × (slot < 62) × IsChange change
-IsBody at (Commit txn prev) = IsTxn txn × IsBefore at prev
+-- the record's own LSN
+abbrev pub own_lsn : Record → ℕ
+own_lsn (Begin lsn txn) = lsn
+own_lsn (Update lsn txn prev page slot change) = lsn
+own_lsn (Commit lsn txn prev) = lsn
 
 -- a record that a log may have: only such a record has a spelling
-pub record IsRecord (r : Record) : Type 0 where
-  pub lsn : IsLsn r.lsn
-  pub body : IsBody r.lsn r.body
+abbrev pub IsRecord : Record → Type 0
+IsRecord (Begin lsn txn) = IsLsn lsn × IsTxn txn
+IsRecord (Update lsn txn prev page slot change) = IsLsn lsn × IsTxn txn × IsBefore lsn prev × (page < 65536) × (slot < 62) × IsChange change
+IsRecord (Commit lsn txn prev) = IsLsn lsn × IsTxn txn × IsBefore lsn prev
 
 -- the 64 bytes of a record
 abbrev pub record_bytes : Record → List ℕ

@@ -4,11 +4,11 @@ ghost use Rattle.std.specs.Prelude.{◌≡◌, ◌<◌, ◌↔◌, IfSome, Some,
 ghost use Rattle.page_core.specs.declared.change.Change.{Change};
 ghost use Rattle.log_store.specs.declared.record.Record.{Record};
 ghost use Rattle.log_store.specs.Fields.{fields_of, change_kind, before_of, after_of};
-ghost use Rattle.log_store.specs.Record.{IsLsn, IsTxn, IsBefore, IsChange, IsRecord, SpellsRecord, record_bytes};
+ghost use Rattle.log_store.specs.Record.{own_lsn, IsLsn, IsTxn, IsBefore, IsChange, IsRecord, SpellsRecord, record_bytes};
 
 use crate::fields::{ADD, BEGIN, COMMIT, Fields, SET, UPDATE};
 use crate::number::TxnNo;
-use crate::record::{Body, RECORD_BYTES, Record};
+use crate::record::{RECORD_BYTES, Record};
 use page_core::{Change, Lsn, PageNo, SlotNo};
 
 /// The bytes of a record.
@@ -20,13 +20,12 @@ pub fn encode(record: &Record) -> [u8; RECORD_BYTES]
 
 /// The record that these bytes spell at this LSN, if they do.
 pub fn decode(bytes: &[u8; RECORD_BYTES], at: Lsn) -> Option<Record>
-    ensures found { IfSome result (λ r. (r.lsn ≡ at) × SpellsRecord r bytes.now) }
-    ensures only { (r : Record) → r.lsn ≡ at → SpellsRecord r bytes.now → result ≡ Some r }
+    ensures found { IfSome result (λ r. (own_lsn r ≡ at) × SpellsRecord r bytes.now) }
+    ensures only { (r : Record) → own_lsn r ≡ at → SpellsRecord r bytes.now → result ≡ Some r }
 {
     let fields = Fields::read(bytes);
-    let body = body_of(&fields)?;
-    let record = Record { lsn: at, body };
-    if is_record(&record) && has_fields(&record, &fields) {
+    let record = record_of(&fields)?;
+    if record.lsn() == at && is_record(&record) && has_fields(&record, &fields) {
         Some(record)
     } else {
         None
@@ -39,22 +38,24 @@ fn has_fields(record: &Record, fields: &Fields) -> bool
     Fields::of(record) == *fields
 }
 
-/// The only body that may have these numbers.
-fn body_of(fields: &Fields) -> Option<Body>
-    ensures { (r : Record) → fields_of r ≡ fields.now → result ≡ Some r.body }
+/// The only record that may have these numbers.
+fn record_of(fields: &Fields) -> Option<Record>
+    ensures { (r : Record) → fields_of r ≡ fields.now → result ≡ Some r }
 {
+    let lsn = Lsn(fields.lsn);
     let txn = TxnNo(fields.txn);
     let prev = Lsn(fields.prev);
     match fields.kind {
-        BEGIN => Some(Body::Begin { txn }),
-        UPDATE => Some(Body::Update {
+        BEGIN => Some(Record::Begin { lsn, txn }),
+        UPDATE => Some(Record::Update {
+            lsn,
             txn,
             prev,
             page: PageNo(fields.page),
             slot: SlotNo(fields.slot),
             change: change_of(fields)?,
         }),
-        COMMIT => Some(Body::Commit { txn, prev }),
+        COMMIT => Some(Record::Commit { lsn, txn, prev }),
         _ => None,
     }
 }
@@ -79,19 +80,18 @@ fn change_of(fields: &Fields) -> Option<Change>
 fn is_record(record: &Record) -> bool
     ensures { IsTrue result ↔ IsRecord «record».now }
 {
-    let at = record.lsn;
-    is_lsn(at)
-        && match record.body {
-            Body::Begin { txn } => is_txn(txn),
-            Body::Update {
-                txn,
-                prev,
-                page,
-                slot,
-                change,
-            } => is_txn(txn) && is_before(at, prev) && is_change(page, slot, &change),
-            Body::Commit { txn, prev } => is_txn(txn) && is_before(at, prev),
-        }
+    match *record {
+        Record::Begin { lsn, txn } => is_lsn(lsn) && is_txn(txn),
+        Record::Update {
+            lsn,
+            txn,
+            prev,
+            page,
+            slot,
+            change,
+        } => is_lsn(lsn) && is_txn(txn) && is_before(lsn, prev) && is_change(page, slot, &change),
+        Record::Commit { lsn, txn, prev } => is_lsn(lsn) && is_txn(txn) && is_before(lsn, prev),
+    }
 }
 
 fn is_lsn(lsn: Lsn) -> bool

@@ -2,7 +2,7 @@
 
 ghost use Rattle.std.specs.Prelude.{◌≡◌};
 
-use crate::record::{Body, RECORD_BYTES, Record};
+use crate::record::{RECORD_BYTES, Record};
 use page_core::Change;
 use page_core::field::{u16_at, u32_at, u64_at};
 
@@ -93,15 +93,15 @@ impl Fields {
     pub fn of(record: &Record) -> Fields
         ensures { result ≡ fields_of «record».now }
     {
-        let lsn = record.lsn.0;
-        match record.body {
-            Body::Begin { txn } => Fields {
+        match *record {
+            Record::Begin { lsn, txn } => Fields {
                 kind: BEGIN,
                 txn: txn.0,
-                lsn,
+                lsn: lsn.0,
                 ..NO_FIELDS
             },
-            Body::Update {
+            Record::Update {
+                lsn,
                 txn,
                 prev,
                 page,
@@ -121,15 +121,15 @@ impl Fields {
                     change: kind,
                     before,
                     after,
-                    lsn,
+                    lsn: lsn.0,
                     ..NO_FIELDS
                 }
             }
-            Body::Commit { txn, prev } => Fields {
+            Record::Commit { lsn, txn, prev } => Fields {
                 kind: COMMIT,
                 txn: txn.0,
                 prev: prev.0,
-                lsn,
+                lsn: lsn.0,
                 ..NO_FIELDS
             },
         }

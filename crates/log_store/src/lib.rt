@@ -4,10 +4,12 @@
 mod codec;
 mod fault;
 mod fields;
+mod log_image;
 mod number;
 mod record;
 
 pub use codec::{decode, encode};
 pub use fault::LogReadFault;
+pub use log_image::{HEADER_BYTES, LogImage, MAX_LOG_BYTES, MAX_PAGES, MAX_RECORDS, encode_header};
 pub use number::TxnNo;
-pub use record::{Body, RECORD_BYTES, Record};
+pub use record::{RECORD_BYTES, Record};

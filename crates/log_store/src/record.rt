@@ -6,20 +6,15 @@ use page_core::{Change, Lsn, PageNo, SlotNo};
 /// How many bytes a record has.
 pub const RECORD_BYTES: usize = 64;
 
-/// A record of the log, as it stands at its LSN (ARIES, section 4.1).
+/// A record of the log (ARIES, section 4.1). `lsn` is its own LSN, and `prev` its PrevLSN: the LSN of the same
+/// transaction's record before it.
 #[derive(Clone, Copy, Debug, PartialEq, Eq)]
-pub struct Record {
-    pub lsn: Lsn,
-    pub body: Body,
-}
-
-/// What a record says. `prev` is the PrevLSN: the LSN of the same transaction's record before it.
-#[derive(Clone, Copy, Debug, PartialEq, Eq)]
-pub enum Body {
+pub enum Record {
     /// A transaction begins.
-    Begin { txn: TxnNo },
+    Begin { lsn: Lsn, txn: TxnNo },
     /// A transaction changes a slot.
     Update {
+        lsn: Lsn,
         txn: TxnNo,
         prev: Lsn,
         page: PageNo,
@@ -27,5 +22,21 @@ pub enum Body {
         change: Change,
     },
     /// A transaction ends, and its changes are to last.
-    Commit { txn: TxnNo, prev: Lsn },
+    Commit { lsn: Lsn, txn: TxnNo, prev: Lsn },
+}
+
+impl Record {
+    ghost use Rattle.std.specs.Prelude.{◌≡◌};
+    ghost use Rattle.log_store.specs.Record.{own_lsn};
+
+    /// The record's own LSN.
+    pub fn lsn(&self) -> Lsn
+        ensures { result ≡ own_lsn self.now }
+    {
+        match *self {
+            Record::Begin { lsn, .. }
+            | Record::Update { lsn, .. }
+            | Record::Commit { lsn, .. } => lsn,
+        }
+    }
 }

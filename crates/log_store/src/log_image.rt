@@ -1,0 +1,174 @@
+//! A whole log, as its bytes spell it.
+
+ghost use Rattle.std.specs.Prelude.{ℕ, ◌≡◌, ◌≢◌, ◌+◌, ◌*◌, ◌<◌, ◌≤◌, ◌↔◌, List, length, take, slice_range, slice_index_or, IfOk, IfErr, IfSome, Some, MatchResult, IsTrue};
+ghost use Rattle.log_store.specs.declared.fault.LogReadFault.TheVariants.{OutOfMemory};
+ghost use Rattle.log_store.specs.declared.record.Record.{Record};
+ghost use Rattle.log_store.specs.Record.{IsRecord, record_bytes};
+ghost use Rattle.log_store.specs.Log.{Log, IsLog, IsPageCount, StandsAt, IsWithin, header_bytes, log_bytes, SpellsLog, HasHeader, AreFirst, whole_records};
+ghost use Rattle.log_store.specs.Fault.{IsHeader, HasRecord, IsFirstFault, IsFaultOf, longest};
+
+use crate::codec::decode;
+use crate::fault::LogReadFault;
+use crate::record::{RECORD_BYTES, Record};
+use page_core::Lsn;
+use page_core::field::u32_at;
+use std::alloc::Global;
+use std::marker::Model;
+
+/// How many pages a volume may have.
+pub const MAX_PAGES: u32 = 65_536;
+
+/// How many records a log may have.
+pub const MAX_RECORDS: usize = 1_048_576;
+
+/// How many bytes the header and the longest log have.
+pub const HEADER_BYTES: usize = 64;
+pub const MAX_LOG_BYTES: usize = 67_108_928;
+
+/// The text in front of a log.
+const MAGIC: [u8; 8] = *b"AIMGLOG1";
+
+/// A log as it was read: the page count of its header, and its records, the oldest first.
+#[derive(Debug, Drop)]
+pub struct LogImage {
+    pages: u32,
+    records: Vec<Record>,
+}
+
+impl Model for LogImage {
+    ghost use Rattle.log_store.specs.Log.{Log, IsLog};
+
+    ghost Value = { Log };
+
+    ghost view = { λ image. record { pages = image.pages; records = image.records.items } };
+
+    ghost invariant = { λ image. IsLog (record { pages = image.pages; records = image.records.items }) };
+}
+
+impl LogImage {
+    /// How many pages the volume of this log has.
+    pub fn pages(&self) -> u32
+        ensures pages { result ≡ self.now.pages }
+        ensures valid { IsLog self.now }
+    {
+        self.pages
+    }
+
+    /// The records, the oldest first. The record at index i has LSN 64 * (i + 1).
+    pub fn records(&self) -> &[Record]
+        ensures records { result.now ≡ self.now.records }
+        ensures valid { IsLog self.now }
+    {
+        &self.records
+    }
+
+    /// The log that these bytes spell.
+    pub fn from_bytes(alloc: Global, bytes: &[u8]) -> Result<LogImage, LogReadFault>
+        // What is read is spelled so.
+        ensures found { IfOk result (λ log. SpellsLog log bytes.now) }
+        // What is spelled so is read, unless memory runs out.
+        ensures only { (log : Log) → SpellsLog log bytes.now → MatchResult result (λ read. read ≡ log) (λ fault. fault ≡ OutOfMemory) }
+        // The fault is the first one.
+        ensures first { IfErr result (IsFaultOf bytes.now) }
+    {
+        let Some(pages) = page_count(bytes) else {
+            return Err(LogReadFault::BadHeader);
+        };
+        let records = records_in(alloc, pages, bytes)?;
+        if bytes.len() > MAX_LOG_BYTES {
+            return Err(LogReadFault::TooLong);
+        }
+        if bytes.len() % RECORD_BYTES != 0 {
+            let at = bytes.len() / RECORD_BYTES * RECORD_BYTES;
+            return Err(LogReadFault::Torn(Lsn(at as u64)));
+        }
+        Ok(LogImage { pages, records })
+    }
+}
+
+/// The header of a log of so many pages.
+pub fn encode_header(pages: u32) -> [u8; HEADER_BYTES]
+    ensures { result ≡ header_bytes pages }
+{
+    let mut bytes = [0; HEADER_BYTES];
+    bytes[..8].copy_from_slice(&MAGIC);
+    bytes[8..12].copy_from_slice(&pages.to_le_bytes());
+    bytes
+}
+
+/// The page count of the header in front of these bytes, if there is one.
+fn page_count(bytes: &[u8]) -> Option<u32>
+    ensures found { IfSome result (λ pages. HasHeader pages bytes.now) }
+    ensures only { (pages : ℕ) → IsPageCount pages → take 64 bytes.now ≡ header_bytes pages → result ≡ Some pages }
+{
+    if bytes.len() < HEADER_BYTES {
+        return None;
+    }
+    let header = &bytes[..HEADER_BYTES];
+    let pages = u32_at(header, 8);
+    if is_page_count(pages) && is_same(header, &encode_header(pages)) {
+        Some(pages)
+    } else {
+        None
+    }
+}
+
+fn is_page_count(pages: u32) -> bool
+    ensures { IsTrue result ↔ IsPageCount pages }
+{
+    1 <= pages && pages <= MAX_PAGES
+}
+
+fn is_same(a: &[u8], b: &[u8]) -> bool
+    ensures { IsTrue result ↔ (a.now ≡ b.now) }
+{
+    a == b
+}
+
+/// The whole records behind the header, but none past the last one that a log may have.
+fn records_in(alloc: Global, pages: u32, bytes: &[u8]) -> Result<Vec<Record>, LogReadFault>
+    requires { HasHeader pages bytes.now }
+    ensures found { IfOk result (λ records. AreFirst (whole_records bytes.now) pages bytes.now records.items) }
+    ensures first { IfErr result (IsFaultOf bytes.now) }
+{
+    let count = (bytes.len() / RECORD_BYTES - 1).min(MAX_RECORDS);
+    let mut records = Vec::with_capacity(alloc, count)?;
+    for i in 0..count {
+        let at = RECORD_BYTES * (i + 1);
+        match record_at(bytes, at, pages) {
+            Some(record) => records.push(record)?,
+            None => return Err(LogReadFault::BadRecord(Lsn(at as u64))),
+        }
+    }
+    Ok(records)
+}
+
+/// The record at this offset of a log of so many pages, if there is one.
+fn record_at(bytes: &[u8], at: usize, pages: u32) -> Option<Record>
+    requires { at + 64 ≤ length bytes.now }
+    ensures found { IfSome result (λ r. StandsAt pages at r × (slice_range bytes.now at (at + 64) ≡ record_bytes r)) }
+    ensures only { (r : Record) → StandsAt pages at r → slice_range bytes.now at (at + 64) ≡ record_bytes r → result ≡ Some r }
+{
+    let record = decode(record_bytes_at(bytes, at), Lsn(at as u64))?;
+    if is_within(pages, &record) {
+        Some(record)
+    } else {
+        None
+    }
+}
+
+fn record_bytes_at(bytes: &[u8], at: usize) -> &[u8; RECORD_BYTES]
+    requires { at + 64 ≤ length bytes.now }
+    ensures { result.now ≡ slice_range bytes.now at (at + 64) }
+{
+    bytes[at..at + RECORD_BYTES].as_array().unwrap()
+}
+
+fn is_within(pages: u32, record: &Record) -> bool
+    ensures { IsTrue result ↔ IsWithin pages «record».now }
+{
+    match record {
+        Record::Begin { .. } | Record::Commit { .. } => true,
+        Record::Update { page, .. } => page.0 < pages,
+    }
+}
