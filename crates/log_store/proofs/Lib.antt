@@ -1,3 +1,4 @@
 pub mod Faults
+pub mod Inputs
 pub mod Logs
 pub mod Records

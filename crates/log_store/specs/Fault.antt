@@ -52,11 +52,18 @@ pub record IsFirstFault (bytes : List ℕ) (fault : LogReadFault) : Type 0 where
   pub there : HasFault bytes fault
   pub first : (other : LogReadFault) → HasFault bytes other → offset_of fault ≤ offset_of other
 
--- however these bytes go on, nothing in them is wrong yet: a header or a record that is not whole is no fault
-pub record HoldsNoFault (given : List ℕ) : Type 0 where
-  pub header : 64 ≤ length given → IsHeader (take 64 given)
-  pub records : (at : ℕ) → IsPlace at → at + 64 ≤ length given → HasRecord given at
-  pub short : length given ≤ longest
+-- the fault of these bytes is one of any input that begins with them: it does not come of where they end
+abbrev pub IsHeld : List ℕ → LogReadFault → Type 0
+IsHeld given OutOfMemory = Unit {0}
+IsHeld given ReadFault = ⊥
+IsHeld given BadHeader = 64 ≤ length given
+IsHeld given (BadRecord at) = Unit {0}
+IsHeld given (Torn at) = ⊥
+IsHeld given TooLong = Unit {0}
+
+-- however these bytes go on, nothing in them is wrong yet
+abbrev pub HoldsNoFault : List ℕ → Type 0
+HoldsNoFault given = (fault : LogReadFault) → IsHeld given fault → ¬ HasFault given fault
 
 -- a fault is out of memory, or the first one of the bytes
 abbrev pub IsFaultOf : List ℕ → LogReadFault → Type 0
@@ -75,3 +82,12 @@ Refuses input BadHeader = IsFirstFault input BadHeader
 Refuses input (BadRecord at) = IsFirstFault input (BadRecord at)
 Refuses input (Torn at) = IsFirstFault input (Torn at)
 Refuses input TooLong = IsFirstFault input TooLong
+
+-- the fault lies outside the bytes: memory ran out, or the reader failed
+abbrev pub IsOutside : LogReadFault → Type 0
+IsOutside OutOfMemory = Unit {0}
+IsOutside ReadFault = Unit {0}
+IsOutside BadHeader = ⊥
+IsOutside (BadRecord at) = ⊥
+IsOutside (Torn at) = ⊥
+IsOutside TooLong = ⊥

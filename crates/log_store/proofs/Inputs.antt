@@ -1,0 +1,151 @@
+-- What a fault of the bytes so far says of the whole input.
+use Rattle.std.proofs.Common.{◌≡◌, ℕ, ◌+◌, ◌-◌, ◌<◌, ◌≤◌, List, [], ◌++◌, length, take, drop, refl, sym, ap, subst, ◌∙◌, arith, inl, inr}
+use Rattle.std.proofs.lemmas.Bool.{cases_lt}
+use Rattle.std.specs.Prelude.{slice_range, Option, Some, None, IfSome}
+use Rattle.std.specs.Int.{w32, from_le_bytes}
+use Rattle.std.specs.Io.KnownBytes.{Consumes, IsAtEnd}
+use Rattle.std.proofs.lemmas.List.{take-append-le, drop-append-le, length-append, length-drop, append-nil}
+use Rattle.log_store.specs.declared.fault.LogReadFault.{LogReadFault}
+use Rattle.log_store.specs.declared.fault.LogReadFault.TheVariants.{OutOfMemory, BadHeader, BadRecord, Torn, ReadFault, TooLong}
+use Rattle.log_store.specs.declared.record.Record.{Record}
+use Rattle.log_store.specs.Record.{record_bytes}
+use Rattle.log_store.specs.Log.{Log, SpellsLog, StandsAt}
+use Rattle.log_store.specs.Fault.{IsPlace, IsHeader, HasRecord, HasFault, IsFirstFault, IsFaultOf, IsHeld, HoldsNoFault, Refuses, IsOutside, offset_of, pages_in, longest}
+use Rattle.log_store.proofs.Faults.{none_in_log}
+
+-- a part of what was given is a part of the input
+range_in : (given rest : List ℕ) (a b : ℕ) → a ≤ b → b ≤ length given → slice_range (given ++ rest) a b ≡ slice_range given a b
+range_in given rest a b le long =
+    ap (take (b - a)) (drop-append-le a given rest (omega arith)) ∙ take-append-le (b - a) (drop a given) rest (omega (arith, length-drop a given))
+
+-- of a record that lies within what was given
+more_has : (given rest : List ℕ) (at : ℕ) → 12 ≤ length given → at + 64 ≤ length given → HasRecord given at → HasRecord (given ++ rest) at
+more_has given rest at long fits has =
+    let count : pages_in (given ++ rest) ≡ pages_in given = ap (from_le_bytes w32) (range_in given rest 8 12 (omega arith) long) in
+    (has.0, subst (λ n. StandsAt n at has.0) (sym count) has.1, range_in given rest at (at + 64) (omega arith) fits ∙ has.2)
+
+less_has : (given rest : List ℕ) (at : ℕ) → 12 ≤ length given → at + 64 ≤ length given → HasRecord (given ++ rest) at → HasRecord given at
+less_has given rest at long fits has =
+    let count : pages_in (given ++ rest) ≡ pages_in given = ap (from_le_bytes w32) (range_in given rest 8 12 (omega arith) long) in
+    (has.0, subst (λ n. StandsAt n at has.0) count has.1, sym (range_in given rest at (at + 64) (omega arith) fits) ∙ has.2)
+
+-- a fault of the input that lies before the first one of what was given does not exist
+header_fault : (given rest : List ℕ) → 64 ≤ length given → HasFault (given ++ rest) BadHeader → HasFault given BadHeader
+header_fault given rest long h = λ header. h (subst IsHeader (sym (take-append-le 64 given rest long)) header)
+
+record_fault : (given rest : List ℕ) (at : ℕ) → at + 64 ≤ length given → HasFault (given ++ rest) (BadRecord at) → HasFault given (BadRecord at)
+record_fault given rest at fits h =
+    let place = h.0.past_header in
+    (h.0, fits, λ has. h.2 (more_has given rest at (omega arith) fits has))
+
+-- nothing of the input comes before the first fault of what was given, where that does not come of its end
+comes_later : (given rest : List ℕ) (end : ℕ) → 64 ≤ length given → end ≤ length given → end ≤ longest
+    → ((other : LogReadFault) → HasFault given other → end ≤ offset_of other)
+    → ((at : ℕ) → IsPlace at → at < end → at + 64 ≤ length given) → (other : LogReadFault) → HasFault (given ++ rest) other → end ≤ offset_of other
+comes_later given rest end long within short first fits OutOfMemory e = absurd e
+comes_later given rest end long within short first fits ReadFault e = absurd e
+comes_later given rest end long within short first fits BadHeader e = first BadHeader (header_fault given rest long e)
+comes_later given rest end long within short first fits (BadRecord at) e =
+    elim (cases_lt at end) [
+      | inl lt ↦ first (BadRecord at) (record_fault given rest at (fits at e.0 lt) e)
+      | inr le ↦ le
+    ]
+comes_later given rest end long within short first fits (Torn at) e =
+    elim (cases_lt at end) [
+      | inl lt ↦ let before = e.2 in let reach = fits at e.0 lt in absurd (omega (arith, length-append given rest))
+      | inr le ↦ le
+    ]
+comes_later given rest end long within short first fits TooLong e = short
+
+goes_on_header : (given rest : List ℕ) → 64 ≤ length given → IsFirstFault given BadHeader → IsFirstFault (given ++ rest) BadHeader
+goes_on_header given rest long h = record {
+  there = λ header. h.there (subst IsHeader (take-append-le 64 given rest long) header);
+  first = λ other e. omega arith;
+}
+
+goes_on_record : (given rest : List ℕ) (at : ℕ) → IsFirstFault given (BadRecord at) → IsFirstFault (given ++ rest) (BadRecord at)
+goes_on_record given rest at h =
+    let place = h.there.0 in
+    let past = place.past_header in
+    let aligned = place.aligned in
+    let short = place.in_longest in
+    let fits = h.there.1 in
+    record {
+      there = (place, omega (arith, length-append given rest), λ has. h.there.2 (less_has given rest at (omega arith) fits has));
+      first = comes_later given rest at (omega arith) (omega arith) (omega arith) h.first (λ other other_place lt. let a = other_place.aligned in omega arith);
+    }
+
+goes_on_too_long : (given rest : List ℕ) → IsFirstFault given TooLong → IsFirstFault (given ++ rest) TooLong
+goes_on_too_long given rest h =
+    let long = h.there in
+    record {
+      there = omega (arith, length-append given rest);
+      first = comes_later given rest longest (omega arith) (omega arith) (omega arith) h.first
+        (λ other other_place lt. let a = other_place.aligned in omega arith);
+    }
+
+pub refuses_more : (given rest : List ℕ) (fault : LogReadFault) → IsFaultOf given fault → IsHeld given fault → Refuses (given ++ rest) fault
+refuses_more given rest OutOfMemory h held = tt
+refuses_more given rest ReadFault h held = absurd held
+refuses_more given rest BadHeader h held = goes_on_header given rest held h
+refuses_more given rest (BadRecord at) h held = goes_on_record given rest at h
+refuses_more given rest (Torn at) h held = absurd held
+refuses_more given rest TooLong h held = goes_on_too_long given rest h
+
+pub refuses_all : (given rest : List ℕ) (fault : LogReadFault) → IsFaultOf given fault → rest ≡ [] → Refuses (given ++ rest) fault
+refuses_all given rest fault h none = rw (none, append-nil) (same given fault h)
+  where
+    same : (given : List ℕ) (fault : LogReadFault) → IsFaultOf given fault → Refuses given fault
+    same given OutOfMemory h = tt
+    same given ReadFault h = absurd h
+    same given BadHeader h = h
+    same given (BadRecord at) h = h
+    same given (Torn at) h = h
+    same given TooLong h = h
+
+-- a fault that comes of the end alone: until there nothing is wrong
+none_held : (given : List ℕ) (fault : LogReadFault) → IsFaultOf given fault → (¬ IsHeld given fault) → HoldsNoFault given
+none_held given OutOfMemory h not_held other held e = not_held tt
+none_held given ReadFault h not_held other held e = h
+none_held given BadHeader h not_held BadHeader held e = not_held held
+none_held given BadHeader h not_held (BadRecord at) held e =
+    let past = e.0.past_header in let fits = e.1 in not_held (omega arith)
+none_held given BadHeader h not_held TooLong held e = not_held (omega arith)
+none_held given BadHeader h not_held OutOfMemory held e = e
+none_held given BadHeader h not_held ReadFault held e = e
+none_held given BadHeader h not_held (Torn at) held e = held
+none_held given (BadRecord at) h not_held other held e = not_held tt
+none_held given (Torn at) h not_held BadHeader held e = let late = h.first BadHeader e in let past = h.there.0.past_header in omega arith
+none_held given (Torn at) h not_held (BadRecord other) held e =
+    let late = h.first (BadRecord other) e in let torn = h.there.2 in let fits = e.1 in omega arith
+none_held given (Torn at) h not_held TooLong held e =
+    let torn = h.there.2 in let short = h.there.0.in_longest in let aligned = h.there.0.aligned in omega arith
+none_held given (Torn at) h not_held OutOfMemory held e = e
+none_held given (Torn at) h not_held ReadFault held e = e
+none_held given (Torn at) h not_held (Torn other) held e = held
+none_held given TooLong h not_held other held e = not_held tt
+
+pub refuses_unread : (given rest : List ℕ) (fault : LogReadFault) → IsFaultOf given fault → (¬ IsHeld given fault) → Refuses (given ++ rest) ReadFault
+refuses_unread given rest fault h not_held = (given, rest, refl, none_held given fault h not_held)
+
+pub refuses_log : (log : Log) (given rest : List ℕ) → SpellsLog log given → Refuses (given ++ rest) ReadFault
+refuses_log log given rest spells = (given, rest, refl, λ fault held e. none_in_log log given spells fault e)
+
+-- ---- what a reader gave, and what it had
+
+pub of_input : (old new : Option (List ℕ)) (given : List ℕ) (P : List ℕ → Type 0) → Consumes old new given
+    → ((rest : List ℕ) → (IsAtEnd new → rest ≡ []) → P (given ++ rest)) → IfSome old P
+of_input None new given P taken h = tt
+of_input (Some input) None given P taken h = absurd taken
+of_input (Some input) (Some rest) given P taken h = subst P (sym taken) (h rest (λ none. none))
+
+pub only_outside : (log : Log) (input : List ℕ) → SpellsLog log input → (fault : LogReadFault) → Refuses input fault → IsOutside fault
+only_outside log input spells OutOfMemory h = tt
+only_outside log input spells ReadFault h = tt
+only_outside log input spells BadHeader h = none_in_log log input spells BadHeader h.there
+only_outside log input spells (BadRecord at) h = none_in_log log input spells (BadRecord at) h.there
+only_outside log input spells (Torn at) h = none_in_log log input spells (Torn at) h.there
+only_outside log input spells TooLong h = none_in_log log input spells TooLong h.there
+
+pub at_some : (old : Option (List ℕ)) (input : List ℕ) (P : List ℕ → Type 0) → old ≡ Some input → IfSome old P → P input
+at_some old input P e h = let Q : Option (List ℕ) → Type 0 = λ o. IfSome o P in subst Q e h
