@@ -3,11 +3,11 @@
 ghost use Rattle.std.specs.Prelude.{ℕ, ◌≡◌, ◌<◌, [], ◌∷◌, length, map, slice_index_or, IfOk};
 ghost use Rattle.page_core.specs.declared.page.Page.{Page};
 ghost use Rattle.log_store.specs.Log.{IsWithin};
-ghost use Rattle.page_redo.specs.Redo.{redone};
+ghost use Rattle.page_redo.specs.Redo.{is_above, redone};
 ghost use Rattle.log_store.specs.Image.{image_from, with_record, redo_all};
 
 use log_store::{LogImage, Record};
-use page_core::{Page, PageNo};
+use page_core::{Lsn, Page, PageNo};
 use std::alloc::{AllocError, Global};
 
 /// Redoes on a page the records above its LSN, in their order, and leaves out all others: a page that was stored with
@@ -17,10 +17,16 @@ pub fn redo_page(page: &mut Page, records: &[Record])
 {
     let lsn = page.lsn;
     for record in records {
-        if lsn < record.lsn() {
+        if is_above(lsn, record) {
             redo_record(page, record);
         }
     }
+}
+
+fn is_above(lsn: Lsn, record: &Record) -> bool
+    ensures { result ≡ is_above lsn «record».now }
+{
+    lsn.0 < record.lsn().0
 }
 
 /// Makes the change of a record, if it is one of this page.
