@@ -1,0 +1,2 @@
+mod ClapLemmas
+mod RedoLemmas
