@@ -1,0 +1,196 @@
+#!/usr/bin/env python3
+"""Measures `imgcopy redo` beside a plain Rust program and a bare copy, and prints a Markdown table.
+
+usage: run.py --imgcopy PROGRAM --tools FOLDER [--rounds N]
+
+FOLDER holds the built programs generate, plain_redo and bare_copy. README.md says what is measured and how.
+"""
+
+import argparse
+import datetime
+import filecmp
+import os
+import shutil
+import signal
+import sys
+import tempfile
+import time
+from pathlib import Path
+from typing import NamedTuple
+
+RECORD_SIZE = 64
+PAGE_SIZE = 512
+MEGABYTE = 1e6
+
+
+class Input(NamedTuple):
+    name: str
+    shape: str
+    records: int
+    pages: int
+
+    def log_size(self):
+        return RECORD_SIZE * (1 + self.records)
+
+    def allowed_memory(self):
+        return 4 * self.log_size() + PAGE_SIZE * self.pages
+
+
+INPUTS = [
+    Input("uniform", "uniform", 1048576, 65536),
+    Input("hot", "hot", 1048576, 1024),
+    Input("short", "short", 1048576, 65536),
+    Input("small", "uniform", 65536, 1024),
+]
+
+
+class Run(NamedTuple):
+    seconds: float
+    memory: int
+
+
+class Failure(Exception):
+    """What is missing or wrong, in one line."""
+
+
+def run(command, source, target, name):
+    """Runs the command once from one file to another, and fails unless it ends with status 0."""
+    with open(source, "rb") as standard_input, open(target, "wb") as standard_output, \
+            tempfile.TemporaryFile() as standard_error:
+        actions = [(os.POSIX_SPAWN_DUP2, file.fileno(), number)
+                   for number, file in enumerate((standard_input, standard_output, standard_error))]
+        started = time.perf_counter()
+        process = os.posix_spawn(command[0], command, os.environ, file_actions=actions)
+        status, usage = wait(process)
+        seconds = time.perf_counter() - started
+        if status != 0:
+            standard_error.seek(0)
+            said = standard_error.readline(200).decode(errors="replace").strip()
+            raise Failure(f"{name}: {Path(command[0]).name} ended with status {os.waitstatus_to_exitcode(status)}"
+                          f" and said {said!r}")
+    # Linux counts the peak in units of 1,024 bytes, and macOS in bytes.
+    return Run(seconds, usage.ru_maxrss * (1 if sys.platform == "darwin" else 1024))
+
+
+def wait(process):
+    try:
+        _, status, usage = os.wait4(process, 0)
+    except BaseException:
+        os.kill(process, signal.SIGKILL)
+        raise
+    return status, usage
+
+
+def measure(programs, an_input, generate, rounds, folder):
+    """The best time and the highest peak of each program, whose runs take turns."""
+    log = folder / "log"
+    options = {"records": an_input.records, "pages": an_input.pages, "shape": an_input.shape, "seed": 1}
+    arguments = [word for name, value in options.items() for word in (f"--{name}", str(value))]
+    run([generate, *arguments], os.devnull, log, an_input.name)
+    check_same_volume(programs, an_input, log, folder)
+    runs = {name: [] for name in programs}
+    for _ in range(rounds):
+        for name, command in programs.items():
+            runs[name].append(run(command, log, os.devnull, an_input.name))
+    return {name: Run(min(one.seconds for one in each), max(one.memory for one in each))
+            for name, each in runs.items()}
+
+
+def check_same_volume(programs, an_input, log, folder):
+    volumes = {name: folder / f"{name}.volume" for name in ("imgcopy", "plain")}
+    for name, volume in volumes.items():
+        run(programs[name], log, volume, an_input.name)
+    if volumes["plain"].stat().st_size != PAGE_SIZE * an_input.pages:
+        raise Failure(f"{an_input.name}: the volume has not {an_input.pages} pages")
+    if not filecmp.cmp(*volumes.values(), shallow=False):
+        raise Failure(f"{an_input.name}: imgcopy and the plain program give different volumes")
+    for volume in volumes.values():
+        volume.unlink()
+
+
+def table(results, least_memory):
+    columns = ["input", "records", "pages", "program", "seconds", "MB/s", "ratio to plain", "peak MB", "allowed MB",
+               "met"]
+    yield columns
+    yield ["---" if name in ("input", "program", "met") else "---:" for name in columns]
+    for an_input, runs in results.items():
+        for name, one in runs.items():
+            speed = an_input.log_size() / one.seconds / MEGABYTE
+            ratio = one.seconds / runs["plain"].seconds
+            yield [an_input.name, f"{an_input.records:,}", f"{an_input.pages:,}", name, f"{one.seconds:.4f}",
+                   f"{speed:,.0f}", f"{ratio:.2f}", show_memory(one.memory, least_memory),
+                   *allowance(name, one.memory, an_input.allowed_memory())]
+
+
+def show_memory(memory, least_memory):
+    # The peak of a process counts that of the process that started it, so nothing lower can be seen.
+    return f"≤ {memory / MEGABYTE:.1f}" if memory < 1.1 * least_memory else f"{memory / MEGABYTE:.1f}"
+
+
+def allowance(name, memory, allowed):
+    if name == "copy":
+        return ["", ""]
+    return [f"{allowed / MEGABYTE:.1f}", "yes" if memory <= allowed else "no"]
+
+
+def find_program(path):
+    found = shutil.which(path)
+    if found is None:
+        raise Failure(f"there is no program {path}")
+    return os.path.abspath(found)
+
+
+def find_folder():
+    """A folder in memory, where the system has one, so that no disk is measured."""
+    in_memory = "/dev/shm"
+    needed = max(an_input.log_size() + 2 * PAGE_SIZE * an_input.pages for an_input in INPUTS)
+    if os.access(in_memory, os.W_OK) and shutil.disk_usage(in_memory).free > needed:
+        return in_memory
+    return None
+
+
+def benchmark(options):
+    tools = {name: find_program(os.path.join(options.tools, name)) for name in ("generate", "plain_redo", "bare_copy")}
+    programs = {
+        "imgcopy": [find_program(options.imgcopy), "redo"],
+        "plain": [tools["plain_redo"], "redo"],
+        "copy": [tools["bare_copy"]],
+    }
+    with tempfile.TemporaryDirectory(dir=find_folder()) as folder:
+        least_memory = run(programs["copy"], os.devnull, os.devnull, "nothing").memory
+        results = {an_input: measure(programs, an_input, tools["generate"], options.rounds, Path(folder))
+                   for an_input in INPUTS}
+    print(f"{datetime.date.today()}, {os.cpu_count()} cores, best of {options.rounds}:\n")
+    for cells in table(results, least_memory):
+        print(f"| {' | '.join(cells)} |")
+
+
+class Parser(argparse.ArgumentParser):
+    def error(self, message):
+        raise Failure(message)
+
+
+def parse(arguments):
+    parser = Parser(description="Measures imgcopy beside a plain Rust program and a bare copy.")
+    parser.add_argument("--imgcopy", metavar="PROGRAM", required=True)
+    parser.add_argument("--tools", metavar="FOLDER", required=True)
+    parser.add_argument("--rounds", metavar="N", type=int, default=5)
+    options = parser.parse_args(arguments)
+    if not 1 <= options.rounds <= 1000:
+        raise Failure(f"--rounds is {options.rounds}: a number from 1 to 1000 is wanted")
+    return options
+
+
+def main(arguments):
+    # A signal must end the run as an exception does, so that the temporary folder is removed.
+    signal.signal(signal.SIGTERM, lambda *_: sys.exit("run.py: ended by a signal"))
+    try:
+        benchmark(parse(arguments))
+    except (Failure, OSError) as failure:
+        sys.exit(f"run.py: {failure}")
+    except KeyboardInterrupt:
+        sys.exit("run.py: interrupted")
+
+
+if __name__ == "__main__":
+    main(sys.argv[1:])

@@ -1,0 +1,33 @@
+#!/usr/bin/env python3
+"""Prints one page of a volume in one line: its number, its LSN, and each slot that is not 0.
+
+usage: show_page.py VOLUME PAGE
+"""
+
+import struct
+import sys
+
+PAGE_SIZE = 512
+
+
+def read_page(path, wanted):
+    with open(path, "rb") as volume:
+        volume.seek(PAGE_SIZE * wanted)
+        page = volume.read(PAGE_SIZE)
+    if len(page) < PAGE_SIZE:
+        sys.exit(f"show_page.py: {path} has no page {wanted}")
+    return struct.unpack("<I I Q 62Q", page)
+
+
+def main(arguments):
+    if len(arguments) != 2 or not arguments[1].isdecimal():
+        sys.exit("usage: show_page.py VOLUME PAGE")
+    try:
+        number, _, lsn, *slots = read_page(arguments[0], int(arguments[1]))
+    except (OSError, ValueError) as error:
+        sys.exit(f"show_page.py: {arguments[0]} cannot be read: {error}")
+    print(f"page {number} lsn {lsn}", *(f"{slot}={value}" for slot, value in enumerate(slots) if value))
+
+
+if __name__ == "__main__":
+    main(sys.argv[1:])
