@@ -4,17 +4,18 @@ use Rattle.std.proofs.lemmas.Bool.{cases_lt}
 use Rattle.std.specs.Prelude.{slice_range, Option, Some, None, IfSome}
 use Rattle.std.specs.Int.{w32, from_le_bytes}
 use Rattle.std.specs.Io.KnownBytes.{Consumes, IsAtEnd}
-use Rattle.std.proofs.lemmas.List.{take-append-le, drop-append-le, length-append, length-drop, append-nil}
+use Rattle.std.proofs.lemmas.List.{take-append-le, drop-append-le, length-append, length-drop, length-take, append-nil}
 use Rattle.log_store.specs.declared.fault.LogReadFault.{LogReadFault}
 use Rattle.log_store.specs.declared.fault.LogReadFault.TheVariants.{OutOfMemory, BadHeader, BadRecord, Torn, ReadFault, TooLong}
 use Rattle.log_store.specs.declared.record.Record.{Record}
 use Rattle.log_store.specs.Record.{record_bytes}
 use Rattle.log_store.specs.Log.{Log, SpellsLog, StandsAt}
 use Rattle.log_store.specs.Fault.{IsPlace, IsHeader, HasRecord, HasFault, IsFirstFault, IsFaultOf, IsHeld, HoldsNoFault, Refuses, IsOutside, offset_of, pages_in, longest}
-use Rattle.log_store.proofs.Faults.{none_in_log}
+use Rattle.log_store.proofs.Logs.{length-header_bytes}
+use Rattle.log_store.proofs.Faults.{none_in_log, first_header}
 
 -- a part of what was given is a part of the input
-range_in : (given rest : List ℕ) (a b : ℕ) → a ≤ b → b ≤ length given → slice_range (given ++ rest) a b ≡ slice_range given a b
+pub range_in : (given rest : List ℕ) (a b : ℕ) → a ≤ b → b ≤ length given → slice_range (given ++ rest) a b ≡ slice_range given a b
 range_in given rest a b le long =
     ap (take (b - a)) (drop-append-le a given rest (omega arith)) ∙ take-append-le (b - a) (drop a given) rest (omega (arith, length-drop a given))
 
@@ -57,7 +58,7 @@ comes_later given rest end long within short first fits (Torn at) e =
     ]
 comes_later given rest end long within short first fits TooLong e = short
 
-goes_on_header : (given rest : List ℕ) → 64 ≤ length given → IsFirstFault given BadHeader → IsFirstFault (given ++ rest) BadHeader
+pub goes_on_header : (given rest : List ℕ) → 64 ≤ length given → IsFirstFault given BadHeader → IsFirstFault (given ++ rest) BadHeader
 goes_on_header given rest long h = record {
   there = λ header. h.there (subst IsHeader (take-append-le 64 given rest long) header);
   first = λ other e. omega arith;
@@ -149,3 +150,15 @@ only_outside log input spells TooLong h = none_in_log log input spells TooLong h
 
 pub at_some : (old : Option (List ℕ)) (input : List ℕ) (P : List ℕ → Type 0) → old ≡ Some input → IfSome old P → P input
 at_some old input P e h = let Q : Option (List ℕ) → Type 0 = λ o. IfSome o P in subst Q e h
+
+-- ---- fewer bytes than a header
+
+no_header : (given : List ℕ) → length given < 64 → ¬ IsHeader (take 64 given)
+no_header given short header = omega (arith, length-take 64 given, ap length header.2, length-header_bytes header.0)
+
+pub refuses_short : (given rest : List ℕ) → length given < 64 → rest ≡ [] → Refuses (given ++ rest) BadHeader
+refuses_short given rest short none = refuses_all given rest BadHeader (first_header given (no_header given short)) none
+
+pub refuses_unread_short : (given rest : List ℕ) → length given < 64 → Refuses (given ++ rest) ReadFault
+refuses_unread_short given rest short =
+    refuses_unread given rest BadHeader (first_header given (no_header given short)) (λ long. omega arith)

@@ -2,3 +2,4 @@ pub mod Faults
 pub mod Inputs
 pub mod Logs
 pub mod Records
+pub mod Scans

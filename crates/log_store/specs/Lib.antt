@@ -3,3 +3,5 @@ pub mod Fields
 pub mod Image
 pub mod Log
 pub mod Record
+pub mod Scan
+pub mod Turn

@@ -9,6 +9,7 @@ mod log_image;
 mod number;
 mod read;
 mod record;
+mod scan;
 
 pub use codec::{decode, encode};
 pub use fault::LogReadFault;
@@ -16,4 +17,5 @@ pub use laws::{logs_are_spelled_apart, records_are_spelled_apart, spelled_logs_h
 pub use log_image::{HEADER_BYTES, LogImage, MAX_LOG_BYTES, MAX_PAGES, MAX_RECORDS, encode_header};
 pub use number::TxnNo;
 pub use read::read_log;
+pub use scan::RecordSink;
 pub use record::{RECORD_BYTES, Record};

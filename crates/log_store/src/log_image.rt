@@ -97,7 +97,7 @@ pub fn encode_header(pages: u32) -> [u8; HEADER_BYTES]
 }
 
 /// The page count of the header in front of these bytes, if there is one.
-fn page_count(bytes: &[u8]) -> Option<u32>
+pub(crate) fn page_count(bytes: &[u8]) -> Option<u32>
     ensures found { IfSome result (λ pages. HasHeader pages bytes.now) }
     ensures only { (pages : ℕ) → IsPageCount pages → take 64 bytes.now ≡ header_bytes pages → result ≡ Some pages }
 {
@@ -149,19 +149,21 @@ fn record_at(bytes: &[u8], at: usize, pages: u32) -> Option<Record>
     ensures found { IfSome result (λ r. StandsAt pages at r × (slice_range bytes.now at (at + 64) ≡ record_bytes r)) }
     ensures only { (r : Record) → StandsAt pages at r → slice_range bytes.now at (at + 64) ≡ record_bytes r → result ≡ Some r }
 {
-    let record = decode(record_bytes_at(bytes, at), Lsn(at as u64))?;
+    record_in(&bytes[at..at + RECORD_BYTES], Lsn(at as u64), pages)
+}
+
+/// The record that these bytes are at this LSN of a log of so many pages, if they are one.
+pub(crate) fn record_in(bytes: &[u8], at: Lsn, pages: u32) -> Option<Record>
+    requires { length bytes.now ≡ 64 }
+    ensures found { IfSome result (λ r. StandsAt pages at r × (bytes.now ≡ record_bytes r)) }
+    ensures only { (r : Record) → StandsAt pages at r → bytes.now ≡ record_bytes r → result ≡ Some r }
+{
+    let record = decode(bytes.as_array().unwrap(), at)?;
     if is_within(pages, &record) {
         Some(record)
     } else {
         None
     }
-}
-
-fn record_bytes_at(bytes: &[u8], at: usize) -> &[u8; RECORD_BYTES]
-    requires { at + 64 ≤ length bytes.now }
-    ensures { result.now ≡ slice_range bytes.now at (at + 64) }
-{
-    bytes[at..at + RECORD_BYTES].as_array().unwrap()
 }
 
 fn is_within(pages: u32, record: &Record) -> bool

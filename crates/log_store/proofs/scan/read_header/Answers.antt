@@ -1,0 +1,26 @@
+use Rattle.std.proofs.Common.{◌≡◌, ℕ, ◌+◌, ◌++◌, List, [], length, take, sym, ap, subst, ◌∙◌, arith, rules}
+use Rattle.std.specs.Io.KnownBytes.{Consumes}
+use Rattle.std.proofs.lemmas.List.{length-take, take_all}
+use Rattle.log_store.specs.declared.fault.LogReadFault.TheVariants.{BadHeader, ReadFault}
+use Rattle.log_store.specs.Fault.{Refuses}
+use Rattle.log_store.proofs.Inputs.{of_input, refuses_short, refuses_unread_short}
+use Rattle.log_store.proofs.scan.read_header.Goals as goal
+
+pub returns-in-End-clause-first : goal.returns-in-End-clause-first
+returns-in-End-clause-first g c =
+    let given = take c.loop-turn.filled c.loop-turn.header in
+    let short = c.loop-turn.invariant.short in
+    of_input _ _ given (λ input. Refuses input BadHeader) (c.in-End.ensures.1 _ [] c.loop-turn.invariant.taken)
+    (λ rest end. refuses_short given rest (omega (arith, length-take c.loop-turn.filled c.loop-turn.header)) (end c.in-End.ensures.0))
+
+pub returns-then-filled-ge-HEADER_BYTES-clause-ok : goal.returns-then-filled-ge-HEADER_BYTES-clause-ok
+returns-then-filled-ge-HEADER_BYTES-clause-ok g c =
+    let filled = c.loop-turn.filled + c.in-More.count in
+    let all : take filled c.read_more.new.buffer ≡ c.read_more.new.buffer = take_all filled c.read_more.new.buffer (omega arith) in
+    subst (Consumes _ _) all (c.in-More.ensures.1 _ [] c.loop-turn.invariant.taken)
+
+pub loop-turn-preserved : goal.loop-turn-preserved
+loop-turn-preserved g c = record {
+  short = c.if-filled-ge-HEADER_BYTES.false;
+  taken = c.in-More.ensures.1 _ [] c.loop-turn.invariant.taken;
+}

@@ -1,0 +1,122 @@
+use Rattle.std.proofs.Common.{◌≡◌, ℕ, ◌+◌, ◌-◌, ◌*◌, ◌/◌, ◌<◌, ◌≤◌, ◌++◌, List, [], length, take, drop, sym, ap, subst, ◌∙◌, arith, inl, inr, rules}
+use Rattle.std.specs.Io.KnownBytes.{Consumes}
+use Rattle.std.proofs.lemmas.List.{append_assoc, length-take, length-drop, take-append-drop}
+use Rattle.std.proofs.lemmas.Bool.{cases_lt}
+use Rattle.std.proofs.lemmas.Result.{err_from_is_err_and}
+use Rattle.log_store.specs.declared.fault.LogReadFault.{LogReadFault}
+use Rattle.log_store.specs.declared.fault.LogReadFault.TheVariants.{Torn, ReadFault, TooLong}
+use Rattle.log_store.specs.Log.{SpellsLog, header_bytes, lsn_of}
+use Rattle.log_store.specs.Fault.{Refuses}
+use Rattle.log_store.specs.Scan.{HasTaken}
+use Rattle.log_store.proofs.Inputs.{of_input}
+use Rattle.log_store.proofs.Scans.{refuses_torn, refuses_failed, refuses_past_last, regrouped, if_err}
+use Rattle.log_store.proofs.scan.read_records.Goals as goal
+use Rattle.log_store.proofs.scan.read_records.Goals.{else-count-ge-MAX_RECORDS-via-then-count-ge-MAX_RECORDS+else-filled-gt0, else-count-ge-MAX_RECORDS-via-else-count-ge-MAX_RECORDS}
+
+pub returns-in-End-clause-first : goal.returns-in-End-clause-first
+returns-in-End-clause-first g c =
+    let header = header_bytes c.args.pages in
+    let inv = c.loop.invariant in
+    let read = inv.so_far.0 in
+    let t = inv.so_far.1.0 in
+    let pending = take c.loop.filled c.loop.buffer in
+    let short = inv.short in
+    let room = c.requires.room in
+    let count = t.count_is in
+    if_err c.at_end.result _ _ (λ fault torn.
+      let some = torn.0 in
+      let at : lsn_of (length t.log.records) ≡ 64 * (c.loop.count + 1) = omega arith in
+      let is : fault ≡ Torn (lsn_of (length t.log.records)) = torn.1 ∙ ap Torn (sym at) in
+      of_input _ _ (read ++ pending) (λ rest. Refuses (header ++ rest) fault) (c.in-End.ensures.1 _ read inv.so_far.1.1)
+      (λ rest end. subst (Refuses (header ++ ((read ++ pending) ++ rest))) (sym is)
+        (refuses_torn header read pending rest t.log t.spells (omega (arith, length-take c.loop.filled c.loop.buffer)) (omega (arith, length-take c.loop.filled c.loop.buffer))
+          (elim (cases_lt (length t.log.records) 1048576) [ inl room ↦ room | inr full ↦ let none = inv.few (omega arith) in absurd (omega arith) ]) (end c.in-End.ensures.0)))) c.at_end.ensures.err
+
+pub returns-in-Failed-clause-first : goal.returns-in-Failed-clause-first
+returns-in-Failed-clause-first g c =
+    let header = header_bytes c.args.pages in
+    let inv = c.loop.invariant in
+    let read = inv.so_far.0 in
+    let t = inv.so_far.1.0 in
+    let pending = take c.loop.filled c.loop.buffer in
+    let short = inv.short in
+    let count = t.count_is in
+    of_input _ _ (read ++ pending) (λ rest. Refuses (header ++ rest) ReadFault) (c.in-Failed.ensures _ read inv.so_far.1.1)
+    (λ rest end. refuses_failed header read pending rest t.log t.spells (omega (arith, length-take c.loop.filled c.loop.buffer))
+      (λ full. let none = inv.few (omega arith) in omega (arith, length-take c.loop.filled c.loop.buffer)))
+
+pub returns-in_err-take_records-clause-first : goal.returns-in_err-take_records-clause-first
+returns-in_err-take_records-clause-first g c =
+    let p = err_from_is_err_and c.from_residual.result c.from_residual.ensures.1 in
+    let header = header_bytes c.args.pages in
+    let inv = c.loop.invariant in
+    let read = inv.so_far.0 in
+    let t = inv.so_far.1.0 in
+    let bytes = take (c.loop.filled + c.in-More.more) c.read_more.new.buffer in
+    let fault = c.in_err-take_records.field-0.0 in
+    rw (p.1, p.2)
+    (of_input _ _ (read ++ bytes) (λ rest. Refuses (header ++ rest) fault) (c.in-More.ensures.1 _ read inv.so_far.1.1)
+    (λ rest end. regrouped header read bytes rest (λ input. Refuses input fault) (c.in_err-take_records.ensures.first (header ++ read) rest t)))
+
+pub returns-then-filled-gt0-clause-first : goal.returns-then-filled-gt0-clause-first
+returns-then-filled-gt0-clause-first g c =
+    let header = header_bytes c.args.pages in
+    let inv = c.loop.invariant in
+    let read = inv.so_far.0 in
+    let filled = c.loop.filled + c.in-More.more in
+    let whole = 64 * (filled / 64) in
+    let bytes = take filled c.read_more.new.buffer in
+    let width : length bytes ≡ filled = omega (arith, length-take filled c.read_more.new.buffer, c.in-More.ensures.0) in
+    let further = read ++ take whole bytes in
+    let pending = drop whole bytes in
+    let t : HasTaken g.S.RecordSink.holds c.take_records.new.sink c.args.pages (c.loop.count + filled / 64) (header ++ further) =
+        subst (HasTaken g.S.RecordSink.holds c.take_records.new.sink c.args.pages (c.loop.count + filled / 64)) (append_assoc header read (take whole bytes))
+        (subst (λ (k : ℕ). HasTaken g.S.RecordSink.holds c.take_records.new.sink c.args.pages (c.loop.count + k / 64) ((header ++ read) ++ take (64 * (k / 64)) bytes)) width
+          (c.in_ok-take_records.ensures.ok (header ++ read) inv.so_far.1.0)) in
+    let count = t.count_is in
+    let full = c.if-count-ge-MAX_RECORDS.true in
+    let both : read ++ bytes ≡ further ++ pending = ap (λ (bs : List ℕ). read ++ bs) (sym (take-append-drop whole bytes)) ∙ sym (append_assoc read (take whole bytes) pending) in
+    let rest_is = c.keep_rest-filled.ensures.rest in
+    let some = c.if-filled-gt0.true in
+    let long : 0 < length pending = omega (arith, length-drop whole bytes, length-take filled c.read_more.new.buffer, c.keep_rest-filled.ensures.count, c.in-More.ensures.0) in
+    of_input _ _ (further ++ pending) (λ rest. Refuses (header ++ rest) TooLong) (subst (Consumes _ _) both (c.in-More.ensures.1 _ read inv.so_far.1.1))
+    (λ rest end. refuses_past_last header further pending rest t.log t.spells (omega arith) long)
+
+pub loop-preserved : goal.loop-preserved
+loop-preserved g c =
+    let header = header_bytes c.args.pages in
+    let inv = c.loop.invariant in
+    let read = inv.so_far.0 in
+    let filled = c.loop.filled + c.in-More.more in
+    let whole = 64 * (filled / 64) in
+    let bytes = take filled c.read_more.new.buffer in
+    let t = c.in_ok-take_records.ensures.ok (header ++ read) inv.so_far.1.0 in
+    let n = length bytes in
+    let width : length bytes ≡ filled = omega (arith, length-take filled c.read_more.new.buffer, c.in-More.ensures.0) in
+    let taken : HasTaken g.S.RecordSink.holds c.take_records.new.sink c.args.pages (c.loop.count + filled / 64) (header ++ (read ++ take whole bytes)) =
+        subst (HasTaken g.S.RecordSink.holds c.take_records.new.sink c.args.pages (c.loop.count + filled / 64)) (append_assoc header read (take whole bytes))
+        (subst (λ (k : ℕ). HasTaken g.S.RecordSink.holds c.take_records.new.sink c.args.pages (c.loop.count + k / 64) ((header ++ read) ++ take (64 * (k / 64)) bytes)) width t) in
+    let both : read ++ bytes ≡ (read ++ take whole bytes) ++ take c.keep_rest-filled.result c.keep_rest-filled.new.buffer =
+        ap (λ (bs : List ℕ). read ++ bs) (sym (take-append-drop whole bytes)) ∙ sym (append_assoc read (take whole bytes) (drop whole bytes))
+        ∙ ap (λ (bs : List ℕ). (read ++ take whole bytes) ++ bs) (sym c.keep_rest-filled.ensures.rest) in
+    record {
+      short = c.keep_rest-filled.ensures.short;
+      few = λ full. elim c.else-count-ge-MAX_RECORDS.branch [
+        | else-count-ge-MAX_RECORDS-via-then-count-ge-MAX_RECORDS+else-filled-gt0 w ↦ let none = w.if-filled-gt0.false in omega arith
+        | else-count-ge-MAX_RECORDS-via-else-count-ge-MAX_RECORDS w ↦ let room = w.if-count-ge-MAX_RECORDS.false in absurd (omega arith)
+      ];
+      so_far = (read ++ take whole bytes, (taken, subst (Consumes _ _) both (c.in-More.ensures.1 _ read inv.so_far.1.1)));
+    }
+
+pub returns-clause-first : goal.returns-clause-first
+returns-clause-first g c =
+    let header = header_bytes c.args.pages in
+    let inv = c.loop.invariant in
+    let read = inv.so_far.0 in
+    let t = inv.so_far.1.0 in
+    let pending = take c.loop.filled c.loop.buffer in
+    let short = inv.short in
+    let count = t.count_is in
+    of_input _ _ (read ++ pending) (λ rest. Refuses (header ++ rest) ReadFault) inv.so_far.1.1
+    (λ rest end. refuses_failed header read pending rest t.log t.spells (omega (arith, length-take c.loop.filled c.loop.buffer))
+      (λ full. let none = inv.few (omega arith) in omega (arith, length-take c.loop.filled c.loop.buffer)))

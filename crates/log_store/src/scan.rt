@@ -1,0 +1,221 @@
+//! The reading of a log, record by record.
+
+ghost use Rattle.std.specs.Prelude.{ℕ, ◌≡◌, ◌+◌, ◌*◌, ◌/◌, ◌<◌, ◌≤◌, ◌++◌, ◌-◌, [], List, length, vec_len, take, drop, IfOk, IfErr, IfSome, OnOk};
+ghost use Rattle.std.specs.Io.KnownBytes.{Consumes, IsAtEnd};
+ghost use Rattle.log_store.specs.Log.{Log, IsLog, IsPageCount, SpellsLog, header_bytes};
+ghost use Rattle.log_store.specs.Fault.{Refuses, IsHeader};
+ghost use Rattle.log_store.specs.Scan.{IsNext, with_next, HasTaken, HasAll};
+ghost use Rattle.log_store.specs.Turn.{Gives};
+
+use crate::fault::LogReadFault;
+use crate::log_image::{HEADER_BYTES, MAX_RECORDS, page_count, record_in};
+use crate::record::{RECORD_BYTES, Record};
+use page_core::Lsn;
+use std::alloc::{AllocError, Global};
+use std::io::{ErrorKind, Read};
+
+/// How often a reader is asked for more bytes.
+const MAX_TURNS: u32 = 134_217_728;
+
+/// How many bytes it is asked for at once.
+const BUFFER_BYTES: usize = 262_144;
+
+/// What takes the records of a log as they are read.
+pub trait RecordSink {
+    /// What the sink holds is what it makes of this log.
+    ghost holds: { Self → Log → Type 0 };
+
+    /// A sink for the records of a log of so many pages.
+    fn start(alloc: Global, pages: u32) -> Result<Self, AllocError>
+    where
+        Self: Sized,
+        requires { IsPageCount pages }
+        ensures { IfOk result (λ sink. holds sink (record { pages = pages; records = [] })) };
+
+    /// Takes the next record. After an `Err` nothing is known of what the sink holds.
+    fn take(&mut self, next: &Record) -> Result<(), AllocError>
+        requires { (log : Log) × (holds self.old log × IsNext log next.now) }
+        ensures { OnOk result ((log : Log) → holds self.old log → IsNext log next.now → holds self.new (with_next log next.now)) };
+}
+
+/// Takes one record of a log.
+fn take_record<S: RecordSink>(
+    sink: &mut S,
+    pages: u32,
+    count: usize,
+    bytes: &[u8],
+) -> Result<(), LogReadFault>
+    requires taken { (given : List ℕ) × HasTaken S.holds sink.old pages count given }
+    requires whole { length bytes.now ≡ 64 }
+    ensures ok { OnOk result ((given : List ℕ) → HasTaken S.holds sink.old pages count given
+        → HasTaken S.holds sink.new pages (count + 1) (given ++ bytes.now)) }
+    ensures first { IfErr result (λ fault. (given rest : List ℕ) → HasTaken S.holds sink.old pages count given
+        → Refuses (given ++ (bytes.now ++ rest)) fault) }
+{
+    if count >= MAX_RECORDS {
+        return Err(LogReadFault::TooLong);
+    }
+    let at = Lsn(64 * (count as u64 + 1));
+    match record_in(bytes, at, pages) {
+        Some(record) => Ok(sink.take(&record)?),
+        None => Err(LogReadFault::BadRecord(at)),
+    }
+}
+
+/// Takes the whole records among these bytes, which stand behind the first `count` records.
+fn take_records<S: RecordSink>(
+    sink: &mut S,
+    pages: u32,
+    count: usize,
+    bytes: &[u8],
+) -> Result<(), LogReadFault>
+    requires { (given : List ℕ) × HasTaken S.holds sink.old pages count given }
+    ensures ok { OnOk result ((given : List ℕ) → HasTaken S.holds sink.old pages count given
+        → HasTaken S.holds sink.new pages (count + length bytes.now / 64) (given ++ take (64 * (length bytes.now / 64)) bytes.now)) }
+    ensures first { IfErr result (λ fault. (given rest : List ℕ) → HasTaken S.holds sink.old pages count given
+        → Refuses (given ++ (bytes.now ++ rest)) fault) }
+{
+    for i in 0..bytes.len() / RECORD_BYTES {
+        let record = &bytes[RECORD_BYTES * i..RECORD_BYTES * i + RECORD_BYTES];
+        take_record(sink, pages, count + i, record)?;
+    }
+    Ok(())
+}
+
+/// Reads the header, and answers how many turns that took.
+fn read_header<R: Read>(reader: &mut R, header: &mut [u8]) -> Result<u32, LogReadFault>
+    requires { length header.old ≡ 64 }
+    ensures ok { OnOk result (Consumes (R.remaining reader.old) (R.remaining reader.new) header.new) }
+    ensures turns { IfOk result (λ turns. turns ≤ 134217728) }
+    ensures first { IfErr result (λ fault. IfSome (R.remaining reader.old) (λ input. Refuses input fault)) }
+{
+    let mut filled = 0;
+    for turn in 0..MAX_TURNS {
+        match read_more(reader, header, filled) {
+            Turn::More(count) => filled += count,
+            Turn::End => return Err(LogReadFault::BadHeader),
+            Turn::Failed => return Err(LogReadFault::ReadFault),
+        }
+        if filled >= HEADER_BYTES {
+            return Ok(turn + 1);
+        }
+    }
+    Err(LogReadFault::ReadFault)
+}
+
+/// What came of asking a reader for more bytes.
+enum Turn {
+    /// So many more, and none where the read was interrupted.
+    More(usize),
+    /// There are no more.
+    End,
+    Failed,
+}
+
+/// Asks a reader for more bytes, behind those that fill the buffer.
+fn read_more<R: Read>(reader: &mut R, buffer: &mut [u8], filled: usize) -> Turn
+    requires { filled < length buffer.old }
+    ensures { Gives (R.remaining reader.old) (R.remaining reader.new) filled buffer.old buffer.new result }
+{
+    match reader.read(&mut buffer[filled..]) {
+        Ok(0) => Turn::End,
+        Ok(count) => Turn::More(count),
+        Err(error) => {
+            if error.kind() == ErrorKind::Interrupted {
+                Turn::More(0)
+            } else {
+                Turn::Failed
+            }
+        }
+    }
+}
+
+/// Reads the records behind the header, to the input's end.
+fn read_records<R: Read, S: RecordSink>(
+    reader: &mut R,
+    sink: &mut S,
+    pages: u32,
+    turns: u32,
+    buffer: &mut [u8],
+) -> Result<(), LogReadFault>
+    requires room { 128 ≤ length buffer.old }
+    requires taken { HasTaken S.holds sink.old pages 0 (header_bytes pages) }
+    ensures end { OnOk result (IsAtEnd (R.remaining reader.new)) }
+    ensures found { OnOk result ((read : List ℕ) × (Consumes (R.remaining reader.old) (R.remaining reader.new) read
+        × HasAll S.holds sink.new (header_bytes pages ++ read))) }
+    ensures first { IfErr result (λ fault. IfSome (R.remaining reader.old) (λ rest. Refuses (header_bytes pages ++ rest) fault)) }
+{
+    let mut filled = 0;
+    let mut count = 0;
+    for _ in 0..turns {
+        match read_more(reader, buffer, filled) {
+            Turn::More(more) => filled += more,
+            Turn::End => return at_end(count, filled),
+            Turn::Failed => return Err(LogReadFault::ReadFault),
+        }
+        take_records(sink, pages, count, &buffer[..filled])?;
+        count += filled / RECORD_BYTES;
+        filled = keep_rest(buffer, filled);
+        if count >= MAX_RECORDS && filled > 0 {
+            return Err(LogReadFault::TooLong);
+        }
+    }
+    Err(LogReadFault::ReadFault)
+}
+
+/// Whether a log may end here, where so many bytes follow its first `count` records.
+fn at_end(count: usize, filled: usize) -> Result<(), LogReadFault>
+    requires { count ≤ 1048576 }
+    ensures ok { OnOk result (filled ≡ 0) }
+    ensures err { IfErr result (λ fault. (0 < filled) × (fault ≡ LogReadFault.Torn (64 * (count + 1)))) }
+{
+    if filled == 0 {
+        Ok(())
+    } else {
+        Err(LogReadFault::Torn(Lsn(64 * (count as u64 + 1))))
+    }
+}
+
+/// Moves the bytes behind the whole records to the front, and answers how many there are.
+fn keep_rest(buffer: &mut [u8], filled: usize) -> usize
+    requires { filled ≤ length buffer.old }
+    ensures short { result < 64 }
+    ensures rest { take result buffer.new ≡ drop (64 * (filled / 64)) (take filled buffer.old) }
+    ensures count { result ≡ filled - 64 * (filled / 64) }
+{
+    let whole = RECORD_BYTES * (filled / RECORD_BYTES);
+    for i in 0..filled - whole {
+        buffer[i] = buffer[whole + i];
+    }
+    filled - whole
+}
+
+/// Reads a log to the input's end, and hands its records to a sink as they come. A record is handed on only once all of
+/// the bytes up to its end are found right. It stops at the first fault, since nothing behind it can come before it.
+pub fn scan_log<R: Read, S: RecordSink + Drop>(
+    alloc: Global,
+    reader: &mut R,
+) -> Result<S, LogReadFault>
+    // What the sink holds is what it makes of the log that the input spells.
+    ensures found { IfOk result (λ sink. (log : Log) × (S.holds sink log × (IsLog log × IfSome (R.remaining reader.old) (SpellsLog log)))) }
+    ensures end { OnOk result (IsAtEnd (R.remaining reader.new)) }
+    // The fault is the first one. Where the reader failed, what it gave until then holds none.
+    ensures first { IfErr result (λ fault. IfSome (R.remaining reader.old) (λ input. Refuses input fault)) }
+{
+    let mut header = [0; HEADER_BYTES];
+    let turns = read_header(reader, &mut header)?;
+    let Some(pages) = page_count(&header) else {
+        return Err(LogReadFault::BadHeader);
+    };
+    let mut sink = S::start(alloc, pages)?;
+    let mut buffer = zeros(alloc, BUFFER_BYTES)?;
+    read_records(reader, &mut sink, pages, MAX_TURNS - turns, &mut buffer)?;
+    Ok(sink)
+}
+
+fn zeros(alloc: Global, count: usize) -> Result<Vec<u8>, AllocError>
+    requires { 128 ≤ count }
+    ensures { IfOk result (λ bytes. 128 ≤ vec_len bytes) }
+{
+    vec![in alloc; 0; count]
+}
