@@ -1,12 +1,12 @@
 -- From the bytes of a log to the bytes of the volume that it makes.
-use Rattle.std.specs.Prelude.{ℕ, ◌≡◌, ◌≤◌, List, length, take, Option, Some, IfSome}
+use Rattle.std.specs.Prelude.{ℕ, ◌≡◌, ◌≤◌, List, [], length, take, Option, Some, IfSome}
 use Rattle.std.specs.Io.KnownBytes.{Appends, Keeps}
 use Rattle.page_core.specs.Page.{volume_bytes}
 use Rattle.log_store.specs.declared.fault.LogReadFault.{LogReadFault}
 use Rattle.log_store.specs.declared.fault.LogReadFault.TheVariants as log
 use Rattle.log_store.specs.Log.{Log, IsLog, SpellsLog}
 use Rattle.log_store.specs.Image.{redo_all}
-use Rattle.log_store.specs.Fault.{Refuses}
+use Rattle.log_store.specs.Fault.{Refuses, GaveNoFault}
 use Rattle.imgcopy.specs.declared.fault.Fault.{Fault}
 use Rattle.imgcopy.specs.declared.fault.Fault.TheVariants as fault
 
@@ -33,6 +33,10 @@ pub record WritesPart (input old new : Option (List ℕ)) (done : ℕ) : Type 0 
 pub record WritesNone (input old new : Option (List ℕ)) (why : LogReadFault) : Type 0 where
   pub refused : IfSome input (λ bytes. Refuses bytes why)
   pub kept : Keeps old new
+
+-- the reader failed, and what it gave until then holds no fault
+abbrev pub FailedUnread : Option (List ℕ) → Option (List ℕ) → Type 0
+FailedUnread old new = GaveNoFault [] old new log.ReadFault
 
 -- a fault of reading a log, as the program reports it
 abbrev pub reported : LogReadFault → Fault

@@ -3,12 +3,12 @@
 ghost use Rattle.std.specs.Prelude.{◌≡◌, ◌≤◌, length, take, IfOk, IfErr, OnOk};
 ghost use Rattle.std.specs.Io.KnownBytes.{Appends};
 ghost use Rattle.page_core.specs.Page.{volume_bytes};
-ghost use Rattle.imgcopy.specs.Stream.{WritesVolume, Leaves};
+ghost use Rattle.imgcopy.specs.Stream.{WritesVolume, Leaves, FailedUnread};
 
 use crate::fault::Fault;
-use log_store::read_log;
+use log_store::scan_log;
 use page_core::{PAGE_BYTES, Page};
-use page_redo::redo_log;
+use page_redo::Volume;
 use std::alloc::{AllocError, Global};
 use std::io::{ErrorKind, Read, Write};
 
@@ -24,10 +24,11 @@ pub fn redo_stream<R: Read, W: Write>(
 ) -> Result<(), Fault>
     ensures ok { OnOk result (WritesVolume (R.remaining reader.old) (W.contents writer.old) (W.contents writer.new)) }
     ensures err { IfErr result (Leaves (R.remaining reader.old) (W.contents writer.old) (W.contents writer.new)) }
+    // Where the reader failed, what it gave until then holds no fault.
+    ensures unread { result ≡ Err Fault.ReadFault → FailedUnread (R.remaining reader.old) (R.remaining reader.new) }
 {
-    let log = read_log(alloc, reader)?;
-    let pages = redo_log(alloc, &log)?;
-    let bytes = bytes_of(alloc, &pages)?;
+    let volume: Volume = scan_log(alloc, reader)?;
+    let bytes = bytes_of(alloc, &volume.pages)?;
     write_out(writer, &bytes).map_err(Fault::WriteFault)
 }
 

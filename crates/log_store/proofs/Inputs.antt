@@ -105,7 +105,7 @@ refuses_all given rest fault h none = rw (none, append-nil) (same given fault h)
     same given TooLong h = h
 
 -- a fault that comes of the end alone: until there nothing is wrong
-none_held : (given : List ℕ) (fault : LogReadFault) → IsFaultOf given fault → (¬ IsHeld given fault) → HoldsNoFault given
+pub none_held : (given : List ℕ) (fault : LogReadFault) → IsFaultOf given fault → (¬ IsHeld given fault) → HoldsNoFault given
 none_held given OutOfMemory h not_held other held e = not_held tt
 none_held given ReadFault h not_held other held e = h
 none_held given BadHeader h not_held BadHeader held e = not_held held
@@ -126,11 +126,8 @@ none_held given (Torn at) h not_held ReadFault held e = e
 none_held given (Torn at) h not_held (Torn other) held e = held
 none_held given TooLong h not_held other held e = not_held tt
 
-pub refuses_unread : (given rest : List ℕ) (fault : LogReadFault) → IsFaultOf given fault → (¬ IsHeld given fault) → Refuses (given ++ rest) ReadFault
-refuses_unread given rest fault h not_held = (given, rest, refl, none_held given fault h not_held)
-
-pub refuses_log : (log : Log) (given rest : List ℕ) → SpellsLog log given → Refuses (given ++ rest) ReadFault
-refuses_log log given rest spells = (given, rest, refl, λ fault held e. none_in_log log given spells fault e)
+pub none_in_read : (log : Log) (given : List ℕ) → SpellsLog log given → HoldsNoFault given
+none_in_read log given spells fault held e = none_in_log log given spells fault e
 
 -- ---- what a reader gave, and what it had
 
@@ -159,6 +156,5 @@ no_header given short header = omega (arith, length-take 64 given, ap length hea
 pub refuses_short : (given rest : List ℕ) → length given < 64 → rest ≡ [] → Refuses (given ++ rest) BadHeader
 refuses_short given rest short none = refuses_all given rest BadHeader (first_header given (no_header given short)) none
 
-pub refuses_unread_short : (given rest : List ℕ) → length given < 64 → Refuses (given ++ rest) ReadFault
-refuses_unread_short given rest short =
-    refuses_unread given rest BadHeader (first_header given (no_header given short)) (λ long. omega arith)
+pub none_in_short : (given : List ℕ) → length given < 64 → HoldsNoFault given
+none_in_short given short = none_held given BadHeader (first_header given (no_header given short)) (λ long. omega arith)

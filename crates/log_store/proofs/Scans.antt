@@ -6,15 +6,17 @@ use Rattle.std.specs.Prelude.{Option, Some, None, IfSome, Result, Ok, Err, IfErr
 use Rattle.std.specs.Io.KnownBytes.{Consumes, IsAtEnd}
 use Rattle.std.proofs.lemmas.Bool.{cases_lt}
 use Rattle.std.proofs.lemmas.List.{append_assoc, append-nil, nil_from_length, take-append-le, take_at, drop_at, length-append, length_push, get_or_append_left, get_or_push, flat_map_more}
-use Rattle.log_store.specs.declared.fault.LogReadFault.TheVariants.{BadRecord, Torn, ReadFault, TooLong}
+use Rattle.std.proofs.KnownBytes.{Consumes-trans}
+use Rattle.log_store.specs.declared.fault.LogReadFault.{LogReadFault}
+use Rattle.log_store.specs.declared.fault.LogReadFault.TheVariants.{OutOfMemory, BadHeader, BadRecord, Torn, ReadFault, TooLong}
 use Rattle.log_store.specs.declared.record.Record.{Record}
 use Rattle.log_store.specs.Record.{record_bytes}
 use Rattle.log_store.specs.Log.{Log, IsLog, StandsAt, SpellsLog, HasHeader, AreFirst, header_bytes, log_bytes, lsn_of, whole_records}
-use Rattle.log_store.specs.Fault.{IsFirstFault, Refuses, longest}
+use Rattle.log_store.specs.Fault.{IsFirstFault, Refuses, HoldsNoFault, GaveNoFault, longest}
 use Rattle.log_store.specs.Scan.{IsNext, with_next, HasTaken}
 use Rattle.log_store.proofs.Logs.{length-log, header_of_log, record_of_log}
 use Rattle.log_store.proofs.Faults.{first_record, first_too_long, first_torn}
-use Rattle.log_store.proofs.Inputs.{range_in, refuses_all, refuses_unread, refuses_log, of_input}
+use Rattle.log_store.proofs.Inputs.{range_in, refuses_all, none_held, none_in_read, of_input}
 
 -- ---- what a log's bytes have, however they go on
 
@@ -99,20 +101,20 @@ refuses_torn header read pending rest log spells short some few none =
     subst (λ (input : List ℕ). Refuses input (Torn (lsn_of (length log.records)))) (append_assoc (header ++ read) pending rest ∙ regroup header read pending rest)
     (refuses_all ((header ++ read) ++ pending) rest (Torn (lsn_of (length log.records))) (torn_at log (header ++ read) pending spells short some few) none)
 
-pub refuses_failed : (header read pending rest : List ℕ) (log : Log) → SpellsLog log (header ++ read) → length pending < 64
-    → (1048576 ≤ length log.records → length pending ≡ 0) → Refuses (header ++ ((read ++ pending) ++ rest)) ReadFault
-refuses_failed header read pending rest log spells short few =
+pub none_in_failed : (header read pending : List ℕ) (log : Log) → SpellsLog log (header ++ read) → length pending < 64
+    → (1048576 ≤ length log.records → length pending ≡ 0) → HoldsNoFault (header ++ (read ++ pending))
+none_in_failed header read pending log spells short few =
     let given = header ++ read in
-    subst (λ (input : List ℕ). Refuses input ReadFault) (append_assoc given pending rest ∙ regroup header read pending rest)
+    subst HoldsNoFault (append_assoc header read pending)
     (elim (cases_lt 0 (length pending)) [
       | inl some ↦
         elim (cases_lt (length log.records) 1048576) [
-          | inl room ↦ refuses_unread (given ++ pending) rest (Torn (lsn_of (length log.records))) (torn_at log given pending spells short some room) (λ held. held)
+          | inl room ↦ none_held (given ++ pending) (Torn (lsn_of (length log.records))) (torn_at log given pending spells short some room) (λ held. held)
           | inr full ↦ absurd (omega (arith, few full))
         ]
       | inr none ↦
         let nothing : pending ≡ [] = nil_from_length pending (omega arith) in
-        refuses_log log (given ++ pending) rest (subst (SpellsLog log) (sym (append-nil given) ∙ ap (λ (p : List ℕ). given ++ p) (sym nothing)) spells)
+        none_in_read log (given ++ pending) (subst (SpellsLog log) (sym (append-nil given) ∙ ap (λ (p : List ℕ). given ++ p) (sym nothing)) spells)
     ])
 
 pub refuses_past_last : (header read pending rest : List ℕ) (log : Log) → SpellsLog log (header ++ read) → 1048576 ≤ length log.records → 0 < length pending
@@ -137,3 +139,12 @@ of_rest (Some input) (Some rest) given P taken h = subst P (sym taken) h
 
 pub of_all : (old new : Option (List ℕ)) (given : List ℕ) (P : List ℕ → Type 0) → Consumes old new given → IsAtEnd new → P given → IfSome old P
 of_all old new given P taken end h = of_input old new given P taken (λ rest none. subst P (sym (append-nil given) ∙ ap (λ (r : List ℕ). given ++ r) (sym (none end))) h)
+
+pub gave_more : (old mid new : Option (List ℕ)) (header : List ℕ) (fault : LogReadFault) → Consumes old mid header
+    → GaveNoFault header mid new fault → GaveNoFault [] old new fault
+gave_more old mid new header ReadFault taken gave = (header ++ gave.0, (Consumes-trans old mid new header gave.0 taken gave.1.0, gave.1.1))
+gave_more old mid new header OutOfMemory taken gave = tt
+gave_more old mid new header BadHeader taken gave = tt
+gave_more old mid new header (BadRecord at) taken gave = tt
+gave_more old mid new header (Torn at) taken gave = tt
+gave_more old mid new header TooLong taken gave = tt

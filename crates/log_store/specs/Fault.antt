@@ -1,5 +1,6 @@
 -- What may be wrong with the bytes of a log, and which fault is the first.
-use Rattle.std.specs.Prelude.{ℕ, ◌≡◌, ◌+◌, ◌*◌, ◌%◌, ◌<◌, ◌≤◌, List, length, take, slice_range, ◌++◌}
+use Rattle.std.specs.Prelude.{ℕ, ◌≡◌, ◌+◌, ◌*◌, ◌%◌, ◌<◌, ◌≤◌, List, length, take, slice_range, ◌++◌, Option}
+use Rattle.std.specs.Io.KnownBytes.{Consumes}
 use Rattle.std.specs.Int.{w32, from_le_bytes}
 use Rattle.log_store.specs.declared.fault.LogReadFault.{LogReadFault}
 use Rattle.log_store.specs.declared.fault.LogReadFault.TheVariants.{OutOfMemory, BadHeader, BadRecord, Torn, ReadFault, TooLong}
@@ -74,14 +75,23 @@ IsFaultOf bytes (BadRecord at) = IsFirstFault bytes (BadRecord at)
 IsFaultOf bytes (Torn at) = IsFirstFault bytes (Torn at)
 IsFaultOf bytes TooLong = IsFirstFault bytes TooLong
 
--- what a refusal says of the input of a reader: the same, or what was given until the reader failed holds no fault
+-- what a refusal says of the input of a reader
 abbrev pub Refuses : List ℕ → LogReadFault → Type 0
 Refuses input OutOfMemory = Unit {0}
-Refuses input ReadFault = (given : List ℕ) × (rest : List ℕ) × (input ≡ given ++ rest) × HoldsNoFault given
+Refuses input ReadFault = Unit {0}
 Refuses input BadHeader = IsFirstFault input BadHeader
 Refuses input (BadRecord at) = IsFirstFault input (BadRecord at)
 Refuses input (Torn at) = IsFirstFault input (Torn at)
 Refuses input TooLong = IsFirstFault input TooLong
+
+-- where the reader failed, these bytes and what it gave hold no fault
+abbrev pub GaveNoFault : List ℕ → Option (List ℕ) → Option (List ℕ) → LogReadFault → Type 0
+GaveNoFault before old new ReadFault = (given : List ℕ) × (Consumes old new given × HoldsNoFault (before ++ given))
+GaveNoFault before old new OutOfMemory = Unit {0}
+GaveNoFault before old new BadHeader = Unit {0}
+GaveNoFault before old new (BadRecord at) = Unit {0}
+GaveNoFault before old new (Torn at) = Unit {0}
+GaveNoFault before old new TooLong = Unit {0}
 
 -- the fault lies outside the bytes: memory ran out, or the reader failed
 abbrev pub IsOutside : LogReadFault → Type 0
@@ -91,3 +101,12 @@ IsOutside BadHeader = ⊥
 IsOutside (BadRecord at) = ⊥
 IsOutside (Torn at) = ⊥
 IsOutside TooLong = ⊥
+
+-- any fault but the reader's
+abbrev pub IsNoReadFault : LogReadFault → Type 0
+IsNoReadFault ReadFault = ⊥
+IsNoReadFault OutOfMemory = Unit {0}
+IsNoReadFault BadHeader = Unit {0}
+IsNoReadFault (BadRecord at) = Unit {0}
+IsNoReadFault (Torn at) = Unit {0}
+IsNoReadFault TooLong = Unit {0}

@@ -1,7 +1,7 @@
 -- A log that is read record by record.
 use Rattle.std.specs.Prelude.{ℕ, ◌≡◌, ◌<◌, List, [], ◌∷◌, ◌++◌, length}
 use Rattle.log_store.specs.declared.record.Record.{Record}
-use Rattle.log_store.specs.Log.{Log, StandsAt, SpellsLog, lsn_of}
+use Rattle.log_store.specs.Log.{Log, IsLog, StandsAt, SpellsLog, lsn_of}
 
 -- the log with one record more
 abbrev pub with_next : Log → Record → Log
@@ -9,6 +9,7 @@ with_next log r = record log { records = log.records ++ r ∷ [] }
 
 -- the record may follow those of the log
 pub record IsNext (log : Log) (r : Record) : Type 0 where
+  pub valid : IsLog log
   pub few : length log.records < 1048576
   pub stands : StandsAt log.pages (lsn_of (length log.records)) r
 

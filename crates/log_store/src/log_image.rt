@@ -10,9 +10,10 @@ ghost use Rattle.log_store.specs.Fault.{IsHeader, HasRecord, IsFirstFault, IsFau
 use crate::codec::decode;
 use crate::fault::LogReadFault;
 use crate::record::{RECORD_BYTES, Record};
+use crate::scan::RecordSink;
 use page_core::Lsn;
 use page_core::field::u32_at;
-use std::alloc::Global;
+use std::alloc::{AllocError, Global};
 use std::marker::Model;
 
 /// How many pages a volume may have.
@@ -83,6 +84,22 @@ impl LogImage {
             return Err(LogReadFault::Torn(Lsn(at as u64)));
         }
         Ok(LogImage { pages, records })
+    }
+}
+
+impl RecordSink for LogImage {
+    ghost holds = { λ image log. image ≡ log };
+
+    fn start(alloc: Global, pages: u32) -> Result<LogImage, AllocError> {
+        Ok(LogImage {
+            pages,
+            records: Vec::new(alloc),
+        })
+    }
+
+    fn take(&mut self, next: &Record) -> Result<(), AllocError> {
+        self.records.push(*next)?;
+        Ok(())
     }
 }
 

@@ -3,7 +3,7 @@
 ghost use Rattle.std.specs.Prelude.{ℕ, ◌≡◌, ◌+◌, ◌*◌, ◌/◌, ◌<◌, ◌≤◌, ◌++◌, ◌-◌, [], List, length, vec_len, take, drop, IfOk, IfErr, IfSome, OnOk};
 ghost use Rattle.std.specs.Io.KnownBytes.{Consumes, IsAtEnd};
 ghost use Rattle.log_store.specs.Log.{Log, IsLog, IsPageCount, SpellsLog, header_bytes};
-ghost use Rattle.log_store.specs.Fault.{Refuses, IsHeader};
+ghost use Rattle.log_store.specs.Fault.{Refuses, GaveNoFault, IsNoReadFault};
 ghost use Rattle.log_store.specs.Scan.{IsNext, with_next, HasTaken, HasAll};
 ghost use Rattle.log_store.specs.Turn.{Gives};
 
@@ -51,6 +51,7 @@ fn take_record<S: RecordSink>(
         → HasTaken S.holds sink.new pages (count + 1) (given ++ bytes.now)) }
     ensures first { IfErr result (λ fault. (given rest : List ℕ) → HasTaken S.holds sink.old pages count given
         → Refuses (given ++ (bytes.now ++ rest)) fault) }
+    ensures of_bytes { IfErr result IsNoReadFault }
 {
     if count >= MAX_RECORDS {
         return Err(LogReadFault::TooLong);
@@ -74,6 +75,7 @@ fn take_records<S: RecordSink>(
         → HasTaken S.holds sink.new pages (count + length bytes.now / 64) (given ++ take (64 * (length bytes.now / 64)) bytes.now)) }
     ensures first { IfErr result (λ fault. (given rest : List ℕ) → HasTaken S.holds sink.old pages count given
         → Refuses (given ++ (bytes.now ++ rest)) fault) }
+    ensures of_bytes { IfErr result IsNoReadFault }
 {
     for i in 0..bytes.len() / RECORD_BYTES {
         let record = &bytes[RECORD_BYTES * i..RECORD_BYTES * i + RECORD_BYTES];
@@ -88,6 +90,7 @@ fn read_header<R: Read>(reader: &mut R, header: &mut [u8]) -> Result<u32, LogRea
     ensures ok { OnOk result (Consumes (R.remaining reader.old) (R.remaining reader.new) header.new) }
     ensures turns { IfOk result (λ turns. turns ≤ 134217728) }
     ensures first { IfErr result (λ fault. IfSome (R.remaining reader.old) (λ input. Refuses input fault)) }
+    ensures unread { IfErr result (GaveNoFault [] (R.remaining reader.old) (R.remaining reader.new)) }
 {
     let mut filled = 0;
     for turn in 0..MAX_TURNS {
@@ -144,6 +147,7 @@ fn read_records<R: Read, S: RecordSink>(
     ensures found { OnOk result ((read : List ℕ) × (Consumes (R.remaining reader.old) (R.remaining reader.new) read
         × HasAll S.holds sink.new (header_bytes pages ++ read))) }
     ensures first { IfErr result (λ fault. IfSome (R.remaining reader.old) (λ rest. Refuses (header_bytes pages ++ rest) fault)) }
+    ensures unread { IfErr result (GaveNoFault (header_bytes pages) (R.remaining reader.old) (R.remaining reader.new)) }
 {
     let mut filled = 0;
     let mut count = 0;
@@ -199,8 +203,10 @@ pub fn scan_log<R: Read, S: RecordSink + Drop>(
     // What the sink holds is what it makes of the log that the input spells.
     ensures found { IfOk result (λ sink. (log : Log) × (S.holds sink log × (IsLog log × IfSome (R.remaining reader.old) (SpellsLog log)))) }
     ensures end { OnOk result (IsAtEnd (R.remaining reader.new)) }
-    // The fault is the first one. Where the reader failed, what it gave until then holds none.
+    // The fault is the first one.
     ensures first { IfErr result (λ fault. IfSome (R.remaining reader.old) (λ input. Refuses input fault)) }
+    // Where the reader failed, what it gave until then holds none.
+    ensures unread { IfErr result (GaveNoFault [] (R.remaining reader.old) (R.remaining reader.new)) }
 {
     let mut header = [0; HEADER_BYTES];
     let turns = read_header(reader, &mut header)?;

@@ -2,5 +2,7 @@
 #![tactic(auto)]
 
 mod redo;
+mod volume;
 
-pub use redo::{redo_log, redo_page};
+pub use redo::redo_page;
+pub use volume::Volume;

@@ -1,14 +1,13 @@
 //! The redo of records on pages (ARIES, section 6.2).
 
-ghost use Rattle.std.specs.Prelude.{ℕ, ◌≡◌, ◌<◌, [], ◌∷◌, length, map, slice_index_or, IfOk};
+ghost use Rattle.std.specs.Prelude.{ℕ, ◌≡◌, ◌<◌, [], ◌∷◌, length, map, slice_index_or};
 ghost use Rattle.page_core.specs.declared.page.Page.{Page};
 ghost use Rattle.log_store.specs.Log.{IsWithin};
 ghost use Rattle.page_redo.specs.Redo.{is_above, redone};
-ghost use Rattle.log_store.specs.Image.{image_from, with_record, redo_all};
+ghost use Rattle.log_store.specs.Image.{with_record};
 
-use log_store::{LogImage, Record};
-use page_core::{Lsn, Page, PageNo};
-use std::alloc::{AllocError, Global};
+use log_store::Record;
+use page_core::{Lsn, Page};
 
 /// Redoes on a page the records above its LSN, in their order, and leaves out all others: a page that was stored with
 /// some of the changes gets just those that it lacks.
@@ -47,19 +46,8 @@ fn redo_record(page: &mut Page, record: &Record)
     }
 }
 
-/// The volume that a log makes of formatted pages.
-pub fn redo_log(alloc: Global, log: &LogImage) -> Result<Vec<Page>, AllocError>
-    ensures { IfOk result (λ pages. pages.items ≡ redo_all log.now.records log.now.pages) }
-{
-    let mut pages = formatted_pages(alloc, log.pages())?;
-    for record in log.records() {
-        redo_on_its_page(&mut pages, record);
-    }
-    Ok(pages)
-}
-
 /// Redoes one record on the page that it names. On every other page it changes nothing.
-fn redo_on_its_page(pages: &mut [Page], record: &Record)
+pub(crate) fn redo_on_its_page(pages: &mut [Page], record: &Record)
     requires within { IsWithin (length pages.old) «record».now }
     requires numbered { (k : ℕ) (d : Page) → k < length pages.old → (slice_index_or pages.old k d).number ≡ k }
     ensures { pages.new ≡ map (λ page. redone page («record».now ∷ [])) pages.old }
@@ -67,15 +55,4 @@ fn redo_on_its_page(pages: &mut [Page], record: &Record)
     if let Record::Update { page, .. } = record {
         redo_page(&mut pages[page.0 as usize], std::slice::from_ref(record));
     }
-}
-
-/// Pages 0 to `count` - 1, formatted.
-fn formatted_pages(alloc: Global, count: u32) -> Result<Vec<Page>, AllocError>
-    ensures { IfOk result (λ pages. pages.items ≡ redo_all [] count) }
-{
-    let mut pages = Vec::with_capacity(alloc, count as usize)?;
-    for number in 0..count {
-        pages.push(Page::formatted(PageNo(number)))?;
-    }
-    Ok(pages)
 }

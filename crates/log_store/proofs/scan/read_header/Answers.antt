@@ -1,9 +1,9 @@
 use Rattle.std.proofs.Common.{◌≡◌, ℕ, ◌+◌, ◌++◌, List, [], length, take, sym, ap, subst, ◌∙◌, arith, rules}
 use Rattle.std.specs.Io.KnownBytes.{Consumes}
 use Rattle.std.proofs.lemmas.List.{length-take, take_all}
-use Rattle.log_store.specs.declared.fault.LogReadFault.TheVariants.{BadHeader, ReadFault}
+use Rattle.log_store.specs.declared.fault.LogReadFault.TheVariants.{BadHeader}
 use Rattle.log_store.specs.Fault.{Refuses}
-use Rattle.log_store.proofs.Inputs.{of_input, refuses_short, refuses_unread_short}
+use Rattle.log_store.proofs.Inputs.{of_input, refuses_short, none_in_short}
 use Rattle.log_store.proofs.scan.read_header.Goals as goal
 
 pub returns-in-End-clause-first : goal.returns-in-End-clause-first
@@ -24,3 +24,15 @@ loop-turn-preserved g c = record {
   short = c.if-filled-ge-HEADER_BYTES.false;
   taken = c.in-More.ensures.1 _ [] c.loop-turn.invariant.taken;
 }
+
+pub returns-in-Failed-clause-unread : goal.returns-in-Failed-clause-unread
+returns-in-Failed-clause-unread g c =
+    let short = c.loop-turn.invariant.short in
+    (take c.loop-turn.filled c.loop-turn.header, (c.in-Failed.ensures _ [] c.loop-turn.invariant.taken,
+    none_in_short (take c.loop-turn.filled c.loop-turn.header) (omega (arith, length-take c.loop-turn.filled c.loop-turn.header))))
+
+pub returns-clause-unread : goal.returns-clause-unread
+returns-clause-unread g c =
+    let short = c.loop-turn.invariant.short in
+    (take c.loop-turn.filled c.loop-turn.header, (c.loop-turn.invariant.taken,
+    none_in_short (take c.loop-turn.filled c.loop-turn.header) (omega (arith, length-take c.loop-turn.filled c.loop-turn.header))))

@@ -4,12 +4,12 @@ use Rattle.std.proofs.lemmas.List.{append_assoc, length-take, length-drop, take-
 use Rattle.std.proofs.lemmas.Bool.{cases_lt}
 use Rattle.std.proofs.lemmas.Result.{err_from_is_err_and}
 use Rattle.log_store.specs.declared.fault.LogReadFault.{LogReadFault}
-use Rattle.log_store.specs.declared.fault.LogReadFault.TheVariants.{Torn, ReadFault, TooLong}
+use Rattle.log_store.specs.declared.fault.LogReadFault.TheVariants.{Torn, TooLong}
 use Rattle.log_store.specs.Log.{SpellsLog, header_bytes, lsn_of}
 use Rattle.log_store.specs.Fault.{Refuses}
 use Rattle.log_store.specs.Scan.{HasTaken}
 use Rattle.log_store.proofs.Inputs.{of_input}
-use Rattle.log_store.proofs.Scans.{refuses_torn, refuses_failed, refuses_past_last, regrouped, if_err}
+use Rattle.log_store.proofs.Scans.{refuses_torn, none_in_failed, refuses_past_last, regrouped, if_err}
 use Rattle.log_store.proofs.scan.read_records.Goals as goal
 use Rattle.log_store.proofs.scan.read_records.Goals.{else-count-ge-MAX_RECORDS-via-then-count-ge-MAX_RECORDS+else-filled-gt0, else-count-ge-MAX_RECORDS-via-else-count-ge-MAX_RECORDS}
 
@@ -32,18 +32,16 @@ returns-in-End-clause-first g c =
         (refuses_torn header read pending rest t.log t.spells (omega (arith, length-take c.loop.filled c.loop.buffer)) (omega (arith, length-take c.loop.filled c.loop.buffer))
           (elim (cases_lt (length t.log.records) 1048576) [ inl room ↦ room | inr full ↦ let none = inv.few (omega arith) in absurd (omega arith) ]) (end c.in-End.ensures.0)))) c.at_end.ensures.err
 
-pub returns-in-Failed-clause-first : goal.returns-in-Failed-clause-first
-returns-in-Failed-clause-first g c =
-    let header = header_bytes c.args.pages in
+pub returns-in-Failed-clause-unread : goal.returns-in-Failed-clause-unread
+returns-in-Failed-clause-unread g c =
     let inv = c.loop.invariant in
-    let read = inv.so_far.0 in
     let t = inv.so_far.1.0 in
     let pending = take c.loop.filled c.loop.buffer in
     let short = inv.short in
     let count = t.count_is in
-    of_input _ _ (read ++ pending) (λ rest. Refuses (header ++ rest) ReadFault) (c.in-Failed.ensures _ read inv.so_far.1.1)
-    (λ rest end. refuses_failed header read pending rest t.log t.spells (omega (arith, length-take c.loop.filled c.loop.buffer))
-      (λ full. let none = inv.few (omega arith) in omega (arith, length-take c.loop.filled c.loop.buffer)))
+    (inv.so_far.0 ++ pending, (c.in-Failed.ensures _ inv.so_far.0 inv.so_far.1.1,
+    none_in_failed (header_bytes c.args.pages) inv.so_far.0 pending t.log t.spells (omega (arith, length-take c.loop.filled c.loop.buffer))
+      (λ full. let none = inv.few (omega arith) in omega (arith, length-take c.loop.filled c.loop.buffer))))
 
 pub returns-in_err-take_records-clause-first : goal.returns-in_err-take_records-clause-first
 returns-in_err-take_records-clause-first g c =
@@ -108,15 +106,13 @@ loop-preserved g c =
       so_far = (read ++ take whole bytes, (taken, subst (Consumes _ _) both (c.in-More.ensures.1 _ read inv.so_far.1.1)));
     }
 
-pub returns-clause-first : goal.returns-clause-first
-returns-clause-first g c =
-    let header = header_bytes c.args.pages in
+pub returns-clause-unread : goal.returns-clause-unread
+returns-clause-unread g c =
     let inv = c.loop.invariant in
-    let read = inv.so_far.0 in
     let t = inv.so_far.1.0 in
     let pending = take c.loop.filled c.loop.buffer in
     let short = inv.short in
     let count = t.count_is in
-    of_input _ _ (read ++ pending) (λ rest. Refuses (header ++ rest) ReadFault) inv.so_far.1.1
-    (λ rest end. refuses_failed header read pending rest t.log t.spells (omega (arith, length-take c.loop.filled c.loop.buffer))
-      (λ full. let none = inv.few (omega arith) in omega (arith, length-take c.loop.filled c.loop.buffer)))
+    (inv.so_far.0 ++ pending, (inv.so_far.1.1,
+    none_in_failed (header_bytes c.args.pages) inv.so_far.0 pending t.log t.spells (omega (arith, length-take c.loop.filled c.loop.buffer))
+      (λ full. let none = inv.few (omega arith) in omega (arith, length-take c.loop.filled c.loop.buffer))))

@@ -19,6 +19,7 @@ returns-in_ok-take-in-Some-clause-ok g c = λ given taken.
     let count = taken.count_is in
     let at : 64 * (c.args.count + 1) ≡ lsn_of (length taken.log.records) = omega arith in
     let next : IsNext taken.log r = record {
+      valid = taken.spells.valid;
       few = omega arith;
       stands = subst (λ (n : ℕ). StandsAt n (lsn_of (length taken.log.records)) r) (sym taken.pages_are) (subst (λ (n : ℕ). StandsAt c.args.pages n r) at c.in-Some.ensures.found.0);
     } in

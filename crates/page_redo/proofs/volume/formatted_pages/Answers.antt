@@ -2,7 +2,7 @@ use Rattle.std.proofs.Common.{◌≡◌, ◌++◌, ◌∷◌, [], ◌∙◌, ap,
 use Rattle.std.proofs.lemmas.List.FromFn.{map-range_with_len_more}
 use Rattle.page_core.specs.Page.{formatted}
 use Rattle.log_store.specs.Image.{image}
-use Rattle.page_redo.proofs.redo.formatted_pages.Goals as goal
+use Rattle.page_redo.proofs.volume.formatted_pages.Goals as goal
 
 pub loop-number-preserved : goal.loop-number-preserved
 loop-number-preserved c =

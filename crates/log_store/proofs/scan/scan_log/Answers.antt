@@ -1,0 +1,46 @@
+use Rattle.std.proofs.Common.{◌≡◌, ◌∙◌, ℕ, ◌≤◌, ◌++◌, List, [], length, take, sym, ap, subst, arith}
+use Rattle.std.specs.Io.KnownBytes.{Consumes}
+use Rattle.std.proofs.KnownBytes.{Consumes-trans}
+use Rattle.std.proofs.lemmas.List.{take_all}
+use Rattle.std.proofs.lemmas.Result.{err_from_is_err_and}
+use Rattle.log_store.specs.declared.fault.LogReadFault.TheVariants.{BadHeader}
+use Rattle.log_store.specs.Log.{SpellsLog, header_bytes}
+use Rattle.log_store.specs.Fault.{Refuses, IsHeader}
+use Rattle.log_store.proofs.Faults.{first_header}
+use Rattle.log_store.proofs.Inputs.{of_input, goes_on_header}
+use Rattle.log_store.proofs.Scans.{of_rest, of_all, gave_more}
+use Rattle.log_store.proofs.scan.scan_log.Goals as goal
+
+pub returns-in_default-clause-first : goal.returns-in_default-clause-first
+returns-in_default-clause-first g c =
+    let header = c.read_header.new.header in
+    let none : IsHeader (take 64 header) → ⊥ = λ h. cc (c.in_default.ensures.only h.0 h.1 h.2) in
+    of_input _ _ header (λ input. Refuses input BadHeader) c.in_ok-turns.ensures.ok
+    (λ rest end. goes_on_header header rest (omega arith) (first_header header none))
+
+pub returns-in_err-read_records-clause-first : goal.returns-in_err-read_records-clause-first
+returns-in_err-read_records-clause-first g c =
+    let p = err_from_is_err_and c.from_residual-in_err-read_records.result c.from_residual-in_err-read_records.ensures.1 in
+    let found = c.in-Some.ensures.found in
+    let is : c.read_header.new.header ≡ header_bytes c.in-Some.pages = sym (take_all 64 c.read_header.new.header (omega arith)) ∙ found.spelled in
+    rw (p.1, p.2) (of_rest _ _ (header_bytes c.in-Some.pages) (λ input. Refuses input c.in_err-read_records.field-0.0)
+    (subst (Consumes _ _) is c.in_ok-turns.ensures.ok) c.in_err-read_records.ensures.first)
+
+pub returns-in_err-read_records-clause-unread : goal.returns-in_err-read_records-clause-unread
+returns-in_err-read_records-clause-unread g c =
+    let p = err_from_is_err_and c.from_residual-in_err-read_records.result c.from_residual-in_err-read_records.ensures.1 in
+    let found = c.in-Some.ensures.found in
+    let is : c.read_header.new.header ≡ header_bytes c.in-Some.pages = sym (take_all 64 c.read_header.new.header (omega arith)) ∙ found.spelled in
+    rw (p.1, p.2) (gave_more _ _ _ (header_bytes c.in-Some.pages) c.in_err-read_records.field-0.0
+    (subst (Consumes _ _) is c.in_ok-turns.ensures.ok) c.in_err-read_records.ensures.unread)
+
+pub returns-clause-found : goal.returns-clause-found
+returns-clause-found g c =
+    let found = c.in-Some.ensures.found in
+    let is : c.read_header.new.header ≡ header_bytes c.in-Some.pages = sym (take_all 64 c.read_header.new.header (omega arith)) ∙ found.spelled in
+    let all = c.in_ok-read_records.ensures.found in
+    let log = all.1.1.log in
+    (log, (all.1.1.held, (all.1.1.spells.valid,
+      of_all _ _ (header_bytes c.in-Some.pages ++ all.0) (SpellsLog log)
+      (Consumes-trans _ _ _ (header_bytes c.in-Some.pages) all.0 (subst (Consumes _ _) is c.in_ok-turns.ensures.ok) all.1.0)
+      c.in_ok-read_records.ensures.end all.1.1.spells)))
