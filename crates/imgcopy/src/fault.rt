@@ -55,3 +55,6 @@ impl From<LogReadFault> for Fault {
         }
     }
 }
+
+#[cfg(test)]
+mod tests;

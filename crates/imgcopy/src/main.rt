@@ -7,9 +7,8 @@ mod stream;
 
 use anyhow::Result;
 use command::{Command, command_of};
-use std::env;
-use std::io;
 use std::process::ExitCode;
+use std::{env, io};
 use stream::redo_stream;
 
 /// The status of a fault of the words, of the input, or of the output.

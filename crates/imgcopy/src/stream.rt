@@ -68,3 +68,6 @@ fn write_out<W: Write>(writer: &mut W, bytes: &[u8]) -> Result<(), u64>
     }
     Ok(())
 }
+
+#[cfg(test)]
+mod tests;

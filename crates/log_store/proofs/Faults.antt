@@ -14,9 +14,11 @@ use Rattle.log_store.proofs.Logs.{pages_in-header, length-log, header_of_log, re
 pub has_record : (pages : ℕ) (bytes : List ℕ) → HasHeader pages bytes → (i : ℕ) (r : Record) → StandsAt pages (lsn_of i) r
     → slice_range bytes (lsn_of i) (lsn_of i + 64) ≡ record_bytes r → (at : ℕ) → at ≡ lsn_of i → HasRecord bytes at
 has_record pages bytes header i r stands spelled at place =
-    let count : pages_in bytes ≡ pages = pages_in-header pages bytes header.count.most header.spelled in
-    (r, subst (λ n. StandsAt n at r) (sym count) (subst (λ n. StandsAt pages n r) (sym place) stands),
-    ap (λ n. slice_range bytes n (n + 64)) place ∙ spelled)
+    let count : pages_in bytes ≡ pages = pages_in-header pages bytes header.count.most header.spelled in (
+      r,
+      subst (λ n. StandsAt n at r) (sym count) (subst (λ n. StandsAt pages n r) (sym place) stands),
+      ap (λ n. slice_range bytes n (n + 64)) place ∙ spelled,
+    )
 
 -- no place among the first records is at fault
 none_before : (n pages : ℕ) (bytes : List ℕ) (rs : List Record) → HasHeader pages bytes → AreFirst n pages bytes rs
@@ -64,8 +66,8 @@ first_record i pages bytes rs header first few long none = record {
     record { aligned = omega arith; past_header = omega arith; in_longest = omega arith },
     long,
     λ has. none has.0
-      (subst (λ n. StandsAt n (lsn_of i) has.0) (pages_in-header pages bytes header.count.most header.spelled) has.1)
-      has.2
+        (subst (λ n. StandsAt n (lsn_of i) has.0) (pages_in-header pages bytes header.count.most header.spelled) has.1)
+        has.2,
   );
   first = comes_after bytes (lsn_of i) (record {
     header = has_header pages bytes header;
@@ -118,9 +120,11 @@ log_has log bytes spells at place fits (r ∷ rs) e =
     let stands : at ≡ lsn_of i = omega arith in
     let below : i < length log.records = omega (arith, length-log log bytes spells) in
     let count : pages_in bytes ≡ log.pages = pages_in-header log.pages bytes spells.valid.pages.most (header_of_log log bytes spells) in
-    let s = get_or log.records i r in
-    (s, subst (λ n. StandsAt n at s) (sym count) (subst (λ n. StandsAt log.pages n s) (sym stands) (spells.valid.records i r below)),
-    ap (λ n. slice_range bytes n (n + 64)) stands ∙ record_of_log log bytes spells i r below)
+    let s = get_or log.records i r in (
+      s,
+      subst (λ n. StandsAt n at s) (sym count) (subst (λ n. StandsAt log.pages n s) (sym stands) (spells.valid.records i r below)),
+      ap (λ n. slice_range bytes n (n + 64)) stands ∙ record_of_log log bytes spells i r below,
+    )
 
 pub none_in_log : (log : Log) (bytes : List ℕ) → SpellsLog log bytes → (fault : LogReadFault) → HasFault bytes fault → ⊥
 none_in_log log bytes spells OutOfMemory h = h

@@ -82,7 +82,7 @@ goes_on_too_long given rest h =
     record {
       there = omega (arith, length-append given rest);
       first = comes_later given rest longest (omega arith) (omega arith) (omega arith) h.first
-        (λ other other_place lt. let a = other_place.aligned in omega arith);
+          (λ other other_place lt. let a = other_place.aligned in omega arith);
     }
 
 pub refuses_more : (given rest : List ℕ) (fault : LogReadFault) → IsFaultOf given fault → IsHeld given fault → Refuses (given ++ rest) fault

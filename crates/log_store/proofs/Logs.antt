@@ -35,11 +35,11 @@ pub first-more : (i pages : ℕ) (bytes : List ℕ) (rs : List Record) (r : Reco
 first-more i pages bytes rs r first stands spelled = record {
   count = length_push rs r ∙ ap (λ n. n + 1) first.count;
   each = λ k d. below_more (λ n. StandsAt pages (lsn_of n) (get_or (rs ++ r ∷ []) n d)) i
-    (λ n lt. rw (get_or_append_left rs (r ∷ []) d n (omega (arith, first.count))) (first.each n d lt))
-    (rw (get_or_push rs r d i first.count) stands) k;
+      (λ n lt. rw (get_or_append_left rs (r ∷ []) d n (omega (arith, first.count))) (first.each n d lt))
+      (rw (get_or_push rs r d i first.count) stands) k;
   spelled = λ k d. below_more (λ n. slice_range bytes (lsn_of n) (lsn_of n + 64) ≡ record_bytes (get_or (rs ++ r ∷ []) n d)) i
-    (λ n lt. rw (get_or_append_left rs (r ∷ []) d n (omega (arith, first.count))) (first.spelled n d lt))
-    (rw (get_or_push rs r d i first.count) spelled) k;
+      (λ n lt. rw (get_or_append_left rs (r ∷ []) d n (omega (arith, first.count))) (first.spelled n d lt))
+      (rw (get_or_push rs r d i first.count) spelled) k;
 }
 
 -- header and records that are all of the bytes make the log
@@ -47,12 +47,12 @@ pub all_first : (n pages : ℕ) (bytes : List ℕ) (rs : List Record) → HasHea
     → SpellsLog (record { pages = pages; records = rs }) bytes
 all_first n pages bytes rs header first len few =
     let behind : drop 64 bytes ≡ flat_map record_bytes rs =
-        pieces_are record_bytes 64 record_length rs (drop 64 bytes) (omega (arith, length-drop 64 bytes, first.count)) (λ i d lt.
-            let below : i < n = omega (arith, first.count) in
-            let place : 64 + 64 * i ≡ lsn_of i = omega arith in
-            let wide : lsn_of i + 64 - lsn_of i ≡ 64 = omega arith in
-            ap (take 64) (drop-drop (64 * i) 64 bytes ∙ ap (λ k. drop k bytes) place)
-            ∙ ap (λ k. take k (drop (lsn_of i) bytes)) (sym wide) ∙ first.spelled i d below) in
+    pieces_are record_bytes 64 record_length rs (drop 64 bytes) (omega (arith, length-drop 64 bytes, first.count)) (λ i d lt.
+    let below : i < n = omega (arith, first.count) in
+    let place : 64 + 64 * i ≡ lsn_of i = omega arith in
+    let wide : lsn_of i + 64 - lsn_of i ≡ 64 = omega arith in
+    ap (take 64) (drop-drop (64 * i) 64 bytes ∙ ap (λ k. drop k bytes) place)
+    ∙ ap (λ k. take k (drop (lsn_of i) bytes)) (sym wide) ∙ first.spelled i d below) in
     record {
       valid = record { pages = header.count; count = omega (arith, first.count); records = λ i d lt. first.each i d (omega (arith, first.count)) };
       spelled = sym (take-append-drop 64 bytes) ∙ ap (λ (front : List ℕ). front ++ drop 64 bytes) header.spelled ∙ ap (λ (rest : List ℕ). header_bytes pages ++ rest) behind;
@@ -75,7 +75,7 @@ record_of_log log bytes spells i d lt =
     let wide : lsn_of i + 64 - lsn_of i ≡ 64 = omega arith in
     let place : lsn_of i ≡ 64 + 64 * i = omega arith in
     let behind : drop 64 bytes ≡ flat_map record_bytes log.records =
-        ap (drop 64) spells.spelled ∙ drop_at (header_bytes log.pages) (flat_map record_bytes log.records) 64 (length-header_bytes log.pages) in
+    ap (drop 64) spells.spelled ∙ drop_at (header_bytes log.pages) (flat_map record_bytes log.records) 64 (length-header_bytes log.pages) in
     ap (λ k. take k (drop (lsn_of i) bytes)) wide ∙ ap (λ k. take 64 (drop k bytes)) place
     ∙ ap (take 64) (sym (drop-drop (64 * i) 64 bytes) ∙ ap (drop (64 * i)) behind)
     ∙ take-drop-pieces record_bytes 64 record_length log.records i d lt
@@ -84,11 +84,11 @@ record_of_log log bytes spells i d lt =
 pub same_log : (a b : Log) (bytes : List ℕ) → SpellsLog a bytes → SpellsLog b bytes → a ≡ b
 same_log a b bytes a_spells b_spells =
     let pages : a.pages ≡ b.pages =
-        sym (pages_in-header a.pages bytes a_spells.valid.pages.most (header_of_log a bytes a_spells))
-        ∙ pages_in-header b.pages bytes b_spells.valid.pages.most (header_of_log b bytes b_spells) in
+    sym (pages_in-header a.pages bytes a_spells.valid.pages.most (header_of_log a bytes a_spells))
+    ∙ pages_in-header b.pages bytes b_spells.valid.pages.most (header_of_log b bytes b_spells) in
     let counts : length a.records ≡ length b.records = omega (arith, length-log a bytes a_spells, length-log b bytes b_spells) in
     let records : a.records ≡ b.records = same_lists a.records b.records counts (λ k d lt.
-        let lt' : k < length b.records = omega arith in
-        same_record (get_or a.records k d) (get_or b.records k d) (a_spells.valid.records k d lt).valid (b_spells.valid.records k d lt').valid
-        (sym (record_of_log a bytes a_spells k d lt) ∙ record_of_log b bytes b_spells k d lt')) in
+    let lt' : k < length b.records = omega arith in
+    same_record (get_or a.records k d) (get_or b.records k d) (a_spells.valid.records k d lt).valid (b_spells.valid.records k d lt').valid
+    (sym (record_of_log a bytes a_spells k d lt) ∙ record_of_log b bytes b_spells k d lt')) in
     rw (pages, records) refl

@@ -28,16 +28,43 @@ kind_fits (Add amount) = lit< tt
 -- they fit their bytes
 pub in_range : (r : Record) → IsRecord r → AreInRange (fields_of r)
 in_range (Begin lsn txn) valid = record {
-  kind = lit< tt; txn = valid.1.fits; prev = lit< tt; undo_next = lit< tt; page = lit< tt; slot = lit< tt;
-  change = lit< tt; before = lit< tt; after = lit< tt; spare = lit< tt; lsn = valid.0.fits;
+  kind = lit< tt;
+  txn = valid.1.fits;
+  prev = lit< tt;
+  undo_next = lit< tt;
+  page = lit< tt;
+  slot = lit< tt;
+  change = lit< tt;
+  before = lit< tt;
+  after = lit< tt;
+  spare = lit< tt;
+  lsn = valid.0.fits;
 }
 in_range (Update lsn txn prev page slot change) valid = record {
-  kind = lit< tt; txn = valid.1.fits; prev = valid.2.place.fits; undo_next = lit< tt; page = omega (arith, valid.3); slot = omega (arith, valid.4);
-  change = kind_fits change; before = before_fits change valid.5; after = after_fits change valid.5; spare = lit< tt; lsn = valid.0.fits;
+  kind = lit< tt;
+  txn = valid.1.fits;
+  prev = valid.2.place.fits;
+  undo_next = lit< tt;
+  page = omega (arith, valid.3);
+  slot = omega (arith, valid.4);
+  change = kind_fits change;
+  before = before_fits change valid.5;
+  after = after_fits change valid.5;
+  spare = lit< tt;
+  lsn = valid.0.fits;
 }
 in_range (Commit lsn txn prev) valid = record {
-  kind = lit< tt; txn = valid.1.fits; prev = valid.2.place.fits; undo_next = lit< tt; page = lit< tt; slot = lit< tt;
-  change = lit< tt; before = lit< tt; after = lit< tt; spare = lit< tt; lsn = valid.0.fits;
+  kind = lit< tt;
+  txn = valid.1.fits;
+  prev = valid.2.place.fits;
+  undo_next = lit< tt;
+  page = lit< tt;
+  slot = lit< tt;
+  change = lit< tt;
+  before = lit< tt;
+  after = lit< tt;
+  spare = lit< tt;
+  lsn = valid.0.fits;
 }
 
 pub record_length : HaveLength record_bytes 64
@@ -70,7 +97,7 @@ same_fields f g f_fits g_fits e =
       same_u64 f.before g.before f_fits.before g_fits.before (part 32 40),
       same_u64 f.after g.after f_fits.after g_fits.after (part 40 48),
       same_u64 f.spare g.spare f_fits.spare g_fits.spare (part 48 56),
-      same_u64 f.lsn g.lsn f_fits.lsn g_fits.lsn (part 56 64)
+      same_u64 f.lsn g.lsn f_fits.lsn g_fits.lsn (part 56 64),
     ) refl
 
 same_change : (a b : Change) → change_kind a ≡ change_kind b → before_of a ≡ before_of b → after_of a ≡ after_of b → a ≡ b

@@ -46,7 +46,7 @@ next_range log given unit rest spells wide =
 pub too_long : (log : Log) (given more : List ℕ) → SpellsLog log given → 1048576 ≤ length log.records → 0 < length more → IsFirstFault (given ++ more) TooLong
 too_long log given more spells full some =
     let all : length log.records ≡ whole_records (given ++ more) =
-        let few = spells.valid.count in omega (arith, length-log log given spells, length-append given more) in
+    let few = spells.valid.count in omega (arith, length-log log given spells, length-append given more) in
     first_too_long log.pages (given ++ more) log.records (header_goes_on log given more spells)
     (subst (λ n. AreFirst n log.pages (given ++ more) log.records) all (first_goes_on log given more spells))
     (omega (arith, length-log log given spells, length-append given more))
@@ -67,15 +67,15 @@ valid_next log r valid next = record {
   pages = valid.pages;
   count = let few = next.few in omega (arith, length_push log.records r);
   records = λ i d lt. below_more (λ n. StandsAt log.pages (lsn_of n) (get_or (log.records ++ r ∷ []) n d)) (length log.records)
-    (λ n below. rw (get_or_append_left log.records (r ∷ []) d n below) (valid.records n d below))
-    (rw (get_or_push log.records r d (length log.records) refl) next.stands) i (omega (arith, length_push log.records r));
+      (λ n below. rw (get_or_append_left log.records (r ∷ []) d n below) (valid.records n d below))
+      (rw (get_or_push log.records r d (length log.records) refl) next.stands) i (omega (arith, length_push log.records r));
 }
 
 pub spells_next : (log : Log) (r : Record) (given unit : List ℕ) → SpellsLog log given → IsNext log r → unit ≡ record_bytes r → SpellsLog (with_next log r) (given ++ unit)
 spells_next log r given unit spells next e = record {
   valid = valid_next log r spells.valid next;
   spelled = ap (λ (front : List ℕ). front ++ unit) spells.spelled ∙ ap (λ (end : List ℕ). log_bytes log ++ end) e
-    ∙ flat_map_more record_bytes (header_bytes log.pages) log.records r;
+      ∙ flat_map_more record_bytes (header_bytes log.pages) log.records r;
 }
 
 -- ---- what follows the whole records
@@ -108,13 +108,13 @@ none_in_failed header read pending log spells short few =
     subst HoldsNoFault (append_assoc header read pending)
     (elim (cases_lt 0 (length pending)) [
       | inl some ↦
-        elim (cases_lt (length log.records) 1048576) [
-          | inl room ↦ none_held (given ++ pending) (Torn (lsn_of (length log.records))) (torn_at log given pending spells short some room) (λ held. held)
-          | inr full ↦ absurd (omega (arith, few full))
-        ]
+          elim (cases_lt (length log.records) 1048576) [
+            | inl room ↦ none_held (given ++ pending) (Torn (lsn_of (length log.records))) (torn_at log given pending spells short some room) (λ held. held)
+            | inr full ↦ absurd (omega (arith, few full))
+          ]
       | inr none ↦
-        let nothing : pending ≡ [] = nil_from_length pending (omega arith) in
-        none_in_read log (given ++ pending) (subst (SpellsLog log) (sym (append-nil given) ∙ ap (λ (p : List ℕ). given ++ p) (sym nothing)) spells)
+          let nothing : pending ≡ [] = nil_from_length pending (omega arith) in
+          none_in_read log (given ++ pending) (subst (SpellsLog log) (sym (append-nil given) ∙ ap (λ (p : List ℕ). given ++ p) (sym nothing)) spells)
     ])
 
 pub refuses_past_last : (header read pending rest : List ℕ) (log : Log) → SpellsLog log (header ++ read) → 1048576 ≤ length log.records → 0 < length pending

@@ -46,12 +46,41 @@ after_of (Add amount) = amount
 -- the numbers of a record; what a kind does not have is 0
 abbrev pub fields_of : Record → Fields
 fields_of (Begin lsn txn) = record {
-  kind = 1; txn = txn; prev = 0; undo_next = 0; page = 0; slot = 0; change = 0; before = 0; after = 0; spare = 0; lsn = lsn;
+  kind = 1;
+  txn = txn;
+  prev = 0;
+  undo_next = 0;
+  page = 0;
+  slot = 0;
+  change = 0;
+  before = 0;
+  after = 0;
+  spare = 0;
+  lsn = lsn;
 }
 fields_of (Update lsn txn prev page slot change) = record {
-  kind = 2; txn = txn; prev = prev; undo_next = 0; page = page; slot = slot;
-  change = change_kind change; before = before_of change; after = after_of change; spare = 0; lsn = lsn;
+  kind = 2;
+  txn = txn;
+  prev = prev;
+  undo_next = 0;
+  page = page;
+  slot = slot;
+  change = change_kind change;
+  before = before_of change;
+  after = after_of change;
+  spare = 0;
+  lsn = lsn;
 }
 fields_of (Commit lsn txn prev) = record {
-  kind = 4; txn = txn; prev = prev; undo_next = 0; page = 0; slot = 0; change = 0; before = 0; after = 0; spare = 0; lsn = lsn;
+  kind = 4;
+  txn = txn;
+  prev = prev;
+  undo_next = 0;
+  page = 0;
+  slot = 0;
+  change = 0;
+  before = 0;
+  after = 0;
+  spare = 0;
+  lsn = lsn;
 }

@@ -25,11 +25,14 @@ pub struct Fields {
 
 /// The kinds of record, as their first byte has them.
 pub const BEGIN: u32 = 1;
+
 pub const UPDATE: u32 = 2;
+
 pub const COMMIT: u32 = 4;
 
 /// The kinds of change.
 pub const SET: u16 = 1;
+
 pub const ADD: u16 = 2;
 
 const NO_FIELDS: Fields = Fields {

@@ -17,5 +17,8 @@ pub use laws::{logs_are_spelled_apart, records_are_spelled_apart, spelled_logs_h
 pub use log_image::{HEADER_BYTES, LogImage, MAX_LOG_BYTES, MAX_PAGES, MAX_RECORDS, encode_header};
 pub use number::TxnNo;
 pub use read::read_log;
-pub use scan::{RecordSink, scan_log};
 pub use record::{RECORD_BYTES, Record};
+pub use scan::{RecordSink, scan_log};
+
+#[cfg(test)]
+mod tests;

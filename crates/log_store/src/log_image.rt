@@ -24,6 +24,7 @@ pub const MAX_RECORDS: usize = 1_048_576;
 
 /// How many bytes the header and the longest log have.
 pub const HEADER_BYTES: usize = 64;
+
 pub const MAX_LOG_BYTES: usize = 67_108_928;
 
 /// The text in front of a log.

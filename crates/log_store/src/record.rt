@@ -11,7 +11,10 @@ pub const RECORD_BYTES: usize = 64;
 #[derive(Clone, Copy, Debug, PartialEq, Eq)]
 pub enum Record {
     /// A transaction begins.
-    Begin { lsn: Lsn, txn: TxnNo },
+    Begin {
+        lsn: Lsn,
+        txn: TxnNo,
+    },
     /// A transaction changes a slot.
     Update {
         lsn: Lsn,
@@ -22,7 +25,11 @@ pub enum Record {
         change: Change,
     },
     /// A transaction ends, and its changes are to last.
-    Commit { lsn: Lsn, txn: TxnNo, prev: Lsn },
+    Commit {
+        lsn: Lsn,
+        txn: TxnNo,
+        prev: Lsn,
+    },
 }
 
 impl Record {
@@ -34,9 +41,8 @@ impl Record {
         ensures { result ≡ own_lsn self.now }
     {
         match *self {
-            Record::Begin { lsn, .. }
-            | Record::Update { lsn, .. }
-            | Record::Commit { lsn, .. } => lsn,
+            Record::Begin { lsn, .. } | Record::Update { lsn, .. } | Record::Commit { lsn, .. } =>
+                lsn,
         }
     }
 }

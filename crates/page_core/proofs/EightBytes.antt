@@ -1,8 +1,8 @@
 -- Numbers of eight bytes, one after another.
-use Rattle.std.proofs.Common.{◌≡◌, ℕ, suc, ◌+◌, ◌*◌, ◌<◌, ◌^◌, List, [], ◌∷◌, ◌++◌, length, get_or, take, drop, refl, sym, ap, ◌∙◌, arith}
+use Rattle.std.proofs.Common.{◌≡◌, ℕ, suc, ◌+◌, ◌<◌, ◌^◌, List, [], ◌∷◌, ◌++◌, length, get_or, take, drop, refl, sym, ap, ◌∙◌, arith}
 use Rattle.std.specs.Int.{w64, to_le_bytes, from_le_bytes}
 use Rattle.std.specs.List.{flat_map, AllByRecursion}
-use Rattle.std.proofs.lemmas.List.{take_at, drop_at, take_more, append-nil}
+use Rattle.std.proofs.lemmas.List.{take_at, drop_at, take_more}
 use Rattle.std.proofs.lemmas.List.Concat.{flat_map-append}
 use Rattle.std.proofs.lemmas.Nat.{from_le_bytes-to_le_bytes_8}
 use Rattle.page_core.specs.Pieces.{HaveLength}
@@ -22,9 +22,9 @@ same_numbers [] (y ∷ ys) xs_fit ys_fit len e = absurd (omega arith)
 same_numbers (x ∷ xs) [] xs_fit ys_fit len e = absurd (omega arith)
 same_numbers (x ∷ xs) (y ∷ ys) xs_fit ys_fit len e =
     let first : to_le_bytes w64 x ≡ to_le_bytes w64 y =
-        sym (take_at (to_le_bytes w64 x) (flat_map (to_le_bytes w64) xs) 8 refl) ∙ ap (take 8) e ∙ take_at (to_le_bytes w64 y) (flat_map (to_le_bytes w64) ys) 8 refl in
+    sym (take_at (to_le_bytes w64 x) (flat_map (to_le_bytes w64) xs) 8 refl) ∙ ap (take 8) e ∙ take_at (to_le_bytes w64 y) (flat_map (to_le_bytes w64) ys) 8 refl in
     let others : flat_map (to_le_bytes w64) xs ≡ flat_map (to_le_bytes w64) ys =
-        sym (drop_at (to_le_bytes w64 x) (flat_map (to_le_bytes w64) xs) 8 refl) ∙ ap (drop 8) e ∙ drop_at (to_le_bytes w64 y) (flat_map (to_le_bytes w64) ys) 8 refl in
+    sym (drop_at (to_le_bytes w64 x) (flat_map (to_le_bytes w64) xs) 8 refl) ∙ ap (drop 8) e ∙ drop_at (to_le_bytes w64 y) (flat_map (to_le_bytes w64) ys) 8 refl in
     let lengths : length xs ≡ length ys = omega arith in
     rw (same_number x y xs_fit.0 ys_fit.0 first, same_numbers xs ys xs_fit.1 ys_fit.1 lengths others) refl
 

@@ -1,9 +1,9 @@
 -- The bytes of a page, field by field.
-use Rattle.std.proofs.Common.{◌≡◌, ℕ, ◌+◌, ◌-◌, ◌*◌, ◌<◌, ◌≤◌, ◌^◌, List, [], ◌∷◌, ◌++◌, length, take, drop, refl, sym, ap, ◌∙◌, append_assoc, arith, lit≤, lit<}
+use Rattle.std.proofs.Common.{◌≡◌, ℕ, ◌+◌, ◌-◌, ◌≤◌, List, [], ◌∷◌, ◌++◌, length, take, drop, refl, sym, ap, ◌∙◌, arith, lit≤}
 use Rattle.std.specs.Prelude.{slice_range}
 use Rattle.std.specs.Int.{w32, w64, to_le_bytes, from_le_bytes}
 use Rattle.std.specs.List.{flat_map, AllByRecursion}
-use Rattle.std.proofs.lemmas.List.{append-nil, take_all, take_at, drop_at, take-append-drop, length-append, length-take, length-drop}
+use Rattle.std.proofs.lemmas.List.{take_all, take_at, drop_at, take-append-drop, length-append, length-take, length-drop}
 use Rattle.std.proofs.lemmas.Slice.{take-put_mid}
 use Rattle.std.proofs.lemmas.Nat.{from_le_bytes-to_le_bytes_4, from_le_bytes-to_le_bytes_8}
 use borrow.Rule.Slice.PartMut.{put_mid}
@@ -22,11 +22,11 @@ four_parts bytes a b c d len la lb lc ld =
     let one_long : length one ≡ 512 = simp (length-append, length-take, length-drop) (omega arith) in
     let two_long : length two ≡ 512 = simp (length-append, length-take, length-drop) (omega arith) in
     let first : take 8 one ≡ a ++ b =
-        take-put_mid 4 4 (a ++ drop 4 bytes) b 8 (omega arith) (omega arith) ∙ ap (λ (front : List ℕ). front ++ b) (take_at a (drop 4 bytes) 4 la) in
+    take-put_mid 4 4 (a ++ drop 4 bytes) b 8 (omega arith) (omega arith) ∙ ap (λ (front : List ℕ). front ++ b) (take_at a (drop 4 bytes) 4 la) in
     let second : take 16 two ≡ a ++ b ++ c =
-        take-put_mid 8 8 one c 16 (omega arith) (omega arith) ∙ ap (λ (front : List ℕ). front ++ c) first in
+    take-put_mid 8 8 one c 16 (omega arith) (omega arith) ∙ ap (λ (front : List ℕ). front ++ c) first in
     let third : take (16 + length d) (put_mid 16 (length two - 16) two d) ≡ a ++ b ++ c ++ d =
-        take-put_mid 16 (length two - 16) two d (16 + length d) refl (omega arith) ∙ ap (λ (front : List ℕ). front ++ d) second in
+    take-put_mid 16 (length two - 16) two d (16 + length d) refl (omega arith) ∙ ap (λ (front : List ℕ). front ++ d) second in
     let end : length (put_mid 16 (length two - 16) two d) ≤ 16 + length d = simp (length-append, length-take, length-drop) (omega arith) in
     sym (take_all (16 + length d) (put_mid 16 (length two - 16) two d) end) ∙ third
 
@@ -65,13 +65,13 @@ from_fields page bytes number format lsn slots =
 pub same_page : (p q : Page) → IsPage p → IsPage q → page_bytes p ≡ page_bytes q → p ≡ q
 same_page p q p_valid q_valid e =
     let numbers : p.number ≡ q.number =
-        sym (from_le_bytes-to_le_bytes_4 p.number (omega (arith, p_valid.number))) ∙ ap (from_le_bytes w32) (sym (number_at p) ∙ ap (λ bs. slice_range bs 0 4) e ∙ number_at q)
-        ∙ from_le_bytes-to_le_bytes_4 q.number (omega (arith, q_valid.number)) in
+    sym (from_le_bytes-to_le_bytes_4 p.number (omega (arith, p_valid.number))) ∙ ap (from_le_bytes w32) (sym (number_at p) ∙ ap (λ bs. slice_range bs 0 4) e ∙ number_at q)
+    ∙ from_le_bytes-to_le_bytes_4 q.number (omega (arith, q_valid.number)) in
     let lsns : p.lsn ≡ q.lsn =
-        sym (from_le_bytes-to_le_bytes_8 p.lsn p_valid.lsn) ∙ ap (from_le_bytes w64) (sym (lsn_at p) ∙ ap (λ bs. slice_range bs 8 16) e ∙ lsn_at q)
-        ∙ from_le_bytes-to_le_bytes_8 q.lsn q_valid.lsn in
+    sym (from_le_bytes-to_le_bytes_8 p.lsn p_valid.lsn) ∙ ap (from_le_bytes w64) (sym (lsn_at p) ∙ ap (λ bs. slice_range bs 8 16) e ∙ lsn_at q)
+    ∙ from_le_bytes-to_le_bytes_8 q.lsn q_valid.lsn in
     let slots : p.slots ≡ q.slots =
-        same_numbers p.slots q.slots p_valid.slots q_valid.slots (p_valid.count ∙ sym q_valid.count) (sym (slots_at p) ∙ ap (drop 16) e ∙ slots_at q) in
+    same_numbers p.slots q.slots p_valid.slots q_valid.slots (p_valid.count ∙ sym q_valid.count) (sym (slots_at p) ∙ ap (drop 16) e ∙ slots_at q) in
     rw (numbers, lsns, slots) refl
 
 -- no page's bytes begin another's
@@ -89,6 +89,6 @@ same_pages (x ∷ xs) [] xs_valid ys_valid e =
 same_pages (x ∷ xs) (y ∷ ys) xs_valid ys_valid e =
     let first : x ≡ y = pages_apart x y (volume_bytes xs) (volume_bytes ys) xs_valid.0 ys_valid.0 e in
     let others : volume_bytes xs ≡ volume_bytes ys =
-        sym (drop_at (page_bytes x) (volume_bytes xs) 512 (length-page_bytes x xs_valid.0.count)) ∙ ap (drop 512) e
-        ∙ drop_at (page_bytes y) (volume_bytes ys) 512 (length-page_bytes y ys_valid.0.count) in
+    sym (drop_at (page_bytes x) (volume_bytes xs) 512 (length-page_bytes x xs_valid.0.count)) ∙ ap (drop 512) e
+    ∙ drop_at (page_bytes y) (volume_bytes ys) 512 (length-page_bytes y ys_valid.0.count) in
     rw (first, same_pages xs ys xs_valid.1 ys_valid.1 others) refl

@@ -23,8 +23,8 @@ take-drop-pieces piece k same (x ∷ xs) zero d lt =
 take-drop-pieces piece k same (x ∷ xs) (suc i) d lt =
     let next : k * suc i ≡ k + k * i = omega arith in
     let rest : drop (k * suc i) (piece x ++ flat_map piece xs) ≡ drop (k * i) (flat_map piece xs) =
-        ap (λ n. drop n (piece x ++ flat_map piece xs)) next ∙ sym (drop-drop (k * i) k (piece x ++ flat_map piece xs))
-        ∙ ap (drop (k * i)) (drop_at (piece x) (flat_map piece xs) k (same.each x)) in
+    ap (λ n. drop n (piece x ++ flat_map piece xs)) next ∙ sym (drop-drop (k * i) k (piece x ++ flat_map piece xs))
+    ∙ ap (drop (k * i)) (drop_at (piece x) (flat_map piece xs) k (same.each x)) in
     let below : i < length xs = omega arith in
     ap (take k) rest ∙ take-drop-pieces piece k same xs i d below
 
@@ -37,8 +37,8 @@ pieces_are piece k same (x ∷ xs) whole len parts =
     let first : take k whole ≡ piece x = ap (λ n. take k (drop n whole)) (sym start) ∙ parts 0 x (omega arith) in
     let long : length (drop k whole) ≡ k * length xs = omega (arith, length-drop k whole) in
     let others : drop k whole ≡ flat_map piece xs = pieces_are piece k same xs (drop k whole) long (λ i d lt.
-        let next : k * suc i ≡ k + k * i = omega arith in
-        ap (take k) (drop-drop (k * i) k whole ∙ ap (λ n. drop n whole) (sym next)) ∙ parts (suc i) d (omega arith)) in
+    let next : k * suc i ≡ k + k * i = omega arith in
+    ap (take k) (drop-drop (k * i) k whole ∙ ap (λ n. drop n whole) (sym next)) ∙ parts (suc i) d (omega arith)) in
     sym (take-append-drop k whole) ∙ rw (first, others) refl
 
 -- the first c are the first b and the part from b to c

@@ -37,6 +37,10 @@ pub struct Page {
 pub struct BadPage;
 
 impl fmt::Display for BadPage {
+    ghost use Rattle.std.specs.Prelude.{Some, codes};
+
+    ghost output = { λ _. Some (codes "the bytes are no page") };
+
     fn fmt<W: fmt::Write>(&self, f: &mut fmt::Formatter<W>) -> fmt::Result {
         write!(f, "the bytes are no page")
     }
@@ -47,14 +51,12 @@ impl Error for BadPage {}
 /// No page's spelling begins another page's, so two different pages have different spellings.
 pub fn pages_are_spelled_apart()
     ensures { (a b : Page) (x y : List ℕ) → IsPage a → IsPage b → page_bytes a ++ x ≡ page_bytes b ++ y → a ≡ b }
-{
-}
+{}
 
 /// Two different volumes have different spellings.
 pub fn volumes_are_spelled_apart()
     ensures { (a b : List Page) → AllByRecursion IsPage a → AllByRecursion IsPage b → volume_bytes a ≡ volume_bytes b → a ≡ b }
-{
-}
+{}
 
 impl Page {
     /// The page as a new volume has it: LSN 0, and 0 in each slot.
@@ -69,7 +71,7 @@ impl Page {
         }
     }
 
-    /// The redo of a change (ARIES, section 10.1): the slot has the changed number, and the page the record's LSN.
+    /// The redo of a change: the slot has the changed number, and the page the record's LSN.
     /// A slot that no page has is left out.
     pub fn apply(&mut self, lsn: Lsn, slot: SlotNo, change: &Change)
         ensures { self.new ≡ put self.old lsn slot change.now }

@@ -75,7 +75,7 @@ redone-next log r next p =
     let n = length log.records in
     let own = next.stands.lsn in
     let bound : (image log.records p).lsn ≤ 64 * n =
-        subst (λ (rs : List Record). (image rs p).lsn ≤ 64 * n) (take_all n log.records (omega arith)) (lsn-image log next.valid p n r (omega arith)) in
+    subst (λ (rs : List Record). (image rs p).lsn ≤ 64 * n) (take_all n log.records (omega arith)) (lsn-image log next.valid p n r (omega arith)) in
     redone-above (image log.records p) r (omega arith) ∙ sym (image_from-append (formatted p) log.records (r ∷ []))
 
 -- the changes of one record on every page
@@ -122,7 +122,7 @@ redo-more page lsn rs i d lt =
     let before = filter (is_above lsn) (take i rs) in
     let r = get_or rs i d in
     let split : filter (is_above lsn) (take (i + 1) rs) ≡ before ++ cond (is_above lsn r) (r ∷ []) [] =
-        ap (filter (is_above lsn)) (take_more rs i d lt) ∙ filter-append (is_above lsn) (take i rs) (r ∷ []) in
+    ap (filter (is_above lsn)) (take_more rs i d lt) ∙ filter-append (is_above lsn) (take i rs) (r ∷ []) in
     ap (image_from page) split ∙ image_from-append page before (cond (is_above lsn r) (r ∷ []) []) ∙ last (is_above lsn r) (image_from page before) r
   where
     last : (b : Bool) (page : Page) (r : Record) → image_from page (cond b (r ∷ []) []) ≡ cond b (with_record page r) page
@@ -159,13 +159,13 @@ one_redone pages lsn txn prev number slot change d lt numbers =
     let step = λ (page : Page). redone page (r ∷ []) in
     let done = set pages number (step (get_or pages number d)) in
     same_lists done (map step pages) (length-set pages number _ ∙ sym (length-map pages step)) (λ k e below.
-        let below' : k < length pages = omega (arith, length-set pages number (step (get_or pages number d))) in
-        elim (cases_eq k number) [
-          | inl same ↦
-            ap (λ n. get_or done n e) same ∙ get_or-set_same pages number (step (get_or pages number d)) e lt
-            ∙ ap step (get_or_default pages number d e lt) ∙ ap (λ n. step (get_or pages n e)) (sym same) ∙ sym (get_or-map step pages k e e below')
-          | inr other ↦
-            let apart : number ≢ (get_or pages k e).number = λ same. other (sym (same ∙ numbers k e below')) in
-            get_or-set_other pages number k (step (get_or pages number d)) e other
-            ∙ sym (get_or-map step pages k e e below' ∙ other_pages (get_or pages k e) lsn txn prev number slot change apart)
-        ])
+    let below' : k < length pages = omega (arith, length-set pages number (step (get_or pages number d))) in
+    elim (cases_eq k number) [
+      | inl same ↦
+          ap (λ n. get_or done n e) same ∙ get_or-set_same pages number (step (get_or pages number d)) e lt
+          ∙ ap step (get_or_default pages number d e lt) ∙ ap (λ n. step (get_or pages n e)) (sym same) ∙ sym (get_or-map step pages k e e below')
+      | inr other ↦
+          let apart : number ≢ (get_or pages k e).number = λ same. other (sym (same ∙ numbers k e below')) in
+          get_or-set_other pages number k (step (get_or pages number d)) e other
+          ∙ sym (get_or-map step pages k e e below' ∙ other_pages (get_or pages k e) lsn txn prev number slot change apart)
+    ])

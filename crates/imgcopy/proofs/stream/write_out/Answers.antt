@@ -16,5 +16,5 @@ loop-done-preserved-in-Ok g c = record {
   within = let bound = c.in-Ok.ensures.bound in omega (arith, bound, length-take (length c.args.bytes.now - c.loop-done.done) (drop c.loop-done.done c.args.bytes.now));
   few = omega arith;
   written = subst (Appends _ _) (further c.args.bytes.now c.loop-done.done c.in-Ok.count)
-    (Appends-trans _ _ _ (take c.loop-done.done c.args.bytes.now) _ c.loop-done.invariant.written c.in-Ok.ensures.bytes);
+      (Appends-trans _ _ _ (take c.loop-done.done c.args.bytes.now) _ c.loop-done.invariant.written c.in-Ok.ensures.bytes);
 }

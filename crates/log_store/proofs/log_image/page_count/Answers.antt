@@ -17,7 +17,7 @@ returns-then-is_same-clause-only c = λ pages fits e.
 pub returns-else-is_page_count-clause-only : goal.returns-else-is_page_count-clause-only
 returns-else-is_page_count-clause-only c = λ pages fits e.
     let read : c.u32_at-pages.result ≡ pages =
-        c.u32_at-pages.ensures.only pages (let few = fits.most in omega arith) (sym (ap (λ (bs : List ℕ). slice_range bs 8 12) e ∙ pages_at pages)) in
+    c.u32_at-pages.ensures.only pages (let few = fits.most in omega arith) (sym (ap (λ (bs : List ℕ). slice_range bs 8 12) e ∙ pages_at pages)) in
     let count : IsPageCount c.u32_at-pages.result = rw read fits in
     let same : take 64 c.args.bytes.now ≡ header_bytes c.u32_at-pages.result = e ∙ ap header_bytes (sym read) in
     elim c.else-is_page_count.branch [

@@ -12,8 +12,8 @@ returns-clause-rest c =
     same_lists (take (n - w) new) (drop w (take n old))
     (omega (arith, length-take (n - w) new, length-drop w (take n old), length-take n old))
     (λ k d lt.
-      let below : k < n - w = omega (arith, length-take (n - w) new) in
-      let inside : k < length new = omega (arith, length-take (n - w) new) in
-      let there : w + k < length old = omega arith in
-      get_or-take (n - w) new k d below ∙ get_or_default new k d 0 inside ∙ c.loop-i.invariant.moved k (omega arith)
-      ∙ get_or_default old (w + k) 0 d there ∙ sym (get_or-drop w (take n old) k d ∙ get_or-take n old (w + k) d (omega arith)))
+    let below : k < n - w = omega (arith, length-take (n - w) new) in
+    let inside : k < length new = omega (arith, length-take (n - w) new) in
+    let there : w + k < length old = omega arith in
+    get_or-take (n - w) new k d below ∙ get_or_default new k d 0 inside ∙ c.loop-i.invariant.moved k (omega arith)
+    ∙ get_or_default old (w + k) 0 d there ∙ sym (get_or-drop w (take n old) k d ∙ get_or-take n old (w + k) d (omega arith)))

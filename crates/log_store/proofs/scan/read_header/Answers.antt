@@ -27,12 +27,20 @@ loop-turn-preserved g c = record {
 
 pub returns-in-Failed-clause-unread : goal.returns-in-Failed-clause-unread
 returns-in-Failed-clause-unread g c =
-    let short = c.loop-turn.invariant.short in
-    (take c.loop-turn.filled c.loop-turn.header, (c.in-Failed.ensures _ [] c.loop-turn.invariant.taken,
-    none_in_short (take c.loop-turn.filled c.loop-turn.header) (omega (arith, length-take c.loop-turn.filled c.loop-turn.header))))
+    let short = c.loop-turn.invariant.short in (
+      take c.loop-turn.filled c.loop-turn.header,
+      (
+        c.in-Failed.ensures _ [] c.loop-turn.invariant.taken,
+        none_in_short (take c.loop-turn.filled c.loop-turn.header) (omega (arith, length-take c.loop-turn.filled c.loop-turn.header)),
+      ),
+    )
 
 pub returns-clause-unread : goal.returns-clause-unread
 returns-clause-unread g c =
-    let short = c.loop-turn.invariant.short in
-    (take c.loop-turn.filled c.loop-turn.header, (c.loop-turn.invariant.taken,
-    none_in_short (take c.loop-turn.filled c.loop-turn.header) (omega (arith, length-take c.loop-turn.filled c.loop-turn.header))))
+    let short = c.loop-turn.invariant.short in (
+      take c.loop-turn.filled c.loop-turn.header,
+      (
+        c.loop-turn.invariant.taken,
+        none_in_short (take c.loop-turn.filled c.loop-turn.header) (omega (arith, length-take c.loop-turn.filled c.loop-turn.header)),
+      ),
+    )

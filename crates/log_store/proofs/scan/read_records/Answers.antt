@@ -24,13 +24,13 @@ returns-in-End-clause-first g c =
     let room = c.requires.room in
     let count = t.count_is in
     if_err c.at_end.result _ _ (λ fault torn.
-      let some = torn.0 in
-      let at : lsn_of (length t.log.records) ≡ 64 * (c.loop.count + 1) = omega arith in
-      let is : fault ≡ Torn (lsn_of (length t.log.records)) = torn.1 ∙ ap Torn (sym at) in
-      of_input _ _ (read ++ pending) (λ rest. Refuses (header ++ rest) fault) (c.in-End.ensures.1 _ read inv.so_far.1.1)
-      (λ rest end. subst (Refuses (header ++ ((read ++ pending) ++ rest))) (sym is)
-        (refuses_torn header read pending rest t.log t.spells (omega (arith, length-take c.loop.filled c.loop.buffer)) (omega (arith, length-take c.loop.filled c.loop.buffer))
-          (elim (cases_lt (length t.log.records) 1048576) [ inl room ↦ room | inr full ↦ let none = inv.few (omega arith) in absurd (omega arith) ]) (end c.in-End.ensures.0)))) c.at_end.ensures.err
+    let some = torn.0 in
+    let at : lsn_of (length t.log.records) ≡ 64 * (c.loop.count + 1) = omega arith in
+    let is : fault ≡ Torn (lsn_of (length t.log.records)) = torn.1 ∙ ap Torn (sym at) in
+    of_input _ _ (read ++ pending) (λ rest. Refuses (header ++ rest) fault) (c.in-End.ensures.1 _ read inv.so_far.1.1)
+    (λ rest end. subst (Refuses (header ++ ((read ++ pending) ++ rest))) (sym is)
+    (refuses_torn header read pending rest t.log t.spells (omega (arith, length-take c.loop.filled c.loop.buffer)) (omega (arith, length-take c.loop.filled c.loop.buffer))
+    (elim (cases_lt (length t.log.records) 1048576) [ inl room ↦ room | inr full ↦ let none = inv.few (omega arith) in absurd (omega arith) ]) (end c.in-End.ensures.0)))) c.at_end.ensures.err
 
 pub returns-in-Failed-clause-unread : goal.returns-in-Failed-clause-unread
 returns-in-Failed-clause-unread g c =
@@ -38,10 +38,14 @@ returns-in-Failed-clause-unread g c =
     let t = inv.so_far.1.0 in
     let pending = take c.loop.filled c.loop.buffer in
     let short = inv.short in
-    let count = t.count_is in
-    (inv.so_far.0 ++ pending, (c.in-Failed.ensures _ inv.so_far.0 inv.so_far.1.1,
-    none_in_failed (header_bytes c.args.pages) inv.so_far.0 pending t.log t.spells (omega (arith, length-take c.loop.filled c.loop.buffer))
-      (λ full. let none = inv.few (omega arith) in omega (arith, length-take c.loop.filled c.loop.buffer))))
+    let count = t.count_is in (
+      inv.so_far.0 ++ pending,
+      (
+        c.in-Failed.ensures _ inv.so_far.0 inv.so_far.1.1,
+        none_in_failed (header_bytes c.args.pages) inv.so_far.0 pending t.log t.spells (omega (arith, length-take c.loop.filled c.loop.buffer))
+            (λ full. let none = inv.few (omega arith) in omega (arith, length-take c.loop.filled c.loop.buffer)),
+      ),
+    )
 
 pub returns-in_err-take_records-clause-first : goal.returns-in_err-take_records-clause-first
 returns-in_err-take_records-clause-first g c =
@@ -68,9 +72,9 @@ returns-then-filled-gt0-clause-first g c =
     let further = read ++ take whole bytes in
     let pending = drop whole bytes in
     let t : HasTaken g.S.RecordSink.holds c.take_records.new.sink c.args.pages (c.loop.count + filled / 64) (header ++ further) =
-        subst (HasTaken g.S.RecordSink.holds c.take_records.new.sink c.args.pages (c.loop.count + filled / 64)) (append_assoc header read (take whole bytes))
-        (subst (λ (k : ℕ). HasTaken g.S.RecordSink.holds c.take_records.new.sink c.args.pages (c.loop.count + k / 64) ((header ++ read) ++ take (64 * (k / 64)) bytes)) width
-          (c.in_ok-take_records.ensures.ok (header ++ read) inv.so_far.1.0)) in
+    subst (HasTaken g.S.RecordSink.holds c.take_records.new.sink c.args.pages (c.loop.count + filled / 64)) (append_assoc header read (take whole bytes))
+    (subst (λ (k : ℕ). HasTaken g.S.RecordSink.holds c.take_records.new.sink c.args.pages (c.loop.count + k / 64) ((header ++ read) ++ take (64 * (k / 64)) bytes)) width
+    (c.in_ok-take_records.ensures.ok (header ++ read) inv.so_far.1.0)) in
     let count = t.count_is in
     let full = c.if-count-ge-MAX_RECORDS.true in
     let both : read ++ bytes ≡ further ++ pending = ap (λ (bs : List ℕ). read ++ bs) (sym (take-append-drop whole bytes)) ∙ sym (append_assoc read (take whole bytes) pending) in
@@ -92,11 +96,11 @@ loop-preserved g c =
     let n = length bytes in
     let width : length bytes ≡ filled = omega (arith, length-take filled c.read_more.new.buffer, c.in-More.ensures.0) in
     let taken : HasTaken g.S.RecordSink.holds c.take_records.new.sink c.args.pages (c.loop.count + filled / 64) (header ++ (read ++ take whole bytes)) =
-        subst (HasTaken g.S.RecordSink.holds c.take_records.new.sink c.args.pages (c.loop.count + filled / 64)) (append_assoc header read (take whole bytes))
-        (subst (λ (k : ℕ). HasTaken g.S.RecordSink.holds c.take_records.new.sink c.args.pages (c.loop.count + k / 64) ((header ++ read) ++ take (64 * (k / 64)) bytes)) width t) in
+    subst (HasTaken g.S.RecordSink.holds c.take_records.new.sink c.args.pages (c.loop.count + filled / 64)) (append_assoc header read (take whole bytes))
+    (subst (λ (k : ℕ). HasTaken g.S.RecordSink.holds c.take_records.new.sink c.args.pages (c.loop.count + k / 64) ((header ++ read) ++ take (64 * (k / 64)) bytes)) width t) in
     let both : read ++ bytes ≡ (read ++ take whole bytes) ++ take c.keep_rest-filled.result c.keep_rest-filled.new.buffer =
-        ap (λ (bs : List ℕ). read ++ bs) (sym (take-append-drop whole bytes)) ∙ sym (append_assoc read (take whole bytes) (drop whole bytes))
-        ∙ ap (λ (bs : List ℕ). (read ++ take whole bytes) ++ bs) (sym c.keep_rest-filled.ensures.rest) in
+    ap (λ (bs : List ℕ). read ++ bs) (sym (take-append-drop whole bytes)) ∙ sym (append_assoc read (take whole bytes) (drop whole bytes))
+    ∙ ap (λ (bs : List ℕ). (read ++ take whole bytes) ++ bs) (sym c.keep_rest-filled.ensures.rest) in
     record {
       short = c.keep_rest-filled.ensures.short;
       few = λ full. elim c.else-count-ge-MAX_RECORDS.branch [
@@ -112,7 +116,11 @@ returns-clause-unread g c =
     let t = inv.so_far.1.0 in
     let pending = take c.loop.filled c.loop.buffer in
     let short = inv.short in
-    let count = t.count_is in
-    (inv.so_far.0 ++ pending, (inv.so_far.1.1,
-    none_in_failed (header_bytes c.args.pages) inv.so_far.0 pending t.log t.spells (omega (arith, length-take c.loop.filled c.loop.buffer))
-      (λ full. let none = inv.few (omega arith) in omega (arith, length-take c.loop.filled c.loop.buffer))))
+    let count = t.count_is in (
+      inv.so_far.0 ++ pending,
+      (
+        inv.so_far.1.1,
+        none_in_failed (header_bytes c.args.pages) inv.so_far.0 pending t.log t.spells (omega (arith, length-take c.loop.filled c.loop.buffer))
+            (λ full. let none = inv.few (omega arith) in omega (arith, length-take c.loop.filled c.loop.buffer)),
+      ),
+    )

@@ -39,8 +39,15 @@ returns-clause-found g c =
     let found = c.in-Some.ensures.found in
     let is : c.read_header.new.header ≡ header_bytes c.in-Some.pages = sym (take_all 64 c.read_header.new.header (omega arith)) ∙ found.spelled in
     let all = c.in_ok-read_records.ensures.found in
-    let log = all.1.1.log in
-    (log, (all.1.1.held, (all.1.1.spells.valid,
-      of_all _ _ (header_bytes c.in-Some.pages ++ all.0) (SpellsLog log)
-      (Consumes-trans _ _ _ (header_bytes c.in-Some.pages) all.0 (subst (Consumes _ _) is c.in_ok-turns.ensures.ok) all.1.0)
-      c.in_ok-read_records.ensures.end all.1.1.spells)))
+    let log = all.1.1.log in (
+      log,
+      (
+        all.1.1.held,
+        (
+          all.1.1.spells.valid,
+          of_all _ _ (header_bytes c.in-Some.pages ++ all.0) (SpellsLog log)
+              (Consumes-trans _ _ _ (header_bytes c.in-Some.pages) all.0 (subst (Consumes _ _) is c.in_ok-turns.ensures.ok) all.1.0)
+              c.in_ok-read_records.ensures.end all.1.1.spells,
+        ),
+      ),
+    )

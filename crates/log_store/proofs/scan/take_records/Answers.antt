@@ -31,13 +31,13 @@ pub returns-in_err-take_record-clause-first : goal.returns-in_err-take_record-cl
 returns-in_err-take_record-clause-first g c =
     let p = err_from_is_err_and c.from_residual.result c.from_residual.ensures.1 in
     rw (p.1, p.2) (λ given rest taken.
-        let bytes = c.args.bytes.now in
-        let i = c.loop-i.i in
-        let so_far = take (64 * i) bytes in
-        let fault = c.in_err-take_record.field-0.0 in
-        subst (λ (input : List ℕ). Refuses input fault)
-        (append_assoc given so_far _ ∙ ap (λ (bs : List ℕ). given ++ bs) (parts bytes rest i))
-        (c.in_err-take_record.ensures.first (given ++ so_far) (drop 64 (drop (64 * i) bytes) ++ rest) (c.loop-i.invariant given taken)))
+    let bytes = c.args.bytes.now in
+    let i = c.loop-i.i in
+    let so_far = take (64 * i) bytes in
+    let fault = c.in_err-take_record.field-0.0 in
+    subst (λ (input : List ℕ). Refuses input fault)
+    (append_assoc given so_far _ ∙ ap (λ (bs : List ℕ). given ++ bs) (parts bytes rest i))
+    (c.in_err-take_record.ensures.first (given ++ so_far) (drop 64 (drop (64 * i) bytes) ++ rest) (c.loop-i.invariant given taken)))
 
 pub loop-i-preserved : goal.loop-i-preserved
 loop-i-preserved g c = λ given taken.

@@ -1,6 +1,5 @@
-use Rattle.std.proofs.Common.{◌≡◌, ℕ, ◌<◌, ◌≢◌, ◌+◌, ◌-◌, ◌*◌, ◌^◌, take, drop, get_or, set, below_more, get_or-set_other, get_or-set_same, length, sym, ap, ◌∙◌, arith, rules}
+use Rattle.std.proofs.Common.{◌≡◌, ◌<◌, ◌≢◌, ◌+◌, ◌-◌, ◌*◌, take, drop, below_more, get_or-set_other, get_or-set_same, length, sym, ap, ◌∙◌, arith}
 use Rattle.std.specs.Int.{w64, to_le_bytes}
-use Rattle.std.specs.List.{flat_map, AllByRecursion}
 use Rattle.std.proofs.lemmas.List.{get_or_default}
 use Rattle.page_core.specs.Pieces.{pieces_are}
 use Rattle.page_core.proofs.EightBytes.{eight_bytes, same_numbers, all_fit}
@@ -12,14 +11,14 @@ loop-i-preserved c =
     let inside : i < length c.loop-i.slot-items = omega arith in
     let eight : (8 * i + 8) - 8 * i ≡ 8 = omega arith in
     let read : take 8 (drop (8 * i) c.args.bytes.now) ≡ to_le_bytes w64 c.u64_at.result =
-        sym (c.u64_at.ensures.spelled ∙ ap (λ n. take n (drop (8 * i) c.args.bytes.now)) eight) in
+    sym (c.u64_at.ensures.spelled ∙ ap (λ n. take n (drop (8 * i) c.args.bytes.now)) eight) in
     record {
       spelled = below_more _ _
-        (λ k lt. let other : k ≢ i = omega arith in rw get_or-set_other (c.loop-i.invariant.spelled k lt))
-        (read ∙ ap (to_le_bytes w64) (sym (get_or-set_same c.loop-i.slot-items i c.u64_at.result 0 inside)));
+          (λ k lt. let other : k ≢ i = omega arith in rw get_or-set_other (c.loop-i.invariant.spelled k lt))
+          (read ∙ ap (to_le_bytes w64) (sym (get_or-set_same c.loop-i.slot-items i c.u64_at.result 0 inside)));
       fits = below_more _ _
-        (λ k lt. let other : k ≢ i = omega arith in rw get_or-set_other (c.loop-i.invariant.fits k lt))
-        (rw get_or-set_same c.u64_at.type_inv);
+          (λ k lt. let other : k ≢ i = omega arith in rw get_or-set_other (c.loop-i.invariant.fits k lt))
+          (rw get_or-set_same c.u64_at.type_inv);
     }
 
 pub returns-clause-found : goal.returns-clause-found

@@ -17,8 +17,8 @@ returns-in-Update c =
     let within : w.page < length pages = subst (IsWithin (length pages)) here c.requires.within in
     let d = c.index-pages-page.result in
     let done : c.redo_page.new.page ≡ redone (get_or pages w.page d) (r ∷ []) =
-        c.redo_page.ensures ∙ ap (redone (get_or pages c.page.inside.0 d)) (c.from_ref.ensures.value ∙ ap (λ (x : Record). x ∷ []) here)
-        ∙ ap (λ (n : ℕ). redone (get_or pages n d) (r ∷ [])) number in
+    c.redo_page.ensures ∙ ap (redone (get_or pages c.page.inside.0 d)) (c.from_ref.ensures.value ∙ ap (λ (x : Record). x ∷ []) here)
+    ∙ ap (λ (n : ℕ). redone (get_or pages n d) (r ∷ [])) number in
     ap (λ (n : ℕ). set pages n c.redo_page.new.page) number ∙ ap (set pages w.page) done
     ∙ one_redone pages w.lsn w.txn w.prev w.page w.slot w.change d within c.requires.numbered
     ∙ ap (λ (x : Record). map (λ (page : Page). redone page (x ∷ [])) pages) (sym here)

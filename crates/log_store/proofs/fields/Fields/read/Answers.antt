@@ -36,5 +36,5 @@ returns-clause-only c = λ fields fits e.
       c.u64_at-3.ensures.only fields.before fits.before (field 32 40),
       c.u64_at-4.ensures.only fields.after fits.after (field 40 48),
       c.u64_at-5.ensures.only fields.spare fits.spare (field 48 56),
-      c.u64_at-6.ensures.only fields.lsn fits.lsn (field 56 64)
+      c.u64_at-6.ensures.only fields.lsn fits.lsn (field 56 64),
     ) refl

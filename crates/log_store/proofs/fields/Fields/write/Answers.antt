@@ -16,5 +16,5 @@ returns c =
       c.copy_from_slice-8.ensures.after ∙ c.to_le_bytes-8.ensures,
       c.copy_from_slice-9.ensures.after ∙ c.to_le_bytes-9.ensures,
       c.copy_from_slice-10.ensures.after ∙ c.to_le_bytes-10.ensures,
-      c.copy_from_slice-11.ensures.after ∙ c.to_le_bytes-11.ensures
+      c.copy_from_slice-11.ensures.after ∙ c.to_le_bytes-11.ensures,
     ) refl

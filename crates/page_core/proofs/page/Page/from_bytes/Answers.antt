@@ -3,8 +3,6 @@ use Rattle.std.specs.Prelude.{slice_range}
 use Rattle.std.specs.Int.{w32, w64, to_le_bytes}
 use Rattle.std.specs.List.{flat_map}
 use Rattle.std.proofs.lemmas.List.{take_all, length-drop}
-use Rattle.page_core.specs.Page.{page_bytes, IsPage, SpellsPage}
-use Rattle.page_core.proofs.EightBytes.{all_fit}
 use Rattle.page_core.proofs.PageBytes.{number_at, format_at, lsn_at, slots_at, length-page_bytes, from_fields}
 use Rattle.page_core.proofs.page.Page.from_bytes.Goals as goal
 use Rattle.page_core.proofs.page.Page.from_bytes.Goals.{then-number-gt-LAST_PAGE-via-then-number-gt-LAST_PAGE, then-number-gt-LAST_PAGE-via-else-number-gt-LAST_PAGE+then-format-ne-FORMAT, then-number-gt-LAST_PAGE-via-else-number-gt-LAST_PAGE+else-format-ne-FORMAT+then-lsn-ne0}
@@ -17,11 +15,11 @@ returns-then-bytes-ne-PAGE_BYTES-clause-only c = λ page spells.
 pub returns-then-number-gt-LAST_PAGE-clause-only : goal.returns-then-number-gt-LAST_PAGE-clause-only
 returns-then-number-gt-LAST_PAGE-clause-only c = λ page spells.
     let number : c.u32_at-number.result ≡ page.number =
-        c.u32_at-number.ensures.only page.number (omega (arith, spells.valid.number)) (sym (ap (λ (bs : List ℕ). slice_range bs 0 4) spells.spelled ∙ number_at page)) in
+    c.u32_at-number.ensures.only page.number (omega (arith, spells.valid.number)) (sym (ap (λ (bs : List ℕ). slice_range bs 0 4) spells.spelled ∙ number_at page)) in
     let format : c.u32_at-format.result ≡ 1 =
-        c.u32_at-format.ensures.only 1 (lit< tt) (sym (ap (λ (bs : List ℕ). slice_range bs 4 8) spells.spelled ∙ format_at page)) in
+    c.u32_at-format.ensures.only 1 (lit< tt) (sym (ap (λ (bs : List ℕ). slice_range bs 4 8) spells.spelled ∙ format_at page)) in
     let lsn : c.u64_at-lsn.result ≡ page.lsn =
-        c.u64_at-lsn.ensures.only page.lsn spells.valid.lsn (sym (ap (λ (bs : List ℕ). slice_range bs 8 16) spells.spelled ∙ lsn_at page)) in
+    c.u64_at-lsn.ensures.only page.lsn spells.valid.lsn (sym (ap (λ (bs : List ℕ). slice_range bs 8 16) spells.spelled ∙ lsn_at page)) in
     let small : c.u32_at-number.result < 65536 = rw number spells.valid.number in
     let aligned : c.u64_at-lsn.result % 64 ≡ 0 = rw lsn spells.valid.at_record in
     elim c.then-number-gt-LAST_PAGE.branch [
@@ -34,21 +32,21 @@ pub returns-clause-found : goal.returns-clause-found
 returns-clause-found c =
     let bytes = c.args.bytes.now in
     let rest : drop 16 bytes ≡ flat_map (to_le_bytes w64) c.slots_in.result =
-        sym (take_all (length bytes - 16) (drop 16 bytes) (omega (arith, length-drop 16 bytes))) ∙ c.slots_in.ensures.found in
+    sym (take_all (length bytes - 16) (drop 16 bytes) (omega (arith, length-drop 16 bytes))) ∙ c.slots_in.ensures.found in
     record {
       valid = record { number = omega arith; lsn = c.u64_at-lsn.type_inv; at_record = c.if-lsn-ne0.false; count = c.slots_in.ensures.count; slots = c.slots_in.ensures.fit };
       spelled = from_fields _ bytes (sym c.u32_at-number.ensures.spelled) (sym c.u32_at-format.ensures.spelled ∙ ap (to_le_bytes w32) c.if-format-ne-FORMAT.false)
-        (sym c.u64_at-lsn.ensures.spelled) rest;
+          (sym c.u64_at-lsn.ensures.spelled) rest;
     }
 
 pub returns-clause-only : goal.returns-clause-only
 returns-clause-only c = λ page spells.
     let number : c.u32_at-number.result ≡ page.number =
-        c.u32_at-number.ensures.only page.number (omega (arith, spells.valid.number)) (sym (ap (λ (bs : List ℕ). slice_range bs 0 4) spells.spelled ∙ number_at page)) in
+    c.u32_at-number.ensures.only page.number (omega (arith, spells.valid.number)) (sym (ap (λ (bs : List ℕ). slice_range bs 0 4) spells.spelled ∙ number_at page)) in
     let lsn : c.u64_at-lsn.result ≡ page.lsn =
-        c.u64_at-lsn.ensures.only page.lsn spells.valid.lsn (sym (ap (λ (bs : List ℕ). slice_range bs 8 16) spells.spelled ∙ lsn_at page)) in
+    c.u64_at-lsn.ensures.only page.lsn spells.valid.lsn (sym (ap (λ (bs : List ℕ). slice_range bs 8 16) spells.spelled ∙ lsn_at page)) in
     let bytes = c.args.bytes.now in
     let rest : take (length bytes - 16) (drop 16 bytes) ≡ flat_map (to_le_bytes w64) page.slots =
-        take_all (length bytes - 16) (drop 16 bytes) (omega (arith, length-drop 16 bytes)) ∙ ap (drop 16) spells.spelled ∙ slots_at page in
+    take_all (length bytes - 16) (drop 16 bytes) (omega (arith, length-drop 16 bytes)) ∙ ap (drop 16) spells.spelled ∙ slots_at page in
     let slots : c.slots_in.result ≡ page.slots = c.slots_in.ensures.only page.slots spells.valid.count spells.valid.slots rest in
     ap Ok (rw (number, lsn, slots) refl)

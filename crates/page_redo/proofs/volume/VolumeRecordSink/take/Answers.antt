@@ -26,7 +26,7 @@ returns c = λ log held next.
     let r = c.args.next.now in
     let now : c.deref_mut.result.now ≡ redo_all log.records log.pages = c.deref_mut.ensures.value ∙ held in
     let step : c.redo_on_its_page.new.pages ≡ redo_all (log.records ++ r ∷ []) log.pages =
-        c.redo_on_its_page.ensures ∙ ap (map (λ (page : Page). redone page (r ∷ []))) now ∙ redo_all-next log r next log.pages in
+    c.redo_on_its_page.ensures ∙ ap (map (λ (page : Page). redone page (r ∷ []))) now ∙ redo_all-next log r next log.pages in
     let long : length c.redo_on_its_page.new.pages ≡ c.args.self.now.pages.len =
-        ap length step ∙ length-redo_all (log.records ++ r ∷ []) log.pages ∙ sym (length-redo_all log.records log.pages) ∙ sym (ap length now) ∙ c.deref_mut.ensures.len in
+    ap length step ∙ length-redo_all (log.records ++ r ∷ []) log.pages ∙ sym (length-redo_all log.records log.pages) ∙ sym (ap length now) ∙ c.deref_mut.ensures.len in
     with_items_is c.args.self.now.pages c.redo_on_its_page.new.pages long ∙ step

@@ -1,0 +1,316 @@
+use super::*;
+use page_core::Lsn;
+use std::io;
+use std::test::Fail;
+
+// The parts of the logs in groups of eight bytes, in hexadecimal. `0` is eight zero bytes.
+const ONE_PAGE: &str = "41494d474c4f4731 0100000000000000 0 0 0 0 0 0";
+
+const TWO_PAGES: &str = "41494d474c4f4731 0200000000000000 0 0 0 0 0 0";
+
+const BEGIN: &str = "0100000001000000 0 0 0 0 0 0 4000000000000000";
+
+const SET_SEVEN: &str =
+    "0200000001000000 4000000000000000 0 0000000003000100 0 0700000000000000 0 8000000000000000";
+
+const ADD_FIVE: &str =
+    "0200000001000000 8000000000000000 0 0000000003000200 0 0500000000000000 0 c000000000000000";
+
+const COMMIT: &str = "0400000001000000 c000000000000000 0 0 0 0 0 0001000000000000";
+
+const SET_ONE: &str =
+    "0200000001000000 4000000000000000 0 0000000000000100 0 0100000000000000 0 8000000000000000";
+
+const ADD_THE_MOST: &str =
+    "0200000001000000 8000000000000000 0 0000000000000200 0 ffffffffffffffff 0 c000000000000000";
+
+const SET_SEVEN_SPOILED: &str =
+    "0201000001000000 4000000000000000 0 0000000003000100 0 0700000000000000 0 8000000000000000";
+
+const SET_IN_PAGE_ONE: &str =
+    "0200000001000000 4000000000000000 0 0100000003000100 0 0700000000000000 0 8000000000000000";
+
+// What the four records make: groups of eight bytes at their offsets.
+static OF_FOUR_RECORDS: [(usize, u64); 3] = [
+    (0, 0x0000000001000000),
+    (8, 0xc000000000000000),
+    (40, 0x0c00000000000000),
+];
+
+fn bytes_of_groups(alloc: Global, parts: &[&str]) -> Result<Vec<u8>, Fail> {
+    let mut bytes = Vec::new(alloc);
+    for part in parts {
+        for group in part.split_whitespace() {
+            bytes.extend_from_slice(&u64::from_str_radix(group, 16)?.to_be_bytes())?;
+        }
+    }
+    Ok(bytes)
+}
+
+fn four_records(alloc: Global) -> Result<Vec<u8>, Fail> {
+    bytes_of_groups(alloc, &[ONE_PAGE, BEGIN, SET_SEVEN, ADD_FIVE, COMMIT])
+}
+
+/// So many zero bytes, with these groups of eight bytes at these offsets.
+fn bytes_with(alloc: Global, count: usize, placed: &[(usize, u64)]) -> Result<Vec<u8>, Fail> {
+    let mut bytes = Vec::new(alloc);
+    for place in 0..count / 8 {
+        let mut group = 0u64;
+        for (at, given) in placed {
+            if *at / 8 == place {
+                group = *given;
+            }
+        }
+        bytes.extend_from_slice(&group.to_be_bytes())?;
+    }
+    Ok(bytes)
+}
+
+fn volume_of_four_records(alloc: Global) -> Result<Vec<u8>, Fail> {
+    bytes_with(alloc, 512, &OF_FOUR_RECORDS)
+}
+
+#[test]
+fn writes_the_volume(rt: HostRuntime) -> Result<(), Fail> {
+    let cases: [(&[&str], usize, &[(usize, u64)]); 3] = [
+        (
+            &[TWO_PAGES],
+            1024,
+            &[(0, 0x0000000001000000), (512, 0x0100000001000000)],
+        ),
+        (
+            &[ONE_PAGE, BEGIN, SET_SEVEN, ADD_FIVE, COMMIT],
+            512,
+            &OF_FOUR_RECORDS,
+        ),
+        (
+            &[ONE_PAGE, BEGIN, SET_ONE, ADD_THE_MOST],
+            512,
+            &[(0, 0x0000000001000000), (8, 0xc000000000000000)],
+        ),
+    ];
+    for (parts, count, placed) in cases {
+        let log = bytes_of_groups(rt.alloc(), parts)?;
+        let mut volume = Vec::new(rt.alloc());
+        let outcome = redo_stream(rt.alloc(), &mut log.as_slice(), &mut volume);
+        assert_eq!(rt; outcome, Ok(()), "{parts:?}");
+        assert_eq!(rt; volume, bytes_with(rt.alloc(), count, placed)?, "{parts:?}");
+    }
+    Ok(())
+}
+
+#[test]
+fn writes_nothing_of_what_is_no_log(rt: HostRuntime) -> Result<(), Fail> {
+    let mut cut = four_records(rt.alloc())?;
+    cut.truncate(266);
+    let spoiled = bytes_of_groups(
+        rt.alloc(),
+        &[ONE_PAGE, BEGIN, SET_SEVEN_SPOILED, ADD_FIVE, COMMIT],
+    )?;
+    let outside = bytes_of_groups(rt.alloc(), &[ONE_PAGE, BEGIN, SET_IN_PAGE_ONE])?;
+    let repeated = bytes_of_groups(
+        rt.alloc(),
+        &[ONE_PAGE, BEGIN, SET_SEVEN, ADD_FIVE, COMMIT, COMMIT],
+    )?;
+    let cases: [(&[u8], Fault, &str); 5] = [
+        (&cut, Fault::Torn(Lsn(256)), "E32 Torn 256"),
+        (&spoiled, Fault::BadRecord(Lsn(128)), "E31 BadRecord 128"),
+        (&outside, Fault::BadRecord(Lsn(128)), "E31 BadRecord 128"),
+        (&repeated, Fault::BadRecord(Lsn(320)), "E31 BadRecord 320"),
+        (&[], Fault::BadHeader, "E30 BadHeader"),
+    ];
+    for (input, fault, line) in cases {
+        let mut volume = Vec::new(rt.alloc());
+        let mut rest = input;
+        assert_eq!(rt; redo_stream(rt.alloc(), &mut rest, &mut volume), Err(fault));
+        assert_eq!(rt; fault.to_string(rt.alloc())?.as_str(), line);
+        assert!(rt; volume.is_empty(), "{line}");
+    }
+    Ok(())
+}
+
+/// Gives at most `step` bytes at a read. Each read is interrupted so often before. The read after `good_reads` others
+/// fails, and those after it go on.
+#[derive(Drop)]
+struct Hesitant<'a> {
+    rest: &'a [u8],
+    step: usize,
+    interruptions: u32,
+    interrupted: u32,
+    good_reads: Option<usize>,
+}
+
+impl<'a> Read for Hesitant<'a> {
+    fn read(&mut self, buf: &mut [u8]) -> io::Result<usize> {
+        if self.interrupted < self.interruptions {
+            self.interrupted += 1;
+            return Err(io::Error::from(ErrorKind::Interrupted));
+        }
+        self.interrupted = 0;
+        if let Some(left) = self.good_reads {
+            self.good_reads = left.checked_sub(1);
+            if left == 0 {
+                return Err(io::Error::from(ErrorKind::ConnectionReset));
+            }
+        }
+        let count = buf.len().min(self.rest.len()).min(self.step);
+        buf[..count].copy_from_slice(&self.rest[..count]);
+        self.rest = &self.rest[count..];
+        Ok(count)
+    }
+}
+
+#[test]
+fn reads_a_hesitant_reader_to_its_end(rt: HostRuntime) -> Result<(), Fail> {
+    let log = four_records(rt.alloc())?;
+    let wanted = volume_of_four_records(rt.alloc())?;
+    for (step, interruptions) in [(1, 0), (1, 3), (7, 3), (64, 1), (512, 3)] {
+        let mut reader = Hesitant {
+            rest: &log,
+            step,
+            interruptions,
+            interrupted: 0,
+            good_reads: None,
+        };
+        let mut volume = Vec::new(rt.alloc());
+        assert_eq!(rt; redo_stream(rt.alloc(), &mut reader, &mut volume), Ok(()));
+        assert_eq!(rt; volume, wanted, "{step} bytes at a read");
+    }
+    Ok(())
+}
+
+#[test]
+fn writes_nothing_where_a_read_fails(rt: HostRuntime) -> Result<(), Fail> {
+    let log = four_records(rt.alloc())?;
+    for good_reads in 0..=log.len() {
+        let mut reader = Hesitant {
+            rest: &log,
+            step: 1,
+            interruptions: 0,
+            interrupted: 0,
+            good_reads: Some(good_reads),
+        };
+        let mut volume = Vec::new(rt.alloc());
+        let outcome = redo_stream(rt.alloc(), &mut reader, &mut volume);
+        assert_eq!(rt; outcome, Err(Fault::ReadFault), "after {good_reads} reads");
+        assert!(rt; volume.is_empty(), "after {good_reads} reads");
+    }
+    Ok(())
+}
+
+/// Takes at most `step` bytes at a write, and holds `room` in all. When full it fails so, or takes nothing.
+#[derive(Drop)]
+struct Narrow {
+    held: Vec<u8>,
+    step: usize,
+    room: usize,
+    when_full: Option<ErrorKind>,
+}
+
+impl Write for Narrow {
+    fn write(&mut self, buf: &[u8]) -> io::Result<usize> {
+        let left = self.room.saturating_sub(self.held.len());
+        if let (0, Some(kind)) = (left, self.when_full) {
+            return Err(io::Error::from(kind));
+        }
+        let count = buf.len().min(self.step).min(left);
+        self.held.extend_from_slice(&buf[..count])?;
+        Ok(count)
+    }
+
+    fn flush(&mut self) -> io::Result<()> {
+        Ok(())
+    }
+}
+
+#[test]
+fn counts_what_a_narrow_writer_took(rt: HostRuntime) -> Result<(), Fail> {
+    let log = four_records(rt.alloc())?;
+    let wanted = volume_of_four_records(rt.alloc())?;
+    let broken = Some(ErrorKind::BrokenPipe);
+    let cases = [
+        (1, 512, broken, Ok(())),
+        (100, 512, broken, Ok(())),
+        (512, 0, broken, Err(Fault::WriteFault(0))),
+        (512, 0, None, Err(Fault::WriteFault(0))),
+        (512, 1, broken, Err(Fault::WriteFault(1))),
+        (1, 7, broken, Err(Fault::WriteFault(7))),
+        (1, 7, None, Err(Fault::WriteFault(7))),
+        (7, 100, broken, Err(Fault::WriteFault(100))),
+        (512, 511, broken, Err(Fault::WriteFault(511))),
+    ];
+    for (step, room, when_full, outcome) in cases {
+        let mut writer = Narrow {
+            held: Vec::new(rt.alloc()),
+            step,
+            room,
+            when_full,
+        };
+        assert_eq!(rt;
+            redo_stream(rt.alloc(), &mut log.as_slice(), &mut writer),
+            outcome
+        );
+        assert_eq!(rt;
+            Some(writer.held.as_slice()),
+            wanted.get(..room),
+            "{room} bytes"
+        );
+    }
+    Ok(())
+}
+
+/// Takes one byte at a write. From the byte `first` on, each is taken after so many interruptions.
+#[derive(Drop)]
+struct Interrupted {
+    held: Vec<u8>,
+    first: usize,
+    interruptions: u32,
+    interrupted: u32,
+}
+
+impl Write for Interrupted {
+    fn write(&mut self, buf: &[u8]) -> io::Result<usize> {
+        if self.held.len() >= self.first && self.interrupted < self.interruptions {
+            self.interrupted += 1;
+            return Err(io::Error::from(ErrorKind::Interrupted));
+        }
+        self.interrupted = 0;
+        let count = buf.len().min(1);
+        self.held.extend_from_slice(&buf[..count])?;
+        Ok(count)
+    }
+
+    fn flush(&mut self) -> io::Result<()> {
+        Ok(())
+    }
+}
+
+#[test]
+fn tries_an_interrupted_write_again(rt: HostRuntime) -> Result<(), Fail> {
+    let log = four_records(rt.alloc())?;
+    let wanted = volume_of_four_records(rt.alloc())?;
+    let cases = [
+        (0, 16, 512, Ok(())),
+        (0, 17, 0, Err(Fault::WriteFault(0))),
+        (9, 17, 9, Err(Fault::WriteFault(9))),
+        (511, 17, 511, Err(Fault::WriteFault(511))),
+    ];
+    for (first, interruptions, count, outcome) in cases {
+        let mut writer = Interrupted {
+            held: Vec::new(rt.alloc()),
+            first,
+            interruptions,
+            interrupted: 0,
+        };
+        assert_eq!(rt;
+            redo_stream(rt.alloc(), &mut log.as_slice(), &mut writer),
+            outcome
+        );
+        assert_eq!(rt;
+            Some(writer.held.as_slice()),
+            wanted.get(..count),
+            "{count} bytes"
+        );
+    }
+    Ok(())
+}

@@ -1,0 +1,224 @@
+//! What no clause says: the bytes of known logs, what becomes of a reader's failures, and the text of each fault.
+
+mod readers;
+mod vectors;
+
+use crate::{
+    LogReadFault, MAX_LOG_BYTES, MAX_RECORDS, Record, TxnNo, decode, encode, encode_header,
+    read_log,
+};
+use page_core::Lsn;
+use readers::{Begins, NeverReady, Steps};
+use std::alloc::Global;
+use std::io;
+use std::io::Read;
+use std::process::Abort;
+use std::test::Fail;
+use vectors::{Case, bytes_of, cases, header_of_2_pages, log_of, records, spellings};
+
+#[test]
+fn records_have_their_bytes(rt: HostRuntime) {
+    for (record, spelling) in records().iter().zip(&spellings()) {
+        let bytes = bytes_of(spelling);
+        assert_eq!(rt; encode(record), bytes, "{record:?}");
+        assert_eq!(rt; decode(&bytes, record.lsn()), Some(*record));
+        assert_eq!(rt; decode(&bytes, Lsn(320)), None, "{record:?}");
+    }
+}
+
+#[test]
+fn a_header_has_its_bytes(rt: HostRuntime) {
+    assert_eq!(rt; encode_header(2), bytes_of(&header_of_2_pages()));
+}
+
+/// Each record with one byte changed, and whether that is a record.
+#[test]
+fn other_bytes_are_refused(rt: HostRuntime) {
+    for (index, offset, byte, is_record) in [
+        (0, 0, 3, false),
+        (0, 0, 2, false),
+        (0, 1, 1, false),
+        (0, 4, 0, false),
+        (0, 4, 2, true),
+        (0, 8, 0x40, false),
+        (0, 16, 1, false),
+        (0, 40, 1, false),
+        (0, 48, 1, false),
+        (0, 56, 0x80, false),
+        (1, 8, 0, false),
+        (1, 8, 0x41, false),
+        (1, 8, 0x80, false),
+        (1, 25, 0xff, true),
+        (1, 26, 1, false),
+        (1, 28, 61, true),
+        (1, 28, 62, false),
+        (1, 29, 1, false),
+        (1, 30, 0, false),
+        (1, 30, 3, false),
+        (1, 31, 1, false),
+        (1, 32, 1, true),
+        (2, 8, 0x40, true),
+        (2, 32, 1, false),
+        (2, 47, 0xff, true),
+        (3, 8, 0, false),
+        (3, 9, 1, false),
+        (3, 24, 1, false),
+        (3, 30, 1, false),
+    ] {
+        assert!(rt; index < 4 && offset < 64);
+        let mut bytes = bytes_of(&spellings()[index]);
+        bytes[offset] = byte;
+        let found = decode(&bytes, records()[index].lsn()).is_some();
+        assert_eq!(rt; found, is_record, "record {index} with {byte} at {offset}");
+    }
+}
+
+/// The page count and the count of records of the log that a reader gives. They are the first of the known records.
+fn read_known<R: Read>(
+    rt: &impl Abort,
+    alloc: Global,
+    reader: &mut R,
+) -> Result<(u32, usize), LogReadFault> {
+    let log = read_log(alloc, reader)?;
+    let count = log.records().len();
+    assert!(rt; count <= 4);
+    assert_eq!(rt; log.records(), &records()[..count]);
+    Ok((log.pages(), count))
+}
+
+#[test]
+fn logs_are_read(rt: HostRuntime) -> Result<(), Fail> {
+    let alloc = rt.alloc();
+    for case in &cases() {
+        let bytes = log_of(alloc, case)?;
+        let Case { name, want, .. } = *case;
+        let mut whole = bytes.as_slice();
+        assert_eq!(rt; read_known(&rt, alloc, &mut whole), want, "{name}");
+        let mut slow = Steps::new(&bytes, 1);
+        assert_eq!(rt;
+            read_known(&rt, alloc, &mut slow),
+            want,
+            "{name}, a byte at a time"
+        );
+        let mut interrupted = Steps::new(&bytes, 50).interrupted();
+        assert_eq!(rt;
+            read_known(&rt, alloc, &mut interrupted),
+            want,
+            "{name}, interrupted"
+        );
+    }
+    Ok(())
+}
+
+/// Each log from a reader that fails once it gave so many bytes.
+#[test]
+fn a_reader_fails(rt: HostRuntime) -> Result<(), Fail> {
+    let alloc = rt.alloc();
+    for case in &cases() {
+        let bytes = log_of(alloc, case)?;
+        let Case {
+            name,
+            known_from,
+            want,
+            ..
+        } = *case;
+        for given in [
+            0, 1, 63, 64, 65, 127, 128, 191, 192, 255, 256, 319, 320, 384,
+        ] {
+            let given = given.min(bytes.len());
+            let mut reader = Steps::new(&bytes, 1).failing(given);
+            let want = match known_from {
+                Some(from) if given >= from => want,
+                _ => Err(LogReadFault::ReadFault),
+            };
+            assert_eq!(rt;
+                read_known(&rt, alloc, &mut reader),
+                want,
+                "{name}, failing at {given}"
+            );
+        }
+    }
+    Ok(())
+}
+
+#[test]
+fn long_logs_are_read(rt: HostRuntime) {
+    let alloc = rt.alloc();
+    let longest = MAX_LOG_BYTES as u64;
+    for (end, want) in [
+        (longest - 1, Err(LogReadFault::Torn(Lsn(longest - 64)))),
+        (longest, Ok(MAX_RECORDS)),
+        (longest + 1, Err(LogReadFault::TooLong)),
+        (longest + 64, Err(LogReadFault::TooLong)),
+        (u64::MAX, Err(LogReadFault::TooLong)),
+    ] {
+        let mut reader = Begins::until(end);
+        let read = read_log(alloc, &mut reader).map(|log| log.records().len());
+        assert_eq!(rt; read, want, "a log that ends at {end}");
+    }
+}
+
+#[test]
+fn a_reader_without_an_end(rt: HostRuntime) {
+    let alloc = rt.alloc();
+    let mut zeros = io::repeat(0);
+    assert_eq!(rt;
+        read_known(&rt, alloc, &mut zeros),
+        Err(LogReadFault::BadHeader)
+    );
+    let header = encode_header(1);
+    let mut zeros = header.as_slice().chain(io::repeat(0));
+    assert_eq!(rt;
+        read_known(&rt, alloc, &mut zeros),
+        Err(LogReadFault::BadRecord(Lsn(64)))
+    );
+}
+
+#[test]
+fn a_reader_that_is_never_ready(rt: HostRuntime) {
+    let read = read_known(&rt, rt.alloc(), &mut NeverReady);
+    assert_eq!(rt; read, Err(LogReadFault::ReadFault));
+}
+
+#[test]
+fn memory_runs_out(rt: HostRuntime) -> Result<(), Fail> {
+    let alloc = rt.alloc();
+    for case in &cases() {
+        let bytes = match log_of(alloc, case) {
+            Ok(bytes) => bytes,
+            Err(_) => return Ok(()),
+        };
+        let Case { name, want, .. } = *case;
+        let read = read_known(&rt, alloc, &mut bytes.as_slice());
+        assert!(rt;
+            read == want || read == Err(LogReadFault::OutOfMemory),
+            "{name}"
+        );
+    }
+    Ok(())
+}
+
+#[test]
+fn faults_have_texts(rt: HostRuntime) -> Result<(), Fail> {
+    for (fault, text) in [
+        (LogReadFault::OutOfMemory, "out of memory"),
+        (LogReadFault::BadHeader, "the log's header is misspelt"),
+        (
+            LogReadFault::BadRecord(Lsn(128)),
+            "the record at 128 is misspelt",
+        ),
+        (
+            LogReadFault::Torn(Lsn(256)),
+            "the log ends within the record at 256",
+        ),
+        (LogReadFault::ReadFault, "the log could not be read"),
+        (
+            LogReadFault::TooLong,
+            "bytes follow the last record that a log may have",
+        ),
+    ] {
+        let printed = format!(in rt.alloc(); "{fault}")?;
+        assert_eq!(rt; printed.as_str(), text);
+    }
+    Ok(())
+}

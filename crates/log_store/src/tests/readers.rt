@@ -1,0 +1,112 @@
+//! Readers that give their bytes in steps, are interrupted, fail, or have no end.
+
+use crate::{Record, TxnNo, encode, encode_header};
+use page_core::Lsn;
+use std::io;
+use std::io::{ErrorKind, Read};
+
+/// Gives some bytes, a few at a call.
+#[derive(Drop)]
+pub struct Steps<'a> {
+    bytes: &'a [u8],
+    step: usize,
+    /// Whether each byte count is given at the second call only.
+    interrupts: bool,
+    is_interrupted: bool,
+    /// How many bytes it gives until it fails.
+    fails_after: Option<usize>,
+}
+
+impl<'a> Steps<'a> {
+    pub fn new(bytes: &'a [u8], step: usize) -> Steps<'a> {
+        Steps {
+            bytes,
+            step,
+            interrupts: false,
+            is_interrupted: false,
+            fails_after: None,
+        }
+    }
+
+    /// The same, but every other call is interrupted.
+    pub fn interrupted(self) -> Steps<'a> {
+        Steps {
+            interrupts: true,
+            ..self
+        }
+    }
+
+    /// The same, but it fails once it gave so many bytes.
+    pub fn failing(self, given: usize) -> Steps<'a> {
+        Steps {
+            fails_after: Some(given),
+            ..self
+        }
+    }
+}
+
+impl Read for Steps<'_> {
+    fn read(&mut self, buf: &mut [u8]) -> io::Result<usize> {
+        if self.interrupts && !self.is_interrupted {
+            self.is_interrupted = true;
+            return Err(ErrorKind::Interrupted.into());
+        }
+        self.is_interrupted = false;
+        if self.fails_after == Some(0) {
+            return Err(ErrorKind::Other.into());
+        }
+        let most = self.fails_after.unwrap_or(usize::MAX);
+        let count = self.step.min(self.bytes.len()).min(buf.len()).min(most);
+        buf[..count].copy_from_slice(&self.bytes[..count]);
+        self.bytes = &self.bytes[count..];
+        self.fails_after = self.fails_after.map(|left| left.saturating_sub(count));
+        Ok(count)
+    }
+}
+
+/// Gives a log of one page whose records all begin transaction 1.
+#[derive(Drop)]
+pub struct Begins {
+    at: u64,
+    end: u64,
+}
+
+impl Begins {
+    /// The first bytes of this log, so many.
+    pub fn until(end: u64) -> Begins {
+        Begins { at: 0, end }
+    }
+}
+
+impl Read for Begins {
+    fn read(&mut self, buf: &mut [u8]) -> io::Result<usize> {
+        let skipped = (self.at % 64) as usize;
+        let bytes = bytes_at(self.at - self.at % 64);
+        let left = usize::try_from(self.end.saturating_sub(self.at)).unwrap_or(usize::MAX);
+        let count = (64 - skipped).min(buf.len()).min(left);
+        buf[..count].copy_from_slice(&bytes[skipped..skipped + count]);
+        self.at = self.at.saturating_add(count as u64);
+        Ok(count)
+    }
+}
+
+fn bytes_at(offset: u64) -> [u8; 64] {
+    if offset == 0 {
+        encode_header(1)
+    } else {
+        encode(&Record::Begin {
+            lsn: Lsn(offset),
+            txn: TxnNo(1),
+        })
+    }
+}
+
+/// Never gives a byte, since each call is interrupted.
+#[derive(Drop)]
+pub struct NeverReady;
+
+impl Read for NeverReady {
+    fn read(&mut self, _buf: &mut [u8]) -> io::Result<usize> {
+        Err(ErrorKind::Interrupted.into())
+    }
+}

@@ -1,0 +1,138 @@
+use super::*;
+use crate::field::{u16_at, u32_at, u64_at};
+use std::test::Fail;
+
+/// The bytes of page 0 with LSN 192, and 12 in slot 3.
+fn example_bytes() -> [u8; PAGE_BYTES] {
+    let mut bytes = [0; PAGE_BYTES];
+    bytes[4] = 1;
+    bytes[8] = 0xc0;
+    bytes[40] = 0x0c;
+    bytes
+}
+
+#[test]
+fn a_page_has_its_bytes(rt: HostRuntime) {
+    let mut slots = [0; SLOTS];
+    slots[3] = 12;
+    let page = Page {
+        number: PageNo(0),
+        lsn: Lsn(192),
+        slots,
+    };
+    assert_eq!(rt; page.to_bytes(), example_bytes());
+    assert_eq!(rt; Page::from_bytes(&example_bytes()), Ok(page));
+}
+
+#[test]
+fn a_formatted_page_is_empty(rt: HostRuntime) {
+    for (number, low, high) in [(0, 0, 0), (258, 2, 1), (65_535, 255, 255)] {
+        let page = Page::formatted(PageNo(number));
+        assert_eq!(rt; page.number, PageNo(number));
+        assert_eq!(rt; page.lsn, Lsn(0), "of page {number}");
+        assert_eq!(rt; page.slots, [0; SLOTS], "of page {number}");
+        let mut bytes = [0; PAGE_BYTES];
+        bytes[0] = low;
+        bytes[1] = high;
+        bytes[4] = 1;
+        assert_eq!(rt; page.to_bytes(), bytes, "of page {number}");
+        assert_eq!(rt; Page::from_bytes(&bytes), Ok(page));
+    }
+}
+
+#[test]
+fn changes_follow_one_another(rt: HostRuntime) {
+    let mut page = Page::formatted(PageNo(0));
+    for (lsn, change, number) in [
+        (
+            64,
+            Change::Set {
+                before: 0,
+                after: 7,
+            },
+            7,
+        ),
+        (128, Change::Add { amount: 5 }, 12),
+        (
+            192,
+            Change::Set {
+                before: 12,
+                after: 1,
+            },
+            1,
+        ),
+        (
+            256,
+            Change::Add {
+                amount: 18_446_744_073_709_551_615,
+            },
+            0,
+        ),
+    ] {
+        page.apply(Lsn(lsn), SlotNo(3), &change);
+        assert_eq!(rt; page.slots[3], number, "after {change:?}");
+        assert_eq!(rt; page.lsn, Lsn(lsn));
+    }
+}
+
+#[test]
+fn an_undo_has_its_change(rt: HostRuntime) {
+    for (change, undo) in [
+        (
+            Change::Set {
+                before: 3,
+                after: 9,
+            },
+            Change::Set {
+                before: 0,
+                after: 3,
+            },
+        ),
+        (
+            Change::Add { amount: 5 },
+            Change::Add {
+                amount: 18_446_744_073_709_551_611,
+            },
+        ),
+        (Change::Add { amount: 0 }, Change::Add { amount: 0 }),
+    ] {
+        assert_eq!(rt; undo_of(&change), undo, "of {change:?}");
+    }
+}
+
+#[test]
+fn other_bytes_are_no_page(rt: HostRuntime) -> Result<(), Fail> {
+    // Format 2, LSN 65 and page 65,536.
+    for (index, byte) in [(4, 2), (8, 65), (2, 1)] {
+        let mut bytes = example_bytes();
+        bytes[index] = byte;
+        assert_eq!(rt;
+            Page::from_bytes(&bytes),
+            Err(BadPage),
+            "with {byte} at {index}"
+        );
+    }
+    let mut longer = [0; 513];
+    longer[4] = 1;
+    assert!(rt; Page::from_bytes(&longer[..512]).is_ok());
+    for length in [511, 513] {
+        assert_eq!(rt;
+            Page::from_bytes(&longer[..length]),
+            Err(BadPage),
+            "of {length} bytes"
+        );
+    }
+    assert_eq!(rt;
+        format!(in rt.alloc(); "{BadPage}")?.as_str(),
+        "the bytes are no page"
+    );
+    Ok(())
+}
+
+#[test]
+fn a_field_has_the_lowest_byte_first(rt: HostRuntime) {
+    let bytes = [9, 1, 2, 3, 4, 5, 6, 7, 8];
+    assert_eq!(rt; u16_at(&bytes, 1), 0x0201);
+    assert_eq!(rt; u32_at(&bytes, 1), 0x0403_0201);
+    assert_eq!(rt; u64_at(&bytes, 1), 0x0807_0605_0403_0201);
+}
