@@ -1,2 +1,3 @@
 mod ClapLemmas
 mod RedoLemmas
+pub mod Groups

@@ -20,7 +20,7 @@ const HELP: &str = "\
 Usage: imgcopy <COMMAND>
 
 Commands:
-  redo  Redo a log
+  redo  Write the volume that the log on standard input makes
   help  Print this help
 
 For the arguments of a command, try 'imgcopy <COMMAND> --help'.
@@ -39,7 +39,7 @@ pub enum UsageFault<'a> {
     /// The words after the command's name are wrong, or ask for its help.
     #[error(transparent)]
     BadArguments(clap::Error),
-    #[error("error: out of memory\n")]
+    #[error("E1 OutOfMemory\n")]
     OutOfMemory,
 }
 
@@ -104,7 +104,7 @@ fn redo_app<'a>(alloc: Global) -> Result<clap::Command<'a>, AllocError>
     ensures { IfOk result (λ command. app_of command ≡ redo_app) }
 {
     clap::Command::new(alloc, "redo")
-        .about("Redo a log")
+        .about("Write the volume that the log on standard input makes, to standard output")
         .bin_name("imgcopy redo")
 }
 

@@ -5,32 +5,50 @@ mod command;
 mod fault;
 mod stream;
 
-use anyhow::Result;
 use command::{Command, command_of};
+use fault::Fault;
 use std::process::ExitCode;
+use std::rt::Env;
 use std::{env, io};
 use stream::redo_stream;
 
 /// The status of a fault of the words, of the input, or of the output.
 const FAULT_STATUS: u8 = 2;
 
-fn main(rt: HostRuntime) -> Result<ExitCode> {
-    let words: Vec<String> = env::args(&rt)?.skip(1).collect(rt.alloc())?;
+fn main(rt: HostRuntime) -> ExitCode {
+    let words = match words_of(&rt) {
+        Ok(words) => words,
+        Err(error) => {
+            // Where even this line cannot be written, the status still tells.
+            let _ = rt.eprintln(&error);
+            return ExitCode::from(FAULT_STATUS);
+        }
+    };
     match command_of(rt.alloc(), words.as_slice()) {
         Ok(Command::Redo) => {
             let done = redo_stream(rt.alloc(), &mut rt.stdin(), &mut io::writer(&rt));
-            Ok(match done {
-                Ok(()) => ExitCode::SUCCESS,
-                Err(fault) => {
-                    // Where even this line cannot be written, the status still tells.
-                    let _ = rt.eprintln(&fault);
-                    ExitCode::from(FAULT_STATUS)
-                }
-            })
+            status_of(&rt, done)
         }
         Err(fault) => {
             let _ = rt.eprint(&fault);
-            Ok(ExitCode::from(FAULT_STATUS))
+            ExitCode::from(FAULT_STATUS)
+        }
+    }
+}
+
+/// The words of the command line after the program's name.
+fn words_of(rt: &(impl Env + AllocGlobal)) -> io::Result<Vec<String>> {
+    let words = env::args(rt)?.skip(1).collect(rt.alloc())?;
+    Ok(words)
+}
+
+/// Tells a fault on standard error, and answers the program's status.
+fn status_of(rt: &impl Eprint, done: Result<(), Fault>) -> ExitCode {
+    match done {
+        Ok(()) => ExitCode::SUCCESS,
+        Err(fault) => {
+            let _ = rt.eprintln(&fault);
+            ExitCode::from(FAULT_STATUS)
         }
     }
 }

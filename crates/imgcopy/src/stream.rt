@@ -1,6 +1,6 @@
 //! From the bytes of a log to the bytes of the volume that it makes.
 
-ghost use Rattle.std.specs.Prelude.{◌≡◌, ◌≤◌, length, take, IfOk, IfErr, OnOk};
+ghost use Rattle.std.specs.Prelude.{◌≡◌, ◌*◌, ◌≤◌, length, vec_len, take, IfOk, IfErr, OnOk};
 ghost use Rattle.std.specs.Io.KnownBytes.{Appends};
 ghost use Rattle.page_core.specs.Page.{volume_bytes};
 ghost use Rattle.imgcopy.specs.Stream.{WritesVolume, Leaves, FailedUnread};
@@ -15,6 +15,9 @@ use std::io::{ErrorKind, Read, Write};
 /// How often in a row an interrupted write is tried again.
 const MAX_INTERRUPTIONS: u32 = 16;
 
+/// How many pages are written at once.
+const BUFFER_PAGES: usize = 512;
+
 /// Reads a log to its end, and writes the volume that it makes of formatted pages. Nothing is written before the log is
 /// read whole and found right.
 pub fn redo_stream<R: Read, W: Write>(
@@ -28,19 +31,51 @@ pub fn redo_stream<R: Read, W: Write>(
     ensures unread { result ≡ Err Fault.ReadFault → FailedUnread (R.remaining reader.old) (R.remaining reader.new) }
 {
     let volume: Volume = scan_log(alloc, reader)?;
-    let bytes = bytes_of(alloc, &volume.pages)?;
-    write_out(writer, &bytes).map_err(Fault::WriteFault)
+    let mut buffer = zeros(alloc, BUFFER_PAGES * PAGE_BYTES)?;
+    write_pages(writer, &volume.pages, &mut buffer).map_err(Fault::WriteFault)
 }
 
-/// The bytes of a volume.
-fn bytes_of(alloc: Global, pages: &[Page]) -> Result<Vec<u8>, AllocError>
-    ensures { IfOk result (λ bytes. bytes.items ≡ volume_bytes pages.now) }
+/// Writes the bytes of the pages, a buffer at a time. At `Err` so many of them went out.
+fn write_pages<W: Write>(writer: &mut W, pages: &[Page], buffer: &mut [u8]) -> Result<(), u64>
+    requires { 512 ≤ length buffer.old }
+    ensures ok { OnOk result (Appends (W.contents writer.old) (W.contents writer.new) (volume_bytes pages.now)) }
+    ensures within { IfErr result (λ done. done ≤ length (volume_bytes pages.now)) }
+    ensures err { IfErr result (λ done. Appends (W.contents writer.old) (W.contents writer.new) (take done (volume_bytes pages.now))) }
 {
-    let mut bytes = Vec::with_capacity(alloc, PAGE_BYTES.saturating_mul(pages.len()))?;
-    for page in pages {
-        bytes.extend_from_slice(&page.to_bytes())?;
+    let group = buffer.len() / PAGE_BYTES;
+    let mut first = 0;
+    let mut done = 0;
+    while first < pages.len() {
+        let count = group.min(pages.len() - first);
+        let filled = put_pages(buffer, &pages[first..first + count]);
+        if let Err(part) = write_out(writer, &buffer[..filled]) {
+            return Err(done + part);
+        }
+        done += filled as u64;
+        first += count;
     }
-    Ok(bytes)
+    Ok(())
+}
+
+/// Puts the bytes of the pages at the front of the buffer, and answers how many they are.
+fn put_pages(buffer: &mut [u8], pages: &[Page]) -> usize
+    requires { 512 * length pages.now ≤ length buffer.old }
+    ensures count { result ≡ length (volume_bytes pages.now) }
+    ensures pages { result ≡ 512 * length pages.now }
+    ensures bytes { take result buffer.new ≡ volume_bytes pages.now }
+{
+    for (i, page) in pages.iter().enumerate() {
+        let at = PAGE_BYTES * i;
+        buffer[at..at + PAGE_BYTES].copy_from_slice(&page.to_bytes());
+    }
+    PAGE_BYTES * pages.len()
+}
+
+fn zeros(alloc: Global, count: usize) -> Result<Vec<u8>, AllocError>
+    requires { 512 ≤ count }
+    ensures { IfOk result (λ bytes. 512 ≤ vec_len bytes) }
+{
+    vec![in alloc; 0; count]
 }
 
 /// Writes all of the bytes. At `Err` so many of them went out.
