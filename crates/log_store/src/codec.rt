@@ -25,38 +25,50 @@ pub fn decode(bytes: &[u8; RECORD_BYTES], at: Lsn) -> Option<Record>
 {
     let fields = Fields::read(bytes);
     let record = record_of(&fields)?;
-    if record.lsn() == at && is_record(&record) && has_fields(&record, &fields) {
+    if record.lsn() == at {
         Some(record)
     } else {
         None
     }
 }
 
-fn has_fields(record: &Record, fields: &Fields) -> bool
-    ensures { IsTrue result ↔ (fields_of «record».now ≡ fields.now) }
-{
-    Fields::of(record) == *fields
-}
-
-/// The only record that may have these numbers.
+/// The record that has these numbers, if one does.
 fn record_of(fields: &Fields) -> Option<Record>
-    ensures { (r : Record) → fields_of r ≡ fields.now → result ≡ Some r }
+    ensures found { IfSome result (λ r. IsRecord r × (fields_of r ≡ fields.now)) }
+    ensures only { (r : Record) → IsRecord r → fields_of r ≡ fields.now → result ≡ Some r }
 {
     let lsn = Lsn(fields.lsn);
     let txn = TxnNo(fields.txn);
     let prev = Lsn(fields.prev);
     match fields.kind {
-        BEGIN => Some(Record::Begin { lsn, txn }),
-        UPDATE => Some(Record::Update {
-            lsn,
-            txn,
-            prev,
-            page: PageNo(fields.page),
-            slot: SlotNo(fields.slot),
-            change: change_of(fields)?,
-        }),
-        COMMIT => Some(Record::Commit { lsn, txn, prev }),
+        BEGIN => if_spelled(Record::Begin { lsn, txn }, fields),
+        UPDATE => {
+            let update = Record::Update {
+                lsn,
+                txn,
+                prev,
+                page: PageNo(fields.page),
+                slot: SlotNo(fields.slot),
+                change: change_of(fields)?,
+            };
+            if_spelled(update, fields)
+        }
+        COMMIT => if_spelled(Record::Commit { lsn, txn, prev }, fields),
         _ => None,
+    }
+}
+
+/// The record, if a log may have it and it has just these numbers. Asked of each kind by itself, most of this is known
+/// when the program is compiled.
+#[inline(always)]
+fn if_spelled(record: Record, fields: &Fields) -> Option<Record>
+    ensures found { IfSome result (λ r. (r ≡ «record») × IsRecord r × (fields_of r ≡ fields.now)) }
+    ensures only { IsRecord «record» → fields_of «record» ≡ fields.now → result ≡ Some «record» }
+{
+    if is_record(&record) && Fields::of(&record) == *fields {
+        Some(record)
+    } else {
+        None
     }
 }
 
