@@ -1,6 +1,6 @@
 -- A volume that is written a group of pages after another.
 use Rattle.std.proofs.Common.{◌≡◌, ℕ, ◌+◌, ◌-◌, ◌≤◌, List, ◌++◌, length, take, drop, refl, sym, ap, ◌∙◌, arith}
-use Rattle.std.proofs.lemmas.List.{append_assoc, take-append-drop, take-append-le, take-take, drop-take, drop-drop, take_at, drop_at}
+use Rattle.std.proofs.lemmas.List.{append_assoc, take-append-drop, take-append-le, take_at, drop_at}
 use Rattle.std.proofs.lemmas.List.Concat.{flat_map-append}
 use Rattle.page_core.specs.declared.page.Page.{Page}
 use Rattle.page_core.specs.Page.{page_bytes, volume_bytes}

@@ -29,7 +29,7 @@ IsTakenBy words app = Names words app × (fault_of app words ≡ [])
 abbrev pub IsTaken : List Text → Type 0
 IsTaken words = Any (IsTakenBy words) apps
 
--- the words give this command, with the values that clap matches in them
+-- the words give this command
 abbrev pub Gives : List Text → Command → Type 0
 Gives words Redo = IsTakenBy words redo_app
 

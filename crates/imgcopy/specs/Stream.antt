@@ -1,5 +1,5 @@
 -- From the bytes of a log to the bytes of the volume that it makes.
-use Rattle.std.specs.Prelude.{ℕ, ◌≡◌, ◌≤◌, List, [], length, take, Option, Some, IfSome}
+use Rattle.std.specs.Prelude.{ℕ, ◌<◌, List, [], length, take, Option, IfSome}
 use Rattle.std.specs.Io.KnownBytes.{Appends, Keeps}
 use Rattle.page_core.specs.Page.{volume_bytes}
 use Rattle.log_store.specs.declared.fault.LogReadFault.{LogReadFault}
@@ -21,12 +21,12 @@ pub record WritesVolume (input old new : Option (List ℕ)) : Type 0 where
   pub read : IfSome input (SpellsLog made_of)
   pub written : Appends old new (volume_of made_of)
 
--- the input spells a log, and the first bytes of its volume were written, so many, and nothing else
+-- the input spells a log, and the first bytes of its volume were written, so many but not all, and nothing else
 pub record WritesPart (input old new : Option (List ℕ)) (done : ℕ) : Type 0 where
   pub made_of : Log
   pub valid : IsLog made_of
   pub read : IfSome input (SpellsLog made_of)
-  pub within : done ≤ length (volume_of made_of)
+  pub within : done < length (volume_of made_of)
   pub written : Appends old new (take done (volume_of made_of))
 
 -- nothing was written, and the fault is that of reading the log

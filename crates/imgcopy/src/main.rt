@@ -1,5 +1,8 @@
-//! Copies images of a paged database while it is in use, and restores what is lost.
+//! The program: its words, its input and output, and its status. `redo` is its one command so far.
 #![tactic(auto)]
+
+ghost use Rattle.std.specs.Prelude.{◌≡◌, IfErr, OnOk};
+ghost use Rattle.std.specs.Process.{exit_status};
 
 mod command;
 mod fault;
@@ -7,6 +10,7 @@ mod stream;
 
 use command::{Command, command_of};
 use fault::Fault;
+use std::io::ErrorKind;
 use std::process::ExitCode;
 use std::rt::Env;
 use std::{env, io};
@@ -18,11 +22,7 @@ const FAULT_STATUS: u8 = 2;
 fn main(rt: HostRuntime) -> ExitCode {
     let words = match words_of(&rt) {
         Ok(words) => words,
-        Err(error) => {
-            // Where even this line cannot be written, the status still tells.
-            let _ = rt.eprintln(&error);
-            return ExitCode::from(FAULT_STATUS);
-        }
+        Err(error) => return status_of_words(&rt, &error),
     };
     match command_of(rt.alloc(), words.as_slice()) {
         Ok(Command::Redo) => {
@@ -42,8 +42,23 @@ fn words_of(rt: &(impl Env + AllocGlobal)) -> io::Result<Vec<String>> {
     Ok(words)
 }
 
+/// Tells on standard error why there are no words, and answers the program's status.
+fn status_of_words(rt: &impl Eprint, error: &io::Error) -> ExitCode
+    ensures { exit_status result ≡ 2 }
+{
+    // Where even this line cannot be written, the status still tells.
+    let _ = match error.kind() {
+        ErrorKind::OutOfMemory => rt.eprintln(&Fault::OutOfMemory),
+        _ => rt.eprintln(&"error: the words of the command line cannot be read"),
+    };
+    ExitCode::from(FAULT_STATUS)
+}
+
 /// Tells a fault on standard error, and answers the program's status.
-fn status_of(rt: &impl Eprint, done: Result<(), Fault>) -> ExitCode {
+fn status_of(rt: &impl Eprint, done: Result<(), Fault>) -> ExitCode
+    ensures done { OnOk done (exit_status result ≡ 0) }
+    ensures fault { IfErr done (λ _. exit_status result ≡ 2) }
+{
     match done {
         Ok(()) => ExitCode::SUCCESS,
         Err(fault) => {

@@ -1,7 +1,7 @@
 //! From the bytes of a log to the bytes of the volume that it makes.
 
-ghost use Rattle.std.specs.Prelude.{◌≡◌, ◌*◌, ◌≤◌, length, vec_len, take, IfOk, IfErr, OnOk};
-ghost use Rattle.std.specs.Io.KnownBytes.{Appends};
+ghost use Rattle.std.specs.Prelude.{◌≡◌, ◌*◌, ◌<◌, ◌≤◌, length, vec_len, take, IfOk, IfErr, OnOk};
+ghost use Rattle.std.specs.Io.KnownBytes.{Appends, IsAtEnd};
 ghost use Rattle.page_core.specs.Page.{volume_bytes};
 ghost use Rattle.imgcopy.specs.Stream.{WritesVolume, Leaves, FailedUnread};
 
@@ -20,12 +20,17 @@ const BUFFER_PAGES: usize = 512;
 
 /// Reads a log to its end, and writes the volume that it makes of formatted pages. Nothing is written before the log is
 /// read whole and found right.
+///
+/// The faults of reading are those of `scan_log`. `WriteFault` comes where the writer fails, takes nothing, or is
+/// interrupted 17 times in a row. The writer is not flushed.
 pub fn redo_stream<R: Read, W: Write>(
     alloc: Global,
     reader: &mut R,
     writer: &mut W,
 ) -> Result<(), Fault>
-    ensures ok { OnOk result (WritesVolume (R.remaining reader.old) (W.contents writer.old) (W.contents writer.new)) }
+    ensures ok { OnOk result
+        (WritesVolume (R.remaining reader.old) (W.contents writer.old) (W.contents writer.new)) }
+    ensures end { OnOk result (IsAtEnd (R.remaining reader.new)) }
     ensures err { IfErr result (Leaves (R.remaining reader.old) (W.contents writer.old) (W.contents writer.new)) }
     // Where the reader failed, what it gave until then holds no fault.
     ensures unread { result ≡ Err Fault.ReadFault → FailedUnread (R.remaining reader.old) (R.remaining reader.new) }
@@ -39,7 +44,7 @@ pub fn redo_stream<R: Read, W: Write>(
 fn write_pages<W: Write>(writer: &mut W, pages: &[Page], buffer: &mut [u8]) -> Result<(), u64>
     requires { 512 ≤ length buffer.old }
     ensures ok { OnOk result (Appends (W.contents writer.old) (W.contents writer.new) (volume_bytes pages.now)) }
-    ensures within { IfErr result (λ done. done ≤ length (volume_bytes pages.now)) }
+    ensures within { IfErr result (λ done. done < length (volume_bytes pages.now)) }
     ensures err { IfErr result (λ done. Appends (W.contents writer.old) (W.contents writer.new) (take done (volume_bytes pages.now))) }
 {
     let group = buffer.len() / PAGE_BYTES;
@@ -81,7 +86,7 @@ fn zeros(alloc: Global, count: usize) -> Result<Vec<u8>, AllocError>
 /// Writes all of the bytes. At `Err` so many of them went out.
 fn write_out<W: Write>(writer: &mut W, bytes: &[u8]) -> Result<(), u64>
     ensures ok { OnOk result (Appends (W.contents writer.old) (W.contents writer.new) bytes.now) }
-    ensures within { IfErr result (λ done. done ≤ length bytes.now) }
+    ensures within { IfErr result (λ done. done < length bytes.now) }
     ensures err { IfErr result (λ done. Appends (W.contents writer.old) (W.contents writer.new) (take done bytes.now)) }
 {
     let mut done = 0;

@@ -1,14 +1,14 @@
 -- Which fault is the first.
-use Rattle.std.proofs.Common.{◌≡◌, ℕ, ◌+◌, ◌-◌, ◌*◌, ◌/◌, ◌%◌, ◌<◌, ◌≤◌, List, [], ◌∷◌, ◌≢◌, length, get_or, take, min, refl, sym, ap, subst, ◌∙◌, arith, inl, inr}
+use Rattle.std.proofs.Common.{◌≡◌, ℕ, ◌+◌, ◌-◌, ◌*◌, ◌/◌, ◌%◌, ◌<◌, ◌≤◌, List, [], ◌∷◌, ◌≢◌, length, get_or, take, refl, sym, ap, subst, ◌∙◌, arith, inl, inr}
 use Rattle.std.specs.Prelude.{slice_range}
 use Rattle.std.proofs.lemmas.Bool.{cases_lt}
 use Rattle.log_store.specs.declared.fault.LogReadFault.{LogReadFault}
 use Rattle.log_store.specs.declared.fault.LogReadFault.TheVariants.{OutOfMemory, BadHeader, BadRecord, Torn, ReadFault, TooLong}
 use Rattle.log_store.specs.declared.record.Record.{Record}
 use Rattle.log_store.specs.Record.{record_bytes}
-use Rattle.log_store.specs.Log.{Log, IsPageCount, StandsAt, SpellsLog, HasHeader, AreFirst, header_bytes, lsn_of, whole_records}
-use Rattle.log_store.specs.Fault.{IsPlace, IsHeader, HasRecord, HasFault, IsFirstFault, IsFaultOf, offset_of, pages_in, longest}
-use Rattle.log_store.proofs.Logs.{pages_in-header, length-log, header_of_log, record_of_log}
+use Rattle.log_store.specs.Log.{Log, StandsAt, SpellsLog, HasHeader, lsn_of}
+use Rattle.log_store.specs.Fault.{IsPlace, IsHeader, HasRecord, HasFault, IsFirstFault, offset_of, pages_in, longest}
+use Rattle.log_store.proofs.Logs.{AreFirst, whole_records, pages_in-header, length-log, header_of_log, record_of_log}
 
 -- a record that stands at an LSN, as a fault's absence says it
 pub has_record : (pages : ℕ) (bytes : List ℕ) → HasHeader pages bytes → (i : ℕ) (r : Record) → StandsAt pages (lsn_of i) r
@@ -134,11 +134,3 @@ none_in_log log bytes spells (BadRecord at) h = h.2 (log_has log bytes spells at
 none_in_log log bytes spells (Torn at) h =
     let h1 = h.0.aligned in let h2 = h.1 in let h3 = h.2 in omega (arith, length-log log bytes spells)
 none_in_log log bytes spells TooLong h = omega (arith, length-log log bytes spells, spells.valid.count)
-
-pub only_memory : (log : Log) (bytes : List ℕ) → SpellsLog log bytes → (fault : LogReadFault) → IsFaultOf bytes fault → fault ≡ OutOfMemory
-only_memory log bytes spells OutOfMemory h = refl
-only_memory log bytes spells ReadFault h = absurd h
-only_memory log bytes spells BadHeader h = absurd (none_in_log log bytes spells BadHeader h.there)
-only_memory log bytes spells (BadRecord at) h = absurd (none_in_log log bytes spells (BadRecord at) h.there)
-only_memory log bytes spells (Torn at) h = absurd (none_in_log log bytes spells (Torn at) h.there)
-only_memory log bytes spells TooLong h = absurd (none_in_log log bytes spells TooLong h.there)

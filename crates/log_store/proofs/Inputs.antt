@@ -1,5 +1,5 @@
 -- What a fault of the bytes so far says of the whole input.
-use Rattle.std.proofs.Common.{◌≡◌, ℕ, ◌+◌, ◌-◌, ◌<◌, ◌≤◌, List, [], ◌++◌, length, take, drop, refl, sym, ap, subst, ◌∙◌, arith, inl, inr}
+use Rattle.std.proofs.Common.{◌≡◌, ℕ, ◌+◌, ◌-◌, ◌<◌, ◌≤◌, List, [], ◌++◌, length, take, drop, sym, ap, subst, ◌∙◌, arith, inl, inr}
 use Rattle.std.proofs.lemmas.Bool.{cases_lt}
 use Rattle.std.specs.Prelude.{slice_range, Option, Some, None, IfSome}
 use Rattle.std.specs.Int.{w32, from_le_bytes}
@@ -7,10 +7,8 @@ use Rattle.std.specs.Io.KnownBytes.{Consumes, IsAtEnd}
 use Rattle.std.proofs.lemmas.List.{take-append-le, drop-append-le, length-append, length-drop, length-take, append-nil}
 use Rattle.log_store.specs.declared.fault.LogReadFault.{LogReadFault}
 use Rattle.log_store.specs.declared.fault.LogReadFault.TheVariants.{OutOfMemory, BadHeader, BadRecord, Torn, ReadFault, TooLong}
-use Rattle.log_store.specs.declared.record.Record.{Record}
-use Rattle.log_store.specs.Record.{record_bytes}
 use Rattle.log_store.specs.Log.{Log, SpellsLog, StandsAt}
-use Rattle.log_store.specs.Fault.{IsPlace, IsHeader, HasRecord, HasFault, IsFirstFault, IsFaultOf, IsHeld, HoldsNoFault, Refuses, IsOutside, offset_of, pages_in, longest}
+use Rattle.log_store.specs.Fault.{IsPlace, IsHeader, HasRecord, HasFault, IsFirstFault, IsHeld, HoldsNoFault, Refuses, IsOutside, offset_of, pages_in, longest}
 use Rattle.log_store.proofs.Logs.{length-header_bytes}
 use Rattle.log_store.proofs.Faults.{none_in_log, first_header}
 
@@ -84,6 +82,15 @@ goes_on_too_long given rest h =
       first = comes_later given rest longest (omega arith) (omega arith) (omega arith) h.first
           (λ other other_place lt. let a = other_place.aligned in omega arith);
     }
+
+-- a fault is out of memory, or the first one of the bytes
+abbrev pub IsFaultOf : List ℕ → LogReadFault → Type 0
+IsFaultOf bytes OutOfMemory = Unit {0}
+IsFaultOf bytes ReadFault = ⊥
+IsFaultOf bytes BadHeader = IsFirstFault bytes BadHeader
+IsFaultOf bytes (BadRecord at) = IsFirstFault bytes (BadRecord at)
+IsFaultOf bytes (Torn at) = IsFirstFault bytes (Torn at)
+IsFaultOf bytes TooLong = IsFirstFault bytes TooLong
 
 pub refuses_more : (given rest : List ℕ) (fault : LogReadFault) → IsFaultOf given fault → IsHeld given fault → Refuses (given ++ rest) fault
 refuses_more given rest OutOfMemory h held = tt

@@ -1,16 +1,30 @@
 -- The bytes of a log: its header, and its records one after another.
-use Rattle.std.proofs.Common.{◌≡◌, ℕ, ◌+◌, ◌-◌, ◌*◌, ◌/◌, ◌%◌, ◌<◌, ◌≤◌, ◌^◌, List, [], ◌∷◌, ◌++◌, length, get_or, take, drop, min, refl, sym, ap, ◌∙◌, arith, below_more}
-use Rattle.std.specs.Prelude.{slice_range}
+use Rattle.std.proofs.Common.{◌≡◌, ℕ, ◌+◌, ◌-◌, ◌*◌, ◌/◌, ◌<◌, ◌≤◌, List, length, get_or, take, drop, min, refl, sym, ap, ◌∙◌, arith}
+use Rattle.std.specs.Prelude.{slice_range, slice_index_or}
 use Rattle.std.specs.Int.{w32, to_le_bytes, from_le_bytes}
 use Rattle.std.specs.List.{flat_map}
-use Rattle.std.proofs.lemmas.List.{take_at, drop_at, take-append-drop, take-take, drop-take, drop-drop, length-append, length-drop, length_push, get_or_append_left, get_or_push, same_lists}
+use Rattle.std.proofs.lemmas.List.{take_at, drop_at, take-take, drop-take, drop-drop, length-append, same_lists}
 use Rattle.std.proofs.lemmas.Nat.{from_le_bytes-to_le_bytes_4}
-use Rattle.page_core.specs.Pieces.{length-pieces, take-drop-pieces, pieces_are}
+use Rattle.page_core.specs.Pieces.{length-pieces, take-drop-pieces}
 use Rattle.log_store.specs.declared.record.Record.{Record}
-use Rattle.log_store.specs.Record.{IsRecord, record_bytes}
-use Rattle.log_store.specs.Log.{Log, IsPageCount, IsLog, StandsAt, SpellsLog, HasHeader, AreFirst, header_bytes, log_bytes, lsn_of}
+use Rattle.log_store.specs.Record.{record_bytes}
+use Rattle.log_store.specs.Log.{Log, StandsAt, SpellsLog, header_bytes, lsn_of}
 use Rattle.log_store.specs.Fault.{pages_in}
 use Rattle.log_store.proofs.Records.{record_length, same_record}
+
+-- ---- the first records of some bytes
+
+-- how many whole records stand behind the header, of those that a log may have
+abbrev pub whole_records : List ℕ → ℕ
+whole_records bytes = min (length bytes / 64 - 1) 1048576
+
+-- these are the first n records behind the header
+pub record AreFirst (n pages : ℕ) (bytes : List ℕ) (rs : List Record) : Type 0 where
+  pub count : length rs ≡ n
+  pub each : (i : ℕ) (d : Record) → i < n → StandsAt pages (lsn_of i) (slice_index_or rs i d)
+  pub spelled : (i : ℕ) (d : Record) → i < n → slice_range bytes (lsn_of i) (lsn_of i + 64) ≡ record_bytes (slice_index_or rs i d)
+
+-- ---- the header
 
 pub length-header_bytes : (pages : ℕ) → length (header_bytes pages) ≡ 64
 unfolding header_bytes
@@ -28,35 +42,6 @@ pub pages_in-header : (pages : ℕ) (bytes : List ℕ) → pages ≤ 65536 → t
 pages_in-header pages bytes few e =
     ap (from_le_bytes w32) (sym (in_header bytes) ∙ ap (λ (bs : List ℕ). slice_range bs 8 12) e ∙ pages_at pages)
     ∙ from_le_bytes-to_le_bytes_4 pages (omega arith)
-
--- one record more
-pub first-more : (i pages : ℕ) (bytes : List ℕ) (rs : List Record) (r : Record) → AreFirst i pages bytes rs → StandsAt pages (lsn_of i) r
-    → slice_range bytes (lsn_of i) (lsn_of i + 64) ≡ record_bytes r → AreFirst (i + 1) pages bytes (rs ++ r ∷ [])
-first-more i pages bytes rs r first stands spelled = record {
-  count = length_push rs r ∙ ap (λ n. n + 1) first.count;
-  each = λ k d. below_more (λ n. StandsAt pages (lsn_of n) (get_or (rs ++ r ∷ []) n d)) i
-      (λ n lt. rw (get_or_append_left rs (r ∷ []) d n (omega (arith, first.count))) (first.each n d lt))
-      (rw (get_or_push rs r d i first.count) stands) k;
-  spelled = λ k d. below_more (λ n. slice_range bytes (lsn_of n) (lsn_of n + 64) ≡ record_bytes (get_or (rs ++ r ∷ []) n d)) i
-      (λ n lt. rw (get_or_append_left rs (r ∷ []) d n (omega (arith, first.count))) (first.spelled n d lt))
-      (rw (get_or_push rs r d i first.count) spelled) k;
-}
-
--- header and records that are all of the bytes make the log
-pub all_first : (n pages : ℕ) (bytes : List ℕ) (rs : List Record) → HasHeader pages bytes → AreFirst n pages bytes rs → length bytes ≡ 64 * (n + 1) → n ≤ 1048576
-    → SpellsLog (record { pages = pages; records = rs }) bytes
-all_first n pages bytes rs header first len few =
-    let behind : drop 64 bytes ≡ flat_map record_bytes rs =
-    pieces_are record_bytes 64 record_length rs (drop 64 bytes) (omega (arith, length-drop 64 bytes, first.count)) (λ i d lt.
-    let below : i < n = omega (arith, first.count) in
-    let place : 64 + 64 * i ≡ lsn_of i = omega arith in
-    let wide : lsn_of i + 64 - lsn_of i ≡ 64 = omega arith in
-    ap (take 64) (drop-drop (64 * i) 64 bytes ∙ ap (λ k. drop k bytes) place)
-    ∙ ap (λ k. take k (drop (lsn_of i) bytes)) (sym wide) ∙ first.spelled i d below) in
-    record {
-      valid = record { pages = header.count; count = omega (arith, first.count); records = λ i d lt. first.each i d (omega (arith, first.count)) };
-      spelled = sym (take-append-drop 64 bytes) ∙ ap (λ (front : List ℕ). front ++ drop 64 bytes) header.spelled ∙ ap (λ (rest : List ℕ). header_bytes pages ++ rest) behind;
-    }
 
 -- ---- what a log's spelling has
 

@@ -1,8 +1,7 @@
 -- A log that is read record by record.
-use Rattle.std.proofs.Common.{◌≡◌, ℕ, ◌+◌, ◌-◌, ◌*◌, ◌/◌, ◌<◌, ◌≤◌, List, [], ◌∷◌, ◌++◌, length, get_or, take, drop, min, refl, sym, ap, subst, ◌∙◌, arith, below_more, inl, inr}
+use Rattle.std.proofs.Common.{◌≡◌, ℕ, ◌+◌, ◌-◌, ◌*◌, ◌<◌, ◌≤◌, List, [], ◌∷◌, ◌++◌, length, get_or, take, drop, refl, sym, ap, subst, ◌∙◌, arith, below_more, inl, inr}
 use Rattle.std.specs.Prelude.{slice_range}
-use Rattle.std.specs.List.{flat_map}
-use Rattle.std.specs.Prelude.{Option, Some, None, IfSome, Result, Ok, Err, IfErr}
+use Rattle.std.specs.Prelude.{Option, Some, None, IfSome, Result, Ok, Err, IfErr, OnOk}
 use Rattle.std.specs.Io.KnownBytes.{Consumes, IsAtEnd}
 use Rattle.std.proofs.lemmas.Bool.{cases_lt}
 use Rattle.std.proofs.lemmas.List.{append_assoc, append-nil, nil_from_length, take-append-le, take_at, drop_at, length-append, length_push, get_or_append_left, get_or_push, flat_map_more}
@@ -11,10 +10,10 @@ use Rattle.log_store.specs.declared.fault.LogReadFault.{LogReadFault}
 use Rattle.log_store.specs.declared.fault.LogReadFault.TheVariants.{OutOfMemory, BadHeader, BadRecord, Torn, ReadFault, TooLong}
 use Rattle.log_store.specs.declared.record.Record.{Record}
 use Rattle.log_store.specs.Record.{record_bytes}
-use Rattle.log_store.specs.Log.{Log, IsLog, StandsAt, SpellsLog, HasHeader, AreFirst, header_bytes, log_bytes, lsn_of, whole_records}
-use Rattle.log_store.specs.Fault.{IsFirstFault, Refuses, HoldsNoFault, GaveNoFault, longest}
-use Rattle.log_store.specs.Scan.{IsNext, with_next, HasTaken}
-use Rattle.log_store.proofs.Logs.{length-log, header_of_log, record_of_log}
+use Rattle.log_store.specs.Log.{Log, IsLog, StandsAt, SpellsLog, HasHeader, header_bytes, log_bytes, lsn_of}
+use Rattle.log_store.specs.Fault.{IsFirstFault, Refuses, HoldsNoFault, GaveNoFault}
+use Rattle.log_store.specs.Scan.{with_next, HasRead, HasTaken}
+use Rattle.log_store.proofs.Logs.{AreFirst, whole_records, length-log, header_of_log, record_of_log}
 use Rattle.log_store.proofs.Faults.{first_record, first_too_long, first_torn}
 use Rattle.log_store.proofs.Inputs.{range_in, refuses_all, none_held, none_in_read, of_input}
 
@@ -43,7 +42,7 @@ next_range log given unit rest spells wide =
     let sixty_four : at + 64 - at ≡ 64 = omega arith in
     ap (λ n. take n (drop at (given ++ (unit ++ rest)))) sixty_four ∙ ap (take 64) (drop_at given (unit ++ rest) at end) ∙ take_at unit rest 64 wide
 
-pub too_long : (log : Log) (given more : List ℕ) → SpellsLog log given → 1048576 ≤ length log.records → 0 < length more → IsFirstFault (given ++ more) TooLong
+too_long : (log : Log) (given more : List ℕ) → SpellsLog log given → 1048576 ≤ length log.records → 0 < length more → IsFirstFault (given ++ more) TooLong
 too_long log given more spells full some =
     let all : length log.records ≡ whole_records (given ++ more) =
     let few = spells.valid.count in omega (arith, length-log log given spells, length-append given more) in
@@ -51,7 +50,7 @@ too_long log given more spells full some =
     (subst (λ n. AreFirst n log.pages (given ++ more) log.records) all (first_goes_on log given more spells))
     (omega (arith, length-log log given spells, length-append given more))
 
-pub bad_record : (log : Log) (given unit rest : List ℕ) → SpellsLog log given → length log.records < 1048576 → length unit ≡ 64
+bad_record : (log : Log) (given unit rest : List ℕ) → SpellsLog log given → length log.records < 1048576 → length unit ≡ 64
     → ((r : Record) → StandsAt log.pages (lsn_of (length log.records)) r → unit ≡ record_bytes r → ⊥)
     → IsFirstFault (given ++ (unit ++ rest)) (BadRecord (lsn_of (length log.records)))
 bad_record log given unit rest spells few wide none =
@@ -62,20 +61,71 @@ bad_record log given unit rest spells few wide none =
 
 -- ---- one record more
 
-pub valid_next : (log : Log) (r : Record) → IsLog log → IsNext log r → IsLog (with_next log r)
-valid_next log r valid next = record {
+valid_next : (log : Log) (r : Record) → IsLog log → length log.records < 1048576 → StandsAt log.pages (lsn_of (length log.records)) r → IsLog (with_next log (r ∷ []))
+valid_next log r valid few stands = record {
   pages = valid.pages;
-  count = let few = next.few in omega (arith, length_push log.records r);
+  count = omega (arith, length_push log.records r);
   records = λ i d lt. below_more (λ n. StandsAt log.pages (lsn_of n) (get_or (log.records ++ r ∷ []) n d)) (length log.records)
       (λ n below. rw (get_or_append_left log.records (r ∷ []) d n below) (valid.records n d below))
-      (rw (get_or_push log.records r d (length log.records) refl) next.stands) i (omega (arith, length_push log.records r));
+      (rw (get_or_push log.records r d (length log.records) refl) stands) i (omega (arith, length_push log.records r));
 }
 
-pub spells_next : (log : Log) (r : Record) (given unit : List ℕ) → SpellsLog log given → IsNext log r → unit ≡ record_bytes r → SpellsLog (with_next log r) (given ++ unit)
-spells_next log r given unit spells next e = record {
-  valid = valid_next log r spells.valid next;
+spells_next : (log : Log) (r : Record) (given unit : List ℕ) → SpellsLog log given → length log.records < 1048576
+    → StandsAt log.pages (lsn_of (length log.records)) r → unit ≡ record_bytes r → SpellsLog (with_next log (r ∷ [])) (given ++ unit)
+spells_next log r given unit spells few stands e = record {
+  valid = valid_next log r spells.valid few stands;
   spelled = ap (λ (front : List ℕ). front ++ unit) spells.spelled ∙ ap (λ (end : List ℕ). log_bytes log ++ end) e
       ∙ flat_map_more record_bytes (header_bytes log.pages) log.records r;
+}
+
+-- ---- the records that were read since the sink took some
+
+pub read_none : (log : Log) (pages count : ℕ) (given : List ℕ) → SpellsLog log given → log.pages ≡ pages → length log.records ≡ count
+    → HasRead log [] pages count given
+read_none log pages count given spells pages_are count_is = record {
+  spells = subst (λ (all : List Record). SpellsLog (record log { records = all }) given) (sym (append-nil log.records)) spells;
+  pages_are = pages_are;
+  count_is = omega (arith, count_is);
+}
+
+pub read_next : (log : Log) (rs : List Record) (r : Record) (pages count : ℕ) (given unit : List ℕ) → HasRead log rs pages count given → count < 1048576
+    → StandsAt pages (64 * (count + 1)) r → unit ≡ record_bytes r → HasRead log (rs ++ r ∷ []) pages (count + 1) (given ++ unit)
+read_next log rs r pages count given unit read few stands e =
+    let so_far = with_next log rs in
+    let long : length so_far.records ≡ count = length-append log.records rs ∙ read.count_is in
+    let place : 64 * (count + 1) ≡ lsn_of (length so_far.records) = omega (arith, long) in
+    record {
+      spells = subst (λ (all : List Record). SpellsLog (record log { records = all }) (given ++ unit)) (append_assoc log.records rs (r ∷ []))
+          (spells_next so_far r given unit read.spells (omega (arith, long))
+          (subst (λ (n : ℕ). StandsAt n (lsn_of (length so_far.records)) r) (sym read.pages_are) (subst (λ (n : ℕ). StandsAt pages n r) place stands)) e);
+      pages_are = read.pages_are;
+      count_is = omega (arith, length_push rs r, read.count_is);
+    }
+
+pub read_too_long : (log : Log) (rs : List Record) (pages count : ℕ) (given more : List ℕ) → HasRead log rs pages count given → 1048576 ≤ count
+    → 0 < length more → IsFirstFault (given ++ more) TooLong
+read_too_long log rs pages count given more read full some =
+    too_long (with_next log rs) given more read.spells (omega (arith, length-append log.records rs, read.count_is)) some
+
+pub read_bad_record : (log : Log) (rs : List Record) (pages count : ℕ) (given unit rest : List ℕ) → HasRead log rs pages count given → count < 1048576
+    → length unit ≡ 64 → ((r : Record) → StandsAt pages (64 * (count + 1)) r → unit ≡ record_bytes r → ⊥)
+    → IsFirstFault (given ++ (unit ++ rest)) (BadRecord (64 * (count + 1)))
+read_bad_record log rs pages count given unit rest read few wide none =
+    let so_far = with_next log rs in
+    let long : length so_far.records ≡ count = length-append log.records rs ∙ read.count_is in
+    let place : lsn_of (length so_far.records) ≡ 64 * (count + 1) = omega (arith, long) in
+    subst (λ (n : ℕ). IsFirstFault (given ++ (unit ++ rest)) (BadRecord n)) place
+    (bad_record so_far given unit rest read.spells (omega (arith, long)) wide
+    (λ r stands e. none r (subst (λ (n : ℕ). StandsAt n (64 * (count + 1)) r) read.pages_are (subst (λ (n : ℕ). StandsAt log.pages n r) place stands)) e))
+
+pub taken_next : {S : Type 0} (holds : S → Log → Type 0) (sink : S) (log : Log) (rs : List Record) (pages count : ℕ) (given : List ℕ)
+    → HasRead log rs pages count given → holds sink (with_next log rs) → HasTaken holds sink pages count given
+taken_next holds sink log rs pages count given read held = record {
+  log = with_next log rs;
+  held = held;
+  spells = read.spells;
+  pages_are = read.pages_are;
+  count_is = length-append log.records rs ∙ read.count_is;
 }
 
 -- ---- what follows the whole records
@@ -129,6 +179,10 @@ regrouped header read pending rest P h = subst P (regroup header read pending re
 pub if_err : {T E : Type 0} (r : Result T E) (P Q : E → Type 0) → ((e : E) → P e → Q e) → IfErr r P → IfErr r Q
 if_err (Ok x) P Q step h = tt
 if_err (Err e) P Q step h = step e h
+
+pub on_ok : {T E : Type 0} (r : Result T E) (P Q : Type 0) → (P → Q) → OnOk r P → OnOk r Q
+on_ok (Ok x) P Q step h = step h
+on_ok (Err e) P Q step h = tt
 
 -- ---- the header and what follows it
 

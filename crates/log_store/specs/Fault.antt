@@ -1,12 +1,13 @@
 -- What may be wrong with the bytes of a log, and which fault is the first.
-use Rattle.std.specs.Prelude.{ℕ, ◌≡◌, ◌+◌, ◌*◌, ◌%◌, ◌<◌, ◌≤◌, List, length, take, slice_range, ◌++◌, Option}
+use Rattle.std.specs.Prelude.{ℕ, ◌≡◌, ◌+◌, ◌%◌, ◌<◌, ◌≤◌, List, length, take, slice_range, ◌++◌, Option, codes}
 use Rattle.std.specs.Io.KnownBytes.{Consumes}
 use Rattle.std.specs.Int.{w32, from_le_bytes}
+use Rattle.std.specs.Fmt.{decimal}
 use Rattle.log_store.specs.declared.fault.LogReadFault.{LogReadFault}
 use Rattle.log_store.specs.declared.fault.LogReadFault.TheVariants.{OutOfMemory, BadHeader, BadRecord, Torn, ReadFault, TooLong}
 use Rattle.log_store.specs.declared.record.Record.{Record}
 use Rattle.log_store.specs.Record.{record_bytes}
-use Rattle.log_store.specs.Log.{Log, IsPageCount, StandsAt, SpellsLog, header_bytes}
+use Rattle.log_store.specs.Log.{IsPageCount, StandsAt, header_bytes}
 
 -- the bytes of the longest log: its header and 1,048,576 records
 abbrev pub longest : ℕ
@@ -66,15 +67,6 @@ IsHeld given TooLong = Unit {0}
 abbrev pub HoldsNoFault : List ℕ → Type 0
 HoldsNoFault given = (fault : LogReadFault) → IsHeld given fault → ¬ HasFault given fault
 
--- a fault is out of memory, or the first one of the bytes
-abbrev pub IsFaultOf : List ℕ → LogReadFault → Type 0
-IsFaultOf bytes OutOfMemory = Unit {0}
-IsFaultOf bytes ReadFault = ⊥
-IsFaultOf bytes BadHeader = IsFirstFault bytes BadHeader
-IsFaultOf bytes (BadRecord at) = IsFirstFault bytes (BadRecord at)
-IsFaultOf bytes (Torn at) = IsFirstFault bytes (Torn at)
-IsFaultOf bytes TooLong = IsFirstFault bytes TooLong
-
 -- what a refusal says of the input of a reader
 abbrev pub Refuses : List ℕ → LogReadFault → Type 0
 Refuses input OutOfMemory = Unit {0}
@@ -101,6 +93,15 @@ IsOutside BadHeader = ⊥
 IsOutside (BadRecord at) = ⊥
 IsOutside (Torn at) = ⊥
 IsOutside TooLong = ⊥
+
+-- what is printed of a fault
+abbrev pub text_of : LogReadFault → List ℕ
+text_of OutOfMemory = codes "out of memory"
+text_of BadHeader = codes "the log's header is misspelt"
+text_of (BadRecord at) = codes "the record at " ++ decimal at ++ codes " is misspelt"
+text_of (Torn at) = codes "the log ends within the record at " ++ decimal at
+text_of ReadFault = codes "the log could not be read"
+text_of TooLong = codes "bytes follow the last record that a log may have"
 
 -- any fault but the reader's
 abbrev pub IsNoReadFault : LogReadFault → Type 0

@@ -1,5 +1,5 @@
 -- A whole log, and its bytes.
-use Rattle.std.specs.Prelude.{ℕ, ◌≡◌, ◌+◌, ◌-◌, ◌*◌, ◌/◌, ◌<◌, ◌≤◌, min, List, length, ◌++◌, slice_index_or, slice_range, take, replicate, codes}
+use Rattle.std.specs.Prelude.{ℕ, ◌≡◌, ◌+◌, ◌*◌, ◌<◌, ◌≤◌, List, length, ◌++◌, slice_index_or, take, replicate, codes}
 use Rattle.std.specs.List.{flat_map}
 use Rattle.std.specs.Int.{w32, to_le_bytes}
 use Rattle.log_store.specs.declared.record.Record.{Record}
@@ -54,13 +54,3 @@ pub record HasHeader (pages : ℕ) (bytes : List ℕ) : Type 0 where
   pub count : IsPageCount pages
   pub long : 64 ≤ length bytes
   pub spelled : take 64 bytes ≡ header_bytes pages
-
--- how many whole records stand behind the header, of those that a log may have
-abbrev pub whole_records : List ℕ → ℕ
-whole_records bytes = min (length bytes / 64 - 1) 1048576
-
--- these are the first n records behind the header
-pub record AreFirst (n pages : ℕ) (bytes : List ℕ) (rs : List Record) : Type 0 where
-  pub count : length rs ≡ n
-  pub each : (i : ℕ) (d : Record) → i < n → StandsAt pages (lsn_of i) (slice_index_or rs i d)
-  pub spelled : (i : ℕ) (d : Record) → i < n → slice_range bytes (lsn_of i) (lsn_of i + 64) ≡ record_bytes (slice_index_or rs i d)

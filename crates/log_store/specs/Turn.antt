@@ -1,5 +1,5 @@
 -- What came of asking a reader for more bytes.
-use Rattle.std.specs.Prelude.{ℕ, ◌≡◌, ◌+◌, ◌≤◌, List, length, take, ◌++◌, Option}
+use Rattle.std.specs.Prelude.{ℕ, ◌+◌, ◌≤◌, List, length, take, ◌++◌, Option}
 use Rattle.std.specs.Io.KnownBytes.{Consumes, IsAtEnd}
 use Rattle.log_store.specs.declared.scan.Turn.{Turn}
 use Rattle.log_store.specs.declared.scan.Turn.TheVariants.{More, End, Failed}

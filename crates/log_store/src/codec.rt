@@ -1,15 +1,16 @@
 //! A record as bytes, and back.
 
 ghost use Rattle.std.specs.Prelude.{◌≡◌, ◌<◌, ◌↔◌, IfSome, Some, IsTrue};
-ghost use Rattle.page_core.specs.declared.change.Change.{Change};
 ghost use Rattle.log_store.specs.declared.record.Record.{Record};
-ghost use Rattle.log_store.specs.Fields.{fields_of, change_kind, before_of, after_of};
+ghost use Rattle.log_store.specs.declared.record.Record.TheVariants.{Update};
+ghost use Rattle.log_store.specs.Fields.{fields_of};
 ghost use Rattle.log_store.specs.Record.{own_lsn, IsLsn, IsTxn, IsBefore, IsChange, IsRecord, SpellsRecord, record_bytes};
 
 use crate::fields::{ADD, BEGIN, COMMIT, Fields, SET, UPDATE};
+use crate::log_image::MAX_PAGES;
 use crate::number::TxnNo;
 use crate::record::{RECORD_BYTES, Record};
-use page_core::{Change, Lsn, PageNo, SlotNo};
+use page_core::{Change, Lsn, PageNo, SLOTS, SlotNo};
 
 /// The bytes of a record.
 pub fn encode(record: &Record) -> [u8; RECORD_BYTES]
@@ -24,9 +25,8 @@ pub fn decode(bytes: &[u8; RECORD_BYTES], at: Lsn) -> Option<Record>
     ensures only { (r : Record) → own_lsn r ≡ at → SpellsRecord r bytes.now → result ≡ Some r }
 {
     let fields = Fields::read(bytes);
-    let record = record_of(&fields)?;
-    if record.lsn() == at {
-        Some(record)
+    if fields.lsn == at.0 {
+        record_of(&fields)
     } else {
         None
     }
@@ -40,26 +40,42 @@ fn record_of(fields: &Fields) -> Option<Record>
     let lsn = Lsn(fields.lsn);
     let txn = TxnNo(fields.txn);
     let prev = Lsn(fields.prev);
-    match fields.kind {
-        BEGIN => if_spelled(Record::Begin { lsn, txn }, fields),
-        UPDATE => {
-            let update = Record::Update {
-                lsn,
-                txn,
-                prev,
-                page: PageNo(fields.page),
-                slot: SlotNo(fields.slot),
-                change: change_of(fields)?,
+    match (fields.kind, fields.change) {
+        (BEGIN, _) => if_spelled(Record::Begin { lsn, txn }, fields),
+        (UPDATE, SET) => {
+            let change = Change::Set {
+                before: fields.before,
+                after: fields.after,
             };
-            if_spelled(update, fields)
+            if_spelled(update(fields, change), fields)
         }
-        COMMIT => if_spelled(Record::Commit { lsn, txn, prev }, fields),
+        (UPDATE, ADD) => {
+            let change = Change::Add {
+                amount: fields.after,
+            };
+            if_spelled(update(fields, change), fields)
+        }
+        (COMMIT, _) => if_spelled(Record::Commit { lsn, txn, prev }, fields),
         _ => None,
     }
 }
 
-/// The record, if a log may have it and it has just these numbers. Asked of each kind by itself, most of this is known
-/// when the program is compiled.
+/// An Update with this change and these numbers.
+fn update(fields: &Fields, change: Change) -> Record
+    ensures { result ≡ Update fields.now.lsn fields.now.txn fields.now.prev fields.now.page fields.now.slot change }
+{
+    Record::Update {
+        lsn: Lsn(fields.lsn),
+        txn: TxnNo(fields.txn),
+        prev: Lsn(fields.prev),
+        page: PageNo(fields.page),
+        slot: SlotNo(fields.slot),
+        change,
+    }
+}
+
+/// The record, if a log may have it and it has just these numbers. It is asked of each kind of record and of change by
+/// itself: then the compiler knows most of the numbers, and leaves out their comparison.
 #[inline(always)]
 fn if_spelled(record: Record, fields: &Fields) -> Option<Record>
     ensures found { IfSome result (λ r. (r ≡ «record») × IsRecord r × (fields_of r ≡ fields.now)) }
@@ -69,23 +85,6 @@ fn if_spelled(record: Record, fields: &Fields) -> Option<Record>
         Some(record)
     } else {
         None
-    }
-}
-
-/// The only change that may have these numbers.
-fn change_of(fields: &Fields) -> Option<Change>
-    ensures { (change : Change) → change_kind change ≡ fields.now.change → before_of change ≡ fields.now.before
-        → after_of change ≡ fields.now.after → result ≡ Some change }
-{
-    match fields.change {
-        SET => Some(Change::Set {
-            before: fields.before,
-            after: fields.after,
-        }),
-        ADD => Some(Change::Add {
-            amount: fields.after,
-        }),
-        _ => None,
     }
 }
 
@@ -127,11 +126,13 @@ fn is_txn(txn: TxnNo) -> bool
 fn is_change(page: PageNo, slot: SlotNo, change: &Change) -> bool
     ensures { IsTrue result ↔ ((page < 65536) × (slot < 62) × IsChange change.now) }
 {
+    let is_there = page.0 < MAX_PAGES && (slot.0 as usize) < SLOTS;
+    // The arms bind the change's numbers, and a bound number is known to fit its type.
     match *change {
         Change::Set {
             before: _before,
             after: _after,
-        } => page.0 < 65536 && slot.0 < 62,
-        Change::Add { amount: _amount } => page.0 < 65536 && slot.0 < 62,
+        } => is_there,
+        Change::Add { amount: _amount } => is_there,
     }
 }

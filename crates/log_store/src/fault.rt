@@ -26,6 +26,11 @@ pub enum LogReadFault {
 }
 
 impl fmt::Display for LogReadFault {
+    ghost use Rattle.std.specs.Prelude.{Some};
+    ghost use Rattle.log_store.specs.Fault.{text_of};
+
+    ghost output = { λ fault. Some (text_of fault) };
+
     fn fmt<W: fmt::Write>(&self, f: &mut fmt::Formatter<W>) -> fmt::Result {
         match self {
             LogReadFault::OutOfMemory => write!(f, "out of memory"),

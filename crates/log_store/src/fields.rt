@@ -23,16 +23,19 @@ pub struct Fields {
     pub lsn: u64,
 }
 
-/// The kinds of record, as their first byte has them.
+/// The kind of a Begin, as the record's first byte has it.
 pub const BEGIN: u32 = 1;
 
+/// The kind of an Update.
 pub const UPDATE: u32 = 2;
 
+/// The kind of a Commit.
 pub const COMMIT: u32 = 4;
 
-/// The kinds of change.
+/// The kind of a change that is a Set.
 pub const SET: u16 = 1;
 
+/// The kind of a change that is an Add.
 pub const ADD: u16 = 2;
 
 const NO_FIELDS: Fields = Fields {
@@ -111,7 +114,7 @@ impl Fields {
                 slot,
                 change,
             } => {
-                let (kind, before, after) = match change {
+                let (change_kind, before, after) = match change {
                     Change::Set { before, after } => (SET, before, after),
                     Change::Add { amount } => (ADD, 0, amount),
                 };
@@ -121,7 +124,7 @@ impl Fields {
                     prev: prev.0,
                     page: page.0,
                     slot: slot.0,
-                    change: kind,
+                    change: change_kind,
                     before,
                     after,
                     lsn: lsn.0,

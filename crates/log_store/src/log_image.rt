@@ -1,14 +1,11 @@
 //! A whole log, as its bytes spell it.
 
 ghost use Rattle.std.specs.Prelude.{ℕ, ◌≡◌, ◌≢◌, ◌+◌, ◌*◌, ◌<◌, ◌≤◌, ◌↔◌, List, length, take, slice_range, slice_index_or, IfOk, IfErr, IfSome, Some, MatchResult, IsTrue};
-ghost use Rattle.log_store.specs.declared.fault.LogReadFault.TheVariants.{OutOfMemory};
 ghost use Rattle.log_store.specs.declared.record.Record.{Record};
 ghost use Rattle.log_store.specs.Record.{IsRecord, record_bytes};
-ghost use Rattle.log_store.specs.Log.{Log, IsLog, IsPageCount, StandsAt, IsWithin, header_bytes, log_bytes, SpellsLog, HasHeader, AreFirst, whole_records};
-ghost use Rattle.log_store.specs.Fault.{IsHeader, HasRecord, IsFirstFault, IsFaultOf, longest};
+ghost use Rattle.log_store.specs.Log.{Log, IsLog, IsPageCount, StandsAt, IsWithin, header_bytes, HasHeader};
 
 use crate::codec::decode;
-use crate::fault::LogReadFault;
 use crate::record::{RECORD_BYTES, Record};
 use crate::scan::RecordSink;
 use page_core::Lsn;
@@ -22,9 +19,10 @@ pub const MAX_PAGES: u32 = 65_536;
 /// How many records a log may have.
 pub const MAX_RECORDS: usize = 1_048_576;
 
-/// How many bytes the header and the longest log have.
+/// How many bytes the header has.
 pub const HEADER_BYTES: usize = 64;
 
+/// How many bytes the longest log has: its header and so many records as a log may have.
 pub const MAX_LOG_BYTES: usize = 67_108_928;
 
 /// The text in front of a log.
@@ -63,29 +61,6 @@ impl LogImage {
     {
         &self.records
     }
-
-    /// The log that these bytes spell.
-    pub fn from_bytes(alloc: Global, bytes: &[u8]) -> Result<LogImage, LogReadFault>
-        // What is read is spelled so.
-        ensures found { IfOk result (λ log. SpellsLog log bytes.now) }
-        // What is spelled so is read, unless memory runs out.
-        ensures only { (log : Log) → SpellsLog log bytes.now → MatchResult result (λ read. read ≡ log) (λ fault. fault ≡ OutOfMemory) }
-        // The fault is the first one.
-        ensures first { IfErr result (IsFaultOf bytes.now) }
-    {
-        let Some(pages) = page_count(bytes) else {
-            return Err(LogReadFault::BadHeader);
-        };
-        let records = records_in(alloc, pages, bytes)?;
-        if bytes.len() > MAX_LOG_BYTES {
-            return Err(LogReadFault::TooLong);
-        }
-        if bytes.len() % RECORD_BYTES != 0 {
-            let at = bytes.len() / RECORD_BYTES * RECORD_BYTES;
-            return Err(LogReadFault::Torn(Lsn(at as u64)));
-        }
-        Ok(LogImage { pages, records })
-    }
 }
 
 impl RecordSink for LogImage {
@@ -98,13 +73,13 @@ impl RecordSink for LogImage {
         })
     }
 
-    fn take(&mut self, next: &Record) -> Result<(), AllocError> {
-        self.records.push(*next)?;
+    fn take(&mut self, next: &[Record]) -> Result<(), AllocError> {
+        self.records.extend_from_slice(next)?;
         Ok(())
     }
 }
 
-/// The header of a log of so many pages.
+/// The header of a log of so many pages: 64 bytes. With a count of 0 or above 65,536 no reader takes it for one.
 pub fn encode_header(pages: u32) -> [u8; HEADER_BYTES]
     ensures { result ≡ header_bytes pages }
 {
@@ -143,33 +118,6 @@ fn is_same(a: &[u8], b: &[u8]) -> bool
     a == b
 }
 
-/// The whole records behind the header, but none past the last one that a log may have.
-fn records_in(alloc: Global, pages: u32, bytes: &[u8]) -> Result<Vec<Record>, LogReadFault>
-    requires { HasHeader pages bytes.now }
-    ensures found { IfOk result (λ records. AreFirst (whole_records bytes.now) pages bytes.now records.items) }
-    ensures first { IfErr result (IsFaultOf bytes.now) }
-{
-    let count = (bytes.len() / RECORD_BYTES - 1).min(MAX_RECORDS);
-    let mut records = Vec::with_capacity(alloc, count)?;
-    for i in 0..count {
-        let at = RECORD_BYTES * (i + 1);
-        match record_at(bytes, at, pages) {
-            Some(record) => records.push(record)?,
-            None => return Err(LogReadFault::BadRecord(Lsn(at as u64))),
-        }
-    }
-    Ok(records)
-}
-
-/// The record at this offset of a log of so many pages, if there is one.
-fn record_at(bytes: &[u8], at: usize, pages: u32) -> Option<Record>
-    requires { at + 64 ≤ length bytes.now }
-    ensures found { IfSome result (λ r. StandsAt pages at r × (slice_range bytes.now at (at + 64) ≡ record_bytes r)) }
-    ensures only { (r : Record) → StandsAt pages at r → slice_range bytes.now at (at + 64) ≡ record_bytes r → result ≡ Some r }
-{
-    record_in(&bytes[at..at + RECORD_BYTES], Lsn(at as u64), pages)
-}
-
 /// The record that these bytes are at this LSN of a log of so many pages, if they are one.
 pub(crate) fn record_in(bytes: &[u8], at: Lsn, pages: u32) -> Option<Record>
     requires { length bytes.now ≡ 64 }
@@ -184,10 +132,10 @@ pub(crate) fn record_in(bytes: &[u8], at: Lsn, pages: u32) -> Option<Record>
     }
 }
 
-fn is_within(pages: u32, record: &Record) -> bool
-    ensures { IsTrue result ↔ IsWithin pages «record».now }
+fn is_within(pages: u32, entry: &Record) -> bool
+    ensures { IsTrue result ↔ IsWithin pages entry.now }
 {
-    match record {
+    match entry {
         Record::Begin { .. } | Record::Commit { .. } => true,
         Record::Update { page, .. } => page.0 < pages,
     }

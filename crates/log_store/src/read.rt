@@ -11,7 +11,11 @@ use crate::scan::scan_log;
 use std::alloc::Global;
 use std::io::Read;
 
-/// Reads a whole log, to the input's end. An interrupted read is made again.
+/// Reads a whole log, to the input's end.
+///
+/// It stops at the first fault, since nothing behind it can come before it. Where the reader stands then is not said.
+/// An interrupted read is made again. `ReadFault` comes where the reader fails otherwise, and where it was asked
+/// 134,217,728 times without coming to its end. `OutOfMemory` comes where room for what is read is refused.
 pub fn read_log<R: Read>(alloc: Global, reader: &mut R) -> Result<LogImage, LogReadFault>
     // What is read is spelled so, and nothing follows it.
     ensures found { IfOk result (λ log. IfSome (R.remaining reader.old) (SpellsLog log)) }

@@ -1,10 +1,10 @@
-//! The reading of a log, record by record.
+//! The reading of a log, a part at a time.
 
 ghost use Rattle.std.specs.Prelude.{ℕ, ◌≡◌, ◌+◌, ◌*◌, ◌/◌, ◌<◌, ◌≤◌, ◌++◌, ◌-◌, [], List, length, vec_len, take, drop, IfOk, IfErr, IfSome, OnOk};
 ghost use Rattle.std.specs.Io.KnownBytes.{Consumes, IsAtEnd};
 ghost use Rattle.log_store.specs.Log.{Log, IsLog, IsPageCount, SpellsLog, header_bytes};
 ghost use Rattle.log_store.specs.Fault.{Refuses, GaveNoFault, IsNoReadFault};
-ghost use Rattle.log_store.specs.Scan.{IsNext, with_next, HasTaken, HasAll};
+ghost use Rattle.log_store.specs.Scan.{with_next, HasRead, HasTaken, HasAll};
 ghost use Rattle.log_store.specs.Turn.{Gives};
 
 use crate::fault::LogReadFault;
@@ -14,10 +14,10 @@ use page_core::Lsn;
 use std::alloc::{AllocError, Global};
 use std::io::{ErrorKind, Read};
 
-/// How often a reader is asked for more bytes.
+/// How often a reader is asked for more bytes, at most.
 const MAX_TURNS: u32 = 134_217_728;
 
-/// How many bytes it is asked for at once.
+/// How many bytes it is asked for at once, at most.
 const BUFFER_BYTES: usize = 262_144;
 
 /// What takes the records of a log as they are read.
@@ -32,24 +32,25 @@ pub trait RecordSink {
         requires { IsPageCount pages }
         ensures { IfOk result (λ sink. holds sink (record { pages = pages; records = [] })) };
 
-    /// Takes the next record. After an `Err` nothing is known of what the sink holds.
-    fn take(&mut self, next: &Record) -> Result<(), AllocError>
-        requires { (log : Log) × (holds self.old log × IsNext log next.now) }
-        ensures { OnOk result ((log : Log) → holds self.old log → IsNext log next.now → holds self.new (with_next log next.now)) };
+    /// Takes the next records, in their order. After an `Err` nothing is known of what the sink holds.
+    fn take(&mut self, next: &[Record]) -> Result<(), AllocError>
+        requires { (log : Log) × (holds self.old log × IsLog (with_next log next.now)) }
+        ensures { OnOk result ((log : Log) → holds self.old log → IsLog (with_next log next.now)
+            → holds self.new (with_next log next.now)) };
 }
 
-/// Takes one record of a log.
-fn take_record<S: RecordSink>(
-    sink: &mut S,
+/// Puts a record behind those that were read since the sink took some.
+fn push_record(
+    records: &mut Vec<Record>,
     pages: u32,
     count: usize,
     bytes: &[u8],
 ) -> Result<(), LogReadFault>
-    requires taken { (given : List ℕ) × HasTaken S.holds sink.old pages count given }
     requires whole { length bytes.now ≡ 64 }
-    ensures ok { OnOk result ((given : List ℕ) → HasTaken S.holds sink.old pages count given
-        → HasTaken S.holds sink.new pages (count + 1) (given ++ bytes.now)) }
-    ensures first { IfErr result (λ fault. (given rest : List ℕ) → HasTaken S.holds sink.old pages count given
+    ensures ok { OnOk result ((log : Log) (given : List ℕ) → HasRead log records.old.items pages count given
+        → HasRead log records.new.items pages (count + 1) (given ++ bytes.now)) }
+    ensures first { IfErr result (λ fault. (log : Log) (given rest : List ℕ)
+        → HasRead log records.old.items pages count given
         → Refuses (given ++ (bytes.now ++ rest)) fault) }
     ensures of_bytes { IfErr result IsNoReadFault }
 {
@@ -58,30 +59,34 @@ fn take_record<S: RecordSink>(
     }
     let at = Lsn(64 * (count as u64 + 1));
     match record_in(bytes, at, pages) {
-        Some(record) => Ok(sink.take(&record)?),
+        Some(record) => Ok(records.push(record)?),
         None => Err(LogReadFault::BadRecord(at)),
     }
 }
 
-/// Takes the whole records among these bytes, which stand behind the first `count` records.
+/// Takes the whole records among these bytes, which stand behind the first `count` records. The sink gets them all at
+/// once, and can go over them in a short loop: then the processor fetches the pages of several records at a time.
 fn take_records<S: RecordSink>(
     sink: &mut S,
+    records: &mut Vec<Record>,
     pages: u32,
     count: usize,
     bytes: &[u8],
 ) -> Result<(), LogReadFault>
     requires { (given : List ℕ) × HasTaken S.holds sink.old pages count given }
     ensures ok { OnOk result ((given : List ℕ) → HasTaken S.holds sink.old pages count given
-        → HasTaken S.holds sink.new pages (count + length bytes.now / 64) (given ++ take (64 * (length bytes.now / 64)) bytes.now)) }
+        → HasTaken S.holds sink.new pages (count + length bytes.now / 64)
+        (given ++ take (64 * (length bytes.now / 64)) bytes.now)) }
     ensures first { IfErr result (λ fault. (given rest : List ℕ) → HasTaken S.holds sink.old pages count given
         → Refuses (given ++ (bytes.now ++ rest)) fault) }
     ensures of_bytes { IfErr result IsNoReadFault }
 {
+    records.clear();
     for i in 0..bytes.len() / RECORD_BYTES {
         let record = &bytes[RECORD_BYTES * i..RECORD_BYTES * i + RECORD_BYTES];
-        take_record(sink, pages, count + i, record)?;
+        push_record(records, pages, count + i, record)?;
     }
-    Ok(())
+    Ok(sink.take(records)?)
 }
 
 /// Reads the header, and answers how many turns that took.
@@ -140,13 +145,15 @@ fn read_records<R: Read, S: RecordSink>(
     pages: u32,
     turns: u32,
     buffer: &mut [u8],
+    records: &mut Vec<Record>,
 ) -> Result<(), LogReadFault>
     requires room { 128 ≤ length buffer.old }
     requires taken { HasTaken S.holds sink.old pages 0 (header_bytes pages) }
     ensures end { OnOk result (IsAtEnd (R.remaining reader.new)) }
     ensures found { OnOk result ((read : List ℕ) × (Consumes (R.remaining reader.old) (R.remaining reader.new) read
         × HasAll S.holds sink.new (header_bytes pages ++ read))) }
-    ensures first { IfErr result (λ fault. IfSome (R.remaining reader.old) (λ rest. Refuses (header_bytes pages ++ rest) fault)) }
+    ensures first { IfErr result (λ fault.
+        IfSome (R.remaining reader.old) (λ rest. Refuses (header_bytes pages ++ rest) fault)) }
     ensures unread { IfErr result (GaveNoFault (header_bytes pages) (R.remaining reader.old) (R.remaining reader.new)) }
 {
     let mut filled = 0;
@@ -157,7 +164,7 @@ fn read_records<R: Read, S: RecordSink>(
             Turn::End => return at_end(count, filled),
             Turn::Failed => return Err(LogReadFault::ReadFault),
         }
-        take_records(sink, pages, count, &buffer[..filled])?;
+        take_records(sink, records, pages, count, &buffer[..filled])?;
         count += filled / RECORD_BYTES;
         filled = keep_rest(buffer, filled);
         if count >= MAX_RECORDS && filled > 0 {
@@ -195,13 +202,18 @@ fn keep_rest(buffer: &mut [u8], filled: usize) -> usize
 }
 
 /// Reads a log to the input's end, and hands its records to a sink as they come. A record is handed on only once all of
-/// the bytes up to its end are found right. It stops at the first fault, since nothing behind it can come before it.
+/// the bytes up to its end are found right.
+///
+/// It stops at the first fault, since nothing behind it can come before it. Where the reader stands then is not said.
+/// An interrupted read is made again. `ReadFault` comes where the reader fails otherwise, and where it was asked
+/// 134,217,728 times without coming to its end. `OutOfMemory` comes where room for the sink or for what is read is refused.
 pub fn scan_log<R: Read, S: RecordSink + Drop>(
     alloc: Global,
     reader: &mut R,
 ) -> Result<S, LogReadFault>
     // What the sink holds is what it makes of the log that the input spells.
-    ensures found { IfOk result (λ sink. (log : Log) × (S.holds sink log × (IsLog log × IfSome (R.remaining reader.old) (SpellsLog log)))) }
+    ensures found { IfOk result (λ sink. (log : Log)
+        × (S.holds sink log × (IsLog log × IfSome (R.remaining reader.old) (SpellsLog log)))) }
     ensures end { OnOk result (IsAtEnd (R.remaining reader.new)) }
     // The fault is the first one.
     ensures first { IfErr result (λ fault. IfSome (R.remaining reader.old) (λ input. Refuses input fault)) }
@@ -215,7 +227,15 @@ pub fn scan_log<R: Read, S: RecordSink + Drop>(
     };
     let mut sink = S::start(alloc, pages)?;
     let mut buffer = zeros(alloc, BUFFER_BYTES)?;
-    read_records(reader, &mut sink, pages, MAX_TURNS - turns, &mut buffer)?;
+    let mut records = Vec::with_capacity(alloc, BUFFER_BYTES / RECORD_BYTES)?;
+    read_records(
+        reader,
+        &mut sink,
+        pages,
+        MAX_TURNS - turns,
+        &mut buffer,
+        &mut records,
+    )?;
     Ok(sink)
 }
 

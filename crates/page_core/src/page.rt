@@ -28,6 +28,7 @@ const LAST_PAGE: u32 = 65_535;
 #[derive(Clone, Debug, Drop, PartialEq, Eq)]
 pub struct Page {
     pub number: PageNo,
+    /// A multiple of 64, and 0 where the page has no record's change.
     pub lsn: Lsn,
     pub slots: [u64; 62],
 }

@@ -69,6 +69,7 @@ fn changes_follow_one_another(rt: HostRuntime) {
             0,
         ),
     ] {
+        assert_eq!(rt; change.changed(page.slots[3]), number, "{change:?}");
         page.apply(Lsn(lsn), SlotNo(3), &change);
         assert_eq!(rt; page.slots[3], number, "after {change:?}");
         assert_eq!(rt; page.lsn, Lsn(lsn));

@@ -1,7 +1,7 @@
 -- The pages that records make, one record after another.
-use Rattle.std.proofs.Common.{◌≡◌, ◌≢◌, ℕ, zero, suc, ◌+◌, ◌*◌, ◌<◌, ◌≤◌, Bool, true, false, cond, eqb, ltb, List, [], ◌∷◌, ◌++◌, length, get_or, set, take, map, refl, sym, ap, subst, ◌∙◌, arith, inl, inr}
+use Rattle.std.proofs.Common.{◌≡◌, ◌≢◌, ℕ, zero, suc, ◌+◌, ◌-◌, ◌*◌, ◌<◌, ◌≤◌, Bool, true, false, cond, eqb, ltb, List, [], ◌∷◌, ◌++◌, length, get_or, set, take, map, refl, sym, ap, subst, ◌∙◌, arith, inl, inr}
 use Rattle.std.specs.List.{range_with_len, filter}
-use Rattle.std.proofs.lemmas.List.{take_more, take_all, same_lists, length-set, length-map, get_or-set_same, get_or-set_other, get_or_default, get_or-map}
+use Rattle.std.proofs.lemmas.List.{get_or-append_right, take_more, same_lists, length-set, length-map, get_or-set_same, get_or-set_other, get_or_default, get_or-map}
 use Rattle.std.proofs.lemmas.Bool.{lt-ltb, ne_eqb, cases_eq}
 use Rattle.std.proofs.lemmas.List.Elements.{filter-append}
 use Rattle.std.proofs.lemmas.List.FromFn.{get_or-map-range_with_len, length-map-range_with_len}
@@ -12,7 +12,6 @@ use Rattle.log_store.specs.declared.record.Record.{Record}
 use Rattle.log_store.specs.declared.record.Record.TheVariants.{Begin, Update, Commit}
 use Rattle.log_store.specs.Record.{own_lsn}
 use Rattle.log_store.specs.Log.{Log, IsLog, lsn_of}
-use Rattle.log_store.specs.Scan.{IsNext}
 use Rattle.log_store.specs.Image.{with_record, image_from, image, redo_all}
 use Rattle.page_redo.specs.Redo.{is_above, redone}
 
@@ -52,7 +51,7 @@ lsn-with_record page (Update lsn txn prev number slot change) n before own = cho
 lsn-with_record page (Commit lsn txn prev) n before own = before
 
 -- a page has no LSN past those of the log's records so far
-lsn-image : (log : Log) → IsLog log → (p : ℕ) (i : ℕ) (d : Record) → i ≤ length log.records → (image (take i log.records) p).lsn ≤ 64 * i
+pub lsn-image : (log : Log) → IsLog log → (p : ℕ) (i : ℕ) (d : Record) → i ≤ length log.records → (image (take i log.records) p).lsn ≤ 64 * i
 unfolding formatted
 lsn-image log valid p zero d le = omega arith
 lsn-image log valid p (suc i) d le =
@@ -69,23 +68,29 @@ lsn-image log valid p (suc i) d le =
 pub redone-above : (page : Page) (r : Record) → page.lsn < own_lsn r → redone page (r ∷ []) ≡ with_record page r
 redone-above page r lt = ap (λ (b : Bool). image_from page (cond b (r ∷ []) [])) (lt-ltb page.lsn (own_lsn r) lt)
 
+-- a record of those behind a log
+pub behind : (rs next : List Record) (i : ℕ) (d : Record) → get_or next i d ≡ get_or (rs ++ next) (length rs + i) d
+behind rs next i d =
+    let back : length rs + i - length rs ≡ i = omega arith in
+    sym (get_or-append_right rs next (length rs) (length rs + i) d refl (omega arith) ∙ ap (λ n. get_or next n d) back)
+
 -- redo by the page's LSN, record by record, makes the page as the log makes it
-pub redone-next : (log : Log) (r : Record) → IsNext log r → (p : ℕ) → redone (image log.records p) (r ∷ []) ≡ image (log.records ++ r ∷ []) p
-redone-next log r next p =
-    let n = length log.records in
-    let own = next.stands.lsn in
-    let bound : (image log.records p).lsn ≤ 64 * n =
-    subst (λ (rs : List Record). (image rs p).lsn ≤ 64 * n) (take_all n log.records (omega arith)) (lsn-image log next.valid p n r (omega arith)) in
-    redone-above (image log.records p) r (omega arith) ∙ sym (image_from-append (formatted p) log.records (r ∷ []))
+pub redone-next : (log : Log) → IsLog log → (i : ℕ) (d : Record) → i < length log.records → (p : ℕ)
+    → redone (image (take i log.records) p) (get_or log.records i d ∷ []) ≡ image (take (i + 1) log.records) p
+redone-next log valid i d lt p =
+    let r = get_or log.records i d in
+    let own : own_lsn r ≡ lsn_of i = (valid.records i d lt).lsn in
+    let bound = lsn-image log valid p i d (omega arith) in
+    redone-above (image (take i log.records) p) r (omega arith) ∙ sym (image_from-more (formatted p) log.records i d lt)
 
 -- the changes of one record on every page
-pub redo_all-next : (log : Log) (r : Record) → IsNext log r → (n : ℕ)
-    → map (λ page. redone page (r ∷ [])) (redo_all log.records n) ≡ redo_all (log.records ++ r ∷ []) n
-redo_all-next log r next n = over (range_with_len 0 n)
+pub redo_all-next : (log : Log) → IsLog log → (i : ℕ) (d : Record) → i < length log.records → (n : ℕ)
+    → map (λ page. redone page (get_or log.records i d ∷ [])) (redo_all (take i log.records) n) ≡ redo_all (take (i + 1) log.records) n
+redo_all-next log valid i d lt n = over (range_with_len 0 n)
   where
-    over : (ps : List ℕ) → map (λ page. redone page (r ∷ [])) (map (image log.records) ps) ≡ map (image (log.records ++ r ∷ [])) ps
+    over : (ps : List ℕ) → map (λ page. redone page (get_or log.records i d ∷ [])) (map (image (take i log.records)) ps) ≡ map (image (take (i + 1) log.records)) ps
     over [] = refl
-    over (p ∷ ps) = rw (redone-next log r next p, over ps) refl
+    over (p ∷ ps) = rw (redone-next log valid i d lt p, over ps) refl
 
 -- the pages stand in order of their numbers
 pub numbered : (rs : List Record) (n k : ℕ) (d : Page) → k < n → (get_or (redo_all rs n) k d).number ≡ k

@@ -1,1 +1,3 @@
 pub mod Images
+pub mod Valid
+pub mod Covering

@@ -26,9 +26,11 @@ impl RecordSink for Volume {
         })
     }
 
-    /// Redoes the record on the page that it names (ARIES, section 6.2).
-    fn take(&mut self, next: &Record) -> Result<(), AllocError> {
-        redo_on_its_page(&mut self.pages, next);
+    /// Redoes each record on the page that it names (ARIES, section 6.2).
+    fn take(&mut self, next: &[Record]) -> Result<(), AllocError> {
+        for record in next {
+            redo_on_its_page(&mut self.pages, record);
+        }
         Ok(())
     }
 }

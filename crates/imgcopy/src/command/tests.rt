@@ -16,19 +16,45 @@ fn takes_redo(rt: HostRuntime) -> Result<(), Fail> {
 
 #[test]
 fn tells_the_user_why(rt: HostRuntime) -> Result<(), Fail> {
-    let cases: [(&[&str], &str, &str); 9] = [
-        (&[], "no command", "Usage: imgcopy <COMMAND>"),
-        (&["help"], "redo", "Usage: imgcopy <COMMAND>"),
-        (&["--help"], "redo", "Usage: imgcopy <COMMAND>"),
-        (&["-h"], "redo", "Usage: imgcopy <COMMAND>"),
-        (&["run"], "'run'", "Usage: imgcopy <COMMAND>"),
-        (&["redo", "extra"], "'extra'", "Usage: imgcopy redo"),
-        (&["redo", "--pages"], "'--pages'", "Usage: imgcopy redo"),
-        (&["redo", "--help"], "Print help", "Usage: imgcopy redo"),
-        (&["redo", "-h"], "Print help", "Usage: imgcopy redo"),
+    let cases: [(&[&str], &str, &str, &str); 9] = [
+        (&[], "error: no command", "redo", "Usage: imgcopy <COMMAND>"),
+        (&["help"], "Usage: ", "redo", "Usage: imgcopy <COMMAND>"),
+        (&["--help"], "Usage: ", "redo", "Usage: imgcopy <COMMAND>"),
+        (&["-h"], "Usage: ", "redo", "Usage: imgcopy <COMMAND>"),
+        (
+            &["run"],
+            "error: unrecognized",
+            "'run'",
+            "Usage: imgcopy <COMMAND>",
+        ),
+        (
+            &["redo", "extra"],
+            "error: ",
+            "'extra'",
+            "Usage: imgcopy redo",
+        ),
+        (
+            &["redo", "--pages"],
+            "error: ",
+            "'--pages'",
+            "Usage: imgcopy redo",
+        ),
+        (
+            &["redo", "--help"],
+            "Write the volume",
+            "Print help",
+            "Usage: imgcopy redo",
+        ),
+        (
+            &["redo", "-h"],
+            "Write the volume",
+            "Print help",
+            "Usage: imgcopy redo",
+        ),
     ];
-    for (words, why, usage) in cases {
+    for (words, start, why, usage) in cases {
         let text = refusal(rt.alloc(), words)?.ok_or("a refusal")?;
+        assert!(rt; text.starts_with(start), "{text}");
         assert!(rt; text.contains(why), "{text}");
         assert!(rt; text.contains(usage), "{text}");
         assert!(rt; text.ends_with('\n'), "{text}");

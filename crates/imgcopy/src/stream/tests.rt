@@ -198,6 +198,32 @@ fn writes_nothing_where_a_read_fails(rt: HostRuntime) -> Result<(), Fail> {
     Ok(())
 }
 
+#[test]
+fn a_bad_record_goes_before_a_later_failure(rt: HostRuntime) -> Result<(), Fail> {
+    let log = bytes_of_groups(
+        rt.alloc(),
+        &[ONE_PAGE, BEGIN, SET_SEVEN_SPOILED, ADD_FIVE, COMMIT],
+    )?;
+    for (good_reads, fault) in [
+        (191, Fault::ReadFault),
+        (192, Fault::BadRecord(Lsn(128))),
+        (319, Fault::BadRecord(Lsn(128))),
+    ] {
+        let mut reader = Hesitant {
+            rest: &log,
+            step: 1,
+            interruptions: 0,
+            interrupted: 0,
+            good_reads: Some(good_reads),
+        };
+        let mut volume = Vec::new(rt.alloc());
+        let outcome = redo_stream(rt.alloc(), &mut reader, &mut volume);
+        assert_eq!(rt; outcome, Err(fault), "after {good_reads} reads");
+        assert!(rt; volume.is_empty(), "after {good_reads} reads");
+    }
+    Ok(())
+}
+
 /// Takes at most `step` bytes at a write, and holds `room` in all. When full it fails so, or takes nothing.
 #[derive(Drop)]
 struct Narrow {
@@ -253,6 +279,42 @@ fn counts_what_a_narrow_writer_took(rt: HostRuntime) -> Result<(), Fail> {
         assert_eq!(rt;
             Some(writer.held.as_slice()),
             wanted.get(..room),
+            "{room} bytes"
+        );
+    }
+    Ok(())
+}
+
+/// More pages than go out at once, to a writer that takes all of them or fails within the last one.
+#[test]
+fn writes_many_pages(rt: HostRuntime) -> Result<(), Fail> {
+    let log = bytes_of_groups(
+        rt.alloc(),
+        &["41494d474c4f4731 0102000000000000 0 0 0 0 0 0"],
+    )?;
+    let mut wanted = Vec::new(rt.alloc());
+    for number in 0..513u32 {
+        wanted.extend_from_slice(&number.to_le_bytes())?;
+        wanted.extend_from_slice(&[1, 0, 0, 0])?;
+        wanted.extend_from_slice(&[0; 504])?;
+    }
+    for (room, outcome) in [
+        (262_656, Ok(())),
+        (262_151, Err(Fault::WriteFault(262_151))),
+        (262_144, Err(Fault::WriteFault(262_144))),
+    ] {
+        let mut writer = Narrow {
+            held: Vec::new(rt.alloc()),
+            step: 4096,
+            room,
+            when_full: Some(ErrorKind::BrokenPipe),
+        };
+        assert_eq!(rt;
+            redo_stream(rt.alloc(), &mut log.as_slice(), &mut writer),
+            outcome
+        );
+        assert!(rt;
+            Some(writer.held.as_slice()) == wanted.get(..room),
             "{room} bytes"
         );
     }

@@ -10,7 +10,7 @@ use std::io::{ErrorKind, Read};
 pub struct Steps<'a> {
     bytes: &'a [u8],
     step: usize,
-    /// Whether each byte count is given at the second call only.
+    /// Whether every other call is interrupted.
     interrupts: bool,
     is_interrupted: bool,
     /// How many bytes it gives until it fails.
@@ -101,12 +101,15 @@ fn bytes_at(offset: u64) -> [u8; 64] {
     }
 }
 
-/// Never gives a byte, since each call is interrupted.
+/// Never gives a byte, since each call is interrupted. It counts the calls.
 #[derive(Drop)]
-pub struct NeverReady;
+pub struct NeverReady {
+    pub calls: u64,
+}
 
 impl Read for NeverReady {
     fn read(&mut self, _buf: &mut [u8]) -> io::Result<usize> {
+        self.calls = self.calls.saturating_add(1);
         Err(ErrorKind::Interrupted.into())
     }
 }

@@ -1,4 +1,4 @@
-use Rattle.std.proofs.Common.{◌≡◌, ◌+◌, ◌-◌, ◌≤◌, ◌++◌, ℕ, List, length, take, drop, sym, ap, subst, ◌∙◌, arith}
+use Rattle.std.proofs.Common.{◌+◌, ◌-◌, ◌<◌, ◌≤◌, ◌++◌, ℕ, List, length, take, drop, ap, subst, ◌∙◌, arith}
 use Rattle.std.specs.Io.KnownBytes.{Appends}
 use Rattle.std.proofs.KnownBytes.{Appends-trans}
 use Rattle.std.proofs.lemmas.List.{length-append, length-take, length-drop}
@@ -14,7 +14,7 @@ returns-in-Err-clause-within g c =
     let one = volume_bytes (take first pages) in
     let two = volume_bytes (group pages first count) in
     let three = volume_bytes (drop (first + count) pages) in
-    let part : c.in-Err.part ≤ length two = subst (λ (bs : List ℕ). c.in-Err.part ≤ length bs) c.put_pages-filled.ensures.bytes c.in-Err.ensures.within in
+    let part : c.in-Err.part < length two = subst (λ (bs : List ℕ). c.in-Err.part < length bs) c.put_pages-filled.ensures.bytes c.in-Err.ensures.within in
     omega (arith, part, c.loop-first.invariant.count, ap length (whole pages first count), length-append one (two ++ three), length-append two three)
 
 pub returns-in-Err-clause-err : goal.returns-in-Err-clause-err
@@ -26,7 +26,7 @@ returns-in-Err-clause-err g c =
     let two = volume_bytes (group pages first count) in
     let three = volume_bytes (drop (first + count) pages) in
     let bytes = c.put_pages-filled.ensures.bytes in
-    let part : c.in-Err.part ≤ length two = subst (λ (bs : List ℕ). c.in-Err.part ≤ length bs) bytes c.in-Err.ensures.within in
+    let part : c.in-Err.part ≤ length two = let less : c.in-Err.part < length two = subst (λ (bs : List ℕ). c.in-Err.part < length bs) bytes c.in-Err.ensures.within in omega arith in
     let sent : Appends (g.W.Write.contents c.loop-first.writer) (g.W.Write.contents c.write_out.new.writer) (take c.in-Err.part two) =
     subst (λ (bs : List ℕ). Appends (g.W.Write.contents c.loop-first.writer) (g.W.Write.contents c.write_out.new.writer) (take c.in-Err.part bs)) bytes c.in-Err.ensures.err in
     subst (Appends (g.W.Write.contents c.args.writer.now) (g.W.Write.contents c.write_out.new.writer))

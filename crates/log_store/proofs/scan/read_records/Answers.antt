@@ -1,15 +1,14 @@
-use Rattle.std.proofs.Common.{◌≡◌, ℕ, ◌+◌, ◌-◌, ◌*◌, ◌/◌, ◌<◌, ◌≤◌, ◌++◌, List, [], length, take, drop, sym, ap, subst, ◌∙◌, arith, inl, inr, rules}
+use Rattle.std.proofs.Common.{◌≡◌, ℕ, ◌+◌, ◌*◌, ◌/◌, ◌<◌, ◌++◌, List, [], length, take, drop, sym, ap, subst, ◌∙◌, arith, inl, inr}
 use Rattle.std.specs.Io.KnownBytes.{Consumes}
-use Rattle.std.proofs.lemmas.List.{append_assoc, length-take, length-drop, take-append-drop}
+use Rattle.std.proofs.lemmas.List.{append_assoc, append-nil, nil_from_length, length-take, length-drop, take-append-drop}
 use Rattle.std.proofs.lemmas.Bool.{cases_lt}
 use Rattle.std.proofs.lemmas.Result.{err_from_is_err_and}
-use Rattle.log_store.specs.declared.fault.LogReadFault.{LogReadFault}
 use Rattle.log_store.specs.declared.fault.LogReadFault.TheVariants.{Torn, TooLong}
-use Rattle.log_store.specs.Log.{SpellsLog, header_bytes, lsn_of}
+use Rattle.log_store.specs.Log.{header_bytes, lsn_of}
 use Rattle.log_store.specs.Fault.{Refuses}
 use Rattle.log_store.specs.Scan.{HasTaken}
 use Rattle.log_store.proofs.Inputs.{of_input}
-use Rattle.log_store.proofs.Scans.{refuses_torn, none_in_failed, refuses_past_last, regrouped, if_err}
+use Rattle.log_store.proofs.Scans.{refuses_torn, none_in_failed, refuses_past_last, regrouped, if_err, on_ok}
 use Rattle.log_store.proofs.scan.read_records.Goals as goal
 use Rattle.log_store.proofs.scan.read_records.Goals.{else-count-ge-MAX_RECORDS-via-then-count-ge-MAX_RECORDS+else-filled-gt0, else-count-ge-MAX_RECORDS-via-else-count-ge-MAX_RECORDS}
 
@@ -31,6 +30,20 @@ returns-in-End-clause-first g c =
     (λ rest end. subst (Refuses (header ++ ((read ++ pending) ++ rest))) (sym is)
     (refuses_torn header read pending rest t.log t.spells (omega (arith, length-take c.loop.filled c.loop.buffer)) (omega (arith, length-take c.loop.filled c.loop.buffer))
     (elim (cases_lt (length t.log.records) 1048576) [ inl room ↦ room | inr full ↦ let none = inv.few (omega arith) in absurd (omega arith) ]) (end c.in-End.ensures.0)))) c.at_end.ensures.err
+
+pub returns-in-End-clause-found : goal.returns-in-End-clause-found
+returns-in-End-clause-found g c =
+    let header = header_bytes c.args.pages in
+    let inv = c.loop.invariant in
+    let read = inv.so_far.0 in
+    let t = inv.so_far.1.0 in
+    let pending = take c.loop.filled c.loop.buffer in
+    on_ok c.at_end.result _ _ (λ none.
+    let nothing : pending ≡ [] = nil_from_length pending (omega (arith, length-take c.loop.filled c.loop.buffer, none)) in
+    let all : read ++ pending ≡ read = ap (λ (bs : List ℕ). read ++ bs) nothing ∙ append-nil read in (
+      read,
+      (subst (Consumes _ _) all (c.in-End.ensures.1 _ read inv.so_far.1.1), record { log = t.log; held = t.held; spells = t.spells }),
+    )) c.at_end.ensures.ok
 
 pub returns-in-Failed-clause-unread : goal.returns-in-Failed-clause-unread
 returns-in-Failed-clause-unread g c =

@@ -1,4 +1,4 @@
-use Rattle.std.proofs.Common.{◌≡◌, ◌∙◌, ◌<◌, ℕ, List, [], ◌∷◌, length, map, set, get_or, ap, sym, subst}
+use Rattle.std.proofs.Common.{◌≡◌, ◌∙◌, ◌<◌, ℕ, [], ◌∷◌, length, map, set, get_or, ap, sym, subst}
 use Rattle.page_core.specs.declared.page.Page.{Page}
 use Rattle.log_store.specs.declared.record.Record.{Record}
 use Rattle.log_store.specs.declared.record.Record.TheVariants.{Update}

@@ -1,4 +1,4 @@
-use Rattle.std.proofs.Common.{◌≡◌, ◌∙◌, sym, true, false}
+use Rattle.std.proofs.Common.{◌∙◌, sym, true, false}
 use Rattle.page_redo.proofs.Images.{redo-step}
 use Rattle.page_redo.proofs.redo.redo_page.Goals as goal
 use Rattle.page_redo.proofs.redo.redo_page.Goals.{then-is_above, else-is_above}

@@ -1,6 +1,5 @@
-use Rattle.std.proofs.Common.{◌≡◌, ◌++◌, ◌∷◌, [], ◌∙◌, ap, sym, arith, refl, rules}
+use Rattle.std.proofs.Common.{[], sym, arith}
 use Rattle.std.proofs.lemmas.List.FromFn.{map-range_with_len_more}
-use Rattle.page_core.specs.Page.{formatted}
 use Rattle.log_store.specs.Image.{image}
 use Rattle.page_redo.proofs.volume.formatted_pages.Goals as goal
 

@@ -1,0 +1,70 @@
+-- The pages that a log makes are pages that a volume may have.
+use Rattle.std.proofs.Common.{ℕ, zero, suc, ◌+◌, ◌<◌, ◌≤◌, ◌^◌, Bool, true, false, cond, eqb, List, [], ◌∷◌, length, get_or, set, replicate, map, refl, ◌∙◌, arith}
+use Rattle.std.specs.List.{range_with_len, AllByRecursion}
+use Rattle.std.proofs.lemmas.List.{length-set}
+use Rattle.page_core.specs.declared.change.Change.{Change}
+use Rattle.page_core.specs.declared.change.Change.TheVariants.{Set, Add}
+use Rattle.page_core.specs.declared.page.Page.{Page}
+use Rattle.page_core.specs.Change.{changed}
+use Rattle.page_core.specs.Page.{formatted, put, IsPage}
+use Rattle.log_store.specs.declared.record.Record.{Record}
+use Rattle.log_store.specs.declared.record.Record.TheVariants.{Begin, Update, Commit}
+use Rattle.log_store.specs.Record.{IsRecord, IsChange, IsLsn}
+use Rattle.log_store.specs.Log.{Log, IsLog}
+use Rattle.log_store.specs.Image.{with_record, image_from, image, redo_all}
+
+all_replicate : {X : Type 0} (P : X → Type 0) (n : ℕ) (x : X) → P x → AllByRecursion P (replicate n x)
+all_replicate P zero x here = tt
+all_replicate P (suc n) x here = (here, all_replicate P n x here)
+
+all_set : {X : Type 0} (P : X → Type 0) (xs : List X) (i : ℕ) (x : X) → AllByRecursion P xs → P x → AllByRecursion P (set xs i x)
+all_set P [] i x all new = all
+all_set P (y ∷ ys) zero x all new = (new, all.1)
+all_set P (y ∷ ys) (suc i) x all new = (all.0, all_set P ys i x all.1 new)
+
+valid_formatted : (p : ℕ) → p < 65536 → IsPage (formatted p)
+unfolding formatted
+valid_formatted p small = record {
+  number = small;
+  lsn = omega arith;
+  at_record = omega arith;
+  count = refl;
+  slots = all_replicate (λ n. n < 2 ^ 64) 62 0 (omega arith);
+}
+
+changed_fits : (change : Change) (number : ℕ) → IsChange change → changed change number < 2 ^ 64
+changed_fits (Set before after) number valid = valid.1
+changed_fits (Add amount) number valid = omega arith
+
+valid_put : (page : Page) (lsn slot : ℕ) (change : Change) → IsPage page → IsLsn lsn → IsChange change → IsPage (put page lsn slot change)
+valid_put page lsn slot change page_valid lsn_valid change_valid = record {
+  number = page_valid.number;
+  lsn = lsn_valid.fits;
+  at_record = lsn_valid.aligned;
+  count = length-set page.slots slot _ ∙ page_valid.count;
+  slots = all_set (λ n. n < 2 ^ 64) page.slots slot _ page_valid.slots (changed_fits change _ change_valid);
+}
+
+valid-with_record : (page : Page) (r : Record) → IsPage page → IsRecord r → IsPage (with_record page r)
+valid-with_record page (Begin lsn txn) page_valid valid = page_valid
+valid-with_record page (Update lsn txn prev number slot change) page_valid valid = choose (eqb number page.number)
+  where
+    choose : (b : Bool) → IsPage (cond b (put page lsn slot change) page)
+    choose true = valid_put page lsn slot change page_valid valid.0 valid.5
+    choose false = page_valid
+valid-with_record page (Commit lsn txn prev) page_valid valid = page_valid
+
+valid-image_from : (page : Page) (rs : List Record) → IsPage page → ((i : ℕ) (d : Record) → i < length rs → IsRecord (get_or rs i d)) → IsPage (image_from page rs)
+valid-image_from page [] page_valid each = page_valid
+valid-image_from page (r ∷ rs) page_valid each =
+    valid-image_from (with_record page r) rs (valid-with_record page r page_valid (each 0 r (omega arith))) (λ i d lt. each (suc i) d (omega arith))
+
+pub valid-redo_all : (log : Log) → IsLog log → AllByRecursion IsPage (redo_all log.records log.pages)
+valid-redo_all log valid = over 0 log.pages (let few = valid.pages.most in omega arith)
+  where
+    over : (first n : ℕ) → first + n ≤ 65536 → AllByRecursion IsPage (map (image log.records) (range_with_len first n))
+    over first zero few = tt
+    over first (suc n) few = (
+      valid-image_from (formatted first) log.records (valid_formatted first (omega arith)) (λ i d lt. (valid.records i d lt).valid),
+      over (first + 1) n (omega arith),
+    )

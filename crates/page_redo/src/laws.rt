@@ -1,0 +1,20 @@
+//! Laws of the pages that a log makes, for those who read the contracts.
+
+ghost use Rattle.std.specs.Prelude.{ℕ, ◌≡◌, ◌≤◌, length, take};
+ghost use Rattle.std.specs.List.{AllByRecursion};
+ghost use Rattle.page_core.specs.Page.{IsPage};
+ghost use Rattle.log_store.specs.Log.{Log, IsLog};
+ghost use Rattle.log_store.specs.Image.{image, redo_all};
+ghost use Rattle.page_redo.specs.Redo.{redone};
+
+/// The pages that a log makes are pages that a volume may have, so they have a spelling.
+pub fn pages_of_logs_are_valid()
+    ensures { (log : Log) → IsLog log → AllByRecursion IsPage (redo_all log.records log.pages) }
+{}
+
+/// A page that was stored with the changes of the log's first records, however many, comes by redo to what the whole log
+/// makes of it.
+pub fn redo_completes_a_page()
+    ensures { (log : Log) (count number : ℕ) → IsLog log → count ≤ length log.records
+        → redone (image (take count log.records) number) log.records ≡ image log.records number }
+{}
