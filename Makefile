@@ -1,10 +1,11 @@
 # make imgcopy    proves and builds the program, and leaves it at build/imgcopy
 # make demo       rebuilds a volume from the example log of four records, and shows its page
 # make test       the gate: proves every crate and tries its tests, its programs and its must-fail edits
-# make check      compares the program's answers to the examples and to spoiled logs with the expected ones
+# make check      compares the program's answers to the examples and to spoiled logs with the expected ones, also with
+#                 each of its allocations refused in turn
 # make bench      measures the program beside a plain Rust program, and prints a table
 # make examples   makes the example logs and their expected answers anew
-# make clean      removes what these targets made, and keeps the proofs that rt keeps for itself
+# make clean      removes build/, and keeps the proofs that rt keeps for itself
 #
 # IMGCOPY=PROGRAM has demo, check and bench run that program, and builds none.
 
@@ -12,6 +13,7 @@ SHELL := /bin/bash
 BUILT := build/imgcopy
 IMGCOPY ?= $(BUILT)
 TOOLS := build/bench/release
+REFUSER := build/refuse_memory.so
 ROUNDS ?= 5
 
 ifeq ($(IMGCOPY),$(BUILT))
@@ -36,9 +38,12 @@ demo: need-python3 $(PROGRAM)
 test: need-rt
 	@rt ci
 
-check: need-python3 $(PROGRAM)
+check: need-python3 need-rustc $(PROGRAM)
 	@examples/check.sh "$(IMGCOPY)"
 	@python3 examples/faults.py "$(IMGCOPY)"
+	@mkdir -p build
+	@rustc --edition 2024 --crate-type cdylib -O -o $(REFUSER) examples/refuse_memory.rs
+	@python3 examples/memory.py "$(IMGCOPY)" $(REFUSER)
 
 bench: need-python3 tools $(PROGRAM)
 	@python3 bench/run.py --imgcopy "$(IMGCOPY)" --tools $(TOOLS) --rounds $(ROUNDS)
@@ -69,7 +74,7 @@ need-cargo:
 	$(call need,cargo,it builds the programs of the benchmark)
 
 need-rustc:
-	$(call need,rustc,it builds the programs of the benchmark)
+	$(call need,rustc,it builds the programs of the benchmark and what refuses allocations)
 
 need-imgcopy:
 	$(call need,$(IMGCOPY),the program that IMGCOPY names)

@@ -1,7 +1,8 @@
 #!/usr/bin/env bash
 # usage: check.sh PROGRAM
 # Runs `PROGRAM redo` on each example log and compares its output, its status and its fault line with the expected
-# ones. Before that, it sees that the examples are those that make.py makes. Ends with status 0 if all is the same.
+# ones. Then it gives the program wrong words, an input that cannot be read and an output that is full. Before that, it
+# sees that the examples are those that make.py makes. Ends with status 0 if all is as expected.
 set -u
 
 fail() {
@@ -52,10 +53,44 @@ check_log() {
         fail "$name: the output is not the expected one: ${difference//"$work/"/}"
 }
 
+# The words give no command: nothing on standard output, something on standard error, status 2.
+check_words() {
+    "$program" "$@" < "$examples/four_records.log" > "$work/out" 2> "$work/err"
+    status=$?
+    [ "$status" -eq 2 ] || fail "the words '$*': status $status, expected 2"
+    [ ! -s "$work/out" ] || fail "the words '$*': something on standard output"
+    [ -s "$work/err" ] || fail "the words '$*': nothing on standard error"
+}
+
+# check_fault LINE NAME: the run that has just ended gave this line, status 2 and no output.
+check_fault() {
+    [ "$status" -eq 2 ] || fail "$2: status $status, expected 2"
+    [ ! -s "$work/out" ] || fail "$2: something on standard output"
+    [ "$(cat "$work/err")" = "$1" ] || fail "$2: standard error '$(head -n 1 "$work/err")', expected '$1'"
+}
+
+check_devices() {
+    "$program" redo < "$examples" > "$work/out" 2> "$work/err"
+    status=$?
+    check_fault "E33 ReadFault" "an input that cannot be read"
+    : > "$work/out"
+    "$program" redo < "$examples/four_records.log" > /dev/full 2> "$work/err"
+    status=$?
+    check_fault "E29 WriteFault 0" "an output that is full"
+}
+
 check_examples
 count=0
 for log in "$examples"/*.log; do
     check_log "${log%.log}"
     count=$((count + 1))
 done
-echo "$count examples are as expected"
+check_words
+for word in run help --help -h; do
+    check_words "$word"
+done
+for word in extra --pages --help -h; do
+    check_words redo "$word"
+done
+check_devices
+echo "$count examples, the wrong words and the broken devices are as expected"

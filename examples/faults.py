@@ -1,5 +1,5 @@
 #!/usr/bin/env python3
-"""Spoils small logs in some thousand ways, and compares what a program answers to each with the definitions.
+"""Spoils small logs in over 3,600 ways, and compares what a program answers to each with the definitions.
 
 usage: faults.py PROGRAM
 

@@ -1,0 +1,87 @@
+#!/usr/bin/env python3
+"""Refuses each allocation of a program in turn, and compares what it answers with what it must.
+
+usage: memory.py PROGRAM LIBRARY
+
+LIBRARY is refuse_memory.rs, built as a library for LD_PRELOAD. Each example log goes to `PROGRAM redo` with its first
+allocation refused, then with its second, and so on until none is left to refuse. So do wrong words. A run that is
+refused one has to say so, to write nothing and to end with status 2; or it does without, and answers as ever.
+"""
+
+import os
+import shutil
+import subprocess
+import sys
+from pathlib import Path
+from typing import NamedTuple
+
+EXAMPLES = Path(__file__).resolve().parent
+OUT_OF_MEMORY = (2, b"", b"E1 OutOfMemory\n")
+
+
+class Failure(Exception):
+    """What is missing or wrong, in one line."""
+
+
+class Case(NamedTuple):
+    words: list
+    log: Path
+    answer: tuple
+
+
+def cases(program):
+    for log in sorted(EXAMPLES.glob("*.log")):
+        volume, fault = log.with_suffix(".volume"), log.with_suffix(".fault")
+        answer = (0, volume.read_bytes(), b"") if volume.exists() else (2, b"", fault.read_bytes())
+        yield Case(["redo"], log, answer)
+    # The texts about wrong words are tested elsewhere, so these are compared with a run that has all of its memory.
+    for words in ([], ["help"], ["run"], ["redo", "extra"]):
+        case = Case(words, Path(os.devnull), ())
+        answer, _ = run(program, case, {})
+        yield case._replace(answer=answer)
+
+
+def run(program, case, environment):
+    """The answer, and whether an allocation was refused."""
+    reading, writing = os.pipe()
+    with open(reading, "rb") as report, open(case.log, "rb") as source:
+        with open(writing, "wb"):
+            done = subprocess.run([program, *case.words], stdin=source, capture_output=True, pass_fds=[writing],
+                                  env={**os.environ, **environment, "REFUSAL_REPORT": str(writing)})
+        refused = report.read() != b""
+    return (done.returncode, done.stdout, done.stderr), refused
+
+
+def check(program, library, case):
+    """How many allocations there were to refuse."""
+    number = 0
+    while True:
+        number += 1
+        answer, refused = run(program, case, {"LD_PRELOAD": library, "REFUSED_ALLOCATION": str(number)})
+        if answer != case.answer and not (refused and answer == OUT_OF_MEMORY):
+            status, output, error = answer
+            raise Failure(f"{' '.join(case.words)} < {case.log.name}: without allocation {number} the status is"
+                          f" {status}, {len(output)} bytes are written, and standard error is {error[:80]!r}")
+        if not refused:
+            return number - 1
+
+
+def main(arguments):
+    try:
+        if len(arguments) != 2:
+            raise Failure("two arguments are wanted, the program to check and the library that refuses")
+        program, library = shutil.which(arguments[0]), os.path.abspath(arguments[1])
+        if program is None:
+            raise Failure(f"there is no program {arguments[0]}")
+        if not os.path.isfile(library):
+            raise Failure(f"there is no file {arguments[1]}")
+        count = sum(check(os.path.abspath(program), library, case) for case in cases(os.path.abspath(program)))
+        if count == 0:
+            raise Failure("no allocation was refused")
+    except (Failure, OSError) as failure:
+        sys.exit(f"memory.py: {failure}")
+    print(f"{count} refused allocations are told, or done without")
+
+
+if __name__ == "__main__":
+    main(sys.argv[1:])
