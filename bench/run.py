@@ -21,6 +21,7 @@ from typing import NamedTuple
 RECORD_SIZE = 64
 PAGE_SIZE = 512
 MEGABYTE = 1e6
+ALLOWED_RATIO = 1.5
 
 
 class Input(NamedTuple):
@@ -119,7 +120,7 @@ def table(results, least_memory):
             ratio = one.seconds / runs["plain"].seconds
             yield [an_input.name, f"{an_input.records:,}", f"{an_input.pages:,}", name, f"{one.seconds:.4f}",
                    f"{speed:,.0f}", f"{ratio:.2f}", show_memory(one.memory, least_memory),
-                   *allowance(name, one.memory, an_input.allowed_memory())]
+                   *goals(name, ratio, one.memory, an_input.allowed_memory())]
 
 
 def show_memory(memory, least_memory):
@@ -127,10 +128,10 @@ def show_memory(memory, least_memory):
     return f"≤ {memory / MEGABYTE:.1f}" if memory < 1.1 * least_memory else f"{memory / MEGABYTE:.1f}"
 
 
-def allowance(name, memory, allowed):
-    if name == "copy":
+def goals(name, ratio, memory, allowed):
+    if name != "imgcopy":
         return ["", ""]
-    return [f"{allowed / MEGABYTE:.1f}", "yes" if memory <= allowed else "no"]
+    return [f"{allowed / MEGABYTE:.1f}", "yes" if ratio <= ALLOWED_RATIO and memory <= allowed else "no"]
 
 
 def find_program(path):
