@@ -2,7 +2,7 @@
 # make demo       rebuilds a volume from the example log of four records, and shows its page
 # make test       the gate: proves every crate and tries its tests, its programs and its must-fail edits
 # make check      compares the program's answers to the examples and to spoiled logs with the expected ones, also with
-#                 each of its allocations refused in turn
+#                 each of its allocations refused in turn; where rt is used, read_log too
 # make bench      measures the program beside a plain Rust program, and prints a table
 # make examples   makes the example logs and their expected answers anew
 # make clean      removes build/, and keeps the proofs that rt keeps for itself
@@ -18,8 +18,10 @@ ROUNDS ?= 5
 
 ifeq ($(IMGCOPY),$(BUILT))
 PROGRAM := imgcopy
+check_read_log = @python3 examples/read_log_memory.py $(REFUSER)
 else
 PROGRAM := need-imgcopy
+check_read_log =
 endif
 
 need = @command -v "$(1)" > /dev/null || { echo "make: the program '$(1)' is missing: $(2)" >&2; exit 1; }
@@ -44,6 +46,7 @@ check: need-python3 need-rustc $(PROGRAM)
 	@mkdir -p build
 	@rustc --edition 2024 --crate-type cdylib -O -o $(REFUSER) examples/refuse_memory.rs
 	@python3 examples/memory.py "$(IMGCOPY)" $(REFUSER)
+	$(check_read_log)
 
 bench: need-python3 tools $(PROGRAM)
 	@python3 bench/run.py --imgcopy "$(IMGCOPY)" --tools $(TOOLS) --rounds $(ROUNDS)

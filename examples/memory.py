@@ -52,13 +52,13 @@ def run(program, case, environment):
     return (done.returncode, done.stdout, done.stderr), refused
 
 
-def check(program, library, case):
+def check(program, library, case, out_of_memory=OUT_OF_MEMORY):
     """How many allocations there were to refuse."""
     number = 0
     while True:
         number += 1
         answer, refused = run(program, case, {"LD_PRELOAD": library, "REFUSED_ALLOCATION": str(number)})
-        if answer != case.answer and not (refused and answer == OUT_OF_MEMORY):
+        if answer != case.answer and not (refused and answer == out_of_memory):
             status, output, error = answer
             raise Failure(f"{' '.join(case.words)} < {case.log.name}: without allocation {number} the status is"
                           f" {status}, {len(output)} bytes are written, and standard error is {error[:80]!r}")
