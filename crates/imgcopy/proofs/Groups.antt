@@ -4,7 +4,7 @@ use Rattle.std.proofs.lemmas.List.{append_assoc, take-append-drop, take-append-l
 use Rattle.std.proofs.lemmas.List.Concat.{flat_map-append}
 use Rattle.page_core.specs.declared.page.Page.{Page}
 use Rattle.page_core.specs.Page.{page_bytes, volume_bytes}
-use Rattle.page_core.specs.Pieces.{grow}
+use Rattle.page_core.proofs.Pieces.{grow}
 
 -- the pages of a group
 abbrev pub group : List Page → ℕ → ℕ → List Page

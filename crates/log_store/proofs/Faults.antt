@@ -4,10 +4,11 @@ use Rattle.std.specs.Prelude.{slice_range}
 use Rattle.std.proofs.lemmas.Bool.{cases_lt}
 use Rattle.log_store.specs.declared.fault.LogReadFault.{LogReadFault}
 use Rattle.log_store.specs.declared.fault.LogReadFault.TheVariants.{OutOfMemory, BadHeader, BadRecord, Torn, ReadFault, TooLong}
+use Rattle.log_store.specs.declared.limits.TheConstants.{MAX_LOG_BYTES}
 use Rattle.log_store.specs.declared.record.Record.{Record}
 use Rattle.log_store.specs.Record.{record_bytes}
 use Rattle.log_store.specs.Log.{Log, StandsAt, SpellsLog, HasHeader, lsn_of}
-use Rattle.log_store.specs.Fault.{IsPlace, IsHeader, HasRecord, HasFault, IsFirstFault, offset_of, pages_in, longest}
+use Rattle.log_store.specs.Fault.{IsPlace, IsHeader, HasRecord, HasFault, IsFirstFault, offset_of, pages_in}
 use Rattle.log_store.proofs.Logs.{AreFirst, whole_records, pages_in-header, length-log, header_of_log, record_of_log}
 
 -- a record that stands at an LSN, as a fault's absence says it
@@ -43,7 +44,7 @@ record IsSoundBefore (bytes : List ℕ) (end : ℕ) : Type 0 where
   header : IsHeader (take 64 bytes)
   records : (at : ℕ) → IsPlace at → at + 64 ≤ length bytes → at < end → HasRecord bytes at
   whole : (at : ℕ) → IsPlace at → at < length bytes → length bytes < at + 64 → end ≤ at
-  short : longest < length bytes → end ≤ longest
+  short : MAX_LOG_BYTES < length bytes → end ≤ MAX_LOG_BYTES
 
 comes_after : (bytes : List ℕ) (end : ℕ) → IsSoundBefore bytes end → (other : LogReadFault) → HasFault bytes other → end ≤ offset_of other
 comes_after bytes end sound OutOfMemory h = absurd h
@@ -83,10 +84,10 @@ record AreWhole (pages : ℕ) (bytes : List ℕ) (rs : List Record) : Type 0 whe
   first : AreFirst (whole_records bytes) pages bytes rs
 
 pub first_too_long : (pages : ℕ) (bytes : List ℕ) (rs : List Record) → HasHeader pages bytes → AreFirst (whole_records bytes) pages bytes rs
-    → longest < length bytes → IsFirstFault bytes TooLong
+    → MAX_LOG_BYTES < length bytes → IsFirstFault bytes TooLong
 first_too_long pages bytes rs header first long = record {
   there = long;
-  first = comes_after bytes longest (record {
+  first = comes_after bytes MAX_LOG_BYTES (record {
     header = has_header pages bytes header;
     records = λ at place fits lt. let h1 = place.aligned in none_before (whole_records bytes) pages bytes rs header first at place (omega arith);
     whole = λ at place lt torn. let h1 = place.aligned in let h2 = place.in_longest in omega arith;
@@ -95,7 +96,7 @@ first_too_long pages bytes rs header first long = record {
 }
 
 pub first_torn : (pages : ℕ) (bytes : List ℕ) (rs : List Record) → HasHeader pages bytes → AreFirst (whole_records bytes) pages bytes rs
-    → length bytes ≤ longest → (at : ℕ) → at ≡ length bytes / 64 * 64 → length bytes % 64 ≢ 0 → IsFirstFault bytes (Torn at)
+    → length bytes ≤ MAX_LOG_BYTES → (at : ℕ) → at ≡ length bytes / 64 * 64 → length bytes % 64 ≢ 0 → IsFirstFault bytes (Torn at)
 first_torn pages bytes rs header first short at place torn =
     let long = header.long in
     record {

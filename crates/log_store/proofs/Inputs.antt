@@ -7,8 +7,9 @@ use Rattle.std.specs.Io.KnownBytes.{Consumes, IsAtEnd}
 use Rattle.std.proofs.lemmas.List.{take-append-le, drop-append-le, length-append, length-drop, length-take, append-nil}
 use Rattle.log_store.specs.declared.fault.LogReadFault.{LogReadFault}
 use Rattle.log_store.specs.declared.fault.LogReadFault.TheVariants.{OutOfMemory, BadHeader, BadRecord, Torn, ReadFault, TooLong}
+use Rattle.log_store.specs.declared.limits.TheConstants.{MAX_LOG_BYTES}
 use Rattle.log_store.specs.Log.{Log, SpellsLog, StandsAt}
-use Rattle.log_store.specs.Fault.{IsPlace, IsHeader, HasRecord, HasFault, IsFirstFault, IsHeld, HoldsNoFault, Refuses, IsOutside, offset_of, pages_in, longest}
+use Rattle.log_store.specs.Fault.{IsPlace, IsHeader, HasRecord, HasFault, IsFirstFault, IsHeld, HoldsNoFault, Refuses, IsOutside, offset_of, pages_in}
 use Rattle.log_store.proofs.Logs.{length-header_bytes}
 use Rattle.log_store.proofs.Faults.{none_in_log, first_header}
 
@@ -38,7 +39,7 @@ record_fault given rest at fits h =
     (h.0, fits, λ has. h.2 (more_has given rest at (omega arith) fits has))
 
 -- nothing of the input comes before the first fault of what was given, where that does not come of its end
-comes_later : (given rest : List ℕ) (end : ℕ) → 64 ≤ length given → end ≤ length given → end ≤ longest
+comes_later : (given rest : List ℕ) (end : ℕ) → 64 ≤ length given → end ≤ length given → end ≤ MAX_LOG_BYTES
     → ((other : LogReadFault) → HasFault given other → end ≤ offset_of other)
     → ((at : ℕ) → IsPlace at → at < end → at + 64 ≤ length given) → (other : LogReadFault) → HasFault (given ++ rest) other → end ≤ offset_of other
 comes_later given rest end long within short first fits OutOfMemory e = absurd e
@@ -79,7 +80,7 @@ goes_on_too_long given rest h =
     let long = h.there in
     record {
       there = omega (arith, length-append given rest);
-      first = comes_later given rest longest (omega arith) (omega arith) (omega arith) h.first
+      first = comes_later given rest MAX_LOG_BYTES (omega arith) (omega arith) (omega arith) h.first
           (λ other other_place lt. let a = other_place.aligned in omega arith);
     }
 

@@ -5,7 +5,7 @@ use Rattle.std.specs.Int.{w32, to_le_bytes, from_le_bytes}
 use Rattle.std.specs.List.{flat_map}
 use Rattle.std.proofs.lemmas.List.{take_at, drop_at, take-take, drop-take, drop-drop, length-append, same_lists}
 use Rattle.std.proofs.lemmas.Nat.{from_le_bytes-to_le_bytes_4}
-use Rattle.page_core.specs.Pieces.{length-pieces, take-drop-pieces}
+use Rattle.page_core.proofs.Pieces.{length-pieces, take-drop-pieces}
 use Rattle.log_store.specs.declared.record.Record.{Record}
 use Rattle.log_store.specs.Record.{record_bytes}
 use Rattle.log_store.specs.Log.{Log, StandsAt, SpellsLog, header_bytes, lsn_of}

@@ -1,71 +1,56 @@
 -- The numbers of a record that a log may have.
 use Rattle.std.proofs.Common.{◌≡◌, ℕ, ◌<◌, ◌^◌, List, ◌++◌, take, refl, sym, ap, ◌∙◌, arith, lit<}
-use Rattle.std.specs.Prelude.{slice_range}
+use Rattle.std.specs.Prelude.{slice_range, ◌==◌, if◌then◌else◌}
 use Rattle.std.specs.Int.{w16, w32, w64, to_le_bytes, from_le_bytes}
 use Rattle.std.proofs.lemmas.List.{take_at}
 use Rattle.std.proofs.lemmas.Nat.{from_le_bytes-to_le_bytes_2, from_le_bytes-to_le_bytes_4, from_le_bytes-to_le_bytes_8}
-use Rattle.page_core.specs.Pieces.{HaveLength}
+use Rattle.page_core.proofs.Pieces.{HaveLength}
 use Rattle.page_core.specs.declared.change.Change.{Change}
 use Rattle.page_core.specs.declared.change.Change.TheVariants.{Set, Add}
+use Rattle.log_store.specs.declared.page_change.PageChange.{PageChange}
 use Rattle.log_store.specs.declared.record.Record.{Record}
 use Rattle.log_store.specs.declared.record.Record.TheVariants.{Begin, Update, Commit}
 use Rattle.log_store.specs.declared.fields.Fields.{Fields}
-use Rattle.log_store.specs.Fields.{fields_bytes, fields_of, AreInRange, change_kind, before_of, after_of}
-use Rattle.log_store.specs.Record.{record_bytes, IsRecord, IsChange}
+use Rattle.log_store.specs.declared.fields.TheConstants.{BEGIN, COMMIT, SET, UPDATE}
+use Rattle.log_store.specs.Fields.{AreInRange, fields_bytes, fields_of, fields_of_change, no_fields}
+use Rattle.log_store.specs.Record.{IsChange, IsLsn, IsPageChange, IsRecord, IsTxn, record_bytes}
 
-before_fits : (change : Change) → IsChange change → before_of change < 2 ^ 64
-before_fits (Set before after) fits = fits.0
-before_fits (Add amount) fits = lit< tt
+-- ---- they fit their bytes
 
-after_fits : (change : Change) → IsChange change → after_of change < 2 ^ 64
-after_fits (Set before after) fits = fits.1
-after_fits (Add amount) fits = fits
+change_in_range : (change : Change) → IsChange change → AreInRange (fields_of_change change)
+change_in_range (Set before after) fits = record {
+  kind = lit< tt; txn = lit< tt; prev = lit< tt; undo_next = lit< tt; page = lit< tt; slot = lit< tt;
+  change = lit< tt; before = fits.0; after = fits.1; spare = lit< tt; lsn = lit< tt;
+}
+change_in_range (Add amount) fits = record {
+  kind = lit< tt; txn = lit< tt; prev = lit< tt; undo_next = lit< tt; page = lit< tt; slot = lit< tt;
+  change = lit< tt; before = lit< tt; after = fits; spare = lit< tt; lsn = lit< tt;
+}
 
-kind_fits : (change : Change) → change_kind change < 2 ^ 16
-kind_fits (Set before after) = lit< tt
-kind_fits (Add amount) = lit< tt
+-- of a record with no change
+plain : (kind txn prev lsn : ℕ) → kind < 2 ^ 32 → IsTxn txn → prev < 2 ^ 64 → IsLsn lsn
+    → AreInRange (record no_fields { kind = kind; txn = txn; prev = prev; lsn = lsn })
+plain kind txn prev lsn kind_fits txn_valid prev_fits lsn_valid = record {
+  kind = kind_fits; txn = txn_valid.fits; prev = prev_fits; undo_next = lit< tt; page = lit< tt; slot = lit< tt;
+  change = lit< tt; before = lit< tt; after = lit< tt; spare = lit< tt; lsn = lsn_valid.fits;
+}
 
--- they fit their bytes
+-- of a record with one
+changing : (kind txn prev lsn : ℕ) (c : PageChange) → kind < 2 ^ 32 → IsTxn txn → prev < 2 ^ 64 → IsLsn lsn → IsPageChange c
+    → AreInRange (record (fields_of_change c.change) { kind = kind; txn = txn; prev = prev; page = c.page; slot = c.slot; lsn = lsn })
+changing kind txn prev lsn c kind_fits txn_valid prev_fits lsn_valid c_valid =
+    let fits = change_in_range c.change c_valid.change in
+    record {
+      kind = kind_fits; txn = txn_valid.fits; prev = prev_fits; undo_next = fits.undo_next;
+      page = omega (arith, c_valid.page); slot = omega (arith, c_valid.slot); change = fits.change;
+      before = fits.before; after = fits.after; spare = fits.spare; lsn = lsn_valid.fits;
+    }
+
 pub in_range : (r : Record) → IsRecord r → AreInRange (fields_of r)
-in_range (Begin lsn txn) valid = record {
-  kind = lit< tt;
-  txn = valid.1.fits;
-  prev = lit< tt;
-  undo_next = lit< tt;
-  page = lit< tt;
-  slot = lit< tt;
-  change = lit< tt;
-  before = lit< tt;
-  after = lit< tt;
-  spare = lit< tt;
-  lsn = valid.0.fits;
-}
-in_range (Update lsn txn prev page slot change) valid = record {
-  kind = lit< tt;
-  txn = valid.1.fits;
-  prev = valid.2.place.fits;
-  undo_next = lit< tt;
-  page = omega (arith, valid.3);
-  slot = omega (arith, valid.4);
-  change = kind_fits change;
-  before = before_fits change valid.5;
-  after = after_fits change valid.5;
-  spare = lit< tt;
-  lsn = valid.0.fits;
-}
-in_range (Commit lsn txn prev) valid = record {
-  kind = lit< tt;
-  txn = valid.1.fits;
-  prev = valid.2.place.fits;
-  undo_next = lit< tt;
-  page = lit< tt;
-  slot = lit< tt;
-  change = lit< tt;
-  before = lit< tt;
-  after = lit< tt;
-  spare = lit< tt;
-  lsn = valid.0.fits;
-}
+in_range (Begin lsn txn) valid = plain BEGIN txn 0 lsn (lit< tt) valid.1 (lit< tt) valid.0
+in_range (Update lsn txn prev page slot change) valid =
+    changing UPDATE txn prev lsn (record { page = page; slot = slot; change = change }) (lit< tt) valid.1 valid.2.place.fits valid.0 valid.3
+in_range (Commit lsn txn prev) valid = plain COMMIT txn prev lsn (lit< tt) valid.1 valid.2.place.fits valid.0
 
 pub record_length : HaveLength record_bytes 64
 unfolding fields_bytes
@@ -100,30 +85,30 @@ same_fields f g f_fits g_fits e =
       same_u64 f.lsn g.lsn f_fits.lsn g_fits.lsn (part 56 64),
     ) refl
 
-same_change : (a b : Change) → change_kind a ≡ change_kind b → before_of a ≡ before_of b → after_of a ≡ after_of b → a ≡ b
-same_change (Set before after) (Set before' after') kind e d = rw (e, d) refl
-same_change (Set before after) (Add amount) kind e d = absurd (omega arith)
-same_change (Add amount) (Set before after) kind e d = absurd (omega arith)
-same_change (Add amount) (Add amount') kind e d = rw d refl
+-- the record that has these numbers, if one does
+change_from : Fields → Change
+change_from f = if f.change == SET then Set f.before f.after else Add f.after
 
-unequal : (m n : ℕ) → m ≡ n → m < n → ⊥
-unequal m n e lt = omega arith
+record_from : Fields → Record
+record_from f =
+    if f.kind == BEGIN then Begin f.lsn f.txn
+    else (if f.kind == UPDATE then Update f.lsn f.txn f.prev f.page f.slot (change_from f)
+    else Commit f.lsn f.txn f.prev)
 
-from_fields : (r s : Record) → fields_of r ≡ fields_of s → r ≡ s
-from_fields (Begin lsn txn) (Begin lsn' txn') e = ap (λ (f : Fields). Begin f.lsn f.txn) e
-from_fields (Begin lsn txn) (Update lsn' txn' prev' page' slot' change') e = absurd (unequal 1 2 (ap (λ (f : Fields). f.kind) e) (lit< tt))
-from_fields (Begin lsn txn) (Commit lsn' txn' prev') e = absurd (unequal 1 4 (ap (λ (f : Fields). f.kind) e) (lit< tt))
-from_fields (Update lsn txn prev page slot change) (Begin lsn' txn') e = absurd (unequal 1 2 (sym (ap (λ (f : Fields). f.kind) e)) (lit< tt))
-from_fields (Update lsn txn prev page slot change) (Update lsn' txn' prev' page' slot' change') e =
-    let changes : change ≡ change' = same_change change change' (ap (λ (f : Fields). f.change) e) (ap (λ (f : Fields). f.before) e) (ap (λ (f : Fields). f.after) e) in
-    ap (λ (f : Fields). Update f.lsn f.txn f.prev f.page f.slot change) e ∙ ap (Update lsn' txn' prev' page' slot') changes
-from_fields (Update lsn txn prev page slot change) (Commit lsn' txn' prev') e = absurd (unequal 2 4 (ap (λ (f : Fields). f.kind) e) (lit< tt))
-from_fields (Commit lsn txn prev) (Begin lsn' txn') e = absurd (unequal 1 4 (sym (ap (λ (f : Fields). f.kind) e)) (lit< tt))
-from_fields (Commit lsn txn prev) (Update lsn' txn' prev' page' slot' change') e = absurd (unequal 2 4 (sym (ap (λ (f : Fields). f.kind) e)) (lit< tt))
-from_fields (Commit lsn txn prev) (Commit lsn' txn' prev') e = ap (λ (f : Fields). Commit f.lsn f.txn f.prev) e
+change_again : (change : Change) → change_from (fields_of_change change) ≡ change
+unfolding change_from
+change_again (Set before after) = refl
+change_again (Add amount) = refl
+
+record_again : (r : Record) → record_from (fields_of r) ≡ r
+unfolding record_from change_from
+record_again (Begin lsn txn) = refl
+record_again (Update lsn txn prev page slot change) = ap (Update lsn txn prev page slot) (change_again change)
+record_again (Commit lsn txn prev) = refl
 
 pub same_record : (r s : Record) → IsRecord r → IsRecord s → record_bytes r ≡ record_bytes s → r ≡ s
-same_record r s r_valid s_valid e = from_fields r s (same_fields (fields_of r) (fields_of s) (in_range r r_valid) (in_range s s_valid) e)
+same_record r s r_valid s_valid e =
+    sym (record_again r) ∙ ap record_from (same_fields (fields_of r) (fields_of s) (in_range r r_valid) (in_range s s_valid) e) ∙ record_again s
 
 -- no record's bytes begin another's
 pub records_apart : (r s : Record) (x y : List ℕ) → IsRecord r → IsRecord s → record_bytes r ++ x ≡ record_bytes s ++ y → r ≡ s

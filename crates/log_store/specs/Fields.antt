@@ -1,4 +1,4 @@
--- The numbers that the bytes of a transaction record spell.
+-- The numbers that the bytes of a record spell.
 use Rattle.std.specs.Prelude.{ℕ, ◌<◌, ◌^◌, List, ◌++◌}
 use Rattle.std.specs.Int.{w16, w32, w64, to_le_bytes}
 use Rattle.page_core.specs.declared.change.Change.{Change}
@@ -6,6 +6,7 @@ use Rattle.page_core.specs.declared.change.Change.TheVariants.{Set, Add}
 use Rattle.log_store.specs.declared.record.Record.{Record}
 use Rattle.log_store.specs.declared.record.Record.TheVariants.{Begin, Update, Commit}
 use Rattle.log_store.specs.declared.fields.Fields.{Fields}
+use Rattle.log_store.specs.declared.fields.TheConstants.{ADD, BEGIN, COMMIT, SET, UPDATE}
 
 -- each number with its lowest byte first, one after another: 64 bytes
 unfoldable pub fields_bytes : Fields → List ℕ
@@ -28,26 +29,11 @@ pub record AreInRange (f : Fields) : Type 0 where
   pub spare : f.spare < 2 ^ 64
   pub lsn : f.lsn < 2 ^ 64
 
--- 1 for a Set, 2 for an Add
-abbrev pub change_kind : Change → ℕ
-change_kind (Set before after) = 1
-change_kind (Add amount) = 2
-
--- the number that a Set replaces
-abbrev pub before_of : Change → ℕ
-before_of (Set before after) = before
-before_of (Add amount) = 0
-
--- the number that a Set leaves, or the amount of an Add
-abbrev pub after_of : Change → ℕ
-after_of (Set before after) = after
-after_of (Add amount) = amount
-
--- the numbers of a record; what a kind does not have is 0
-abbrev pub fields_of : Record → Fields
-fields_of (Begin lsn txn) = record {
-  kind = 1;
-  txn = txn;
+-- the numbers of what has none
+abbrev pub no_fields : Fields
+no_fields = record {
+  kind = 0;
+  txn = 0;
   prev = 0;
   undo_next = 0;
   page = 0;
@@ -56,31 +42,23 @@ fields_of (Begin lsn txn) = record {
   before = 0;
   after = 0;
   spare = 0;
-  lsn = lsn;
+  lsn = 0;
 }
-fields_of (Update lsn txn prev page slot change) = record {
-  kind = 2;
+
+-- the numbers of a change alone
+abbrev pub fields_of_change : Change → Fields
+fields_of_change (Set before after) = record no_fields { change = SET; before = before; after = after }
+fields_of_change (Add amount) = record no_fields { change = ADD; after = amount }
+
+-- the numbers of a record; what a kind does not have is 0
+abbrev pub fields_of : Record → Fields
+fields_of (Begin lsn txn) = record no_fields { kind = BEGIN; txn = txn; lsn = lsn }
+fields_of (Update lsn txn prev page slot change) = record (fields_of_change change) {
+  kind = UPDATE;
   txn = txn;
   prev = prev;
-  undo_next = 0;
   page = page;
   slot = slot;
-  change = change_kind change;
-  before = before_of change;
-  after = after_of change;
-  spare = 0;
   lsn = lsn;
 }
-fields_of (Commit lsn txn prev) = record {
-  kind = 4;
-  txn = txn;
-  prev = prev;
-  undo_next = 0;
-  page = 0;
-  slot = 0;
-  change = 0;
-  before = 0;
-  after = 0;
-  spare = 0;
-  lsn = lsn;
-}
+fields_of (Commit lsn txn prev) = record no_fields { kind = COMMIT; txn = txn; prev = prev; lsn = lsn }

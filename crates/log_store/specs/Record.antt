@@ -1,7 +1,11 @@
 -- The records that a log may have, and their bytes.
-use Rattle.std.specs.Prelude.{ℕ, ◌≡◌, ◌<◌, ◌≤◌, ◌^◌, ◌%◌, List}
+use Rattle.std.specs.Prelude.{ℕ, ◌≡◌, ◌<◌, ◌≤◌, ◌^◌, ◌%◌, List, Option, Some, None}
 use Rattle.page_core.specs.declared.change.Change.{Change}
 use Rattle.page_core.specs.declared.change.Change.TheVariants.{Set, Add}
+use Rattle.page_core.specs.declared.numbers.TheConstants.{LSN_STEP}
+use Rattle.page_core.specs.declared.page.TheConstants.{MAX_PAGES, SLOTS}
+use Rattle.log_store.specs.declared.limits.TheConstants.{HEADER_BYTES}
+use Rattle.log_store.specs.declared.page_change.PageChange.{PageChange}
 use Rattle.log_store.specs.declared.record.Record.{Record}
 use Rattle.log_store.specs.declared.record.Record.TheVariants.{Begin, Update, Commit}
 use Rattle.log_store.specs.Fields.{fields_of, fields_bytes}
@@ -13,8 +17,8 @@ pub record IsTxn (txn : ℕ) : Type 0 where
 
 -- the offset of a record
 pub record IsLsn (lsn : ℕ) : Type 0 where
-  pub aligned : lsn % 64 ≡ 0
-  pub past_header : 64 ≤ lsn
+  pub aligned : lsn % LSN_STEP ≡ 0
+  pub past_header : HEADER_BYTES ≤ lsn
   pub fits : lsn < 2 ^ 64
 
 -- the LSN of a record before the one at `at`
@@ -22,9 +26,16 @@ pub record IsBefore (at lsn : ℕ) : Type 0 where
   pub place : IsLsn lsn
   pub earlier : lsn < at
 
+-- the numbers of a change
 abbrev pub IsChange : Change → Type 0
 IsChange (Set before after) = (before < 2 ^ 64) × (after < 2 ^ 64)
 IsChange (Add amount) = amount < 2 ^ 64
+
+-- a change of a slot that a volume may have
+pub record IsPageChange (c : PageChange) : Type 0 where
+  pub page : c.page < MAX_PAGES
+  pub slot : c.slot < SLOTS
+  pub change : IsChange c.change
 
 -- the record's own LSN
 abbrev pub own_lsn : Record → ℕ
@@ -32,10 +43,17 @@ own_lsn (Begin lsn txn) = lsn
 own_lsn (Update lsn txn prev page slot change) = lsn
 own_lsn (Commit lsn txn prev) = lsn
 
+-- the change that redo makes of a record, if it makes one
+abbrev pub change_of : Record → Option PageChange
+change_of (Begin lsn txn) = None
+change_of (Update lsn txn prev page slot change) = Some (record { page = page; slot = slot; change = change })
+change_of (Commit lsn txn prev) = None
+
 -- a record that a log may have: only such a record has a spelling
 abbrev pub IsRecord : Record → Type 0
 IsRecord (Begin lsn txn) = IsLsn lsn × IsTxn txn
-IsRecord (Update lsn txn prev page slot change) = IsLsn lsn × IsTxn txn × IsBefore lsn prev × (page < 65536) × (slot < 62) × IsChange change
+IsRecord (Update lsn txn prev page slot change) =
+    IsLsn lsn × IsTxn txn × IsBefore lsn prev × IsPageChange (record { page = page; slot = slot; change = change })
 IsRecord (Commit lsn txn prev) = IsLsn lsn × IsTxn txn × IsBefore lsn prev
 
 -- the 64 bytes of a record

@@ -1,16 +1,17 @@
 //! A record as bytes, and back.
 
-ghost use Rattle.std.specs.Prelude.{◌≡◌, ◌<◌, ◌↔◌, IfSome, Some, IsTrue};
+ghost use Rattle.std.specs.Prelude.{◌≡◌, ◌↔◌, IfSome, Some, IsTrue};
 ghost use Rattle.log_store.specs.declared.record.Record.{Record};
 ghost use Rattle.log_store.specs.declared.record.Record.TheVariants.{Update};
 ghost use Rattle.log_store.specs.Fields.{fields_of};
-ghost use Rattle.log_store.specs.Record.{own_lsn, IsLsn, IsTxn, IsBefore, IsChange, IsRecord, SpellsRecord, record_bytes};
+ghost use Rattle.log_store.specs.Record.{IsBefore, IsLsn, IsPageChange, IsRecord, IsTxn, SpellsRecord};
+ghost use Rattle.log_store.specs.Record.{own_lsn, record_bytes};
 
 use crate::fields::{ADD, BEGIN, COMMIT, Fields, SET, UPDATE};
-use crate::log_image::MAX_PAGES;
-use crate::number::TxnNo;
-use crate::record::{RECORD_BYTES, Record};
-use page_core::{Change, Lsn, PageNo, SLOTS, SlotNo};
+use crate::limits::{HEADER_BYTES, RECORD_BYTES};
+use crate::page_change::PageChange;
+use crate::record::Record;
+use page_core::{Change, LSN_STEP, Lsn, MAX_PAGES, PageNo, SLOTS, SlotNo, TxnNo};
 
 /// The bytes of a record.
 pub fn encode(record: &Record) -> [u8; RECORD_BYTES]
@@ -62,7 +63,8 @@ fn record_of(fields: &Fields) -> Option<Record>
 
 /// An Update with this change and these numbers.
 fn update(fields: &Fields, change: Change) -> Record
-    ensures { result ≡ Update fields.now.lsn fields.now.txn fields.now.prev fields.now.page fields.now.slot change }
+    ensures { result ≡ Update fields.now.lsn fields.now.txn fields.now.prev
+        fields.now.page fields.now.slot change }
 {
     Record::Update {
         lsn: Lsn(fields.lsn),
@@ -74,8 +76,9 @@ fn update(fields: &Fields, change: Change) -> Record
     }
 }
 
-/// The record, if a log may have it and it has just these numbers. It is asked of each kind of record and of change by
-/// itself: then the compiler knows most of the numbers, and leaves out their comparison.
+/// The record, if a log may have it and it has just these numbers. It is asked of each kind of record
+/// and of change by itself: then the compiler knows most of the numbers, and leaves out their
+/// comparison.
 #[inline(always)]
 fn if_spelled(record: Record, fields: &Fields) -> Option<Record>
     ensures found { IfSome result (λ r. (r ≡ «record») × IsRecord r × (fields_of r ≡ fields.now)) }
@@ -100,7 +103,10 @@ fn is_record(record: &Record) -> bool
             page,
             slot,
             change,
-        } => is_lsn(lsn) && is_txn(txn) && is_before(lsn, prev) && is_change(page, slot, &change),
+        } => {
+            let change = PageChange { page, slot, change };
+            is_lsn(lsn) && is_txn(txn) && is_before(lsn, prev) && is_page_change(&change)
+        }
         Record::Commit { lsn, txn, prev } => is_lsn(lsn) && is_txn(txn) && is_before(lsn, prev),
     }
 }
@@ -108,7 +114,7 @@ fn is_record(record: &Record) -> bool
 fn is_lsn(lsn: Lsn) -> bool
     ensures { IsTrue result ↔ IsLsn lsn }
 {
-    lsn.0 >= 64 && lsn.0 % 64 == 0
+    lsn.0 >= HEADER_BYTES as u64 && lsn.0 % LSN_STEP == 0
 }
 
 fn is_before(at: Lsn, lsn: Lsn) -> bool
@@ -123,12 +129,12 @@ fn is_txn(txn: TxnNo) -> bool
     txn.0 >= 1
 }
 
-fn is_change(page: PageNo, slot: SlotNo, change: &Change) -> bool
-    ensures { IsTrue result ↔ ((page < 65536) × (slot < 62) × IsChange change.now) }
+fn is_page_change(change: &PageChange) -> bool
+    ensures { IsTrue result ↔ IsPageChange change.now }
 {
-    let is_there = page.0 < MAX_PAGES && (slot.0 as usize) < SLOTS;
+    let is_there = change.page.0 < MAX_PAGES && (change.slot.0 as usize) < SLOTS;
     // The arms bind the change's numbers, and a bound number is known to fit its type.
-    match *change {
+    match change.change {
         Change::Set {
             before: _before,
             after: _after,

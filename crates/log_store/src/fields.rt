@@ -1,13 +1,14 @@
-//! The numbers that the bytes of a transaction record spell.
+//! The numbers that the bytes of a record spell.
 
 ghost use Rattle.std.specs.Prelude.{◌≡◌};
 
-use crate::record::{RECORD_BYTES, Record};
+use crate::limits::RECORD_BYTES;
+use crate::record::Record;
 use page_core::Change;
 use page_core::field::{u16_at, u32_at, u64_at};
 
-/// The numbers of a transaction record in the order of its bytes. A field that a kind does not have is 0.
-/// Where a byte is followed by bytes that are always 0, the byte and these are one number.
+/// The numbers of a record in the order of its bytes. A field that a kind does not have is 0. Where a
+/// byte is followed by bytes that are always 0, the byte and these are one number.
 #[derive(Clone, Copy, Debug, PartialEq, Eq)]
 pub struct Fields {
     pub kind: u32,
@@ -53,13 +54,14 @@ const NO_FIELDS: Fields = Fields {
 };
 
 impl Fields {
-    ghost use Rattle.log_store.specs.Fields.{fields_bytes, fields_of, AreInRange};
+    ghost use Rattle.log_store.specs.Fields.{AreInRange, fields_bytes, fields_of, fields_of_change};
     ghost use Rattle.log_store.specs.declared.fields.Fields.{Fields};
 
     /// The numbers that these bytes spell.
     pub fn read(bytes: &[u8; RECORD_BYTES]) -> Fields
         ensures found { bytes.now ≡ fields_bytes result }
-        ensures only { (fields : Fields) → AreInRange fields → bytes.now ≡ fields_bytes fields → result ≡ fields }
+        ensures only { (fields : Fields) → AreInRange fields → bytes.now ≡ fields_bytes fields
+            → result ≡ fields }
     {
         Fields {
             kind: u32_at(bytes, 0),
@@ -99,43 +101,54 @@ impl Fields {
     pub fn of(record: &Record) -> Fields
         ensures { result ≡ fields_of «record».now }
     {
+        let lsn = record.lsn().0;
         match *record {
-            Record::Begin { lsn, txn } => Fields {
+            Record::Begin { txn, .. } => Fields {
                 kind: BEGIN,
                 txn: txn.0,
-                lsn: lsn.0,
+                lsn,
                 ..NO_FIELDS
             },
             Record::Update {
-                lsn,
                 txn,
                 prev,
                 page,
                 slot,
                 change,
-            } => {
-                let (change_kind, before, after) = match change {
-                    Change::Set { before, after } => (SET, before, after),
-                    Change::Add { amount } => (ADD, 0, amount),
-                };
-                Fields {
-                    kind: UPDATE,
-                    txn: txn.0,
-                    prev: prev.0,
-                    page: page.0,
-                    slot: slot.0,
-                    change: change_kind,
-                    before,
-                    after,
-                    lsn: lsn.0,
-                    ..NO_FIELDS
-                }
-            }
-            Record::Commit { lsn, txn, prev } => Fields {
+                ..
+            } => Fields {
+                kind: UPDATE,
+                txn: txn.0,
+                prev: prev.0,
+                page: page.0,
+                slot: slot.0,
+                lsn,
+                ..Fields::of_change(&change)
+            },
+            Record::Commit { txn, prev, .. } => Fields {
                 kind: COMMIT,
                 txn: txn.0,
                 prev: prev.0,
-                lsn: lsn.0,
+                lsn,
+                ..NO_FIELDS
+            },
+        }
+    }
+
+    /// The numbers of a change alone.
+    fn of_change(change: &Change) -> Fields
+        ensures { result ≡ fields_of_change change.now }
+    {
+        match *change {
+            Change::Set { before, after } => Fields {
+                change: SET,
+                before,
+                after,
+                ..NO_FIELDS
+            },
+            Change::Add { amount } => Fields {
+                change: ADD,
+                after: amount,
                 ..NO_FIELDS
             },
         }

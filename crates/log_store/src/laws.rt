@@ -9,7 +9,8 @@ ghost use Rattle.log_store.specs.Fault.{HasFault};
 
 /// No record's spelling begins another record's, so two different records have different spellings.
 pub fn records_are_spelled_apart()
-    ensures { (a b : Record) (x y : List ℕ) → IsRecord a → IsRecord b → record_bytes a ++ x ≡ record_bytes b ++ y → a ≡ b }
+    ensures { (a b : Record) (x y : List ℕ) → IsRecord a → IsRecord b
+        → record_bytes a ++ x ≡ record_bytes b ++ y → a ≡ b }
 {}
 
 /// Two different logs have different spellings.
@@ -19,5 +20,6 @@ pub fn logs_are_spelled_apart()
 
 /// The spelling of a log has no fault.
 pub fn spelled_logs_have_no_fault()
-    ensures { (log : Log) (bytes : List ℕ) → SpellsLog log bytes → (fault : LogReadFault) → ¬ HasFault bytes fault }
+    ensures { (log : Log) (bytes : List ℕ) → SpellsLog log bytes → (fault : LogReadFault)
+        → ¬ HasFault bytes fault }
 {}

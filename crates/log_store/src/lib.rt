@@ -4,21 +4,29 @@
 mod codec;
 mod fault;
 mod fields;
+mod header;
 mod laws;
+mod limits;
 mod log_image;
-mod number;
+mod page_change;
+mod place;
 mod read;
 mod record;
 mod scan;
+mod sink;
 
 pub use codec::{decode, encode};
 pub use fault::LogReadFault;
+pub use header::encode_header;
 pub use laws::{logs_are_spelled_apart, records_are_spelled_apart, spelled_logs_have_no_fault};
-pub use log_image::{HEADER_BYTES, LogImage, MAX_LOG_BYTES, MAX_PAGES, MAX_RECORDS, encode_header};
-pub use number::TxnNo;
+pub use limits::{HEADER_BYTES, MAX_LOG_BYTES, MAX_RECORDS, RECORD_BYTES};
+pub use log_image::LogImage;
+pub use page_change::PageChange;
+pub use page_core::{MAX_PAGES, TxnNo};
 pub use read::read_log;
-pub use record::{RECORD_BYTES, Record};
-pub use scan::{RecordSink, scan_log};
+pub use record::Record;
+pub use scan::scan_log;
+pub use sink::RecordSink;
 
 #[cfg(test)]
 mod tests;

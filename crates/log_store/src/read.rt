@@ -13,16 +13,14 @@ use std::io::Read;
 
 /// Reads a whole log, to the input's end.
 ///
-/// It stops at the first fault, since nothing behind it can come before it. Where the reader stands then is not said.
-/// An interrupted read is made again. `ReadFault` comes where the reader fails otherwise, and where it was asked
-/// 134,217,728 times without coming to its end. `OutOfMemory` comes where room for what is read is refused.
+/// The faults, and where the reader stands after one, are those of `scan_log`.
 pub fn read_log<R: Read>(alloc: Global, reader: &mut R) -> Result<LogImage, LogReadFault>
     // What is read is spelled so, and nothing follows it.
     ensures found { IfOk result (λ log. IfSome (R.remaining reader.old) (SpellsLog log)) }
     ensures end { OnOk result (IsAtEnd (R.remaining reader.new)) }
     // What is spelled so is read, unless memory runs out or the reader fails.
-    ensures only { (log : Log) (input : List ℕ) → R.remaining reader.old ≡ Some input → SpellsLog log input
-        → MatchResult result (λ read. read ≡ log) IsOutside }
+    ensures only { (log : Log) (input : List ℕ) → R.remaining reader.old ≡ Some input
+        → SpellsLog log input → MatchResult result (λ read. read ≡ log) IsOutside }
     // The fault is the first one.
     ensures first { IfErr result (λ fault. IfSome (R.remaining reader.old) (λ input. Refuses input fault)) }
     // Where the reader failed, what it gave until then holds none.

@@ -1,13 +1,10 @@
-//! A record of the log.
+//! A record of the log says one thing that a transaction did.
 
-use crate::number::TxnNo;
-use page_core::{Change, Lsn, PageNo, SlotNo};
+use crate::page_change::PageChange;
+use page_core::{Change, Lsn, PageNo, SlotNo, TxnNo};
 
-/// How many bytes a record has.
-pub const RECORD_BYTES: usize = 64;
-
-/// A record of the log (ARIES, section 4.1). `lsn` is its own LSN, and `prev` its PrevLSN: the LSN of the same
-/// transaction's record before it.
+/// A record of the log (ARIES, section 4.1). `lsn` is its own LSN, and `prev` its PrevLSN: the LSN
+/// of the same transaction's record before it.
 #[derive(Clone, Copy, Debug, PartialEq, Eq)]
 pub enum Record {
     /// A transaction begins.
@@ -34,7 +31,7 @@ pub enum Record {
 
 impl Record {
     ghost use Rattle.std.specs.Prelude.{◌≡◌};
-    ghost use Rattle.log_store.specs.Record.{own_lsn};
+    ghost use Rattle.log_store.specs.Record.{change_of, own_lsn};
 
     /// The record's own LSN.
     pub fn lsn(&self) -> Lsn
@@ -43,6 +40,21 @@ impl Record {
         match *self {
             Record::Begin { lsn, .. } | Record::Update { lsn, .. } | Record::Commit { lsn, .. } =>
                 lsn,
+        }
+    }
+
+    /// The change that redo makes of the record, if it makes one.
+    pub fn change(&self) -> Option<PageChange>
+        ensures { result ≡ change_of self.now }
+    {
+        match *self {
+            Record::Update {
+                page,
+                slot,
+                change,
+                ..
+            } => Some(PageChange { page, slot, change }),
+            Record::Begin { .. } | Record::Commit { .. } => None,
         }
     }
 }

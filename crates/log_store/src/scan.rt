@@ -1,17 +1,21 @@
 //! The reading of a log, a part at a time.
 
-ghost use Rattle.std.specs.Prelude.{ℕ, ◌≡◌, ◌+◌, ◌*◌, ◌/◌, ◌<◌, ◌≤◌, ◌++◌, ◌-◌, [], List, length, vec_len, take, drop, IfOk, IfErr, IfSome, OnOk};
+ghost use Rattle.std.specs.Prelude.{ℕ, ◌≡◌, ◌+◌, ◌*◌, ◌/◌, ◌<◌, ◌≤◌, ◌++◌, ◌-◌, [], List};
+ghost use Rattle.std.specs.Prelude.{length, take, drop, IfOk, IfErr, IfSome, OnOk};
 ghost use Rattle.std.specs.Io.KnownBytes.{Consumes, IsAtEnd};
-ghost use Rattle.log_store.specs.Log.{Log, IsLog, IsPageCount, SpellsLog, header_bytes};
+ghost use Rattle.log_store.specs.Log.{IsLog, Log, SpellsLog, header_bytes};
 ghost use Rattle.log_store.specs.Fault.{Refuses, GaveNoFault, IsNoReadFault};
-ghost use Rattle.log_store.specs.Scan.{with_next, HasRead, HasTaken, HasAll};
+ghost use Rattle.log_store.specs.Scan.{HasAll, HasRead, HasTaken};
 ghost use Rattle.log_store.specs.Turn.{Gives};
 
 use crate::fault::LogReadFault;
-use crate::log_image::{HEADER_BYTES, MAX_RECORDS, page_count, record_in};
-use crate::record::{RECORD_BYTES, Record};
-use page_core::Lsn;
-use std::alloc::{AllocError, Global};
+use crate::header::page_count;
+use crate::limits::{HEADER_BYTES, MAX_RECORDS, RECORD_BYTES};
+use crate::place::record_at;
+use crate::record::Record;
+use crate::sink::RecordSink;
+use page_core::{LSN_STEP, Lsn, zeros};
+use std::alloc::Global;
 use std::io::{ErrorKind, Read};
 
 /// How often a reader is asked for more bytes, at most.
@@ -20,25 +24,6 @@ const MAX_TURNS: u32 = 134_217_728;
 /// How many bytes it is asked for at once, at most.
 const BUFFER_BYTES: usize = 262_144;
 
-/// What takes the records of a log as they are read.
-pub trait RecordSink {
-    /// What the sink holds is what it makes of this log.
-    ghost holds: { Self → Log → Type 0 };
-
-    /// A sink for the records of a log of so many pages.
-    fn start(alloc: Global, pages: u32) -> Result<Self, AllocError>
-    where
-        Self: Sized,
-        requires { IsPageCount pages }
-        ensures { IfOk result (λ sink. holds sink (record { pages = pages; records = [] })) };
-
-    /// Takes the next records, in their order. After an `Err` nothing is known of what the sink holds.
-    fn take(&mut self, next: &[Record]) -> Result<(), AllocError>
-        requires { (log : Log) × (holds self.old log × IsLog (with_next log next.now)) }
-        ensures { OnOk result ((log : Log) → holds self.old log → IsLog (with_next log next.now)
-            → holds self.new (with_next log next.now)) };
-}
-
 /// Puts a record behind those that were read since the sink took some.
 fn push_record(
     records: &mut Vec<Record>,
@@ -46,8 +31,9 @@ fn push_record(
     count: usize,
     bytes: &[u8],
 ) -> Result<(), LogReadFault>
-    requires whole { length bytes.now ≡ 64 }
-    ensures ok { OnOk result ((log : Log) (given : List ℕ) → HasRead log records.old.items pages count given
+    requires whole { length bytes.now ≡ RECORD_BYTES }
+    ensures ok { OnOk result ((log : Log) (given : List ℕ)
+        → HasRead log records.old.items pages count given
         → HasRead log records.new.items pages (count + 1) (given ++ bytes.now)) }
     ensures first { IfErr result (λ fault. (log : Log) (given rest : List ℕ)
         → HasRead log records.old.items pages count given
@@ -57,15 +43,16 @@ fn push_record(
     if count >= MAX_RECORDS {
         return Err(LogReadFault::TooLong);
     }
-    let at = Lsn(64 * (count as u64 + 1));
-    match record_in(bytes, at, pages) {
+    let at = Lsn(LSN_STEP * (count as u64 + 1));
+    match record_at(bytes, at, pages) {
         Some(record) => Ok(records.push(record)?),
         None => Err(LogReadFault::BadRecord(at)),
     }
 }
 
-/// Takes the whole records among these bytes, which stand behind the first `count` records. The sink gets them all at
-/// once, and can go over them in a short loop: then the processor fetches the pages of several records at a time.
+/// Takes the whole records among these bytes, which stand behind the first `count` records. The sink
+/// gets them all at once, and can go over them in a short loop: then the processor fetches the pages of
+/// several records at a time.
 fn take_records<S: RecordSink>(
     sink: &mut S,
     records: &mut Vec<Record>,
@@ -75,9 +62,10 @@ fn take_records<S: RecordSink>(
 ) -> Result<(), LogReadFault>
     requires { (given : List ℕ) × HasTaken S.holds sink.old pages count given }
     ensures ok { OnOk result ((given : List ℕ) → HasTaken S.holds sink.old pages count given
-        → HasTaken S.holds sink.new pages (count + length bytes.now / 64)
-        (given ++ take (64 * (length bytes.now / 64)) bytes.now)) }
-    ensures first { IfErr result (λ fault. (given rest : List ℕ) → HasTaken S.holds sink.old pages count given
+        → HasTaken S.holds sink.new pages (count + length bytes.now / RECORD_BYTES)
+        (given ++ take (RECORD_BYTES * (length bytes.now / RECORD_BYTES)) bytes.now)) }
+    ensures first { IfErr result (λ fault. (given rest : List ℕ)
+        → HasTaken S.holds sink.old pages count given
         → Refuses (given ++ (bytes.now ++ rest)) fault) }
     ensures of_bytes { IfErr result IsNoReadFault }
 {
@@ -91,9 +79,9 @@ fn take_records<S: RecordSink>(
 
 /// Reads the header, and answers how many turns that took.
 fn read_header<R: Read>(reader: &mut R, header: &mut [u8]) -> Result<u32, LogReadFault>
-    requires { length header.old ≡ 64 }
+    requires { length header.old ≡ HEADER_BYTES }
     ensures ok { OnOk result (Consumes (R.remaining reader.old) (R.remaining reader.new) header.new) }
-    ensures turns { IfOk result (λ turns. turns ≤ 134217728) }
+    ensures turns { IfOk result (λ turns. turns ≤ MAX_TURNS) }
     ensures first { IfErr result (λ fault. IfSome (R.remaining reader.old) (λ input. Refuses input fault)) }
     ensures unread { IfErr result (GaveNoFault [] (R.remaining reader.old) (R.remaining reader.new)) }
 {
@@ -123,7 +111,8 @@ enum Turn {
 /// Asks a reader for more bytes, behind those that fill the buffer.
 fn read_more<R: Read>(reader: &mut R, buffer: &mut [u8], filled: usize) -> Turn
     requires { filled < length buffer.old }
-    ensures { Gives (R.remaining reader.old) (R.remaining reader.new) filled buffer.old buffer.new result }
+    ensures { Gives (R.remaining reader.old) (R.remaining reader.new) filled
+        buffer.old buffer.new result }
 {
     match reader.read(&mut buffer[filled..]) {
         Ok(0) => Turn::End,
@@ -150,11 +139,13 @@ fn read_records<R: Read, S: RecordSink>(
     requires room { 128 ≤ length buffer.old }
     requires taken { HasTaken S.holds sink.old pages 0 (header_bytes pages) }
     ensures end { OnOk result (IsAtEnd (R.remaining reader.new)) }
-    ensures found { OnOk result ((read : List ℕ) × (Consumes (R.remaining reader.old) (R.remaining reader.new) read
+    ensures found { OnOk result ((read : List ℕ)
+        × (Consumes (R.remaining reader.old) (R.remaining reader.new) read
         × HasAll S.holds sink.new (header_bytes pages ++ read))) }
     ensures first { IfErr result (λ fault.
         IfSome (R.remaining reader.old) (λ rest. Refuses (header_bytes pages ++ rest) fault)) }
-    ensures unread { IfErr result (GaveNoFault (header_bytes pages) (R.remaining reader.old) (R.remaining reader.new)) }
+    ensures unread { IfErr result (GaveNoFault (header_bytes pages)
+        (R.remaining reader.old) (R.remaining reader.new)) }
 {
     let mut filled = 0;
     let mut count = 0;
@@ -176,23 +167,25 @@ fn read_records<R: Read, S: RecordSink>(
 
 /// Whether a log may end here, where so many bytes follow its first `count` records.
 fn at_end(count: usize, filled: usize) -> Result<(), LogReadFault>
-    requires { count ≤ 1048576 }
+    requires { count ≤ MAX_RECORDS }
     ensures ok { OnOk result (filled ≡ 0) }
-    ensures err { IfErr result (λ fault. (0 < filled) × (fault ≡ LogReadFault.Torn (64 * (count + 1)))) }
+    ensures err { IfErr result (λ fault.
+        (0 < filled) × (fault ≡ LogReadFault.Torn (LSN_STEP * (count + 1)))) }
 {
     if filled == 0 {
         Ok(())
     } else {
-        Err(LogReadFault::Torn(Lsn(64 * (count as u64 + 1))))
+        Err(LogReadFault::Torn(Lsn(LSN_STEP * (count as u64 + 1))))
     }
 }
 
 /// Moves the bytes behind the whole records to the front, and answers how many there are.
 fn keep_rest(buffer: &mut [u8], filled: usize) -> usize
     requires { filled ≤ length buffer.old }
-    ensures short { result < 64 }
-    ensures rest { take result buffer.new ≡ drop (64 * (filled / 64)) (take filled buffer.old) }
-    ensures count { result ≡ filled - 64 * (filled / 64) }
+    ensures short { result < RECORD_BYTES }
+    ensures rest { take result buffer.new
+        ≡ drop (RECORD_BYTES * (filled / RECORD_BYTES)) (take filled buffer.old) }
+    ensures count { result ≡ filled - RECORD_BYTES * (filled / RECORD_BYTES) }
 {
     let whole = RECORD_BYTES * (filled / RECORD_BYTES);
     for i in 0..filled - whole {
@@ -201,12 +194,13 @@ fn keep_rest(buffer: &mut [u8], filled: usize) -> usize
     filled - whole
 }
 
-/// Reads a log to the input's end, and hands its records to a sink as they come. A record is handed on only once all of
-/// the bytes up to its end are found right.
+/// Reads a log to the input's end, and hands its records to a sink as they come. A record is handed on
+/// only once all of the bytes up to its end are found right.
 ///
-/// It stops at the first fault, since nothing behind it can come before it. Where the reader stands then is not said.
-/// An interrupted read is made again. `ReadFault` comes where the reader fails otherwise, and where it was asked
-/// 134,217,728 times without coming to its end. `OutOfMemory` comes where room for the sink or for what is read is refused.
+/// It stops at the first fault, since nothing behind it can come before it. Where the reader stands
+/// then is not said. An interrupted read is made again. `ReadFault` comes where the reader fails
+/// otherwise, and where it was asked 134,217,728 times without coming to its end. `OutOfMemory` comes
+/// where room for the sink or for what is read is refused.
 pub fn scan_log<R: Read, S: RecordSink + Drop>(
     alloc: Global,
     reader: &mut R,
@@ -237,11 +231,4 @@ pub fn scan_log<R: Read, S: RecordSink + Drop>(
         &mut records,
     )?;
     Ok(sink)
-}
-
-fn zeros(alloc: Global, count: usize) -> Result<Vec<u8>, AllocError>
-    requires { 128 ≤ count }
-    ensures { IfOk result (λ bytes. 128 ≤ vec_len bytes) }
-{
-    vec![in alloc; 0; count]
 }

@@ -5,7 +5,7 @@ use Rattle.std.specs.List.{flat_map, AllByRecursion}
 use Rattle.std.proofs.lemmas.List.{take_at, drop_at, take_more}
 use Rattle.std.proofs.lemmas.List.Concat.{flat_map-append}
 use Rattle.std.proofs.lemmas.Nat.{from_le_bytes-to_le_bytes_8}
-use Rattle.page_core.specs.Pieces.{HaveLength}
+use Rattle.page_core.proofs.Pieces.{HaveLength}
 
 pub eight_bytes : HaveLength (to_le_bytes w64) 8
 eight_bytes = record { each = λ n. refl }

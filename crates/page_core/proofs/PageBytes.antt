@@ -9,7 +9,7 @@ use Rattle.std.proofs.lemmas.Nat.{from_le_bytes-to_le_bytes_4, from_le_bytes-to_
 use borrow.Rule.Slice.PartMut.{put_mid}
 use Rattle.page_core.specs.declared.page.Page.{Page}
 use Rattle.page_core.specs.Page.{page_bytes, volume_bytes, IsPage}
-use Rattle.page_core.specs.Pieces.{grow, length-pieces}
+use Rattle.page_core.proofs.Pieces.{grow, length-pieces}
 use Rattle.page_core.proofs.EightBytes.{eight_bytes, same_numbers}
 
 -- a list of 512 after writes to its four parts

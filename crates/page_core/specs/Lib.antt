@@ -1,3 +1,2 @@
 pub mod Change
 pub mod Page
-pub mod Pieces

@@ -3,12 +3,14 @@ use Rattle.std.specs.Prelude.{ℕ, ◌≡◌, ◌<◌, ◌^◌, ◌%◌, List, l
 use Rattle.std.specs.List.{flat_map, AllByRecursion}
 use Rattle.std.specs.Int.{w32, w64, to_le_bytes}
 use Rattle.page_core.specs.declared.change.Change.{Change}
+use Rattle.page_core.specs.declared.numbers.TheConstants.{LSN_STEP}
 use Rattle.page_core.specs.declared.page.Page.{Page}
+use Rattle.page_core.specs.declared.page.TheConstants.{FORMAT, MAX_PAGES, SLOTS}
 use Rattle.page_core.specs.Change.{changed}
 
 -- a page as a new volume has it
 unfoldable pub formatted : ℕ → Page
-formatted number = record { number = number; lsn = 0; slots = replicate 62 0 }
+formatted number = record { number = number; lsn = 0; slots = replicate SLOTS 0 }
 
 -- redo: the slot has the changed number, and the page the LSN of the record
 abbrev pub put : Page → ℕ → ℕ → Change → Page
@@ -19,14 +21,16 @@ put page lsn slot change = record page {
 
 -- the page's number, the format 1, its LSN and its slots, each with the lowest byte first
 unfoldable pub page_bytes : Page → List ℕ
-page_bytes page = to_le_bytes w32 page.number ++ to_le_bytes w32 1 ++ to_le_bytes w64 page.lsn ++ flat_map (to_le_bytes w64) page.slots
+page_bytes page =
+    to_le_bytes w32 page.number ++ to_le_bytes w32 FORMAT ++ to_le_bytes w64 page.lsn
+    ++ flat_map (to_le_bytes w64) page.slots
 
 -- a page that a volume may have: only such a page has a spelling
 pub record IsPage (page : Page) : Type 0 where
-  pub number : page.number < 65536
+  pub number : page.number < MAX_PAGES
   pub lsn : page.lsn < 2 ^ 64
-  pub at_record : page.lsn % 64 ≡ 0
-  pub count : length page.slots ≡ 62
+  pub at_record : page.lsn % LSN_STEP ≡ 0
+  pub count : length page.slots ≡ SLOTS
   pub slots : AllByRecursion (λ n. n < 2 ^ 64) page.slots
 
 -- the bytes are the one spelling of the page

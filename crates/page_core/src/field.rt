@@ -7,8 +7,8 @@ ghost use Rattle.std.specs.Int.{w16, w32, w64, to_le_bytes};
 pub fn u16_at(bytes: &[u8], at: usize) -> u16
     requires { at + 2 ≤ length bytes.now }
     ensures spelled { to_le_bytes w16 result ≡ slice_range bytes.now at (at + 2) }
-    ensures only { (number : ℕ) → number < 2 ^ 16 → to_le_bytes w16 number ≡ slice_range bytes.now at (at + 2)
-        → result ≡ number }
+    ensures only { (number : ℕ) → number < 2 ^ 16
+        → to_le_bytes w16 number ≡ slice_range bytes.now at (at + 2) → result ≡ number }
 {
     let field = &bytes[at..at + 2];
     u16::from_le_bytes([field[0], field[1]])
@@ -18,8 +18,8 @@ pub fn u16_at(bytes: &[u8], at: usize) -> u16
 pub fn u32_at(bytes: &[u8], at: usize) -> u32
     requires { at + 4 ≤ length bytes.now }
     ensures spelled { to_le_bytes w32 result ≡ slice_range bytes.now at (at + 4) }
-    ensures only { (number : ℕ) → number < 2 ^ 32 → to_le_bytes w32 number ≡ slice_range bytes.now at (at + 4)
-        → result ≡ number }
+    ensures only { (number : ℕ) → number < 2 ^ 32
+        → to_le_bytes w32 number ≡ slice_range bytes.now at (at + 4) → result ≡ number }
 {
     let field = &bytes[at..at + 4];
     u32::from_le_bytes([field[0], field[1], field[2], field[3]])
@@ -29,8 +29,8 @@ pub fn u32_at(bytes: &[u8], at: usize) -> u32
 pub fn u64_at(bytes: &[u8], at: usize) -> u64
     requires { at + 8 ≤ length bytes.now }
     ensures spelled { to_le_bytes w64 result ≡ slice_range bytes.now at (at + 8) }
-    ensures only { (number : ℕ) → number < 2 ^ 64 → to_le_bytes w64 number ≡ slice_range bytes.now at (at + 8)
-        → result ≡ number }
+    ensures only { (number : ℕ) → number < 2 ^ 64
+        → to_le_bytes w64 number ≡ slice_range bytes.now at (at + 8) → result ≡ number }
 {
     let field = &bytes[at..at + 8];
     u64::from_le_bytes([

@@ -1,4 +1,4 @@
-//! Numbers that name a page, a slot of a page, and a place in the log.
+//! Numbers that name a page, a slot of a page, a place in the log, and a transaction.
 
 use std::marker::Model;
 
@@ -30,6 +30,9 @@ impl Model for SlotNo {
     ghost inverse = { λ n. record { 0 = n } };
 }
 
+/// Each LSN is a multiple of this: so many bytes lie between two records of the log.
+pub const LSN_STEP: u64 = 64;
+
 /// A log sequence number: the byte offset of a record in the log. 0 means "none", since the log
 /// begins with its header.
 #[derive(Clone, Copy, Debug, PartialEq, Eq, PartialOrd, Ord, Hash)]
@@ -41,6 +44,20 @@ impl Model for Lsn {
     ghost Value = { ℕ };
 
     ghost view = { λ lsn. lsn.0 };
+
+    ghost inverse = { λ n. record { 0 = n } };
+}
+
+/// The number of a transaction. The first one is 1.
+#[derive(Clone, Copy, Debug, PartialEq, Eq, PartialOrd, Ord, Hash)]
+pub struct TxnNo(pub u32);
+
+impl Model for TxnNo {
+    ghost use Rattle.std.specs.Prelude.{ℕ};
+
+    ghost Value = { ℕ };
+
+    ghost view = { λ txn. txn.0 };
 
     ghost inverse = { λ n. record { 0 = n } };
 }

@@ -4,11 +4,11 @@ ghost use Rattle.std.specs.Prelude.{ℕ, ◌≡◌, ◌<◌, ◌*◌, ◌^◌, �
 ghost use Rattle.std.specs.List.{flat_map, AllByRecursion};
 ghost use Rattle.std.specs.Int.{w64, to_le_bytes};
 ghost use Rattle.page_core.specs.declared.page.Page.{Page};
-ghost use Rattle.page_core.specs.Page.{formatted, put, page_bytes, volume_bytes, IsPage, SpellsPage};
+ghost use Rattle.page_core.specs.Page.{IsPage, SpellsPage, formatted, page_bytes, put, volume_bytes};
 
 use crate::change::Change;
 use crate::field::{u32_at, u64_at};
-use crate::numbers::{Lsn, PageNo, SlotNo};
+use crate::numbers::{LSN_STEP, Lsn, PageNo, SlotNo};
 use std::error::Error;
 use std::fmt;
 
@@ -21,8 +21,8 @@ pub const PAGE_BYTES: usize = 512;
 /// The format that a page names behind its number.
 const FORMAT: u32 = 1;
 
-/// The largest number of a page.
-const LAST_PAGE: u32 = 65_535;
+/// How many pages a volume may have, so their numbers are below this.
+pub const MAX_PAGES: u32 = 65_536;
 
 /// A page: its number, the LSN of the last record whose change it has, and its slots.
 #[derive(Clone, Debug, Drop, PartialEq, Eq)]
@@ -30,7 +30,7 @@ pub struct Page {
     pub number: PageNo,
     /// A multiple of 64, and 0 where the page has no record's change.
     pub lsn: Lsn,
-    pub slots: [u64; 62],
+    pub slots: [u64; SLOTS],
 }
 
 /// Bytes that are no page.
@@ -51,12 +51,14 @@ impl Error for BadPage {}
 
 /// No page's spelling begins another page's, so two different pages have different spellings.
 pub fn pages_are_spelled_apart()
-    ensures { (a b : Page) (x y : List ℕ) → IsPage a → IsPage b → page_bytes a ++ x ≡ page_bytes b ++ y → a ≡ b }
+    ensures { (a b : Page) (x y : List ℕ) → IsPage a → IsPage b
+        → page_bytes a ++ x ≡ page_bytes b ++ y → a ≡ b }
 {}
 
 /// Two different volumes have different spellings.
 pub fn volumes_are_spelled_apart()
-    ensures { (a b : List Page) → AllByRecursion IsPage a → AllByRecursion IsPage b → volume_bytes a ≡ volume_bytes b → a ≡ b }
+    ensures { (a b : List Page) → AllByRecursion IsPage a → AllByRecursion IsPage b
+        → volume_bytes a ≡ volume_bytes b → a ≡ b }
 {}
 
 impl Page {
@@ -68,7 +70,7 @@ impl Page {
         Page {
             number,
             lsn: Lsn(0),
-            slots: [0; 62],
+            slots: [0; SLOTS],
         }
     }
 
@@ -84,8 +86,8 @@ impl Page {
         self.lsn = lsn;
     }
 
-    /// The bytes of the page: its number in four bytes, the format 1 in four, its LSN in eight, and each slot in eight,
-    /// each with the lowest byte first.
+    /// The bytes of the page: its number in four bytes, the format 1 in four, its LSN in eight,
+    /// and each slot in eight, each with the lowest byte first.
     pub fn to_bytes(&self) -> [u8; PAGE_BYTES]
         ensures { result ≡ page_bytes self.now }
     {
@@ -94,8 +96,9 @@ impl Page {
         bytes
     }
 
-    fn write_to(&self, bytes: &mut [u8])
-        requires { length bytes.old ≡ 512 }
+    /// Puts the bytes of the page in the place of these, as `to_bytes` gives them.
+    pub fn write_to(&self, bytes: &mut [u8])
+        requires { length bytes.old ≡ PAGE_BYTES }
         ensures { bytes.new ≡ page_bytes self.now }
     {
         bytes[..4].copy_from_slice(&self.number.0.to_le_bytes());
@@ -115,7 +118,7 @@ impl Page {
         let number = u32_at(bytes, 0);
         let format = u32_at(bytes, 4);
         let lsn = u64_at(bytes, 8);
-        if number > LAST_PAGE || format != FORMAT || lsn % 64 != 0 {
+        if number >= MAX_PAGES || format != FORMAT || lsn % LSN_STEP != 0 {
             return Err(BadPage);
         }
         Ok(Page {
@@ -138,11 +141,11 @@ fn put_slots(bytes: &mut [u8], slots: &[u64])
 
 /// The numbers in these bytes, eight for each.
 fn slots_in(bytes: &[u8]) -> [u64; SLOTS]
-    requires { length bytes.now ≡ 496 }
-    ensures count { length result ≡ 62 }
+    requires { length bytes.now ≡ 8 * SLOTS }
+    ensures count { length result ≡ SLOTS }
     ensures fit { AllByRecursion (λ n. n < 2 ^ 64) result }
     ensures found { bytes.now ≡ flat_map (to_le_bytes w64) result }
-    ensures only { (slots : List ℕ) → length slots ≡ 62 → AllByRecursion (λ n. n < 2 ^ 64) slots
+    ensures only { (slots : List ℕ) → length slots ≡ SLOTS → AllByRecursion (λ n. n < 2 ^ 64) slots
         → bytes.now ≡ flat_map (to_le_bytes w64) slots → result ≡ slots }
 {
     let mut slots = [0; SLOTS];

@@ -1,23 +1,17 @@
 -- Redo by the page's LSN of a page that has the changes of a beginning of the log.
-use Rattle.std.proofs.Common.{◌≡◌, ℕ, zero, suc, ◌+◌, ◌*◌, ◌<◌, ◌≤◌, ◌⊎◌, Bool, true, false, cond, eqb, List, [], ◌∷◌, ◌++◌, ◌-◌, length, get_or, take, refl, sym, ap, subst, ◌∙◌, arith, inl, inr}
+use Rattle.std.proofs.Common.{◌≡◌, ℕ, zero, suc, ◌+◌, ◌*◌, ◌<◌, ◌≤◌, Bool, true, false, cond, List, [], ◌∷◌, ◌++◌, ◌-◌, length, get_or, take, refl, sym, ap, subst, ◌∙◌, arith, inl, inr}
 use Rattle.std.specs.List.{filter}
-use Rattle.std.proofs.lemmas.List.{take_more, take_all}
+use Rattle.std.proofs.lemmas.List.{take_all}
 use Rattle.std.proofs.lemmas.Bool.{lt-ltb, le-ltb}
-use Rattle.std.proofs.lemmas.List.Elements.{filter-append}
 use Rattle.page_core.specs.declared.page.Page.{Page}
-use Rattle.page_core.specs.Page.{formatted, put}
+use Rattle.page_core.specs.Page.{formatted}
 use Rattle.log_store.specs.declared.record.Record.{Record}
-use Rattle.log_store.specs.declared.record.Record.TheVariants.{Begin, Update, Commit}
 use Rattle.log_store.specs.Record.{own_lsn}
 use Rattle.log_store.specs.Log.{Log, IsLog, lsn_of}
 use Rattle.log_store.specs.Image.{with_record, image_from, image}
 use Rattle.page_redo.specs.Redo.{is_above, redone}
-use Rattle.page_redo.proofs.Images.{image_from-append, image_from-more, lsn-image, no_page, redo-more}
-
-filter-more : (lsn : ℕ) (rs : List Record) (i : ℕ) (d : Record) → i < length rs
-    → filter (is_above lsn) (take (i + 1) rs) ≡ filter (is_above lsn) (take i rs) ++ cond (is_above lsn (get_or rs i d)) (get_or rs i d ∷ []) []
-filter-more lsn rs i d lt =
-    ap (filter (is_above lsn)) (take_more rs i d lt) ∙ filter-append (is_above lsn) (take i rs) (get_or rs i d ∷ [])
+use Rattle.log_store.proofs.Images.{changes_or_not, image_from-append, image_from-more, lsn-image}
+use Rattle.page_redo.proofs.Redone.{filter-more, redo-more}
 
 -- the first records are not above the LSN of the last of them
 none_above : (log : Log) → IsLog log → (i lsn : ℕ) (d : Record) → i ≤ length log.records → 64 * i ≤ lsn
@@ -32,15 +26,13 @@ none_above log valid (suc i) lsn d le reached =
     (filter-more lsn log.records i d (omega arith) ∙ ap (λ (b : Bool). filter (is_above lsn) (take i log.records) ++ cond b (r ∷ []) []) not
     ∙ ap (λ (rs : List Record). rs ++ []) (none_above log valid i lsn d (omega arith) (omega arith)))
 
--- a record changes the page, which then has its LSN, or does not
-changes_or_not : (page : Page) (r : Record) → (with_record page r ≡ page) ⊎ ((with_record page r).lsn ≡ own_lsn r)
-changes_or_not page (Begin lsn txn) = inl refl
-changes_or_not page (Update lsn txn prev number slot change) = choose (eqb number page.number)
+-- the redo of a record that changes nothing
+no_page : (page : Page) (r : Record) → with_record page r ≡ page → redone page (r ∷ []) ≡ page
+no_page page r same = choose (is_above page.lsn r)
   where
-    choose : (b : Bool) → (cond b (put page lsn slot change) page ≡ page) ⊎ ((cond b (put page lsn slot change) page).lsn ≡ lsn)
-    choose true = inr refl
-    choose false = inl refl
-changes_or_not page (Commit lsn txn prev) = inl refl
+    choose : (b : Bool) → image_from page (cond b (r ∷ []) []) ≡ page
+    choose true = same
+    choose false = refl
 
 -- redo of the records that the page has changes nothing
 redo_of_own : (log : Log) → IsLog log → (p i : ℕ) (d : Record) → i ≤ length log.records

@@ -1,3 +1,3 @@
-pub mod Images
+pub mod Redone
 pub mod Valid
 pub mod Covering

@@ -1,5 +1,6 @@
 -- The pages that a log makes are pages that a volume may have.
-use Rattle.std.proofs.Common.{ℕ, zero, suc, ◌+◌, ◌<◌, ◌≤◌, ◌^◌, Bool, true, false, cond, eqb, List, [], ◌∷◌, length, get_or, set, replicate, map, refl, ◌∙◌, arith}
+use Rattle.std.proofs.Common.{ℕ, zero, suc, ◌+◌, ◌<◌, ◌≤◌, ◌^◌, List, [], ◌∷◌, length, get_or, set, replicate, map, refl, subst, ◌∙◌, arith}
+use Rattle.std.specs.Prelude.{Option, IfSome}
 use Rattle.std.specs.List.{range_with_len, AllByRecursion}
 use Rattle.std.proofs.lemmas.List.{length-set}
 use Rattle.page_core.specs.declared.change.Change.{Change}
@@ -7,11 +8,13 @@ use Rattle.page_core.specs.declared.change.Change.TheVariants.{Set, Add}
 use Rattle.page_core.specs.declared.page.Page.{Page}
 use Rattle.page_core.specs.Change.{changed}
 use Rattle.page_core.specs.Page.{formatted, put, IsPage}
+use Rattle.log_store.specs.declared.page_change.PageChange.{PageChange}
 use Rattle.log_store.specs.declared.record.Record.{Record}
 use Rattle.log_store.specs.declared.record.Record.TheVariants.{Begin, Update, Commit}
-use Rattle.log_store.specs.Record.{IsRecord, IsChange, IsLsn}
+use Rattle.log_store.specs.Record.{IsChange, IsLsn, IsPageChange, IsRecord, change_of, own_lsn}
 use Rattle.log_store.specs.Log.{Log, IsLog}
 use Rattle.log_store.specs.Image.{with_record, image_from, image, redo_all}
+use Rattle.log_store.proofs.Images.{with_record-has}
 
 all_replicate : {X : Type 0} (P : X → Type 0) (n : ℕ) (x : X) → P x → AllByRecursion P (replicate n x)
 all_replicate P zero x here = tt
@@ -45,14 +48,17 @@ valid_put page lsn slot change page_valid lsn_valid change_valid = record {
   slots = all_set (λ n. n < 2 ^ 64) page.slots slot _ page_valid.slots (changed_fits change _ change_valid);
 }
 
+-- the change of a valid record is one that a volume may have
+valid_change : (r : Record) → IsRecord r → IsLsn (own_lsn r) × IfSome (change_of r) IsPageChange
+valid_change (Begin lsn txn) valid = (valid.0, tt)
+valid_change (Update lsn txn prev page slot change) valid = (valid.0, valid.3)
+valid_change (Commit lsn txn prev) valid = (valid.0, tt)
+
 valid-with_record : (page : Page) (r : Record) → IsPage page → IsRecord r → IsPage (with_record page r)
-valid-with_record page (Begin lsn txn) page_valid valid = page_valid
-valid-with_record page (Update lsn txn prev number slot change) page_valid valid = choose (eqb number page.number)
-  where
-    choose : (b : Bool) → IsPage (cond b (put page lsn slot change) page)
-    choose true = valid_put page lsn slot change page_valid valid.0 valid.5
-    choose false = page_valid
-valid-with_record page (Commit lsn txn prev) page_valid valid = page_valid
+valid-with_record page r page_valid valid = with_record-has IsPage page r page_valid (λ c e.
+    let parts = valid_change r valid in
+    let fits : IsPageChange c = subst (λ (o : Option PageChange). IfSome o IsPageChange) e parts.1 in
+    valid_put page (own_lsn r) c.slot c.change page_valid parts.0 fits.change)
 
 valid-image_from : (page : Page) (rs : List Record) → IsPage page → ((i : ℕ) (d : Record) → i < length rs → IsRecord (get_or rs i d)) → IsPage (image_from page rs)
 valid-image_from page [] page_valid each = page_valid

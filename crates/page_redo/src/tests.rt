@@ -79,6 +79,6 @@ fn a_volume_is_made_of_its_log(rt: HostRuntime) -> Result<(), Fail> {
         page_with(PageNo(0), Lsn(192), 12),
         page_with(PageNo(1), Lsn(0), 0),
     ];
-    assert!(rt; volume.pages.as_slice() == wanted.as_slice());
+    assert!(rt; volume.pages() == wanted.as_slice());
     Ok(())
 }

@@ -3,22 +3,44 @@
 ghost use Rattle.std.specs.Prelude.{◌≡◌, [], IfOk};
 ghost use Rattle.log_store.specs.Image.{redo_all};
 
-use crate::redo::redo_on_its_page;
+use crate::redo::redo_all_on;
 use log_store::{Record, RecordSink};
 use page_core::{Page, PageNo};
 use std::alloc::{AllocError, Global};
+use std::marker::Model;
 
 /// The pages of a volume, in order of their numbers, with the changes of the records so far.
 #[derive(Drop)]
 pub struct Volume {
-    pub pages: Vec<Page>,
+    pages: Vec<Page>,
+}
+
+impl Model for Volume {
+    ghost use Rattle.std.specs.Prelude.{List};
+    ghost use Rattle.page_core.specs.declared.page.Page.{Page};
+    ghost use Rattle.log_store.specs.Image.{AreNumbered};
+
+    ghost Value = { List Page };
+
+    ghost view = { λ volume. volume.pages.items };
+
+    ghost invariant = { λ volume. AreNumbered volume.pages.items };
+}
+
+impl Volume {
+    /// The pages, in order of their numbers, which count from 0.
+    pub fn pages(&self) -> &[Page]
+        ensures { result.now ≡ self.now }
+    {
+        &self.pages
+    }
 }
 
 impl RecordSink for Volume {
     ghost use Rattle.std.specs.Prelude.{◌≡◌};
     ghost use Rattle.log_store.specs.Image.{redo_all};
 
-    ghost holds = { λ volume log. volume.pages.items ≡ redo_all log.records log.pages };
+    ghost holds = { λ volume log. volume ≡ redo_all log.records log.pages };
 
     fn start(alloc: Global, pages: u32) -> Result<Volume, AllocError> {
         Ok(Volume {
@@ -28,9 +50,7 @@ impl RecordSink for Volume {
 
     /// Redoes each record on the page that it names (ARIES, section 6.2).
     fn take(&mut self, next: &[Record]) -> Result<(), AllocError> {
-        for record in next {
-            redo_on_its_page(&mut self.pages, record);
-        }
+        redo_all_on(&mut self.pages, next);
         Ok(())
     }
 }

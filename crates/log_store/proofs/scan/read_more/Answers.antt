@@ -4,7 +4,7 @@ use Rattle.std.proofs.KnownBytes.{Consumes-trans}
 use Rattle.std.proofs.lemmas.List.{append_assoc, drop_at, take-append-le, length-take, length-drop, length-append}
 use Rattle.std.proofs.lemmas.Slice.{take-put_mid_below}
 use borrow.Rule.Slice.PartMut.{put_mid, post_of}
-use Rattle.page_core.specs.Pieces.{grow}
+use Rattle.page_core.proofs.Pieces.{grow}
 use Rattle.log_store.proofs.scan.read_more.Goals as goal
 
 -- what fills the buffer after a read behind what filled it before

@@ -1,7 +1,7 @@
 use Rattle.std.proofs.Common.{◌≡◌, ◌<◌, ◌≢◌, ◌+◌, ◌-◌, ◌*◌, take, drop, below_more, get_or-set_other, get_or-set_same, length, sym, ap, ◌∙◌, arith}
 use Rattle.std.specs.Int.{w64, to_le_bytes}
 use Rattle.std.proofs.lemmas.List.{get_or_default}
-use Rattle.page_core.specs.Pieces.{pieces_are}
+use Rattle.page_core.proofs.Pieces.{pieces_are}
 use Rattle.page_core.proofs.EightBytes.{eight_bytes, same_numbers, all_fit}
 use Rattle.page_core.proofs.page.slots_in.Goals as goal
 

@@ -1,27 +1,24 @@
-use Rattle.std.proofs.Common.{◌≡◌, ◌∙◌, ◌<◌, ℕ, [], ◌∷◌, length, map, set, get_or, ap, sym, subst}
+use Rattle.std.proofs.Common.{◌≡◌, ◌∙◌, ◌<◌, ℕ, length, map, set, get_or, ap, sym, subst}
+use Rattle.std.specs.Prelude.{Option, Some, IfSome}
 use Rattle.page_core.specs.declared.page.Page.{Page}
-use Rattle.log_store.specs.declared.record.Record.{Record}
-use Rattle.log_store.specs.declared.record.Record.TheVariants.{Update}
-use Rattle.log_store.specs.Log.{IsWithin}
-use Rattle.page_redo.specs.Redo.{redone}
-use Rattle.page_redo.proofs.Images.{one_redone, unchanged}
+use Rattle.log_store.specs.declared.page_change.PageChange.{PageChange}
+use Rattle.log_store.specs.Record.{change_of}
+use Rattle.log_store.specs.Image.{with_record}
+use Rattle.log_store.proofs.Images.{none_changed, one_changed}
 use Rattle.page_redo.proofs.redo.redo_on_its_page.Goals as goal
 
-pub returns-in-Update : goal.returns-in-Update
-returns-in-Update c =
+pub returns-in-Some : goal.returns-in-Some
+returns-in-Some c =
     let pages = c.args.pages.now in
-    let w = c.in-Update in
-    let r : Record = Update w.lsn w.txn w.prev w.page w.slot w.change in
-    let here : c.args.record.now ≡ r = w.is in
-    let number : c.page.inside.0 ≡ w.page = c.page.view_is in
-    let within : w.page < length pages = subst (IsWithin (length pages)) here c.requires.within in
-    let d = c.index-pages-page.result in
-    let done : c.redo_page.new.page ≡ redone (get_or pages w.page d) (r ∷ []) =
-    c.redo_page.ensures ∙ ap (redone (get_or pages c.page.inside.0 d)) (c.from_ref.ensures.value ∙ ap (λ (x : Record). x ∷ []) here)
-    ∙ ap (λ (n : ℕ). redone (get_or pages n d) (r ∷ [])) number in
-    ap (λ (n : ℕ). set pages n c.redo_page.new.page) number ∙ ap (set pages w.page) done
-    ∙ one_redone pages w.lsn w.txn w.prev w.page w.slot w.change d within c.requires.numbered
-    ∙ ap (λ (x : Record). map (λ (page : Page). redone page (x ∷ [])) pages) (sym here)
+    let r = c.args.record.now in
+    let change = c.in-Some.change in
+    let here : change_of r ≡ Some change = sym c.in-Some.ensures in
+    let number : c.change-in-Some.inside.0.0.0 ≡ change.page = ap (λ (x : PageChange). x.page) c.change-in-Some.view_is in
+    let within : change.page < length pages =
+    subst (λ (o : Option PageChange). IfSome o (λ x. x.page < length pages)) here c.requires.within in
+    ap (λ (n : ℕ). set pages n c.redo_record.new.page) number
+    ∙ ap (set pages change.page) (c.redo_record.ensures ∙ ap (λ (n : ℕ). with_record (get_or pages n c.index-pages-change.result) r) number)
+    ∙ one_changed pages r change c.index-pages-change.result here within c.requires.numbered
 
 pub returns-in_default : goal.returns-in_default
-returns-in_default c = unchanged c.args.pages.now c.args.record.now c.in_default.not-Update
+returns-in_default c = none_changed c.args.pages.now c.args.record.now (sym c.in_default.ensures)

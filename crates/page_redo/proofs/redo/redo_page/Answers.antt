@@ -1,5 +1,5 @@
 use Rattle.std.proofs.Common.{◌∙◌, sym, true, false}
-use Rattle.page_redo.proofs.Images.{redo-step}
+use Rattle.page_redo.proofs.Redone.{redo-step}
 use Rattle.page_redo.proofs.redo.redo_page.Goals as goal
 use Rattle.page_redo.proofs.redo.redo_page.Goals.{then-is_above, else-is_above}
 

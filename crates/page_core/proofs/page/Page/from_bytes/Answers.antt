@@ -5,15 +5,15 @@ use Rattle.std.specs.List.{flat_map}
 use Rattle.std.proofs.lemmas.List.{take_all, length-drop}
 use Rattle.page_core.proofs.PageBytes.{number_at, format_at, lsn_at, slots_at, length-page_bytes, from_fields}
 use Rattle.page_core.proofs.page.Page.from_bytes.Goals as goal
-use Rattle.page_core.proofs.page.Page.from_bytes.Goals.{then-number-gt-LAST_PAGE-via-then-number-gt-LAST_PAGE, then-number-gt-LAST_PAGE-via-else-number-gt-LAST_PAGE+then-format-ne-FORMAT, then-number-gt-LAST_PAGE-via-else-number-gt-LAST_PAGE+else-format-ne-FORMAT+then-lsn-ne0}
+use Rattle.page_core.proofs.page.Page.from_bytes.Goals.{then-number-ge-MAX_PAGES-via-then-number-ge-MAX_PAGES, then-number-ge-MAX_PAGES-via-else-number-ge-MAX_PAGES+then-format-ne-FORMAT, then-number-ge-MAX_PAGES-via-else-number-ge-MAX_PAGES+else-format-ne-FORMAT+then-lsn-ne0}
 
 pub returns-then-bytes-ne-PAGE_BYTES-clause-only : goal.returns-then-bytes-ne-PAGE_BYTES-clause-only
 returns-then-bytes-ne-PAGE_BYTES-clause-only c = λ page spells.
     let long : length c.args.bytes.now ≡ 512 = ap length spells.spelled ∙ length-page_bytes page spells.valid.count in
     absurd (search rules)
 
-pub returns-then-number-gt-LAST_PAGE-clause-only : goal.returns-then-number-gt-LAST_PAGE-clause-only
-returns-then-number-gt-LAST_PAGE-clause-only c = λ page spells.
+pub returns-then-number-ge-MAX_PAGES-clause-only : goal.returns-then-number-ge-MAX_PAGES-clause-only
+returns-then-number-ge-MAX_PAGES-clause-only c = λ page spells.
     let number : c.u32_at-number.result ≡ page.number =
     c.u32_at-number.ensures.only page.number (omega (arith, spells.valid.number)) (sym (ap (λ (bs : List ℕ). slice_range bs 0 4) spells.spelled ∙ number_at page)) in
     let format : c.u32_at-format.result ≡ 1 =
@@ -22,10 +22,10 @@ returns-then-number-gt-LAST_PAGE-clause-only c = λ page spells.
     c.u64_at-lsn.ensures.only page.lsn spells.valid.lsn (sym (ap (λ (bs : List ℕ). slice_range bs 8 16) spells.spelled ∙ lsn_at page)) in
     let small : c.u32_at-number.result < 65536 = rw number spells.valid.number in
     let aligned : c.u64_at-lsn.result % 64 ≡ 0 = rw lsn spells.valid.at_record in
-    elim c.then-number-gt-LAST_PAGE.branch [
-      | then-number-gt-LAST_PAGE-via-then-number-gt-LAST_PAGE w ↦ absurd (search rules)
-      | then-number-gt-LAST_PAGE-via-else-number-gt-LAST_PAGE+then-format-ne-FORMAT w ↦ absurd (search rules)
-      | then-number-gt-LAST_PAGE-via-else-number-gt-LAST_PAGE+else-format-ne-FORMAT+then-lsn-ne0 w ↦ absurd (search rules)
+    elim c.then-number-ge-MAX_PAGES.branch [
+      | then-number-ge-MAX_PAGES-via-then-number-ge-MAX_PAGES w ↦ absurd (search rules)
+      | then-number-ge-MAX_PAGES-via-else-number-ge-MAX_PAGES+then-format-ne-FORMAT w ↦ absurd (search rules)
+      | then-number-ge-MAX_PAGES-via-else-number-ge-MAX_PAGES+else-format-ne-FORMAT+then-lsn-ne0 w ↦ absurd (search rules)
     ]
 
 pub returns-clause-found : goal.returns-clause-found

@@ -3,7 +3,7 @@ use Rattle.std.specs.Int.{w32, w64, to_le_bytes}
 use Rattle.std.specs.List.{flat_map}
 use Rattle.page_core.specs.declared.page.Page.{Page}
 use Rattle.page_core.specs.Page.{page_bytes}
-use Rattle.page_core.specs.Pieces.{length-pieces}
+use Rattle.page_core.proofs.Pieces.{length-pieces}
 use Rattle.page_core.proofs.EightBytes.{eight_bytes}
 use Rattle.page_core.proofs.PageBytes.{four_parts}
 use Rattle.page_core.proofs.page.Page.write_to.Goals as goal

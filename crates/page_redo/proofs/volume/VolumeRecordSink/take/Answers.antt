@@ -1,49 +1,36 @@
-use Rattle.std.proofs.Common.{◌≡◌, ◌∙◌, ◌+◌, ◌<◌, ◌++◌, ◌∷◌, [], ℕ, List, length, get_or, take, map, ap, sym, subst, arith}
-use Rattle.std.proofs.lemmas.List.{with_items_is, length-append}
+use Rattle.std.proofs.Common.{◌≡◌, ◌∙◌, ◌+◌, ◌<◌, ◌++◌, ℕ, List, length, get_or, take, map, ap, sym, subst, arith}
+use Rattle.std.proofs.lemmas.List.{with_items_is, length-append, length-map}
 use Rattle.page_core.specs.declared.page.Page.{Page}
 use Rattle.log_store.specs.declared.record.Record.{Record}
 use Rattle.log_store.specs.Log.{IsWithin}
-use Rattle.log_store.specs.Image.{redo_all}
-use Rattle.page_redo.specs.Redo.{redone}
-use Rattle.page_redo.proofs.Images.{numbered, length-redo_all, redo_all-next, behind}
+use Rattle.log_store.specs.Image.{AreNumbered, image_from, redo_all}
+use Rattle.log_store.proofs.Images.{behind, length-redo_all, numbered-images, redo_all-append}
 use Rattle.page_redo.proofs.volume.VolumeRecordSink.take.Goals as goal
 
-pub redo_on_its_page-requires-clause-within : goal.redo_on_its_page-requires-clause-within
-redo_on_its_page-requires-clause-within c =
+pub redo_all_on-requires-clause-within : goal.redo_all_on-requires-clause-within
+redo_all_on-requires-clause-within c = λ i d lt.
     let log = c.requires.0 in
-    let valid = c.requires.1.1 in
     let next = c.args.next.now in
-    let r = c.record-item.result in
-    let j = length log.records + c.loop-record.record-index in
-    let now = c.deref_mut.ensures.value ∙ c.loop-record.invariant log c.requires.1.0 valid in
-    let count : length c.deref_mut.result.now ≡ log.pages = ap length now ∙ length-redo_all (take j (log.records ++ next)) log.pages in
-    let inside : j < length (log.records ++ next) = omega (arith, length-append log.records next, c.loop-record-test.true) in
-    let is : get_or (log.records ++ next) j r ≡ r = sym (c.record-item.is ∙ behind log.records next c.loop-record.record-index r) in
-    subst (λ (n : ℕ). IsWithin n r) (sym count) (subst (IsWithin log.pages) is (valid.records j r inside).within)
+    let j = length log.records + i in
+    let now = c.deref_mut.ensures.value ∙ c.self.view_is ∙ c.requires.1.0 in
+    let count : log.pages ≡ length c.deref_mut.result.now = sym (ap length now ∙ length-redo_all log.records log.pages) in
+    let there : j < length (log.records ++ next) = omega (arith, length-append log.records next) in
+    subst (λ (n : ℕ). IsWithin n (get_or next i d)) count
+    (subst (IsWithin log.pages) (sym (behind log.records next i d)) (c.requires.1.1.records j d there).within)
 
-pub redo_on_its_page-requires-clause-numbered : goal.redo_on_its_page-requires-clause-numbered
-redo_on_its_page-requires-clause-numbered c = λ k d lt.
-    let log = c.requires.0 in
-    let so_far = take (length log.records + c.loop-record.record-index) (log.records ++ c.args.next.now) in
-    let now = c.deref_mut.ensures.value ∙ c.loop-record.invariant log c.requires.1.0 c.requires.1.1 in
-    let count : length c.deref_mut.result.now ≡ log.pages = ap length now ∙ length-redo_all so_far log.pages in
-    ap (λ (ps : List Page). (get_or ps k d).number) now ∙ numbered so_far log.pages k d (omega arith)
+-- what the pages are now
+made : (items : List Page) (rs : List Record) (old : List Page) (c : items ≡ map (λ page. image_from page rs) old) → length items ≡ length old
+made items rs old c = ap length c ∙ length-map old (λ page. image_from page rs)
 
-pub loop-record-preserved : goal.loop-record-preserved
-loop-record-preserved c = λ log held valid.
-    let next = c.args.next.now in
-    let all = log.records ++ next in
-    let r = c.record-item.result in
-    let j = length log.records + c.loop-record.record-index in
-    let n = log.pages in
-    let items = c.loop-record.self.pages in
-    let now : c.deref_mut.result.now ≡ redo_all (take j all) n = c.deref_mut.ensures.value ∙ c.loop-record.invariant log held valid in
-    let inside : j < length all = omega (arith, length-append log.records next, c.loop-record-test.true) in
-    let is : r ≡ get_or all j r = c.record-item.is ∙ behind log.records next c.loop-record.record-index r in
-    let more : j + 1 ≡ length log.records + (c.loop-record.record-index + 1) = omega arith in
-    let step : c.redo_on_its_page.new.pages ≡ redo_all (take (j + 1) all) n =
-    c.redo_on_its_page.ensures ∙ ap (map (λ (page : Page). redone page (r ∷ []))) now
-    ∙ ap (λ (x : Record). map (λ (page : Page). redone page (x ∷ [])) (redo_all (take j all) n)) is ∙ redo_all-next (record log { records = all }) valid j r inside n in
-    let long : length c.redo_on_its_page.new.pages ≡ items.len =
-    ap length step ∙ length-redo_all (take (j + 1) all) n ∙ sym (length-redo_all (take j all) n) ∙ sym (ap length now) ∙ c.deref_mut.ensures.len in
-    with_items_is items c.redo_on_its_page.new.pages long ∙ step ∙ ap (λ (k : ℕ). redo_all (take k all) n) more
+pub invariant_of-self : goal.invariant_of-self
+invariant_of-self c =
+    let long = made c.redo_all_on.new.pages c.args.next.now c.deref_mut.result.now c.redo_all_on.ensures ∙ c.deref_mut.ensures.len in
+    subst AreNumbered (sym (with_items_is c.self.inside.pages c.redo_all_on.new.pages long ∙ c.redo_all_on.ensures))
+    (numbered-images c.deref_mut.result.now c.args.next.now (subst AreNumbered (sym c.deref_mut.ensures.value) c.self.invariant))
+
+pub returns : goal.returns
+returns c = λ log held valid.
+    let long = made c.redo_all_on.new.pages c.args.next.now c.deref_mut.result.now c.redo_all_on.ensures ∙ c.deref_mut.ensures.len in
+    let now = c.deref_mut.ensures.value ∙ c.self.view_is ∙ held in
+    with_items_is c.self.inside.pages c.redo_all_on.new.pages long ∙ c.redo_all_on.ensures
+    ∙ ap (map (λ page. image_from page c.args.next.now)) now ∙ redo_all-append log.records c.args.next.now log.pages

@@ -1,6 +1,6 @@
 use Rattle.std.proofs.Common.{refl, ◌∙◌}
 use Rattle.log_store.specs.Log.{header_bytes}
-use Rattle.log_store.proofs.log_image.encode_header.Goals as goal
+use Rattle.log_store.proofs.header.encode_header.Goals as goal
 
 pub returns : goal.returns
 unfolding header_bytes

@@ -3,8 +3,8 @@ use Rattle.std.specs.Prelude.{slice_range, Some}
 use Rattle.std.proofs.lemmas.List.{length-take}
 use Rattle.log_store.specs.Log.{header_bytes, IsPageCount}
 use Rattle.log_store.proofs.Logs.{length-header_bytes, pages_at}
-use Rattle.log_store.proofs.log_image.page_count.Goals as goal
-use Rattle.log_store.proofs.log_image.page_count.Goals.{else-is_page_count-via-then-is_page_count+else-is_same, else-is_page_count-via-else-is_page_count}
+use Rattle.log_store.proofs.header.page_count.Goals as goal
+use Rattle.log_store.proofs.header.page_count.Goals.{else-is_page_count-via-then-is_page_count+else-is_same, else-is_page_count-via-else-is_page_count}
 
 pub returns-then-bytes-lt-HEADER_BYTES-clause-only : goal.returns-then-bytes-lt-HEADER_BYTES-clause-only
 returns-then-bytes-lt-HEADER_BYTES-clause-only c = λ pages fits e.
