@@ -24,6 +24,7 @@ with_record-has P page r same made = by_change (change_of r) refl
     on_page : (c : PageChange) → change_of r ≡ Some c → (b : Bool) → P (cond b (put page (own_lsn r) c.slot c.change) page)
     on_page c e true = made c e
     on_page c e false = same
+
     by_change : (o : Option PageChange) → change_of r ≡ o → P (option_map_or (with_change page (own_lsn r)) o page)
     by_change None e = same
     by_change (Some c) e = on_page c e (eqb c.page page.number)

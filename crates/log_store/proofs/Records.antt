@@ -19,20 +19,47 @@ use Rattle.log_store.specs.Record.{IsChange, IsLsn, IsPageChange, IsRecord, IsTx
 
 change_in_range : (change : Change) → IsChange change → AreInRange (fields_of_change change)
 change_in_range (Set before after) fits = record {
-  kind = lit< tt; txn = lit< tt; prev = lit< tt; undo_next = lit< tt; page = lit< tt; slot = lit< tt;
-  change = lit< tt; before = fits.0; after = fits.1; spare = lit< tt; lsn = lit< tt;
+  kind = lit< tt;
+  txn = lit< tt;
+  prev = lit< tt;
+  undo_next = lit< tt;
+  page = lit< tt;
+  slot = lit< tt;
+  change = lit< tt;
+  before = fits.0;
+  after = fits.1;
+  spare = lit< tt;
+  lsn = lit< tt;
 }
 change_in_range (Add amount) fits = record {
-  kind = lit< tt; txn = lit< tt; prev = lit< tt; undo_next = lit< tt; page = lit< tt; slot = lit< tt;
-  change = lit< tt; before = lit< tt; after = fits; spare = lit< tt; lsn = lit< tt;
+  kind = lit< tt;
+  txn = lit< tt;
+  prev = lit< tt;
+  undo_next = lit< tt;
+  page = lit< tt;
+  slot = lit< tt;
+  change = lit< tt;
+  before = lit< tt;
+  after = fits;
+  spare = lit< tt;
+  lsn = lit< tt;
 }
 
 -- of a record with no change
 plain : (kind txn prev lsn : ℕ) → kind < 2 ^ 32 → IsTxn txn → prev < 2 ^ 64 → IsLsn lsn
     → AreInRange (record no_fields { kind = kind; txn = txn; prev = prev; lsn = lsn })
 plain kind txn prev lsn kind_fits txn_valid prev_fits lsn_valid = record {
-  kind = kind_fits; txn = txn_valid.fits; prev = prev_fits; undo_next = lit< tt; page = lit< tt; slot = lit< tt;
-  change = lit< tt; before = lit< tt; after = lit< tt; spare = lit< tt; lsn = lsn_valid.fits;
+  kind = kind_fits;
+  txn = txn_valid.fits;
+  prev = prev_fits;
+  undo_next = lit< tt;
+  page = lit< tt;
+  slot = lit< tt;
+  change = lit< tt;
+  before = lit< tt;
+  after = lit< tt;
+  spare = lit< tt;
+  lsn = lsn_valid.fits;
 }
 
 -- of a record with one
@@ -41,9 +68,17 @@ changing : (kind txn prev lsn : ℕ) (c : PageChange) → kind < 2 ^ 32 → IsTx
 changing kind txn prev lsn c kind_fits txn_valid prev_fits lsn_valid c_valid =
     let fits = change_in_range c.change c_valid.change in
     record {
-      kind = kind_fits; txn = txn_valid.fits; prev = prev_fits; undo_next = fits.undo_next;
-      page = omega (arith, c_valid.page); slot = omega (arith, c_valid.slot); change = fits.change;
-      before = fits.before; after = fits.after; spare = fits.spare; lsn = lsn_valid.fits;
+      kind = kind_fits;
+      txn = txn_valid.fits;
+      prev = prev_fits;
+      undo_next = fits.undo_next;
+      page = omega (arith, c_valid.page);
+      slot = omega (arith, c_valid.slot);
+      change = fits.change;
+      before = fits.before;
+      after = fits.after;
+      spare = fits.spare;
+      lsn = lsn_valid.fits;
     }
 
 pub in_range : (r : Record) → IsRecord r → AreInRange (fields_of r)
