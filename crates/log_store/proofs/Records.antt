@@ -9,9 +9,9 @@ use Rattle.page_core.specs.declared.change.Change.{Change}
 use Rattle.page_core.specs.declared.change.Change.TheVariants.{Set, Add}
 use Rattle.log_store.specs.declared.page_change.PageChange.{PageChange}
 use Rattle.log_store.specs.declared.record.Record.{Record}
-use Rattle.log_store.specs.declared.record.Record.TheVariants.{Begin, Update, Commit}
+use Rattle.log_store.specs.declared.record.Record.TheVariants.{Begin, Update, Comp, Commit, Abort, End}
 use Rattle.log_store.specs.declared.fields.Fields.{Fields}
-use Rattle.log_store.specs.declared.fields.TheConstants.{BEGIN, COMMIT, SET, UPDATE}
+use Rattle.log_store.specs.declared.fields.TheConstants.{ABORT, BEGIN, COMMIT, COMP, END, SET, UPDATE}
 use Rattle.log_store.specs.Fields.{AreInRange, fields_bytes, fields_of, fields_of_change, no_fields}
 use Rattle.log_store.specs.Record.{IsChange, IsLsn, IsPageChange, IsRecord, IsTxn, record_bytes}
 
@@ -63,15 +63,16 @@ plain kind txn prev lsn kind_fits txn_valid prev_fits lsn_valid = record {
 }
 
 -- of a record with one
-changing : (kind txn prev lsn : ℕ) (c : PageChange) → kind < 2 ^ 32 → IsTxn txn → prev < 2 ^ 64 → IsLsn lsn → IsPageChange c
-    → AreInRange (record (fields_of_change c.change) { kind = kind; txn = txn; prev = prev; page = c.page; slot = c.slot; lsn = lsn })
-changing kind txn prev lsn c kind_fits txn_valid prev_fits lsn_valid c_valid =
+changing : (kind txn prev undo_next lsn : ℕ) (c : PageChange) → kind < 2 ^ 32 → IsTxn txn → prev < 2 ^ 64 → undo_next < 2 ^ 64
+    → IsLsn lsn → IsPageChange c
+    → AreInRange (record (fields_of_change c.change) { kind = kind; txn = txn; prev = prev; undo_next = undo_next; page = c.page; slot = c.slot; lsn = lsn })
+changing kind txn prev undo_next lsn c kind_fits txn_valid prev_fits undo_next_fits lsn_valid c_valid =
     let fits = change_in_range c.change c_valid.change in
     record {
       kind = kind_fits;
       txn = txn_valid.fits;
       prev = prev_fits;
-      undo_next = fits.undo_next;
+      undo_next = undo_next_fits;
       page = omega (arith, c_valid.page);
       slot = omega (arith, c_valid.slot);
       change = fits.change;
@@ -84,8 +85,14 @@ changing kind txn prev lsn c kind_fits txn_valid prev_fits lsn_valid c_valid =
 pub in_range : (r : Record) → IsRecord r → AreInRange (fields_of r)
 in_range (Begin lsn txn) valid = plain BEGIN txn 0 lsn (lit< tt) valid.1 (lit< tt) valid.0
 in_range (Update lsn txn prev page slot change) valid =
-    changing UPDATE txn prev lsn (record { page = page; slot = slot; change = change }) (lit< tt) valid.1 valid.2.place.fits valid.0 valid.3
+    changing UPDATE txn prev (fields_of_change change).undo_next lsn (record { page = page; slot = slot; change = change })
+    (lit< tt) valid.1 valid.2.place.fits (change_in_range change valid.3.change).undo_next valid.0 valid.3
+in_range (Comp lsn txn prev undo_next page slot change) valid =
+    changing COMP txn prev undo_next lsn (record { page = page; slot = slot; change = change })
+    (lit< tt) valid.1 valid.2.place.fits valid.4.place.fits valid.0 valid.3
 in_range (Commit lsn txn prev) valid = plain COMMIT txn prev lsn (lit< tt) valid.1 valid.2.place.fits valid.0
+in_range (Abort lsn txn prev) valid = plain ABORT txn prev lsn (lit< tt) valid.1 valid.2.place.fits valid.0
+in_range (End lsn txn prev) valid = plain END txn prev lsn (lit< tt) valid.1 valid.2.place.fits valid.0
 
 pub record_length : HaveLength record_bytes 64
 unfolding fields_bytes
@@ -128,7 +135,10 @@ record_from : Fields → Record
 record_from f =
     if f.kind == BEGIN then Begin f.lsn f.txn
     else (if f.kind == UPDATE then Update f.lsn f.txn f.prev f.page f.slot (change_from f)
-    else Commit f.lsn f.txn f.prev)
+    else (if f.kind == COMP then Comp f.lsn f.txn f.prev f.undo_next f.page f.slot (change_from f)
+    else (if f.kind == COMMIT then Commit f.lsn f.txn f.prev
+    else (if f.kind == ABORT then Abort f.lsn f.txn f.prev
+    else End f.lsn f.txn f.prev))))
 
 change_again : (change : Change) → change_from (fields_of_change change) ≡ change
 unfolding change_from
@@ -139,7 +149,10 @@ record_again : (r : Record) → record_from (fields_of r) ≡ r
 unfolding record_from change_from
 record_again (Begin lsn txn) = refl
 record_again (Update lsn txn prev page slot change) = ap (Update lsn txn prev page slot) (change_again change)
+record_again (Comp lsn txn prev undo_next page slot change) = ap (Comp lsn txn prev undo_next page slot) (change_again change)
 record_again (Commit lsn txn prev) = refl
+record_again (Abort lsn txn prev) = refl
+record_again (End lsn txn prev) = refl
 
 pub same_record : (r s : Record) → IsRecord r → IsRecord s → record_bytes r ≡ record_bytes s → r ≡ s
 same_record r s r_valid s_valid e =

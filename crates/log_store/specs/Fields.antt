@@ -4,9 +4,9 @@ use Rattle.std.specs.Int.{w16, w32, w64, to_le_bytes}
 use Rattle.page_core.specs.declared.change.Change.{Change}
 use Rattle.page_core.specs.declared.change.Change.TheVariants.{Set, Add}
 use Rattle.log_store.specs.declared.record.Record.{Record}
-use Rattle.log_store.specs.declared.record.Record.TheVariants.{Begin, Update, Commit}
+use Rattle.log_store.specs.declared.record.Record.TheVariants.{Begin, Update, Comp, Commit, Abort, End}
 use Rattle.log_store.specs.declared.fields.Fields.{Fields}
-use Rattle.log_store.specs.declared.fields.TheConstants.{ADD, BEGIN, COMMIT, SET, UPDATE}
+use Rattle.log_store.specs.declared.fields.TheConstants.{ABORT, ADD, BEGIN, COMMIT, COMP, END, SET, UPDATE}
 
 -- each number with its lowest byte first, one after another: 64 bytes
 unfoldable pub fields_bytes : Fields → List ℕ
@@ -50,9 +50,13 @@ abbrev pub fields_of_change : Change → Fields
 fields_of_change (Set before after) = record no_fields { change = SET; before = before; after = after }
 fields_of_change (Add amount) = record no_fields { change = ADD; after = amount }
 
+-- the numbers of a record that only says what its transaction does next
+abbrev pub fields_of_step : ℕ → ℕ → ℕ → ℕ → Fields
+fields_of_step kind txn prev lsn = record no_fields { kind = kind; txn = txn; prev = prev; lsn = lsn }
+
 -- the numbers of a record; what a kind does not have is 0
 abbrev pub fields_of : Record → Fields
-fields_of (Begin lsn txn) = record no_fields { kind = BEGIN; txn = txn; lsn = lsn }
+fields_of (Begin lsn txn) = fields_of_step BEGIN txn 0 lsn
 fields_of (Update lsn txn prev page slot change) = record (fields_of_change change) {
   kind = UPDATE;
   txn = txn;
@@ -61,4 +65,15 @@ fields_of (Update lsn txn prev page slot change) = record (fields_of_change chan
   slot = slot;
   lsn = lsn;
 }
-fields_of (Commit lsn txn prev) = record no_fields { kind = COMMIT; txn = txn; prev = prev; lsn = lsn }
+fields_of (Comp lsn txn prev undo_next page slot change) = record (fields_of_change change) {
+  kind = COMP;
+  txn = txn;
+  prev = prev;
+  undo_next = undo_next;
+  page = page;
+  slot = slot;
+  lsn = lsn;
+}
+fields_of (Commit lsn txn prev) = fields_of_step COMMIT txn prev lsn
+fields_of (Abort lsn txn prev) = fields_of_step ABORT txn prev lsn
+fields_of (End lsn txn prev) = fields_of_step END txn prev lsn

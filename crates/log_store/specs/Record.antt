@@ -7,7 +7,7 @@ use Rattle.page_core.specs.declared.page.TheConstants.{MAX_PAGES, SLOTS}
 use Rattle.log_store.specs.declared.limits.TheConstants.{HEADER_BYTES}
 use Rattle.log_store.specs.declared.page_change.PageChange.{PageChange}
 use Rattle.log_store.specs.declared.record.Record.{Record}
-use Rattle.log_store.specs.declared.record.Record.TheVariants.{Begin, Update, Commit}
+use Rattle.log_store.specs.declared.record.Record.TheVariants.{Begin, Update, Comp, Commit, Abort, End}
 use Rattle.log_store.specs.Fields.{fields_of, fields_bytes}
 
 -- the number of a transaction
@@ -31,6 +31,11 @@ abbrev pub IsChange : Change → Type 0
 IsChange (Set before after) = (before < 2 ^ 64) × (after < 2 ^ 64)
 IsChange (Add amount) = amount < 2 ^ 64
 
+-- it does not say what it replaces, since it is never undone
+abbrev pub HasNoBefore : Change → Type 0
+HasNoBefore (Set before after) = before ≡ 0
+HasNoBefore (Add amount) = Unit {0}
+
 -- a change of a slot that a volume may have
 pub record IsPageChange (c : PageChange) : Type 0 where
   pub page : c.page < MAX_PAGES
@@ -41,20 +46,35 @@ pub record IsPageChange (c : PageChange) : Type 0 where
 abbrev pub own_lsn : Record → ℕ
 own_lsn (Begin lsn txn) = lsn
 own_lsn (Update lsn txn prev page slot change) = lsn
+own_lsn (Comp lsn txn prev undo_next page slot change) = lsn
 own_lsn (Commit lsn txn prev) = lsn
+own_lsn (Abort lsn txn prev) = lsn
+own_lsn (End lsn txn prev) = lsn
 
 -- the change that redo makes of a record, if it makes one
 abbrev pub change_of : Record → Option PageChange
 change_of (Begin lsn txn) = None
-change_of (Update lsn txn prev page slot change) = Some (record { page = page; slot = slot; change = change })
+change_of (Update lsn txn prev page slot change) =
+    Some (record { page = page; slot = slot; change = change })
+change_of (Comp lsn txn prev undo_next page slot change) =
+    Some (record { page = page; slot = slot; change = change })
 change_of (Commit lsn txn prev) = None
+change_of (Abort lsn txn prev) = None
+change_of (End lsn txn prev) = None
 
 -- a record that a log may have: only such a record has a spelling
 abbrev pub IsRecord : Record → Type 0
 IsRecord (Begin lsn txn) = IsLsn lsn × IsTxn txn
 IsRecord (Update lsn txn prev page slot change) =
-    IsLsn lsn × IsTxn txn × IsBefore lsn prev × IsPageChange (record { page = page; slot = slot; change = change })
+    IsLsn lsn × IsTxn txn × IsBefore lsn prev
+    × IsPageChange (record { page = page; slot = slot; change = change })
+IsRecord (Comp lsn txn prev undo_next page slot change) =
+    IsLsn lsn × IsTxn txn × IsBefore lsn prev
+    × IsPageChange (record { page = page; slot = slot; change = change })
+    × IsBefore lsn undo_next × HasNoBefore change
 IsRecord (Commit lsn txn prev) = IsLsn lsn × IsTxn txn × IsBefore lsn prev
+IsRecord (Abort lsn txn prev) = IsLsn lsn × IsTxn txn × IsBefore lsn prev
+IsRecord (End lsn txn prev) = IsLsn lsn × IsTxn txn × IsBefore lsn prev
 
 -- the 64 bytes of a record
 abbrev pub record_bytes : Record → List ℕ

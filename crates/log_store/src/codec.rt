@@ -2,12 +2,13 @@
 
 ghost use Rattle.std.specs.Prelude.{◌≡◌, ◌↔◌, IfSome, Some, IsTrue};
 ghost use Rattle.log_store.specs.declared.record.Record.{Record};
-ghost use Rattle.log_store.specs.declared.record.Record.TheVariants.{Update};
+ghost use Rattle.page_core.specs.declared.change.Change.TheVariants.{Add, Set};
+ghost use Rattle.log_store.specs.declared.record.Record.TheVariants.{Comp, Update};
 ghost use Rattle.log_store.specs.Fields.{fields_of};
-ghost use Rattle.log_store.specs.Record.{IsBefore, IsLsn, IsPageChange, IsRecord, IsTxn, SpellsRecord};
-ghost use Rattle.log_store.specs.Record.{own_lsn, record_bytes};
+ghost use Rattle.log_store.specs.Record.{HasNoBefore, IsBefore, IsLsn, IsPageChange, IsRecord, IsTxn};
+ghost use Rattle.log_store.specs.Record.{SpellsRecord, own_lsn, record_bytes};
 
-use crate::fields::{ADD, BEGIN, COMMIT, Fields, SET, UPDATE};
+use crate::fields::{ABORT, ADD, BEGIN, COMMIT, COMP, END, Fields, SET, UPDATE};
 use crate::limits::{HEADER_BYTES, RECORD_BYTES};
 use crate::page_change::PageChange;
 use crate::record::Record;
@@ -43,21 +44,33 @@ fn record_of(fields: &Fields) -> Option<Record>
     let prev = Lsn(fields.prev);
     match (fields.kind, fields.change) {
         (BEGIN, _) => if_spelled(Record::Begin { lsn, txn }, fields),
-        (UPDATE, SET) => {
-            let change = Change::Set {
-                before: fields.before,
-                after: fields.after,
-            };
-            if_spelled(update(fields, change), fields)
-        }
-        (UPDATE, ADD) => {
-            let change = Change::Add {
-                amount: fields.after,
-            };
-            if_spelled(update(fields, change), fields)
-        }
+        (UPDATE, SET) => if_spelled(update(fields, set(fields)), fields),
+        (UPDATE, ADD) => if_spelled(update(fields, add(fields)), fields),
+        (COMP, SET) => if_spelled(comp(fields, set(fields)), fields),
+        (COMP, ADD) => if_spelled(comp(fields, add(fields)), fields),
         (COMMIT, _) => if_spelled(Record::Commit { lsn, txn, prev }, fields),
+        (ABORT, _) => if_spelled(Record::Abort { lsn, txn, prev }, fields),
+        (END, _) => if_spelled(Record::End { lsn, txn, prev }, fields),
         _ => None,
+    }
+}
+
+/// A Set with these numbers.
+fn set(fields: &Fields) -> Change
+    ensures { result ≡ Set fields.now.before fields.now.after }
+{
+    Change::Set {
+        before: fields.before,
+        after: fields.after,
+    }
+}
+
+/// An Add with these numbers.
+fn add(fields: &Fields) -> Change
+    ensures { result ≡ Add fields.now.after }
+{
+    Change::Add {
+        amount: fields.after,
     }
 }
 
@@ -70,6 +83,22 @@ fn update(fields: &Fields, change: Change) -> Record
         lsn: Lsn(fields.lsn),
         txn: TxnNo(fields.txn),
         prev: Lsn(fields.prev),
+        page: PageNo(fields.page),
+        slot: SlotNo(fields.slot),
+        change,
+    }
+}
+
+/// A Comp with this change and these numbers.
+fn comp(fields: &Fields, change: Change) -> Record
+    ensures { result ≡ Comp fields.now.lsn fields.now.txn fields.now.prev fields.now.undo_next
+        fields.now.page fields.now.slot change }
+{
+    Record::Comp {
+        lsn: Lsn(fields.lsn),
+        txn: TxnNo(fields.txn),
+        prev: Lsn(fields.prev),
+        undo_next: Lsn(fields.undo_next),
         page: PageNo(fields.page),
         slot: SlotNo(fields.slot),
         change,
@@ -107,7 +136,35 @@ fn is_record(record: &Record) -> bool
             let change = PageChange { page, slot, change };
             is_lsn(lsn) && is_txn(txn) && is_before(lsn, prev) && is_page_change(&change)
         }
-        Record::Commit { lsn, txn, prev } => is_lsn(lsn) && is_txn(txn) && is_before(lsn, prev),
+        Record::Comp {
+            lsn,
+            txn,
+            prev,
+            undo_next,
+            page,
+            slot,
+            change,
+        } => {
+            let change = PageChange { page, slot, change };
+            is_lsn(lsn)
+                && is_txn(txn)
+                && is_before(lsn, prev)
+                && is_page_change(&change)
+                && is_before(lsn, undo_next)
+                && has_no_before(&change.change)
+        }
+        Record::Commit { lsn, txn, prev }
+        | Record::Abort { lsn, txn, prev }
+        | Record::End { lsn, txn, prev } => is_lsn(lsn) && is_txn(txn) && is_before(lsn, prev),
+    }
+}
+
+fn has_no_before(change: &Change) -> bool
+    ensures { IsTrue result ↔ HasNoBefore change.now }
+{
+    match *change {
+        Change::Set { before, .. } => before == 0,
+        Change::Add { .. } => true,
     }
 }
 

@@ -4,8 +4,8 @@ ghost use Rattle.std.specs.Prelude.{◌≡◌};
 
 use crate::limits::RECORD_BYTES;
 use crate::record::Record;
-use page_core::Change;
 use page_core::field::{u16_at, u32_at, u64_at};
+use page_core::{Change, Lsn, TxnNo};
 
 /// The numbers of a record in the order of its bytes. A field that a kind does not have is 0. Where a
 /// byte is followed by bytes that are always 0, the byte and these are one number.
@@ -30,8 +30,17 @@ pub const BEGIN: u32 = 1;
 /// The kind of an Update.
 pub const UPDATE: u32 = 2;
 
+/// The kind of a Comp.
+pub const COMP: u32 = 3;
+
 /// The kind of a Commit.
 pub const COMMIT: u32 = 4;
+
+/// The kind of an Abort.
+pub const ABORT: u32 = 5;
+
+/// The kind of an End.
+pub const END: u32 = 6;
 
 /// The kind of a change that is a Set.
 pub const SET: u16 = 1;
@@ -54,7 +63,7 @@ const NO_FIELDS: Fields = Fields {
 };
 
 impl Fields {
-    ghost use Rattle.log_store.specs.Fields.{AreInRange, fields_bytes, fields_of, fields_of_change};
+    ghost use Rattle.log_store.specs.Fields.{AreInRange, fields_bytes, fields_of, fields_of_change, fields_of_step};
     ghost use Rattle.log_store.specs.declared.fields.Fields.{Fields};
 
     /// The numbers that these bytes spell.
@@ -103,12 +112,7 @@ impl Fields {
     {
         let lsn = record.lsn().0;
         match *record {
-            Record::Begin { txn, .. } => Fields {
-                kind: BEGIN,
-                txn: txn.0,
-                lsn,
-                ..NO_FIELDS
-            },
+            Record::Begin { txn, .. } => Fields::of_step(BEGIN, txn, Lsn(0), lsn),
             Record::Update {
                 txn,
                 prev,
@@ -125,13 +129,40 @@ impl Fields {
                 lsn,
                 ..Fields::of_change(&change)
             },
-            Record::Commit { txn, prev, .. } => Fields {
-                kind: COMMIT,
+            Record::Comp {
+                txn,
+                prev,
+                undo_next,
+                page,
+                slot,
+                change,
+                ..
+            } => Fields {
+                kind: COMP,
                 txn: txn.0,
                 prev: prev.0,
+                undo_next: undo_next.0,
+                page: page.0,
+                slot: slot.0,
                 lsn,
-                ..NO_FIELDS
+                ..Fields::of_change(&change)
             },
+            Record::Commit { txn, prev, .. } => Fields::of_step(COMMIT, txn, prev, lsn),
+            Record::Abort { txn, prev, .. } => Fields::of_step(ABORT, txn, prev, lsn),
+            Record::End { txn, prev, .. } => Fields::of_step(END, txn, prev, lsn),
+        }
+    }
+
+    /// The numbers of a record that only says what its transaction does next.
+    fn of_step(kind: u32, txn: TxnNo, prev: Lsn, lsn: u64) -> Fields
+        ensures { result ≡ fields_of_step kind txn prev lsn }
+    {
+        Fields {
+            kind,
+            txn: txn.0,
+            prev: prev.0,
+            lsn,
+            ..NO_FIELDS
         }
     }
 

@@ -21,8 +21,32 @@ pub enum Record {
         slot: SlotNo,
         change: Change,
     },
+    /// A compensation record: a transaction takes back its last pending change. `undo_next` is its
+    /// UndoNxt, the PrevLSN of the Update that it compensates. It is never undone, so a Set in it has
+    /// 0 as its `before`.
+    Comp {
+        lsn: Lsn,
+        txn: TxnNo,
+        prev: Lsn,
+        undo_next: Lsn,
+        page: PageNo,
+        slot: SlotNo,
+        change: Change,
+    },
     /// A transaction ends, and its changes are to last.
     Commit {
+        lsn: Lsn,
+        txn: TxnNo,
+        prev: Lsn,
+    },
+    /// A transaction begins to take its changes back.
+    Abort {
+        lsn: Lsn,
+        txn: TxnNo,
+        prev: Lsn,
+    },
+    /// A transaction ends whose changes are all taken back.
+    End {
         lsn: Lsn,
         txn: TxnNo,
         prev: Lsn,
@@ -38,8 +62,12 @@ impl Record {
         ensures { result ≡ own_lsn self.now }
     {
         match *self {
-            Record::Begin { lsn, .. } | Record::Update { lsn, .. } | Record::Commit { lsn, .. } =>
-                lsn,
+            Record::Begin { lsn, .. }
+            | Record::Update { lsn, .. }
+            | Record::Comp { lsn, .. }
+            | Record::Commit { lsn, .. }
+            | Record::Abort { lsn, .. }
+            | Record::End { lsn, .. } => lsn,
         }
     }
 
@@ -53,8 +81,17 @@ impl Record {
                 slot,
                 change,
                 ..
+            }
+            | Record::Comp {
+                page,
+                slot,
+                change,
+                ..
             } => Some(PageChange { page, slot, change }),
-            Record::Begin { .. } | Record::Commit { .. } => None,
+            Record::Begin { .. }
+            | Record::Commit { .. }
+            | Record::Abort { .. }
+            | Record::End { .. } => None,
         }
     }
 }

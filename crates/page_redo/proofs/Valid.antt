@@ -10,7 +10,7 @@ use Rattle.page_core.specs.Change.{changed}
 use Rattle.page_core.specs.Page.{formatted, put, IsPage}
 use Rattle.log_store.specs.declared.page_change.PageChange.{PageChange}
 use Rattle.log_store.specs.declared.record.Record.{Record}
-use Rattle.log_store.specs.declared.record.Record.TheVariants.{Begin, Update, Commit}
+use Rattle.log_store.specs.declared.record.Record.TheVariants.{Begin, Update, Comp, Commit, Abort, End}
 use Rattle.log_store.specs.Record.{IsChange, IsLsn, IsPageChange, IsRecord, change_of, own_lsn}
 use Rattle.log_store.specs.Log.{Log, IsLog}
 use Rattle.log_store.specs.Image.{with_record, image_from, image, redo_all}
@@ -52,7 +52,10 @@ valid_put page lsn slot change page_valid lsn_valid change_valid = record {
 valid_change : (r : Record) → IsRecord r → IsLsn (own_lsn r) × IfSome (change_of r) IsPageChange
 valid_change (Begin lsn txn) valid = (valid.0, tt)
 valid_change (Update lsn txn prev page slot change) valid = (valid.0, valid.3)
+valid_change (Comp lsn txn prev undo_next page slot change) valid = (valid.0, valid.3)
 valid_change (Commit lsn txn prev) valid = (valid.0, tt)
+valid_change (Abort lsn txn prev) valid = (valid.0, tt)
+valid_change (End lsn txn prev) valid = (valid.0, tt)
 
 valid-with_record : (page : Page) (r : Record) → IsPage page → IsRecord r → IsPage (with_record page r)
 valid-with_record page r page_valid valid = with_record-has IsPage page r page_valid (λ c e.
