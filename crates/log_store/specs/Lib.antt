@@ -5,3 +5,8 @@ pub mod Log
 pub mod Record
 pub mod Scan
 pub mod Turn
+pub mod Transactions
+pub mod Linked
+pub mod Table
+pub mod Committed
+pub mod Work

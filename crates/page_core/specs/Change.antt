@@ -2,11 +2,18 @@
 use Rattle.std.specs.Prelude.{ℕ, ◌≡◌, ◌+◌, ◌-◌, ◌%◌, ◌^◌}
 use Rattle.page_core.specs.declared.change.Change.{Change}
 use Rattle.page_core.specs.declared.change.Change.TheVariants.{Set, Add}
+use Rattle.page_core.specs.declared.change.ChangeKind.{ChangeKind}
+use Rattle.page_core.specs.declared.change.ChangeKind.TheVariants as kind
 
 -- the slot's number after the change: Set replaces it, Add adds to it modulo 2^64
 abbrev pub changed : Change → ℕ → ℕ
 changed (Set before after) number = after
 changed (Add amount) number = (number + amount) % 2 ^ 64
+
+-- what it does to a number, whatever its own numbers are
+abbrev pub kind_of : Change → ChangeKind
+kind_of (Set before after) = kind.Set
+kind_of (Add amount) = kind.Add
 
 -- the change that takes it back: Set to the number before, Add of what is missing to 2^64
 abbrev pub undo_of : Change → Change

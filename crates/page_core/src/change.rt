@@ -1,7 +1,7 @@
 //! What a change does to a slot, and what takes it back.
 
 ghost use Rattle.std.specs.Prelude.{ℕ, ◌≡◌, ◌<◌, ◌^◌};
-ghost use Rattle.page_core.specs.Change.{changed, undo_of as inverse_of, Replaces};
+ghost use Rattle.page_core.specs.Change.{Replaces, changed, kind_of, undo_of as inverse_of};
 
 /// A change of one slot. It has what redo needs and what undo needs.
 #[derive(Clone, Copy, Debug, PartialEq, Eq)]
@@ -12,7 +12,25 @@ pub enum Change {
     Add { amount: u64 },
 }
 
+/// What a change does to a number, whatever its own numbers are. It decides which changes of two
+/// transactions may stand beside each other on a slot.
+#[derive(Clone, Copy, Debug, PartialEq, Eq)]
+pub enum ChangeKind {
+    Set,
+    Add,
+}
+
 impl Change {
+    /// Which kind of change it is.
+    pub fn kind(&self) -> ChangeKind
+        ensures { result ≡ kind_of self.now }
+    {
+        match *self {
+            Change::Set { .. } => ChangeKind::Set,
+            Change::Add { .. } => ChangeKind::Add,
+        }
+    }
+
     /// The slot's number after this change.
     pub fn changed(&self, number: u64) -> u64
         ensures { result ≡ changed self.now number }

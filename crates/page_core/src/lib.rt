@@ -10,7 +10,7 @@ mod page;
 mod tests;
 
 pub use buffer::zeros;
-pub use change::{Change, undo_of};
+pub use change::{Change, ChangeKind, undo_of};
 pub use numbers::{LSN_STEP, Lsn, PageNo, SlotNo, TxnNo};
 pub use page::{
     BadPage, MAX_PAGES, PAGE_BYTES, Page, SLOTS, pages_are_spelled_apart, volumes_are_spelled_apart,
