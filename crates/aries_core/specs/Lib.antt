@@ -1,0 +1,5 @@
+pub mod Accepted
+pub mod EngineState
+pub mod Refusal
+pub mod Run
+pub mod Step

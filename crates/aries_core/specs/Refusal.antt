@@ -1,0 +1,70 @@
+-- When a call is refused, and what is printed of a refusal.
+use Rattle.std.specs.Prelude.{ℕ, ◌+◌, ◌++◌, nat_le, nat_lt, Bool, not, List, length, Option, Some, None, if◌then◌else◌, codes}
+use Rattle.std.specs.Fmt.{decimal}
+use Rattle.std.specs.Option.{option_map}
+use Rattle.page_core.specs.declared.change.ChangeKind.{ChangeKind}
+use Rattle.page_core.specs.declared.change.ChangeKind.TheVariants as kind
+use Rattle.page_core.specs.declared.page.TheConstants.{SLOTS}
+use Rattle.log_store.specs.declared.limits.TheConstants.{MAX_OPEN, MAX_RECORDS}
+use Rattle.log_store.specs.Transactions.{holder, is_open, is_rolling, open_in, owed}
+use Rattle.aries_core.specs.declared.event.Event.{Event}
+use Rattle.aries_core.specs.declared.event.Event.TheVariants as event
+use Rattle.aries_core.specs.declared.refusal.Refusal.{Refusal}
+use Rattle.aries_core.specs.declared.refusal.Refusal.TheVariants.{OutOfMemory, NoTxn, PageOut, SlotOut, SlotBusy, TxnRolling, NotRolling, LogFull, TooManyTxns, LogFault, CommitUnsure}
+use Rattle.aries_core.specs.EngineState.{EngineState}
+
+-- the first refusal that is there
+abbrev pub or_else : Option Refusal → Option Refusal → Option Refusal
+or_else None next = next
+or_else (Some refusal) next = Some refusal
+
+-- refused so, where the test holds
+abbrev pub refused_if : Bool → Refusal → Option Refusal
+refused_if test refusal = if test then Some refusal else None
+
+-- records plus owed records would pass the limit, with so many more of both
+abbrev pub has_no_room : EngineState → ℕ → Bool
+has_no_room s more = nat_lt MAX_RECORDS (length s.log + owed s.log + more)
+
+abbrev pub page_refusal : EngineState → ℕ → ℕ → Option Refusal
+page_refusal s page slot =
+    or_else (refused_if (nat_le s.pages page) PageOut) (refused_if (nat_le SLOTS slot) SlotOut)
+
+-- of a call that only an active transaction may make
+abbrev pub active_refusal : EngineState → ℕ → Option Refusal
+active_refusal s txn =
+    or_else (refused_if (not (is_open s.log txn)) NoTxn) (refused_if (is_rolling s.log txn) TxnRolling)
+
+-- of a change: an Update owes its own compensation, so it takes room for two records
+abbrev pub change_refusal : EngineState → ℕ → ℕ → ℕ → ChangeKind → Option Refusal
+change_refusal s txn page slot kind =
+    or_else (active_refusal s txn)
+    (or_else (page_refusal s page slot)
+    (or_else (option_map SlotBusy (holder s.log page slot kind txn)) (refused_if (has_no_room s 2) LogFull)))
+
+-- the refusal that needs neither memory nor a device, in the order of the checks; a Begin owes two more records
+abbrev pub refusal : EngineState → Event → Option Refusal
+refusal s event.Begin =
+    or_else (refused_if (nat_le MAX_OPEN (length (open_in s.log))) TooManyTxns) (refused_if (has_no_room s 3) LogFull)
+refusal s (event.Set txn page slot number) = change_refusal s txn page slot kind.Set
+refusal s (event.Add txn page slot amount) = change_refusal s txn page slot kind.Add
+refusal s (event.Read page slot) = page_refusal s page slot
+refusal s (event.Commit txn) = active_refusal s txn
+refusal s (event.Abort txn) = active_refusal s txn
+refusal s (event.UndoStep txn) =
+    or_else (refused_if (not (is_open s.log txn)) NoTxn) (refused_if (not (is_rolling s.log txn)) NotRolling)
+refusal s event.Force = None
+
+-- what is printed of a refusal
+abbrev pub line_of : Refusal → List ℕ
+line_of OutOfMemory = codes "E1 OutOfMemory"
+line_of NoTxn = codes "E2 NoTxn"
+line_of PageOut = codes "E3 PageOut"
+line_of SlotOut = codes "E4 SlotOut"
+line_of (SlotBusy txn) = codes "E5 SlotBusy " ++ decimal txn
+line_of TxnRolling = codes "E6 TxnRolling"
+line_of NotRolling = codes "E7 NotRolling"
+line_of LogFull = codes "E8 LogFull"
+line_of TooManyTxns = codes "E9 TooManyTxns"
+line_of LogFault = codes "E23 LogFault"
+line_of (CommitUnsure lsn) = codes "E26 CommitUnsure " ++ decimal lsn

@@ -1,0 +1,58 @@
+//! The calls of the engine and their answers, as values.
+
+use crate::refusal::Refusal;
+use page_core::{Lsn, PageNo, SlotNo, TxnNo};
+
+/// A call of the engine, with its arguments.
+#[derive(Clone, Copy, Debug, PartialEq, Eq)]
+pub enum Event {
+    /// Begins a transaction.
+    Begin,
+    /// Puts a number into a slot.
+    Set {
+        txn: TxnNo,
+        page: PageNo,
+        slot: SlotNo,
+        number: u64,
+    },
+    /// Adds to the number in a slot, modulo 2^64.
+    Add {
+        txn: TxnNo,
+        page: PageNo,
+        slot: SlotNo,
+        amount: u64,
+    },
+    /// Reads the number in a slot.
+    Read {
+        page: PageNo,
+        slot: SlotNo,
+    },
+    /// Ends a transaction whose changes are to last, and forces the log through its record.
+    Commit(TxnNo),
+    /// Begins to take the changes of a transaction back.
+    Abort(TxnNo),
+    /// Takes the last pending change of a transaction back, or ends it where none is left.
+    UndoStep(TxnNo),
+    /// Forces the whole log.
+    Force,
+}
+
+/// What an accepted call answers.
+#[derive(Clone, Copy, Debug, PartialEq, Eq)]
+pub enum Answer {
+    /// The number of the new transaction, and the LSN of its Begin.
+    Began { txn: TxnNo, lsn: Lsn },
+    /// The LSN of the record that was appended.
+    Logged(Lsn),
+    /// The number in the slot.
+    Number(u64),
+    /// The LSN of the compensation record.
+    Undid(Lsn),
+    /// The LSN of the End.
+    Ended(Lsn),
+    /// The forced end of the log.
+    Forced(Lsn),
+}
+
+/// The answer of a call, or why it was refused.
+pub type Reply = Result<Answer, Refusal>;

@@ -1,0 +1,8 @@
+//! The engine for one thread: each call is one event, and appends just its record to the log.
+#![tactic(auto)]
+
+mod event;
+mod refusal;
+
+pub use event::{Answer, Event, Reply};
+pub use refusal::Refusal;

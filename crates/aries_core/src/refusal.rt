@@ -1,0 +1,65 @@
+//! Why a call of the engine is refused.
+
+use page_core::{Lsn, TxnNo};
+use std::error::Error;
+use std::fmt;
+
+/// Why a call is refused. A refusal changes nothing but what its variant says.
+#[derive(Clone, Copy, Debug, PartialEq, Eq)]
+pub enum Refusal {
+    /// Memory ran out.
+    OutOfMemory,
+    /// No open transaction has this number.
+    NoTxn,
+    /// The volume has no such page.
+    PageOut,
+    /// A page has no such slot.
+    SlotOut,
+    /// This transaction holds the slot: the least one that does.
+    SlotBusy(TxnNo),
+    /// The transaction is rolling back.
+    TxnRolling,
+    /// The transaction did not abort.
+    NotRolling,
+    /// After the call the log's records and those that open transactions may still need would be
+    /// more than a log may have.
+    LogFull,
+    /// 64 transactions are open.
+    TooManyTxns,
+    /// The log's device failed. The records that were stored before the fault count as forced.
+    LogFault,
+    /// The log's device failed while the Commit at this LSN was forced. The Commit stands in the log,
+    /// not known to be forced, and its transaction has ended.
+    CommitUnsure(Lsn),
+}
+
+impl fmt::Display for Refusal {
+    ghost use Rattle.std.specs.Prelude.{Some};
+    ghost use Rattle.aries_core.specs.Refusal.{line_of};
+
+    ghost output = { λ refusal. Some (line_of refusal) };
+
+    fn fmt<W: fmt::Write>(&self, f: &mut fmt::Formatter<W>) -> fmt::Result {
+        match self {
+            Refusal::OutOfMemory => write!(f, "E1 OutOfMemory"),
+            Refusal::NoTxn => write!(f, "E2 NoTxn"),
+            Refusal::PageOut => write!(f, "E3 PageOut"),
+            Refusal::SlotOut => write!(f, "E4 SlotOut"),
+            Refusal::SlotBusy(txn) => {
+                let txn = txn.0;
+                write!(f, "E5 SlotBusy {txn}")
+            }
+            Refusal::TxnRolling => write!(f, "E6 TxnRolling"),
+            Refusal::NotRolling => write!(f, "E7 NotRolling"),
+            Refusal::LogFull => write!(f, "E8 LogFull"),
+            Refusal::TooManyTxns => write!(f, "E9 TooManyTxns"),
+            Refusal::LogFault => write!(f, "E23 LogFault"),
+            Refusal::CommitUnsure(lsn) => {
+                let lsn = lsn.0;
+                write!(f, "E26 CommitUnsure {lsn}")
+            }
+        }
+    }
+}
+
+impl Error for Refusal {}
