@@ -11,8 +11,7 @@ import math
 import sys
 from typing import NamedTuple
 
-RECORD_SIZE = 64
-MEGABYTE = 1e6
+from run import MEGABYTE, log_size
 
 WIDTH, HEIGHT = 720, 420
 LEFT, RIGHT, TOP, BOTTOM = 80, 30, 60, 70
@@ -62,7 +61,7 @@ def line_of(table, program, color):
     for row in table:
         if row["input"] == "uniform" and row["program"] == program:
             records = int(row["records"].replace(",", ""))
-            points.append((RECORD_SIZE * (1 + records) / MEGABYTE, 1000 * float(row["seconds"])))
+            points.append((log_size(records) / MEGABYTE, 1000 * float(row["seconds"])))
     if not points:
         sys.exit(f"draw.py: the table has no row of {program} for the input uniform")
     return Line(program, color, sorted(points))

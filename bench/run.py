@@ -19,8 +19,10 @@ import time
 from pathlib import Path
 from typing import NamedTuple
 
-RECORD_SIZE = 64
-PAGE_SIZE = 512
+sys.path.insert(0, str(Path(__file__).resolve().parent.parent / "examples"))
+
+from log_format import PAGE_SIZE, lsn_of
+
 MEGABYTE = 1e6
 ALLOWED_RATIO = 1.3
 
@@ -35,10 +37,15 @@ class Input(NamedTuple):
         return f"{self.name} of {self.records:,} records"
 
     def log_size(self):
-        return RECORD_SIZE * (1 + self.records)
+        return log_size(self.records)
 
     def allowed_memory(self):
         return 2 * self.log_size() + PAGE_SIZE * self.pages
+
+
+def log_size(records):
+    """The size of a log is the offset at which its next record would begin."""
+    return lsn_of(records)
 
 
 INPUTS = [
@@ -59,7 +66,7 @@ class Failure(Exception):
 
 
 def run(command, source, target, an_input):
-    """Runs the command once from one file to another. Gives its seconds, and the last line of its standard error.
+    """Runs the command once from one file to another. Gives its seconds, and what it wrote to standard error.
 
     Fails unless it ends with status 0.
     """

@@ -20,7 +20,7 @@ SUFFIXES = (".rt", ".antt", ".md", ".py", ".rs", ".sh", ".edit", ".log", ".volum
 # The files whose words count, and what counts for nothing in them.
 COMMENTS = {".rt": r"//[^\n]*", ".rs": r"//[^\n]*", ".antt": r"--[^\n]*"}
 SCRIPTS = (".py", ".sh", ".txt", "Makefile")
-RT_COMMANDS = "ci must-fail selftest doc version help new check verdict lib run test try fmt tidy plant all expand lemma"
+RT_COMMANDS = "ci must-fail doc version help new check verdict lib run test try fmt tidy plant all expand lemma"
 
 # Words of clap, folders that are made, and what stands for any name.
 ALLOWED_NAMES = {"takes"}
