@@ -1,10 +1,13 @@
 # make imgcopy    proves and builds the program, and leaves it at build/imgcopy
 # make demo       rebuilds a volume from the example log of four records, and shows its page
-# make test       the gate: proves every crate and tries its tests, its programs and its must-fail edits
+# make test       all tests: the gate, which proves every crate and tries its tests, its programs and its must-fail
+#                 edits, and then what make check does, on the program that the gate has built
 # make check      compares the program's answers to the examples and to spoiled logs with the expected ones, also with
-#                 each of its allocations refused in turn; where rt is used, read_log too
-# make bench      measures the program beside a plain Rust program, and prints a table
+#                 each of its allocations refused in turn; where rt is used, read_log too; and sees that the documents
+#                 name what is there
+# make bench      measures the program beside a plain Rust program, prints a table, and draws bench/times.svg
 # make examples   makes the example logs and their expected answers anew
+# make contracts  makes docs/CONTRACTS.md anew, from the sources
 # make clean      removes build/, and keeps the proofs that rt keeps for itself
 #
 # IMGCOPY=PROGRAM has demo, check and bench run that program, and builds none.
@@ -12,23 +15,25 @@
 SHELL := /bin/bash
 BUILT := build/imgcopy
 IMGCOPY ?= $(BUILT)
-TOOLS := build/bench/release
-REFUSER := build/refuse_memory.so
+BENCH_PROGRAMS := build/bench/release
 ROUNDS ?= 5
 
 ifeq ($(IMGCOPY),$(BUILT))
 PROGRAM := imgcopy
-check_read_log = @python3 examples/read_log_memory.py $(REFUSER)
+GIVEN :=
 else
 PROGRAM := need-imgcopy
-check_read_log =
+GIVEN := --given
 endif
 
 need = @command -v "$(1)" > /dev/null || { echo "make: the program '$(1)' is missing: $(2)" >&2; exit 1; }
 
 .DEFAULT_GOAL := imgcopy
-.PHONY: imgcopy demo test check bench examples tools clean
+.PHONY: imgcopy demo test check bench examples contracts bench-programs clean
 .PHONY: need-rt need-python3 need-cargo need-rustc need-imgcopy
+
+imgcopy: need-rt
+	@tools/build.sh
 
 demo: need-python3 $(PROGRAM)
 	@mkdir -p build
@@ -36,32 +41,25 @@ demo: need-python3 $(PROGRAM)
 	@echo "imgcopy redo < examples/four_records.log gives a volume of one page:"
 	@python3 examples/show_page.py build/demo.volume 0
 
-# The last line must be that of rt ci, so nothing follows it.
-test: need-rt
-	@rt ci
+# The last line must be that of the script, so nothing follows it.
+test:
+	@tools/run_tests.sh --gate
 
-check: need-python3 need-rustc $(PROGRAM)
-	@examples/check.sh "$(IMGCOPY)"
-	@python3 examples/faults.py "$(IMGCOPY)"
-	@mkdir -p build
-	@rustc --edition 2024 --crate-type cdylib -O -o $(REFUSER) examples/refuse_memory.rs
-	@python3 examples/memory.py "$(IMGCOPY)" $(REFUSER)
-	$(check_read_log)
+check: $(PROGRAM)
+	@tools/run_tests.sh $(GIVEN) "$(IMGCOPY)"
 
-bench: need-python3 tools $(PROGRAM)
-	@python3 bench/run.py --imgcopy "$(IMGCOPY)" --tools $(TOOLS) --rounds $(ROUNDS)
+bench: need-python3 bench-programs $(PROGRAM)
+	@python3 bench/run.py --imgcopy "$(IMGCOPY)" --tools $(BENCH_PROGRAMS) --rounds $(ROUNDS) > build/bench.md
+	@cat build/bench.md
+	@python3 bench/draw.py build/bench.md bench/times.svg
 
 examples: need-python3
 	@python3 examples/make.py
 
-# rt proves and builds the program before it runs it, so a run that succeeds has left a program that is up to date.
-imgcopy: need-rt
-	@test -e crates/imgcopy || { echo "make imgcopy: the folder crates/imgcopy is missing" >&2; exit 1; }
-	@mkdir -p build
-	@log="$$PWD/examples/four_records.log" && cd crates/imgcopy && rt run -- redo < "$$log" > /dev/null
-	@cp -f crates/imgcopy/out/imgcopy $(BUILT)
+contracts: need-python3
+	@python3 tools/contracts.py
 
-tools: need-cargo need-rustc
+bench-programs: need-cargo need-rustc
 	@cargo build --quiet --release --offline --locked --manifest-path bench/Cargo.toml --target-dir build/bench
 
 clean:
@@ -77,7 +75,7 @@ need-cargo:
 	$(call need,cargo,it builds the programs of the benchmark)
 
 need-rustc:
-	$(call need,rustc,it builds the programs of the benchmark and what refuses allocations)
+	$(call need,rustc,it builds the programs of the benchmark)
 
 need-imgcopy:
 	$(call need,$(IMGCOPY),the program that IMGCOPY names)

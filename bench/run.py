@@ -3,7 +3,8 @@
 
 usage: run.py --imgcopy PROGRAM --tools FOLDER [--rounds N]
 
-FOLDER holds the built programs generate, plain_redo and bare_copy. README.md says what is measured and how.
+FOLDER holds the built programs generate, plain_redo, bare_copy and peak_memory. README.md says what is measured and
+how.
 """
 
 import argparse
@@ -18,10 +19,12 @@ import time
 from pathlib import Path
 from typing import NamedTuple
 
-RECORD_SIZE = 64
-PAGE_SIZE = 512
+sys.path.insert(0, str(Path(__file__).resolve().parent.parent / "examples"))
+
+from log_format import PAGE_SIZE, lsn_of
+
 MEGABYTE = 1e6
-ALLOWED_RATIO = 1.5
+ALLOWED_RATIO = 1.3
 
 
 class Input(NamedTuple):
@@ -30,22 +33,30 @@ class Input(NamedTuple):
     records: int
     pages: int
 
+    def __str__(self):
+        return f"{self.name} of {self.records:,} records"
+
     def log_size(self):
-        return RECORD_SIZE * (1 + self.records)
+        return log_size(self.records)
 
     def allowed_memory(self):
-        return 4 * self.log_size() + PAGE_SIZE * self.pages
+        return 2 * self.log_size() + PAGE_SIZE * self.pages
+
+
+def log_size(records):
+    """The size of a log is the offset at which its next record would begin."""
+    return lsn_of(records)
 
 
 INPUTS = [
-    Input("uniform", "uniform", 1048576, 65536),
+    *(Input("uniform", "uniform", records, 65536) for records in (65536, 131072, 262144, 524288, 1048576)),
     Input("hot", "hot", 1048576, 1024),
     Input("short", "short", 1048576, 65536),
     Input("small", "uniform", 65536, 1024),
 ]
 
 
-class Run(NamedTuple):
+class Result(NamedTuple):
     seconds: float
     memory: int
 
@@ -54,78 +65,76 @@ class Failure(Exception):
     """What is missing or wrong, in one line."""
 
 
-def run(command, source, target, name):
-    """Runs the command once from one file to another, and fails unless it ends with status 0."""
+def run(command, source, target, an_input):
+    """Runs the command once from one file to another. Gives its seconds, and what it wrote to standard error.
+
+    Fails unless it ends with status 0.
+    """
     with open(source, "rb") as standard_input, open(target, "wb") as standard_output, \
             tempfile.TemporaryFile() as standard_error:
         actions = [(os.POSIX_SPAWN_DUP2, file.fileno(), number)
                    for number, file in enumerate((standard_input, standard_output, standard_error))]
         started = time.perf_counter()
         process = os.posix_spawn(command[0], command, os.environ, file_actions=actions)
-        status, usage = wait(process)
+        status = wait(process)
         seconds = time.perf_counter() - started
-        if status != 0:
-            standard_error.seek(0)
-            said = standard_error.readline(200).decode(errors="replace").strip()
-            raise Failure(f"{name}: {Path(command[0]).name} ended with status {os.waitstatus_to_exitcode(status)}"
-                          f" and said {said!r}")
-    # Linux counts the peak in units of 1,024 bytes, and macOS in bytes.
-    return Run(seconds, usage.ru_maxrss * (1 if sys.platform == "darwin" else 1024))
+        standard_error.seek(0)
+        said = standard_error.read(1000).decode(errors="replace").strip()
+    if status != 0:
+        raise Failure(f"{an_input}: {Path(command[0]).name} ended with status {os.waitstatus_to_exitcode(status)}"
+                      f" and said {said!r}")
+    return seconds, said
 
 
 def wait(process):
     try:
-        _, status, usage = os.wait4(process, 0)
+        _, status = os.waitpid(process, 0)
     except BaseException:
         os.kill(process, signal.SIGKILL)
         raise
-    return status, usage
+    return status
 
 
-def measure(programs, an_input, generate, rounds, folder):
-    """The best time and the highest peak of each program, whose runs take turns."""
+def measure(programs, an_input, tools, rounds, folder):
+    """The best time of each program, whose runs take turns, and its memory in a run of its own."""
     log = folder / "log"
     options = {"records": an_input.records, "pages": an_input.pages, "shape": an_input.shape, "seed": 1}
     arguments = [word for name, value in options.items() for word in (f"--{name}", str(value))]
-    run([generate, *arguments], os.devnull, log, an_input.name)
+    run([tools["generate"], *arguments], os.devnull, log, an_input)
     check_same_volume(programs, an_input, log, folder)
-    runs = {name: [] for name in programs}
+    seconds = {name: [] for name in programs}
     for _ in range(rounds):
         for name, command in programs.items():
-            runs[name].append(run(command, log, os.devnull, an_input.name))
-    return {name: Run(min(one.seconds for one in each), max(one.memory for one in each))
-            for name, each in runs.items()}
+            seconds[name].append(run(command, log, os.devnull, an_input)[0])
+    memory = {name: int(run([tools["peak_memory"], *command], log, os.devnull, an_input)[1])
+              for name, command in programs.items()}
+    return {name: Result(min(seconds[name]), memory[name]) for name in programs}
 
 
 def check_same_volume(programs, an_input, log, folder):
     volumes = {name: folder / f"{name}.volume" for name in ("imgcopy", "plain")}
     for name, volume in volumes.items():
-        run(programs[name], log, volume, an_input.name)
+        run(programs[name], log, volume, an_input)
     if volumes["plain"].stat().st_size != PAGE_SIZE * an_input.pages:
-        raise Failure(f"{an_input.name}: the volume has not {an_input.pages} pages")
+        raise Failure(f"{an_input}: the volume has not {an_input.pages} pages")
     if not filecmp.cmp(*volumes.values(), shallow=False):
-        raise Failure(f"{an_input.name}: imgcopy and the plain program give different volumes")
+        raise Failure(f"{an_input}: imgcopy and the plain program give different volumes")
     for volume in volumes.values():
         volume.unlink()
 
 
-def table(results, least_memory):
+def table(results):
     columns = ["input", "records", "pages", "program", "seconds", "MB/s", "ratio to plain", "peak MB", "allowed MB",
                "met"]
     yield columns
     yield ["---" if name in ("input", "program", "met") else "---:" for name in columns]
-    for an_input, runs in results.items():
-        for name, one in runs.items():
-            speed = an_input.log_size() / one.seconds / MEGABYTE
-            ratio = one.seconds / runs["plain"].seconds
-            yield [an_input.name, f"{an_input.records:,}", f"{an_input.pages:,}", name, f"{one.seconds:.4f}",
-                   f"{speed:,.0f}", f"{ratio:.2f}", show_memory(one.memory, least_memory),
-                   *goals(name, ratio, one.memory, an_input.allowed_memory())]
-
-
-def show_memory(memory, least_memory):
-    # The peak of a process counts that of the process that started it, so nothing lower can be seen.
-    return f"≤ {memory / MEGABYTE:.1f}" if memory < 1.1 * least_memory else f"{memory / MEGABYTE:.1f}"
+    for an_input, by_program in results.items():
+        for name, result in by_program.items():
+            speed = an_input.log_size() / result.seconds / MEGABYTE
+            ratio = result.seconds / by_program["plain"].seconds
+            yield [an_input.name, f"{an_input.records:,}", f"{an_input.pages:,}", name, f"{result.seconds:.4f}",
+                   f"{speed:,.0f}", f"{ratio:.2f}", f"{result.memory / MEGABYTE:.1f}",
+                   *goals(name, ratio, result.memory, an_input.allowed_memory())]
 
 
 def goals(name, ratio, memory, allowed):
@@ -151,18 +160,17 @@ def find_folder():
 
 
 def benchmark(options):
-    tools = {name: find_program(os.path.join(options.tools, name)) for name in ("generate", "plain_redo", "bare_copy")}
+    tools = {name: find_program(os.path.join(options.tools, name))
+             for name in ("generate", "plain_redo", "bare_copy", "peak_memory")}
     programs = {
         "imgcopy": [find_program(options.imgcopy), "redo"],
         "plain": [tools["plain_redo"], "redo"],
         "copy": [tools["bare_copy"]],
     }
     with tempfile.TemporaryDirectory(dir=find_folder()) as folder:
-        least_memory = run(programs["copy"], os.devnull, os.devnull, "nothing").memory
-        results = {an_input: measure(programs, an_input, tools["generate"], options.rounds, Path(folder))
-                   for an_input in INPUTS}
+        results = {an_input: measure(programs, an_input, tools, options.rounds, Path(folder)) for an_input in INPUTS}
     print(f"{datetime.date.today()}, {os.cpu_count()} cores, best of {options.rounds}:\n")
-    for cells in table(results, least_memory):
+    for cells in table(results):
         print(f"| {' | '.join(cells)} |")
 
 

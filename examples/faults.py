@@ -10,25 +10,29 @@ logs are made one byte and one record too long. `answer` says what each must giv
 import os
 import shutil
 import signal
-import struct
 import subprocess
 import sys
 import tempfile
 
-MOST_RECORDS = 2**20
-MOST_PAGES = 2**16
-SLOTS = 62
+from log_format import (ADD, BEGIN, COMMIT, HEADER_SIZE, LONGEST_LOG, MOST_PAGES, MOST_RECORDS, NO_CHANGE, RECORD_SIZE,
+                        SET, UPDATE, Change, Record, Volume, decode_record, encode_header, fault_of_header,
+                        fault_of_record, lsn_of, page_count)
 
-# begin 1, begin 2, set, add, commit 1, set, commit 2: (kind, transaction, previous, page, slot, change, before, number)
+# The kinds of record that the program reads.
+KNOWN_KINDS = (BEGIN, UPDATE, COMMIT)
+
 RECORDS = [
-    (1, 1, 0, 0, 0, 0, 0, 0),
-    (1, 2, 0, 0, 0, 0, 0, 0),
-    (2, 1, 64, 1, 3, 1, 0, 7),
-    (2, 2, 128, 0, 61, 2, 0, 2**64 - 5),
-    (4, 1, 192, 0, 0, 0, 0, 0),
-    (2, 2, 256, 1, 3, 1, 7, 9),
-    (4, 2, 384, 0, 0, 0, 0, 0),
+    Record(BEGIN, 1),
+    Record(BEGIN, 2),
+    Record(UPDATE, 1, previous=64, change=Change(page=1, slot=3, kind=SET, before=0, number=7)),
+    Record(UPDATE, 2, previous=128, change=Change(page=0, slot=61, kind=ADD, before=0, number=2**64 - 5)),
+    Record(COMMIT, 1, previous=192),
+    Record(UPDATE, 2, previous=256, change=Change(page=1, slot=3, kind=SET, before=7, number=9)),
+    Record(COMMIT, 2, previous=384),
 ]
+
+# Of these records the first Update is the one that is spoiled.
+SPOILED = 2
 
 
 class Fault(Exception):
@@ -44,64 +48,47 @@ def answer(log):
 
 
 def redo(log):
-    if len(log) < 64:
+    if fault_of_header(log[:HEADER_SIZE]):
         raise Fault("E30 BadHeader")
-    magic, page_count, zeros = struct.unpack("<8s I 52s", log[:64])
-    if magic != b"AIMGLOG1" or not 1 <= page_count <= MOST_PAGES or any(zeros):
-        raise Fault("E30 BadHeader")
-    pages = [[0] * (1 + SLOTS) for _ in range(page_count)]  # the LSN, and then the slots
-    for at in range(64, len(log), 64):
-        if at > 64 * MOST_RECORDS:
+    pages = page_count(log[:HEADER_SIZE])
+    volume = Volume(pages)
+    for at in range(HEADER_SIZE, len(log), RECORD_SIZE):
+        data = log[at:at + RECORD_SIZE]
+        if at >= LONGEST_LOG:
             raise Fault("E34 TooLong")
-        if len(log) - at < 64:
+        if len(data) < RECORD_SIZE:
             raise Fault(f"E32 Torn {at}")
-        redo_record(log[at:at + 64], at, pages)
-    return b"".join(struct.pack("<I I 63Q", number, 1, *page) for number, page in enumerate(pages))
+        record = decode_record(data)
+        if record.kind not in KNOWN_KINDS or fault_of_record(record, at, pages):
+            raise Fault(f"E31 BadRecord {at}")
+        volume.redo(record)
+    return volume.encode()
 
 
-def redo_record(record, at, pages):
-    (kind, zeros, transaction, previous, next_zeros, page, slot, change, zero, before, number, last_zeros,
-     own) = struct.unpack("<B 3s I Q 8s I H B B Q Q 8s Q", record)
-    no_change = (page, slot, change, before, number) == (0, 0, 0, 0, 0)
-    has_previous = previous in range(64, at, 64)
-    is_change = page < len(pages) and slot < SLOTS and (change == 1 or change == 2 and before == 0)
-    is_record = {1: previous == 0 and no_change, 2: has_previous and is_change, 4: has_previous and no_change}
-    if any(zeros + next_zeros + last_zeros) or zero or transaction == 0 or own != at or not is_record.get(kind):
-        raise Fault(f"E31 BadRecord {at}")
-    if kind == 2:
-        pages[page][0] = at
-        pages[page][1 + slot] = number if change == 1 else (pages[page][1 + slot] + number) % 2**64
+def log_of(records, pages=2):
+    return encode_header(pages) + b"".join(record._replace(lsn=lsn_of(index)).encode()
+                                           for index, record in enumerate(records))
 
 
-def header(pages):
-    return struct.pack("<8s I 52x", b"AIMGLOG1", pages)
+def with_record(**fields):
+    """The log with these fields in the record that is spoiled."""
+    spoiled = RECORDS[SPOILED]._replace(**fields)
+    return log_of([*RECORDS[:SPOILED], spoiled, *RECORDS[SPOILED + 1:]])
 
 
-def encode(record, at):
-    kind, transaction, previous, page, slot, change, before, number = record
-    return struct.pack("<B 3x I Q 8x I H B x Q Q 8x Q", kind, transaction, previous, page, slot, change, before,
-                       number, at)
-
-
-def small_log(pages=2, records=RECORDS):
-    return header(pages) + b"".join(encode(record, 64 * (index + 1)) for index, record in enumerate(records))
-
-
-def with_record(index, *record):
-    records = list(RECORDS)
-    records[index] = record
-    return small_log(records=records)
+def with_change(**fields):
+    return with_record(change=RECORDS[SPOILED].change._replace(**fields))
 
 
 def changed_bytes():
-    log = small_log()
+    log = log_of(RECORDS)
     for at in range(len(log)):
         for turn in (0x01, 0x02, 0x04, 0x80):
             yield f"byte {at} turned by {turn}", log[:at] + bytes([log[at] ^ turn]) + log[at + 1:]
 
 
 def cut_logs():
-    log = small_log()
+    log = log_of(RECORDS)
     spoiled = log[:200] + b"\1" + log[201:]
     for length in range(len(log)):
         yield f"cut to {length}", log[:length]
@@ -110,30 +97,31 @@ def cut_logs():
 
 def fields_at_bounds():
     for pages in (0, 1, 2, MOST_PAGES, MOST_PAGES + 1, 2**32 - 1):
-        yield f"{pages} pages", small_log(pages)
+        yield f"{pages} pages", log_of(RECORDS, pages)
     for kind in range(256):
-        yield f"kind {kind}", with_record(2, kind, 1, 64, 1, 3, 1, 0, 7)
-        yield f"kind {kind} with no change", with_record(2, kind, 1, 64, 0, 0, 0, 0, 0)
+        yield f"kind {kind}", with_record(kind=kind)
+        yield f"kind {kind} with no change", with_record(kind=kind, change=NO_CHANGE)
     for previous in (0, 1, 32, 63, 64, 65, 128, 191, 192, 256, 2**32 + 64, 2**63, 2**64 - 64):
-        yield f"update after {previous}", with_record(2, 2, 1, previous, 1, 3, 1, 0, 7)
-        yield f"commit after {previous}", with_record(2, 4, 1, previous, 0, 0, 0, 0, 0)
-        yield f"begin after {previous}", with_record(2, 1, 1, previous, 0, 0, 0, 0, 0)
+        yield f"update after {previous}", with_record(previous=previous)
+        yield f"commit after {previous}", with_record(kind=COMMIT, previous=previous, change=NO_CHANGE)
+        yield f"begin after {previous}", with_record(kind=BEGIN, previous=previous, change=NO_CHANGE)
     for slot in (0, 60, 61, 62, 63, 255, 256, 2**16 - 1):
-        yield f"slot {slot}", with_record(2, 2, 1, 64, 1, slot, 1, 0, 7)
+        yield f"slot {slot}", with_change(slot=slot)
     for page in (0, 1, 2, 255, 2**16, 2**32 - 1):
-        yield f"page {page}", with_record(2, 2, 1, 64, page, 3, 1, 0, 7)
-    for change in (0, 1, 2, 3, 255):
+        yield f"page {page}", with_change(page=page)
+    for kind in (0, 1, 2, 3, 255):
         for before in (0, 1, 2**64 - 1):
-            yield f"change {change} before {before}", with_record(2, 2, 1, 64, 1, 3, change, before, 2**64 - 1)
+            yield f"change {kind} before {before}", with_change(kind=kind, before=before, number=2**64 - 1)
     for transaction in (0, 1, 2**32 - 1):
-        yield f"transaction {transaction}", with_record(2, 2, transaction, 64, 1, 3, 1, 0, 7)
+        yield f"transaction {transaction}", with_record(transaction=transaction)
 
 
 def long_logs():
-    longest = header(1) + b"".join(encode(RECORDS[0], 64 * (index + 1)) for index in range(MOST_RECORDS))
+    begin = Record(BEGIN, 1)
+    longest = log_of([begin] * MOST_RECORDS, pages=1)
     yield "the longest log", longest
     yield "the longest log and one byte", longest + b"\0"
-    yield "the longest log and one record", longest + encode(RECORDS[0], 64 * (MOST_RECORDS + 1))
+    yield "the longest log and one record", log_of([begin] * (MOST_RECORDS + 1), pages=1)
     yield "the longest log, spoiled in its last record, and one byte", longest[:-1] + b"\1\0"
     yield "the longest log without its last byte", longest[:-1]
 
@@ -155,7 +143,7 @@ def compare(program, folder):
             if given != wanted:
                 sys.exit(f"faults.py: {name}: {describe(given)} in place of {describe(wanted)}")
             count += 1
-    print(f"{count} answers are as defined")
+    print(f"ok faults: {count} answers are as defined")
 
 
 def describe(one_answer):

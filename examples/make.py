@@ -4,45 +4,14 @@
 usage: make.py [FOLDER]     FOLDER is the folder to write to, by default the one that holds this script
 
 NAME.log is a log. NAME.volume is the volume that it must give, or NAME.fault the fault line that it must give.
-A log is a header of 64 bytes and then records of 64 bytes, each named by its LSN, the offset at which it begins.
-A volume is its pages of 512 bytes one after the other. All numbers are little-endian.
 """
 
 import random
-import struct
 import sys
 from pathlib import Path
-from typing import NamedTuple
 
-BEGIN, UPDATE, COMMIT = 1, 2, 4
-SET, ADD = 1, 2
-SLOTS = 62
-
-
-class Change(NamedTuple):
-    """A Set puts `number` into the slot in place of `before`. An Add adds `number` to it, and has no `before`."""
-
-    page: int
-    slot: int
-    kind: int
-    before: int
-    number: int
-
-
-NO_CHANGE = Change(page=0, slot=0, kind=0, before=0, number=0)
-
-
-class Record(NamedTuple):
-    kind: int
-    transaction: int
-    previous: int
-    change: Change
-    lsn: int
-
-    def encode(self):
-        page, slot, kind, before, number = self.change
-        return struct.pack("<B 3x I Q 8x I H B x Q Q 8x Q", self.kind, self.transaction, self.previous,
-                           page, slot, kind, before, number, self.lsn)
+from log_format import (ADD, BEGIN, COMMIT, NO_CHANGE, RECORD_SIZE, SET, SLOTS, UPDATE, Change, Record, Volume,
+                        encode_header, lsn_of)
 
 
 class Log:
@@ -65,33 +34,12 @@ class Log:
     def append(self, kind, transaction, change=NO_CHANGE):
         earlier = self.open[transaction]
         previous = earlier[-1].lsn if earlier else 0
-        record = Record(kind, transaction, previous, change, lsn=64 * (len(self.records) + 1))
+        record = Record(kind, transaction, previous, change, lsn=lsn_of(len(self.records)))
         self.records.append(record)
         earlier.append(record)
 
     def encode(self):
-        header = struct.pack("<8s I 52x", b"AIMGLOG1", self.pages)
-        return header + b"".join(record.encode() for record in self.records)
-
-
-class Volume:
-    """The pages that the records of a log leave, each as its LSN and its slots."""
-
-    def __init__(self, pages):
-        self.lsns = [0] * pages
-        self.slots = [[0] * SLOTS for _ in range(pages)]
-
-    def redo(self, record):
-        if record.kind == UPDATE:
-            page, slot, kind, _, number = record.change
-            old = self.slots[page][slot]
-            self.slots[page][slot] = number if kind == SET else (old + number) % 2**64
-            self.lsns[page] = record.lsn
-
-    def encode(self):
-        pages = zip(self.lsns, self.slots)
-        return b"".join(struct.pack("<I I Q 62Q", number, 1, lsn, *slots)
-                        for number, (lsn, slots) in enumerate(pages))
+        return encode_header(self.pages) + b"".join(record.encode() for record in self.records)
 
 
 def volume_of(log):
@@ -163,7 +111,7 @@ def conflicts(log, transaction, change):
 def torn():
     """The log of four records cut inside its last one, and the fault line that names the offset of that record."""
     length = 266
-    return four_records().encode()[:length], f"E32 Torn {length - length % 64}\n"
+    return four_records().encode()[:length], f"E32 Torn {length - length % RECORD_SIZE}\n"
 
 
 def main(folder):

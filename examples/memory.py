@@ -80,7 +80,7 @@ def main(arguments):
             raise Failure("no allocation was refused")
     except (Failure, OSError) as failure:
         sys.exit(f"memory.py: {failure}")
-    print(f"{count} refused allocations are told, or done without")
+    print(f"ok memory: {count} refused allocations are told, or done without")
 
 
 if __name__ == "__main__":

@@ -15,8 +15,7 @@ import sys
 import tempfile
 from pathlib import Path
 
-sys.dont_write_bytecode = True
-
+from log_format import HEADER_SIZE, RECORD_SIZE
 from memory import EXAMPLES, Case, Failure, check
 
 PROGRAM = """\
@@ -61,7 +60,7 @@ def cases():
     """Each example log, with the count of its records or the text of its fault."""
     for log in sorted(EXAMPLES.glob("*.log")):
         if log.with_suffix(".volume").exists():
-            answer = (0, b"", b"%d\n" % (log.stat().st_size // 64 - 1))
+            answer = (0, b"", b"%d\n" % ((log.stat().st_size - HEADER_SIZE) // RECORD_SIZE))
         else:
             _, name, at = log.with_suffix(".fault").read_text().split()
             if name != "Torn":
@@ -84,7 +83,7 @@ def main(arguments):
             raise Failure("no allocation was refused")
     except (Failure, OSError) as failure:
         sys.exit(f"read_log_memory.py: {failure}")
-    print(f"{sum(counts)} refused allocations of read_log are told")
+    print(f"ok read_log_memory: {sum(counts)} refused allocations of read_log are told")
 
 
 if __name__ == "__main__":

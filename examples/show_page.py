@@ -4,10 +4,9 @@
 usage: show_page.py VOLUME PAGE
 """
 
-import struct
 import sys
 
-PAGE_SIZE = 512
+from log_format import PAGE_SIZE, decode_page
 
 
 def read_page(path, wanted):
@@ -16,14 +15,14 @@ def read_page(path, wanted):
         page = volume.read(PAGE_SIZE)
     if len(page) < PAGE_SIZE:
         sys.exit(f"show_page.py: {path} has no page {wanted}")
-    return struct.unpack("<I I Q 62Q", page)
+    return decode_page(page)
 
 
 def main(arguments):
     if len(arguments) != 2 or not arguments[1].isdecimal():
         sys.exit("usage: show_page.py VOLUME PAGE")
     try:
-        number, _, lsn, *slots = read_page(arguments[0], int(arguments[1]))
+        number, lsn, slots = read_page(arguments[0], int(arguments[1]))
     except (OSError, ValueError) as error:
         sys.exit(f"show_page.py: {arguments[0]} cannot be read: {error}")
     print(f"page {number} lsn {lsn}", *(f"{slot}={value}" for slot, value in enumerate(slots) if value))

@@ -1,18 +1,14 @@
 //! `generate --records N --pages P --shape uniform|hot|short --seed S > log` writes a valid log to standard output.
 //! The same arguments always give the same bytes.
 
+use bench::{
+    ADD, BEGIN, COMMIT, HEADER_SIZE, MAGIC, MOST_PAGES, MOST_RECORDS, RECORD_SIZE, SET, SLOTS,
+    UPDATE,
+};
 use std::io::{self, BufWriter, Write};
 use std::process::ExitCode;
 
-const RECORD_SIZE: u64 = 64;
-const MOST_RECORDS: u64 = 1 << 20;
-const MOST_PAGES: u64 = 1 << 16;
-const SLOTS: u64 = 62;
 const DRAWS: u32 = 8;
-
-const BEGIN: u8 = 1;
-const UPDATE: u8 = 2;
-const COMMIT: u8 = 4;
 
 #[derive(Clone, Copy)]
 enum Shape {
@@ -64,8 +60,8 @@ impl Options {
                 .next()
                 .ok_or_else(|| format!("{name} has no value"));
             match name.as_str() {
-                "--records" => records = Some(number(&name, &value?, 0, MOST_RECORDS)?),
-                "--pages" => pages = Some(number(&name, &value?, 1, MOST_PAGES)?),
+                "--records" => records = Some(number(&name, &value?, 0, MOST_RECORDS as u64)?),
+                "--pages" => pages = Some(number(&name, &value?, 1, u64::from(MOST_PAGES))?),
                 "--shape" => shape = Some(Shape::from_name(&value?)?),
                 "--seed" => seed = Some(number(&name, &value?, 0, u64::MAX)?),
                 _ => return Err(format!("unknown argument {name:?}")),
@@ -109,9 +105,10 @@ impl Random {
 }
 
 #[derive(Clone, Copy, PartialEq)]
+#[repr(u16)]
 enum ChangeKind {
-    Set = 1,
-    Add = 2,
+    Set = SET,
+    Add = ADD,
 }
 
 #[derive(Clone, Copy)]
@@ -123,7 +120,7 @@ struct Change {
 
 impl Change {
     fn place(&self) -> usize {
-        (self.page * SLOTS + self.slot) as usize
+        (self.page * SLOTS as u64 + self.slot) as usize
     }
 }
 
@@ -135,12 +132,12 @@ struct Transaction {
 }
 
 /// The bytes of one record, all zero at first.
-struct Record([u8; RECORD_SIZE as usize]);
+struct Record([u8; RECORD_SIZE]);
 
 impl Record {
-    fn new(kind: u8, transaction: u32, previous: u64, lsn: u64) -> Record {
-        let mut record = Record([0; RECORD_SIZE as usize]);
-        record.put(0, &[kind]);
+    fn new(kind: u32, transaction: u32, previous: u64, lsn: u64) -> Record {
+        let mut record = Record([0; RECORD_SIZE]);
+        record.put(0, &kind.to_le_bytes());
         record.put(4, &transaction.to_le_bytes());
         record.put(8, &previous.to_le_bytes());
         record.put(56, &lsn.to_le_bytes());
@@ -150,7 +147,7 @@ impl Record {
     fn put_change(&mut self, change: &Change, before: u64, number: u64) {
         self.put(24, &(change.page as u32).to_le_bytes());
         self.put(28, &(change.slot as u16).to_le_bytes());
-        self.put(30, &[change.kind as u8]);
+        self.put(30, &(change.kind as u16).to_le_bytes());
         self.put(32, &before.to_le_bytes());
         self.put(40, &number.to_le_bytes());
     }
@@ -179,7 +176,7 @@ impl Generator {
             shape: options.shape,
             pages: options.pages,
             hot_page: options.pages / 2,
-            slots: vec![0; (options.pages * SLOTS) as usize],
+            slots: vec![0; options.pages as usize * SLOTS],
             open: Vec::new(),
             last_transaction: 0,
         }
@@ -244,7 +241,7 @@ impl Generator {
             };
             let change = Change {
                 page: self.draw_page(),
-                slot: self.random.below(SLOTS),
+                slot: self.random.below(SLOTS as u64),
                 kind,
             };
             if !self.conflicts(chosen, &change) {
@@ -299,15 +296,15 @@ fn write_log(options: &Options) -> io::Result<()> {
     out.write_all(&header(options.pages as u32))?;
     let mut generator = Generator::new(options);
     for index in 0..options.records {
-        let record = generator.next_record(RECORD_SIZE * (index + 1));
+        let record = generator.next_record(HEADER_SIZE as u64 + RECORD_SIZE as u64 * index);
         out.write_all(&record.0)?;
     }
     out.flush()
 }
 
-fn header(pages: u32) -> [u8; RECORD_SIZE as usize] {
-    let mut header = [0; RECORD_SIZE as usize];
-    header[0..8].copy_from_slice(b"AIMGLOG1");
+fn header(pages: u32) -> [u8; HEADER_SIZE] {
+    let mut header = [0; HEADER_SIZE];
+    header[0..8].copy_from_slice(MAGIC);
     header[8..12].copy_from_slice(&pages.to_le_bytes());
     header
 }

@@ -1,22 +1,15 @@
 //! `plain_redo redo < log > volume` does what `imgcopy redo` does, with the same checks and the same faults, in
 //! plain Rust. It is the measure that imgcopy is held to.
 
+use bench::{
+    ADD, BEGIN, COMMIT, FIRST_SLOT, HEADER_SIZE, LONGEST_LOG, MAGIC, MOST_PAGES, PAGE_FORMAT,
+    PAGE_SIZE, RECORD_SIZE, SET, SLOTS, UPDATE,
+};
 use std::fmt;
 use std::io::{self, ErrorKind, Read, Write};
 use std::process::ExitCode;
 
-const MAGIC: &[u8; 8] = b"AIMGLOG1";
-const HEADER_SIZE: usize = 64;
-const RECORD_SIZE: usize = 64;
-const MOST_RECORDS: usize = 1 << 20;
-const LONGEST_LOG: usize = HEADER_SIZE + RECORD_SIZE * MOST_RECORDS;
 const CHUNK_SIZE: usize = 1 << 18;
-
-const PAGE_SIZE: usize = 512;
-const PAGE_FORMAT: u32 = 1;
-const FIRST_SLOT: usize = 16;
-const SLOTS: usize = 62;
-const MOST_PAGES: u32 = 1 << 16;
 
 type Page = [u8; PAGE_SIZE];
 
@@ -168,19 +161,21 @@ fn read_record(bytes: &[u8], lsn: usize, page_count: u32) -> Option<Record> {
     let has_previous =
         previous >= RECORD_SIZE as u64 && previous < own && previous % RECORD_SIZE as u64 == 0;
     match kind {
-        1 if previous == 0 && changes_nothing => Some(Record::Begin),
-        2 if has_previous => read_update(place, before, number, page_count).map(Record::Update),
-        4 if has_previous && changes_nothing => Some(Record::Commit),
+        BEGIN if previous == 0 && changes_nothing => Some(Record::Begin),
+        UPDATE if has_previous => {
+            read_update(place, before, number, page_count).map(Record::Update)
+        }
+        COMMIT if has_previous && changes_nothing => Some(Record::Commit),
         _ => None,
     }
 }
 
 fn read_update(place: u64, before: u64, number: u64, page_count: u32) -> Option<Update> {
     let (page, slot_and_kind) = halves(place);
-    let (slot, kind) = (slot_and_kind & 0xffff, slot_and_kind >> 16);
+    let (slot, kind) = (slot_and_kind as u16, (slot_and_kind >> 16) as u16);
     let change = match kind {
-        1 => Change::Set { after: number },
-        2 if before == 0 => Change::Add { amount: number },
+        SET => Change::Set { after: number },
+        ADD if before == 0 => Change::Add { amount: number },
         _ => return None,
     };
     let (page_is_inside, slot_is_inside) = (page < page_count, (slot as usize) < SLOTS);

@@ -1,0 +1,22 @@
+//! The format of logs and volumes, for the programs of the benchmark.
+
+pub const MAGIC: &[u8; 8] = b"AIMGLOG1";
+pub const HEADER_SIZE: usize = 64;
+pub const RECORD_SIZE: usize = 64;
+pub const MOST_RECORDS: usize = 1 << 20;
+pub const LONGEST_LOG: usize = HEADER_SIZE + RECORD_SIZE * MOST_RECORDS;
+
+/// The kinds of records, each with the three zeros behind it.
+pub const BEGIN: u32 = 1;
+pub const UPDATE: u32 = 2;
+pub const COMMIT: u32 = 4;
+
+/// The kinds of changes, each with the zero behind it.
+pub const SET: u16 = 1;
+pub const ADD: u16 = 2;
+
+pub const PAGE_SIZE: usize = 512;
+pub const PAGE_FORMAT: u32 = 1;
+pub const FIRST_SLOT: usize = 16;
+pub const SLOTS: usize = 62;
+pub const MOST_PAGES: u32 = 1 << 16;

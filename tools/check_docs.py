@@ -1,0 +1,130 @@
+#!/usr/bin/env python3
+"""Looks up what the documents name in backticks, and fails where the repository does not have it.
+
+usage: check_docs.py
+
+A path has to be there, also seen from a crate's folder, from docs/ or from the document's own, and a file's name in any
+folder. A name has to be a word of the sources, which are the code, the definitions, the scripts and the Makefile, or to
+be the name of a file. Of `A::b` a file that names A has to have b. Of several words the first has to be a name, or
+`make`, `imgcopy` or `rt` before a target or a command.
+"""
+
+import fnmatch
+import re
+import sys
+from pathlib import Path
+
+from repository import ROOT, crates
+
+SUFFIXES = (".rt", ".antt", ".md", ".py", ".rs", ".sh", ".edit", ".log", ".volume", ".fault", ".svg", ".txt")
+# The files whose words count, and what counts for nothing in them.
+COMMENTS = {".rt": r"//[^\n]*", ".rs": r"//[^\n]*", ".antt": r"--[^\n]*"}
+SCRIPTS = (".py", ".sh", ".txt", "Makefile")
+RT_COMMANDS = "ci must-fail doc version help new check verdict lib run test try fmt tidy plant all expand lemma"
+
+# Words of clap, folders that are made, and what stands for any name.
+ALLOWED_NAMES = {"takes"}
+MADE = ("build/", "out/")
+ANY = re.compile(r"\b(NAME|CRATE)\b")
+
+SPAN = re.compile(r"`((?:[^`\n]|\n(?!\n))+)`")
+FENCE = re.compile(r"^```.*?^```", re.DOTALL | re.MULTILINE)
+NAME = re.compile(r"([A-Za-z_]\w*(?:::\w+)*)(?:\(.*\))?")
+
+
+class Sources:
+    """The words of each file of the sources, without those of comments."""
+
+    def __init__(self):
+        self.files = {path: set(re.findall(r"\w+", code_of(path))) for path in all_files()}
+        self.names = {path.name for path in self.files}
+        self.words = set(crates()).union({path.stem for path in self.files}, *self.files.values())
+        self.targets = set(re.findall(r"^([\w-]+):", (ROOT / "Makefile").read_text(encoding="utf-8"), re.MULTILINE))
+        program = ROOT / "crates" / "imgcopy" / "src"
+        self.commands = set(re.findall(r'"([\w-]+)"', "".join(path.read_text() for path in program.rglob("*.rt"))))
+
+    def lacks(self, name):
+        """What is wrong with a name, as `b`, `A::b` or `A::b::c`, or None."""
+        parts = name.split("::")
+        for part in parts:
+            if part not in self.words and part not in ALLOWED_NAMES:
+                return f"the sources have no {part}"
+        for owner, part in zip(parts, parts[1:]):
+            if not any({owner, part} <= words for words in self.files.values()):
+                return f"no file that names {owner} has {part}"
+        return None
+
+
+def all_files():
+    yield from (path for path in ROOT.iterdir() if path.is_file())
+    for folder in ("crates", "docs", "examples", "bench", "tools"):
+        for path in (ROOT / folder).rglob("*"):
+            if path.is_file() and not {"out", "__pycache__"} & set(path.parts):
+                yield path
+
+
+def code_of(path):
+    """The text of a file whose words count, and else nothing. Those of this file do not."""
+    kind = path.suffix or path.name
+    if kind in COMMENTS:
+        return re.sub(COMMENTS[kind], "", path.read_text(encoding="utf-8"))
+    is_script = kind in SCRIPTS and path != Path(__file__).resolve()
+    return path.read_text(encoding="utf-8") if is_script else ""
+
+
+def documents():
+    yield ROOT / "README.md"
+    for pattern in ("docs/*.md", "bench/*.md", "crates/*/*.md"):
+        yield from sorted(ROOT.glob(pattern))
+
+
+def spans(text):
+    """What stands in backticks, outside of blocks of code, each with the number of its line."""
+    shown = FENCE.sub(lambda found: re.sub(r"[^\n]", "", found.group()), text)
+    for found in SPAN.finditer(shown):
+        yield shown.count("\n", 0, found.start()) + 1, " ".join(found[1].split())
+
+
+def fault_of(span, folder, sources):
+    """What is wrong with what stands in backticks, or None."""
+    first, _, rest = span.partition(" ")
+    if rest:
+        return fault_of_words(first, rest.split(), sources)
+    if "/" in span or span.endswith(SUFFIXES):
+        return fault_of_path(span, folder, sources)
+    name = NAME.fullmatch(span)
+    return sources.lacks(name[1]) if name else None
+
+
+def fault_of_words(first, rest, sources):
+    known = {"make": sources.targets, "imgcopy": sources.commands, "rt": RT_COMMANDS.split()}
+    if first in known:
+        wanted = [word for word in rest if re.fullmatch(r"[a-z][\w-]*", word)][:1]
+        return next((f"{first} has no {word}" for word in wanted if word not in known[first]), None)
+    return sources.lacks(first) if NAME.fullmatch(first) else None
+
+
+def fault_of_path(span, folder, sources):
+    if span.startswith(("/", *MADE)):
+        return None
+    pattern = ANY.sub("*", span).rstrip("/")
+    places = [ROOT, folder, ROOT / "docs", *(ROOT / "crates" / crate for crate in crates())]
+    is_there = any(path for place in places for path in place.glob(pattern))
+    return None if is_there or fnmatch.filter(sources.names, pattern) else "there is no such file"
+
+
+def main():
+    sources, count, faults = Sources(), 0, []
+    for document in documents():
+        for line, span in spans(document.read_text(encoding="utf-8")):
+            fault = fault_of(span, document.parent, sources)
+            count += 1
+            if fault:
+                faults.append(f"{document.relative_to(ROOT)}:{line}: `{span}`: {fault}")
+    if faults:
+        sys.exit("\n".join(faults))
+    print(f"ok documents: what they name in {count} places is there")
+
+
+if __name__ == "__main__":
+    main()

@@ -1,0 +1,89 @@
+#!/usr/bin/env bash
+# usage: run_tests.sh --gate             runs the gate, and then each check on the program that it has built
+#        run_tests.sh PROGRAM            runs each check on this program
+#        run_tests.sh --given PROGRAM    runs each check on this program that needs no rt
+# The last line is 'N passed, M failed', and ', K skipped' where a tool is missing. A check passes if it ends with
+# status 0 and its last line begins with 'ok' and its name. The status is 0 if nothing failed.
+set -u
+cd "$(dirname "$0")/.." || exit 1
+passed=0 failed=0 skipped=0
+
+# The gate leaves the program in out/. An older one is removed first, so that none but the gate's own is checked.
+run_gate() {
+    program=crates/imgcopy/out/imgcopy
+    rm -f "$program"
+    PYTHONUNBUFFERED=1 rt ci 2>&1 | tee build/gate.log
+    local status=${PIPESTATUS[0]} counts='^([0-9]+) passed, ([0-9]+) failed$'
+    if [[ $(tail -n 1 build/gate.log) =~ $counts ]]; then
+        passed=${BASH_REMATCH[1]} failed=${BASH_REMATCH[2]}
+    else
+        echo "FAILED gate: it ended with status $status, and without its counts"
+        failed=1
+    fi
+    [ "$status" -eq 0 ] || [ "$failed" -gt 0 ] || failed=1
+}
+
+# check NAME TOOL.. -- COMMAND..: counts one check, and skips it where a tool is missing.
+check() {
+    local name=$1 said
+    shift
+    while [ "$1" != -- ]; do
+        command -v "$1" > /dev/null || { skip "$name" "$1 is missing"; return; }
+        shift
+    done
+    shift
+    if said=$("$@" 2>&1) && [[ ${said##*$'\n'} == "ok $name:"* ]]; then
+        echo "$said"
+        passed=$((passed + 1))
+    else
+        echo "$said"
+        echo "FAILED $name"
+        failed=$((failed + 1))
+    fi
+}
+
+skip() {
+    echo "skipped $1: $2"
+    skipped=$((skipped + 1))
+}
+
+# Runs a script whose last argument is the library that refuses allocations.
+refuse_memory() {
+    local library=build/refuse_memory.so source=examples/refuse_memory.rs
+    [ "$library" -nt "$source" ] || rustc --edition 2024 --crate-type cdylib -O -o "$library" "$source" || return
+    python3 "$@" "$library"
+}
+
+run_checks() {
+    check contracts python3 -- python3 tools/contracts.py --check
+    check documents python3 -- python3 tools/check_docs.py
+    check examples "$program" python3 -- examples/check.sh "$program"
+    check memory "$program" python3 rustc -- refuse_memory examples/memory.py "$program"
+    check faults "$program" python3 -- python3 examples/faults.py "$program"
+    if "$uses_rt"; then
+        check read_log_memory "$program" rt python3 rustc -- refuse_memory examples/read_log_memory.py
+    else
+        skip read_log_memory "it has rt prove a program of its own"
+    fi
+}
+
+uses_rt=true
+if [ "${1-}" = --given ]; then
+    uses_rt=false
+    shift
+fi
+if [ $# -ne 1 ]; then
+    echo "usage: run_tests.sh --gate, or [--given] PROGRAM" >&2
+    exit 1
+fi
+mkdir -p build
+if [ "$1" = --gate ]; then
+    run_gate
+else
+    program=$1
+fi
+run_checks
+counts="$passed passed, $failed failed"
+[ "$skipped" -eq 0 ] || counts+=", $skipped skipped"
+echo "$counts"
+[ "$failed" -eq 0 ]
