@@ -6,17 +6,13 @@ use Rattle.std.specs.Int.{w32, from_le_bytes}
 use Rattle.std.specs.Io.KnownBytes.{Consumes, IsAtEnd}
 use Rattle.std.proofs.lemmas.List.{take-append-le, drop-append-le, length-append, length-drop, length-take, append-nil}
 use Rattle.log_store.specs.declared.fault.LogReadFault.{LogReadFault}
-use Rattle.log_store.specs.declared.fault.LogReadFault.TheVariants.{OutOfMemory, BadHeader, BadRecord, Torn, ReadFault, TooLong}
+use Rattle.log_store.specs.declared.fault.LogReadFault.TheVariants.{OutOfMemory, BadHeader, BadRecord, BadChain, Torn, ReadFault, TooLong}
 use Rattle.log_store.specs.declared.limits.TheConstants.{MAX_LOG_BYTES}
 use Rattle.log_store.specs.Log.{Log, SpellsLog, StandsAt}
-use Rattle.log_store.specs.Fault.{IsPlace, IsHeader, HasRecord, HasFault, IsFirstFault, IsHeld, HoldsNoFault, Refuses, IsOutside, offset_of, pages_in}
-use Rattle.log_store.proofs.Logs.{length-header_bytes}
-use Rattle.log_store.proofs.Faults.{none_in_log, first_header}
-
--- a part of what was given is a part of the input
-pub range_in : (given rest : List ℕ) (a b : ℕ) → a ≤ b → b ≤ length given → slice_range (given ++ rest) a b ≡ slice_range given a b
-range_in given rest a b le long =
-    ap (take (b - a)) (drop-append-le a given rest (omega arith)) ∙ take-append-le (b - a) (drop a given) rest (omega (arith, length-drop a given))
+use Rattle.log_store.specs.Linked.{IsLinked}
+use Rattle.log_store.specs.Fault.{BreaksChain, IsPlace, IsHeader, HasRecord, HasFault, IsFirstFault, IsHeld, HoldsNoFault, Refuses, IsOutside, offset_of, pages_in}
+use Rattle.log_store.proofs.Logs.{length-header_bytes, range_in}
+use Rattle.log_store.proofs.Faults.{break_at, first_header, none_in_log}
 
 -- of a record that lies within what was given
 more_has : (given rest : List ℕ) (at : ℕ) → 12 ≤ length given → at + 64 ≤ length given → HasRecord given at → HasRecord (given ++ rest) at
@@ -28,6 +24,33 @@ less_has : (given rest : List ℕ) (at : ℕ) → 12 ≤ length given → at + 6
 less_has given rest at long fits has =
     let count : pages_in (given ++ rest) ≡ pages_in given = ap (from_le_bytes w32) (range_in given rest 8 12 (omega arith) long) in
     (has.0, subst (λ n. StandsAt n at has.0) count has.1, sym (range_in given rest at (at + 64) (omega arith) fits) ∙ has.2)
+
+-- of a break of the chain there
+more_breaks : (given rest : List ℕ) (at : ℕ) → BreaksChain given at → BreaksChain (given ++ rest) at
+more_breaks given rest at b =
+    let fits = (break_at given at b).0 in
+    record {
+      place = b.place;
+      before = b.before;
+      spells = subst (SpellsLog b.before) (sym (take-append-le at given rest (omega (arith, fits)))) b.spells;
+      linked = b.linked;
+      there = b.there;
+      stands = b.stands;
+      spelled = range_in given rest at (at + 64) (omega arith) fits ∙ b.spelled;
+      breaks = b.breaks;
+    }
+
+less_breaks : (given rest : List ℕ) (at : ℕ) → at + 64 ≤ length given → BreaksChain (given ++ rest) at → BreaksChain given at
+less_breaks given rest at fits b = record {
+  place = b.place;
+  before = b.before;
+  spells = subst (SpellsLog b.before) (take-append-le at given rest (omega arith)) b.spells;
+  linked = b.linked;
+  there = b.there;
+  stands = b.stands;
+  spelled = sym (range_in given rest at (at + 64) (omega arith) fits) ∙ b.spelled;
+  breaks = b.breaks;
+}
 
 -- a fault of the input that lies before the first one of what was given does not exist
 header_fault : (given rest : List ℕ) → 64 ≤ length given → HasFault (given ++ rest) BadHeader → HasFault given BadHeader
@@ -48,6 +71,11 @@ comes_later given rest end long within short first fits BadHeader e = first BadH
 comes_later given rest end long within short first fits (BadRecord at) e =
     elim (cases_lt at end) [
       | inl lt ↦ first (BadRecord at) (record_fault given rest at (fits at e.0 lt) e)
+      | inr le ↦ le
+    ]
+comes_later given rest end long within short first fits (BadChain at) e =
+    elim (cases_lt at end) [
+      | inl lt ↦ first (BadChain at) (less_breaks given rest at (fits at e.place lt) e)
       | inr le ↦ le
     ]
 comes_later given rest end long within short first fits (Torn at) e =
@@ -75,6 +103,19 @@ goes_on_record given rest at h =
       first = comes_later given rest at (omega arith) (omega arith) (omega arith) h.first (λ other other_place lt. let a = other_place.aligned in omega arith);
     }
 
+goes_on_chain : (given rest : List ℕ) (at : ℕ) → IsFirstFault given (BadChain at) → IsFirstFault (given ++ rest) (BadChain at)
+goes_on_chain given rest at h =
+    let place = h.there.place in
+    let past = place.past_header in
+    let aligned = place.aligned in
+    let short = place.in_longest in
+    let fits = (break_at given at h.there).0 in
+    record {
+      there = more_breaks given rest at h.there;
+      first = comes_later given rest at (omega arith) (omega arith) (omega arith) h.first
+          (λ other other_place lt. let a = other_place.aligned in omega arith);
+    }
+
 goes_on_too_long : (given rest : List ℕ) → IsFirstFault given TooLong → IsFirstFault (given ++ rest) TooLong
 goes_on_too_long given rest h =
     let long = h.there in
@@ -88,16 +129,14 @@ goes_on_too_long given rest h =
 abbrev pub IsFaultOf : List ℕ → LogReadFault → Type 0
 IsFaultOf bytes OutOfMemory = Unit {0}
 IsFaultOf bytes ReadFault = ⊥
-IsFaultOf bytes BadHeader = IsFirstFault bytes BadHeader
-IsFaultOf bytes (BadRecord at) = IsFirstFault bytes (BadRecord at)
-IsFaultOf bytes (Torn at) = IsFirstFault bytes (Torn at)
-IsFaultOf bytes TooLong = IsFirstFault bytes TooLong
+IsFaultOf bytes of_the_bytes = IsFirstFault bytes of_the_bytes
 
 pub refuses_more : (given rest : List ℕ) (fault : LogReadFault) → IsFaultOf given fault → IsHeld given fault → Refuses (given ++ rest) fault
 refuses_more given rest OutOfMemory h held = tt
 refuses_more given rest ReadFault h held = absurd held
 refuses_more given rest BadHeader h held = goes_on_header given rest held h
 refuses_more given rest (BadRecord at) h held = goes_on_record given rest at h
+refuses_more given rest (BadChain at) h held = goes_on_chain given rest at h
 refuses_more given rest (Torn at) h held = absurd held
 refuses_more given rest TooLong h held = goes_on_too_long given rest h
 
@@ -109,6 +148,7 @@ refuses_all given rest fault h none = rw (none, append-nil) (same given fault h)
     same given ReadFault h = absurd h
     same given BadHeader h = h
     same given (BadRecord at) h = h
+    same given (BadChain at) h = h
     same given (Torn at) h = h
     same given TooLong h = h
 
@@ -119,14 +159,19 @@ none_held given ReadFault h not_held other held e = h
 none_held given BadHeader h not_held BadHeader held e = not_held held
 none_held given BadHeader h not_held (BadRecord at) held e =
     let past = e.0.past_header in let fits = e.1 in not_held (omega arith)
+none_held given BadHeader h not_held (BadChain at) held e =
+    let past = e.place.past_header in let fits = (break_at given at e).0 in not_held (omega arith)
 none_held given BadHeader h not_held TooLong held e = not_held (omega arith)
 none_held given BadHeader h not_held OutOfMemory held e = e
 none_held given BadHeader h not_held ReadFault held e = e
 none_held given BadHeader h not_held (Torn at) held e = held
 none_held given (BadRecord at) h not_held other held e = not_held tt
+none_held given (BadChain at) h not_held other held e = not_held tt
 none_held given (Torn at) h not_held BadHeader held e = let late = h.first BadHeader e in let past = h.there.0.past_header in omega arith
 none_held given (Torn at) h not_held (BadRecord other) held e =
     let late = h.first (BadRecord other) e in let torn = h.there.2 in let fits = e.1 in omega arith
+none_held given (Torn at) h not_held (BadChain other) held e =
+    let late = h.first (BadChain other) e in let torn = h.there.2 in let fits = (break_at given other e).0 in omega arith
 none_held given (Torn at) h not_held TooLong held e =
     let torn = h.there.2 in let short = h.there.0.in_longest in let aligned = h.there.0.aligned in omega arith
 none_held given (Torn at) h not_held OutOfMemory held e = e
@@ -134,8 +179,8 @@ none_held given (Torn at) h not_held ReadFault held e = e
 none_held given (Torn at) h not_held (Torn other) held e = held
 none_held given TooLong h not_held other held e = not_held tt
 
-pub none_in_read : (log : Log) (given : List ℕ) → SpellsLog log given → HoldsNoFault given
-none_in_read log given spells fault held e = none_in_log log given spells fault e
+pub none_in_read : (log : Log) (given : List ℕ) → SpellsLog log given → IsLinked log.records → HoldsNoFault given
+none_in_read log given spells linked fault held e = none_in_log log given spells linked fault e
 
 -- ---- what a reader gave, and what it had
 
@@ -145,13 +190,15 @@ of_input None new given P taken h = tt
 of_input (Some input) None given P taken h = absurd taken
 of_input (Some input) (Some rest) given P taken h = subst P (sym taken) (h rest (λ none. none))
 
-pub only_outside : (log : Log) (input : List ℕ) → SpellsLog log input → (fault : LogReadFault) → Refuses input fault → IsOutside fault
-only_outside log input spells OutOfMemory h = tt
-only_outside log input spells ReadFault h = tt
-only_outside log input spells BadHeader h = none_in_log log input spells BadHeader h.there
-only_outside log input spells (BadRecord at) h = none_in_log log input spells (BadRecord at) h.there
-only_outside log input spells (Torn at) h = none_in_log log input spells (Torn at) h.there
-only_outside log input spells TooLong h = none_in_log log input spells TooLong h.there
+pub only_outside : (log : Log) (input : List ℕ) → SpellsLog log input → IsLinked log.records → (fault : LogReadFault)
+    → Refuses input fault → IsOutside fault
+only_outside log input spells linked OutOfMemory h = tt
+only_outside log input spells linked ReadFault h = tt
+only_outside log input spells linked BadHeader h = none_in_log log input spells linked BadHeader h.there
+only_outside log input spells linked (BadRecord at) h = none_in_log log input spells linked (BadRecord at) h.there
+only_outside log input spells linked (BadChain at) h = none_in_log log input spells linked (BadChain at) h.there
+only_outside log input spells linked (Torn at) h = none_in_log log input spells linked (Torn at) h.there
+only_outside log input spells linked TooLong h = none_in_log log input spells linked TooLong h.there
 
 pub at_some : (old : Option (List ℕ)) (input : List ℕ) (P : List ℕ → Type 0) → old ≡ Some input → IfSome old P → P input
 at_some old input P e h = let Q : Option (List ℕ) → Type 0 = λ o. IfSome o P in subst Q e h

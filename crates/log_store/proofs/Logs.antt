@@ -1,14 +1,15 @@
 -- The bytes of a log: its header, and its records one after another.
-use Rattle.std.proofs.Common.{◌≡◌, ℕ, ◌+◌, ◌-◌, ◌*◌, ◌/◌, ◌<◌, ◌≤◌, List, length, get_or, take, drop, min, refl, sym, ap, ◌∙◌, arith}
+use Rattle.std.proofs.Common.{◌≡◌, ℕ, ◌+◌, ◌-◌, ◌*◌, ◌/◌, ◌<◌, ◌≤◌, ◌++◌, List, length, get_or, take, drop, min, refl, sym, ap, ◌∙◌, arith}
 use Rattle.std.specs.Prelude.{slice_range, slice_index_or}
 use Rattle.std.specs.Int.{w32, to_le_bytes, from_le_bytes}
 use Rattle.std.specs.List.{flat_map}
-use Rattle.std.proofs.lemmas.List.{take_at, drop_at, take-take, drop-take, drop-drop, length-append, same_lists}
+use Rattle.std.proofs.lemmas.List.{take_at, drop_at, take-append-le, drop-append-le, length-drop, take-take, drop-take, drop-drop, length-append, same_lists}
 use Rattle.std.proofs.lemmas.Nat.{from_le_bytes-to_le_bytes_4}
 use Rattle.page_core.proofs.Pieces.{length-pieces, take-drop-pieces}
 use Rattle.log_store.specs.declared.record.Record.{Record}
 use Rattle.log_store.specs.Record.{record_bytes}
 use Rattle.log_store.specs.Log.{Log, StandsAt, SpellsLog, header_bytes, lsn_of}
+use Rattle.log_store.specs.Linked.{IsLinked}
 use Rattle.log_store.specs.Fault.{pages_in}
 use Rattle.log_store.proofs.Records.{record_length, same_record}
 
@@ -23,6 +24,12 @@ pub record AreFirst (n pages : ℕ) (bytes : List ℕ) (rs : List Record) : Type
   pub count : length rs ≡ n
   pub each : (i : ℕ) (d : Record) → i < n → StandsAt pages (lsn_of i) (slice_index_or rs i d)
   pub spelled : (i : ℕ) (d : Record) → i < n → slice_range bytes (lsn_of i) (lsn_of i + 64) ≡ record_bytes (slice_index_or rs i d)
+  pub linked : IsLinked rs
+
+-- a part of what was given is a part of the input
+pub range_in : (given rest : List ℕ) (a b : ℕ) → a ≤ b → b ≤ length given → slice_range (given ++ rest) a b ≡ slice_range given a b
+range_in given rest a b le long =
+    ap (take (b - a)) (drop-append-le a given rest (omega arith)) ∙ take-append-le (b - a) (drop a given) rest (omega (arith, length-drop a given))
 
 -- ---- the header
 

@@ -7,15 +7,18 @@ use Rattle.std.proofs.lemmas.Bool.{cases_lt}
 use Rattle.std.proofs.lemmas.List.{append_assoc, append-nil, nil_from_length, take-append-le, take_at, drop_at, length-append, length_push, get_or_append_left, get_or_push, flat_map_more}
 use Rattle.std.proofs.KnownBytes.{Consumes-trans}
 use Rattle.log_store.specs.declared.fault.LogReadFault.{LogReadFault}
-use Rattle.log_store.specs.declared.fault.LogReadFault.TheVariants.{OutOfMemory, BadHeader, BadRecord, Torn, ReadFault, TooLong}
+use Rattle.log_store.specs.declared.fault.LogReadFault.TheVariants.{OutOfMemory, BadHeader, BadRecord, BadChain, Torn, ReadFault, TooLong}
 use Rattle.log_store.specs.declared.record.Record.{Record}
 use Rattle.log_store.specs.Record.{record_bytes}
 use Rattle.log_store.specs.Log.{Log, IsLog, StandsAt, SpellsLog, HasHeader, header_bytes, log_bytes, lsn_of}
+use Rattle.log_store.specs.History.{IsMadeOf, Made}
+use Rattle.log_store.specs.Linked.{IsLinked, MayFollow}
 use Rattle.log_store.specs.Fault.{IsFirstFault, Refuses, HoldsNoFault, GaveNoFault}
 use Rattle.log_store.specs.Scan.{with_next, HasRead, HasTaken}
-use Rattle.log_store.proofs.Logs.{AreFirst, whole_records, length-log, header_of_log, record_of_log}
-use Rattle.log_store.proofs.Faults.{first_record, first_too_long, first_torn}
-use Rattle.log_store.proofs.Inputs.{range_in, refuses_all, none_held, none_in_read, of_input}
+use Rattle.log_store.proofs.Logs.{AreFirst, range_in, whole_records, length-log, header_of_log, record_of_log}
+use Rattle.log_store.proofs.Faults.{first_chain, first_record, first_too_long, first_torn}
+use Rattle.log_store.proofs.Records.{record_length}
+use Rattle.log_store.proofs.Inputs.{refuses_all, none_held, none_in_read, of_input}
 
 -- ---- what a log's bytes have, however they go on
 
@@ -26,11 +29,13 @@ header_goes_on log given more spells = record {
   spelled = take-append-le 64 given more (omega (arith, length-log log given spells)) ∙ header_of_log log given spells;
 }
 
-pub first_goes_on : (log : Log) (given more : List ℕ) → SpellsLog log given → AreFirst (length log.records) log.pages (given ++ more) log.records
-first_goes_on log given more spells = record {
+pub first_goes_on : (log : Log) (given more : List ℕ) → SpellsLog log given → IsLinked log.records
+    → AreFirst (length log.records) log.pages (given ++ more) log.records
+first_goes_on log given more spells linked = record {
   count = refl;
   each = spells.valid.records;
   spelled = λ i d lt. range_in given more (lsn_of i) (lsn_of i + 64) (omega arith) (omega (arith, length-log log given spells)) ∙ record_of_log log given spells i d lt;
+  linked = linked;
 }
 
 -- the next 64 bytes
@@ -42,22 +47,44 @@ next_range log given unit rest spells wide =
     let sixty_four : at + 64 - at ≡ 64 = omega arith in
     ap (λ n. take n (drop at (given ++ (unit ++ rest)))) sixty_four ∙ ap (take 64) (drop_at given (unit ++ rest) at end) ∙ take_at unit rest 64 wide
 
-too_long : (log : Log) (given more : List ℕ) → SpellsLog log given → 1048576 ≤ length log.records → 0 < length more → IsFirstFault (given ++ more) TooLong
-too_long log given more spells full some =
+too_long : (log : Log) (given more : List ℕ) → SpellsLog log given → IsLinked log.records → 1048576 ≤ length log.records
+    → 0 < length more → IsFirstFault (given ++ more) TooLong
+too_long log given more spells linked full some =
     let all : length log.records ≡ whole_records (given ++ more) =
     let few = spells.valid.count in omega (arith, length-log log given spells, length-append given more) in
     first_too_long log.pages (given ++ more) log.records (header_goes_on log given more spells)
-    (subst (λ n. AreFirst n log.pages (given ++ more) log.records) all (first_goes_on log given more spells))
+    (subst (λ n. AreFirst n log.pages (given ++ more) log.records) all (first_goes_on log given more spells linked))
     (omega (arith, length-log log given spells, length-append given more))
 
-bad_record : (log : Log) (given unit rest : List ℕ) → SpellsLog log given → length log.records < 1048576 → length unit ≡ 64
+bad_record : (log : Log) (given unit rest : List ℕ) → SpellsLog log given → IsLinked log.records → length log.records < 1048576 → length unit ≡ 64
     → ((r : Record) → StandsAt log.pages (lsn_of (length log.records)) r → unit ≡ record_bytes r → ⊥)
     → IsFirstFault (given ++ (unit ++ rest)) (BadRecord (lsn_of (length log.records)))
-bad_record log given unit rest spells few wide none =
+bad_record log given unit rest spells linked few wide none =
     first_record (length log.records) log.pages (given ++ (unit ++ rest)) log.records
-    (header_goes_on log given (unit ++ rest) spells) (first_goes_on log given (unit ++ rest) spells) few
+    (header_goes_on log given (unit ++ rest) spells) (first_goes_on log given (unit ++ rest) spells linked) few
     (omega (arith, length-log log given spells, length-append given (unit ++ rest), length-append unit rest))
     (λ r stands spelled. none r stands (sym (next_range log given unit rest spells wide) ∙ spelled))
+
+-- the next record is one, and may not follow
+bad_chain : (log : Log) (r : Record) (given unit rest : List ℕ) → SpellsLog log given → IsLinked log.records → length log.records < 1048576
+    → StandsAt log.pages (lsn_of (length log.records)) r → unit ≡ record_bytes r → ¬ MayFollow log.records r
+    → IsFirstFault (given ++ (unit ++ rest)) (BadChain (lsn_of (length log.records)))
+bad_chain log r given unit rest spells linked few stands e breaks =
+    let at = lsn_of (length log.records) in
+    let wide : length unit ≡ 64 = ap length e ∙ record_length.each r in
+    let end : length given ≡ at = omega (arith, length-log log given spells) in
+    first_chain (length log.records) log.pages (given ++ (unit ++ rest)) log.records
+    (header_goes_on log given (unit ++ rest) spells) (first_goes_on log given (unit ++ rest) spells linked) few
+    (record {
+      place = record { aligned = omega arith; past_header = omega arith; in_longest = omega arith };
+      before = log;
+      spells = subst (SpellsLog log) (sym (take_at given (unit ++ rest) at end)) spells;
+      linked = linked;
+      there = r;
+      stands = stands;
+      spelled = next_range log given unit rest spells wide ∙ e;
+      breaks = breaks;
+    })
 
 -- ---- one record more
 
@@ -80,17 +107,21 @@ spells_next log r given unit spells few stands e = record {
 
 -- ---- the records that were read since the sink took some
 
-pub read_none : (log : Log) (pages count : ℕ) (given : List ℕ) → SpellsLog log given → log.pages ≡ pages → length log.records ≡ count
-    → HasRead log [] pages count given
-read_none log pages count given spells pages_are count_is = record {
+pub read_none : {S : Type 0} (holds : S → Log → Type 0) (sink : S) (made : Made) (pages count : ℕ) (given : List ℕ)
+    → (taken : HasTaken holds sink made pages count given) → HasRead taken.log [] made pages count given
+read_none holds sink made pages count given taken = let log = taken.log in let spells = taken.spells in record {
   spells = subst (λ (all : List Record). SpellsLog (record log { records = all }) given) (sym (append-nil log.records)) spells;
-  pages_are = pages_are;
-  count_is = omega (arith, count_is);
+  linked = subst IsLinked (sym (append-nil log.records)) taken.linked;
+  made_of = subst (λ (all : List Record). IsMadeOf (record log { records = all }) made) (sym (append-nil log.records)) taken.made_of;
+  pages_are = taken.pages_are;
+  count_is = omega (arith, taken.count_is);
 }
 
-pub read_next : (log : Log) (rs : List Record) (r : Record) (pages count : ℕ) (given unit : List ℕ) → HasRead log rs pages count given → count < 1048576
-    → StandsAt pages (64 * (count + 1)) r → unit ≡ record_bytes r → HasRead log (rs ++ r ∷ []) pages (count + 1) (given ++ unit)
-read_next log rs r pages count given unit read few stands e =
+pub read_next : (log : Log) (rs : List Record) (r : Record) (old new : Made) (pages count : ℕ) (given unit : List ℕ)
+    → HasRead log rs old pages count given → count < 1048576 → StandsAt pages (64 * (count + 1)) r → unit ≡ record_bytes r
+    → IsLinked ((log.records ++ rs) ++ r ∷ []) → IsMadeOf (with_next (with_next log rs) (r ∷ [])) new
+    → HasRead log (rs ++ r ∷ []) new pages (count + 1) (given ++ unit)
+read_next log rs r old new pages count given unit read few stands e linked made =
     let so_far = with_next log rs in
     let long : length so_far.records ≡ count = length-append log.records rs ∙ read.count_is in
     let place : 64 * (count + 1) ≡ lsn_of (length so_far.records) = omega (arith, long) in
@@ -98,32 +129,49 @@ read_next log rs r pages count given unit read few stands e =
       spells = subst (λ (all : List Record). SpellsLog (record log { records = all }) (given ++ unit)) (append_assoc log.records rs (r ∷ []))
           (spells_next so_far r given unit read.spells (omega (arith, long))
           (subst (λ (n : ℕ). StandsAt n (lsn_of (length so_far.records)) r) (sym read.pages_are) (subst (λ (n : ℕ). StandsAt pages n r) place stands)) e);
+      linked = subst IsLinked (append_assoc log.records rs (r ∷ [])) linked;
+      made_of = subst (λ (all : List Record). IsMadeOf (record log { records = all }) new) (append_assoc log.records rs (r ∷ [])) made;
       pages_are = read.pages_are;
       count_is = omega (arith, length_push rs r, read.count_is);
     }
 
-pub read_too_long : (log : Log) (rs : List Record) (pages count : ℕ) (given more : List ℕ) → HasRead log rs pages count given → 1048576 ≤ count
-    → 0 < length more → IsFirstFault (given ++ more) TooLong
-read_too_long log rs pages count given more read full some =
-    too_long (with_next log rs) given more read.spells (omega (arith, length-append log.records rs, read.count_is)) some
+pub read_too_long : (log : Log) (rs : List Record) (made : Made) (pages count : ℕ) (given more : List ℕ) → HasRead log rs made pages count given
+    → 1048576 ≤ count → 0 < length more → IsFirstFault (given ++ more) TooLong
+read_too_long log rs made pages count given more read full some =
+    too_long (with_next log rs) given more read.spells read.linked (omega (arith, length-append log.records rs, read.count_is)) some
 
-pub read_bad_record : (log : Log) (rs : List Record) (pages count : ℕ) (given unit rest : List ℕ) → HasRead log rs pages count given → count < 1048576
+pub read_bad_record : (log : Log) (rs : List Record) (made : Made) (pages count : ℕ) (given unit rest : List ℕ)
+    → HasRead log rs made pages count given → count < 1048576
     → length unit ≡ 64 → ((r : Record) → StandsAt pages (64 * (count + 1)) r → unit ≡ record_bytes r → ⊥)
     → IsFirstFault (given ++ (unit ++ rest)) (BadRecord (64 * (count + 1)))
-read_bad_record log rs pages count given unit rest read few wide none =
+read_bad_record log rs made pages count given unit rest read few wide none =
     let so_far = with_next log rs in
     let long : length so_far.records ≡ count = length-append log.records rs ∙ read.count_is in
     let place : lsn_of (length so_far.records) ≡ 64 * (count + 1) = omega (arith, long) in
     subst (λ (n : ℕ). IsFirstFault (given ++ (unit ++ rest)) (BadRecord n)) place
-    (bad_record so_far given unit rest read.spells (omega (arith, long)) wide
+    (bad_record so_far given unit rest read.spells read.linked (omega (arith, long)) wide
     (λ r stands e. none r (subst (λ (n : ℕ). StandsAt n (64 * (count + 1)) r) read.pages_are (subst (λ (n : ℕ). StandsAt log.pages n r) place stands)) e))
 
-pub taken_next : {S : Type 0} (holds : S → Log → Type 0) (sink : S) (log : Log) (rs : List Record) (pages count : ℕ) (given : List ℕ)
-    → HasRead log rs pages count given → holds sink (with_next log rs) → HasTaken holds sink pages count given
-taken_next holds sink log rs pages count given read held = record {
+pub read_bad_chain : (log : Log) (rs : List Record) (r : Record) (made : Made) (pages count : ℕ) (given unit rest : List ℕ)
+    → HasRead log rs made pages count given → count < 1048576 → StandsAt pages (64 * (count + 1)) r → unit ≡ record_bytes r
+    → ¬ MayFollow (log.records ++ rs) r → IsFirstFault (given ++ (unit ++ rest)) (BadChain (64 * (count + 1)))
+read_bad_chain log rs r made pages count given unit rest read few stands e breaks =
+    let so_far = with_next log rs in
+    let long : length so_far.records ≡ count = length-append log.records rs ∙ read.count_is in
+    let place : 64 * (count + 1) ≡ lsn_of (length so_far.records) = omega (arith, long) in
+    subst (λ (n : ℕ). IsFirstFault (given ++ (unit ++ rest)) (BadChain n)) (sym place)
+    (bad_chain so_far r given unit rest read.spells read.linked (omega (arith, long))
+    (subst (λ (n : ℕ). StandsAt n (lsn_of (length so_far.records)) r) (sym read.pages_are) (subst (λ (n : ℕ). StandsAt pages n r) place stands))
+    e breaks)
+
+pub taken_next : {S : Type 0} (holds : S → Log → Type 0) (sink : S) (log : Log) (rs : List Record) (made : Made) (pages count : ℕ) (given : List ℕ)
+    → HasRead log rs made pages count given → holds sink (with_next log rs) → HasTaken holds sink made pages count given
+taken_next holds sink log rs made pages count given read held = record {
   log = with_next log rs;
   held = held;
   spells = read.spells;
+  linked = read.linked;
+  made_of = read.made_of;
   pages_are = read.pages_are;
   count_is = length-append log.records rs ∙ read.count_is;
 }
@@ -134,44 +182,44 @@ regroup : (header read pending rest : List ℕ) → (header ++ read) ++ (pending
 regroup header read pending rest = simp append_assoc
 
 -- less than a record stands behind the records that were read
-torn_at : (log : Log) (given pending : List ℕ) → SpellsLog log given → length pending < 64 → 0 < length pending → length log.records < 1048576
-    → IsFirstFault (given ++ pending) (Torn (lsn_of (length log.records)))
-torn_at log given pending spells short some few =
+torn_at : (log : Log) (given pending : List ℕ) → SpellsLog log given → IsLinked log.records → length pending < 64 → 0 < length pending
+    → length log.records < 1048576 → IsFirstFault (given ++ pending) (Torn (lsn_of (length log.records)))
+torn_at log given pending spells linked short some few =
     let bytes = given ++ pending in
     let all : length log.records ≡ whole_records bytes = omega (arith, length-log log given spells, length-append given pending) in
     first_torn log.pages bytes log.records (header_goes_on log given pending spells)
-    (subst (λ (n : ℕ). AreFirst n log.pages bytes log.records) all (first_goes_on log given pending spells))
+    (subst (λ (n : ℕ). AreFirst n log.pages bytes log.records) all (first_goes_on log given pending spells linked))
     (omega (arith, length-log log given spells, length-append given pending)) (lsn_of (length log.records))
     (omega (arith, length-log log given spells, length-append given pending))
     (λ whole. omega (arith, length-log log given spells, length-append given pending))
 
-pub refuses_torn : (header read pending rest : List ℕ) (log : Log) → SpellsLog log (header ++ read) → length pending < 64 → 0 < length pending
-    → length log.records < 1048576 → rest ≡ [] → Refuses (header ++ ((read ++ pending) ++ rest)) (Torn (lsn_of (length log.records)))
-refuses_torn header read pending rest log spells short some few none =
+pub refuses_torn : (header read pending rest : List ℕ) (log : Log) → SpellsLog log (header ++ read) → IsLinked log.records
+    → length pending < 64 → 0 < length pending → length log.records < 1048576 → rest ≡ [] → Refuses (header ++ ((read ++ pending) ++ rest)) (Torn (lsn_of (length log.records)))
+refuses_torn header read pending rest log spells linked short some few none =
     subst (λ (input : List ℕ). Refuses input (Torn (lsn_of (length log.records)))) (append_assoc (header ++ read) pending rest ∙ regroup header read pending rest)
-    (refuses_all ((header ++ read) ++ pending) rest (Torn (lsn_of (length log.records))) (torn_at log (header ++ read) pending spells short some few) none)
+    (refuses_all ((header ++ read) ++ pending) rest (Torn (lsn_of (length log.records))) (torn_at log (header ++ read) pending spells linked short some few) none)
 
-pub none_in_failed : (header read pending : List ℕ) (log : Log) → SpellsLog log (header ++ read) → length pending < 64
-    → (1048576 ≤ length log.records → length pending ≡ 0) → HoldsNoFault (header ++ (read ++ pending))
-none_in_failed header read pending log spells short few =
+pub none_in_failed : (header read pending : List ℕ) (log : Log) → SpellsLog log (header ++ read) → IsLinked log.records
+    → length pending < 64 → (1048576 ≤ length log.records → length pending ≡ 0) → HoldsNoFault (header ++ (read ++ pending))
+none_in_failed header read pending log spells linked short few =
     let given = header ++ read in
     subst HoldsNoFault (append_assoc header read pending)
     (elim (cases_lt 0 (length pending)) [
       | inl some ↦
           elim (cases_lt (length log.records) 1048576) [
-            | inl room ↦ none_held (given ++ pending) (Torn (lsn_of (length log.records))) (torn_at log given pending spells short some room) (λ held. held)
+            | inl room ↦ none_held (given ++ pending) (Torn (lsn_of (length log.records))) (torn_at log given pending spells linked short some room) (λ held. held)
             | inr full ↦ absurd (omega (arith, few full))
           ]
       | inr none ↦
           let nothing : pending ≡ [] = nil_from_length pending (omega arith) in
-          none_in_read log (given ++ pending) (subst (SpellsLog log) (sym (append-nil given) ∙ ap (λ (p : List ℕ). given ++ p) (sym nothing)) spells)
+          none_in_read log (given ++ pending) (subst (SpellsLog log) (sym (append-nil given) ∙ ap (λ (p : List ℕ). given ++ p) (sym nothing)) spells) linked
     ])
 
-pub refuses_past_last : (header read pending rest : List ℕ) (log : Log) → SpellsLog log (header ++ read) → 1048576 ≤ length log.records → 0 < length pending
+pub refuses_past_last : (header read pending rest : List ℕ) (log : Log) → SpellsLog log (header ++ read) → IsLinked log.records → 1048576 ≤ length log.records → 0 < length pending
     → Refuses (header ++ ((read ++ pending) ++ rest)) TooLong
-refuses_past_last header read pending rest log spells full some =
+refuses_past_last header read pending rest log spells linked full some =
     subst (λ (input : List ℕ). Refuses input TooLong) (regroup header read pending rest)
-    (too_long log (header ++ read) (pending ++ rest) spells full (omega (arith, length-append pending rest)))
+    (too_long log (header ++ read) (pending ++ rest) spells linked full (omega (arith, length-append pending rest)))
 
 pub regrouped : (header read pending rest : List ℕ) (P : List ℕ → Type 0) → P ((header ++ read) ++ (pending ++ rest)) → P (header ++ ((read ++ pending) ++ rest))
 regrouped header read pending rest P h = subst P (regroup header read pending rest) h
@@ -200,5 +248,6 @@ gave_more old mid new header ReadFault taken gave = (header ++ gave.0, (Consumes
 gave_more old mid new header OutOfMemory taken gave = tt
 gave_more old mid new header BadHeader taken gave = tt
 gave_more old mid new header (BadRecord at) taken gave = tt
+gave_more old mid new header (BadChain at) taken gave = tt
 gave_more old mid new header (Torn at) taken gave = tt
 gave_more old mid new header TooLong taken gave = tt

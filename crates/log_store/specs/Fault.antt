@@ -5,11 +5,12 @@ use Rattle.std.specs.Int.{w32, from_le_bytes}
 use Rattle.std.specs.Fmt.{decimal}
 use Rattle.page_core.specs.declared.numbers.TheConstants.{LSN_STEP}
 use Rattle.log_store.specs.declared.fault.LogReadFault.{LogReadFault}
-use Rattle.log_store.specs.declared.fault.LogReadFault.TheVariants.{OutOfMemory, BadHeader, BadRecord, Torn, ReadFault, TooLong}
+use Rattle.log_store.specs.declared.fault.LogReadFault.TheVariants.{OutOfMemory, BadHeader, BadRecord, BadChain, Torn, ReadFault, TooLong}
 use Rattle.log_store.specs.declared.limits.TheConstants.{HEADER_BYTES, MAX_LOG_BYTES, RECORD_BYTES}
 use Rattle.log_store.specs.declared.record.Record.{Record}
 use Rattle.log_store.specs.Record.{record_bytes}
-use Rattle.log_store.specs.Log.{IsPageCount, StandsAt, header_bytes}
+use Rattle.log_store.specs.Linked.{IsLinked, MayFollow}
+use Rattle.log_store.specs.Log.{IsPageCount, Log, SpellsLog, StandsAt, header_bytes}
 
 -- an offset at which a record may stand
 pub record IsPlace (at : ℕ) : Type 0 where
@@ -30,10 +31,22 @@ abbrev pub HasRecord : List ℕ → ℕ → Type 0
 HasRecord bytes at =
     (r : Record) × StandsAt (pages_in bytes) at r × (slice_range bytes at (at + RECORD_BYTES) ≡ record_bytes r)
 
+-- the bytes before this offset spell a linked log, which the record there may not follow
+pub record BreaksChain (bytes : List ℕ) (at : ℕ) : Type 0 where
+  pub place : IsPlace at
+  pub before : Log
+  pub spells : SpellsLog before (take at bytes)
+  pub linked : IsLinked before.records
+  pub there : Record
+  pub stands : StandsAt before.pages at there
+  pub spelled : slice_range bytes at (at + RECORD_BYTES) ≡ record_bytes there
+  pub breaks : ¬ MayFollow before.records there
+
 -- the bytes have this fault
 abbrev pub HasFault : List ℕ → LogReadFault → Type 0
 HasFault bytes BadHeader = ¬ IsHeader (take HEADER_BYTES bytes)
 HasFault bytes (BadRecord at) = IsPlace at × (at + RECORD_BYTES ≤ length bytes) × ¬ HasRecord bytes at
+HasFault bytes (BadChain at) = BreaksChain bytes at
 HasFault bytes (Torn at) = IsPlace at × (at < length bytes) × (length bytes < at + RECORD_BYTES)
 HasFault bytes TooLong = MAX_LOG_BYTES < length bytes
 HasFault bytes outside = ⊥
@@ -41,6 +54,7 @@ HasFault bytes outside = ⊥
 -- where a fault lies
 abbrev pub offset_of : LogReadFault → ℕ
 offset_of (BadRecord at) = at
+offset_of (BadChain at) = at
 offset_of (Torn at) = at
 offset_of TooLong = MAX_LOG_BYTES
 offset_of at_the_front = 0
@@ -87,6 +101,7 @@ abbrev pub text_of : LogReadFault → List ℕ
 text_of OutOfMemory = codes "out of memory"
 text_of BadHeader = codes "the log's header is misspelt"
 text_of (BadRecord at) = codes "the record at " ++ decimal at ++ codes " is misspelt"
+text_of (BadChain at) = codes "the record at " ++ decimal at ++ codes " may not follow those before it"
 text_of (Torn at) = codes "the log ends within the record at " ++ decimal at
 text_of ReadFault = codes "the log could not be read"
 text_of TooLong = codes "bytes follow the last record that a log may have"

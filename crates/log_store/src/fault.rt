@@ -17,6 +17,9 @@ pub enum LogReadFault {
     BadHeader,
     /// The 64 bytes at this offset are no record that may stand there, or name a page outside the volume.
     BadRecord(Lsn),
+    /// The record at this offset may not follow those before it: a transaction that is not open, a
+    /// PrevLSN that is not its last record, a slot that another one holds, and so on.
+    BadChain(Lsn),
     /// The input ends within the record at this offset.
     Torn(Lsn),
     /// The reader failed, or did not come to an end, and what it gave until then holds no fault.
@@ -38,6 +41,10 @@ impl fmt::Display for LogReadFault {
             LogReadFault::BadRecord(at) => {
                 let at = at.0;
                 write!(f, "the record at {at} is misspelt")
+            }
+            LogReadFault::BadChain(at) => {
+                let at = at.0;
+                write!(f, "the record at {at} may not follow those before it")
             }
             LogReadFault::Torn(at) => {
                 let at = at.0;

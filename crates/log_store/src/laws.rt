@@ -3,6 +3,7 @@
 ghost use Rattle.std.specs.Prelude.{ℕ, ◌≡◌, ◌++◌, List};
 ghost use Rattle.log_store.specs.declared.record.Record.{Record};
 ghost use Rattle.log_store.specs.Record.{IsRecord, record_bytes};
+ghost use Rattle.log_store.specs.Linked.{IsLinked};
 ghost use Rattle.log_store.specs.Log.{Log, SpellsLog};
 ghost use Rattle.log_store.specs.declared.fault.LogReadFault.{LogReadFault};
 ghost use Rattle.log_store.specs.Fault.{HasFault};
@@ -18,8 +19,8 @@ pub fn logs_are_spelled_apart()
     ensures { (a b : Log) (bytes : List ℕ) → SpellsLog a bytes → SpellsLog b bytes → a ≡ b }
 {}
 
-/// The spelling of a log has no fault.
+/// The spelling of a linked log has no fault.
 pub fn spelled_logs_have_no_fault()
-    ensures { (log : Log) (bytes : List ℕ) → SpellsLog log bytes → (fault : LogReadFault)
-        → ¬ HasFault bytes fault }
+    ensures { (log : Log) (bytes : List ℕ) → SpellsLog log bytes → IsLinked log.records
+        → (fault : LogReadFault) → ¬ HasFault bytes fault }
 {}

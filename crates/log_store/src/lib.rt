@@ -5,9 +5,11 @@ mod codec;
 mod fault;
 mod fields;
 mod header;
+mod history;
 mod laws;
 mod limits;
 mod log_image;
+mod open_transactions;
 mod page_change;
 mod pending_change;
 mod place;
@@ -19,6 +21,7 @@ mod sink;
 pub use codec::{decode, encode};
 pub use fault::LogReadFault;
 pub use header::encode_header;
+pub use history::History;
 pub use laws::{logs_are_spelled_apart, records_are_spelled_apart, spelled_logs_have_no_fault};
 pub use limits::{HEADER_BYTES, MAX_LOG_BYTES, MAX_OPEN, MAX_RECORDS, RECORD_BYTES};
 pub use log_image::LogImage;
@@ -27,7 +30,7 @@ pub use page_core::{MAX_PAGES, TxnNo};
 pub use pending_change::PendingChange;
 pub use read::read_log;
 pub use record::Record;
-pub use scan::scan_log;
+pub use scan::{Scan, scan_log};
 pub use sink::RecordSink;
 
 #[cfg(test)]

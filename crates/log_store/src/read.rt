@@ -2,6 +2,7 @@
 
 ghost use Rattle.std.specs.Prelude.{ℕ, ◌≡◌, [], List, IfOk, IfErr, IfSome, OnOk, MatchResult, Some};
 ghost use Rattle.std.specs.Io.KnownBytes.{IsAtEnd};
+ghost use Rattle.log_store.specs.Linked.{IsLinked};
 ghost use Rattle.log_store.specs.Log.{Log, SpellsLog};
 ghost use Rattle.log_store.specs.Fault.{Refuses, IsOutside, GaveNoFault};
 
@@ -17,14 +18,16 @@ use std::io::Read;
 pub fn read_log<R: Read>(alloc: Global, reader: &mut R) -> Result<LogImage, LogReadFault>
     // What is read is spelled so, and nothing follows it.
     ensures found { IfOk result (λ log. IfSome (R.remaining reader.old) (SpellsLog log)) }
+    ensures linked { IfOk result (λ log. IsLinked log.records) }
     ensures end { OnOk result (IsAtEnd (R.remaining reader.new)) }
     // What is spelled so is read, unless memory runs out or the reader fails.
     ensures only { (log : Log) (input : List ℕ) → R.remaining reader.old ≡ Some input
-        → SpellsLog log input → MatchResult result (λ read. read ≡ log) IsOutside }
+        → SpellsLog log input → IsLinked log.records
+        → MatchResult result (λ read. read ≡ log) IsOutside }
     // The fault is the first one.
     ensures first { IfErr result (λ fault. IfSome (R.remaining reader.old) (λ input. Refuses input fault)) }
     // Where the reader failed, what it gave until then holds none.
     ensures unread { IfErr result (GaveNoFault [] (R.remaining reader.old) (R.remaining reader.new)) }
 {
-    scan_log(alloc, reader)
+    Ok(scan_log::<R, LogImage>(alloc, reader)?.sink)
 }

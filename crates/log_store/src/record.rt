@@ -1,7 +1,7 @@
 //! A record of the log says one thing that a transaction did.
 
 use crate::page_change::PageChange;
-use page_core::{Change, Lsn, PageNo, SlotNo, TxnNo};
+use page_core::{Change, Lsn, Page, PageNo, SlotNo, TxnNo};
 
 /// A record of the log (ARIES, section 4.1). `lsn` is its own LSN, and `prev` its PrevLSN: the LSN
 /// of the same transaction's record before it.
@@ -55,6 +55,7 @@ pub enum Record {
 
 impl Record {
     ghost use Rattle.std.specs.Prelude.{◌≡◌};
+    ghost use Rattle.log_store.specs.Image.{with_record};
     ghost use Rattle.log_store.specs.Record.{change_of, own_lsn};
 
     /// The record's own LSN.
@@ -92,6 +93,18 @@ impl Record {
             | Record::Commit { .. }
             | Record::Abort { .. }
             | Record::End { .. } => None,
+        }
+    }
+
+    /// Redo: makes the record's change on the page, if it makes one of this page. The LSN that the
+    /// page has is not looked at.
+    pub fn redo_on(&self, page: &mut Page)
+        ensures { page.new ≡ with_record page.old self.now }
+    {
+        if let Some(change) = self.change() {
+            if change.page == page.number {
+                page.apply(self.lsn(), change.slot, &change.change);
+            }
         }
     }
 }

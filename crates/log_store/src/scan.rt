@@ -3,6 +3,8 @@
 ghost use Rattle.std.specs.Prelude.{ℕ, ◌≡◌, ◌+◌, ◌*◌, ◌/◌, ◌<◌, ◌≤◌, ◌++◌, ◌-◌, [], List};
 ghost use Rattle.std.specs.Prelude.{length, take, drop, IfOk, IfErr, IfSome, OnOk};
 ghost use Rattle.std.specs.Io.KnownBytes.{Consumes, IsAtEnd};
+ghost use Rattle.log_store.specs.History.{IsMadeOf};
+ghost use Rattle.log_store.specs.Linked.{IsLinked};
 ghost use Rattle.log_store.specs.Log.{IsLog, Log, SpellsLog, header_bytes};
 ghost use Rattle.log_store.specs.Fault.{Refuses, GaveNoFault, IsNoReadFault};
 ghost use Rattle.log_store.specs.Scan.{HasAll, HasRead, HasTaken};
@@ -10,6 +12,7 @@ ghost use Rattle.log_store.specs.Turn.{Gives};
 
 use crate::fault::LogReadFault;
 use crate::header::page_count;
+use crate::history::History;
 use crate::limits::{HEADER_BYTES, MAX_RECORDS, RECORD_BYTES};
 use crate::place::record_at;
 use crate::record::Record;
@@ -18,25 +21,35 @@ use page_core::{LSN_STEP, Lsn, zeros};
 use std::alloc::Global;
 use std::io::{ErrorKind, Read};
 
+/// A log that was read: what a sink made of it, and what its records make.
+#[derive(Drop)]
+pub struct Scan<S> {
+    pub sink: S,
+    pub history: History,
+}
+
 /// How often a reader is asked for more bytes, at most.
 const MAX_TURNS: u32 = 134_217_728;
 
 /// How many bytes it is asked for at once, at most.
 const BUFFER_BYTES: usize = 262_144;
 
-/// Puts a record behind those that were read since the sink took some.
+/// Puts a record behind those that were read since the sink took some, if it may follow them.
 fn push_record(
     records: &mut Vec<Record>,
+    history: &mut History,
     pages: u32,
     count: usize,
     bytes: &[u8],
 ) -> Result<(), LogReadFault>
     requires whole { length bytes.now ≡ RECORD_BYTES }
+    requires so_far { (log : Log) × ((given : List ℕ)
+        × HasRead log records.old.items history.old pages count given) }
     ensures ok { OnOk result ((log : Log) (given : List ℕ)
-        → HasRead log records.old.items pages count given
-        → HasRead log records.new.items pages (count + 1) (given ++ bytes.now)) }
+        → HasRead log records.old.items history.old pages count given
+        → HasRead log records.new.items history.new pages (count + 1) (given ++ bytes.now)) }
     ensures first { IfErr result (λ fault. (log : Log) (given rest : List ℕ)
-        → HasRead log records.old.items pages count given
+        → HasRead log records.old.items history.old pages count given
         → Refuses (given ++ (bytes.now ++ rest)) fault) }
     ensures of_bytes { IfErr result IsNoReadFault }
 {
@@ -44,35 +57,39 @@ fn push_record(
         return Err(LogReadFault::TooLong);
     }
     let at = Lsn(LSN_STEP * (count as u64 + 1));
-    match record_at(bytes, at, pages) {
-        Some(record) => Ok(records.push(record)?),
-        None => Err(LogReadFault::BadRecord(at)),
+    let Some(record) = record_at(bytes, at, pages) else {
+        return Err(LogReadFault::BadRecord(at));
+    };
+    if !history.follow(&record)? {
+        return Err(LogReadFault::BadChain(at));
     }
+    Ok(records.push(record)?)
 }
 
 /// Takes the whole records among these bytes, which stand behind the first `count` records. The sink
-/// gets them all at once, and can go over them in a short loop: then the processor fetches the pages of
-/// several records at a time.
+/// gets them all at once.
 fn take_records<S: RecordSink>(
     sink: &mut S,
     records: &mut Vec<Record>,
+    history: &mut History,
     pages: u32,
     count: usize,
     bytes: &[u8],
 ) -> Result<(), LogReadFault>
-    requires { (given : List ℕ) × HasTaken S.holds sink.old pages count given }
-    ensures ok { OnOk result ((given : List ℕ) → HasTaken S.holds sink.old pages count given
-        → HasTaken S.holds sink.new pages (count + length bytes.now / RECORD_BYTES)
+    requires { (given : List ℕ) × HasTaken S.holds sink.old history.old pages count given }
+    ensures ok { OnOk result ((given : List ℕ)
+        → HasTaken S.holds sink.old history.old pages count given
+        → HasTaken S.holds sink.new history.new pages (count + length bytes.now / RECORD_BYTES)
         (given ++ take (RECORD_BYTES * (length bytes.now / RECORD_BYTES)) bytes.now)) }
     ensures first { IfErr result (λ fault. (given rest : List ℕ)
-        → HasTaken S.holds sink.old pages count given
+        → HasTaken S.holds sink.old history.old pages count given
         → Refuses (given ++ (bytes.now ++ rest)) fault) }
     ensures of_bytes { IfErr result IsNoReadFault }
 {
     records.clear();
     for i in 0..bytes.len() / RECORD_BYTES {
         let record = &bytes[RECORD_BYTES * i..RECORD_BYTES * i + RECORD_BYTES];
-        push_record(records, pages, count + i, record)?;
+        push_record(records, history, pages, count + i, record)?;
     }
     Ok(sink.take(records)?)
 }
@@ -130,18 +147,18 @@ fn read_more<R: Read>(reader: &mut R, buffer: &mut [u8], filled: usize) -> Turn
 /// Reads the records behind the header, to the input's end.
 fn read_records<R: Read, S: RecordSink>(
     reader: &mut R,
-    sink: &mut S,
+    scan: &mut Scan<S>,
     pages: u32,
     turns: u32,
     buffer: &mut [u8],
     records: &mut Vec<Record>,
 ) -> Result<(), LogReadFault>
     requires room { 128 ≤ length buffer.old }
-    requires taken { HasTaken S.holds sink.old pages 0 (header_bytes pages) }
+    requires taken { HasTaken S.holds scan.old.sink scan.old.history pages 0 (header_bytes pages) }
     ensures end { OnOk result (IsAtEnd (R.remaining reader.new)) }
     ensures found { OnOk result ((read : List ℕ)
         × (Consumes (R.remaining reader.old) (R.remaining reader.new) read
-        × HasAll S.holds sink.new (header_bytes pages ++ read))) }
+        × HasAll S.holds scan.new.sink scan.new.history (header_bytes pages ++ read))) }
     ensures first { IfErr result (λ fault.
         IfSome (R.remaining reader.old) (λ rest. Refuses (header_bytes pages ++ rest) fault)) }
     ensures unread { IfErr result (GaveNoFault (header_bytes pages)
@@ -155,7 +172,15 @@ fn read_records<R: Read, S: RecordSink>(
             Turn::End => return at_end(count, filled),
             Turn::Failed => return Err(LogReadFault::ReadFault),
         }
-        take_records(sink, records, pages, count, &buffer[..filled])?;
+        let bytes = &buffer[..filled];
+        take_records(
+            &mut scan.sink,
+            records,
+            &mut scan.history,
+            pages,
+            count,
+            bytes,
+        )?;
         count += filled / RECORD_BYTES;
         filled = keep_rest(buffer, filled);
         if count >= MAX_RECORDS && filled > 0 {
@@ -195,7 +220,7 @@ fn keep_rest(buffer: &mut [u8], filled: usize) -> usize
 }
 
 /// Reads a log to the input's end, and hands its records to a sink as they come. A record is handed on
-/// only once all of the bytes up to its end are found right.
+/// only once all of the bytes up to its end are found right, and it may follow the records before it.
 ///
 /// It stops at the first fault, since nothing behind it can come before it. Where the reader stands
 /// then is not said. An interrupted read is made again. `ReadFault` comes where the reader fails
@@ -204,10 +229,11 @@ fn keep_rest(buffer: &mut [u8], filled: usize) -> usize
 pub fn scan_log<R: Read, S: RecordSink + Drop>(
     alloc: Global,
     reader: &mut R,
-) -> Result<S, LogReadFault>
-    // What the sink holds is what it makes of the log that the input spells.
-    ensures found { IfOk result (λ sink. (log : Log)
-        × (S.holds sink log × (IsLog log × IfSome (R.remaining reader.old) (SpellsLog log)))) }
+) -> Result<Scan<S>, LogReadFault>
+    // The input spells a linked log, and these are what the sink and the history make of it.
+    ensures found { IfOk result (λ scan. (log : Log)
+        × (S.holds scan.sink log × (IsMadeOf log scan.history × (IsLinked log.records
+        × (IsLog log × IfSome (R.remaining reader.old) (SpellsLog log)))))) }
     ensures end { OnOk result (IsAtEnd (R.remaining reader.new)) }
     // The fault is the first one.
     ensures first { IfErr result (λ fault. IfSome (R.remaining reader.old) (λ input. Refuses input fault)) }
@@ -219,16 +245,19 @@ pub fn scan_log<R: Read, S: RecordSink + Drop>(
     let Some(pages) = page_count(&header) else {
         return Err(LogReadFault::BadHeader);
     };
-    let mut sink = S::start(alloc, pages)?;
+    let mut scan = Scan {
+        sink: S::start(alloc, pages)?,
+        history: History::start(alloc, pages)?,
+    };
     let mut buffer = zeros(alloc, BUFFER_BYTES)?;
     let mut records = Vec::with_capacity(alloc, BUFFER_BYTES / RECORD_BYTES)?;
     read_records(
         reader,
-        &mut sink,
+        &mut scan,
         pages,
         MAX_TURNS - turns,
         &mut buffer,
         &mut records,
     )?;
-    Ok(sink)
+    Ok(scan)
 }

@@ -4,5 +4,5 @@ use Rattle.log_store.specs.Scan.{HasRead}
 use Rattle.log_store.proofs.scan.take_records.Given as goal
 
 abbrev pub invariant-loop-i : goal.invariant-loop-i
-invariant-loop-i g l = (log : Log) (given : List ℕ) → HasRead log [] l.pages l.count given
-    → HasRead log l.records.items l.pages (l.count + l.i) (given ++ take (64 * l.i) l.bytes)
+invariant-loop-i g l = (log : Log) (given : List ℕ) → HasRead log [] l.fn.history l.pages l.count given
+    → HasRead log l.records.items l.history l.pages (l.count + l.i) (given ++ take (64 * l.i) l.bytes)

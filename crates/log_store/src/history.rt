@@ -1,0 +1,112 @@
+//! A log that is read is replayed: at each place the records so far have made open transactions and
+//! pages, and these decide whether the next record may follow.
+
+ghost use Rattle.std.specs.Prelude.{◌≡◌, ◌↔◌, [], length, map, IfOk, IsTrue};
+ghost use Rattle.log_store.specs.Image.{AreNumbered, redo_all, with_record};
+ghost use Rattle.log_store.specs.Log.{IsWithin};
+ghost use Rattle.log_store.specs.Record.{IsRecord};
+ghost use Rattle.log_store.specs.History.{NamesNumber};
+
+use crate::open_transactions::OpenTransactions;
+use crate::record::Record;
+use page_core::{Change, Page, PageNo};
+use std::alloc::{AllocError, Global};
+use std::marker::Model;
+
+/// What the records of a log make: its open transactions, and its pages with the changes of all
+/// records (ARIES, sections 3 and 6.2).
+#[derive(Drop)]
+pub struct History {
+    txns: OpenTransactions,
+    pages: Vec<Page>,
+}
+
+impl Model for History {
+    ghost use Rattle.log_store.specs.History.{Made};
+    ghost use Rattle.log_store.specs.Image.{AreNumbered};
+
+    ghost Value = { Made };
+
+    ghost view = { λ history. record { table = history.txns; pages = history.pages.items } };
+
+    ghost invariant = { λ history. AreNumbered history.pages.items };
+}
+
+impl History {
+    ghost use Rattle.std.specs.Prelude.{◌≡◌, [], length, IfOk, IsTrue, OnErr};
+    ghost use Rattle.log_store.specs.History.{IsMadeOf, MayComeNext, followed};
+    ghost use Rattle.log_store.specs.Log.{IsWithin};
+    ghost use Rattle.log_store.specs.Record.{IsRecord};
+
+    /// What the empty log of so many pages makes: no transaction, and formatted pages.
+    pub(crate) fn start(alloc: Global, pages: u32) -> Result<History, AllocError>
+        ensures { IfOk result (IsMadeOf (record { pages = pages; records = [] })) }
+    {
+        Ok(History {
+            txns: OpenTransactions::new(alloc),
+            pages: formatted_pages(alloc, pages)?,
+        })
+    }
+
+    /// The pages, in order of their numbers, with the changes of all records so far.
+    pub fn pages(&self) -> &[Page]
+        ensures { result.now ≡ self.now.pages }
+    {
+        &self.pages
+    }
+
+    /// Takes the next record if it may come next, and answers whether it may.
+    pub(crate) fn follow(&mut self, next: &Record) -> Result<bool, AllocError>
+        requires valid { IsRecord next.now }
+        requires within { IsWithin (length self.old.pages) next.now }
+        ensures taken { IfOk result (λ may. IsTrue may
+            → MayComeNext self.old next.now × (self.new ≡ followed self.old next.now)) }
+        ensures refused { IfOk result (λ may. MayComeNext self.old next.now → IsTrue may) }
+    {
+        if !self.txns.may_note(next) || !names_number(&self.pages, next) {
+            return Ok(false);
+        }
+        self.txns.note(next)?;
+        redo_on_its_page(&mut self.pages, next);
+        Ok(true)
+    }
+}
+
+/// Whether a record that replaces a number names the one that is there.
+fn names_number(pages: &[Page], next: &Record) -> bool
+    requires valid { IsRecord next.now }
+    requires within { IsWithin (length pages.now) next.now }
+    ensures { IsTrue result ↔ NamesNumber pages.now next.now }
+{
+    match *next {
+        Record::Update {
+            page,
+            slot,
+            change: Change::Set { before, .. },
+            ..
+        } => pages[page.0 as usize].slots[slot.0 as usize] == before,
+        _ => true,
+    }
+}
+
+/// Makes the change of a record, if it makes one, on the page that it names. Every other page stays.
+fn redo_on_its_page(pages: &mut [Page], next: &Record)
+    requires within { IsWithin (length pages.old) next.now }
+    requires numbered { AreNumbered pages.old }
+    ensures { pages.new ≡ map (λ page. with_record page next.now) pages.old }
+{
+    if let Some(change) = next.change() {
+        next.redo_on(&mut pages[change.page.0 as usize]);
+    }
+}
+
+/// Pages 0 to `count` - 1, formatted.
+fn formatted_pages(alloc: Global, count: u32) -> Result<Vec<Page>, AllocError>
+    ensures { IfOk result (λ pages. pages.items ≡ redo_all [] count) }
+{
+    let mut pages = Vec::with_capacity(alloc, count as usize)?;
+    for number in 0..count {
+        pages.push(Page::formatted(PageNo(number)))?;
+    }
+    Ok(pages)
+}
