@@ -4,6 +4,7 @@ use Rattle.std.specs.Io.KnownBytes.{Appends, Keeps}
 use Rattle.page_core.specs.Page.{volume_bytes}
 use Rattle.log_store.specs.declared.fault.LogReadFault.{LogReadFault}
 use Rattle.log_store.specs.declared.fault.LogReadFault.TheVariants as log
+use Rattle.log_store.specs.Linked.{IsLinked}
 use Rattle.log_store.specs.Log.{Log, IsLog, SpellsLog}
 use Rattle.log_store.specs.Image.{redo_all}
 use Rattle.log_store.specs.Fault.{Refuses, GaveNoFault}
@@ -14,17 +15,19 @@ use Rattle.imgcopy.specs.declared.fault.Fault.TheVariants as fault
 abbrev pub volume_of : Log → List ℕ
 volume_of l = volume_bytes (redo_all l.records l.pages)
 
--- the input spells a log, and the volume that it makes was written, and nothing else
+-- the input spells a linked log, and the volume that it makes was written, and nothing else
 pub record WritesVolume (input old new : Option (List ℕ)) : Type 0 where
   pub made_of : Log
   pub valid : IsLog made_of
+  pub linked : IsLinked made_of.records
   pub read : IfSome input (SpellsLog made_of)
   pub written : Appends old new (volume_of made_of)
 
--- the input spells a log, and the first bytes of its volume were written, so many but not all, and nothing else
+-- the input spells a linked log, and the first bytes of its volume were written, so many but not all, and nothing else
 pub record WritesPart (input old new : Option (List ℕ)) (done : ℕ) : Type 0 where
   pub made_of : Log
   pub valid : IsLog made_of
+  pub linked : IsLinked made_of.records
   pub read : IfSome input (SpellsLog made_of)
   pub within : done < length (volume_of made_of)
   pub written : Appends old new (take done (volume_of made_of))
@@ -43,6 +46,7 @@ abbrev pub reported : LogReadFault → Fault
 reported log.OutOfMemory = fault.OutOfMemory
 reported log.BadHeader = fault.BadHeader
 reported (log.BadRecord at) = fault.BadRecord at
+reported (log.BadChain at) = fault.BadChain at
 reported (log.Torn at) = fault.Torn at
 reported log.ReadFault = fault.ReadFault
 reported log.TooLong = fault.TooLong
@@ -53,6 +57,7 @@ Leaves input old new fault.OutOfMemory = Keeps old new
 Leaves input old new (fault.WriteFault done) = WritesPart input old new done
 Leaves input old new fault.BadHeader = WritesNone input old new log.BadHeader
 Leaves input old new (fault.BadRecord at) = WritesNone input old new (log.BadRecord at)
+Leaves input old new (fault.BadChain at) = WritesNone input old new (log.BadChain at)
 Leaves input old new (fault.Torn at) = WritesNone input old new (log.Torn at)
 Leaves input old new fault.ReadFault = WritesNone input old new log.ReadFault
 Leaves input old new fault.TooLong = WritesNone input old new log.TooLong

@@ -25,6 +25,9 @@ pub enum Fault {
     ReadFault,
     #[error("E34 TooLong")]
     TooLong,
+    /// The record at this offset may not follow those before it.
+    #[error("E35 BadChain {}", .0.0)]
+    BadChain(Lsn),
 }
 
 impl From<AllocError> for Fault {
@@ -49,6 +52,7 @@ impl From<LogReadFault> for Fault {
             LogReadFault::OutOfMemory => Fault::OutOfMemory,
             LogReadFault::BadHeader => Fault::BadHeader,
             LogReadFault::BadRecord(at) => Fault::BadRecord(at),
+            LogReadFault::BadChain(at) => Fault::BadChain(at),
             LogReadFault::Torn(at) => Fault::Torn(at),
             LogReadFault::ReadFault => Fault::ReadFault,
             LogReadFault::TooLong => Fault::TooLong,

@@ -6,9 +6,8 @@ ghost use Rattle.page_core.specs.Page.{volume_bytes};
 ghost use Rattle.imgcopy.specs.Stream.{WritesVolume, Leaves, FailedUnread};
 
 use crate::fault::Fault;
-use log_store::scan_log;
+use log_store::{Scan, scan_log};
 use page_core::{PAGE_BYTES, Page, zeros};
-use page_redo::Volume;
 use std::alloc::Global;
 use std::io::{ErrorKind, Read, Write};
 
@@ -37,9 +36,9 @@ pub fn redo_stream<R: Read, W: Write>(
     ensures unread { result ≡ Err Fault.ReadFault
         → FailedUnread (R.remaining reader.old) (R.remaining reader.new) }
 {
-    let volume: Volume = scan_log(alloc, reader)?;
+    let scan: Scan<()> = scan_log(alloc, reader)?;
     let mut buffer = zeros(alloc, BUFFER_PAGES * PAGE_BYTES)?;
-    write_pages(writer, volume.pages(), &mut buffer).map_err(Fault::WriteFault)
+    write_pages(writer, scan.history.pages(), &mut buffer).map_err(Fault::WriteFault)
 }
 
 /// Writes the bytes of the pages, a buffer at a time. At `Err` so many of them went out.

@@ -11,3 +11,4 @@ pub mod Table
 pub mod Committed
 pub mod Work
 pub mod History
+pub mod TxnState

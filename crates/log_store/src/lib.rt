@@ -17,6 +17,7 @@ mod read;
 mod record;
 mod scan;
 mod sink;
+mod txn_state;
 
 pub use codec::{decode, encode};
 pub use fault::LogReadFault;
@@ -25,6 +26,7 @@ pub use history::History;
 pub use laws::{logs_are_spelled_apart, records_are_spelled_apart, spelled_logs_have_no_fault};
 pub use limits::{HEADER_BYTES, MAX_LOG_BYTES, MAX_OPEN, MAX_RECORDS, RECORD_BYTES};
 pub use log_image::LogImage;
+pub use open_transactions::OpenTransactions;
 pub use page_change::PageChange;
 pub use page_core::{MAX_PAGES, TxnNo};
 pub use pending_change::PendingChange;
@@ -32,6 +34,7 @@ pub use read::read_log;
 pub use record::Record;
 pub use scan::{Scan, scan_log};
 pub use sink::RecordSink;
+pub use txn_state::TxnState;
 
 #[cfg(test)]
 mod tests;

@@ -1,8 +1,14 @@
 //! stub
-ghost use Rattle.std.specs.Prelude.{◌≡◌, ◌↔◌, [], IsTrue, OnOk, OnErr};
-ghost use Rattle.log_store.specs.Table.{MayNote, noted};
+ghost use Rattle.std.specs.Prelude.{◌≡◌, ◌↔◌, [], IsTrue, OnOk, OnErr, length};
+ghost use Rattle.std.specs.Option.{option_map, option_and_then};
+ghost use Rattle.log_store.specs.Table.{MayNote, noted, entry_in, holder_in, owed_in};
+ghost use Rattle.log_store.specs.Transactions.{last_of};
+ghost use Rattle.log_store.specs.TxnState.{txn_state};
 
+use crate::pending_change::PendingChange;
 use crate::record::Record;
+use crate::txn_state::TxnState;
+use page_core::{ChangeKind, PageNo, SlotNo, TxnNo};
 use std::alloc::{AllocError, Global};
 use std::marker::Model;
 
@@ -42,5 +48,44 @@ impl OpenTransactions {
         let _ = next.lsn();
         self.begun = 0;
         Ok(())
+    }
+
+    pub fn holder(&self, page: PageNo, slot: SlotNo, kind: ChangeKind, txn: TxnNo) -> Option<TxnNo>
+        ensures { result ≡ holder_in self.now page slot kind txn }
+    {
+        let _ = (page, slot, kind, txn, self.begun);
+        None
+    }
+
+    pub fn state(&self, txn: TxnNo) -> Option<TxnState>
+        ensures { result ≡ option_map txn_state (entry_in self.now txn) }
+    {
+        let _ = (txn, self.begun);
+        None
+    }
+
+    pub fn last_pending(&self, txn: TxnNo) -> Option<PendingChange>
+        ensures { result ≡ option_and_then (λ e. last_of e.pending) (entry_in self.now txn) }
+    {
+        let _ = (txn, self.begun);
+        None
+    }
+
+    pub fn begun(&self) -> u32
+        ensures { result ≡ self.now.begun }
+    {
+        self.begun
+    }
+
+    pub fn open_count(&self) -> usize
+        ensures { result ≡ length self.now.entries }
+    {
+        self.begun as usize
+    }
+
+    pub fn owed(&self) -> u64
+        ensures { result ≡ owed_in self.now }
+    {
+        self.begun as u64
     }
 }

@@ -28,7 +28,7 @@ returns-in-End-clause-first g c =
     let is : fault ≡ Torn (lsn_of (length t.log.records)) = torn.1 ∙ ap Torn (sym at) in
     of_input _ _ (read ++ pending) (λ rest. Refuses (header ++ rest) fault) (c.in-End.ensures.1 _ read inv.so_far.1.1)
     (λ rest end. subst (Refuses (header ++ ((read ++ pending) ++ rest))) (sym is)
-    (refuses_torn header read pending rest t.log t.spells (omega (arith, length-take c.loop.filled c.loop.buffer)) (omega (arith, length-take c.loop.filled c.loop.buffer))
+    (refuses_torn header read pending rest t.log t.spells t.linked (omega (arith, length-take c.loop.filled c.loop.buffer)) (omega (arith, length-take c.loop.filled c.loop.buffer))
     (elim (cases_lt (length t.log.records) 1048576) [ inl room ↦ room | inr full ↦ let none = inv.few (omega arith) in absurd (omega arith) ]) (end c.in-End.ensures.0)))) c.at_end.ensures.err
 
 pub returns-in-End-clause-found : goal.returns-in-End-clause-found
@@ -42,7 +42,7 @@ returns-in-End-clause-found g c =
     let nothing : pending ≡ [] = nil_from_length pending (omega (arith, length-take c.loop.filled c.loop.buffer, none)) in
     let all : read ++ pending ≡ read = ap (λ (bs : List ℕ). read ++ bs) nothing ∙ append-nil read in (
       read,
-      (subst (Consumes _ _) all (c.in-End.ensures.1 _ read inv.so_far.1.1), record { log = t.log; held = t.held; spells = t.spells }),
+      (subst (Consumes _ _) all (c.in-End.ensures.1 _ read inv.so_far.1.1), record { log = t.log; held = t.held; spells = t.spells; linked = t.linked; made_of = t.made_of }),
     )) c.at_end.ensures.ok
 
 pub returns-in-Failed-clause-unread : goal.returns-in-Failed-clause-unread
@@ -55,7 +55,7 @@ returns-in-Failed-clause-unread g c =
       inv.so_far.0 ++ pending,
       (
         c.in-Failed.ensures _ inv.so_far.0 inv.so_far.1.1,
-        none_in_failed (header_bytes c.args.pages) inv.so_far.0 pending t.log t.spells (omega (arith, length-take c.loop.filled c.loop.buffer))
+        none_in_failed (header_bytes c.args.pages) inv.so_far.0 pending t.log t.spells t.linked (omega (arith, length-take c.loop.filled c.loop.buffer))
             (λ full. let none = inv.few (omega arith) in omega (arith, length-take c.loop.filled c.loop.buffer)),
       ),
     )
@@ -84,9 +84,9 @@ returns-then-filled-gt0-clause-first g c =
     let width : length bytes ≡ filled = omega (arith, length-take filled c.read_more.new.buffer, c.in-More.ensures.0) in
     let further = read ++ take whole bytes in
     let pending = drop whole bytes in
-    let t : HasTaken g.S.RecordSink.holds c.take_records.new.sink c.args.pages (c.loop.count + filled / 64) (header ++ further) =
-    subst (HasTaken g.S.RecordSink.holds c.take_records.new.sink c.args.pages (c.loop.count + filled / 64)) (append_assoc header read (take whole bytes))
-    (subst (λ (k : ℕ). HasTaken g.S.RecordSink.holds c.take_records.new.sink c.args.pages (c.loop.count + k / 64) ((header ++ read) ++ take (64 * (k / 64)) bytes)) width
+    let t : HasTaken g.S.RecordSink.holds c.take_records.new.sink c.take_records.new.history c.args.pages (c.loop.count + filled / 64) (header ++ further) =
+    subst (HasTaken g.S.RecordSink.holds c.take_records.new.sink c.take_records.new.history c.args.pages (c.loop.count + filled / 64)) (append_assoc header read (take whole bytes))
+    (subst (λ (k : ℕ). HasTaken g.S.RecordSink.holds c.take_records.new.sink c.take_records.new.history c.args.pages (c.loop.count + k / 64) ((header ++ read) ++ take (64 * (k / 64)) bytes)) width
     (c.in_ok-take_records.ensures.ok (header ++ read) inv.so_far.1.0)) in
     let count = t.count_is in
     let full = c.if-count-ge-MAX_RECORDS.true in
@@ -95,7 +95,7 @@ returns-then-filled-gt0-clause-first g c =
     let some = c.if-filled-gt0.true in
     let long : 0 < length pending = omega (arith, length-drop whole bytes, length-take filled c.read_more.new.buffer, c.keep_rest-filled.ensures.count, c.in-More.ensures.0) in
     of_input _ _ (further ++ pending) (λ rest. Refuses (header ++ rest) TooLong) (subst (Consumes _ _) both (c.in-More.ensures.1 _ read inv.so_far.1.1))
-    (λ rest end. refuses_past_last header further pending rest t.log t.spells (omega arith) long)
+    (λ rest end. refuses_past_last header further pending rest t.log t.spells t.linked (omega arith) long)
 
 pub loop-preserved : goal.loop-preserved
 loop-preserved g c =
@@ -108,9 +108,9 @@ loop-preserved g c =
     let t = c.in_ok-take_records.ensures.ok (header ++ read) inv.so_far.1.0 in
     let n = length bytes in
     let width : length bytes ≡ filled = omega (arith, length-take filled c.read_more.new.buffer, c.in-More.ensures.0) in
-    let taken : HasTaken g.S.RecordSink.holds c.take_records.new.sink c.args.pages (c.loop.count + filled / 64) (header ++ (read ++ take whole bytes)) =
-    subst (HasTaken g.S.RecordSink.holds c.take_records.new.sink c.args.pages (c.loop.count + filled / 64)) (append_assoc header read (take whole bytes))
-    (subst (λ (k : ℕ). HasTaken g.S.RecordSink.holds c.take_records.new.sink c.args.pages (c.loop.count + k / 64) ((header ++ read) ++ take (64 * (k / 64)) bytes)) width t) in
+    let taken : HasTaken g.S.RecordSink.holds c.take_records.new.sink c.take_records.new.history c.args.pages (c.loop.count + filled / 64) (header ++ (read ++ take whole bytes)) =
+    subst (HasTaken g.S.RecordSink.holds c.take_records.new.sink c.take_records.new.history c.args.pages (c.loop.count + filled / 64)) (append_assoc header read (take whole bytes))
+    (subst (λ (k : ℕ). HasTaken g.S.RecordSink.holds c.take_records.new.sink c.take_records.new.history c.args.pages (c.loop.count + k / 64) ((header ++ read) ++ take (64 * (k / 64)) bytes)) width t) in
     let both : read ++ bytes ≡ (read ++ take whole bytes) ++ take c.keep_rest-filled.result c.keep_rest-filled.new.buffer =
     ap (λ (bs : List ℕ). read ++ bs) (sym (take-append-drop whole bytes)) ∙ sym (append_assoc read (take whole bytes) (drop whole bytes))
     ∙ ap (λ (bs : List ℕ). (read ++ take whole bytes) ++ bs) (sym c.keep_rest-filled.ensures.rest) in
@@ -133,7 +133,7 @@ returns-clause-unread g c =
       inv.so_far.0 ++ pending,
       (
         inv.so_far.1.1,
-        none_in_failed (header_bytes c.args.pages) inv.so_far.0 pending t.log t.spells (omega (arith, length-take c.loop.filled c.loop.buffer))
+        none_in_failed (header_bytes c.args.pages) inv.so_far.0 pending t.log t.spells t.linked (omega (arith, length-take c.loop.filled c.loop.buffer))
             (λ full. let none = inv.few (omega arith) in omega (arith, length-take c.loop.filled c.loop.buffer)),
       ),
     )

@@ -43,11 +43,13 @@ returns-clause-found g c =
       log,
       (
         all.1.1.held,
+        (all.1.1.made_of,
+        (all.1.1.linked,
         (
           all.1.1.spells.valid,
           of_all _ _ (header_bytes c.in-Some.pages ++ all.0) (SpellsLog log)
               (Consumes-trans _ _ _ (header_bytes c.in-Some.pages) all.0 (subst (Consumes _ _) is c.in_ok-turns.ensures.ok) all.1.0)
               c.in_ok-read_records.ensures.end all.1.1.spells,
-        ),
+        ))),
       ),
     )

@@ -35,7 +35,7 @@ returns-in_err-push_record-clause-first g c =
     let i = c.loop-i.i in
     let so_far = take (64 * i) bytes in
     let fault = c.in_err-push_record.field-0.0 in
-    let none = read_none taken.log c.args.pages c.args.count given taken.spells taken.pages_are taken.count_is in
+    let none = read_none g.S.RecordSink.holds c.args.sink.now c.args.history.now c.args.pages c.args.count given taken in
     subst (λ (input : List ℕ). Refuses input fault)
     (append_assoc given so_far _ ∙ ap (λ (bs : List ℕ). given ++ bs) (parts bytes rest i))
     (c.in_err-push_record.ensures.first taken.log (given ++ so_far) (drop 64 (drop (64 * i) bytes) ++ rest) (c.loop-i.invariant taken.log given none)))
@@ -45,10 +45,11 @@ loop-i-preserved g c = λ log given none.
     let bytes = c.args.bytes.now in
     let i = c.loop-i.i in
     let rs = c.push_record.new.records.items in
+    let made = c.push_record.new.history in
     let next = c.in_ok-push_record.ensures.ok log (given ++ take (64 * i) bytes) (c.loop-i.invariant log given none) in
     let count : c.args.count + i + 1 ≡ c.args.count + (i + 1) = omega arith in
-    subst (λ (n : ℕ). HasRead log rs c.args.pages n (given ++ take (64 * (i + 1)) bytes)) count
-    (subst (HasRead log rs c.args.pages (c.args.count + i + 1))
+    subst (λ (n : ℕ). HasRead log rs made c.args.pages n (given ++ take (64 * (i + 1)) bytes)) count
+    (subst (HasRead log rs made c.args.pages (c.args.count + i + 1))
     (append_assoc given (take (64 * i) bytes) _ ∙ ap (λ (bs : List ℕ). given ++ bs) (further bytes i)) next)
 
 pub take-requires : goal.take-requires
@@ -56,7 +57,7 @@ take-requires g c =
     let given = c.requires.0 in
     let taken = c.requires.1 in
     let log = taken.log in
-    let read = c.loop-i.invariant log given (read_none log c.args.pages c.args.count given taken.spells taken.pages_are taken.count_is) in (
+    let read = c.loop-i.invariant log given (read_none g.S.RecordSink.holds c.args.sink.now c.args.history.now c.args.pages c.args.count given taken) in (
       log,
       (
         taken.held,
@@ -69,10 +70,23 @@ returns-clause-ok g c = λ given taken.
     let log = taken.log in
     let bytes = c.args.bytes.now in
     let rs = c.loop-i.records.items in
-    let read = c.loop-i.invariant log given (read_none log c.args.pages c.args.count given taken.spells taken.pages_are taken.count_is) in
+    let made = c.loop-i.history in
+    let read = c.loop-i.invariant log given (read_none g.S.RecordSink.holds c.args.sink.now c.args.history.now c.args.pages c.args.count given taken) in
     let past = c.loop-i-test.false in
     let all : c.loop-i.i ≡ length bytes / 64 = omega (arith, c.loop-i.auto.i-end) in
     let held = c.in_ok-take.ensures log taken.held (subst (λ (rs : List Record). IsLog (with_next log rs)) (sym c.deref.ensures.value) read.spells.valid) in
-    subst (λ (n : ℕ). HasTaken g.S.RecordSink.holds c.take.new.self c.args.pages (c.args.count + n) (given ++ take (64 * n) bytes)) all
-    (taken_next g.S.RecordSink.holds c.take.new.self log rs c.args.pages (c.args.count + c.loop-i.i) (given ++ take (64 * c.loop-i.i) bytes) read
+    subst (λ (n : ℕ). HasTaken g.S.RecordSink.holds c.take.new.self made c.args.pages (c.args.count + n) (given ++ take (64 * n) bytes)) all
+    (taken_next g.S.RecordSink.holds c.take.new.self log rs made c.args.pages (c.args.count + c.loop-i.i) (given ++ take (64 * c.loop-i.i) bytes) read
     (subst (λ (rs : List Record). g.S.RecordSink.holds c.take.new.self (with_next log rs)) c.deref.ensures.value held))
+
+pub push_record-requires-clause-so_far : goal.push_record-requires-clause-so_far
+push_record-requires-clause-so_far g c =
+    let given = c.requires.0 in
+    let taken = c.requires.1 in
+    (
+      taken.log,
+      (
+        given ++ take (64 * c.loop-i.i) c.args.bytes.now,
+        c.loop-i.invariant taken.log given (read_none g.S.RecordSink.holds c.args.sink.now c.args.history.now c.args.pages c.args.count given taken),
+      ),
+    )

@@ -1,7 +1,7 @@
 use Rattle.std.proofs.Common.{[], sym, subst}
 use Rattle.log_store.specs.Image.{AreNumbered}
 use Rattle.log_store.proofs.Images.{numbered-redo_all}
-use Rattle.page_redo.proofs.volume.VolumeRecordSink.start.Goals as goal
+use Rattle.log_store.proofs.history.History.start.Goals as goal
 
 pub invariant_of-result : goal.invariant_of-result
 invariant_of-result c =

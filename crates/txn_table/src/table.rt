@@ -1,0 +1,104 @@
+//! The table of open transactions.
+
+ghost use Rattle.std.specs.Prelude.{ℕ, ◌≡◌, ◌+◌, ◌<◌, ◌++◌, ◌∷◌, [], List, length, OnOk, OnErr};
+ghost use Rattle.std.specs.Prelude.{if◌then◌else◌, Some, None};
+ghost use Rattle.log_store.specs.declared.record.Record.{Record};
+ghost use Rattle.log_store.specs.Linked.{MayFollow};
+ghost use Rattle.log_store.specs.Transactions.{begun, holder, is_open, last_of, open_in, owed, pending};
+ghost use Rattle.log_store.specs.Table.{entry_of, table_of};
+ghost use Rattle.log_store.specs.TxnState.{txn_state};
+ghost use Rattle.txn_table.specs.TxnTable.{IsTableOf};
+
+use log_store::{OpenTransactions, PendingChange, Record, TxnState};
+use page_core::{ChangeKind, PageNo, SlotNo, TxnNo};
+use std::alloc::{AllocError, Global};
+use std::marker::Model;
+
+/// The open transactions of a log (ARIES, section 4.3): which they are, their last records and their
+/// pending changes, and who holds which slot. The log is the list of records that were noted.
+#[derive(Drop)]
+pub struct TxnTable {
+    open: OpenTransactions,
+}
+
+impl Model for TxnTable {
+    ghost use Rattle.log_store.specs.Table.{Table};
+
+    ghost Value = { Table };
+
+    ghost view = { λ table. table.open };
+}
+
+impl TxnTable {
+    /// The table of a log without records.
+    pub fn new(alloc: Global) -> TxnTable
+        ensures { result ≡ table_of [] }
+    {
+        TxnTable {
+            open: OpenTransactions::new(alloc),
+        }
+    }
+
+    /// The number of the next transaction.
+    pub fn begin(&self) -> TxnNo
+        requires { (rs : List Record) × IsTableOf rs self.now }
+        ensures { (rs : List Record) → IsTableOf rs self.now → result ≡ length (begun rs) + 1 }
+    {
+        TxnNo(self.open.begun() + 1)
+    }
+
+    /// The transaction that holds a slot against a change of this kind: the least other open one that
+    /// does. Where none does, the change may be made.
+    pub fn may_change(
+        &self,
+        txn: TxnNo,
+        page: PageNo,
+        slot: SlotNo,
+        kind: ChangeKind,
+    ) -> Option<TxnNo>
+        ensures { (rs : List Record) → IsTableOf rs self.now → result ≡ holder rs page slot kind txn }
+    {
+        self.open.holder(page, slot, kind, txn)
+    }
+
+    /// Notes the next record of the log. `Err` changes nothing; it comes only for a Begin and an
+    /// Update, where room for it is refused.
+    pub fn note(&mut self, next: &Record) -> Result<(), AllocError>
+        requires { (rs : List Record) × (IsTableOf rs self.old × MayFollow rs next.now) }
+        ensures ok { OnOk result ((rs : List Record) → IsTableOf rs self.old → MayFollow rs next.now
+            → self.new ≡ table_of (rs ++ next.now ∷ [])) }
+        ensures err { OnErr result (self.new ≡ self.old) }
+    {
+        self.open.note(next)
+    }
+
+    /// How many transactions are open.
+    pub fn open_txns(&self) -> usize
+        ensures { (rs : List Record) → IsTableOf rs self.now → result ≡ length (open_in rs) }
+    {
+        self.open.open_count()
+    }
+
+    /// What the table has of a transaction, if it is open.
+    pub fn entry(&self, txn: TxnNo) -> Option<TxnState>
+        ensures { (rs : List Record) → IsTableOf rs self.now
+            → result ≡ (if is_open rs txn then Some (txn_state (entry_of rs txn)) else None) }
+    {
+        self.open.state(txn)
+    }
+
+    /// The last pending change of a transaction, if it is open and has one.
+    pub fn last_pending(&self, txn: TxnNo) -> Option<PendingChange>
+        ensures { (rs : List Record) → IsTableOf rs self.now
+            → result ≡ (if is_open rs txn then last_of (pending rs txn) else None) }
+    {
+        self.open.last_pending(txn)
+    }
+
+    /// How many records the open transactions may still need.
+    pub fn owed(&self) -> u64
+        ensures { (rs : List Record) → IsTableOf rs self.now → result ≡ owed rs }
+    {
+        self.open.owed()
+    }
+}
