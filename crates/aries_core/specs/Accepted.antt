@@ -29,4 +29,5 @@ shown_call event (Err why) = None
 abbrev pub accepted : List Event → List (Result Answer Refusal) → List Call
 accepted [] replies = []
 accepted (event ∷ events) [] = []
-accepted (event ∷ events) (reply ∷ replies) = option_to_list (shown_call event reply) ++ accepted events replies
+accepted (event ∷ events) (reply ∷ replies) =
+    option_to_list (shown_call event reply) ++ accepted events replies

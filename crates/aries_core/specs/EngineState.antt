@@ -57,7 +57,8 @@ end_record s txn = log.End (end s) txn (last_lsn s.log txn)
 
 -- the compensation of a pending change
 abbrev pub comp_record : EngineState → ℕ → PendingChange → Record
-comp_record s txn p = log.Comp (end s) txn (last_lsn s.log txn) p.prev p.page p.slot (undo_of p.change)
+comp_record s txn p = log.Comp (end s) txn (last_lsn s.log txn) p.prev p.page p.slot
+    (undo_of p.change)
 
 -- ---- what an accepted call answers, and what stands after it
 
@@ -70,7 +71,8 @@ logged s r = record { answer = answer.Logged (end s); state = appended s r }
 
 abbrev pub undo_effect : EngineState → ℕ → Outcome
 undo_effect s txn =
-    option_map_or (λ p. record { answer = answer.Undid (end s); state = appended s (comp_record s txn p) })
+    option_map_or (λ p. record { answer = answer.Undid (end s); state =
+        appended s (comp_record s txn p) })
     (last_of (pending s.log txn))
     (record { answer = answer.Ended (end s); state = appended s (end_record s txn) })
 
@@ -82,7 +84,8 @@ effect s event.Begin = record {
 effect s (event.Set txn page slot number) =
     logged s (update_record s txn page slot (Set (number_in s.log page slot) number))
 effect s (event.Add txn page slot amount) = logged s (update_record s txn page slot (Add amount))
-effect s (event.Read page slot) = record { answer = answer.Number (number_in s.log page slot); state = s }
+effect s (event.Read page slot) = record { answer = answer.Number (number_in s.log page slot);
+    state = s }
 effect s (event.Commit txn) = record {
   answer = answer.Logged (end s);
   state = let after = appended s (commit_record s txn) in forced_to after (end after);

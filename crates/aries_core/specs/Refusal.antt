@@ -1,5 +1,6 @@
 -- When a call is refused, and what is printed of a refusal.
-use Rattle.std.specs.Prelude.{ℕ, ◌+◌, ◌++◌, nat_le, nat_lt, Bool, not, List, length, Option, Some, None, if◌then◌else◌, codes}
+use Rattle.std.specs.Prelude.{ℕ, ◌+◌, ◌++◌, nat_le, nat_lt, Bool, not, List, length, Option, Some}
+use Rattle.std.specs.Prelude.{None, if◌then◌else◌, codes}
 use Rattle.std.specs.Fmt.{decimal}
 use Rattle.std.specs.Option.{option_map}
 use Rattle.page_core.specs.declared.change.ChangeKind.{ChangeKind}
@@ -10,7 +11,10 @@ use Rattle.log_store.specs.Transactions.{holder, is_open, is_rolling, open_in, o
 use Rattle.aries_core.specs.declared.event.Event.{Event}
 use Rattle.aries_core.specs.declared.event.Event.TheVariants as event
 use Rattle.aries_core.specs.declared.refusal.Refusal.{Refusal}
-use Rattle.aries_core.specs.declared.refusal.Refusal.TheVariants.{OutOfMemory, NoTxn, PageOut, SlotOut, SlotBusy, TxnRolling, NotRolling, LogFull, TooManyTxns, LogFault, CommitUnsure}
+use Rattle.aries_core.specs.declared.refusal.Refusal.TheVariants.{OutOfMemory, NoTxn, PageOut}
+use Rattle.aries_core.specs.declared.refusal.Refusal.TheVariants.{SlotOut, SlotBusy, TxnRolling}
+use Rattle.aries_core.specs.declared.refusal.Refusal.TheVariants.{NotRolling, LogFull, TooManyTxns}
+use Rattle.aries_core.specs.declared.refusal.Refusal.TheVariants.{LogFault, CommitUnsure}
 use Rattle.aries_core.specs.EngineState.{EngineState}
 
 -- the first refusal that is there
@@ -33,26 +37,31 @@ page_refusal s page slot =
 -- of a call that only an active transaction may make
 abbrev pub active_refusal : EngineState → ℕ → Option Refusal
 active_refusal s txn =
-    or_else (refused_if (not (is_open s.log txn)) NoTxn) (refused_if (is_rolling s.log txn) TxnRolling)
+    or_else (refused_if (not (is_open s.log txn)) NoTxn)
+        (refused_if (is_rolling s.log txn) TxnRolling)
 
 -- of a change: an Update owes its own compensation, so it takes room for two records
 abbrev pub change_refusal : EngineState → ℕ → ℕ → ℕ → ChangeKind → Option Refusal
 change_refusal s txn page slot kind =
     or_else (active_refusal s txn)
     (or_else (page_refusal s page slot)
-    (or_else (option_map SlotBusy (holder s.log page slot kind txn)) (refused_if (has_no_room s 2) LogFull)))
+    (or_else (option_map SlotBusy (holder s.log page slot kind txn))
+        (refused_if (has_no_room s 2) LogFull)))
 
--- the refusal that needs neither memory nor a device, in the order of the checks; a Begin owes two more records
+-- the refusal that needs neither memory nor a device, in the order of the checks; a Begin owes two
+-- more records
 abbrev pub refusal : EngineState → Event → Option Refusal
 refusal s event.Begin =
-    or_else (refused_if (nat_le MAX_OPEN (length (open_in s.log))) TooManyTxns) (refused_if (has_no_room s 3) LogFull)
+    or_else (refused_if (nat_le MAX_OPEN (length (open_in s.log))) TooManyTxns)
+        (refused_if (has_no_room s 3) LogFull)
 refusal s (event.Set txn page slot number) = change_refusal s txn page slot kind.Set
 refusal s (event.Add txn page slot amount) = change_refusal s txn page slot kind.Add
 refusal s (event.Read page slot) = page_refusal s page slot
 refusal s (event.Commit txn) = active_refusal s txn
 refusal s (event.Abort txn) = active_refusal s txn
 refusal s (event.UndoStep txn) =
-    or_else (refused_if (not (is_open s.log txn)) NoTxn) (refused_if (not (is_rolling s.log txn)) NotRolling)
+    or_else (refused_if (not (is_open s.log txn)) NoTxn)
+        (refused_if (not (is_rolling s.log txn)) NotRolling)
 refusal s event.Force = None
 
 -- what is printed of a refusal

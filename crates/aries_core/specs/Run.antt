@@ -6,7 +6,8 @@ use Rattle.aries_core.specs.declared.refusal.Refusal.{Refusal}
 use Rattle.aries_core.specs.EngineState.{EngineState}
 use Rattle.aries_core.specs.Step.{Step}
 
--- from old, an engine may give these replies to these events, one step after another, and end as new
+-- from old, an engine may give these replies to these events, one step after another, and end as
+-- new
 abbrev pub Run : EngineState → List Event → List (Result Answer Refusal) → EngineState → Type 0
 Run old [] [] new = new ≡ old
 Run old (event ∷ events) (reply ∷ replies) new =

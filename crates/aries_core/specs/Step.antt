@@ -1,12 +1,15 @@
 -- One call of the engine: what it may answer, and what stands after it.
-use Rattle.std.specs.Prelude.{ℕ, ◌≡◌, ◌*◌, ◌<◌, ◌≤◌, ◌⊎◌, length, Option, Some, None, Result, Ok, Err}
+use Rattle.std.specs.Prelude.{ℕ, ◌≡◌, ◌*◌, ◌<◌, ◌≤◌, ◌⊎◌, length, Option, Some, None, Result, Ok}
+use Rattle.std.specs.Prelude.{Err}
 use Rattle.log_store.specs.Log.{lsn_of}
 use Rattle.aries_core.specs.declared.event.Answer.{Answer}
 use Rattle.aries_core.specs.declared.event.Event.{Event}
 use Rattle.aries_core.specs.declared.event.Event.TheVariants as event
 use Rattle.aries_core.specs.declared.refusal.Refusal.{Refusal}
-use Rattle.aries_core.specs.declared.refusal.Refusal.TheVariants.{CommitUnsure, LogFault, OutOfMemory}
-use Rattle.aries_core.specs.EngineState.{EngineState, appended, commit_record, effect, end, forced_to}
+use Rattle.aries_core.specs.declared.refusal.Refusal.TheVariants.{CommitUnsure, LogFault}
+use Rattle.aries_core.specs.declared.refusal.Refusal.TheVariants.{OutOfMemory}
+use Rattle.aries_core.specs.EngineState.{EngineState, appended, commit_record, effect, end}
+use Rattle.aries_core.specs.EngineState.{forced_to}
 use Rattle.aries_core.specs.Refusal.{refusal}
 
 -- some records more are forced, and not all: the device failed at one of them
@@ -31,6 +34,8 @@ Fails old event refusal new = ⊥
 -- from old, an engine may reply so to the event and go on to new
 abbrev pub Step : EngineState → Event → Result Answer Refusal → EngineState → Type 0
 Step old event (Ok answer) new =
-    (refusal old event ≡ None) × (answer ≡ (effect old event).answer) × (new ≡ (effect old event).state)
+    (refusal old event ≡ None) × (answer ≡ (effect old event).answer)
+        × (new ≡ (effect old event).state)
 Step old event (Err why) new =
-    ((refusal old event ≡ Some why) × (new ≡ old)) ⊎ ((refusal old event ≡ None) × Fails old event why new)
+    ((refusal old event ≡ Some why) × (new ≡ old))
+        ⊎ ((refusal old event ≡ None) × Fails old event why new)

@@ -28,8 +28,8 @@ pub enum Refusal {
     TooManyTxns,
     /// The log's device failed. The records that were stored before the fault count as forced.
     LogFault,
-    /// The log's device failed while the Commit at this LSN was forced. The Commit stands in the log,
-    /// not known to be forced, and its transaction has ended.
+    /// The log's device failed while the Commit at this LSN was forced. The Commit stands in the
+    /// log, not known to be forced, and its transaction has ended.
     CommitUnsure(Lsn),
 }
 

@@ -1,7 +1,8 @@
 //! The redo point of a checkpoint: where redo has to begin.
 //!
-//! This is a placeholder that nothing uses yet. Its contract would let updates be lost: a redo point at the checkpoint's
-//! begin record leaves out changes that were made before it and are not stored. The stage of checkpoints replaces it.
+//! This is a placeholder that nothing uses yet. Its contract would let updates be lost: a redo
+//! point at the checkpoint's begin record leaves out changes that were made before it and are not
+//! stored. The stage of checkpoints replaces it.
 #![tactic(auto)]
 
 ghost use Rattle.std.specs.Prelude.{◌≤◌};

@@ -21,7 +21,8 @@ explained : (k : ℕ) (words : List Text) (app : App) (error : Error) (fault : U
     → Names words app → HasKind (fault_of app words) error → Becomes error fault → Explains words fault
 explained k words app error fault lt at named has (inl memory) = subst (Explains words) (sym memory.1) tt
 explained k words app error fault lt at named (inl is) (inr other) = absurd (other.0 is)
-explained k words app error fault lt at named (inr among) (inr other) = subst (Explains words) (sym other.1) (k, app, lt, at, (named, among))
+explained k words app error fault lt at named (inr among) (inr other) =
+    subst (Explains words) (sym other.1) (k, app, lt, at, (named, among))
 
 -- the same of a result that passes the error up, by the clause `kinds` of the parse; `given` is the
 -- command that clap was given
@@ -30,5 +31,6 @@ pub passed_up : (k : ℕ) (words : List Text) (given app : App) (error : Error) 
     → Names words app → (is_simple_and_free given ≡ true → HasKind (fault_of given words) error)
     → IsErrAnd r (Becomes error) → IfErr r (Explains words)
 passed_up k words given app error (Ok command) lt at same simple named kinds becomes = tt
-passed_up k words given app error (Err fault) lt at same simple named kinds becomes = explained k words app error fault lt at named
+passed_up k words given app error (Err fault) lt at same simple named kinds becomes =
+    explained k words app error fault lt at named
     (subst (λ a. HasKind (fault_of a words) error) same (kinds (ap is_simple_and_free same ∙ simple))) becomes

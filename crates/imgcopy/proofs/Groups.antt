@@ -11,20 +11,27 @@ abbrev pub group : List Page → ℕ → ℕ → List Page
 group pages first count = take (first + count - first) (drop first pages)
 
 front : (pages : List Page) (first count : ℕ) → take first pages ++ group pages first count ≡ take (first + count) pages
-front pages first count = grow pages (take first pages) (group pages first count) first (first + count) (omega arith) refl refl
+front pages first count = grow pages (take first pages) (group pages first count) first (first + count)
+    (omega arith) refl refl
 
 -- the bytes of the pages so far and of the group are those of the pages up to its end
-pub further : (pages : List Page) (first count : ℕ) → volume_bytes (take first pages) ++ volume_bytes (group pages first count) ≡ volume_bytes (take (first + count) pages)
+pub further : (pages : List Page) (first count : ℕ)
+    → volume_bytes (take first pages) ++ volume_bytes (group pages first count)
+    ≡ volume_bytes (take (first + count) pages)
 further pages first count =
-    sym (flat_map-append page_bytes (take first pages) (group pages first count)) ∙ ap volume_bytes (front pages first count)
+    sym (flat_map-append page_bytes (take first pages) (group pages first count))
+        ∙ ap volume_bytes (front pages first count)
 
 -- and with the pages behind it those of all
 pub whole : (pages : List Page) (first count : ℕ)
-    → volume_bytes (take first pages) ++ (volume_bytes (group pages first count) ++ volume_bytes (drop (first + count) pages)) ≡ volume_bytes pages
+    → volume_bytes (take first pages) ++ (volume_bytes (group pages first count)
+        ++ volume_bytes (drop (first + count) pages)) ≡ volume_bytes pages
 whole pages first count =
-    sym (append_assoc (volume_bytes (take first pages)) (volume_bytes (group pages first count)) (volume_bytes (drop (first + count) pages)))
+    sym (append_assoc (volume_bytes (take first pages)) (volume_bytes (group pages first count))
+        (volume_bytes (drop (first + count) pages)))
     ∙ ap (λ (bs : List ℕ). bs ++ volume_bytes (drop (first + count) pages)) (further pages first count)
-    ∙ sym (flat_map-append page_bytes (take (first + count) pages) (drop (first + count) pages)) ∙ ap volume_bytes (take-append-drop (first + count) pages)
+    ∙ sym (flat_map-append page_bytes (take (first + count) pages) (drop (first + count) pages))
+        ∙ ap volume_bytes (take-append-drop (first + count) pages)
 
 -- a front of the middle of three lists
 pub into : (a b c : List ℕ) (m n : ℕ) → m ≡ length a → n ≤ length b → a ++ take n b ≡ take (m + n) (a ++ (b ++ c))
@@ -32,4 +39,5 @@ into a b c m n start fits =
     let xs = a ++ (b ++ c) in
     let wide : m + n - m ≡ n = omega arith in
     grow xs a (take n b) m (m + n) (omega arith) (sym (take_at a (b ++ c) m (sym start)))
-    (sym (ap (λ k. take k (drop m xs)) wide ∙ ap (take n) (drop_at a (b ++ c) m (sym start)) ∙ take-append-le n b c fits))
+    (sym (ap (λ k. take k (drop m xs)) wide ∙ ap (take n) (drop_at a (b ++ c) m (sym start))
+        ∙ take-append-le n b c fits))

@@ -1,5 +1,6 @@
 -- `clap` takes `redo` alone, and `redo --`, and no other words of `redo`.
-use Rattle.std.proofs.Common.{◌≡◌, ◌⊎◌, ℕ, Bool, true, false, List, [], ◌∷◌, Option, Some, None, refl, inl, inr, codes, ap, sym, subst, ◌∙◌, cond, length}
+use Rattle.std.proofs.Common.{◌≡◌, ◌⊎◌, ℕ, Bool, true, false, List, [], ◌∷◌, Option, Some, None, refl, inl, inr, codes}
+use Rattle.std.proofs.Common.{ap, sym, subst, ◌∙◌, cond, length}
 use Rattle.std.specs.Prelude.{◌&&◌, not, is_some, find, slice_get}
 use Rattle.std.specs.Option.{option_map_or}
 use Rattle.std.specs.Str.{bytes_eq, chars}
@@ -9,8 +10,10 @@ use Rattle.clap.specs.Words.{Rule, Shape, Text, built, fault_of}
 use Rattle.clap.specs.Kinds.{Kinds, or_else}
 use Rattle.clap.specs.Lexer.{long_of, short_of}
 use Rattle.clap.specs.Simple.{filled, help_rule}
-use Rattle.clap.specs.Walk.{Held, Step, after_flag, arg_by_long, arg_by_short, bundle_met, bundle_step, has_long, has_short, idle, long_or_other, nothing_held, plain, short_or_plain, trailing}
-use Rattle.clap.specs.Faults.{bundle_fault, bundle_step_fault, flag_word_fault, flags_fault, long_fault, short_fault, step_fault}
+use Rattle.clap.specs.Walk.{Held, Step, after_flag, arg_by_long, arg_by_short, bundle_met, bundle_step, has_long}
+use Rattle.clap.specs.Walk.{has_short, idle, long_or_other, nothing_held, plain, short_or_plain, trailing}
+use Rattle.clap.specs.Faults.{bundle_fault, bundle_step_fault, flag_word_fault, flags_fault, long_fault, short_fault}
+use Rattle.clap.specs.Faults.{step_fault}
 use Rattle.clap.specs.declared.error.kind.ErrorKind.{ErrorKind}
 use Rattle.clap.proofs.OnLiterals.{clap_on_literals}
 use Rattle.imgcopy.specs.Command.{Gives, IsRedo, redo_app}
@@ -43,7 +46,8 @@ first_empty [] b e = refl
 first_empty (k ∷ ks) b e = e
 
 find_one : (test : Rule → Bool) (a : Rule) → (find test (a ∷ []) ≡ Some a) ⊎ (find test (a ∷ []) ≡ None)
-find_one test a = elim (test a) as (λ b. (cond b (Some a) None ≡ Some a) ⊎ (cond b (Some a) None ≡ None)) [ true ↦ inl refl | false ↦ inr refl ]
+find_one test a = elim (test a) as (λ b. (cond b (Some a) None ≡ Some a)
+    ⊎ (cond b (Some a) None ≡ None)) [ true ↦ inl refl | false ↦ inr refl ]
 
 -- ---- a word of two hyphens and more
 
@@ -51,16 +55,20 @@ help_refused : (value : Option Text) → long_fault rules false (Some help) valu
 help_refused None e = not_empty _ _ e
 help_refused (Some v) e = not_empty _ _ e
 
-long_refused : (found : Option Rule) (value : Option Text) → (found ≡ Some help) ⊎ (found ≡ None) → long_fault rules false found value nothing_held ≡ [] → ⊥
-long_refused found value (inl is) e = help_refused value (ap (λ o. long_fault rules false o value nothing_held) (sym is) ∙ e)
+long_refused : (found : Option Rule) (value : Option Text) → (found ≡ Some help) ⊎ (found ≡ None)
+    → long_fault rules false found value nothing_held ≡ [] → ⊥
+long_refused found value (inl is) e = help_refused value
+    (ap (λ o. long_fault rules false o value nothing_held) (sym is) ∙ e)
 long_refused found value (inr is) e = not_empty _ _ (ap (λ o. long_fault rules false o value nothing_held) (sym is) ∙ e)
 
 -- ---- a word of one hyphen
 
 short_refused : (found : Option Rule) (rest : Text) (next : Held → Kinds) → (found ≡ Some help) ⊎ (found ≡ None)
     → short_fault rules false found rest nothing_held next ≡ [] → ⊥
-short_refused found rest next (inl is) e = not_empty _ _ (ap (λ o. short_fault rules false o rest nothing_held next) (sym is) ∙ e)
-short_refused found rest next (inr is) e = not_empty _ _ (ap (λ o. short_fault rules false o rest nothing_held next) (sym is) ∙ e)
+short_refused found rest next (inl is) e =
+    not_empty _ _ (ap (λ o. short_fault rules false o rest nothing_held next) (sym is) ∙ e)
+short_refused found rest next (inr is) e =
+    not_empty _ _ (ap (λ o. short_fault rules false o rest nothing_held next) (sym is) ∙ e)
 
 -- the faults of a word, and of what it was taken for
 abbrev turn : Kinds → Held × Step → Kinds
@@ -68,38 +76,47 @@ turn faults met = or_else faults (step_fault redo_shape 1 met.0 met.1)
 
 bundle_refused : (word flags : Text) (k : ℕ) (first : Option ℕ)
     → turn (bundle_step_fault rules false first flags 0 nothing_held (flags_fault rules false k))
-    (let met = bundle_step rules first flags 0 plain nothing_held (bundle_met rules k) in after_flag rules idle word met.0 met.1) ≡ [] → ⊥
+    (let met = bundle_step rules first flags 0 plain nothing_held (bundle_met rules k) in
+        after_flag rules idle word met.0 met.1) ≡ [] → ⊥
 bundle_refused word flags k None e = not_empty _ _ e
 bundle_refused word flags k (Some x) e =
-    short_refused (arg_by_short rules x) _ _ (find_one (λ a. not (is_some a.index) && has_short a x) help) (first_empty _ _ e)
+    short_refused (arg_by_short rules x) _ _ (find_one (λ a. not (is_some a.index) && has_short a x) help)
+        (first_empty _ _ e)
 
 short_or_plain_refused : (word : Text) (flags : Option Text)
-    → turn (option_map_or (λ f. bundle_fault rules false f nothing_held) flags []) (short_or_plain rules idle word flags nothing_held) ≡ [] → ⊥
+    → turn (option_map_or (λ f. bundle_fault rules false f nothing_held) flags [])
+        (short_or_plain rules idle word flags nothing_held) ≡ [] → ⊥
 unfolding clap_on_literals
 short_or_plain_refused word None e = not_empty _ _ e
 short_or_plain_refused word (Some []) e = not_empty _ _ e
-short_or_plain_refused word (Some (b ∷ bs)) e = bundle_refused word (b ∷ bs) (length bs) (slice_get (chars (b ∷ bs)) 0) e
+short_or_plain_refused word (Some (b ∷ bs)) e =
+    bundle_refused word (b ∷ bs) (length bs) (slice_get (chars (b ∷ bs)) 0) e
 
 -- ---- a word that is not `--`
 
 flag_refused : (word : Text) (name : Option (Text × Option Text))
-    → turn (flag_word_fault rules false name word nothing_held) (long_or_other rules idle word name nothing_held) ≡ [] → ⊥
+    → turn (flag_word_fault rules false name word nothing_held) (long_or_other rules idle word name nothing_held) ≡ []
+        → ⊥
 unfolding clap_on_literals
 flag_refused word (Some p) e =
-    long_refused (arg_by_long rules p.0) p.1 (find_one (λ a. not (is_some a.index) && has_long a p.0) help) (first_empty _ _ e)
+    long_refused (arg_by_long rules p.0) p.1 (find_one (λ a. not (is_some a.index) && has_long a p.0) help)
+        (first_empty _ _ e)
 flag_refused word None e = short_or_plain_refused word (short_of word) e
 
 word_is_dashes : (word : Text) (is_dashes : Bool)
     → turn (cond is_dashes [] (flag_word_fault rules false (long_of word) word nothing_held))
-    (cond is_dashes (nothing_held, trailing 1) (long_or_other rules idle word (long_of word) nothing_held)) ≡ [] → is_dashes ≡ true
+    (cond is_dashes (nothing_held, trailing 1) (long_or_other rules idle word (long_of word) nothing_held)) ≡ []
+        → is_dashes ≡ true
 word_is_dashes word true e = refl
 word_is_dashes word false e = absurd (flag_refused word (long_of word) e)
 
 -- ---- the words
 
-first_is_dashes : (name word : Text) (rest : List Text) → fault_of redo_app (name ∷ word ∷ rest) ≡ [] → bytes_eq word (codes "--") ≡ true
+first_is_dashes : (name word : Text) (rest : List Text) → fault_of redo_app (name ∷ word ∷ rest) ≡ []
+    → bytes_eq word (codes "--") ≡ true
 unfolding clap_on_literals
-first_is_dashes name word rest e = word_is_dashes word (bytes_eq word (codes "--")) (first_empty _ _ (first_empty _ _ e))
+first_is_dashes name word rest e = word_is_dashes word (bytes_eq word (codes "--"))
+    (first_empty _ _ (first_empty _ _ e))
 
 none_after_dashes : (name : Text) (rest : List Text) → fault_of redo_app (name ∷ codes "--" ∷ rest) ≡ [] → rest ≡ []
 unfolding clap_on_literals
@@ -111,8 +128,10 @@ redo_words [] named taken = absurd (none-some _ named)
 redo_words (name ∷ []) named taken = inl (ap (λ n. n ∷ []) (same_Some _ _ named))
 redo_words (name ∷ word ∷ rest) named taken =
     let dashes : word ≡ codes "--" = (bytes_eq-Decides word (codes "--")).0 (first_is_dashes name word rest taken) in
-    let none : rest ≡ [] = none_after_dashes name rest (ap (λ w. fault_of redo_app (name ∷ w ∷ rest)) (sym dashes) ∙ taken) in
-    inr (ap (λ n. n ∷ word ∷ rest) (same_Some _ _ named) ∙ ap (λ w. codes "redo" ∷ w ∷ rest) dashes ∙ ap (λ ws. codes "redo" ∷ codes "--" ∷ ws) none)
+    let none : rest ≡ [] = none_after_dashes name rest
+        (ap (λ w. fault_of redo_app (name ∷ w ∷ rest)) (sym dashes) ∙ taken) in
+    inr (ap (λ n. n ∷ word ∷ rest) (same_Some _ _ named) ∙ ap (λ w. codes "redo" ∷ w ∷ rest) dashes
+        ∙ ap (λ ws. codes "redo" ∷ codes "--" ∷ ws) none)
 
 pub given_redo : (words : List Text) (command : Command) → Gives words command → command ≡ Redo → IsRedo words
 given_redo words command given is = let P : Command → Type 0 = Gives words in

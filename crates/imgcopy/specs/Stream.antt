@@ -23,7 +23,8 @@ pub record WritesVolume (input old new : Option (List ℕ)) : Type 0 where
   pub read : IfSome input (SpellsLog made_of)
   pub written : Appends old new (volume_of made_of)
 
--- the input spells a linked log, and the first bytes of its volume were written, so many but not all, and nothing else
+-- the input spells a linked log, and the first bytes of its volume were written, so many but not
+-- all, and nothing else
 pub record WritesPart (input old new : Option (List ℕ)) (done : ℕ) : Type 0 where
   pub made_of : Log
   pub valid : IsLog made_of

@@ -17,8 +17,8 @@ const MAX_INTERRUPTIONS: u32 = 16;
 /// How many pages are written at once.
 const BUFFER_PAGES: usize = 512;
 
-/// Reads a log to its end, and writes the volume that it makes of formatted pages. Nothing is written
-/// before the log is read whole and found right.
+/// Reads a log to its end, and writes the volume that it makes of formatted pages. Nothing is
+/// written before the log is read whole and found right.
 ///
 /// The faults of reading are those of `scan_log`. `WriteFault` comes where the writer fails, takes
 /// nothing, or is interrupted 17 times in a row. The writer is not flushed.
@@ -44,10 +44,12 @@ pub fn redo_stream<R: Read, W: Write>(
 /// Writes the bytes of the pages, a buffer at a time. At `Err` so many of them went out.
 fn write_pages<W: Write>(writer: &mut W, pages: &[Page], buffer: &mut [u8]) -> Result<(), u64>
     requires { PAGE_BYTES ≤ length buffer.old }
-    ensures ok { OnOk result (Appends (W.contents writer.old) (W.contents writer.new) (volume_bytes pages.now)) }
+    ensures ok { OnOk result (Appends (W.contents writer.old) (W.contents writer.new)
+        (volume_bytes pages.now)) }
     ensures within { IfErr result (λ done. done < length (volume_bytes pages.now)) }
     ensures err { IfErr result (λ done.
-        Appends (W.contents writer.old) (W.contents writer.new) (take done (volume_bytes pages.now))) }
+        Appends (W.contents writer.old) (W.contents writer.new)
+            (take done (volume_bytes pages.now))) }
 {
     let group = buffer.len() / PAGE_BYTES;
     let mut first = 0;

@@ -1,21 +1,26 @@
 -- Which fault is the first.
-use Rattle.std.proofs.Common.{◌≡◌, ℕ, ◌+◌, ◌-◌, ◌*◌, ◌/◌, ◌%◌, ◌<◌, ◌≤◌, List, [], ◌∷◌, ◌≢◌, length, get_or, take, drop, refl, sym, ap, subst, ◌∙◌, arith, inl, inr}
+use Rattle.std.proofs.Common.{◌≡◌, ℕ, ◌+◌, ◌-◌, ◌*◌, ◌/◌, ◌%◌, ◌<◌, ◌≤◌, List, [], ◌∷◌, ◌≢◌, length, get_or, take, drop}
+use Rattle.std.proofs.Common.{refl, sym, ap, subst, ◌∙◌, arith, inl, inr}
 use Rattle.std.specs.Prelude.{slice_range}
 use Rattle.std.proofs.lemmas.Bool.{cases_lt}
 use Rattle.std.proofs.lemmas.List.{get_or-take, length-drop, length-take, same_lists, take-append-drop}
 use Rattle.log_store.proofs.Records.{record_length, same_record}
 use Rattle.log_store.specs.declared.fault.LogReadFault.{LogReadFault}
-use Rattle.log_store.specs.declared.fault.LogReadFault.TheVariants.{OutOfMemory, BadHeader, BadRecord, BadChain, Torn, ReadFault, TooLong}
+use Rattle.log_store.specs.declared.fault.LogReadFault.TheVariants.{OutOfMemory, BadHeader, BadRecord, BadChain, Torn}
+use Rattle.log_store.specs.declared.fault.LogReadFault.TheVariants.{ReadFault, TooLong}
 use Rattle.log_store.specs.declared.limits.TheConstants.{MAX_LOG_BYTES}
 use Rattle.log_store.specs.declared.record.Record.{Record}
 use Rattle.log_store.specs.Record.{IsRecord, record_bytes}
 use Rattle.log_store.specs.Log.{Log, StandsAt, SpellsLog, HasHeader, lsn_of}
 use Rattle.log_store.specs.Linked.{IsLinked, MayFollow}
-use Rattle.log_store.specs.Fault.{BreaksChain, IsPlace, IsHeader, HasRecord, HasFault, IsFirstFault, offset_of, pages_in}
-use Rattle.log_store.proofs.Logs.{AreFirst, range_in, whole_records, pages_in-header, length-log, header_of_log, record_of_log}
+use Rattle.log_store.specs.Fault.{BreaksChain, IsPlace, IsHeader, HasRecord, HasFault, IsFirstFault, offset_of}
+use Rattle.log_store.specs.Fault.{pages_in}
+use Rattle.log_store.proofs.Logs.{AreFirst, range_in, whole_records, pages_in-header, length-log, header_of_log}
+use Rattle.log_store.proofs.Logs.{record_of_log}
 
 -- a record that stands at an LSN, as a fault's absence says it
-pub has_record : (pages : ℕ) (bytes : List ℕ) → HasHeader pages bytes → (i : ℕ) (r : Record) → StandsAt pages (lsn_of i) r
+pub has_record : (pages : ℕ) (bytes : List ℕ) → HasHeader pages bytes → (i : ℕ) (r : Record)
+    → StandsAt pages (lsn_of i) r
     → slice_range bytes (lsn_of i) (lsn_of i + 64) ≡ record_bytes r → (at : ℕ) → at ≡ lsn_of i → HasRecord bytes at
 has_record pages bytes header i r stands spelled at place =
     let count : pages_in bytes ≡ pages = pages_in-header pages bytes header.count.most header.spelled in (
@@ -27,7 +32,8 @@ has_record pages bytes header i r stands spelled at place =
 -- no place among the first records is at fault
 none_before : (n pages : ℕ) (bytes : List ℕ) (rs : List Record) → HasHeader pages bytes → AreFirst n pages bytes rs
     → (at : ℕ) → IsPlace at → at < lsn_of n → HasRecord bytes at
-none_before n pages bytes [] header first at place lt = let h1 = place.aligned in let h2 = place.past_header in absurd (omega (arith, first.count))
+none_before n pages bytes [] header first at place lt = let h1 = place.aligned in let h2 = place.past_header in
+    absurd (omega (arith, first.count))
 none_before n pages bytes (r ∷ rs) header first at place lt =
     let i : ℕ = at / 64 - 1 in
     let h1 = place.aligned in
@@ -48,14 +54,16 @@ break_at bytes at b =
     (fits, omega (arith, fits, length-take at bytes, length-log b.before (take at bytes) b.spells))
 
 -- a part of a beginning is a part of the bytes
-range_of_front : (bytes : List ℕ) (n a b : ℕ) → a ≤ b → b ≤ n → n ≤ length bytes → slice_range (take n bytes) a b ≡ slice_range bytes a b
+range_of_front : (bytes : List ℕ) (n a b : ℕ) → a ≤ b → b ≤ n → n ≤ length bytes
+    → slice_range (take n bytes) a b ≡ slice_range bytes a b
 range_of_front bytes n a b le within long =
     let front = take n bytes in
     sym (range_in front (drop n bytes) a b le (omega (arith, length-take n bytes)))
     ∙ ap (λ (bs : List ℕ). slice_range bs a b) (take-append-drop n bytes)
 
 -- no record among the first ones breaks the chain
-unbroken : (n pages : ℕ) (bytes : List ℕ) (rs : List Record) → AreFirst n pages bytes rs → (at : ℕ) → BreaksChain bytes at → lsn_of n ≤ at
+unbroken : (n pages : ℕ) (bytes : List ℕ) (rs : List Record) → AreFirst n pages bytes rs → (at : ℕ)
+    → BreaksChain bytes at → lsn_of n ≤ at
 unbroken n pages bytes rs first at b =
     let place = break_at bytes at b in
     let m = length b.before.records in
@@ -65,7 +73,8 @@ unbroken n pages bytes rs first at b =
           let r = get_or rs m b.there in
           let reached : at ≡ lsn_of m = place.1 in
           let count : length rs ≡ n = first.count in
-          let before_is : b.before.records ≡ take m rs = same_lists b.before.records (take m rs) (omega (arith, length-take m rs))
+          let before_is : b.before.records ≡ take m rs =
+          same_lists b.before.records (take m rs) (omega (arith, length-take m rs))
           (λ k d lt.
           let within : k < n = omega arith in
           same_record (get_or b.before.records k d) (get_or (take m rs) k d) (b.spells.valid.records k d lt).valid
@@ -93,7 +102,8 @@ record IsSoundBefore (bytes : List ℕ) (end : ℕ) : Type 0 where
   chain : (at : ℕ) → BreaksChain bytes at → end ≤ at
   short : MAX_LOG_BYTES < length bytes → end ≤ MAX_LOG_BYTES
 
-comes_after : (bytes : List ℕ) (end : ℕ) → IsSoundBefore bytes end → (other : LogReadFault) → HasFault bytes other → end ≤ offset_of other
+comes_after : (bytes : List ℕ) (end : ℕ) → IsSoundBefore bytes end → (other : LogReadFault) → HasFault bytes other
+    → end ≤ offset_of other
 comes_after bytes end sound OutOfMemory h = absurd h
 comes_after bytes end sound ReadFault h = absurd h
 comes_after bytes end sound BadHeader h = absurd (h sound.header)
@@ -128,7 +138,8 @@ first_record i pages bytes rs header first few long none = record {
 }
 
 -- a record that may not follow those before it
-pub first_chain : (i pages : ℕ) (bytes : List ℕ) (rs : List Record) → HasHeader pages bytes → AreFirst i pages bytes rs → i < 1048576
+pub first_chain : (i pages : ℕ) (bytes : List ℕ) (rs : List Record) → HasHeader pages bytes → AreFirst i pages bytes rs
+    → i < 1048576
     → BreaksChain bytes (lsn_of i) → IsFirstFault bytes (BadChain (lsn_of i))
 first_chain i pages bytes rs header first few b =
     let long = (break_at bytes (lsn_of i) b).0 in
@@ -148,28 +159,37 @@ record AreWhole (pages : ℕ) (bytes : List ℕ) (rs : List Record) : Type 0 whe
   header : HasHeader pages bytes
   first : AreFirst (whole_records bytes) pages bytes rs
 
-pub first_too_long : (pages : ℕ) (bytes : List ℕ) (rs : List Record) → HasHeader pages bytes → AreFirst (whole_records bytes) pages bytes rs
+pub first_too_long : (pages : ℕ) (bytes : List ℕ) (rs : List Record) → HasHeader pages bytes
+    → AreFirst (whole_records bytes) pages bytes rs
     → MAX_LOG_BYTES < length bytes → IsFirstFault bytes TooLong
 first_too_long pages bytes rs header first long = record {
   there = long;
   first = comes_after bytes MAX_LOG_BYTES (record {
     header = has_header pages bytes header;
-    records = λ at place fits lt. let h1 = place.aligned in none_before (whole_records bytes) pages bytes rs header first at place (omega arith);
+    records = λ at place fits lt. let h1 = place.aligned in
+        none_before (whole_records bytes) pages bytes rs header first at place (omega arith);
     whole = λ at place lt torn. let h1 = place.aligned in let h2 = place.in_longest in omega arith;
     chain = λ at b. let past = unbroken (whole_records bytes) pages bytes rs first at b in omega arith;
     short = λ lt. omega arith;
   });
 }
 
-pub first_torn : (pages : ℕ) (bytes : List ℕ) (rs : List Record) → HasHeader pages bytes → AreFirst (whole_records bytes) pages bytes rs
-    → length bytes ≤ MAX_LOG_BYTES → (at : ℕ) → at ≡ length bytes / 64 * 64 → length bytes % 64 ≢ 0 → IsFirstFault bytes (Torn at)
+pub first_torn : (pages : ℕ) (bytes : List ℕ) (rs : List Record) → HasHeader pages bytes
+    → AreFirst (whole_records bytes) pages bytes rs
+    → length bytes ≤ MAX_LOG_BYTES → (at : ℕ) → at ≡ length bytes / 64 * 64 → length bytes % 64 ≢ 0
+    → IsFirstFault bytes (Torn at)
 first_torn pages bytes rs header first short at place torn =
     let long = header.long in
     record {
-      there = (record { aligned = omega arith; past_header = omega arith; in_longest = omega arith }, omega arith, omega arith);
+      there = (
+        record { aligned = omega arith; past_header = omega arith; in_longest = omega arith },
+        omega arith,
+        omega arith,
+      );
       first = comes_after bytes at (record {
         header = has_header pages bytes header;
-        records = λ other other_place fits lt. let h1 = other_place.aligned in none_before (whole_records bytes) pages bytes rs header first other other_place (omega arith);
+        records = λ other other_place fits lt. let h1 = other_place.aligned in
+            none_before (whole_records bytes) pages bytes rs header first other other_place (omega arith);
         whole = λ other other_place lt short. let h1 = other_place.aligned in omega arith;
         chain = λ other b. let past = unbroken (whole_records bytes) pages bytes rs first other b in omega arith;
         short = λ lt. absurd (omega arith);
@@ -180,22 +200,26 @@ first_torn pages bytes rs header first short at place torn =
 
 log_has : (log : Log) (bytes : List ℕ) → SpellsLog log bytes → (at : ℕ) → IsPlace at → at + 64 ≤ length bytes
     → (rs : List Record) → log.records ≡ rs → HasRecord bytes at
-log_has log bytes spells at place fits [] e = let h = place.past_header in absurd (omega (arith, ap length e, length-log log bytes spells))
+log_has log bytes spells at place fits [] e = let h = place.past_header in
+    absurd (omega (arith, ap length e, length-log log bytes spells))
 log_has log bytes spells at place fits (r ∷ rs) e =
     let i : ℕ = at / 64 - 1 in
     let h1 = place.aligned in
     let h2 = place.past_header in
     let stands : at ≡ lsn_of i = omega arith in
     let below : i < length log.records = omega (arith, length-log log bytes spells) in
-    let count : pages_in bytes ≡ log.pages = pages_in-header log.pages bytes spells.valid.pages.most (header_of_log log bytes spells) in
+    let count : pages_in bytes ≡ log.pages =
+    pages_in-header log.pages bytes spells.valid.pages.most (header_of_log log bytes spells) in
     let s = get_or log.records i r in (
       s,
-      subst (λ n. StandsAt n at s) (sym count) (subst (λ n. StandsAt log.pages n s) (sym stands) (spells.valid.records i r below)),
+      subst (λ n. StandsAt n at s) (sym count)
+          (subst (λ n. StandsAt log.pages n s) (sym stands) (spells.valid.records i r below)),
       ap (λ n. slice_range bytes n (n + 64)) stands ∙ record_of_log log bytes spells i r below,
     )
 
 -- the records of a log are the first ones of its bytes
-pub first_in_log : (log : Log) (bytes : List ℕ) → SpellsLog log bytes → IsLinked log.records → AreFirst (length log.records) log.pages bytes log.records
+pub first_in_log : (log : Log) (bytes : List ℕ) → SpellsLog log bytes → IsLinked log.records
+    → AreFirst (length log.records) log.pages bytes log.records
 first_in_log log bytes spells linked = record {
   count = refl;
   each = spells.valid.records;
@@ -203,7 +227,8 @@ first_in_log log bytes spells linked = record {
   linked = linked;
 }
 
-pub none_in_log : (log : Log) (bytes : List ℕ) → SpellsLog log bytes → IsLinked log.records → (fault : LogReadFault) → HasFault bytes fault → ⊥
+pub none_in_log : (log : Log) (bytes : List ℕ) → SpellsLog log bytes → IsLinked log.records → (fault : LogReadFault)
+    → HasFault bytes fault → ⊥
 none_in_log log bytes spells linked OutOfMemory h = h
 none_in_log log bytes spells linked ReadFault h = h
 none_in_log log bytes spells linked (BadChain at) h =

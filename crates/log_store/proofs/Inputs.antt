@@ -1,29 +1,44 @@
 -- What a fault of the bytes so far says of the whole input.
-use Rattle.std.proofs.Common.{◌≡◌, ℕ, ◌+◌, ◌-◌, ◌<◌, ◌≤◌, List, [], ◌++◌, length, take, drop, sym, ap, subst, ◌∙◌, arith, inl, inr}
+use Rattle.std.proofs.Common.{◌≡◌, ℕ, ◌+◌, ◌-◌, ◌<◌, ◌≤◌, List, [], ◌++◌, length, take, drop, sym, ap, subst, ◌∙◌}
+use Rattle.std.proofs.Common.{arith, inl, inr}
 use Rattle.std.proofs.lemmas.Bool.{cases_lt}
 use Rattle.std.specs.Prelude.{slice_range, Option, Some, None, IfSome}
 use Rattle.std.specs.Int.{w32, from_le_bytes}
 use Rattle.std.specs.Io.KnownBytes.{Consumes, IsAtEnd}
 use Rattle.std.proofs.lemmas.List.{take-append-le, drop-append-le, length-append, length-drop, length-take, append-nil}
 use Rattle.log_store.specs.declared.fault.LogReadFault.{LogReadFault}
-use Rattle.log_store.specs.declared.fault.LogReadFault.TheVariants.{OutOfMemory, BadHeader, BadRecord, BadChain, Torn, ReadFault, TooLong}
+use Rattle.log_store.specs.declared.fault.LogReadFault.TheVariants.{OutOfMemory, BadHeader, BadRecord, BadChain, Torn}
+use Rattle.log_store.specs.declared.fault.LogReadFault.TheVariants.{ReadFault, TooLong}
 use Rattle.log_store.specs.declared.limits.TheConstants.{MAX_LOG_BYTES}
 use Rattle.log_store.specs.Log.{Log, SpellsLog, StandsAt}
 use Rattle.log_store.specs.Linked.{IsLinked}
-use Rattle.log_store.specs.Fault.{BreaksChain, IsPlace, IsHeader, HasRecord, HasFault, IsFirstFault, IsHeld, HoldsNoFault, Refuses, IsOutside, offset_of, pages_in}
+use Rattle.log_store.specs.Fault.{BreaksChain, IsPlace, IsHeader, HasRecord, HasFault, IsFirstFault, IsHeld}
+use Rattle.log_store.specs.Fault.{HoldsNoFault, Refuses, IsOutside, offset_of, pages_in}
 use Rattle.log_store.proofs.Logs.{length-header_bytes, range_in}
 use Rattle.log_store.proofs.Faults.{break_at, first_header, none_in_log}
 
 -- of a record that lies within what was given
-more_has : (given rest : List ℕ) (at : ℕ) → 12 ≤ length given → at + 64 ≤ length given → HasRecord given at → HasRecord (given ++ rest) at
+more_has : (given rest : List ℕ) (at : ℕ) → 12 ≤ length given → at + 64 ≤ length given → HasRecord given at
+    → HasRecord (given ++ rest) at
 more_has given rest at long fits has =
-    let count : pages_in (given ++ rest) ≡ pages_in given = ap (from_le_bytes w32) (range_in given rest 8 12 (omega arith) long) in
-    (has.0, subst (λ n. StandsAt n at has.0) (sym count) has.1, range_in given rest at (at + 64) (omega arith) fits ∙ has.2)
+    let count : pages_in (given ++ rest) ≡ pages_in given =
+    ap (from_le_bytes w32) (range_in given rest 8 12 (omega arith) long) in (
+      has.0,
+      subst (λ n. StandsAt n at has.0) (sym count) has.1,
+      range_in given rest at (at + 64) (omega arith) fits
+          ∙ has.2,
+    )
 
-less_has : (given rest : List ℕ) (at : ℕ) → 12 ≤ length given → at + 64 ≤ length given → HasRecord (given ++ rest) at → HasRecord given at
+less_has : (given rest : List ℕ) (at : ℕ) → 12 ≤ length given → at + 64 ≤ length given → HasRecord (given ++ rest) at
+    → HasRecord given at
 less_has given rest at long fits has =
-    let count : pages_in (given ++ rest) ≡ pages_in given = ap (from_le_bytes w32) (range_in given rest 8 12 (omega arith) long) in
-    (has.0, subst (λ n. StandsAt n at has.0) count has.1, sym (range_in given rest at (at + 64) (omega arith) fits) ∙ has.2)
+    let count : pages_in (given ++ rest) ≡ pages_in given =
+    ap (from_le_bytes w32) (range_in given rest 8 12 (omega arith) long) in (
+      has.0,
+      subst (λ n. StandsAt n at has.0) count has.1,
+      sym (range_in given rest at (at + 64) (omega arith) fits)
+          ∙ has.2,
+    )
 
 -- of a break of the chain there
 more_breaks : (given rest : List ℕ) (at : ℕ) → BreaksChain given at → BreaksChain (given ++ rest) at
@@ -40,7 +55,8 @@ more_breaks given rest at b =
       breaks = b.breaks;
     }
 
-less_breaks : (given rest : List ℕ) (at : ℕ) → at + 64 ≤ length given → BreaksChain (given ++ rest) at → BreaksChain given at
+less_breaks : (given rest : List ℕ) (at : ℕ) → at + 64 ≤ length given → BreaksChain (given ++ rest) at
+    → BreaksChain given at
 less_breaks given rest at fits b = record {
   place = b.place;
   before = b.before;
@@ -56,7 +72,8 @@ less_breaks given rest at fits b = record {
 header_fault : (given rest : List ℕ) → 64 ≤ length given → HasFault (given ++ rest) BadHeader → HasFault given BadHeader
 header_fault given rest long h = λ header. h (subst IsHeader (sym (take-append-le 64 given rest long)) header)
 
-record_fault : (given rest : List ℕ) (at : ℕ) → at + 64 ≤ length given → HasFault (given ++ rest) (BadRecord at) → HasFault given (BadRecord at)
+record_fault : (given rest : List ℕ) (at : ℕ) → at + 64 ≤ length given → HasFault (given ++ rest) (BadRecord at)
+    → HasFault given (BadRecord at)
 record_fault given rest at fits h =
     let place = h.0.past_header in
     (h.0, fits, λ has. h.2 (more_has given rest at (omega arith) fits has))
@@ -64,7 +81,8 @@ record_fault given rest at fits h =
 -- nothing of the input comes before the first fault of what was given, where that does not come of its end
 comes_later : (given rest : List ℕ) (end : ℕ) → 64 ≤ length given → end ≤ length given → end ≤ MAX_LOG_BYTES
     → ((other : LogReadFault) → HasFault given other → end ≤ offset_of other)
-    → ((at : ℕ) → IsPlace at → at < end → at + 64 ≤ length given) → (other : LogReadFault) → HasFault (given ++ rest) other → end ≤ offset_of other
+    → ((at : ℕ) → IsPlace at → at < end → at + 64 ≤ length given) → (other : LogReadFault)
+    → HasFault (given ++ rest) other → end ≤ offset_of other
 comes_later given rest end long within short first fits OutOfMemory e = absurd e
 comes_later given rest end long within short first fits ReadFault e = absurd e
 comes_later given rest end long within short first fits BadHeader e = first BadHeader (header_fault given rest long e)
@@ -85,13 +103,15 @@ comes_later given rest end long within short first fits (Torn at) e =
     ]
 comes_later given rest end long within short first fits TooLong e = short
 
-pub goes_on_header : (given rest : List ℕ) → 64 ≤ length given → IsFirstFault given BadHeader → IsFirstFault (given ++ rest) BadHeader
+pub goes_on_header : (given rest : List ℕ) → 64 ≤ length given → IsFirstFault given BadHeader
+    → IsFirstFault (given ++ rest) BadHeader
 goes_on_header given rest long h = record {
   there = λ header. h.there (subst IsHeader (take-append-le 64 given rest long) header);
   first = λ other e. omega arith;
 }
 
-goes_on_record : (given rest : List ℕ) (at : ℕ) → IsFirstFault given (BadRecord at) → IsFirstFault (given ++ rest) (BadRecord at)
+goes_on_record : (given rest : List ℕ) (at : ℕ) → IsFirstFault given (BadRecord at)
+    → IsFirstFault (given ++ rest) (BadRecord at)
 goes_on_record given rest at h =
     let place = h.there.0 in
     let past = place.past_header in
@@ -99,11 +119,17 @@ goes_on_record given rest at h =
     let short = place.in_longest in
     let fits = h.there.1 in
     record {
-      there = (place, omega (arith, length-append given rest), λ has. h.there.2 (less_has given rest at (omega arith) fits has));
-      first = comes_later given rest at (omega arith) (omega arith) (omega arith) h.first (λ other other_place lt. let a = other_place.aligned in omega arith);
+      there = (
+        place,
+        omega (arith, length-append given rest),
+        λ has. h.there.2 (less_has given rest at (omega arith) fits has),
+      );
+      first = comes_later given rest at (omega arith) (omega arith) (omega arith) h.first
+          (λ other other_place lt. let a = other_place.aligned in omega arith);
     }
 
-goes_on_chain : (given rest : List ℕ) (at : ℕ) → IsFirstFault given (BadChain at) → IsFirstFault (given ++ rest) (BadChain at)
+goes_on_chain : (given rest : List ℕ) (at : ℕ) → IsFirstFault given (BadChain at)
+    → IsFirstFault (given ++ rest) (BadChain at)
 goes_on_chain given rest at h =
     let place = h.there.place in
     let past = place.past_header in
@@ -131,7 +157,8 @@ IsFaultOf bytes OutOfMemory = Unit {0}
 IsFaultOf bytes ReadFault = ⊥
 IsFaultOf bytes of_the_bytes = IsFirstFault bytes of_the_bytes
 
-pub refuses_more : (given rest : List ℕ) (fault : LogReadFault) → IsFaultOf given fault → IsHeld given fault → Refuses (given ++ rest) fault
+pub refuses_more : (given rest : List ℕ) (fault : LogReadFault) → IsFaultOf given fault → IsHeld given fault
+    → Refuses (given ++ rest) fault
 refuses_more given rest OutOfMemory h held = tt
 refuses_more given rest ReadFault h held = absurd held
 refuses_more given rest BadHeader h held = goes_on_header given rest held h
@@ -140,7 +167,8 @@ refuses_more given rest (BadChain at) h held = goes_on_chain given rest at h
 refuses_more given rest (Torn at) h held = absurd held
 refuses_more given rest TooLong h held = goes_on_too_long given rest h
 
-pub refuses_all : (given rest : List ℕ) (fault : LogReadFault) → IsFaultOf given fault → rest ≡ [] → Refuses (given ++ rest) fault
+pub refuses_all : (given rest : List ℕ) (fault : LogReadFault) → IsFaultOf given fault → rest ≡ []
+    → Refuses (given ++ rest) fault
 refuses_all given rest fault h none = rw (none, append-nil) (same given fault h)
   where
     same : (given : List ℕ) (fault : LogReadFault) → IsFaultOf given fault → Refuses given fault
@@ -153,7 +181,8 @@ refuses_all given rest fault h none = rw (none, append-nil) (same given fault h)
     same given TooLong h = h
 
 -- a fault that comes of the end alone: until there nothing is wrong
-pub none_held : (given : List ℕ) (fault : LogReadFault) → IsFaultOf given fault → (¬ IsHeld given fault) → HoldsNoFault given
+pub none_held : (given : List ℕ) (fault : LogReadFault) → IsFaultOf given fault → (¬ IsHeld given fault)
+    → HoldsNoFault given
 none_held given OutOfMemory h not_held other held e = not_held tt
 none_held given ReadFault h not_held other held e = h
 none_held given BadHeader h not_held BadHeader held e = not_held held
@@ -167,11 +196,13 @@ none_held given BadHeader h not_held ReadFault held e = e
 none_held given BadHeader h not_held (Torn at) held e = held
 none_held given (BadRecord at) h not_held other held e = not_held tt
 none_held given (BadChain at) h not_held other held e = not_held tt
-none_held given (Torn at) h not_held BadHeader held e = let late = h.first BadHeader e in let past = h.there.0.past_header in omega arith
+none_held given (Torn at) h not_held BadHeader held e = let late = h.first BadHeader e in
+    let past = h.there.0.past_header in omega arith
 none_held given (Torn at) h not_held (BadRecord other) held e =
     let late = h.first (BadRecord other) e in let torn = h.there.2 in let fits = e.1 in omega arith
 none_held given (Torn at) h not_held (BadChain other) held e =
-    let late = h.first (BadChain other) e in let torn = h.there.2 in let fits = (break_at given other e).0 in omega arith
+    let late = h.first (BadChain other) e in let torn = h.there.2 in let fits = (break_at given other e).0 in
+    omega arith
 none_held given (Torn at) h not_held TooLong held e =
     let torn = h.there.2 in let short = h.there.0.in_longest in let aligned = h.there.0.aligned in omega arith
 none_held given (Torn at) h not_held OutOfMemory held e = e

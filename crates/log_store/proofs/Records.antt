@@ -63,9 +63,18 @@ plain kind txn prev lsn kind_fits txn_valid prev_fits lsn_valid = record {
 }
 
 -- of a record with one
-changing : (kind txn prev undo_next lsn : ℕ) (c : PageChange) → kind < 2 ^ 32 → IsTxn txn → prev < 2 ^ 64 → undo_next < 2 ^ 64
+changing : (kind txn prev undo_next lsn : ℕ) (c : PageChange) → kind < 2 ^ 32 → IsTxn txn → prev < 2 ^ 64
+    → undo_next < 2 ^ 64
     → IsLsn lsn → IsPageChange c
-    → AreInRange (record (fields_of_change c.change) { kind = kind; txn = txn; prev = prev; undo_next = undo_next; page = c.page; slot = c.slot; lsn = lsn })
+    → AreInRange (record (fields_of_change c.change) {
+      kind = kind;
+      txn = txn;
+      prev = prev;
+      undo_next = undo_next;
+      page = c.page;
+      slot = c.slot;
+      lsn = lsn;
+    })
 changing kind txn prev undo_next lsn c kind_fits txn_valid prev_fits undo_next_fits lsn_valid c_valid =
     let fits = change_in_range c.change c_valid.change in
     record {
@@ -85,7 +94,8 @@ changing kind txn prev undo_next lsn c kind_fits txn_valid prev_fits undo_next_f
 pub in_range : (r : Record) → IsRecord r → AreInRange (fields_of r)
 in_range (Begin lsn txn) valid = plain BEGIN txn 0 lsn (lit< tt) valid.1 (lit< tt) valid.0
 in_range (Update lsn txn prev page slot change) valid =
-    changing UPDATE txn prev (fields_of_change change).undo_next lsn (record { page = page; slot = slot; change = change })
+    changing UPDATE txn prev (fields_of_change change).undo_next lsn
+    (record { page = page; slot = slot; change = change })
     (lit< tt) valid.1 valid.2.place.fits (change_in_range change valid.3.change).undo_next valid.0 valid.3
 in_range (Comp lsn txn prev undo_next page slot change) valid =
     changing COMP txn prev undo_next lsn (record { page = page; slot = slot; change = change })
@@ -101,13 +111,16 @@ record_length = record { each = λ r. refl }
 -- ---- two records with the same bytes are one
 
 same_u16 : (m n : ℕ) → m < 2 ^ 16 → n < 2 ^ 16 → to_le_bytes w16 m ≡ to_le_bytes w16 n → m ≡ n
-same_u16 m n m_fits n_fits e = sym (from_le_bytes-to_le_bytes_2 m m_fits) ∙ ap (from_le_bytes w16) e ∙ from_le_bytes-to_le_bytes_2 n n_fits
+same_u16 m n m_fits n_fits e = sym (from_le_bytes-to_le_bytes_2 m m_fits) ∙ ap (from_le_bytes w16) e
+    ∙ from_le_bytes-to_le_bytes_2 n n_fits
 
 same_u32 : (m n : ℕ) → m < 2 ^ 32 → n < 2 ^ 32 → to_le_bytes w32 m ≡ to_le_bytes w32 n → m ≡ n
-same_u32 m n m_fits n_fits e = sym (from_le_bytes-to_le_bytes_4 m m_fits) ∙ ap (from_le_bytes w32) e ∙ from_le_bytes-to_le_bytes_4 n n_fits
+same_u32 m n m_fits n_fits e = sym (from_le_bytes-to_le_bytes_4 m m_fits) ∙ ap (from_le_bytes w32) e
+    ∙ from_le_bytes-to_le_bytes_4 n n_fits
 
 same_u64 : (m n : ℕ) → m < 2 ^ 64 → n < 2 ^ 64 → to_le_bytes w64 m ≡ to_le_bytes w64 n → m ≡ n
-same_u64 m n m_fits n_fits e = sym (from_le_bytes-to_le_bytes_8 m m_fits) ∙ ap (from_le_bytes w64) e ∙ from_le_bytes-to_le_bytes_8 n n_fits
+same_u64 m n m_fits n_fits e = sym (from_le_bytes-to_le_bytes_8 m m_fits) ∙ ap (from_le_bytes w64) e
+    ∙ from_le_bytes-to_le_bytes_8 n n_fits
 
 same_fields : (f g : Fields) → AreInRange f → AreInRange g → fields_bytes f ≡ fields_bytes g → f ≡ g
 unfolding fields_bytes
@@ -149,17 +162,21 @@ record_again : (r : Record) → record_from (fields_of r) ≡ r
 unfolding record_from change_from
 record_again (Begin lsn txn) = refl
 record_again (Update lsn txn prev page slot change) = ap (Update lsn txn prev page slot) (change_again change)
-record_again (Comp lsn txn prev undo_next page slot change) = ap (Comp lsn txn prev undo_next page slot) (change_again change)
+record_again (Comp lsn txn prev undo_next page slot change) =
+    ap (Comp lsn txn prev undo_next page slot) (change_again change)
 record_again (Commit lsn txn prev) = refl
 record_again (Abort lsn txn prev) = refl
 record_again (End lsn txn prev) = refl
 
 pub same_record : (r s : Record) → IsRecord r → IsRecord s → record_bytes r ≡ record_bytes s → r ≡ s
 same_record r s r_valid s_valid e =
-    sym (record_again r) ∙ ap record_from (same_fields (fields_of r) (fields_of s) (in_range r r_valid) (in_range s s_valid) e) ∙ record_again s
+    sym (record_again r) ∙ ap record_from (same_fields (fields_of r) (fields_of s) (in_range r r_valid)
+    (in_range s s_valid) e) ∙ record_again s
 
 -- no record's bytes begin another's
-pub records_apart : (r s : Record) (x y : List ℕ) → IsRecord r → IsRecord s → record_bytes r ++ x ≡ record_bytes s ++ y → r ≡ s
+pub records_apart : (r s : Record) (x y : List ℕ) → IsRecord r → IsRecord s → record_bytes r ++ x ≡ record_bytes s ++ y
+    → r ≡ s
 records_apart r s x y r_valid s_valid e =
     same_record r s r_valid s_valid
-    (sym (take_at (record_bytes r) x 64 (record_length.each r)) ∙ ap (take 64) e ∙ take_at (record_bytes s) y 64 (record_length.each s))
+    (sym (take_at (record_bytes r) x 64 (record_length.each r)) ∙ ap (take 64) e
+    ∙ take_at (record_bytes s) y 64 (record_length.each s))

@@ -1,13 +1,16 @@
 -- A log that is read record by record.
-use Rattle.std.proofs.Common.{◌≡◌, ℕ, ◌+◌, ◌-◌, ◌*◌, ◌<◌, ◌≤◌, List, [], ◌∷◌, ◌++◌, length, get_or, take, drop, refl, sym, ap, subst, ◌∙◌, arith, below_more, inl, inr}
+use Rattle.std.proofs.Common.{◌≡◌, ℕ, ◌+◌, ◌-◌, ◌*◌, ◌<◌, ◌≤◌, List, [], ◌∷◌, ◌++◌, length, get_or, take, drop, refl}
+use Rattle.std.proofs.Common.{sym, ap, subst, ◌∙◌, arith, below_more, inl, inr}
 use Rattle.std.specs.Prelude.{slice_range}
 use Rattle.std.specs.Prelude.{Option, Some, None, IfSome, Result, Ok, Err, IfErr, OnOk}
 use Rattle.std.specs.Io.KnownBytes.{Consumes, IsAtEnd}
 use Rattle.std.proofs.lemmas.Bool.{cases_lt}
-use Rattle.std.proofs.lemmas.List.{append_assoc, append-nil, nil_from_length, take-append-le, take_at, drop_at, length-append, length_push, get_or_append_left, get_or_push, flat_map_more}
+use Rattle.std.proofs.lemmas.List.{append_assoc, append-nil, nil_from_length, take-append-le, take_at, drop_at}
+use Rattle.std.proofs.lemmas.List.{length-append, length_push, get_or_append_left, get_or_push, flat_map_more}
 use Rattle.std.proofs.KnownBytes.{Consumes-trans}
 use Rattle.log_store.specs.declared.fault.LogReadFault.{LogReadFault}
-use Rattle.log_store.specs.declared.fault.LogReadFault.TheVariants.{OutOfMemory, BadHeader, BadRecord, BadChain, Torn, ReadFault, TooLong}
+use Rattle.log_store.specs.declared.fault.LogReadFault.TheVariants.{OutOfMemory, BadHeader, BadRecord, BadChain, Torn}
+use Rattle.log_store.specs.declared.fault.LogReadFault.TheVariants.{ReadFault, TooLong}
 use Rattle.log_store.specs.declared.record.Record.{Record}
 use Rattle.log_store.specs.Record.{record_bytes}
 use Rattle.log_store.specs.Log.{Log, IsLog, StandsAt, SpellsLog, HasHeader, header_bytes, log_bytes, lsn_of}
@@ -34,7 +37,8 @@ pub first_goes_on : (log : Log) (given more : List ℕ) → SpellsLog log given 
 first_goes_on log given more spells linked = record {
   count = refl;
   each = spells.valid.records;
-  spelled = λ i d lt. range_in given more (lsn_of i) (lsn_of i + 64) (omega arith) (omega (arith, length-log log given spells)) ∙ record_of_log log given spells i d lt;
+  spelled = λ i d lt. range_in given more (lsn_of i) (lsn_of i + 64) (omega arith)
+      (omega (arith, length-log log given spells)) ∙ record_of_log log given spells i d lt;
   linked = linked;
 }
 
@@ -45,7 +49,8 @@ next_range log given unit rest spells wide =
     let at = lsn_of (length log.records) in
     let end : length given ≡ at = omega (arith, length-log log given spells) in
     let sixty_four : at + 64 - at ≡ 64 = omega arith in
-    ap (λ n. take n (drop at (given ++ (unit ++ rest)))) sixty_four ∙ ap (take 64) (drop_at given (unit ++ rest) at end) ∙ take_at unit rest 64 wide
+    ap (λ n. take n (drop at (given ++ (unit ++ rest)))) sixty_four ∙ ap (take 64) (drop_at given (unit ++ rest) at end)
+    ∙ take_at unit rest 64 wide
 
 too_long : (log : Log) (given more : List ℕ) → SpellsLog log given → IsLinked log.records → 1048576 ≤ length log.records
     → 0 < length more → IsFirstFault (given ++ more) TooLong
@@ -56,7 +61,8 @@ too_long log given more spells linked full some =
     (subst (λ n. AreFirst n log.pages (given ++ more) log.records) all (first_goes_on log given more spells linked))
     (omega (arith, length-log log given spells, length-append given more))
 
-bad_record : (log : Log) (given unit rest : List ℕ) → SpellsLog log given → IsLinked log.records → length log.records < 1048576 → length unit ≡ 64
+bad_record : (log : Log) (given unit rest : List ℕ) → SpellsLog log given → IsLinked log.records
+    → length log.records < 1048576 → length unit ≡ 64
     → ((r : Record) → StandsAt log.pages (lsn_of (length log.records)) r → unit ≡ record_bytes r → ⊥)
     → IsFirstFault (given ++ (unit ++ rest)) (BadRecord (lsn_of (length log.records)))
 bad_record log given unit rest spells linked few wide none =
@@ -66,7 +72,8 @@ bad_record log given unit rest spells linked few wide none =
     (λ r stands spelled. none r stands (sym (next_range log given unit rest spells wide) ∙ spelled))
 
 -- the next record is one, and may not follow
-bad_chain : (log : Log) (r : Record) (given unit rest : List ℕ) → SpellsLog log given → IsLinked log.records → length log.records < 1048576
+bad_chain : (log : Log) (r : Record) (given unit rest : List ℕ) → SpellsLog log given → IsLinked log.records
+    → length log.records < 1048576
     → StandsAt log.pages (lsn_of (length log.records)) r → unit ≡ record_bytes r → ¬ MayFollow log.records r
     → IsFirstFault (given ++ (unit ++ rest)) (BadChain (lsn_of (length log.records)))
 bad_chain log r given unit rest spells linked few stands e breaks =
@@ -88,17 +95,20 @@ bad_chain log r given unit rest spells linked few stands e breaks =
 
 -- ---- one record more
 
-valid_next : (log : Log) (r : Record) → IsLog log → length log.records < 1048576 → StandsAt log.pages (lsn_of (length log.records)) r → IsLog (with_next log (r ∷ []))
+valid_next : (log : Log) (r : Record) → IsLog log → length log.records < 1048576
+    → StandsAt log.pages (lsn_of (length log.records)) r → IsLog (with_next log (r ∷ []))
 valid_next log r valid few stands = record {
   pages = valid.pages;
   count = omega (arith, length_push log.records r);
-  records = λ i d lt. below_more (λ n. StandsAt log.pages (lsn_of n) (get_or (log.records ++ r ∷ []) n d)) (length log.records)
+  records = λ i d lt. below_more (λ n. StandsAt log.pages (lsn_of n) (get_or (log.records ++ r ∷ []) n d))
+      (length log.records)
       (λ n below. rw (get_or_append_left log.records (r ∷ []) d n below) (valid.records n d below))
       (rw (get_or_push log.records r d (length log.records) refl) stands) i (omega (arith, length_push log.records r));
 }
 
 spells_next : (log : Log) (r : Record) (given unit : List ℕ) → SpellsLog log given → length log.records < 1048576
-    → StandsAt log.pages (lsn_of (length log.records)) r → unit ≡ record_bytes r → SpellsLog (with_next log (r ∷ [])) (given ++ unit)
+    → StandsAt log.pages (lsn_of (length log.records)) r → unit ≡ record_bytes r
+    → SpellsLog (with_next log (r ∷ [])) (given ++ unit)
 spells_next log r given unit spells few stands e = record {
   valid = valid_next log r spells.valid few stands;
   spelled = ap (λ (front : List ℕ). front ++ unit) spells.spelled ∙ ap (λ (end : List ℕ). log_bytes log ++ end) e
@@ -110,15 +120,18 @@ spells_next log r given unit spells few stands e = record {
 pub read_none : {S : Type 0} (holds : S → Log → Type 0) (sink : S) (made : Made) (pages count : ℕ) (given : List ℕ)
     → (taken : HasTaken holds sink made pages count given) → HasRead taken.log [] made pages count given
 read_none holds sink made pages count given taken = let log = taken.log in let spells = taken.spells in record {
-  spells = subst (λ (all : List Record). SpellsLog (record log { records = all }) given) (sym (append-nil log.records)) spells;
+  spells = subst (λ (all : List Record). SpellsLog (record log { records = all }) given)
+      (sym (append-nil log.records)) spells;
   linked = subst IsLinked (sym (append-nil log.records)) taken.linked;
-  made_of = subst (λ (all : List Record). IsMadeOf (record log { records = all }) made) (sym (append-nil log.records)) taken.made_of;
+  made_of = subst (λ (all : List Record). IsMadeOf (record log { records = all }) made)
+      (sym (append-nil log.records)) taken.made_of;
   pages_are = taken.pages_are;
   count_is = omega (arith, taken.count_is);
 }
 
 pub read_next : (log : Log) (rs : List Record) (r : Record) (old new : Made) (pages count : ℕ) (given unit : List ℕ)
-    → HasRead log rs old pages count given → count < 1048576 → StandsAt pages (64 * (count + 1)) r → unit ≡ record_bytes r
+    → HasRead log rs old pages count given → count < 1048576 → StandsAt pages (64 * (count + 1)) r
+    → unit ≡ record_bytes r
     → IsLinked ((log.records ++ rs) ++ r ∷ []) → IsMadeOf (with_next (with_next log rs) (r ∷ [])) new
     → HasRead log (rs ++ r ∷ []) new pages (count + 1) (given ++ unit)
 read_next log rs r old new pages count given unit read few stands e linked made =
@@ -126,19 +139,24 @@ read_next log rs r old new pages count given unit read few stands e linked made 
     let long : length so_far.records ≡ count = length-append log.records rs ∙ read.count_is in
     let place : 64 * (count + 1) ≡ lsn_of (length so_far.records) = omega (arith, long) in
     record {
-      spells = subst (λ (all : List Record). SpellsLog (record log { records = all }) (given ++ unit)) (append_assoc log.records rs (r ∷ []))
+      spells = subst (λ (all : List Record). SpellsLog (record log { records = all }) (given ++ unit))
+          (append_assoc log.records rs (r ∷ []))
           (spells_next so_far r given unit read.spells (omega (arith, long))
-          (subst (λ (n : ℕ). StandsAt n (lsn_of (length so_far.records)) r) (sym read.pages_are) (subst (λ (n : ℕ). StandsAt pages n r) place stands)) e);
+          (subst (λ (n : ℕ). StandsAt n (lsn_of (length so_far.records)) r) (sym read.pages_are)
+          (subst (λ (n : ℕ). StandsAt pages n r) place stands)) e);
       linked = subst IsLinked (append_assoc log.records rs (r ∷ [])) linked;
-      made_of = subst (λ (all : List Record). IsMadeOf (record log { records = all }) new) (append_assoc log.records rs (r ∷ [])) made;
+      made_of = subst (λ (all : List Record). IsMadeOf (record log { records = all }) new)
+          (append_assoc log.records rs (r ∷ [])) made;
       pages_are = read.pages_are;
       count_is = omega (arith, length_push rs r, read.count_is);
     }
 
-pub read_too_long : (log : Log) (rs : List Record) (made : Made) (pages count : ℕ) (given more : List ℕ) → HasRead log rs made pages count given
+pub read_too_long : (log : Log) (rs : List Record) (made : Made) (pages count : ℕ) (given more : List ℕ)
+    → HasRead log rs made pages count given
     → 1048576 ≤ count → 0 < length more → IsFirstFault (given ++ more) TooLong
 read_too_long log rs made pages count given more read full some =
-    too_long (with_next log rs) given more read.spells read.linked (omega (arith, length-append log.records rs, read.count_is)) some
+    too_long (with_next log rs) given more read.spells read.linked
+    (omega (arith, length-append log.records rs, read.count_is)) some
 
 pub read_bad_record : (log : Log) (rs : List Record) (made : Made) (pages count : ℕ) (given unit rest : List ℕ)
     → HasRead log rs made pages count given → count < 1048576
@@ -150,10 +168,13 @@ read_bad_record log rs made pages count given unit rest read few wide none =
     let place : lsn_of (length so_far.records) ≡ 64 * (count + 1) = omega (arith, long) in
     subst (λ (n : ℕ). IsFirstFault (given ++ (unit ++ rest)) (BadRecord n)) place
     (bad_record so_far given unit rest read.spells read.linked (omega (arith, long)) wide
-    (λ r stands e. none r (subst (λ (n : ℕ). StandsAt n (64 * (count + 1)) r) read.pages_are (subst (λ (n : ℕ). StandsAt log.pages n r) place stands)) e))
+    (λ r stands e. none r (subst (λ (n : ℕ). StandsAt n (64 * (count + 1)) r) read.pages_are
+    (subst (λ (n : ℕ). StandsAt log.pages n r) place stands)) e))
 
-pub read_bad_chain : (log : Log) (rs : List Record) (r : Record) (made : Made) (pages count : ℕ) (given unit rest : List ℕ)
-    → HasRead log rs made pages count given → count < 1048576 → StandsAt pages (64 * (count + 1)) r → unit ≡ record_bytes r
+pub read_bad_chain : (log : Log) (rs : List Record) (r : Record) (made : Made) (pages count : ℕ)
+    (given unit rest : List ℕ)
+    → HasRead log rs made pages count given → count < 1048576 → StandsAt pages (64 * (count + 1)) r
+    → unit ≡ record_bytes r
     → ¬ MayFollow (log.records ++ rs) r → IsFirstFault (given ++ (unit ++ rest)) (BadChain (64 * (count + 1)))
 read_bad_chain log rs r made pages count given unit rest read few stands e breaks =
     let so_far = with_next log rs in
@@ -161,10 +182,12 @@ read_bad_chain log rs r made pages count given unit rest read few stands e break
     let place : 64 * (count + 1) ≡ lsn_of (length so_far.records) = omega (arith, long) in
     subst (λ (n : ℕ). IsFirstFault (given ++ (unit ++ rest)) (BadChain n)) (sym place)
     (bad_chain so_far r given unit rest read.spells read.linked (omega (arith, long))
-    (subst (λ (n : ℕ). StandsAt n (lsn_of (length so_far.records)) r) (sym read.pages_are) (subst (λ (n : ℕ). StandsAt pages n r) place stands))
+    (subst (λ (n : ℕ). StandsAt n (lsn_of (length so_far.records)) r) (sym read.pages_are)
+    (subst (λ (n : ℕ). StandsAt pages n r) place stands))
     e breaks)
 
-pub taken_next : {S : Type 0} (holds : S → Log → Type 0) (sink : S) (log : Log) (rs : List Record) (made : Made) (pages count : ℕ) (given : List ℕ)
+pub taken_next : {S : Type 0} (holds : S → Log → Type 0) (sink : S) (log : Log) (rs : List Record) (made : Made)
+    (pages count : ℕ) (given : List ℕ)
     → HasRead log rs made pages count given → holds sink (with_next log rs) → HasTaken holds sink made pages count given
 taken_next holds sink log rs made pages count given read held = record {
   log = with_next log rs;
@@ -178,50 +201,63 @@ taken_next holds sink log rs made pages count given read held = record {
 
 -- ---- what follows the whole records
 
-regroup : (header read pending rest : List ℕ) → (header ++ read) ++ (pending ++ rest) ≡ header ++ ((read ++ pending) ++ rest)
+regroup : (header read pending rest : List ℕ)
+    → (header ++ read) ++ (pending ++ rest) ≡ header ++ ((read ++ pending) ++ rest)
 regroup header read pending rest = simp append_assoc
 
 -- less than a record stands behind the records that were read
-torn_at : (log : Log) (given pending : List ℕ) → SpellsLog log given → IsLinked log.records → length pending < 64 → 0 < length pending
+torn_at : (log : Log) (given pending : List ℕ) → SpellsLog log given → IsLinked log.records → length pending < 64
+    → 0 < length pending
     → length log.records < 1048576 → IsFirstFault (given ++ pending) (Torn (lsn_of (length log.records)))
 torn_at log given pending spells linked short some few =
     let bytes = given ++ pending in
-    let all : length log.records ≡ whole_records bytes = omega (arith, length-log log given spells, length-append given pending) in
+    let all : length log.records ≡ whole_records bytes =
+    omega (arith, length-log log given spells, length-append given pending) in
     first_torn log.pages bytes log.records (header_goes_on log given pending spells)
     (subst (λ (n : ℕ). AreFirst n log.pages bytes log.records) all (first_goes_on log given pending spells linked))
     (omega (arith, length-log log given spells, length-append given pending)) (lsn_of (length log.records))
     (omega (arith, length-log log given spells, length-append given pending))
     (λ whole. omega (arith, length-log log given spells, length-append given pending))
 
-pub refuses_torn : (header read pending rest : List ℕ) (log : Log) → SpellsLog log (header ++ read) → IsLinked log.records
-    → length pending < 64 → 0 < length pending → length log.records < 1048576 → rest ≡ [] → Refuses (header ++ ((read ++ pending) ++ rest)) (Torn (lsn_of (length log.records)))
+pub refuses_torn : (header read pending rest : List ℕ) (log : Log) → SpellsLog log (header ++ read)
+    → IsLinked log.records
+    → length pending < 64 → 0 < length pending → length log.records < 1048576 → rest ≡ []
+    → Refuses (header ++ ((read ++ pending) ++ rest)) (Torn (lsn_of (length log.records)))
 refuses_torn header read pending rest log spells linked short some few none =
-    subst (λ (input : List ℕ). Refuses input (Torn (lsn_of (length log.records)))) (append_assoc (header ++ read) pending rest ∙ regroup header read pending rest)
-    (refuses_all ((header ++ read) ++ pending) rest (Torn (lsn_of (length log.records))) (torn_at log (header ++ read) pending spells linked short some few) none)
+    subst (λ (input : List ℕ). Refuses input (Torn (lsn_of (length log.records))))
+    (append_assoc (header ++ read) pending rest ∙ regroup header read pending rest)
+    (refuses_all ((header ++ read) ++ pending) rest (Torn (lsn_of (length log.records)))
+    (torn_at log (header ++ read) pending spells linked short some few) none)
 
 pub none_in_failed : (header read pending : List ℕ) (log : Log) → SpellsLog log (header ++ read) → IsLinked log.records
-    → length pending < 64 → (1048576 ≤ length log.records → length pending ≡ 0) → HoldsNoFault (header ++ (read ++ pending))
+    → length pending < 64 → (1048576 ≤ length log.records → length pending ≡ 0)
+    → HoldsNoFault (header ++ (read ++ pending))
 none_in_failed header read pending log spells linked short few =
     let given = header ++ read in
     subst HoldsNoFault (append_assoc header read pending)
     (elim (cases_lt 0 (length pending)) [
       | inl some ↦
           elim (cases_lt (length log.records) 1048576) [
-            | inl room ↦ none_held (given ++ pending) (Torn (lsn_of (length log.records))) (torn_at log given pending spells linked short some room) (λ held. held)
+            | inl room ↦ none_held (given ++ pending) (Torn (lsn_of (length log.records)))
+                (torn_at log given pending spells linked short some room) (λ held. held)
             | inr full ↦ absurd (omega (arith, few full))
           ]
       | inr none ↦
           let nothing : pending ≡ [] = nil_from_length pending (omega arith) in
-          none_in_read log (given ++ pending) (subst (SpellsLog log) (sym (append-nil given) ∙ ap (λ (p : List ℕ). given ++ p) (sym nothing)) spells) linked
+          none_in_read log (given ++ pending)
+          (subst (SpellsLog log) (sym (append-nil given)
+          ∙ ap (λ (p : List ℕ). given ++ p) (sym nothing)) spells) linked
     ])
 
-pub refuses_past_last : (header read pending rest : List ℕ) (log : Log) → SpellsLog log (header ++ read) → IsLinked log.records → 1048576 ≤ length log.records → 0 < length pending
+pub refuses_past_last : (header read pending rest : List ℕ) (log : Log) → SpellsLog log (header ++ read)
+    → IsLinked log.records → 1048576 ≤ length log.records → 0 < length pending
     → Refuses (header ++ ((read ++ pending) ++ rest)) TooLong
 refuses_past_last header read pending rest log spells linked full some =
     subst (λ (input : List ℕ). Refuses input TooLong) (regroup header read pending rest)
     (too_long log (header ++ read) (pending ++ rest) spells linked full (omega (arith, length-append pending rest)))
 
-pub regrouped : (header read pending rest : List ℕ) (P : List ℕ → Type 0) → P ((header ++ read) ++ (pending ++ rest)) → P (header ++ ((read ++ pending) ++ rest))
+pub regrouped : (header read pending rest : List ℕ) (P : List ℕ → Type 0) → P ((header ++ read) ++ (pending ++ rest))
+    → P (header ++ ((read ++ pending) ++ rest))
 regrouped header read pending rest P h = subst P (regroup header read pending rest) h
 
 pub if_err : {T E : Type 0} (r : Result T E) (P Q : E → Type 0) → ((e : E) → P e → Q e) → IfErr r P → IfErr r Q
@@ -234,17 +270,21 @@ on_ok (Err e) P Q step h = tt
 
 -- ---- the header and what follows it
 
-pub of_rest : (old mid : Option (List ℕ)) (given : List ℕ) (P : List ℕ → Type 0) → Consumes old mid given → IfSome mid (λ rest. P (given ++ rest)) → IfSome old P
+pub of_rest : (old mid : Option (List ℕ)) (given : List ℕ) (P : List ℕ → Type 0) → Consumes old mid given
+    → IfSome mid (λ rest. P (given ++ rest)) → IfSome old P
 of_rest None mid given P taken h = tt
 of_rest (Some input) None given P taken h = absurd taken
 of_rest (Some input) (Some rest) given P taken h = subst P (sym taken) h
 
-pub of_all : (old new : Option (List ℕ)) (given : List ℕ) (P : List ℕ → Type 0) → Consumes old new given → IsAtEnd new → P given → IfSome old P
-of_all old new given P taken end h = of_input old new given P taken (λ rest none. subst P (sym (append-nil given) ∙ ap (λ (r : List ℕ). given ++ r) (sym (none end))) h)
+pub of_all : (old new : Option (List ℕ)) (given : List ℕ) (P : List ℕ → Type 0) → Consumes old new given → IsAtEnd new
+    → P given → IfSome old P
+of_all old new given P taken end h = of_input old new given P taken
+    (λ rest none. subst P (sym (append-nil given) ∙ ap (λ (r : List ℕ). given ++ r) (sym (none end))) h)
 
 pub gave_more : (old mid new : Option (List ℕ)) (header : List ℕ) (fault : LogReadFault) → Consumes old mid header
     → GaveNoFault header mid new fault → GaveNoFault [] old new fault
-gave_more old mid new header ReadFault taken gave = (header ++ gave.0, (Consumes-trans old mid new header gave.0 taken gave.1.0, gave.1.1))
+gave_more old mid new header ReadFault taken gave =
+    (header ++ gave.0, (Consumes-trans old mid new header gave.0 taken gave.1.0, gave.1.1))
 gave_more old mid new header OutOfMemory taken gave = tt
 gave_more old mid new header BadHeader taken gave = tt
 gave_more old mid new header (BadRecord at) taken gave = tt

@@ -3,7 +3,8 @@ use Rattle.std.specs.Prelude.{ℕ, ◌==◌, ◌&&◌, List, [], ◌∷◌, ◌+
 use Rattle.page_core.specs.Change.{changed}
 use Rattle.log_store.specs.declared.pending_change.PendingChange.{PendingChange}
 use Rattle.log_store.specs.declared.record.Record.{Record}
-use Rattle.log_store.specs.declared.record.Record.TheVariants.{Begin, Update, Comp, Commit, Abort, End}
+use Rattle.log_store.specs.declared.record.Record.TheVariants.{Begin, Update, Comp, Commit, Abort}
+use Rattle.log_store.specs.declared.record.Record.TheVariants.{End}
 use Rattle.log_store.specs.Transactions.{pending}
 
 -- the number of each slot of each page
@@ -17,7 +18,8 @@ zeros page slot = 0
 abbrev pub with_changes : Values → List PendingChange → Values
 with_changes values [] = values
 with_changes values (p ∷ ps) = with_changes
-    (λ page slot. if (page == p.page) && (slot == p.slot) then changed p.change (values page slot) else values page slot)
+    (λ page slot. if (page == p.page) && (slot == p.slot) then changed p.change
+    (values page slot) else values page slot)
     ps
 
 -- a Commit makes the changes that are pending for its transaction there, as one block
@@ -27,7 +29,8 @@ with_commit before values other = values
 
 abbrev pub committed_from : List Record → Values → List Record → Values
 committed_from before values [] = values
-committed_from before values (r ∷ rs) = committed_from (before ++ r ∷ []) (with_commit before values r) rs
+committed_from before values (r ∷ rs) =
+    committed_from (before ++ r ∷ []) (with_commit before values r) rs
 
 -- from zeros, the changes of each Commit of the log, in order
 abbrev pub committed : List Record → Values

@@ -1,11 +1,14 @@
 -- What may be wrong with the bytes of a log, and which fault is the first.
-use Rattle.std.specs.Prelude.{ℕ, ◌≡◌, ◌+◌, ◌%◌, ◌<◌, ◌≤◌, List, length, take, slice_range, ◌++◌, Option, codes}
+use Rattle.std.specs.Prelude.{ℕ, ◌≡◌, ◌+◌, ◌%◌, ◌<◌, ◌≤◌, List, length, take, slice_range, ◌++◌}
+use Rattle.std.specs.Prelude.{Option, codes}
 use Rattle.std.specs.Io.KnownBytes.{Consumes}
 use Rattle.std.specs.Int.{w32, from_le_bytes}
 use Rattle.std.specs.Fmt.{decimal}
 use Rattle.page_core.specs.declared.numbers.TheConstants.{LSN_STEP}
 use Rattle.log_store.specs.declared.fault.LogReadFault.{LogReadFault}
-use Rattle.log_store.specs.declared.fault.LogReadFault.TheVariants.{OutOfMemory, BadHeader, BadRecord, BadChain, Torn, ReadFault, TooLong}
+use Rattle.log_store.specs.declared.fault.LogReadFault.TheVariants.{OutOfMemory, BadHeader}
+use Rattle.log_store.specs.declared.fault.LogReadFault.TheVariants.{BadRecord, BadChain, Torn}
+use Rattle.log_store.specs.declared.fault.LogReadFault.TheVariants.{ReadFault, TooLong}
 use Rattle.log_store.specs.declared.limits.TheConstants.{HEADER_BYTES, MAX_LOG_BYTES, RECORD_BYTES}
 use Rattle.log_store.specs.declared.record.Record.{Record}
 use Rattle.log_store.specs.Record.{record_bytes}
@@ -29,7 +32,8 @@ pages_in bytes = from_le_bytes w32 (slice_range bytes 8 12)
 -- the 64 bytes at this offset are a record that stands there
 abbrev pub HasRecord : List ℕ → ℕ → Type 0
 HasRecord bytes at =
-    (r : Record) × StandsAt (pages_in bytes) at r × (slice_range bytes at (at + RECORD_BYTES) ≡ record_bytes r)
+    (r : Record) × StandsAt (pages_in bytes) at r
+    × (slice_range bytes at (at + RECORD_BYTES) ≡ record_bytes r)
 
 -- the bytes before this offset spell a linked log, which the record there may not follow
 pub record BreaksChain (bytes : List ℕ) (at : ℕ) : Type 0 where
@@ -45,7 +49,8 @@ pub record BreaksChain (bytes : List ℕ) (at : ℕ) : Type 0 where
 -- the bytes have this fault
 abbrev pub HasFault : List ℕ → LogReadFault → Type 0
 HasFault bytes BadHeader = ¬ IsHeader (take HEADER_BYTES bytes)
-HasFault bytes (BadRecord at) = IsPlace at × (at + RECORD_BYTES ≤ length bytes) × ¬ HasRecord bytes at
+HasFault bytes (BadRecord at) = IsPlace at × (at + RECORD_BYTES ≤ length bytes)
+    × ¬ HasRecord bytes at
 HasFault bytes (BadChain at) = BreaksChain bytes at
 HasFault bytes (Torn at) = IsPlace at × (at < length bytes) × (length bytes < at + RECORD_BYTES)
 HasFault bytes TooLong = MAX_LOG_BYTES < length bytes
@@ -75,7 +80,8 @@ abbrev pub IsNoReadFault : LogReadFault → Type 0
 IsNoReadFault ReadFault = ⊥
 IsNoReadFault other = Unit {0}
 
--- the fault of these bytes is one of any input that begins with them: it does not come of where they end
+-- the fault of these bytes is one of any input that begins with them: it does not come of where
+-- they end
 abbrev pub IsHeld : List ℕ → LogReadFault → Type 0
 IsHeld given BadHeader = HEADER_BYTES ≤ length given
 IsHeld given (Torn at) = ⊥
@@ -93,7 +99,8 @@ Refuses input of_the_bytes = IsFirstFault input of_the_bytes
 
 -- where the reader failed, these bytes and what it gave hold no fault
 abbrev pub GaveNoFault : List ℕ → Option (List ℕ) → Option (List ℕ) → LogReadFault → Type 0
-GaveNoFault before old new ReadFault = (given : List ℕ) × (Consumes old new given × HoldsNoFault (before ++ given))
+GaveNoFault before old new ReadFault =
+    (given : List ℕ) × (Consumes old new given × HoldsNoFault (before ++ given))
 GaveNoFault before old new other = Unit {0}
 
 -- what is printed of a fault
@@ -101,7 +108,8 @@ abbrev pub text_of : LogReadFault → List ℕ
 text_of OutOfMemory = codes "out of memory"
 text_of BadHeader = codes "the log's header is misspelt"
 text_of (BadRecord at) = codes "the record at " ++ decimal at ++ codes " is misspelt"
-text_of (BadChain at) = codes "the record at " ++ decimal at ++ codes " may not follow those before it"
+text_of (BadChain at) = codes "the record at " ++ decimal at
+    ++ codes " may not follow those before it"
 text_of (Torn at) = codes "the log ends within the record at " ++ decimal at
 text_of ReadFault = codes "the log could not be read"
 text_of TooLong = codes "bytes follow the last record that a log may have"

@@ -4,16 +4,20 @@ use Rattle.std.specs.Int.{w16, w32, w64, to_le_bytes}
 use Rattle.page_core.specs.declared.change.Change.{Change}
 use Rattle.page_core.specs.declared.change.Change.TheVariants.{Set, Add}
 use Rattle.log_store.specs.declared.record.Record.{Record}
-use Rattle.log_store.specs.declared.record.Record.TheVariants.{Begin, Update, Comp, Commit, Abort, End}
+use Rattle.log_store.specs.declared.record.Record.TheVariants.{Begin, Update, Comp, Commit, Abort}
+use Rattle.log_store.specs.declared.record.Record.TheVariants.{End}
 use Rattle.log_store.specs.declared.fields.Fields.{Fields}
-use Rattle.log_store.specs.declared.fields.TheConstants.{ABORT, ADD, BEGIN, COMMIT, COMP, END, SET, UPDATE}
+use Rattle.log_store.specs.declared.fields.TheConstants.{ABORT, ADD, BEGIN, COMMIT, COMP, END, SET}
+use Rattle.log_store.specs.declared.fields.TheConstants.{UPDATE}
 
 -- each number with its lowest byte first, one after another: 64 bytes
 unfoldable pub fields_bytes : Fields → List ℕ
 fields_bytes f =
-    to_le_bytes w32 f.kind ++ to_le_bytes w32 f.txn ++ to_le_bytes w64 f.prev ++ to_le_bytes w64 f.undo_next
+    to_le_bytes w32 f.kind ++ to_le_bytes w32 f.txn ++ to_le_bytes w64 f.prev
+    ++ to_le_bytes w64 f.undo_next
     ++ to_le_bytes w32 f.page ++ to_le_bytes w16 f.slot ++ to_le_bytes w16 f.change
-    ++ to_le_bytes w64 f.before ++ to_le_bytes w64 f.after ++ to_le_bytes w64 f.spare ++ to_le_bytes w64 f.lsn
+    ++ to_le_bytes w64 f.before ++ to_le_bytes w64 f.after ++ to_le_bytes w64 f.spare
+    ++ to_le_bytes w64 f.lsn
 
 -- each number fits its bytes
 pub record AreInRange (f : Fields) : Type 0 where
@@ -47,12 +51,19 @@ no_fields = record {
 
 -- the numbers of a change alone
 abbrev pub fields_of_change : Change → Fields
-fields_of_change (Set before after) = record no_fields { change = SET; before = before; after = after }
+fields_of_change (Set before after) =
+    record no_fields { change = SET; before = before; after = after }
 fields_of_change (Add amount) = record no_fields { change = ADD; after = amount }
 
 -- the numbers of a record that only says what its transaction does next
 abbrev pub fields_of_step : ℕ → ℕ → ℕ → ℕ → Fields
-fields_of_step kind txn prev lsn = record no_fields { kind = kind; txn = txn; prev = prev; lsn = lsn }
+fields_of_step kind txn prev lsn = record no_fields {
+  kind = kind;
+  txn = txn;
+  prev = prev;
+  lsn =
+      lsn;
+}
 
 -- the numbers of a record; what a kind does not have is 0
 abbrev pub fields_of : Record → Fields

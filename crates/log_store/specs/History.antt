@@ -24,7 +24,8 @@ number_on pages page slot = slice_index (slice_index_or pages page (formatted pa
 
 -- an Update that replaces a number names the one that is there
 abbrev pub NamesNumber : List Page → Record → Type 0
-NamesNumber pages (Update lsn txn prev page slot change) = Replaces change (number_on pages page slot)
+NamesNumber pages (Update lsn txn prev page slot change) =
+    Replaces change (number_on pages page slot)
 NamesNumber pages other = Unit {0}
 
 -- the record may come next, as far as the transactions and the pages say
@@ -34,4 +35,8 @@ pub record MayComeNext (made : Made) (r : Record) : Type 0 where
 
 -- what stands after it
 abbrev pub followed : Made → Record → Made
-followed made r = record { table = noted made.table r; pages = map (λ page. with_record page r) made.pages }
+followed made r = record {
+  table = noted made.table r;
+  pages =
+      map (λ page. with_record page r) made.pages;
+}

@@ -1,5 +1,6 @@
 -- A whole log, and its bytes.
-use Rattle.std.specs.Prelude.{ℕ, ◌≡◌, ◌+◌, ◌-◌, ◌*◌, ◌<◌, ◌≤◌, List, length, ◌++◌, slice_index_or, take, replicate, codes, IfSome}
+use Rattle.std.specs.Prelude.{ℕ, ◌≡◌, ◌+◌, ◌-◌, ◌*◌, ◌<◌, ◌≤◌, List, length, ◌++◌, slice_index_or}
+use Rattle.std.specs.Prelude.{take, replicate, codes, IfSome}
 use Rattle.std.specs.List.{flat_map}
 use Rattle.std.specs.Int.{w32, to_le_bytes}
 use Rattle.log_store.specs.declared.record.Record.{Record}

@@ -7,7 +7,8 @@ use Rattle.page_core.specs.declared.page.TheConstants.{MAX_PAGES, SLOTS}
 use Rattle.log_store.specs.declared.limits.TheConstants.{HEADER_BYTES}
 use Rattle.log_store.specs.declared.page_change.PageChange.{PageChange}
 use Rattle.log_store.specs.declared.record.Record.{Record}
-use Rattle.log_store.specs.declared.record.Record.TheVariants.{Begin, Update, Comp, Commit, Abort, End}
+use Rattle.log_store.specs.declared.record.Record.TheVariants.{Begin, Update, Comp, Commit, Abort}
+use Rattle.log_store.specs.declared.record.Record.TheVariants.{End}
 use Rattle.log_store.specs.Fields.{fields_of, fields_bytes}
 
 -- the number of a transaction

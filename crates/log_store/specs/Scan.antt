@@ -9,17 +9,20 @@ use Rattle.log_store.specs.Log.{Log, SpellsLog}
 abbrev pub with_next : Log → List Record → Log
 with_next log rs = record log { records = log.records ++ rs }
 
--- the log with these records behind its own is linked, and has so many pages and records; this is what it makes, and
--- these are its bytes
-pub record HasRead (log : Log) (rs : List Record) (made : Made) (pages count : ℕ) (given : List ℕ) : Type 0 where
+-- the log with these records behind its own is linked, and has so many pages and records; this is
+-- what it makes, and these are its bytes
+pub record HasRead (log : Log) (rs : List Record) (made : Made) (pages count : ℕ)
+    (given : List ℕ) : Type 0 where
   pub spells : SpellsLog (with_next log rs) given
   pub linked : IsLinked (log.records ++ rs)
   pub made_of : IsMadeOf (with_next log rs) made
   pub pages_are : log.pages ≡ pages
   pub count_is : length log.records + length rs ≡ count
 
--- the sink holds what it makes of a linked log of so many pages and records, which makes this and has these bytes
-pub record HasTaken {S : Type 0} (holds : S → Log → Type 0) (sink : S) (made : Made) (pages count : ℕ)
+-- the sink holds what it makes of a linked log of so many pages and records, which makes this and
+-- has these bytes
+pub record HasTaken {S : Type 0} (holds : S → Log → Type 0) (sink : S) (made : Made)
+    (pages count : ℕ)
     (given : List ℕ) : Type 0 where
   pub log : Log
   pub held : holds sink log
@@ -30,7 +33,8 @@ pub record HasTaken {S : Type 0} (holds : S → Log → Type 0) (sink : S) (made
   pub count_is : length log.records ≡ count
 
 -- the sink holds what it makes of the linked log whose bytes these are, and which makes this
-pub record HasAll {S : Type 0} (holds : S → Log → Type 0) (sink : S) (made : Made) (given : List ℕ) : Type 0 where
+pub record HasAll {S : Type 0} (holds : S → Log → Type 0) (sink : S) (made : Made)
+    (given : List ℕ) : Type 0 where
   pub log : Log
   pub held : holds sink log
   pub spells : SpellsLog log given

@@ -1,5 +1,6 @@
 -- The open transactions as a table keeps them, record by record.
-use Rattle.std.specs.Prelude.{ℕ, ◌≡◌, ◌+◌, ◌<◌, ◌==◌, Bool, true, false, ◌&&◌, not, List, [], ◌∷◌, ◌++◌, length, map, filter, Option, None, IsSomeAnd, if◌then◌else◌}
+use Rattle.std.specs.Prelude.{ℕ, ◌≡◌, ◌+◌, ◌<◌, ◌==◌, Bool, true, false, ◌&&◌, not, List, [], ◌∷◌}
+use Rattle.std.specs.Prelude.{◌++◌, length, map, filter, Option, None, IsSomeAnd, if◌then◌else◌}
 use Rattle.std.specs.List.{find, list_any, sum_by}
 use Rattle.page_core.specs.declared.change.Change.{Change}
 use Rattle.page_core.specs.declared.change.ChangeKind.{ChangeKind}
@@ -7,12 +8,14 @@ use Rattle.page_core.specs.Change.{Replaces, kind_of}
 use Rattle.log_store.specs.declared.limits.TheConstants.{MAX_OPEN}
 use Rattle.log_store.specs.declared.pending_change.PendingChange.{PendingChange}
 use Rattle.log_store.specs.declared.record.Record.{Record}
-use Rattle.log_store.specs.declared.record.Record.TheVariants.{Begin, Update, Comp, Commit, Abort, End}
+use Rattle.log_store.specs.declared.record.Record.TheVariants.{Begin, Update, Comp, Commit, Abort}
+use Rattle.log_store.specs.declared.record.Record.TheVariants.{End}
 use Rattle.log_store.specs.Linked.{Compensates}
-use Rattle.log_store.specs.Transactions.{begun, first_lsn, has_aborted, is_rolling, keeps_out, last_lsn, last_of, least, open_in, pending, with_pending}
+use Rattle.log_store.specs.Transactions.{begun, first_lsn, has_aborted, is_rolling, keeps_out}
+use Rattle.log_store.specs.Transactions.{last_lsn, last_of, least, open_in, pending, with_pending}
 
--- an open transaction: the LSNs of its Begin and of its last record, whether it is rolling back, whether it aborted, and
--- its pending changes
+-- an open transaction: the LSNs of its Begin and of its last record, whether it is rolling back,
+-- whether it aborted, and its pending changes
 pub record Entry : Type 0 where
   pub txn : ℕ
   pub first : ℕ
@@ -50,7 +53,8 @@ entry_in table t = find (λ e. e.txn == t) table.entries
 -- the least other transaction that holds a slot against a change of this kind by transaction t
 abbrev pub holder_in : Table → ℕ → ℕ → ChangeKind → ℕ → Option ℕ
 holder_in table page slot kind t =
-    least (map (λ e. e.txn) (filter (λ e. not (e.txn == t) && list_any (keeps_out page slot kind) e.pending) table.entries))
+    least (map (λ e. e.txn) (filter
+    (λ e. not (e.txn == t) && list_any (keeps_out page slot kind) e.pending) table.entries))
 
 abbrev pub owed_by_entry : Entry → ℕ
 owed_by_entry e = length e.pending + (if e.aborted then 1 else 2)
@@ -69,17 +73,20 @@ pub record IsActiveEntry (prev : ℕ) (e : Entry) : Type 0 where
   pub chained : prev ≡ e.last
   pub active : e.rolling ≡ false
 
--- the record may come next, as far as the transactions say; whether a Set names the number that is there, they do not
+-- the record may come next, as far as the transactions say; whether a Set names the number that is
+-- there, they do not
 abbrev pub MayNote : Table → Record → Type 0
 MayNote table (Begin lsn txn) = (txn ≡ table.begun + 1) × (length table.entries < MAX_OPEN)
 MayNote table (Update lsn txn prev page slot change) =
-    IsSomeAnd (entry_in table txn) (IsActiveEntry prev) × (holder_in table page slot (kind_of change) txn ≡ None)
+    IsSomeAnd (entry_in table txn) (IsActiveEntry prev)
+    × (holder_in table page slot (kind_of change) txn ≡ None)
 MayNote table (Comp lsn txn prev undo_next page slot change) =
     IsSomeAnd (entry_in table txn) (λ e.
     IsChained prev e × IsSomeAnd (last_of e.pending) (Compensates undo_next page slot change))
 MayNote table (Commit lsn txn prev) = IsSomeAnd (entry_in table txn) (IsActiveEntry prev)
 MayNote table (Abort lsn txn prev) = IsSomeAnd (entry_in table txn) (IsActiveEntry prev)
-MayNote table (End lsn txn prev) = IsSomeAnd (entry_in table txn) (λ e. IsChained prev e × (e.pending ≡ []))
+MayNote table (End lsn txn prev) = IsSomeAnd (entry_in table txn)
+    (λ e. IsChained prev e × (e.pending ≡ []))
 
 -- ---- the table after one more record
 
@@ -98,7 +105,10 @@ entry_after e (Abort lsn txn prev) = record e { last = lsn; rolling = true; abor
 entry_after e other = e
 
 abbrev pub with_entry : Table → ℕ → Record → Table
-with_entry table t r = record table { entries = map (λ e. if e.txn == t then entry_after e r else e) table.entries }
+with_entry table t r = record table {
+  entries =
+      map (λ e. if e.txn == t then entry_after e r else e) table.entries;
+}
 
 abbrev pub without_entry : Table → ℕ → Table
 without_entry table t = record table { entries = filter (λ e. not (e.txn == t)) table.entries }
@@ -106,9 +116,18 @@ without_entry table t = record table { entries = filter (λ e. not (e.txn == t))
 abbrev pub noted : Table → Record → Table
 noted table (Begin lsn txn) = record {
   begun = table.begun + 1;
-  entries = table.entries ++ record { txn = txn; first = lsn; last = lsn; rolling = false; aborted = false; pending = [] } ∷ [];
+  entries = table.entries ++ record {
+    txn = txn;
+    first = lsn;
+    last = lsn;
+    rolling = false;
+    aborted =
+        false;
+    pending = [];
+  } ∷ [];
 }
-noted table (Update lsn txn prev page slot change) = with_entry table txn (Update lsn txn prev page slot change)
+noted table (Update lsn txn prev page slot change) =
+    with_entry table txn (Update lsn txn prev page slot change)
 noted table (Comp lsn txn prev undo_next page slot change) =
     with_entry table txn (Comp lsn txn prev undo_next page slot change)
 noted table (Commit lsn txn prev) = without_entry table txn

@@ -1,5 +1,7 @@
 -- The transactions of a log, read from its beginning.
-use Rattle.std.specs.Prelude.{ℕ, ◌≡◌, ◌+◌, ◌-◌, ◌==◌, Bool, true, false, ◌&&◌, not, List, [], ◌∷◌, ◌++◌, length, map, filter, take, Option, Some, None, slice_get, if◌then◌else◌, min}
+use Rattle.std.specs.Prelude.{ℕ, ◌≡◌, ◌+◌, ◌-◌, ◌==◌, Bool, true, false, ◌&&◌, not, List, [], ◌∷◌}
+use Rattle.std.specs.Prelude.{◌++◌, length, map, filter, take, Option, Some, None, slice_get}
+use Rattle.std.specs.Prelude.{if◌then◌else◌, min}
 use Rattle.std.specs.List.{filter_map, list_any, sum_by}
 use Rattle.std.specs.Option.{option_map_or}
 use Rattle.page_core.specs.declared.change.ChangeKind.{ChangeKind}
@@ -7,7 +9,8 @@ use Rattle.page_core.specs.declared.change.ChangeKind.TheVariants as kind
 use Rattle.page_core.specs.Change.{kind_of}
 use Rattle.log_store.specs.declared.pending_change.PendingChange.{PendingChange}
 use Rattle.log_store.specs.declared.record.Record.{Record}
-use Rattle.log_store.specs.declared.record.Record.TheVariants.{Begin, Update, Comp, Commit, Abort, End}
+use Rattle.log_store.specs.declared.record.Record.TheVariants.{Begin, Update, Comp, Commit, Abort}
+use Rattle.log_store.specs.declared.record.Record.TheVariants.{End}
 use Rattle.log_store.specs.Record.{own_lsn}
 
 -- the transaction of a record
@@ -84,8 +87,8 @@ without_last xs = take (length xs - 1) xs
 abbrev pub last_of : {X : Type 0} → List X → Option X
 last_of xs = slice_get xs (length xs - 1)
 
--- the changes that are pending after one more record of the transaction: an Update adds one at the end, and a
--- Comp takes the last one away
+-- the changes that are pending after one more record of the transaction: an Update adds one at the
+-- end, and a Comp takes the last one away
 abbrev pub with_pending : List PendingChange → Record → List PendingChange
 with_pending changes (Update lsn txn prev page slot change) =
     changes ++ record { lsn = lsn; prev = prev; page = page; slot = slot; change = change } ∷ []
@@ -106,7 +109,8 @@ abbrev pub is_add : ChangeKind → Bool
 is_add kind.Add = true
 is_add kind.Set = false
 
--- a pending change keeps another transaction's change of this kind from its slot: only two Adds may stand there
+-- a pending change keeps another transaction's change of this kind from its slot: only two Adds may
+-- stand there
 abbrev pub keeps_out : ℕ → ℕ → ChangeKind → PendingChange → Bool
 keeps_out page slot kind p =
     (p.page == page) && (p.slot == slot) && not (is_add kind && is_add (kind_of p.change))
@@ -116,14 +120,17 @@ abbrev pub least : List ℕ → Option ℕ
 least [] = None
 least (n ∷ ns) = Some (option_map_or (min n) (least ns) n)
 
--- the least other open transaction that holds the slot against a change of this kind by transaction t
+-- the least other open transaction that holds the slot against a change of this kind by transaction
+-- t
 abbrev pub holder : List Record → ℕ → ℕ → ChangeKind → ℕ → Option ℕ
 holder rs page slot kind t =
-    least (filter (λ o. not (o == t) && list_any (keeps_out page slot kind) (pending rs o)) (open_in rs))
+    least (filter (λ o. not (o == t) && list_any (keeps_out page slot kind) (pending rs o))
+    (open_in rs))
 
 -- ---- room
 
--- the records that an open transaction may still need: one for each pending change, its Abort, and its last one
+-- the records that an open transaction may still need: one for each pending change, its Abort, and
+-- its last one
 abbrev pub owed_by : List Record → ℕ → ℕ
 owed_by rs t = length (pending rs t) + (if has_aborted rs t then 1 else 2)
 

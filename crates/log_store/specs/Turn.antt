@@ -4,11 +4,16 @@ use Rattle.std.specs.Io.KnownBytes.{Consumes, IsAtEnd}
 use Rattle.log_store.specs.declared.scan.Turn.{Turn}
 use Rattle.log_store.specs.declared.scan.Turn.TheVariants.{More, End, Failed}
 
--- from wherever the reader gave these bytes and what fills the buffer, it has now given so many more
+-- from wherever the reader gave these bytes and what fills the buffer, it has now given so many
+-- more
 abbrev pub GoesOn : Option (List ℕ) → Option (List ℕ) → List ℕ → List ℕ → Type 0
-GoesOn old new before after = (start : Option (List ℕ)) (given : List ℕ) → Consumes start old (given ++ before) → Consumes start new (given ++ after)
+GoesOn old new before after = (start : Option (List ℕ)) (given : List ℕ)
+    → Consumes start old (given ++ before) → Consumes start new (given ++ after)
 
 abbrev pub Gives : Option (List ℕ) → Option (List ℕ) → ℕ → List ℕ → List ℕ → Turn → Type 0
-Gives old new filled before after (More count) = (filled + count ≤ length after) × GoesOn old new (take filled before) (take (filled + count) after)
-Gives old new filled before after End = IsAtEnd new × GoesOn old new (take filled before) (take filled before)
+Gives old new filled before after (More count) =
+    (filled + count ≤ length after)
+    × GoesOn old new (take filled before) (take (filled + count) after)
+Gives old new filled before after End =
+    IsAtEnd new × GoesOn old new (take filled before) (take filled before)
 Gives old new filled before after Failed = GoesOn old new (take filled before) (take filled before)

@@ -4,9 +4,11 @@ use Rattle.std.specs.List.{filter_map}
 use Rattle.page_core.specs.declared.change.Change.{Change}
 use Rattle.page_core.specs.declared.change.Change.TheVariants.{Set, Add}
 use Rattle.log_store.specs.declared.record.Record.{Record}
-use Rattle.log_store.specs.declared.record.Record.TheVariants.{Begin, Update, Comp, Commit, Abort, End}
+use Rattle.log_store.specs.declared.record.Record.TheVariants.{Begin, Update, Comp, Commit, Abort}
+use Rattle.log_store.specs.declared.record.Record.TheVariants.{End}
 
--- a call that a log shows: a begin with the number that it answered, and a Set without the number that it replaced
+-- a call that a log shows: a begin with the number that it answered, and a Set without the number
+-- that it replaced
 pub data Call : Type 0 where
   BeginCall : (txn : ℕ) → Call
   SetCall : (txn page slot number : ℕ) → Call

@@ -5,7 +5,8 @@ ghost use Rattle.log_store.specs.declared.record.Record.{Record};
 ghost use Rattle.page_core.specs.declared.change.Change.TheVariants.{Add, Set};
 ghost use Rattle.log_store.specs.declared.record.Record.TheVariants.{Comp, Update};
 ghost use Rattle.log_store.specs.Fields.{fields_of};
-ghost use Rattle.log_store.specs.Record.{HasNoBefore, IsBefore, IsLsn, IsPageChange, IsRecord, IsTxn};
+ghost use Rattle.log_store.specs.Record.{HasNoBefore, IsBefore, IsLsn, IsPageChange, IsRecord};
+ghost use Rattle.log_store.specs.Record.{IsTxn};
 ghost use Rattle.log_store.specs.Record.{SpellsRecord, own_lsn, record_bytes};
 
 use crate::fields::{ABORT, ADD, BEGIN, COMMIT, COMP, END, Fields, SET, UPDATE};
@@ -105,9 +106,9 @@ fn comp(fields: &Fields, change: Change) -> Record
     }
 }
 
-/// The record, if a log may have it and it has just these numbers. It is asked of each kind of record
-/// and of change by itself: then the compiler knows most of the numbers, and leaves out their
-/// comparison.
+/// The record, if a log may have it and it has just these numbers. It is asked of each kind of
+/// record and of change by itself: then the compiler knows most of the numbers, and leaves out
+/// their comparison.
 #[inline(always)]
 fn if_spelled(record: Record, fields: &Fields) -> Option<Record>
     ensures found { IfSome result (λ r. (r ≡ «record») × IsRecord r × (fields_of r ≡ fields.now)) }

@@ -15,7 +15,8 @@ pub enum LogReadFault {
     OutOfMemory,
     /// The first 64 bytes are no header, or there are fewer.
     BadHeader,
-    /// The 64 bytes at this offset are no record that may stand there, or name a page outside the volume.
+    /// The 64 bytes at this offset are no record that may stand there, or name a page outside the
+    /// volume.
     BadRecord(Lsn),
     /// The record at this offset may not follow those before it: a transaction that is not open, a
     /// PrevLSN that is not its last record, a slot that another one holds, and so on.

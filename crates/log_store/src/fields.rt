@@ -7,8 +7,8 @@ use crate::record::Record;
 use page_core::field::{u16_at, u32_at, u64_at};
 use page_core::{Change, Lsn, TxnNo};
 
-/// The numbers of a record in the order of its bytes. A field that a kind does not have is 0. Where a
-/// byte is followed by bytes that are always 0, the byte and these are one number.
+/// The numbers of a record in the order of its bytes. A field that a kind does not have is 0. Where
+/// a byte is followed by bytes that are always 0, the byte and these are one number.
 #[derive(Clone, Copy, Debug, PartialEq, Eq)]
 pub struct Fields {
     pub kind: u32,
@@ -63,7 +63,8 @@ const NO_FIELDS: Fields = Fields {
 };
 
 impl Fields {
-    ghost use Rattle.log_store.specs.Fields.{AreInRange, fields_bytes, fields_of, fields_of_change, fields_of_step};
+    ghost use Rattle.log_store.specs.Fields.{AreInRange, fields_bytes, fields_of, fields_of_change};
+    ghost use Rattle.log_store.specs.Fields.{fields_of_step};
     ghost use Rattle.log_store.specs.declared.fields.Fields.{Fields};
 
     /// The numbers that these bytes spell.

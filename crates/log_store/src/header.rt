@@ -10,8 +10,8 @@ use page_core::field::u32_at;
 /// The text in front of a log.
 const MAGIC: [u8; 8] = *b"AIMGLOG1";
 
-/// The header of a log of so many pages: 64 bytes. With a count of 0 or above 65,536 no reader takes
-/// it for one.
+/// The header of a log of so many pages: 64 bytes. With a count of 0 or above 65,536 no reader
+/// takes it for one.
 pub fn encode_header(pages: u32) -> [u8; HEADER_BYTES]
     ensures { result ≡ header_bytes pages }
 {

@@ -89,7 +89,8 @@ fn names_number(pages: &[Page], next: &Record) -> bool
     }
 }
 
-/// Makes the change of a record, if it makes one, on the page that it names. Every other page stays.
+/// Makes the change of a record, if it makes one, on the page that it names. Every other page
+/// stays.
 fn redo_on_its_page(pages: &mut [Page], next: &Record)
     requires within { IsWithin (length pages.old) next.now }
     requires numbered { AreNumbered pages.old }

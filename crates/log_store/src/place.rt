@@ -1,5 +1,5 @@
-//! The place of a record in a log: its own LSN is the offset at which it stands, and the page that it
-//! changes is one of the volume.
+//! The place of a record in a log: its own LSN is the offset at which it stands, and the page that
+//! it changes is one of the volume.
 
 ghost use Rattle.std.specs.Prelude.{◌≡◌, ◌↔◌, length, IfSome, Some, IsTrue};
 ghost use Rattle.log_store.specs.declared.record.Record.{Record};

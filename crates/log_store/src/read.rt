@@ -25,9 +25,11 @@ pub fn read_log<R: Read>(alloc: Global, reader: &mut R) -> Result<LogImage, LogR
         → SpellsLog log input → IsLinked log.records
         → MatchResult result (λ read. read ≡ log) IsOutside }
     // The fault is the first one.
-    ensures first { IfErr result (λ fault. IfSome (R.remaining reader.old) (λ input. Refuses input fault)) }
+    ensures first { IfErr result (λ fault. IfSome (R.remaining reader.old)
+        (λ input. Refuses input fault)) }
     // Where the reader failed, what it gave until then holds none.
-    ensures unread { IfErr result (GaveNoFault [] (R.remaining reader.old) (R.remaining reader.new)) }
+    ensures unread { IfErr result (GaveNoFault [] (R.remaining reader.old)
+        (R.remaining reader.new)) }
 {
     Ok(scan_log::<R, LogImage>(alloc, reader)?.sink)
 }

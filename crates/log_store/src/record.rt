@@ -22,8 +22,8 @@ pub enum Record {
         change: Change,
     },
     /// A compensation record: a transaction takes back its last pending change. `undo_next` is its
-    /// UndoNxt, the PrevLSN of the Update that it compensates. It is never undone, so a Set in it has
-    /// 0 as its `before`.
+    /// UndoNxt, the PrevLSN of the Update that it compensates. It is never undone, so a Set in it
+    /// has 0 as its `before`.
     Comp {
         lsn: Lsn,
         txn: TxnNo,

@@ -66,8 +66,8 @@ fn push_record(
     Ok(records.push(record)?)
 }
 
-/// Takes the whole records among these bytes, which stand behind the first `count` records. The sink
-/// gets them all at once.
+/// Takes the whole records among these bytes, which stand behind the first `count` records. The
+/// sink gets them all at once.
 fn take_records<S: RecordSink>(
     sink: &mut S,
     records: &mut Vec<Record>,
@@ -97,10 +97,13 @@ fn take_records<S: RecordSink>(
 /// Reads the header, and answers how many turns that took.
 fn read_header<R: Read>(reader: &mut R, header: &mut [u8]) -> Result<u32, LogReadFault>
     requires { length header.old ≡ HEADER_BYTES }
-    ensures ok { OnOk result (Consumes (R.remaining reader.old) (R.remaining reader.new) header.new) }
+    ensures ok { OnOk result (Consumes (R.remaining reader.old)
+        (R.remaining reader.new) header.new) }
     ensures turns { IfOk result (λ turns. turns ≤ MAX_TURNS) }
-    ensures first { IfErr result (λ fault. IfSome (R.remaining reader.old) (λ input. Refuses input fault)) }
-    ensures unread { IfErr result (GaveNoFault [] (R.remaining reader.old) (R.remaining reader.new)) }
+    ensures first { IfErr result (λ fault. IfSome (R.remaining reader.old)
+        (λ input. Refuses input fault)) }
+    ensures unread { IfErr result (GaveNoFault [] (R.remaining reader.old)
+        (R.remaining reader.new)) }
 {
     let mut filled = 0;
     for turn in 0..MAX_TURNS {
@@ -219,13 +222,14 @@ fn keep_rest(buffer: &mut [u8], filled: usize) -> usize
     filled - whole
 }
 
-/// Reads a log to the input's end, and hands its records to a sink as they come. A record is handed on
-/// only once all of the bytes up to its end are found right, and it may follow the records before it.
+/// Reads a log to the input's end, and hands its records to a sink as they come. A record is handed
+/// on only once all of the bytes up to its end are found right, and it may follow the records
+/// before it.
 ///
 /// It stops at the first fault, since nothing behind it can come before it. Where the reader stands
 /// then is not said. An interrupted read is made again. `ReadFault` comes where the reader fails
-/// otherwise, and where it was asked 134,217,728 times without coming to its end. `OutOfMemory` comes
-/// where room for the sink or for what is read is refused.
+/// otherwise, and where it was asked 134,217,728 times without coming to its end. `OutOfMemory`
+/// comes where room for the sink or for what is read is refused.
 pub fn scan_log<R: Read, S: RecordSink + Drop>(
     alloc: Global,
     reader: &mut R,
@@ -236,9 +240,11 @@ pub fn scan_log<R: Read, S: RecordSink + Drop>(
         × (IsLog log × IfSome (R.remaining reader.old) (SpellsLog log)))))) }
     ensures end { OnOk result (IsAtEnd (R.remaining reader.new)) }
     // The fault is the first one.
-    ensures first { IfErr result (λ fault. IfSome (R.remaining reader.old) (λ input. Refuses input fault)) }
+    ensures first { IfErr result (λ fault. IfSome (R.remaining reader.old)
+        (λ input. Refuses input fault)) }
     // Where the reader failed, what it gave until then holds none.
-    ensures unread { IfErr result (GaveNoFault [] (R.remaining reader.old) (R.remaining reader.new)) }
+    ensures unread { IfErr result (GaveNoFault [] (R.remaining reader.old)
+        (R.remaining reader.new)) }
 {
     let mut header = [0; HEADER_BYTES];
     let turns = read_header(reader, &mut header)?;

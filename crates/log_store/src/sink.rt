@@ -19,7 +19,8 @@ pub trait RecordSink {
         requires { IsPageCount pages }
         ensures { IfOk result (λ sink. holds sink (record { pages = pages; records = [] })) };
 
-    /// Takes the next records, in their order. After an `Err` nothing is known of what the sink holds.
+    /// Takes the next records, in their order. After an `Err` nothing is known of what the sink
+    /// holds.
     fn take(&mut self, next: &[Record]) -> Result<(), AllocError>
         requires { (log : Log) × (holds self.old log × IsLog (with_next log next.now)) }
         ensures { OnOk result ((log : Log) → holds self.old log → IsLog (with_next log next.now)

@@ -1,4 +1,5 @@
-//! What no clause says: the bytes of known logs, what becomes of a reader's failures, and that each call succeeds.
+//! What no clause says: the bytes of known logs, what becomes of a reader's failures, and that each
+//! call succeeds.
 
 mod readers;
 mod vectors;
@@ -89,7 +90,8 @@ fn a_later_kind_is_no_record(rt: HostRuntime) {
     assert_eq!(rt; decode(&bytes, Lsn(640)), None);
 }
 
-/// The page count and the count of records of the log that a reader gives. They are the first of the known records.
+/// The page count and the count of records of the log that a reader gives. They are the first of
+/// the known records.
 fn read_known<R: Read>(
     rt: &impl Abort,
     alloc: Global,

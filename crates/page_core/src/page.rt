@@ -4,7 +4,8 @@ ghost use Rattle.std.specs.Prelude.{ℕ, ◌≡◌, ◌<◌, ◌*◌, ◌^◌, �
 ghost use Rattle.std.specs.List.{flat_map, AllByRecursion};
 ghost use Rattle.std.specs.Int.{w64, to_le_bytes};
 ghost use Rattle.page_core.specs.declared.page.Page.{Page};
-ghost use Rattle.page_core.specs.Page.{IsPage, SpellsPage, formatted, page_bytes, put, volume_bytes};
+ghost use Rattle.page_core.specs.Page.{IsPage, SpellsPage, formatted, page_bytes, put};
+ghost use Rattle.page_core.specs.Page.{volume_bytes};
 
 use crate::change::Change;
 use crate::field::{u32_at, u64_at};

@@ -1,5 +1,6 @@
 -- Redo by the page's LSN of a page that has the changes of a beginning of the log.
-use Rattle.std.proofs.Common.{◌≡◌, ℕ, zero, suc, ◌+◌, ◌*◌, ◌<◌, ◌≤◌, Bool, true, false, cond, List, [], ◌∷◌, ◌++◌, ◌-◌, length, get_or, take, refl, sym, ap, subst, ◌∙◌, arith, inl, inr}
+use Rattle.std.proofs.Common.{◌≡◌, ℕ, zero, suc, ◌+◌, ◌*◌, ◌<◌, ◌≤◌, Bool, true, false, cond, List, [], ◌∷◌, ◌++◌, ◌-◌}
+use Rattle.std.proofs.Common.{length, get_or, take, refl, sym, ap, subst, ◌∙◌, arith, inl, inr}
 use Rattle.std.specs.List.{filter}
 use Rattle.std.proofs.lemmas.List.{take_all}
 use Rattle.std.proofs.lemmas.Bool.{lt-ltb, le-ltb}
@@ -23,7 +24,8 @@ none_above log valid (suc i) lsn d le reached =
     let next : i + 1 ≡ suc i = omega arith in
     let not : is_above lsn r ≡ false = le-ltb lsn (own_lsn r) (omega arith) in
     subst (λ (n : ℕ). filter (is_above lsn) (take n log.records) ≡ []) next
-    (filter-more lsn log.records i d (omega arith) ∙ ap (λ (b : Bool). filter (is_above lsn) (take i log.records) ++ cond b (r ∷ []) []) not
+    (filter-more lsn log.records i d (omega arith)
+        ∙ ap (λ (b : Bool). filter (is_above lsn) (take i log.records) ++ cond b (r ∷ []) []) not
     ∙ ap (λ (rs : List Record). rs ++ []) (none_above log valid i lsn d (omega arith) (omega arith)))
 
 -- the redo of a record that changes nothing
@@ -52,10 +54,12 @@ redo_of_own log valid p (suc i) d le =
           subst (λ (page : Page). redone page (take (i + 1) rs) ≡ page) (sym same)
           (ap (image_from q) (filter-more q.lsn rs i d lt)
           ∙ image_from-append q (filter (is_above q.lsn) (take i rs)) (cond (is_above q.lsn r) (r ∷ []) [])
-          ∙ ap (λ (page : Page). image_from page (cond (is_above q.lsn r) (r ∷ []) [])) (redo_of_own log valid p i d (omega arith))
+          ∙ ap (λ (page : Page). image_from page (cond (is_above q.lsn r) (r ∷ []) []))
+              (redo_of_own log valid p i d (omega arith))
           ∙ no_page q r same)
       | inr moved ↦
-          ap (image_from (with_record q r)) (none_above log valid (i + 1) (with_record q r).lsn d (omega arith) (omega (arith, moved, own)))
+          ap (image_from (with_record q r))
+              (none_above log valid (i + 1) (with_record q r).lsn d (omega arith) (omega (arith, moved, own)))
     ]))
 
 -- redo of the records behind those that the page has makes each change
@@ -78,7 +82,8 @@ redo_goes_on log valid p k (suc m) d le =
     let so_far = image_from q (filter (is_above q.lsn) (take i rs)) in
     subst (λ (n : ℕ). redone q (take n rs) ≡ image (take n rs) p) next
     (redo-more q q.lsn rs i d lt ∙ ap (λ (b : Bool). cond b (with_record so_far r) so_far) above
-    ∙ ap (λ (page : Page). with_record page r) (redo_goes_on log valid p k m d (omega arith)) ∙ sym (image_from-more (formatted p) rs i d lt))
+    ∙ ap (λ (page : Page). with_record page r) (redo_goes_on log valid p k m d (omega arith))
+        ∙ sym (image_from-more (formatted p) rs i d lt))
 
 nothing_of_none : (k : ℕ) → take {A = Record} k [] ≡ []
 nothing_of_none zero = refl
@@ -88,7 +93,8 @@ pub redo_completes : (log : Log) (count number : ℕ) → IsLog log → count �
     → redone (image (take count log.records) number) log.records ≡ image log.records number
 redo_completes log count number valid le = by_first log.records refl
   where
-    by_first : (rs : List Record) → log.records ≡ rs → redone (image (take count log.records) number) log.records ≡ image log.records number
+    by_first : (rs : List Record) → log.records ≡ rs
+        → redone (image (take count log.records) number) log.records ≡ image log.records number
     by_first [] e =
         subst (λ (rs : List Record). redone (image (take count rs) number) rs ≡ image rs number) (sym e)
         (ap (λ (rs : List Record). image rs number) (nothing_of_none count))

@@ -1,5 +1,6 @@
 -- The pages that a log makes are pages that a volume may have.
-use Rattle.std.proofs.Common.{ℕ, zero, suc, ◌+◌, ◌<◌, ◌≤◌, ◌^◌, List, [], ◌∷◌, length, get_or, set, replicate, map, refl, subst, ◌∙◌, arith}
+use Rattle.std.proofs.Common.{ℕ, zero, suc, ◌+◌, ◌<◌, ◌≤◌, ◌^◌, List, [], ◌∷◌, length, get_or, set, replicate, map}
+use Rattle.std.proofs.Common.{refl, subst, ◌∙◌, arith}
 use Rattle.std.specs.Prelude.{Option, IfSome}
 use Rattle.std.specs.List.{range_with_len, AllByRecursion}
 use Rattle.std.proofs.lemmas.List.{length-set}
@@ -20,7 +21,8 @@ all_replicate : {X : Type 0} (P : X → Type 0) (n : ℕ) (x : X) → P x → Al
 all_replicate P zero x here = tt
 all_replicate P (suc n) x here = (here, all_replicate P n x here)
 
-all_set : {X : Type 0} (P : X → Type 0) (xs : List X) (i : ℕ) (x : X) → AllByRecursion P xs → P x → AllByRecursion P (set xs i x)
+all_set : {X : Type 0} (P : X → Type 0) (xs : List X) (i : ℕ) (x : X) → AllByRecursion P xs → P x
+    → AllByRecursion P (set xs i x)
 all_set P [] i x all new = all
 all_set P (y ∷ ys) zero x all new = (new, all.1)
 all_set P (y ∷ ys) (suc i) x all new = (all.0, all_set P ys i x all.1 new)
@@ -39,7 +41,8 @@ changed_fits : (change : Change) (number : ℕ) → IsChange change → changed 
 changed_fits (Set before after) number valid = valid.1
 changed_fits (Add amount) number valid = omega arith
 
-valid_put : (page : Page) (lsn slot : ℕ) (change : Change) → IsPage page → IsLsn lsn → IsChange change → IsPage (put page lsn slot change)
+valid_put : (page : Page) (lsn slot : ℕ) (change : Change) → IsPage page → IsLsn lsn → IsChange change
+    → IsPage (put page lsn slot change)
 valid_put page lsn slot change page_valid lsn_valid change_valid = record {
   number = page_valid.number;
   lsn = lsn_valid.fits;
@@ -63,10 +66,12 @@ valid-with_record page r page_valid valid = with_record-has IsPage page r page_v
     let fits : IsPageChange c = subst (λ (o : Option PageChange). IfSome o IsPageChange) e parts.1 in
     valid_put page (own_lsn r) c.slot c.change page_valid parts.0 fits.change)
 
-valid-image_from : (page : Page) (rs : List Record) → IsPage page → ((i : ℕ) (d : Record) → i < length rs → IsRecord (get_or rs i d)) → IsPage (image_from page rs)
+valid-image_from : (page : Page) (rs : List Record) → IsPage page
+    → ((i : ℕ) (d : Record) → i < length rs → IsRecord (get_or rs i d)) → IsPage (image_from page rs)
 valid-image_from page [] page_valid each = page_valid
 valid-image_from page (r ∷ rs) page_valid each =
-    valid-image_from (with_record page r) rs (valid-with_record page r page_valid (each 0 r (omega arith))) (λ i d lt. each (suc i) d (omega arith))
+    valid-image_from (with_record page r) rs (valid-with_record page r page_valid (each 0 r (omega arith)))
+        (λ i d lt. each (suc i) d (omega arith))
 
 pub valid-redo_all : (log : Log) → IsLog log → AllByRecursion IsPage (redo_all log.records log.pages)
 valid-redo_all log valid = over 0 log.pages (let few = valid.pages.most in omega arith)
@@ -74,6 +79,7 @@ valid-redo_all log valid = over 0 log.pages (let few = valid.pages.most in omega
     over : (first n : ℕ) → first + n ≤ 65536 → AllByRecursion IsPage (map (image log.records) (range_with_len first n))
     over first zero few = tt
     over first (suc n) few = (
-      valid-image_from (formatted first) log.records (valid_formatted first (omega arith)) (λ i d lt. (valid.records i d lt).valid),
+      valid-image_from (formatted first) log.records (valid_formatted first (omega arith))
+          (λ i d lt. (valid.records i d lt).valid),
       over (first + 1) n (omega arith),
     )

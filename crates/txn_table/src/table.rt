@@ -4,7 +4,8 @@ ghost use Rattle.std.specs.Prelude.{ℕ, ◌≡◌, ◌+◌, ◌<◌, ◌++◌, 
 ghost use Rattle.std.specs.Prelude.{if◌then◌else◌, Some, None};
 ghost use Rattle.log_store.specs.declared.record.Record.{Record};
 ghost use Rattle.log_store.specs.Linked.{MayFollow};
-ghost use Rattle.log_store.specs.Transactions.{begun, holder, is_open, last_of, open_in, owed, pending};
+ghost use Rattle.log_store.specs.Transactions.{begun, holder, is_open, last_of, open_in, owed};
+ghost use Rattle.log_store.specs.Transactions.{pending};
 ghost use Rattle.log_store.specs.Table.{entry_of, table_of};
 ghost use Rattle.log_store.specs.TxnState.{txn_state};
 ghost use Rattle.txn_table.specs.TxnTable.{IsTableOf};
@@ -14,8 +15,8 @@ use page_core::{ChangeKind, PageNo, SlotNo, TxnNo};
 use std::alloc::{AllocError, Global};
 use std::marker::Model;
 
-/// The open transactions of a log (ARIES, section 4.3): which they are, their last records and their
-/// pending changes, and who holds which slot. The log is the list of records that were noted.
+/// The open transactions of a log (ARIES, section 4.3): which they are, their last records and
+/// their pending changes, and who holds which slot. The log is the list of records that were noted.
 #[derive(Drop)]
 pub struct TxnTable {
     open: OpenTransactions,
@@ -47,8 +48,8 @@ impl TxnTable {
         TxnNo(self.open.begun() + 1)
     }
 
-    /// The transaction that holds a slot against a change of this kind: the least other open one that
-    /// does. Where none does, the change may be made.
+    /// The transaction that holds a slot against a change of this kind: the least other open one
+    /// that does. Where none does, the change may be made.
     pub fn may_change(
         &self,
         txn: TxnNo,
@@ -56,7 +57,8 @@ impl TxnTable {
         slot: SlotNo,
         kind: ChangeKind,
     ) -> Option<TxnNo>
-        ensures { (rs : List Record) → IsTableOf rs self.now → result ≡ holder rs page slot kind txn }
+        ensures { (rs : List Record) → IsTableOf rs self.now
+            → result ≡ holder rs page slot kind txn }
     {
         self.open.holder(page, slot, kind, txn)
     }

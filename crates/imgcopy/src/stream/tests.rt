@@ -129,8 +129,8 @@ fn writes_nothing_of_what_is_no_log(rt: HostRuntime) -> Result<(), Fail> {
     Ok(())
 }
 
-/// Gives at most `step` bytes at a read. Each read is interrupted so often before. The read after `good_reads` others
-/// fails, and those after it go on.
+/// Gives at most `step` bytes at a read. Each read is interrupted so often before. The read after
+/// `good_reads` others fails, and those after it go on.
 #[derive(Drop)]
 struct Hesitant<'a> {
     rest: &'a [u8],
@@ -224,7 +224,8 @@ fn a_bad_record_goes_before_a_later_failure(rt: HostRuntime) -> Result<(), Fail>
     Ok(())
 }
 
-/// Takes at most `step` bytes at a write, and holds `room` in all. When full it fails so, or takes nothing.
+/// Takes at most `step` bytes at a write, and holds `room` in all. When full it fails so, or takes
+/// nothing.
 #[derive(Drop)]
 struct Narrow {
     held: Vec<u8>,

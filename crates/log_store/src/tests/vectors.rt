@@ -112,8 +112,9 @@ pub fn bytes_of(spelling: &[u64; 8]) -> [u8; 64] {
     bytes
 }
 
-/// A log: its header's page count, which of the known records follow, which byte is another one, and how many bytes
-/// there are. The reading gives the page count and the count of records, or the fault.
+/// A log: its header's page count, which of the known records follow, which byte is another one,
+/// and how many bytes there are. The reading gives the page count and the count of records, or the
+/// fault.
 #[derive(Clone, Copy)]
 pub struct Case {
     pub name: &'static str,

@@ -7,4 +7,5 @@ returns-in-redo-clause-redo g c = λ redo. MatchResult-from_both c.redo_of.resul
     (IfErr-weaker c.redo_of.result _ _ (λ fault only. only (redo_faultless _ redo)) c.redo_of.ensures.only)
 
 pub returns-in-redo-clause-redo_only : goal.returns-in-redo-clause-redo_only
-returns-in-redo-clause-redo_only g c = IfOk-weaker c.redo_of.result _ _ (λ command given is. given_redo _ command given is) c.redo_of.ensures.ok
+returns-in-redo-clause-redo_only g c = IfOk-weaker c.redo_of.result _ _
+    (λ command given is. given_redo _ command given is) c.redo_of.ensures.ok

@@ -5,5 +5,6 @@ use Rattle.imgcopy.proofs.command.redo_of.Goals as goal
 
 pub returns-in_err-try_get_matches_from-clause-explained :
     goal.returns-in_err-try_get_matches_from-clause-explained
-returns-in_err-try_get_matches_from-clause-explained g c = passed_up 0 _ _ redo_app _ _ (lit< tt) refl c.in_ok-redo_app.ensures refl c.requires
+returns-in_err-try_get_matches_from-clause-explained g c =
+    passed_up 0 _ _ redo_app _ _ (lit< tt) refl c.in_ok-redo_app.ensures refl c.requires
     c.in_err-try_get_matches_from.ensures.kinds c.from_residual-in_err-try_get_matches_from.ensures.1

@@ -8,7 +8,8 @@ invariant-loop-first g l = record {
   within : l.first ≤ length l.pages;
   count : l.done ≡ length (volume_bytes (take l.first l.pages));
   small : l.done ≤ 512 * l.first;
-  written : Appends (g.W.Write.contents l.fn.writer) (g.W.Write.contents l.writer) (volume_bytes (take l.first l.pages));
+  written : Appends (g.W.Write.contents l.fn.writer) (g.W.Write.contents l.writer)
+      (volume_bytes (take l.first l.pages));
 }
 
 abbrev pub decreases-loop-first : goal.decreases-loop-first

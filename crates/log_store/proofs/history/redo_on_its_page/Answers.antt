@@ -13,11 +13,13 @@ returns-in-Some c =
     let r = c.args.next.now in
     let change = c.in-Some.change in
     let here : change_of r ≡ Some change = sym c.in-Some.ensures in
-    let number : c.change-in-Some.inside.0.0.0 ≡ change.page = ap (λ (x : PageChange). x.page) c.change-in-Some.view_is in
+    let number : c.change-in-Some.inside.0.0.0 ≡ change.page =
+    ap (λ (x : PageChange). x.page) c.change-in-Some.view_is in
     let within : change.page < length pages =
     subst (λ (o : Option PageChange). IfSome o (λ x. x.page < length pages)) here c.requires.within in
     ap (λ (n : ℕ). set pages n c.redo_on.new.page) number
-    ∙ ap (set pages change.page) (c.redo_on.ensures ∙ ap (λ (n : ℕ). with_record (get_or pages n c.index-pages-change.result) r) number)
+    ∙ ap (set pages change.page) (c.redo_on.ensures
+    ∙ ap (λ (n : ℕ). with_record (get_or pages n c.index-pages-change.result) r) number)
     ∙ one_changed pages r change c.index-pages-change.result here within c.requires.numbered
 
 pub returns-in_default : goal.returns-in_default

@@ -17,4 +17,5 @@ pub returns-in_err-scan_log-clause-only : goal.returns-in_err-scan_log-clause-on
 returns-in_err-scan_log-clause-only g c =
     let p = err_from_is_err_and c.from_residual.result c.from_residual.ensures.1 in
     rw (p.1, p.2) (λ log input e spells linked.
-    only_outside log input spells linked c.in_err-scan_log.field-0.0 (at_some _ input (λ i. Refuses i c.in_err-scan_log.field-0.0) e c.in_err-scan_log.ensures.first))
+    only_outside log input spells linked c.in_err-scan_log.field-0.0
+    (at_some _ input (λ i. Refuses i c.in_err-scan_log.field-0.0) e c.in_err-scan_log.ensures.first))

@@ -16,4 +16,5 @@ returns-clause-rest c =
     let inside : k < length new = omega (arith, length-take (n - w) new) in
     let there : w + k < length old = omega arith in
     get_or-take (n - w) new k d below ∙ get_or_default new k d 0 inside ∙ c.loop-i.invariant.moved k (omega arith)
-    ∙ get_or_default old (w + k) 0 d there ∙ sym (get_or-drop w (take n old) k d ∙ get_or-take n old (w + k) d (omega arith)))
+    ∙ get_or_default old (w + k) 0 d there
+    ∙ sym (get_or-drop w (take n old) k d ∙ get_or-take n old (w + k) d (omega arith)))

@@ -16,13 +16,16 @@ returns-then-count-ge-MAX_RECORDS-clause-first c = λ log given rest read.
     (omega (arith, length-append c.args.bytes.now rest))
 
 -- how many pages the history has
-count : (log : Log) (rs : List Record) (made : Made) (pages count : ℕ) (given : List ℕ) → HasRead log rs made pages count given → length made.pages ≡ pages
-count log rs made pages n given read = ap length read.made_of.pages ∙ length-redo_all (log.records ++ rs) log.pages ∙ read.pages_are
+count : (log : Log) (rs : List Record) (made : Made) (pages count : ℕ) (given : List ℕ)
+    → HasRead log rs made pages count given → length made.pages ≡ pages
+count log rs made pages n given read = ap length read.made_of.pages ∙ length-redo_all (log.records ++ rs) log.pages
+    ∙ read.pages_are
 
 pub follow-requires-clause-within : goal.follow-requires-clause-within
 follow-requires-clause-within c =
     let read = c.requires.so_far.1.1 in
-    subst (λ (n : ℕ). IsWithin n c.in-Some.record) (sym (count _ _ c.args.history.now c.args.pages c.args.count _ read)) c.in-Some.ensures.found.0.within
+    subst (λ (n : ℕ). IsWithin n c.in-Some.record)
+    (sym (count _ _ c.args.history.now c.args.pages c.args.count _ read)) c.in-Some.ensures.found.0.within
 
 pub returns-in_default-clause-first : goal.returns-in_default-clause-first
 returns-in_default-clause-first c = λ log given rest read.
@@ -33,10 +36,13 @@ pub returns-then-not-branch-clause-first : goal.returns-then-not-branch-clause-f
 returns-then-not-branch-clause-first c = λ log given rest read.
     let r = c.in-Some.record in
     let made = c.args.history.now in
-    let within : IsWithin log.pages r = subst (λ (n : ℕ). IsWithin n r) (sym read.pages_are) c.in-Some.ensures.found.0.within in
-    read_bad_chain log c.args.records.now.items r made c.args.pages c.args.count given c.args.bytes.now rest read (omega arith)
+    let within : IsWithin log.pages r = subst (λ (n : ℕ). IsWithin n r)
+    (sym read.pages_are) c.in-Some.ensures.found.0.within in
+    read_bad_chain log c.args.records.now.items r made c.args.pages c.args.count given c.args.bytes.now rest read
+    (omega arith)
     c.in-Some.ensures.found.0 c.in-Some.ensures.found.1
-    (λ may. let yes = c.in_ok-follow.ensures.refused (may_come (with_next log c.args.records.now.items) made r read.linked read.made_of within may) in
+    (λ may. let yes = c.in_ok-follow.ensures.refused
+    (may_come (with_next log c.args.records.now.items) made r read.linked read.made_of within may) in
     absurd (search rules))
 
 pub returns-clause-ok : goal.returns-clause-ok
@@ -46,10 +52,12 @@ returns-clause-ok c = λ log given read.
     let so_far = with_next log rs in
     let old = c.args.history.now in
     let new = c.follow.new.self in
-    let within : IsWithin log.pages r = subst (λ (n : ℕ). IsWithin n r) (sym read.pages_are) c.in-Some.ensures.found.0.within in
+    let within : IsWithin log.pages r = subst (λ (n : ℕ). IsWithin n r)
+    (sym read.pages_are) c.in-Some.ensures.found.0.within in
     let taken = c.in_ok-follow.ensures.taken (search rules) in
     let may = may_follow so_far old r read.linked read.made_of within taken.0 in
-    subst (λ (all : List Record). HasRead log all new c.args.pages (c.args.count + 1) (given ++ c.args.bytes.now)) (sym c.in_ok-push.ensures.items)
+    subst (λ (all : List Record). HasRead log all new c.args.pages (c.args.count + 1) (given ++ c.args.bytes.now))
+    (sym c.in_ok-push.ensures.items)
     (read_next log rs r old new c.args.pages c.args.count given c.args.bytes.now read (omega arith)
     c.in-Some.ensures.found.0 c.in-Some.ensures.found.1 (linked_next (log.records ++ rs) r read.linked may)
     (made_next so_far old new r read.linked read.made_of may taken.1))

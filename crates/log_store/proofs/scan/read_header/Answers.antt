@@ -11,12 +11,14 @@ returns-in-End-clause-first g c =
     let given = take c.loop-turn.filled c.loop-turn.header in
     let short = c.loop-turn.invariant.short in
     of_input _ _ given (λ input. Refuses input BadHeader) (c.in-End.ensures.1 _ [] c.loop-turn.invariant.taken)
-    (λ rest end. refuses_short given rest (omega (arith, length-take c.loop-turn.filled c.loop-turn.header)) (end c.in-End.ensures.0))
+    (λ rest end. refuses_short given rest (omega (arith, length-take c.loop-turn.filled c.loop-turn.header))
+    (end c.in-End.ensures.0))
 
 pub returns-then-filled-ge-HEADER_BYTES-clause-ok : goal.returns-then-filled-ge-HEADER_BYTES-clause-ok
 returns-then-filled-ge-HEADER_BYTES-clause-ok g c =
     let filled = c.loop-turn.filled + c.in-More.count in
-    let all : take filled c.read_more.new.buffer ≡ c.read_more.new.buffer = take_all filled c.read_more.new.buffer (omega arith) in
+    let all : take filled c.read_more.new.buffer ≡ c.read_more.new.buffer =
+    take_all filled c.read_more.new.buffer (omega arith) in
     subst (Consumes _ _) all (c.in-More.ensures.1 _ [] c.loop-turn.invariant.taken)
 
 pub loop-turn-preserved : goal.loop-turn-preserved
@@ -31,7 +33,8 @@ returns-in-Failed-clause-unread g c =
       take c.loop-turn.filled c.loop-turn.header,
       (
         c.in-Failed.ensures _ [] c.loop-turn.invariant.taken,
-        none_in_short (take c.loop-turn.filled c.loop-turn.header) (omega (arith, length-take c.loop-turn.filled c.loop-turn.header)),
+        none_in_short (take c.loop-turn.filled c.loop-turn.header)
+            (omega (arith, length-take c.loop-turn.filled c.loop-turn.header)),
       ),
     )
 
@@ -41,6 +44,7 @@ returns-clause-unread g c =
       take c.loop-turn.filled c.loop-turn.header,
       (
         c.loop-turn.invariant.taken,
-        none_in_short (take c.loop-turn.filled c.loop-turn.header) (omega (arith, length-take c.loop-turn.filled c.loop-turn.header)),
+        none_in_short (take c.loop-turn.filled c.loop-turn.header)
+            (omega (arith, length-take c.loop-turn.filled c.loop-turn.header)),
       ),
     )

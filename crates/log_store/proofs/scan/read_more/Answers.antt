@@ -14,10 +14,12 @@ fills buffer read filled n le fits =
     let after = put_mid filled (length buffer - filled) buffer read in
     let wide : filled + n - filled ≡ n = omega arith in
     let behind : drop filled after ≡ read ++ post_of filled (length buffer - filled) buffer =
-    drop_at (take filled buffer) (read ++ post_of filled (length buffer - filled) buffer) filled (omega (arith, length-take filled buffer)) in
+    drop_at (take filled buffer) (read ++ post_of filled (length buffer - filled) buffer) filled
+    (omega (arith, length-take filled buffer)) in
     grow after (take filled buffer) (take n read) filled (filled + n) (omega arith)
     (sym (take-put_mid_below filled (length buffer - filled) buffer read filled (omega arith) le))
-    (sym (ap (λ k. take k (drop filled after)) wide ∙ ap (take n) behind ∙ take-append-le n read (post_of filled (length buffer - filled) buffer) fits))
+    (sym (ap (λ k. take k (drop filled after)) wide ∙ ap (take n) behind
+    ∙ take-append-le n read (post_of filled (length buffer - filled) buffer) fits))
 
 pub returns-in-Ok : goal.returns-in-Ok
 returns-in-Ok g c =
@@ -27,6 +29,8 @@ returns-in-Ok g c =
       simp (length-append, length-take, length-drop) (omega arith),
       λ start given taken. subst (Consumes start (g.R.Read.remaining c.read.new.self))
           (append_assoc given (take c.args.filled buffer) (take c.in-Ok.count read)
-          ∙ ap (λ (bs : List ℕ). given ++ bs) (fills buffer read c.args.filled c.in-Ok.count (omega arith) (omega arith)))
-          (Consumes-trans start (g.R.Read.remaining c.args.reader.now) (g.R.Read.remaining c.read.new.self) (given ++ take c.args.filled buffer) (take c.in-Ok.count read) taken c.in-Ok.ensures.bytes.0),
+          ∙ ap (λ (bs : List ℕ). given ++ bs)
+          (fills buffer read c.args.filled c.in-Ok.count (omega arith) (omega arith)))
+          (Consumes-trans start (g.R.Read.remaining c.args.reader.now) (g.R.Read.remaining c.read.new.self)
+          (given ++ take c.args.filled buffer) (take c.in-Ok.count read) taken c.in-Ok.ensures.bytes.0),
     )

@@ -1,6 +1,8 @@
-use Rattle.std.proofs.Common.{◌≡◌, ℕ, ◌+◌, ◌*◌, ◌/◌, ◌<◌, ◌++◌, List, [], length, take, drop, sym, ap, subst, ◌∙◌, arith, inl, inr}
+use Rattle.std.proofs.Common.{◌≡◌, ℕ, ◌+◌, ◌*◌, ◌/◌, ◌<◌, ◌++◌, List, [], length, take, drop, sym, ap, subst, ◌∙◌}
+use Rattle.std.proofs.Common.{arith, inl, inr}
 use Rattle.std.specs.Io.KnownBytes.{Consumes}
-use Rattle.std.proofs.lemmas.List.{append_assoc, append-nil, nil_from_length, length-take, length-drop, take-append-drop}
+use Rattle.std.proofs.lemmas.List.{append_assoc, append-nil, nil_from_length, length-take, length-drop}
+use Rattle.std.proofs.lemmas.List.{take-append-drop}
 use Rattle.std.proofs.lemmas.Bool.{cases_lt}
 use Rattle.std.proofs.lemmas.Result.{err_from_is_err_and}
 use Rattle.log_store.specs.declared.fault.LogReadFault.TheVariants.{Torn, TooLong}
@@ -10,7 +12,8 @@ use Rattle.log_store.specs.Scan.{HasTaken}
 use Rattle.log_store.proofs.Inputs.{of_input}
 use Rattle.log_store.proofs.Scans.{refuses_torn, none_in_failed, refuses_past_last, regrouped, if_err, on_ok}
 use Rattle.log_store.proofs.scan.read_records.Goals as goal
-use Rattle.log_store.proofs.scan.read_records.Goals.{else-count-ge-MAX_RECORDS-via-then-count-ge-MAX_RECORDS+else-filled-gt0, else-count-ge-MAX_RECORDS-via-else-count-ge-MAX_RECORDS}
+use Rattle.log_store.proofs.scan.read_records.Goals.{else-count-ge-MAX_RECORDS-via-then-count-ge-MAX_RECORDS+else-filled-gt0}
+use Rattle.log_store.proofs.scan.read_records.Goals.{else-count-ge-MAX_RECORDS-via-else-count-ge-MAX_RECORDS}
 
 pub returns-in-End-clause-first : goal.returns-in-End-clause-first
 returns-in-End-clause-first g c =
@@ -28,8 +31,14 @@ returns-in-End-clause-first g c =
     let is : fault ≡ Torn (lsn_of (length t.log.records)) = torn.1 ∙ ap Torn (sym at) in
     of_input _ _ (read ++ pending) (λ rest. Refuses (header ++ rest) fault) (c.in-End.ensures.1 _ read inv.so_far.1.1)
     (λ rest end. subst (Refuses (header ++ ((read ++ pending) ++ rest))) (sym is)
-    (refuses_torn header read pending rest t.log t.spells t.linked (omega (arith, length-take c.loop.filled c.loop.buffer)) (omega (arith, length-take c.loop.filled c.loop.buffer))
-    (elim (cases_lt (length t.log.records) 1048576) [ inl room ↦ room | inr full ↦ let none = inv.few (omega arith) in absurd (omega arith) ]) (end c.in-End.ensures.0)))) c.at_end.ensures.err
+    (refuses_torn header read pending rest t.log t.spells t.linked
+    (omega (arith, length-take c.loop.filled c.loop.buffer))
+    (omega (arith, length-take c.loop.filled c.loop.buffer))
+    (elim (cases_lt (length t.log.records) 1048576) [
+      | inl room ↦ room
+      | inr full ↦ let none = inv.few (omega arith) in
+          absurd (omega arith)
+    ]) (end c.in-End.ensures.0)))) c.at_end.ensures.err
 
 pub returns-in-End-clause-found : goal.returns-in-End-clause-found
 returns-in-End-clause-found g c =
@@ -39,10 +48,14 @@ returns-in-End-clause-found g c =
     let t = inv.so_far.1.0 in
     let pending = take c.loop.filled c.loop.buffer in
     on_ok c.at_end.result _ _ (λ none.
-    let nothing : pending ≡ [] = nil_from_length pending (omega (arith, length-take c.loop.filled c.loop.buffer, none)) in
+    let nothing : pending ≡ [] = nil_from_length pending
+    (omega (arith, length-take c.loop.filled c.loop.buffer, none)) in
     let all : read ++ pending ≡ read = ap (λ (bs : List ℕ). read ++ bs) nothing ∙ append-nil read in (
       read,
-      (subst (Consumes _ _) all (c.in-End.ensures.1 _ read inv.so_far.1.1), record { log = t.log; held = t.held; spells = t.spells; linked = t.linked; made_of = t.made_of }),
+      (
+        subst (Consumes _ _) all (c.in-End.ensures.1 _ read inv.so_far.1.1),
+        record { log = t.log; held = t.held; spells = t.spells; linked = t.linked; made_of = t.made_of },
+      ),
     )) c.at_end.ensures.ok
 
 pub returns-in-Failed-clause-unread : goal.returns-in-Failed-clause-unread
@@ -55,7 +68,8 @@ returns-in-Failed-clause-unread g c =
       inv.so_far.0 ++ pending,
       (
         c.in-Failed.ensures _ inv.so_far.0 inv.so_far.1.1,
-        none_in_failed (header_bytes c.args.pages) inv.so_far.0 pending t.log t.spells t.linked (omega (arith, length-take c.loop.filled c.loop.buffer))
+        none_in_failed (header_bytes c.args.pages) inv.so_far.0 pending t.log t.spells t.linked
+            (omega (arith, length-take c.loop.filled c.loop.buffer))
             (λ full. let none = inv.few (omega arith) in omega (arith, length-take c.loop.filled c.loop.buffer)),
       ),
     )
@@ -71,7 +85,8 @@ returns-in_err-take_records-clause-first g c =
     let fault = c.in_err-take_records.field-0.0 in
     rw (p.1, p.2)
     (of_input _ _ (read ++ bytes) (λ rest. Refuses (header ++ rest) fault) (c.in-More.ensures.1 _ read inv.so_far.1.1)
-    (λ rest end. regrouped header read bytes rest (λ input. Refuses input fault) (c.in_err-take_records.ensures.first (header ++ read) rest t)))
+    (λ rest end. regrouped header read bytes rest (λ input. Refuses input fault)
+    (c.in_err-take_records.ensures.first (header ++ read) rest t)))
 
 pub returns-then-filled-gt0-clause-first : goal.returns-then-filled-gt0-clause-first
 returns-then-filled-gt0-clause-first g c =
@@ -84,17 +99,29 @@ returns-then-filled-gt0-clause-first g c =
     let width : length bytes ≡ filled = omega (arith, length-take filled c.read_more.new.buffer, c.in-More.ensures.0) in
     let further = read ++ take whole bytes in
     let pending = drop whole bytes in
-    let t : HasTaken g.S.RecordSink.holds c.take_records.new.sink c.take_records.new.history c.args.pages (c.loop.count + filled / 64) (header ++ further) =
-    subst (HasTaken g.S.RecordSink.holds c.take_records.new.sink c.take_records.new.history c.args.pages (c.loop.count + filled / 64)) (append_assoc header read (take whole bytes))
-    (subst (λ (k : ℕ). HasTaken g.S.RecordSink.holds c.take_records.new.sink c.take_records.new.history c.args.pages (c.loop.count + k / 64) ((header ++ read) ++ take (64 * (k / 64)) bytes)) width
+    let t : HasTaken g.S.RecordSink.holds c.take_records.new.sink c.take_records.new.history c.args.pages
+    (c.loop.count + filled / 64) (header ++ further) =
+    subst (HasTaken g.S.RecordSink.holds c.take_records.new.sink c.take_records.new.history c.args.pages
+    (c.loop.count + filled / 64)) (append_assoc header read (take whole bytes))
+    (subst (λ (k : ℕ). HasTaken g.S.RecordSink.holds c.take_records.new.sink c.take_records.new.history c.args.pages
+    (c.loop.count + k / 64) ((header ++ read) ++ take (64 * (k / 64)) bytes)) width
     (c.in_ok-take_records.ensures.ok (header ++ read) inv.so_far.1.0)) in
     let count = t.count_is in
     let full = c.if-count-ge-MAX_RECORDS.true in
-    let both : read ++ bytes ≡ further ++ pending = ap (λ (bs : List ℕ). read ++ bs) (sym (take-append-drop whole bytes)) ∙ sym (append_assoc read (take whole bytes) pending) in
+    let both : read ++ bytes ≡ further ++ pending =
+    ap (λ (bs : List ℕ). read ++ bs) (sym (take-append-drop whole bytes))
+    ∙ sym (append_assoc read (take whole bytes) pending) in
     let rest_is = c.keep_rest-filled.ensures.rest in
     let some = c.if-filled-gt0.true in
-    let long : 0 < length pending = omega (arith, length-drop whole bytes, length-take filled c.read_more.new.buffer, c.keep_rest-filled.ensures.count, c.in-More.ensures.0) in
-    of_input _ _ (further ++ pending) (λ rest. Refuses (header ++ rest) TooLong) (subst (Consumes _ _) both (c.in-More.ensures.1 _ read inv.so_far.1.1))
+    let long : 0 < length pending = omega (
+      arith,
+      length-drop whole bytes,
+      length-take filled c.read_more.new.buffer,
+      c.keep_rest-filled.ensures.count,
+      c.in-More.ensures.0,
+    ) in
+    of_input _ _ (further ++ pending) (λ rest. Refuses (header ++ rest) TooLong)
+    (subst (Consumes _ _) both (c.in-More.ensures.1 _ read inv.so_far.1.1))
     (λ rest end. refuses_past_last header further pending rest t.log t.spells t.linked (omega arith) long)
 
 pub loop-preserved : goal.loop-preserved
@@ -108,19 +135,32 @@ loop-preserved g c =
     let t = c.in_ok-take_records.ensures.ok (header ++ read) inv.so_far.1.0 in
     let n = length bytes in
     let width : length bytes ≡ filled = omega (arith, length-take filled c.read_more.new.buffer, c.in-More.ensures.0) in
-    let taken : HasTaken g.S.RecordSink.holds c.take_records.new.sink c.take_records.new.history c.args.pages (c.loop.count + filled / 64) (header ++ (read ++ take whole bytes)) =
-    subst (HasTaken g.S.RecordSink.holds c.take_records.new.sink c.take_records.new.history c.args.pages (c.loop.count + filled / 64)) (append_assoc header read (take whole bytes))
-    (subst (λ (k : ℕ). HasTaken g.S.RecordSink.holds c.take_records.new.sink c.take_records.new.history c.args.pages (c.loop.count + k / 64) ((header ++ read) ++ take (64 * (k / 64)) bytes)) width t) in
-    let both : read ++ bytes ≡ (read ++ take whole bytes) ++ take c.keep_rest-filled.result c.keep_rest-filled.new.buffer =
-    ap (λ (bs : List ℕ). read ++ bs) (sym (take-append-drop whole bytes)) ∙ sym (append_assoc read (take whole bytes) (drop whole bytes))
+    let taken : HasTaken g.S.RecordSink.holds c.take_records.new.sink c.take_records.new.history c.args.pages
+    (c.loop.count + filled / 64) (header ++ (read ++ take whole bytes)) =
+    subst (HasTaken g.S.RecordSink.holds c.take_records.new.sink c.take_records.new.history c.args.pages
+    (c.loop.count + filled / 64)) (append_assoc header read (take whole bytes))
+    (subst (λ (k : ℕ). HasTaken g.S.RecordSink.holds c.take_records.new.sink c.take_records.new.history c.args.pages
+    (c.loop.count + k / 64) ((header ++ read) ++ take (64 * (k / 64)) bytes)) width t) in
+    let both : read ++ bytes ≡ (read ++ take whole bytes)
+    ++ take c.keep_rest-filled.result c.keep_rest-filled.new.buffer =
+    ap (λ (bs : List ℕ). read ++ bs) (sym (take-append-drop whole bytes))
+    ∙ sym (append_assoc read (take whole bytes) (drop whole bytes))
     ∙ ap (λ (bs : List ℕ). (read ++ take whole bytes) ++ bs) (sym c.keep_rest-filled.ensures.rest) in
     record {
       short = c.keep_rest-filled.ensures.short;
       few = λ full. elim c.else-count-ge-MAX_RECORDS.branch [
-        | else-count-ge-MAX_RECORDS-via-then-count-ge-MAX_RECORDS+else-filled-gt0 w ↦ let none = w.if-filled-gt0.false in omega arith
-        | else-count-ge-MAX_RECORDS-via-else-count-ge-MAX_RECORDS w ↦ let room = w.if-count-ge-MAX_RECORDS.false in absurd (omega arith)
+        | else-count-ge-MAX_RECORDS-via-then-count-ge-MAX_RECORDS+else-filled-gt0 w ↦ let none =
+            w.if-filled-gt0.false in omega arith
+        | else-count-ge-MAX_RECORDS-via-else-count-ge-MAX_RECORDS w ↦ let room = w.if-count-ge-MAX_RECORDS.false in
+            absurd (omega arith)
       ];
-      so_far = (read ++ take whole bytes, (taken, subst (Consumes _ _) both (c.in-More.ensures.1 _ read inv.so_far.1.1)));
+      so_far = (
+        read ++ take whole bytes,
+        (
+          taken,
+          subst (Consumes _ _) both (c.in-More.ensures.1 _ read inv.so_far.1.1),
+        ),
+      );
     }
 
 pub returns-clause-unread : goal.returns-clause-unread
@@ -133,7 +173,8 @@ returns-clause-unread g c =
       inv.so_far.0 ++ pending,
       (
         inv.so_far.1.1,
-        none_in_failed (header_bytes c.args.pages) inv.so_far.0 pending t.log t.spells t.linked (omega (arith, length-take c.loop.filled c.loop.buffer))
+        none_in_failed (header_bytes c.args.pages) inv.so_far.0 pending t.log t.spells t.linked
+            (omega (arith, length-take c.loop.filled c.loop.buffer))
             (λ full. let none = inv.few (omega arith) in omega (arith, length-take c.loop.filled c.loop.buffer)),
       ),
     )

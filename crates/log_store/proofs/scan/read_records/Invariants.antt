@@ -8,6 +8,7 @@ abbrev pub invariant-loop : goal.invariant-loop
 invariant-loop g l = record {
   short : l.filled < 64;
   few : 1048576 ≤ l.count → l.filled ≡ 0;
-  so_far : (read : List ℕ) × (HasTaken g.S.RecordSink.holds l.scan.sink l.scan.history l.pages l.count (header_bytes l.pages ++ read)
+  so_far : (read : List ℕ) × (HasTaken g.S.RecordSink.holds l.scan.sink l.scan.history l.pages l.count
+      (header_bytes l.pages ++ read)
       × Consumes (g.R.Read.remaining l.fn.reader) (g.R.Read.remaining l.reader) (read ++ take l.filled l.buffer));
 }

@@ -20,36 +20,46 @@ returns-in_default-clause-first g c =
 
 pub returns-in_err-read_records-clause-first : goal.returns-in_err-read_records-clause-first
 returns-in_err-read_records-clause-first g c =
-    let p = err_from_is_err_and c.from_residual-in_err-read_records.result c.from_residual-in_err-read_records.ensures.1 in
+    let p =
+    err_from_is_err_and c.from_residual-in_err-read_records.result c.from_residual-in_err-read_records.ensures.1 in
     let found = c.in-Some.ensures.found in
-    let is : c.read_header.new.header ≡ header_bytes c.in-Some.pages = sym (take_all 64 c.read_header.new.header (omega arith)) ∙ found.spelled in
+    let is : c.read_header.new.header ≡ header_bytes c.in-Some.pages =
+    sym (take_all 64 c.read_header.new.header (omega arith)) ∙ found.spelled in
     rw (p.1, p.2) (of_rest _ _ (header_bytes c.in-Some.pages) (λ input. Refuses input c.in_err-read_records.field-0.0)
     (subst (Consumes _ _) is c.in_ok-turns.ensures.ok) c.in_err-read_records.ensures.first)
 
 pub returns-in_err-read_records-clause-unread : goal.returns-in_err-read_records-clause-unread
 returns-in_err-read_records-clause-unread g c =
-    let p = err_from_is_err_and c.from_residual-in_err-read_records.result c.from_residual-in_err-read_records.ensures.1 in
+    let p =
+    err_from_is_err_and c.from_residual-in_err-read_records.result c.from_residual-in_err-read_records.ensures.1 in
     let found = c.in-Some.ensures.found in
-    let is : c.read_header.new.header ≡ header_bytes c.in-Some.pages = sym (take_all 64 c.read_header.new.header (omega arith)) ∙ found.spelled in
+    let is : c.read_header.new.header ≡ header_bytes c.in-Some.pages =
+    sym (take_all 64 c.read_header.new.header (omega arith)) ∙ found.spelled in
     rw (p.1, p.2) (gave_more _ _ _ (header_bytes c.in-Some.pages) c.in_err-read_records.field-0.0
     (subst (Consumes _ _) is c.in_ok-turns.ensures.ok) c.in_err-read_records.ensures.unread)
 
 pub returns-clause-found : goal.returns-clause-found
 returns-clause-found g c =
     let found = c.in-Some.ensures.found in
-    let is : c.read_header.new.header ≡ header_bytes c.in-Some.pages = sym (take_all 64 c.read_header.new.header (omega arith)) ∙ found.spelled in
+    let is : c.read_header.new.header ≡ header_bytes c.in-Some.pages =
+    sym (take_all 64 c.read_header.new.header (omega arith)) ∙ found.spelled in
     let all = c.in_ok-read_records.ensures.found in
     let log = all.1.1.log in (
       log,
       (
         all.1.1.held,
-        (all.1.1.made_of,
-        (all.1.1.linked,
         (
-          all.1.1.spells.valid,
-          of_all _ _ (header_bytes c.in-Some.pages ++ all.0) (SpellsLog log)
-              (Consumes-trans _ _ _ (header_bytes c.in-Some.pages) all.0 (subst (Consumes _ _) is c.in_ok-turns.ensures.ok) all.1.0)
-              c.in_ok-read_records.ensures.end all.1.1.spells,
-        ))),
+          all.1.1.made_of,
+          (
+            all.1.1.linked,
+            (
+              all.1.1.spells.valid,
+              of_all _ _ (header_bytes c.in-Some.pages ++ all.0) (SpellsLog log)
+                  (Consumes-trans _ _ _ (header_bytes c.in-Some.pages) all.0
+                  (subst (Consumes _ _) is c.in_ok-turns.ensures.ok) all.1.0)
+                  c.in_ok-read_records.ensures.end all.1.1.spells,
+            ),
+          ),
+        ),
       ),
     )

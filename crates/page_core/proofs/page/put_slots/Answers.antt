@@ -10,10 +10,12 @@ pub loop-i-preserved : goal.loop-i-preserved
 loop-i-preserved c =
     let i = c.loop-i.i in
     let number = get_or c.args.slots.now i 0 in
-    let written : c.copy_from_slice.new.self ≡ to_le_bytes w64 number = c.copy_from_slice.ensures.after ∙ c.to_le_bytes.ensures in
+    let written : c.copy_from_slice.new.self ≡ to_le_bytes w64 number = c.copy_from_slice.ensures.after
+    ∙ c.to_le_bytes.ensures in
     let len : length c.copy_from_slice.new.self ≡ 8 = ap length written in
     let long : 8 * i ≤ length c.loop-i.bytes = omega arith in
-    take-put_mid (8 * i) ((8 * i + 8) - 8 * i) c.loop-i.bytes c.copy_from_slice.new.self (8 * (i + 1)) (omega arith) long
+    take-put_mid (8 * i) ((8 * i + 8) - 8 * i) c.loop-i.bytes c.copy_from_slice.new.self (8 * (i + 1))
+    (omega arith) long
     ∙ ap (λ bs. bs ++ c.copy_from_slice.new.self) c.loop-i.invariant
     ∙ ap (λ bs. flat_map (to_le_bytes w64) (take i c.args.slots.now) ++ bs) written
     ∙ sym (numbers_more c.args.slots.now i c.loop-i-test.true)
@@ -21,4 +23,5 @@ loop-i-preserved c =
 pub returns : goal.returns
 returns c =
     let i = c.loop-i.i in
-    sym (take_all (8 * i) c.loop-i.bytes (omega arith)) ∙ c.loop-i.invariant ∙ ap (flat_map (to_le_bytes w64)) (take_all i c.args.slots.now c.loop-i-test.false)
+    sym (take_all (8 * i) c.loop-i.bytes (omega arith)) ∙ c.loop-i.invariant
+    ∙ ap (flat_map (to_le_bytes w64)) (take_all i c.args.slots.now c.loop-i-test.false)

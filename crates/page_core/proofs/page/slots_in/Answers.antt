@@ -1,4 +1,5 @@
-use Rattle.std.proofs.Common.{◌≡◌, ◌<◌, ◌≢◌, ◌+◌, ◌-◌, ◌*◌, take, drop, below_more, get_or-set_other, get_or-set_same, length, sym, ap, ◌∙◌, arith}
+use Rattle.std.proofs.Common.{◌≡◌, ◌<◌, ◌≢◌, ◌+◌, ◌-◌, ◌*◌, take, drop, below_more, get_or-set_other, get_or-set_same}
+use Rattle.std.proofs.Common.{length, sym, ap, ◌∙◌, arith}
 use Rattle.std.specs.Int.{w64, to_le_bytes}
 use Rattle.std.proofs.lemmas.List.{get_or_default}
 use Rattle.page_core.proofs.Pieces.{pieces_are}
@@ -24,7 +25,8 @@ loop-i-preserved c =
 pub returns-clause-found : goal.returns-clause-found
 returns-clause-found c =
     pieces_are (to_le_bytes w64) 8 eight_bytes c.loop-i.slot-items c.args.bytes.now (omega arith)
-    (λ i d lt. c.loop-i.invariant.spelled i (omega arith) ∙ ap (to_le_bytes w64) (get_or_default c.loop-i.slot-items i 0 d lt))
+    (λ i d lt. c.loop-i.invariant.spelled i (omega arith)
+    ∙ ap (to_le_bytes w64) (get_or_default c.loop-i.slot-items i 0 d lt))
 
 pub returns-clause-fit : goal.returns-clause-fit
 returns-clause-fit c = all_fit c.loop-i.slot-items (λ k lt. c.loop-i.invariant.fits k (omega arith))

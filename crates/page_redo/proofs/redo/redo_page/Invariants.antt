@@ -5,4 +5,5 @@ use Rattle.page_redo.specs.Redo.{is_above}
 use Rattle.page_redo.proofs.redo.redo_page.Given as goal
 
 abbrev pub invariant-loop-record : goal.invariant-loop-record
-invariant-loop-record l = l.page ≡ image_from l.fn.page (filter (is_above l.fn.page.lsn) (take l.record-index l.records))
+invariant-loop-record l = l.page ≡ image_from l.fn.page
+    (filter (is_above l.fn.page.lsn) (take l.record-index l.records))
