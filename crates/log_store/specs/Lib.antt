@@ -1,7 +1,11 @@
+pub mod Device
+pub mod Failures
 pub mod Fault
+pub mod FaultyDevice
 pub mod Fields
 pub mod Image
 pub mod Log
+pub mod MemDevice
 pub mod Record
 pub mod Scan
 pub mod Turn
