@@ -3,3 +3,4 @@ pub mod Inputs
 pub mod Logs
 pub mod Records
 pub mod Scans
+pub mod WrittenLogs

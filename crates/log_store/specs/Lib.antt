@@ -9,3 +9,4 @@ pub mod MemDevice
 pub mod Record
 pub mod Scan
 pub mod Turn
+pub mod WrittenLog

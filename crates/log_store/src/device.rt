@@ -25,8 +25,8 @@ pub trait LogDevice {
         ensures kept { OnErr result (KeepsFirst from (bytes self.old) (bytes self.new)) }
 
         // Each error has a cause: the device failed once more.
-        ensures well { OnOk result (failures self.new ≡ failures self.old) }
-        ensures failed { OnErr result (failures self.old < failures self.new) };
+        ensures no_failure { OnOk result (failures self.new ≡ failures self.old) }
+        ensures failure { OnErr result (failures self.old < failures self.new) };
 }
 
 /// The device failed. What it then has, `LogDevice::store` says.

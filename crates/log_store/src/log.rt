@@ -1,0 +1,201 @@
+//! A log that is written.
+
+ghost use Rattle.std.specs.Prelude.{ℕ, ◌≡◌, ◌+◌, ◌<◌, ◌≤◌, [], ◌∷◌, length, max, IfOk, IfErr, IfSome, OnOk, OnErr, Some};
+ghost use Rattle.log_store.specs.declared.record.Record.{Record};
+ghost use Rattle.log_store.specs.Log.{IsLog, IsPageCount, StandsAt, lsn_of};
+ghost use Rattle.log_store.specs.Scan.{with_next};
+ghost use Rattle.log_store.specs.WrittenLog.{IsWritten, HasRecordAt, end_up_to};
+
+use crate::codec::encode;
+use crate::device::{DeviceFault, LogDevice};
+use crate::log_image::encode_header;
+use crate::record::{RECORD_BYTES, Record};
+use page_core::Lsn;
+use std::alloc::{AllocError, Global};
+use std::marker::Model;
+
+/// A log that is written. It has all of its records in memory, and the first of them on its device too: these are
+/// forced, and outlast every later call and every later fault.
+#[derive(Drop)]
+pub struct Log<D: LogDevice> {
+    pages: u32,
+    records: Vec<Record>,
+    /// How many records are forced.
+    forced: usize,
+    device: D,
+}
+
+impl<D: LogDevice> Model for Log<D> {
+    ghost use Rattle.log_store.specs.WrittenLog.{WrittenLog, IsWritten, written_log};
+
+    ghost Value = { WrittenLog D };
+
+    ghost view = { λ log. written_log log.pages log.records.items log.forced log.device };
+
+    ghost invariant = { λ log. IsWritten D.bytes (written_log log.pages log.records.items log.forced log.device) };
+}
+
+impl<D: LogDevice> Log<D> {
+    /// A log without records, of a volume of so many pages. Its header is stored by one call of the device.
+    ///
+    /// An `Err` comes where this call fails, and hands the device back.
+    pub fn new(alloc: Global, pages: u32, mut device: D) -> Result<Log<D>, (DeviceFault, D)>
+        requires { IsPageCount pages }
+
+        ensures empty { IfOk result (λ log. log.log ≡ record { pages = pages; records = [] }) }
+        ensures forced_end { IfOk result (λ log. log.forced_end ≡ 64) }
+        ensures no_failure { IfOk result (λ log. D.failures log.device ≡ D.failures device) }
+
+        ensures failure { IfErr result (λ e. D.failures device < D.failures e.1) }
+    {
+        match device.store(0, &encode_header(pages)) {
+            Ok(()) => Ok(Log {
+                pages,
+                records: Vec::new(alloc),
+                forced: 0,
+                device,
+            }),
+            Err(fault) => Err((fault, device)),
+        }
+    }
+
+    /// Puts a record at the end, in memory alone: `force_to` and `force` bring it to the device.
+    ///
+    /// An `Err` comes where room for it is refused. The log is then as it was.
+    pub fn append(&mut self, next: Record) -> Result<(), AllocError>
+        requires stands { StandsAt self.old.log.pages (lsn_of (length self.old.log.records)) next }
+        requires room { length self.old.log.records < 1048576 }
+
+        ensures ok { OnOk result (self.new ≡ record self.old { log = with_next self.old.log (next ∷ []) }) }
+        ensures err { OnErr result (self.new ≡ self.old) }
+    {
+        self.records.push(next)?;
+        Ok(())
+    }
+
+    /// Forces the log up to an LSN: stores each record that is not forced and stands at the LSN or before it, in order,
+    /// by one call of the device for each. It takes no memory.
+    ///
+    /// An `Err` comes at the first of these calls that fails. The records before that one are then forced.
+    pub fn force_to(&mut self, lsn: Lsn) -> Result<(), DeviceFault>
+        ensures same { self.new.log ≡ self.old.log }
+        ensures rising { self.old.forced_end ≤ self.new.forced_end }
+
+        ensures forced { OnOk result (self.new.forced_end ≡ max self.old.forced_end (end_up_to self.old.log lsn)) }
+        ensures no_failure { OnOk result (D.failures self.new.device ≡ D.failures self.old.device) }
+
+        ensures short { OnErr result (self.new.forced_end < end_up_to self.old.log lsn) }
+        ensures failure { OnErr result (D.failures self.old.device < D.failures self.new.device) }
+    {
+        let count = self.records.len().min((lsn.0 / 64) as usize);
+        for _ in self.forced..count {
+            self.force_next()?;
+        }
+        Ok(())
+    }
+
+    /// Forces the whole log, as `force_to` does.
+    pub fn force(&mut self) -> Result<(), DeviceFault>
+        ensures same { self.new.log ≡ self.old.log }
+        ensures rising { self.old.forced_end ≤ self.new.forced_end }
+
+        ensures forced { OnOk result (self.new.forced_end ≡ lsn_of (length self.old.log.records)) }
+        ensures no_failure { OnOk result (D.failures self.new.device ≡ D.failures self.old.device) }
+
+        ensures short { OnErr result (self.new.forced_end < lsn_of (length self.old.log.records)) }
+        ensures failure { OnErr result (D.failures self.old.device < D.failures self.new.device) }
+    {
+        let end = lsn_at(self.records.len());
+        self.force_to(end)
+    }
+
+    /// The record that stands at an LSN, if one does.
+    pub fn get(&self, lsn: Lsn) -> Option<Record>
+        ensures found { IfSome result (HasRecordAt self.now.log lsn) }
+        ensures only { (r : Record) → HasRecordAt self.now.log lsn r → result ≡ Some r }
+    {
+        let index = (lsn.0 / 64).checked_sub(1)?;
+        if lsn.0 % 64 != 0 {
+            return None;
+        }
+        self.records.get(index as usize).copied()
+    }
+
+    /// The LSN behind the last record: where the next one is to stand.
+    pub fn end(&self) -> Lsn
+        ensures { result ≡ lsn_of (length self.now.log.records) }
+    {
+        lsn_at(self.records.len())
+    }
+
+    /// The LSN behind the last record that is forced.
+    pub fn forced_end(&self) -> Lsn
+        ensures end { result ≡ self.now.forced_end }
+        ensures within { result ≤ lsn_of (length self.now.log.records) }
+    {
+        lsn_at(self.forced)
+    }
+
+    /// The records, the oldest first. The record at index i has LSN 64 * (i + 1).
+    pub fn records(&self) -> &[Record]
+        ensures records { result.now ≡ self.now.log.records }
+        ensures valid { IsLog self.now.log }
+    {
+        &self.records
+    }
+
+    /// How many pages the volume of this log has.
+    pub fn pages(&self) -> u32
+        ensures { result ≡ self.now.log.pages }
+    {
+        self.pages
+    }
+
+    /// The log's device.
+    pub fn device(&self) -> &D
+        ensures device { result.now ≡ self.now.device }
+        // It begins with the header and the forced records.
+        ensures kept { IsWritten D.bytes self.now }
+    {
+        &self.device
+    }
+
+    /// The records and the device, of a log that is not written any more.
+    pub fn into_parts(self) -> (Vec<Record>, D)
+        ensures records { result.0.items ≡ self.log.records }
+        ensures device { result.1 ≡ self.device }
+        ensures kept { IsWritten D.bytes self }
+    {
+        let Log {
+            pages: _,
+            records,
+            forced: _,
+            device,
+        } = self;
+        (records, device)
+    }
+
+    /// Forces the first record that is not forced.
+    fn force_next(&mut self) -> Result<(), DeviceFault>
+        requires { self.old.forced_end < lsn_of (length self.old.log.records) }
+
+        ensures same { self.new.log ≡ self.old.log }
+        ensures forced { OnOk result (self.new.forced_end ≡ self.old.forced_end + 64) }
+        ensures no_failure { OnOk result (D.failures self.new.device ≡ D.failures self.old.device) }
+        ensures not_forced { OnErr result (self.new.forced_end ≡ self.old.forced_end) }
+        ensures failure { OnErr result (D.failures self.old.device < D.failures self.new.device) }
+    {
+        let next = encode(&self.records[self.forced]);
+        self.device.store(lsn_at(self.forced).0, &next)?;
+        self.forced += 1;
+        Ok(())
+    }
+}
+
+/// Where the record at an index stands.
+fn lsn_at(index: usize) -> Lsn
+    requires { index ≤ 1048576 }
+    ensures { result ≡ lsn_of index }
+{
+    Lsn(64 * (index as u64 + 1))
+}
