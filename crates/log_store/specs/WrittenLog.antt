@@ -9,7 +9,7 @@ pub record WrittenLog (D : Type 0) : Type 0 where
   pub forced_end : ℕ
   pub device : D
 
--- the log of so many pages that has these records, of which so many are forced
+-- the log of so many pages with these records, of which so many are forced
 abbrev pub written_log : {D : Type 0} → ℕ → List Record → ℕ → D → WrittenLog D
 written_log pages records forced device = record {
   log = record { pages = pages; records = records };
@@ -21,16 +21,18 @@ written_log pages records forced device = record {
 abbrev pub first_records : ℕ → Log → Log
 first_records count log = record log { records = take count log.records }
 
--- so many records are forced: they end at the forced end, and the device begins with the header and with them
-pub record AreForced {D : Type 0} (bytes : D → List ℕ) (written : WrittenLog D) (count : ℕ) : Type 0 where
-  pub there : count ≤ length written.log.records
-  pub end : written.forced_end ≡ lsn_of count
-  pub stable : SpellsLog (first_records count written.log) (take written.forced_end (bytes written.device))
+-- so many records are forced: they end at the forced end, and up to there the device has the
+-- spelling of the log as it was when it had just these
+pub record AreForced {D : Type 0} (bytes : D → List ℕ) (it : WrittenLog D) (count : ℕ)
+    : Type 0 where
+  pub there : count ≤ length it.log.records
+  pub end : it.forced_end ≡ lsn_of count
+  pub stable : SpellsLog (first_records count it.log) (take it.forced_end (bytes it.device))
 
 -- what a log that is written keeps
-pub record IsWritten {D : Type 0} (bytes : D → List ℕ) (written : WrittenLog D) : Type 0 where
-  pub valid : IsLog written.log
-  pub forced : (count : ℕ) × AreForced bytes written count
+pub record IsWritten {D : Type 0} (bytes : D → List ℕ) (it : WrittenLog D) : Type 0 where
+  pub valid : IsLog it.log
+  pub forced : (count : ℕ) × AreForced bytes it count
 
 -- the log has this record at this LSN
 pub record HasRecordAt (log : Log) (lsn : ℕ) (r : Record) : Type 0 where

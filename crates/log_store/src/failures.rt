@@ -1,9 +1,10 @@
-//! A count of failures that only contracts read.
+//! A count of failures that contracts alone see.
 
+use std::fmt;
 use std::snapshot::Snapshot;
 
-/// How often a device has failed. It holds what it was before the last failure, and that only for contracts: so it takes
-/// one byte, and the count has no last value.
+/// How often a device has failed. It has the count before the last failure for contracts alone, so
+/// it takes one byte, and the count has no last value.
 #[derive(Drop)]
 pub enum Failures {
     None,
@@ -20,5 +21,14 @@ impl Failures {
     {
         let before = Snapshot::of(self);
         *self = Failures::After(before);
+    }
+}
+
+impl fmt::Debug for Failures {
+    fn fmt<W: fmt::Write>(&self, f: &mut fmt::Formatter<W>) -> fmt::Result {
+        match self {
+            Failures::None => write!(f, "None"),
+            Failures::After(_) => write!(f, "After(..)"),
+        }
     }
 }

@@ -1,14 +1,14 @@
-//! A device that fails once, to try what is built on a device.
+//! A device that fails at one call, to try what is built on a device.
 
-ghost use Rattle.std.specs.Prelude.{◌≡◌, ◌≢◌, ◌+◌, ◌-◌, ◌≤◌, length, IsErr};
-ghost use Rattle.log_store.specs.MemDevice.{Stores};
+ghost use Rattle.std.specs.Prelude.{◌≡◌, ◌≢◌, ◌-◌, ◌≤◌, length, IsErr};
+ghost use Rattle.log_store.specs.MemDevice.{Stores, after_failure};
 
 use crate::device::{DeviceFault, LogDevice};
 use crate::mem_device::MemDevice;
 use std::marker::Model;
 
 /// A device in memory of which one call of `store` fails.
-#[derive(Drop)]
+#[derive(Debug, Drop)]
 pub struct FaultyDevice {
     device: MemDevice,
     calls_to_fault: u64,
@@ -19,11 +19,15 @@ impl Model for FaultyDevice {
 
     ghost Value = { Faulty };
 
-    ghost view = { λ faulty. record { memory = faulty.device; calls_to_fault = faulty.calls_to_fault } };
+    ghost view = { λ faulty. record {
+      memory = faulty.device;
+      calls_to_fault = faulty.calls_to_fault;
+    } };
 }
 
 impl FaultyDevice {
-    /// A device whose `k`-th call of `store` fails, counted from 1. At 0 none fails but those of `device`.
+    /// A device whose `k`-th call of `store` fails, counted from 1. Each other call goes on to
+    /// `device`. At 0 all of them do.
     pub fn new(device: MemDevice, k: u64) -> FaultyDevice
         ensures { result ≡ record { memory = device; calls_to_fault = k } }
     {
@@ -46,13 +50,13 @@ impl LogDevice for FaultyDevice {
 
     ghost failures = { λ faulty. faulty.memory.failures };
 
-    /// An `Err` leaves the bytes as they were.
+    /// It takes no memory. An `Err` leaves the bytes as they were.
     fn store(&mut self, from: u64, next: &[u8]) -> Result<(), DeviceFault>
         requires { from ≤ length self.old.memory.bytes }
 
         ensures counted { self.new.calls_to_fault ≡ self.old.calls_to_fault - 1 }
-        ensures fault { self.old.calls_to_fault ≡ 1 → IsErr result
-            × (self.new.memory ≡ record self.old.memory { failures = self.old.memory.failures + 1 }) }
+        ensures fault { self.old.calls_to_fault ≡ 1
+            → IsErr result × (self.new.memory ≡ after_failure self.old.memory) }
         ensures others { self.old.calls_to_fault ≢ 1
             → Stores self.old.memory from next.now self.new.memory result }
     {

@@ -1,6 +1,7 @@
 //! A log that is written.
 
-ghost use Rattle.std.specs.Prelude.{ℕ, ◌≡◌, ◌+◌, ◌<◌, ◌≤◌, [], ◌∷◌, length, max, IfOk, IfErr, IfSome, OnOk, OnErr, Some};
+ghost use Rattle.std.specs.Prelude.{ℕ, ◌≡◌, ◌+◌, ◌<◌, ◌≤◌, [], ◌∷◌, length, max, Some};
+ghost use Rattle.std.specs.Prelude.{IfOk, IfErr, IfSome, OnOk, OnErr};
 ghost use Rattle.log_store.specs.declared.record.Record.{Record};
 ghost use Rattle.log_store.specs.Log.{IsLog, IsPageCount, StandsAt, lsn_of};
 ghost use Rattle.log_store.specs.Scan.{with_next};
@@ -8,15 +9,15 @@ ghost use Rattle.log_store.specs.WrittenLog.{IsWritten, HasRecordAt, end_up_to};
 
 use crate::codec::encode;
 use crate::device::{DeviceFault, LogDevice};
-use crate::log_image::encode_header;
+use crate::log_image::{MAX_RECORDS, encode_header};
 use crate::record::{RECORD_BYTES, Record};
 use page_core::Lsn;
 use std::alloc::{AllocError, Global};
 use std::marker::Model;
 
-/// A log that is written. It has all of its records in memory, and the first of them on its device too: these are
-/// forced, and outlast every later call and every later fault.
-#[derive(Drop)]
+/// A log that is written. It has all of its records in memory, and the first of them on its device
+/// too. These are forced: they outlast every later call and every later fault.
+#[derive(Debug, Drop)]
 pub struct Log<D: LogDevice> {
     pages: u32,
     records: Vec<Record>,
@@ -30,22 +31,24 @@ impl<D: LogDevice> Model for Log<D> {
 
     ghost Value = { WrittenLog D };
 
-    ghost view = { λ log. written_log log.pages log.records.items log.forced log.device };
+    ghost view = { λ it. written_log it.pages it.records.items it.forced it.device };
 
-    ghost invariant = { λ log. IsWritten D.bytes (written_log log.pages log.records.items log.forced log.device) };
+    ghost invariant = { λ it.
+        IsWritten D.bytes (written_log it.pages it.records.items it.forced it.device) };
 }
 
 impl<D: LogDevice> Log<D> {
-    /// A log without records, of a volume of so many pages. Its header is stored by one call of the device.
+    /// A log without records, of a volume of so many pages. Its header is stored by one call of
+    /// the device.
     ///
-    /// An `Err` comes where this call fails, and hands the device back.
+    /// An `Err` comes where this call fails. It hands the device back.
     pub fn new(alloc: Global, pages: u32, mut device: D) -> Result<Log<D>, (DeviceFault, D)>
         requires { IsPageCount pages }
 
-        ensures empty { IfOk result (λ log. log.log ≡ record { pages = pages; records = [] }) }
-        ensures forced_end { IfOk result (λ log. log.forced_end ≡ 64) }
-        ensures no_failure { IfOk result (λ log. D.failures log.device ≡ D.failures device) }
+        ensures empty { IfOk result (λ it. it.log ≡ record { pages = pages; records = [] }) }
+        ensures forced_end { IfOk result (λ it. it.forced_end ≡ 64) }
 
+        ensures no_failure { IfOk result (λ it. D.failures it.device ≡ D.failures device) }
         ensures failure { IfErr result (λ e. D.failures device < D.failures e.1) }
     {
         match device.store(0, &encode_header(pages)) {
@@ -64,24 +67,27 @@ impl<D: LogDevice> Log<D> {
     /// An `Err` comes where room for it is refused. The log is then as it was.
     pub fn append(&mut self, next: Record) -> Result<(), AllocError>
         requires stands { StandsAt self.old.log.pages (lsn_of (length self.old.log.records)) next }
-        requires room { length self.old.log.records < 1048576 }
+        requires room { length self.old.log.records < MAX_RECORDS }
 
-        ensures ok { OnOk result (self.new ≡ record self.old { log = with_next self.old.log (next ∷ []) }) }
+        ensures ok { OnOk result (self.new
+            ≡ record self.old { log = with_next self.old.log (next ∷ []) }) }
         ensures err { OnErr result (self.new ≡ self.old) }
     {
         self.records.push(next)?;
         Ok(())
     }
 
-    /// Forces the log up to an LSN: stores each record that is not forced and stands at the LSN or before it, in order,
-    /// by one call of the device for each. It takes no memory.
+    /// Forces the log up to an LSN: stores each record that is not forced yet and stands at this
+    /// LSN or before it, in order, by one call of the device for each. It takes no memory.
     ///
-    /// An `Err` comes at the first of these calls that fails. The records before that one are then forced.
+    /// An `Err` comes where one of these calls fails, and ends them. The records that were stored
+    /// before are forced.
     pub fn force_to(&mut self, lsn: Lsn) -> Result<(), DeviceFault>
         ensures same { self.new.log ≡ self.old.log }
         ensures rising { self.old.forced_end ≤ self.new.forced_end }
 
-        ensures forced { OnOk result (self.new.forced_end ≡ max self.old.forced_end (end_up_to self.old.log lsn)) }
+        ensures forced { OnOk result (self.new.forced_end
+            ≡ max self.old.forced_end (end_up_to self.old.log lsn)) }
         ensures no_failure { OnOk result (D.failures self.new.device ≡ D.failures self.old.device) }
 
         ensures short { OnErr result (self.new.forced_end < end_up_to self.old.log lsn) }
@@ -194,7 +200,7 @@ impl<D: LogDevice> Log<D> {
 
 /// Where the record at an index stands.
 fn lsn_at(index: usize) -> Lsn
-    requires { index ≤ 1048576 }
+    requires { index ≤ MAX_RECORDS }
     ensures { result ≡ lsn_of index }
 {
     Lsn(64 * (index as u64 + 1))

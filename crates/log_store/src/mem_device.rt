@@ -1,7 +1,7 @@
 //! A device in memory.
 
 ghost use Rattle.std.specs.Prelude.{◌≡◌, ◌+◌, ◌*◌, ◌≤◌, [], length, IfOk};
-ghost use Rattle.log_store.specs.MemDevice.{Stores};
+ghost use Rattle.log_store.specs.MemDevice.{Stores, empty_memory, after_failure};
 
 use crate::device::{DeviceFault, LogDevice};
 use crate::failures::Failures;
@@ -10,8 +10,8 @@ use crate::record::RECORD_BYTES;
 use std::alloc::{AllocError, Global};
 use std::marker::Model;
 
-/// A device in memory, with a fixed room. Its only failure is a store that would pass this room.
-#[derive(Drop)]
+/// A device in memory, with a fixed room. It fails just where a store would pass this room.
+#[derive(Debug, Drop)]
 pub struct MemDevice {
     bytes: Vec<u8>,
     room: usize,
@@ -32,18 +32,19 @@ impl Model for MemDevice {
       failures = failure_count device.failures;
     } };
 
-    ghost invariant = { λ device. (vec_len device.bytes ≤ device.room) × (device.room ≤ vec_capacity device.bytes) };
+    ghost invariant = { λ device.
+        (vec_len device.bytes ≤ device.room) × (device.room ≤ vec_capacity device.bytes) };
 }
 
 impl MemDevice {
-    /// An empty device with room for a log's header and so many records. It takes all of its memory here: `AllocError`
-    /// comes where that is refused.
+    /// An empty device with room for a log's header and so many records, 64 bytes each. It takes
+    /// all of its memory here. `AllocError` comes where that is refused.
     pub fn new(alloc: Global, records: usize) -> Result<MemDevice, AllocError>
-        ensures { IfOk result (λ device. device ≡ record { bytes = []; room = 64 * (records + 1); failures = 0 }) }
+        ensures { IfOk result (λ device. device ≡ empty_memory (64 * (records + 1))) }
     {
         let room = records
-            .checked_add(1)
-            .and_then(|units| units.checked_mul(RECORD_BYTES))
+            .checked_mul(RECORD_BYTES)
+            .and_then(|bytes| bytes.checked_add(HEADER_BYTES))
             .ok_or(AllocError)?;
         Ok(MemDevice {
             bytes: Vec::with_capacity(alloc, room)?,
@@ -61,7 +62,7 @@ impl MemDevice {
 
     /// A failure. What is on the device stays.
     pub(crate) fn fail(&mut self) -> DeviceFault
-        ensures { self.new ≡ record self.old { failures = self.old.failures + 1 } }
+        ensures { self.new ≡ after_failure self.old }
     {
         self.failures.add_one();
         DeviceFault

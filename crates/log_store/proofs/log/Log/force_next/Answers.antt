@@ -6,6 +6,7 @@ use Rattle.log_store.proofs.log.Log.force_next.Goals as goal
 pub store-requires : goal.store-requires
 store-requires g c =
     let log = c.self.inside in
+    let it = written_log log.pages log.records.items log.forced log.device in
     let place = c.lsn_at.ensures in
     let view = c.store.view_is in
-    omega (arith, on_device g.D.LogDevice.bytes (written_log log.pages log.records.items log.forced log.device) c.self.invariant)
+    omega (arith, on_device g.D.LogDevice.bytes it c.self.invariant)

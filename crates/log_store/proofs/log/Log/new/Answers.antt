@@ -1,7 +1,11 @@
-use Rattle.std.proofs.Common.{◌∙◌}
+use Rattle.std.proofs.Common.{◌≡◌, ◌∙◌}
+use Rattle.log_store.specs.Log.{header_bytes}
 use Rattle.log_store.proofs.WrittenLogs.{written_empty}
 use Rattle.log_store.proofs.log.Log.new.Goals as goal
 
 pub invariant_of-result : goal.invariant_of-result
 invariant_of-result g c =
-    rw c.new.ensures.items (written_empty g.D.LogDevice.bytes c.args.pages c.store.new.self c.requires (c.in-Ok.ensures.stored ∙ c.encode_header.ensures))
+    let bytes = g.D.LogDevice.bytes in
+    let device = c.store.new.self in
+    let spelled : bytes device ≡ header_bytes c.args.pages = c.in-Ok.ensures.stored ∙ c.encode_header.ensures in
+    rw c.new.ensures.items (written_empty bytes c.args.pages device c.requires spelled)
