@@ -205,3 +205,6 @@ fn lsn_at(index: usize) -> Lsn
 {
     Lsn(64 * (index as u64 + 1))
 }
+
+#[cfg(test)]
+mod tests;
