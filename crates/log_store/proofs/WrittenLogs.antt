@@ -1,22 +1,23 @@
 -- What a log that is written keeps.
 use Rattle.std.proofs.Common.{◌≡◌, ℕ, ◌+◌, ◌*◌, ◌≤◌, List, [], length, take, refl, sym, ap, ◌∙◌, arith}
 use Rattle.std.proofs.lemmas.List.{append-nil, length-take, take_all}
-use Rattle.log_store.specs.Log.{IsLog, IsPageCount, header_bytes}
-use Rattle.log_store.specs.WrittenLog.{WrittenLog, IsWritten, first_records, written_log}
+use Rattle.log_store.specs.declared.record.Record.{Record}
+use Rattle.log_store.specs.Log.{IsLog, IsPageCount, header_bytes, lsn_of}
+use Rattle.log_store.specs.WrittenLog.{IsWritten, written_log}
 use Rattle.log_store.proofs.Logs.{length-log, length-header_bytes}
 
 -- the forced end lies on the device
-pub on_device : {D : Type 0} (bytes : D → List ℕ) (it : WrittenLog D) → IsWritten bytes it
-    → it.forced_end ≤ length (bytes it.device)
-on_device bytes it kept =
+pub on_device : {D : Type 0} (bytes : D → List ℕ) (pages : ℕ) (records : List Record) (forced : ℕ) (device : D)
+    → IsWritten bytes (written_log pages records forced device) → lsn_of forced ≤ length (bytes device)
+on_device bytes pages records forced device kept =
     let count = kept.forced.0 in
-    let forced = kept.forced.1 in
-    let front = take it.forced_end (bytes it.device) in
-    let there : count ≤ length it.log.records = forced.there in
-    let end : it.forced_end ≡ 64 * (count + 1) = forced.end in
-    let long : length front ≡ 64 * (length (take count it.log.records) + 1) =
-    length-log (first_records count it.log) front forced.stable in
-    omega (arith, length-take it.forced_end (bytes it.device), length-take count it.log.records)
+    let known = kept.forced.1 in
+    let front = take (lsn_of forced) (bytes device) in
+    let there : count ≤ length records = known.there in
+    let end : lsn_of forced ≡ lsn_of count = known.end in
+    let long : length front ≡ 64 * (length (take count records) + 1) =
+    length-log (record { pages = pages; records = take count records }) front known.stable in
+    omega (arith, length-take (lsn_of forced) (bytes device), length-take count records)
 
 -- a log without records, whose device has the header and nothing else
 pub written_empty : {D : Type 0} (bytes : D → List ℕ) (pages : ℕ) (device : D) → IsPageCount pages

@@ -111,8 +111,8 @@ impl<D: LogDevice> Log<D> {
         ensures short { OnErr result (self.new.forced_end < lsn_of (length self.old.log.records)) }
         ensures failure { OnErr result (D.failures self.old.device < D.failures self.new.device) }
     {
-        let end = lsn_at(self.records.len());
-        self.force_to(end)
+        let end = offset_of(self.records.len());
+        self.force_to(Lsn(end))
     }
 
     /// The record that stands at an LSN, if one does.
@@ -131,7 +131,7 @@ impl<D: LogDevice> Log<D> {
     pub fn end(&self) -> Lsn
         ensures { result ≡ lsn_of (length self.now.log.records) }
     {
-        lsn_at(self.records.len())
+        Lsn(offset_of(self.records.len()))
     }
 
     /// The LSN behind the last record that is forced.
@@ -139,7 +139,7 @@ impl<D: LogDevice> Log<D> {
         ensures end { result ≡ self.now.forced_end }
         ensures within { result ≤ lsn_of (length self.now.log.records) }
     {
-        lsn_at(self.forced)
+        Lsn(offset_of(self.forced))
     }
 
     /// The records, the oldest first. The record at index i has LSN 64 * (i + 1).
@@ -192,18 +192,18 @@ impl<D: LogDevice> Log<D> {
         ensures failure { OnErr result (D.failures self.old.device < D.failures self.new.device) }
     {
         let next = encode(&self.records[self.forced]);
-        self.device.store(lsn_at(self.forced).0, &next)?;
+        self.device.store(offset_of(self.forced), &next)?;
         self.forced += 1;
         Ok(())
     }
 }
 
-/// Where the record at an index stands.
-fn lsn_at(index: usize) -> Lsn
+/// Where the record at an index stands, in bytes.
+fn offset_of(index: usize) -> u64
     requires { index ≤ MAX_RECORDS }
     ensures { result ≡ lsn_of index }
 {
-    Lsn(64 * (index as u64 + 1))
+    64 * (index as u64 + 1)
 }
 
 #[cfg(test)]
