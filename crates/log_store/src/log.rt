@@ -3,6 +3,7 @@
 ghost use Rattle.std.specs.Prelude.{ℕ, ◌≡◌, ◌+◌, ◌<◌, ◌≤◌, [], ◌∷◌, length, max, Some};
 ghost use Rattle.std.specs.Prelude.{IfOk, IfErr, IfSome, OnOk, OnErr};
 ghost use Rattle.log_store.specs.declared.record.Record.{Record};
+ghost use Rattle.log_store.specs.Device.{KeepsFirst};
 ghost use Rattle.log_store.specs.Log.{IsLog, IsPageCount, StandsAt, lsn_of};
 ghost use Rattle.log_store.specs.Scan.{with_next};
 ghost use Rattle.log_store.specs.WrittenLog.{IsWritten, HasRecordAt, end_up_to};
@@ -10,7 +11,7 @@ ghost use Rattle.log_store.specs.WrittenLog.{IsWritten, HasRecordAt, end_up_to};
 use crate::codec::encode;
 use crate::device::{DeviceFault, LogDevice};
 use crate::log_image::{MAX_RECORDS, encode_header};
-use crate::record::{RECORD_BYTES, Record};
+use crate::record::Record;
 use page_core::Lsn;
 use std::alloc::{AllocError, Global};
 use std::marker::Model;
@@ -81,10 +82,12 @@ impl<D: LogDevice> Log<D> {
     /// LSN or before it, in order, by one call of the device for each. It takes no memory.
     ///
     /// An `Err` comes where one of these calls fails, and ends them. The records that were stored
-    /// before are forced.
+    /// before it are forced, and what was forced before this call stands.
     pub fn force_to(&mut self, lsn: Lsn) -> Result<(), DeviceFault>
         ensures same { self.new.log ≡ self.old.log }
         ensures rising { self.old.forced_end ≤ self.new.forced_end }
+        ensures stands { KeepsFirst self.old.forced_end
+            (D.bytes self.old.device) (D.bytes self.new.device) }
 
         ensures forced { OnOk result (self.new.forced_end
             ≡ max self.old.forced_end (end_up_to self.old.log lsn)) }
@@ -100,10 +103,12 @@ impl<D: LogDevice> Log<D> {
         Ok(())
     }
 
-    /// Forces the whole log, as `force_to` does.
+    /// Forces the whole log. Its calls of the device and its `Err` are those of `force_to`.
     pub fn force(&mut self) -> Result<(), DeviceFault>
         ensures same { self.new.log ≡ self.old.log }
         ensures rising { self.old.forced_end ≤ self.new.forced_end }
+        ensures stands { KeepsFirst self.old.forced_end
+            (D.bytes self.old.device) (D.bytes self.new.device) }
 
         ensures forced { OnOk result (self.new.forced_end ≡ lsn_of (length self.old.log.records)) }
         ensures no_failure { OnOk result (D.failures self.new.device ≡ D.failures self.old.device) }
@@ -115,7 +120,8 @@ impl<D: LogDevice> Log<D> {
         self.force_to(Lsn(end))
     }
 
-    /// The record that stands at an LSN, if one does.
+    /// The record that stands at an LSN. None stands at 0, within a record, or at the log's end or
+    /// past it.
     pub fn get(&self, lsn: Lsn) -> Option<Record>
         ensures found { IfSome result (HasRecordAt self.now.log lsn) }
         ensures only { (r : Record) → HasRecordAt self.now.log lsn r → result ≡ Some r }
@@ -127,14 +133,15 @@ impl<D: LogDevice> Log<D> {
         self.records.get(index as usize).copied()
     }
 
-    /// The LSN behind the last record: where the next one is to stand.
+    /// The LSN behind the last record, in bytes: where the next record is to stand.
     pub fn end(&self) -> Lsn
         ensures { result ≡ lsn_of (length self.now.log.records) }
     {
         Lsn(offset_of(self.records.len()))
     }
 
-    /// The LSN behind the last record that is forced.
+    /// The LSN behind the last record that is forced, in bytes. Each record below it is on the
+    /// device.
     pub fn forced_end(&self) -> Lsn
         ensures end { result ≡ self.now.forced_end }
         ensures within { result ≤ lsn_of (length self.now.log.records) }
@@ -186,6 +193,8 @@ impl<D: LogDevice> Log<D> {
         requires { self.old.forced_end < lsn_of (length self.old.log.records) }
 
         ensures same { self.new.log ≡ self.old.log }
+        ensures stands { KeepsFirst self.old.forced_end
+            (D.bytes self.old.device) (D.bytes self.new.device) }
         ensures forced { OnOk result (self.new.forced_end ≡ self.old.forced_end + 64) }
         ensures no_failure { OnOk result (D.failures self.new.device ≡ D.failures self.old.device) }
         ensures not_forced { OnErr result (self.new.forced_end ≡ self.old.forced_end) }

@@ -74,7 +74,8 @@ impl LogDevice for MemDevice {
 
     ghost failures = { λ device. device.failures };
 
-    /// It takes no memory. An `Err` leaves the bytes as they were.
+    /// An `Err` comes where the store would pass the room. It leaves the bytes as they were. The
+    /// call takes no memory.
     fn store(&mut self, from: u64, next: &[u8]) -> Result<(), DeviceFault>
         requires { from ≤ length self.old.bytes }
         ensures exact { Stores self.old from next.now self.new result }
