@@ -1,7 +1,9 @@
+pub mod Devices
 pub mod Faults
+pub mod Followed
+pub mod Images
 pub mod Inputs
 pub mod Logs
 pub mod Records
 pub mod Scans
-pub mod Images
-pub mod Followed
+pub mod WrittenLogs

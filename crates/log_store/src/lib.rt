@@ -1,14 +1,19 @@
-//! The records of the log, their bytes, and the reading of a whole log.
+//! The records of the log, their bytes, the reading of a whole log, and a log that is written.
 #![tactic(auto)]
 
 mod codec;
+mod device;
+mod failures;
 mod fault;
+mod faulty_device;
 mod fields;
 mod header;
 mod history;
 mod laws;
 mod limits;
+mod log;
 mod log_image;
+mod mem_device;
 mod open_transactions;
 mod page_change;
 mod pending_change;
@@ -20,12 +25,16 @@ mod sink;
 mod txn_state;
 
 pub use codec::{decode, encode};
+pub use device::{DeviceFault, LogDevice};
 pub use fault::LogReadFault;
+pub use faulty_device::FaultyDevice;
 pub use header::encode_header;
 pub use history::History;
 pub use laws::{logs_are_spelled_apart, records_are_spelled_apart, spelled_logs_have_no_fault};
 pub use limits::{HEADER_BYTES, MAX_LOG_BYTES, MAX_OPEN, MAX_RECORDS, RECORD_BYTES};
+pub use log::Log;
 pub use log_image::LogImage;
+pub use mem_device::MemDevice;
 pub use open_transactions::OpenTransactions;
 pub use page_change::PageChange;
 pub use page_core::{MAX_PAGES, TxnNo};

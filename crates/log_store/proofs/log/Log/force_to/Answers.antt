@@ -1,0 +1,37 @@
+use Rattle.std.proofs.Common.{◌≤◌, length, refl, ◌∙◌, arith}
+use Rattle.log_store.specs.Log.{lsn_of}
+use Rattle.log_store.proofs.Devices.{keeps_all, keeps_longer}
+use Rattle.log_store.proofs.WrittenLogs.{on_device}
+use Rattle.log_store.proofs.log.Log.force_to.Goals as goal
+
+pub loop-init : goal.loop-init
+loop-init g c =
+    let it = c.self.inside in
+    let bytes = g.D.LogDevice.bytes in
+    let long : lsn_of it.forced ≤ length (bytes it.device) =
+    on_device bytes it.pages it.records.items it.forced it.device c.self.invariant in
+    rw (← c.self.view_is) (record {
+      same = refl;
+      forced = refl;
+      rising = omega arith;
+      most = omega arith;
+      stands = keeps_all (lsn_of it.forced) (bytes it.device) long;
+      no_failure = refl;
+    })
+
+pub returns-in_err-force_next-clause-stands : goal.returns-in_err-force_next-clause-stands
+returns-in_err-force_next-clause-stands g c =
+    keeps_longer _ _ _ _ _ c.loop.invariant.rising c.loop.invariant.stands c.force_next.ensures.stands
+
+pub loop-preserved : goal.loop-preserved
+loop-preserved g c =
+    let so_far = c.loop.invariant in
+    let next = c.in_ok-force_next.ensures in
+    record {
+      same = next.same ∙ so_far.same;
+      forced = omega (arith, next.forced, so_far.forced);
+      rising = omega (arith, next.forced, so_far.rising);
+      most = omega (arith, next.forced, so_far.forced);
+      stands = keeps_longer _ _ _ _ _ so_far.rising so_far.stands next.stands;
+      no_failure = next.no_failure ∙ so_far.no_failure;
+    }

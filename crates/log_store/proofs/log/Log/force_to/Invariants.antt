@@ -1,0 +1,15 @@
+use Rattle.std.proofs.Common.{◌≡◌, ◌≤◌, max}
+use Rattle.log_store.specs.Device.{KeepsFirst}
+use Rattle.log_store.specs.Log.{lsn_of}
+use Rattle.log_store.proofs.log.Log.force_to.Given as goal
+
+abbrev pub invariant-loop : goal.invariant-loop
+invariant-loop g l = record {
+  same : l.self.log ≡ l.initial.self.log;
+  forced : l.self.forced_end ≡ lsn_of l.counter;
+  rising : l.initial.self.forced_end ≤ l.self.forced_end;
+  most : l.self.forced_end ≤ max l.initial.self.forced_end (lsn_of l.count);
+  stands : KeepsFirst l.initial.self.forced_end (g.D.LogDevice.bytes l.initial.self.device)
+      (g.D.LogDevice.bytes l.self.device);
+  no_failure : g.D.LogDevice.failures l.self.device ≡ g.D.LogDevice.failures l.initial.self.device;
+}

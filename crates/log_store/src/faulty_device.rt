@@ -1,0 +1,71 @@
+//! A device that fails at one call, to try what is built on a device.
+
+ghost use Rattle.std.specs.Prelude.{◌≡◌, ◌≢◌, ◌-◌, ◌≤◌, length, IsErr};
+ghost use Rattle.log_store.specs.MemDevice.{Stores, after_failure};
+
+use crate::device::{DeviceFault, LogDevice};
+use crate::mem_device::MemDevice;
+use std::marker::Model;
+
+/// A device in memory of which one call of `store` fails.
+#[derive(Debug, Drop)]
+pub struct FaultyDevice {
+    device: MemDevice,
+    calls_to_fault: u64,
+}
+
+impl Model for FaultyDevice {
+    ghost use Rattle.log_store.specs.FaultyDevice.{Faulty};
+
+    ghost Value = { Faulty };
+
+    ghost view = { λ faulty. record {
+      memory = faulty.device;
+      calls_to_fault = faulty.calls_to_fault;
+    } };
+}
+
+impl FaultyDevice {
+    /// A device whose `k`-th call of `store` fails, counted from 1. Each other call goes on to
+    /// `device`. At 0 all of them do.
+    pub fn new(device: MemDevice, k: u64) -> FaultyDevice
+        ensures { result ≡ record { memory = device; calls_to_fault = k } }
+    {
+        FaultyDevice {
+            device,
+            calls_to_fault: k,
+        }
+    }
+
+    /// What is on the device.
+    pub fn bytes(&self) -> &[u8]
+        ensures { result.now ≡ self.now.memory.bytes }
+    {
+        self.device.bytes()
+    }
+}
+
+impl LogDevice for FaultyDevice {
+    ghost bytes = { λ faulty. faulty.memory.bytes };
+
+    ghost failures = { λ faulty. faulty.memory.failures };
+
+    /// An `Err` comes at the call that is to fail, and where a store would pass the room of the
+    /// device in memory. It leaves the bytes as they were. The call takes no memory.
+    fn store(&mut self, from: u64, next: &[u8]) -> Result<(), DeviceFault>
+        requires { from ≤ length self.old.memory.bytes }
+
+        ensures counted { self.new.calls_to_fault ≡ self.old.calls_to_fault - 1 }
+        ensures fault { self.old.calls_to_fault ≡ 1
+            → IsErr result × (self.new.memory ≡ after_failure self.old.memory) }
+        ensures others { self.old.calls_to_fault ≢ 1
+            → Stores self.old.memory from next.now self.new.memory result }
+    {
+        let is_to_fail = self.calls_to_fault == 1;
+        self.calls_to_fault = self.calls_to_fault.saturating_sub(1);
+        if is_to_fail {
+            return Err(self.device.fail());
+        }
+        self.device.store(from, next)
+    }
+}

@@ -1,0 +1,220 @@
+//! A log that is written.
+
+ghost use Rattle.std.specs.Prelude.{ℕ, ◌≡◌, ◌+◌, ◌<◌, ◌≤◌, [], ◌∷◌, length, max, Some};
+ghost use Rattle.std.specs.Prelude.{IfOk, IfErr, IfSome, OnOk, OnErr};
+ghost use Rattle.log_store.specs.declared.record.Record.{Record};
+ghost use Rattle.log_store.specs.Device.{KeepsFirst};
+ghost use Rattle.log_store.specs.Log.{IsLog, IsPageCount, StandsAt, lsn_of};
+ghost use Rattle.log_store.specs.Scan.{with_next};
+ghost use Rattle.log_store.specs.WrittenLog.{IsWritten, HasRecordAt, end_up_to};
+
+use crate::codec::encode;
+use crate::device::{DeviceFault, LogDevice};
+use crate::header::encode_header;
+use crate::limits::{MAX_RECORDS, RECORD_BYTES};
+use crate::record::Record;
+use page_core::Lsn;
+use std::alloc::{AllocError, Global};
+use std::marker::Model;
+
+/// A log that is written. It has all of its records in memory, and the first of them on its device
+/// too. These are forced: they outlast every later call and every later fault.
+#[derive(Debug, Drop)]
+pub struct Log<D: LogDevice> {
+    pages: u32,
+    records: Vec<Record>,
+    /// How many records are forced.
+    forced: usize,
+    device: D,
+}
+
+impl<D: LogDevice> Model for Log<D> {
+    ghost use Rattle.log_store.specs.WrittenLog.{WrittenLog, IsWritten, written_log};
+
+    ghost Value = { WrittenLog D };
+
+    ghost view = { λ it. written_log it.pages it.records.items it.forced it.device };
+
+    ghost invariant = { λ it.
+        IsWritten D.bytes (written_log it.pages it.records.items it.forced it.device) };
+}
+
+impl<D: LogDevice> Log<D> {
+    /// A log without records, of a volume of so many pages. Its header is stored by one call of
+    /// the device.
+    ///
+    /// An `Err` comes where this call fails. It hands the device back.
+    pub fn new(alloc: Global, pages: u32, mut device: D) -> Result<Log<D>, (DeviceFault, D)>
+        requires { IsPageCount pages }
+
+        ensures empty { IfOk result (λ it. it.log ≡ record { pages = pages; records = [] }) }
+        ensures forced_end { IfOk result (λ it. it.forced_end ≡ 64) }
+
+        ensures no_failure { IfOk result (λ it. D.failures it.device ≡ D.failures device) }
+        ensures failure { IfErr result (λ e. D.failures device < D.failures e.1) }
+    {
+        match device.store(0, &encode_header(pages)) {
+            Ok(()) => Ok(Log {
+                pages,
+                records: Vec::new(alloc),
+                forced: 0,
+                device,
+            }),
+            Err(fault) => Err((fault, device)),
+        }
+    }
+
+    /// Puts a record at the end, in memory alone: `force_to` and `force` bring it to the device.
+    ///
+    /// An `Err` comes where room for it is refused. The log is then as it was.
+    pub fn append(&mut self, next: Record) -> Result<(), AllocError>
+        requires stands { StandsAt self.old.log.pages (lsn_of (length self.old.log.records)) next }
+        requires room { length self.old.log.records < MAX_RECORDS }
+
+        ensures ok { OnOk result (self.new
+            ≡ record self.old { log = with_next self.old.log (next ∷ []) }) }
+        ensures err { OnErr result (self.new ≡ self.old) }
+    {
+        self.records.push(next)?;
+        Ok(())
+    }
+
+    /// Forces the log up to an LSN: stores each record that is not forced yet and stands at this
+    /// LSN or before it, in order, by one call of the device for each. It takes no memory.
+    ///
+    /// An `Err` comes where one of these calls fails, and ends them. The records that were stored
+    /// before it are forced, and what was forced before this call stands.
+    pub fn force_to(&mut self, lsn: Lsn) -> Result<(), DeviceFault>
+        ensures same { self.new.log ≡ self.old.log }
+        ensures rising { self.old.forced_end ≤ self.new.forced_end }
+        ensures stands { KeepsFirst self.old.forced_end
+            (D.bytes self.old.device) (D.bytes self.new.device) }
+
+        ensures forced { OnOk result (self.new.forced_end
+            ≡ max self.old.forced_end (end_up_to self.old.log lsn)) }
+        ensures no_failure { OnOk result (D.failures self.new.device ≡ D.failures self.old.device) }
+
+        ensures short { OnErr result (self.new.forced_end < end_up_to self.old.log lsn) }
+        ensures failure { OnErr result (D.failures self.old.device < D.failures self.new.device) }
+    {
+        let count = self.records.len().min((lsn.0 / 64) as usize);
+        for _ in self.forced..count {
+            self.force_next()?;
+        }
+        Ok(())
+    }
+
+    /// Forces the whole log. Its calls of the device and its `Err` are those of `force_to`.
+    pub fn force(&mut self) -> Result<(), DeviceFault>
+        ensures same { self.new.log ≡ self.old.log }
+        ensures rising { self.old.forced_end ≤ self.new.forced_end }
+        ensures stands { KeepsFirst self.old.forced_end
+            (D.bytes self.old.device) (D.bytes self.new.device) }
+
+        ensures forced { OnOk result (self.new.forced_end ≡ lsn_of (length self.old.log.records)) }
+        ensures no_failure { OnOk result (D.failures self.new.device ≡ D.failures self.old.device) }
+
+        ensures short { OnErr result (self.new.forced_end < lsn_of (length self.old.log.records)) }
+        ensures failure { OnErr result (D.failures self.old.device < D.failures self.new.device) }
+    {
+        let end = offset_of(self.records.len());
+        self.force_to(Lsn(end))
+    }
+
+    /// The record that stands at an LSN. None stands at 0, within a record, or at the log's end or
+    /// past it.
+    pub fn get(&self, lsn: Lsn) -> Option<Record>
+        ensures found { IfSome result (HasRecordAt self.now.log lsn) }
+        ensures only { (r : Record) → HasRecordAt self.now.log lsn r → result ≡ Some r }
+    {
+        let index = (lsn.0 / 64).checked_sub(1)?;
+        if lsn.0 % 64 != 0 {
+            return None;
+        }
+        self.records.get(index as usize).copied()
+    }
+
+    /// The LSN behind the last record, in bytes: where the next record is to stand.
+    pub fn end(&self) -> Lsn
+        ensures { result ≡ lsn_of (length self.now.log.records) }
+    {
+        Lsn(offset_of(self.records.len()))
+    }
+
+    /// The LSN behind the last record that is forced, in bytes. Each record below it is on the
+    /// device.
+    pub fn forced_end(&self) -> Lsn
+        ensures end { result ≡ self.now.forced_end }
+        ensures within { result ≤ lsn_of (length self.now.log.records) }
+    {
+        Lsn(offset_of(self.forced))
+    }
+
+    /// The records, the oldest first. The record at index i has LSN 64 * (i + 1).
+    pub fn records(&self) -> &[Record]
+        ensures records { result.now ≡ self.now.log.records }
+        ensures valid { IsLog self.now.log }
+    {
+        &self.records
+    }
+
+    /// How many pages the volume of this log has.
+    pub fn pages(&self) -> u32
+        ensures { result ≡ self.now.log.pages }
+    {
+        self.pages
+    }
+
+    /// The log's device.
+    pub fn device(&self) -> &D
+        ensures device { result.now ≡ self.now.device }
+        // It begins with the header and the forced records.
+        ensures kept { IsWritten D.bytes self.now }
+    {
+        &self.device
+    }
+
+    /// The records and the device, of a log that is not written any more.
+    pub fn into_parts(self) -> (Vec<Record>, D)
+        ensures records { result.0.items ≡ self.log.records }
+        ensures device { result.1 ≡ self.device }
+        ensures kept { IsWritten D.bytes self }
+    {
+        let Log {
+            pages: _,
+            records,
+            forced: _,
+            device,
+        } = self;
+        (records, device)
+    }
+
+    /// Forces the first record that is not forced.
+    fn force_next(&mut self) -> Result<(), DeviceFault>
+        requires { self.old.forced_end < lsn_of (length self.old.log.records) }
+
+        ensures same { self.new.log ≡ self.old.log }
+        ensures stands { KeepsFirst self.old.forced_end
+            (D.bytes self.old.device) (D.bytes self.new.device) }
+        ensures forced { OnOk result (self.new.forced_end ≡ self.old.forced_end + 64) }
+        ensures no_failure { OnOk result (D.failures self.new.device ≡ D.failures self.old.device) }
+        ensures not_forced { OnErr result (self.new.forced_end ≡ self.old.forced_end) }
+        ensures failure { OnErr result (D.failures self.old.device < D.failures self.new.device) }
+    {
+        let next = encode(&self.records[self.forced]);
+        self.device.store(offset_of(self.forced), &next)?;
+        self.forced += 1;
+        Ok(())
+    }
+}
+
+/// Where the record at an index stands, in bytes.
+fn offset_of(index: usize) -> u64
+    requires { index ≤ MAX_RECORDS }
+    ensures { result ≡ lsn_of index }
+{
+    64 * (index as u64 + 1)
+}
+
+#[cfg(test)]
+mod tests;
