@@ -7,9 +7,9 @@ use Rattle.log_store.specs.WrittenLog.{IsWritten, written_log}
 use Rattle.log_store.proofs.Logs.{length-log, length-header_bytes}
 
 -- the forced end lies on the device
-pub on_device : {D : Type 0} (bytes : D → List ℕ) (pages : ℕ) (records : List Record) (forced : ℕ) (device : D)
-    → IsWritten bytes (written_log pages records forced device) → lsn_of forced ≤ length (bytes device)
-on_device bytes pages records forced device kept =
+pub on_device : {D : Type 0} (bytes : D → List ℕ) (pages : ℕ) (records : List Record) (forced room : ℕ) (device : D)
+    → IsWritten bytes (written_log pages records forced room device) → lsn_of forced ≤ length (bytes device)
+on_device bytes pages records forced room device kept =
     let count = kept.forced.0 in
     let known = kept.forced.1 in
     let front = take (lsn_of forced) (bytes device) in
@@ -20,9 +20,9 @@ on_device bytes pages records forced device kept =
     omega (arith, length-take (lsn_of forced) (bytes device), length-take count records)
 
 -- a log without records, whose device has the header and nothing else
-pub written_empty : {D : Type 0} (bytes : D → List ℕ) (pages : ℕ) (device : D) → IsPageCount pages
-    → bytes device ≡ header_bytes pages → IsWritten bytes (written_log pages [] 0 device)
-written_empty bytes pages device count spelled =
+pub written_empty : {D : Type 0} (bytes : D → List ℕ) (pages room : ℕ) (device : D) → IsPageCount pages
+    → bytes device ≡ header_bytes pages → IsWritten bytes (written_log pages [] 0 room device)
+written_empty bytes pages room device count spelled =
     let valid : IsLog (record { pages = pages; records = [] }) = record {
       pages = count;
       count = omega arith;

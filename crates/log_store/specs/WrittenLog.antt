@@ -3,17 +3,19 @@ use Rattle.std.specs.Prelude.{ℕ, ◌≡◌, ◌/◌, ◌≤◌, List, length, 
 use Rattle.log_store.specs.declared.record.Record.{Record}
 use Rattle.log_store.specs.Log.{Log, IsLog, SpellsLog, lsn_of}
 
--- the log, the LSN behind its last forced record, and its device
+-- the log, the LSN behind its last forced record, for how many records more it has memory, and its device
 pub record WrittenLog (D : Type 0) : Type 0 where
   pub log : Log
   pub forced_end : ℕ
+  pub room : ℕ
   pub device : D
 
 -- the log of so many pages with these records, of which so many are forced
-abbrev pub written_log : {D : Type 0} → ℕ → List Record → ℕ → D → WrittenLog D
-written_log pages records forced device = record {
+abbrev pub written_log : {D : Type 0} → ℕ → List Record → ℕ → ℕ → D → WrittenLog D
+written_log pages records forced room device = record {
   log = record { pages = pages; records = records };
   forced_end = lsn_of forced;
+  room = room;
   device = device;
 }
 

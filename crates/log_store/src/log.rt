@@ -1,6 +1,6 @@
 //! A log that is written.
 
-ghost use Rattle.std.specs.Prelude.{ℕ, ◌≡◌, ◌+◌, ◌<◌, ◌≤◌, [], ◌∷◌, length, max, Some};
+ghost use Rattle.std.specs.Prelude.{ℕ, ◌≡◌, ◌+◌, ◌-◌, ◌<◌, ◌≤◌, [], ◌∷◌, length, max, Some};
 ghost use Rattle.std.specs.Prelude.{IfOk, IfErr, IfSome, OnOk, OnErr};
 ghost use Rattle.log_store.specs.declared.record.Record.{Record};
 ghost use Rattle.log_store.specs.Device.{KeepsFirst};
@@ -29,14 +29,18 @@ pub struct Log<D: LogDevice> {
 }
 
 impl<D: LogDevice> Model for Log<D> {
+    ghost use Rattle.std.specs.Prelude.{◌-◌, vec_len};
+    ghost use Rattle.std.specs.Vec.{vec_capacity};
     ghost use Rattle.log_store.specs.WrittenLog.{WrittenLog, IsWritten, written_log};
 
     ghost Value = { WrittenLog D };
 
-    ghost view = { λ it. written_log it.pages it.records.items it.forced it.device };
+    ghost view = { λ it. written_log it.pages it.records.items it.forced
+        (vec_capacity it.records - vec_len it.records) it.device };
 
     ghost invariant = { λ it.
-        IsWritten D.bytes (written_log it.pages it.records.items it.forced it.device) };
+        IsWritten D.bytes (written_log it.pages it.records.items it.forced
+        (vec_capacity it.records - vec_len it.records) it.device) };
 }
 
 impl<D: LogDevice> Log<D> {
@@ -64,19 +68,30 @@ impl<D: LogDevice> Log<D> {
         }
     }
 
-    /// Puts a record at the end, in memory alone: `force_to` and `force` bring it to the device.
-    ///
-    /// An `Err` comes where room for it is refused. The log is then as it was.
-    pub fn append(&mut self, next: Record) -> Result<(), AllocError>
-        requires stands { StandsAt self.old.log.pages (lsn_of (length self.old.log.records)) next }
-        requires room { length self.old.log.records < MAX_RECORDS }
-
-        ensures ok { OnOk result (self.new
-            ≡ record self.old { log = with_next self.old.log (next ∷ []) }) }
-        ensures err { OnErr result (self.new ≡ self.old) }
+    /// Makes room for one record more. An `Err` comes where it is refused. The log stays as it is.
+    pub fn make_room(&mut self) -> Result<(), AllocError>
+        ensures room { OnOk result (0 < self.new.room) }
+        ensures same { self.new.log ≡ self.old.log }
+        ensures forced_end { self.new.forced_end ≡ self.old.forced_end }
+        ensures device { self.new.device ≡ self.old.device }
     {
-        self.records.push(next)?;
-        Ok(())
+        self.records.reserve(1)
+    }
+
+    /// Puts a record at the end, in memory alone: `force_to` and `force` bring it to the device. It
+    /// takes no memory, since `make_room` has made its room.
+    pub fn append(&mut self, next: Record)
+        requires stands { StandsAt self.old.log.pages (lsn_of (length self.old.log.records)) next }
+        requires few { length self.old.log.records < MAX_RECORDS }
+        requires room { 0 < self.old.room }
+
+        ensures next { self.new.log ≡ with_next self.old.log (next ∷ []) }
+        ensures forced_end { self.new.forced_end ≡ self.old.forced_end }
+        ensures device { self.new.device ≡ self.old.device }
+    {
+        if self.records.push(next).is_err() {
+            unreachable!();
+        }
     }
 
     /// Forces the log up to an LSN: stores each record that is not forced yet and stands at this

@@ -62,9 +62,13 @@ fn records() -> [Record; 3] {
 fn append_records<D: LogDevice>(log: &mut Log<D>) -> Result<(), AllocError>
     requires { log.old.log ≡ record { pages = 1; records = [] } }
 {
-    log.append(begin())?;
-    log.append(update())?;
-    log.append(commit())
+    log.make_room()?;
+    log.append(begin());
+    log.make_room()?;
+    log.append(update());
+    log.make_room()?;
+    log.append(commit());
+    Ok(())
 }
 
 /// Asserts that the first of the records are what a device spells up to an LSN.

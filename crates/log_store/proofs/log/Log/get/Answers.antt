@@ -22,6 +22,6 @@ returns-clause-only g c = λ r there.
     let records : c.deref.result.now ≡ c.args.self.now.log.records =
     c.deref.ensures.value ∙ ap (λ (it : WrittenLog g.row.D.Denot). it.log.records) c.self.view_is in
     c.copied.ensures
-        ∙ copied c.deref.result.now c.in_ok-index.index c.get.result r c.get.ensures.lookup.0 c.get.ensures.lookup.1
+    ∙ copied c.deref.result.now c.in_ok-index.index c.get.result r c.get.ensures.lookup.0 c.get.ensures.lookup.1
     (ap (λ (rs : List Record). slice_get rs c.in_ok-index.index) records ∙ ap (slice_get c.args.self.now.log.records) at
-        ∙ there.there)
+    ∙ there.there)

@@ -8,4 +8,4 @@ invariant_of-result g c =
     let bytes = g.D.LogDevice.bytes in
     let device = c.store.new.self in
     let spelled : bytes device ≡ header_bytes c.args.pages = c.in-Ok.ensures.stored ∙ c.encode_header.ensures in
-    rw c.new.ensures.items (written_empty bytes c.args.pages device c.requires spelled)
+    rw c.new.ensures.items (written_empty bytes c.args.pages _ device c.requires spelled)
