@@ -2,7 +2,9 @@
 #![tactic(auto)]
 
 mod event;
+mod laws;
 mod refusal;
 
 pub use event::{Answer, Event, Reply};
+pub use laws::log_shows_the_accepted_calls;
 pub use refusal::Refusal;
