@@ -1,3 +1,5 @@
+pub mod Calls
+pub mod Follows
+pub mod Forces
 pub mod Refusals
 pub mod Steps
-pub mod Calls
