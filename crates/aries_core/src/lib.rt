@@ -6,5 +6,8 @@ mod laws;
 mod refusal;
 
 pub use event::{Answer, Event, Reply};
-pub use laws::log_shows_the_accepted_calls;
+pub use laws::{
+    an_answered_commit_is_forced, log_shows_the_accepted_calls, the_forced_end_never_falls,
+    the_log_only_grows,
+};
 pub use refusal::Refusal;
