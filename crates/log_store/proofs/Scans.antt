@@ -61,7 +61,7 @@ bad_record log given unit rest spells few wide none =
 
 -- ---- one record more
 
-valid_next : (log : Log) (r : Record) → IsLog log → length log.records < 1048576 → StandsAt log.pages (lsn_of (length log.records)) r → IsLog (with_next log (r ∷ []))
+pub valid_next : (log : Log) (r : Record) → IsLog log → length log.records < 1048576 → StandsAt log.pages (lsn_of (length log.records)) r → IsLog (with_next log (r ∷ []))
 valid_next log r valid few stands = record {
   pages = valid.pages;
   count = omega (arith, length_push log.records r);
