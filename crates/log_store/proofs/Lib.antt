@@ -4,3 +4,4 @@ pub mod Logs
 pub mod Records
 pub mod Scans
 pub mod Images
+pub mod Rows
