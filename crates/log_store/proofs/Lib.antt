@@ -5,3 +5,6 @@ pub mod Records
 pub mod Scans
 pub mod Images
 pub mod Rows
+pub mod Histories
+pub mod Tests
+pub mod Pushes
