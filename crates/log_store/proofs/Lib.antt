@@ -5,3 +5,7 @@ pub mod Logs
 pub mod Records
 pub mod Scans
 pub mod Images
+pub mod Rows
+pub mod Histories
+pub mod Tests
+pub mod Pushes
