@@ -5,4 +5,5 @@ pub mod Numbers
 pub mod Pending
 pub mod Refusals
 pub mod Runs
+pub mod Stands
 pub mod Steps

@@ -1,23 +1,22 @@
 -- The numbers of a valid log: those in its slots, its transactions' and its records' LSNs.
-use Rattle.std.proofs.Common.{◌≡◌, ℕ, ◌+◌, ◌*◌, ◌%◌, ◌^◌, ◌<◌, ◌≤◌, Bool, true, false, cond, eqb, ◌||◌, List, [], ◌∷◌, length, get_or, set, map, refl, ap, subst, ◌∙◌, arith, inl, inr}
-use Rattle.std.specs.Prelude.{Option, Some, None, IfSome}
+use Rattle.std.proofs.Common.{◌≡◌, ℕ, ◌+◌, ◌^◌, ◌<◌, ◌≤◌, Bool, true, false, cond, eqb, List, [], ◌∷◌, length, get_or, map, refl, subst, arith, inl, inr}
+use Rattle.std.specs.Prelude.{Option, IfSome}
 use Rattle.std.specs.List.{All, list_any}
-use Rattle.std.specs.Option.{option_map_or}
 use Rattle.std.proofs.Math.Nat.{mul-mod_right}
 use Rattle.std.proofs.lemmas.Bool.{and_parts, cases_Bool, cases_lt, eqb-true, false≢true}
-use Rattle.std.proofs.lemmas.List.{get_or_past}
+use Rattle.std.proofs.lemmas.List.{get_or_past, length-map}
 use Rattle.std.proofs.lemmas.List.Elements.{All-filter, All-head, All-map, All-replicate, All-set, All-tail, All-weaker}
 use Rattle.page_core.specs.declared.page.Page.{Page}
 use Rattle.page_core.specs.Change.{changed}
 use Rattle.page_core.specs.Page.{formatted}
 use Rattle.log_store.specs.declared.page_change.PageChange.{PageChange}
 use Rattle.log_store.specs.declared.record.Record.{Record}
-use Rattle.log_store.specs.declared.record.Record.TheVariants.{Begin, Update, Comp, Commit, Abort, End}
+use Rattle.log_store.specs.declared.record.Record.TheVariants.{Begin}
 use Rattle.log_store.specs.Image.{image_from, with_record}
 use Rattle.log_store.specs.Linked.{number_in}
 use Rattle.log_store.specs.Log.{IsLog, Log, lsn_of}
-use Rattle.log_store.specs.Record.{IsBefore, IsLsn, IsPageChange, IsRecord, IsTxn, change_of, own_lsn}
-use Rattle.log_store.specs.Transactions.{begun, begun_by, is_last, is_open, last_lsn, last_or, records_of, txn_of}
+use Rattle.log_store.specs.Record.{IsBefore, IsLsn, IsPageChange, IsRecord, IsTxn, own_lsn}
+use Rattle.log_store.specs.Transactions.{begun, begun_by, is_open, last_lsn, last_or, records_of, txn_of}
 use Rattle.log_store.proofs.Changes.{changed_fits, valid_change}
 use Rattle.log_store.proofs.Images.{with_record-has}
 use Rattle.aries_core.proofs.Pending.{StandsBefore, all_stand, is_before}
@@ -61,3 +60,70 @@ begun_has P (Begin lsn txn ∷ rs) t each any =
           begun_has P rs t (All-tail (λ r. IfSome (begun_by r) P) (Begin lsn txn) rs each) (rw other at any)
     ]
 begun_has P (r ∷ rs) t each any = begun_has P rs t (All-tail (λ r. IfSome (begun_by r) P) r rs each) any
+
+pub length_begun : (rs : List Record) → length (begun rs) ≤ length rs
+length_begun [] = omega arith
+length_begun (Begin lsn txn ∷ rs) = omega (arith, length_begun rs)
+length_begun (r ∷ rs) = omega (arith, length_begun rs)
+
+-- and it has a record
+records_of_begun : (rs : List Record) (t : ℕ) → list_any (λ b. eqb b t) (begun rs) ≡ true → 0 < length (records_of rs t)
+records_of_begun [] t any = absurd (false≢true any)
+records_of_begun (r ∷ rs) t any = by_test (eqb (txn_of r) t) refl (λ any'. records_of_begun rs t any')
+  where
+    later : (q : Record) → eqb (txn_of q) t ≡ false → list_any (λ b. eqb b t) (begun (q ∷ rs)) ≡ true
+        → list_any (λ b. eqb b t) (begun rs) ≡ true
+    later (Begin lsn txn) other all = rw other at all
+    later q other all = all
+
+    by_test : (b : Bool) → eqb (txn_of r) t ≡ b
+        → (list_any (λ b. eqb b t) (begun rs) ≡ true → 0 < length (records_of rs t))
+        → 0 < length (cond b (r ∷ records_of rs t) (records_of rs t))
+    by_test true e rest = omega arith
+    by_test false e rest = rest (later r e any)
+
+-- ---- an open transaction
+
+last_or-has : {X : Type 0} (P : X → Type 0) (d : X) (xs : List X) → P d → All P xs → P (last_or d xs)
+last_or-has P d [] here all = here
+last_or-has P d (x ∷ xs) here all = last_or-has P x xs (All-head P x xs all) (All-tail P x xs all)
+
+last_or-of_some : {X : Type 0} (P : X → Type 0) (d : X) (xs : List X) → 0 < length xs → All P xs → P (last_or d xs)
+last_or-of_some P d [] some all = absurd (omega arith)
+last_or-of_some P d (x ∷ xs) some all = last_or-has P x xs (All-head P x xs all) (All-tail P x xs all)
+
+has_begun : (rs : List Record) (t : ℕ) → is_open rs t ≡ true → list_any (λ b. eqb b t) (begun rs) ≡ true
+has_begun rs t still_open = (and_parts _ _ still_open).0
+
+-- its number is one that a transaction may have
+pub open_is_txn : (log : Log) (t : ℕ) → IsLog log → is_open log.records t ≡ true → IsTxn t
+open_is_txn log t valid still_open =
+    begun_has IsTxn log.records t
+    (All-weaker (StandsBefore log.pages (lsn_of (length log.records))) (λ r. IfSome (begun_by r) IsTxn) of_record
+    log.records (all_stand log valid)) (has_begun log.records t still_open)
+  where
+    of_record : (r : Record) → StandsBefore log.pages (lsn_of (length log.records)) r → IfSome (begun_by r) IsTxn
+    of_record (Begin lsn txn) stands = stands.valid.1
+    of_record r stands = tt
+
+-- its last record stands before the log's end
+pub last_lsn_is_before : (log : Log) (t : ℕ) → IsLog log → is_open log.records t ≡ true
+    → IsBefore (lsn_of (length log.records)) (last_lsn log.records t)
+last_lsn_is_before log t valid still_open =
+    let at = lsn_of (length log.records) in
+    let own = records_of log.records t in
+    let some = records_of_begun log.records t (has_begun log.records t still_open) in
+    last_or-of_some (IsBefore at) 0 (map own_lsn own) (omega (arith, length-map own own_lsn))
+    (All-map (IsBefore at) own_lsn own
+    (All-filter (λ r. eqb (txn_of r) t) (λ r. IsBefore at (own_lsn r)) log.records
+    (All-weaker (StandsBefore log.pages at) (λ r. IsBefore at (own_lsn r)) (is_before log.pages at) log.records
+    (all_stand log valid))))
+
+-- ---- the log's end
+
+pub lsn_is_lsn : (n : ℕ) → n ≤ 1048576 → IsLsn (lsn_of n)
+lsn_is_lsn n few = record {
+  aligned = mul-mod_right 64 (n + 1);
+  past_header = omega arith;
+  fits = omega arith;
+}
