@@ -9,3 +9,4 @@ pub mod Rows
 pub mod Histories
 pub mod Tests
 pub mod Pushes
+pub mod Begun

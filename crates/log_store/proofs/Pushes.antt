@@ -1,6 +1,6 @@
 -- What one more record changes in what a log says of its transactions.
 use Rattle.std.proofs.Common.{◌≡◌, ◌≢◌, ℕ, ◌<◌, Bool, true, false, ◌&&◌, ◌||◌, not, eqb, List, [], ◌∷◌, ◌++◌, length, map, slice_get, inl, inr, sym, refl, ap, ap₂, ◌∙◌, ne_eqb, eq-eqb}
-use Rattle.std.specs.Prelude.{None}
+use Rattle.std.specs.Prelude.{Some, None}
 use Rattle.std.specs.Option.{option_map_or, option_to_list}
 use Rattle.std.specs.List.{filter, list_any}
 use Rattle.std.proofs.lemmas.List.{append-nil, map_push}
@@ -9,7 +9,7 @@ use Rattle.std.proofs.lemmas.List.Elements.{filter_agree}
 use Rattle.std.proofs.Math.Bool.{and-true, or-false}
 use Rattle.log_store.specs.declared.pending_change.PendingChange.{PendingChange}
 use Rattle.log_store.specs.declared.record.Record.{Record}
-use Rattle.log_store.specs.declared.record.Record.TheVariants.{Begin, Update, Comp, Commit, Abort, End}
+use Rattle.log_store.specs.declared.record.Record.TheVariants.{Begin}
 use Rattle.log_store.specs.Record.{own_lsn}
 use Rattle.log_store.specs.Transactions.{begun, begun_by, first_lsn, has_aborted, is_abort, is_last, is_open, is_rollback, is_rolling, last_lsn, last_or, open_in, pending, pending_from, records_of, txn_of, with_pending}
 use Rattle.log_store.proofs.Tests.{filter-filter, filter_agree_but, filter_map_push, filter_push_in, filter_push_out, first_push, list_any_push}
@@ -83,20 +83,18 @@ pub has_begun_push_none : (rs : List Record) (r : Record) (t : ℕ) → begun_by
     → has_begun (rs ++ r ∷ []) t ≡ has_begun rs t
 has_begun_push_none rs r t none = ap (list_any (λ b. eqb b t)) (begun_push_none rs r none)
 
-pub has_begun_push_begin : (rs : List Record) (lsn u t : ℕ)
-    → has_begun (rs ++ Begin lsn u ∷ []) t ≡ (has_begun rs t || eqb u t)
-has_begun_push_begin rs lsn u t =
-    ap (list_any (λ b. eqb b t)) (begun_push rs (Begin lsn u)) ∙ list_any_push (λ b. eqb b t) (begun rs) u
+pub has_begun_push_begin : (rs : List Record) (r : Record) (u t : ℕ) → begun_by r ≡ Some u
+    → has_begun (rs ++ r ∷ []) t ≡ (has_begun rs t || eqb u t)
+has_begun_push_begin rs r u t begins =
+    ap (list_any (λ b. eqb b t)) (begun_push rs r ∙ ap (λ o. begun rs ++ option_to_list o) begins)
+    ∙ list_any_push (λ b. eqb b t) (begun rs) u
 
 pub has_begun_push_other : (rs : List Record) (r : Record) (t : ℕ) → txn_of r ≢ t
     → has_begun (rs ++ r ∷ []) t ≡ has_begun rs t
 has_begun_push_other rs (Begin lsn u) t other =
-    has_begun_push_begin rs lsn u t ∙ ap (λ b. has_begun rs t || b) (ne_eqb u t other) ∙ or-false (has_begun rs t)
-has_begun_push_other rs (Update lsn u prev page slot change) t other = has_begun_push_none rs _ t refl
-has_begun_push_other rs (Comp lsn u prev undo_next page slot change) t other = has_begun_push_none rs _ t refl
-has_begun_push_other rs (Commit lsn u prev) t other = has_begun_push_none rs _ t refl
-has_begun_push_other rs (Abort lsn u prev) t other = has_begun_push_none rs _ t refl
-has_begun_push_other rs (End lsn u prev) t other = has_begun_push_none rs _ t refl
+    has_begun_push_begin rs (Begin lsn u) u t refl ∙ ap (λ b. has_begun rs t || b) (ne_eqb u t other)
+    ∙ or-false (has_begun rs t)
+has_begun_push_other rs r t other = has_begun_push_none rs r t refl
 
 -- ---- which are open
 
@@ -121,7 +119,7 @@ is_open_push_own rs r t none same =
 pub is_open_push_begin : (rs : List Record) (lsn t : ℕ) → records_of rs t ≡ []
     → is_open (rs ++ Begin lsn t ∷ []) t ≡ true
 is_open_push_begin rs lsn t none =
-    ap₂ (λ b e. b && not e) (has_begun_push_begin rs lsn t t) (any_push is_last rs (Begin lsn t) t refl)
+    ap₂ (λ b e. b && not e) (has_begun_push_begin rs (Begin lsn t) t t refl) (any_push is_last rs (Begin lsn t) t refl)
     ∙ ap₂ (λ b xs. (has_begun rs t || b) && not (list_any is_last xs || false)) (eq-eqb t t refl) none
     ∙ either (has_begun rs t)
   where

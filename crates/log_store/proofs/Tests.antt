@@ -1,9 +1,9 @@
 -- Lists under tests: filters, and what one more element changes.
-use Rattle.std.proofs.Common.{◌≡◌, ◌≢◌, ℕ, ◌<◌, length, arith, Bool, true, false, cond, ◌&&◌, ◌||◌, eqb, List, [], ◌∷◌, ◌++◌, map, slice_get, refl, ap, ap₂, ◌∙◌}
+use Rattle.std.proofs.Common.{◌≡◌, ◌≢◌, ℕ, ◌<◌, length, arith, subst, inl, inr, ◌⊎◌, Bool, true, false, cond, ◌&&◌, ◌||◌, eqb, List, [], ◌∷◌, ◌++◌, map, slice_get, sym, refl, ap, ap₂, ◌∙◌}
 use Rattle.std.specs.Prelude.{Option, Some, None}
 use Rattle.std.specs.Option.{option_map, option_to_list}
 use Rattle.std.specs.List.{filter, filter_map, find, list_any, cons_option}
-use Rattle.std.proofs.lemmas.Bool.{eqb-false, or_parts}
+use Rattle.std.proofs.lemmas.Bool.{eqb-false, or_cases, or_parts}
 use Rattle.std.proofs.lemmas.List.{append-nil}
 use Rattle.std.proofs.lemmas.List.Elements.{filter-append, filter_map-append}
 use Rattle.std.proofs.lemmas.List.Folds.{list_any-append}
@@ -86,3 +86,27 @@ find-map f p (x ∷ xs) =
       | true ↦ refl
       | false ↦ find-map f p xs
     ]
+
+-- what passes p comes from what passes q
+pub filter_some : {X Y : Type 0} (h : X → Option Y) (p : Y → Bool) (q : X → Bool)
+    → ((x : X) (y : Y) → h x ≡ Some y → p y ≡ true → q x ≡ true)
+    → (xs : List X) → list_any p (filter_map h xs) ≡ true → 0 < length (filter q xs)
+filter_some h p q from [] found = cc
+filter_some {X = X} {Y = Y} h p q from (x ∷ xs) found =
+    elim (here (h x) refl found) [
+      | inl passes ↦ let P : Bool → Type 0 = λ b. 0 < length (cond b (x ∷ filter q xs) (filter q xs)) in
+          subst P (sym passes) (omega arith)
+      | inr there ↦ behind (q x) (filter_some h p q from xs there)
+    ]
+  where
+    here : (o : Option Y) → h x ≡ o → list_any p (cons_option o (filter_map h xs)) ≡ true
+        → (q x ≡ true) ⊎ (list_any p (filter_map h xs) ≡ true)
+    here None is there = inr there
+    here (Some y) is either = elim (or_cases (p y) (list_any p (filter_map h xs)) either) [
+      | inl passes ↦ inl (from x y is passes)
+      | inr there ↦ inr there
+    ]
+
+    behind : (b : Bool) → 0 < length (filter q xs) → 0 < length (cond b (x ∷ filter q xs) (filter q xs))
+    behind true some = omega arith
+    behind false some = some
