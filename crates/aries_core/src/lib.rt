@@ -2,7 +2,12 @@
 #![tactic(auto)]
 
 mod event;
+mod laws;
 mod refusal;
 
 pub use event::{Answer, Event, Reply};
+pub use laws::{
+    an_answered_commit_is_forced, log_shows_the_accepted_calls, the_forced_end_never_falls,
+    the_log_only_grows,
+};
 pub use refusal::Refusal;

@@ -20,6 +20,3 @@ pub made_next : (log : Log) (made new : Made) (r : Record) → IsLinked log.reco
     → MayFollow log.records r
     → new ≡ followed made r → IsMadeOf (with_next log (r ∷ [])) new
 made_next log made new r linked of may e = ?
-
-pub linked_next : (rs : List Record) (r : Record) → IsLinked rs → MayFollow rs r → IsLinked (rs ++ r ∷ [])
-linked_next rs r linked may = ?

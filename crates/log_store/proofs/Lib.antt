@@ -1,9 +1,15 @@
+pub mod Begun
+pub mod Changes
 pub mod Devices
 pub mod Faults
 pub mod Followed
+pub mod Histories
 pub mod Images
 pub mod Inputs
 pub mod Logs
+pub mod Pushes
 pub mod Records
+pub mod Rows
 pub mod Scans
+pub mod Tests
 pub mod WrittenLogs

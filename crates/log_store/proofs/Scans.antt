@@ -95,7 +95,7 @@ bad_chain log r given unit rest spells linked few stands e breaks =
 
 -- ---- one record more
 
-valid_next : (log : Log) (r : Record) → IsLog log → length log.records < 1048576
+pub valid_next : (log : Log) (r : Record) → IsLog log → length log.records < 1048576
     → StandsAt log.pages (lsn_of (length log.records)) r → IsLog (with_next log (r ∷ []))
 valid_next log r valid few stands = record {
   pages = valid.pages;

@@ -15,6 +15,7 @@ use Rattle.log_store.specs.declared.record.Record.TheVariants.{Begin, Update, Co
 use Rattle.log_store.specs.Record.{IsChange, IsLsn, IsPageChange, IsRecord, change_of, own_lsn}
 use Rattle.log_store.specs.Log.{Log, IsLog}
 use Rattle.log_store.specs.Image.{with_record, image_from, image, redo_all}
+use Rattle.log_store.proofs.Changes.{changed_fits, valid_change}
 use Rattle.log_store.proofs.Images.{with_record-has}
 
 all_replicate : {X : Type 0} (P : X → Type 0) (n : ℕ) (x : X) → P x → AllByRecursion P (replicate n x)
@@ -37,10 +38,6 @@ valid_formatted p small = record {
   slots = all_replicate (λ n. n < 2 ^ 64) 62 0 (omega arith);
 }
 
-changed_fits : (change : Change) (number : ℕ) → IsChange change → changed change number < 2 ^ 64
-changed_fits (Set before after) number valid = valid.1
-changed_fits (Add amount) number valid = omega arith
-
 valid_put : (page : Page) (lsn slot : ℕ) (change : Change) → IsPage page → IsLsn lsn → IsChange change
     → IsPage (put page lsn slot change)
 valid_put page lsn slot change page_valid lsn_valid change_valid = record {
@@ -50,15 +47,6 @@ valid_put page lsn slot change page_valid lsn_valid change_valid = record {
   count = length-set page.slots slot _ ∙ page_valid.count;
   slots = all_set (λ n. n < 2 ^ 64) page.slots slot _ page_valid.slots (changed_fits change _ change_valid);
 }
-
--- the change of a valid record is one that a volume may have
-valid_change : (r : Record) → IsRecord r → IsLsn (own_lsn r) × IfSome (change_of r) IsPageChange
-valid_change (Begin lsn txn) valid = (valid.0, tt)
-valid_change (Update lsn txn prev page slot change) valid = (valid.0, valid.3)
-valid_change (Comp lsn txn prev undo_next page slot change) valid = (valid.0, valid.3)
-valid_change (Commit lsn txn prev) valid = (valid.0, tt)
-valid_change (Abort lsn txn prev) valid = (valid.0, tt)
-valid_change (End lsn txn prev) valid = (valid.0, tt)
 
 valid-with_record : (page : Page) (r : Record) → IsPage page → IsRecord r → IsPage (with_record page r)
 valid-with_record page r page_valid valid = with_record-has IsPage page r page_valid (λ c e.

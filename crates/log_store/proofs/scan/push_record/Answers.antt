@@ -6,7 +6,8 @@ use Rattle.log_store.specs.Log.{IsWithin, Log}
 use Rattle.log_store.specs.History.{Made}
 use Rattle.log_store.specs.Scan.{HasRead, with_next}
 use Rattle.log_store.proofs.Images.{length-redo_all}
-use Rattle.log_store.proofs.Followed.{linked_next, made_next, may_come, may_follow}
+use Rattle.log_store.proofs.Histories.{linked_push}
+use Rattle.log_store.proofs.Followed.{made_next, may_come, may_follow}
 use Rattle.log_store.proofs.Scans.{read_bad_chain, read_bad_record, read_next, read_too_long}
 use Rattle.log_store.proofs.scan.push_record.Goals as goal
 
@@ -59,5 +60,5 @@ returns-clause-ok c = λ log given read.
     subst (λ (all : List Record). HasRead log all new c.args.pages (c.args.count + 1) (given ++ c.args.bytes.now))
     (sym c.in_ok-push.ensures.items)
     (read_next log rs r old new c.args.pages c.args.count given c.args.bytes.now read (omega arith)
-    c.in-Some.ensures.found.0 c.in-Some.ensures.found.1 (linked_next (log.records ++ rs) r read.linked may)
+    c.in-Some.ensures.found.0 c.in-Some.ensures.found.1 (linked_push (log.records ++ rs) r read.linked may)
     (made_next so_far old new r read.linked read.made_of may taken.1))

@@ -1,0 +1,105 @@
+-- What holds of the pending changes of a log, since it holds of its Updates.
+use Rattle.std.proofs.Common.{◌≡◌, ℕ, ◌-◌, ◌<◌, List, [], ◌∷◌, length, eqb, subst, arith}
+use Rattle.std.specs.Prelude.{Option, Some, None, IfSome}
+use Rattle.std.specs.List.{All}
+use Rattle.std.proofs.lemmas.List.Elements.{All-filter, All-get_or, All-head, All-nil, All-push, All-tail, All-take, All-weaker}
+use Rattle.std.proofs.lemmas.Option.{get_or_from_slice_get, slice_get_within}
+use Rattle.log_store.specs.declared.pending_change.PendingChange.{PendingChange}
+use Rattle.log_store.specs.declared.record.Record.{Record}
+use Rattle.log_store.specs.declared.record.Record.TheVariants.{Begin, Update, Comp, Commit, Abort, End}
+use Rattle.log_store.specs.Log.{IsLog, IsWithin, Log, lsn_of}
+use Rattle.log_store.specs.Record.{IsBefore, IsPageChange, IsRecord, own_lsn}
+use Rattle.log_store.specs.Transactions.{last_of, pending, pending_from, records_of, txn_of, with_pending}
+use Rattle.log_store.proofs.Changes.{valid_change}
+
+-- ---- what holds of each Update's change
+
+-- the change that is pending after a record
+abbrev noted : Record → Option PendingChange
+noted (Update lsn txn prev page slot change) =
+    Some (record { lsn = lsn; prev = prev; page = page; slot = slot; change = change })
+noted other = None
+
+All-with_pending : (Q : PendingChange → Type 0) (changes : List PendingChange) (r : Record) → All Q changes
+    → IfSome (noted r) Q → All Q (with_pending changes r)
+All-with_pending Q changes (Update lsn txn prev page slot change) all new = All-push Q changes _ all new
+All-with_pending Q changes (Comp lsn txn prev undo_next page slot change) all new = All-take Q _ changes all
+All-with_pending Q changes (Begin lsn txn) all new = all
+All-with_pending Q changes (Commit lsn txn prev) all new = all
+All-with_pending Q changes (Abort lsn txn prev) all new = all
+All-with_pending Q changes (End lsn txn prev) all new = all
+
+All-pending_from : (Q : PendingChange → Type 0) (changes : List PendingChange) (rs : List Record) → All Q changes
+    → All (λ r. IfSome (noted r) Q) rs → All Q (pending_from changes rs)
+All-pending_from Q changes [] all each = all
+All-pending_from Q changes (r ∷ rs) all each =
+    let P : Record → Type 0 = λ r. IfSome (noted r) Q in
+    All-pending_from Q (with_pending changes r) rs (All-with_pending Q changes r all (All-head P r rs each))
+    (All-tail P r rs each)
+
+All-pending : (Q : PendingChange → Type 0) (rs : List Record) (t : ℕ) → All (λ r. IfSome (noted r) Q) rs
+    → All Q (pending rs t)
+All-pending Q rs t each =
+    All-pending_from Q [] (records_of rs t) (All-nil Q)
+    (All-filter (λ r. eqb (txn_of r) t) (λ r. IfSome (noted r) Q) rs each)
+
+All-last_of : {X : Type 0} (Q : X → Type 0) (xs : List X) (x : X) → All Q xs → last_of xs ≡ Some x → Q x
+All-last_of Q xs x all last =
+    subst Q (get_or_from_slice_get xs (length xs - 1) x x last)
+    (All-get_or Q xs (length xs - 1) x (slice_get_within xs (length xs - 1) x last) all)
+
+-- ---- a record that stands in a valid log
+
+pub record StandsBefore (pages at : ℕ) (r : Record) : Type 0 where
+  pub valid : IsRecord r
+  pub within : IsWithin pages r
+  pub earlier : own_lsn r < at
+
+pub all_stand : (log : Log) → IsLog log
+    → All (StandsBefore log.pages (lsn_of (length log.records))) log.records
+all_stand log valid = λ i d lt.
+    let stands = valid.records i d lt in
+    let lsn = stands.lsn in
+    record { valid = stands.valid; within = stands.within; earlier = omega arith }
+
+pub is_before : (pages at : ℕ) (r : Record) → StandsBefore pages at r → IsBefore at (own_lsn r)
+is_before pages at r stands = record { place = (valid_change r stands.valid).0; earlier = stands.earlier }
+
+-- ---- a change that is pending in a valid log
+
+pub record IsPending (pages at : ℕ) (p : PendingChange) : Type 0 where
+  pub lsn : IsBefore at p.lsn
+  pub prev : IsBefore at p.prev
+  pub fits : IsPageChange (record { page = p.page; slot = p.slot; change = p.change })
+  pub within : p.page < pages
+
+is_noted : (pages at : ℕ) (r : Record) → StandsBefore pages at r → IfSome (noted r) (IsPending pages at)
+is_noted pages at (Update lsn txn prev page slot change) stands =
+    let valid = stands.valid in
+    let before = valid.2 in
+    let sooner = before.earlier in
+    let here = stands.earlier in
+    record {
+      lsn = is_before pages at (Update lsn txn prev page slot change) stands;
+      prev = record { place = before.place; earlier = omega arith };
+      fits = valid.3;
+      within = stands.within;
+    }
+is_noted pages at (Begin lsn txn) stands = tt
+is_noted pages at (Comp lsn txn prev undo_next page slot change) stands = tt
+is_noted pages at (Commit lsn txn prev) stands = tt
+is_noted pages at (Abort lsn txn prev) stands = tt
+is_noted pages at (End lsn txn prev) stands = tt
+
+pub all_pending : (log : Log) (t : ℕ) → IsLog log
+    → All (IsPending log.pages (lsn_of (length log.records))) (pending log.records t)
+all_pending log t valid =
+    let at = lsn_of (length log.records) in
+    All-pending (IsPending log.pages at) log.records t
+    (All-weaker (StandsBefore log.pages at) (λ r. IfSome (noted r) (IsPending log.pages at)) (is_noted log.pages at)
+    log.records (all_stand log valid))
+
+pub last_pending : (log : Log) (t : ℕ) (p : PendingChange) → IsLog log → last_of (pending log.records t) ≡ Some p
+    → IsPending log.pages (lsn_of (length log.records)) p
+last_pending log t p valid last =
+    All-last_of (IsPending log.pages (lsn_of (length log.records))) (pending log.records t) p (all_pending log t valid) last

@@ -1,0 +1,66 @@
+-- Laws of steps, over whole runs.
+use Rattle.std.proofs.Common.{◌≡◌, ℕ, ◌<◌, ◌≤◌, ◌++◌, List, [], ◌∷◌, sym, ap, ◌∙◌, arith, inl, inr}
+use Rattle.std.specs.Prelude.{Result, Ok}
+use Rattle.std.proofs.lemmas.List.{append-nil, append_assoc, length_push}
+use Rattle.log_store.specs.declared.record.Record.{Record}
+use Rattle.log_store.specs.declared.record.Record.TheVariants as log
+use Rattle.log_store.specs.Transactions.{last_lsn}
+use Rattle.aries_core.specs.declared.event.Answer.{Answer}
+use Rattle.aries_core.specs.declared.event.Answer.TheVariants as answer
+use Rattle.aries_core.specs.declared.event.Event.{Event}
+use Rattle.aries_core.specs.declared.event.Event.TheVariants as event
+use Rattle.aries_core.specs.declared.refusal.Refusal.{Refusal}
+use Rattle.aries_core.specs.EngineState.{EngineState, IsFit, commit_record, end}
+use Rattle.aries_core.specs.Run.{Run}
+use Rattle.aries_core.specs.Step.{Step}
+use Rattle.aries_core.proofs.Forces.{EndsAtRecord, forces}
+use Rattle.aries_core.proofs.Steps.{stays_or_grows}
+
+-- ---- the forced end
+
+forced_end_from : (old : EngineState) (events : List Event) (replies : List (Result Answer Refusal)) (new : EngineState)
+    → EndsAtRecord old → Run old events replies new → old.forced_end ≤ new.forced_end
+forced_end_from old [] [] new ends is = rw is (omega arith)
+forced_end_from old (event ∷ events) (reply ∷ replies) new ends run =
+    let first = forces old event reply run.0 ends run.1 in
+    let step = first.no_less in
+    let rest = forced_end_from run.0 events replies new first.at_record run.2 in
+    omega arith
+forced_end_from old [] (reply ∷ replies) new ends run = absurd run
+forced_end_from old (event ∷ events) [] new ends run = absurd run
+
+pub forced_end_of_run : (old : EngineState) (events : List Event) (replies : List (Result Answer Refusal))
+    (new : EngineState) → IsFit old → Run old events replies new → old.forced_end ≤ new.forced_end
+forced_end_of_run old events replies new fit run = forced_end_from old events replies new fit.forced run
+
+-- ---- the log
+
+log_of_step : (old : EngineState) (event : Event) (reply : Result Answer Refusal) (new : EngineState)
+    → Step old event reply new → (rest : List Record) × (new.log ≡ old.log ++ rest)
+log_of_step old event reply new step = elim (stays_or_grows old event reply new step) [
+  | inl stays ↦ ([], stays.log ∙ sym (append-nil old.log))
+  | inr grows ↦ (grows.r ∷ [], grows.log)
+]
+
+pub log_of_run : (old : EngineState) (events : List Event) (replies : List (Result Answer Refusal)) (new : EngineState)
+    → Run old events replies new → (rest : List Record) × (new.log ≡ old.log ++ rest)
+log_of_run old [] [] new is = ([], rw is (sym (append-nil old.log)))
+log_of_run old (event ∷ events) (reply ∷ replies) new run =
+    let first = log_of_step old event reply run.0 run.1 in
+    let next = log_of_run run.0 events replies new run.2 in (
+      first.0 ++ next.0,
+      next.1 ∙ ap (λ (rs : List Record). rs ++ next.0) first.1 ∙ append_assoc old.log first.0 next.0,
+    )
+log_of_run old [] (reply ∷ replies) new run = absurd run
+log_of_run old (event ∷ events) [] new run = absurd run
+
+-- ---- a Commit
+
+pub commit_is_forced : (old : EngineState) (txn lsn : ℕ) (new : EngineState)
+    → Step old (event.Commit txn) (Ok (answer.Logged lsn)) new
+    → (new.log ≡ old.log ++ log.Commit lsn txn (last_lsn old.log txn) ∷ []) × (lsn < new.forced_end)
+commit_is_forced old txn lsn new step =
+    let at : lsn ≡ end old = let given = step.1 in cc in
+    let log_is : new.log ≡ old.log ++ commit_record old txn ∷ [] = ap (λ (s : EngineState). s.log) step.2 in
+    let forced_is = ap (λ (s : EngineState). s.forced_end) step.2 in
+    (rw at log_is, omega (arith, at, forced_is, length_push old.log (commit_record old txn)))

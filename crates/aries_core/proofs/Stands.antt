@@ -1,0 +1,156 @@
+-- The record of an accepted event may stand at the end of the log.
+use Rattle.std.proofs.Common.{◌≡◌, ℕ, ◌^◌, ◌<◌, true, length, refl, subst, arith}
+use Rattle.std.specs.Prelude.{Some, None}
+use Rattle.std.proofs.lemmas.Option.{same_Some}
+use Rattle.std.proofs.lemmas.List.Elements.{All-weaker}
+use Rattle.page_core.specs.declared.change.Change.{Change}
+use Rattle.page_core.specs.declared.change.Change.TheVariants.{Set, Add}
+use Rattle.page_core.specs.declared.change.ChangeKind.TheVariants as kind
+use Rattle.page_core.specs.Change.{kind_of, undo_of}
+use Rattle.log_store.specs.declared.pending_change.PendingChange.{PendingChange}
+use Rattle.log_store.specs.declared.record.Record.{Record}
+use Rattle.log_store.specs.declared.record.Record.TheVariants as log
+use Rattle.log_store.specs.Linked.{number_in}
+use Rattle.log_store.specs.Log.{IsLog, Log, StandsAt}
+use Rattle.log_store.specs.Record.{HasNoBefore, IsBefore, IsChange, IsLsn, IsRecord, IsTxn}
+use Rattle.log_store.specs.Transactions.{is_open, last_lsn, last_of, pending}
+use Rattle.aries_core.specs.declared.event.Event.{Event}
+use Rattle.aries_core.specs.declared.event.Event.TheVariants as event
+use Rattle.aries_core.specs.EngineState.{EngineState, abort_record, commit_record, comp_record, end, end_record, next_txn, update_record}
+use Rattle.aries_core.specs.EventFits.{EventFits}
+use Rattle.aries_core.specs.Refusal.{refusal}
+use Rattle.aries_core.proofs.Follows.{undo_has}
+use Rattle.aries_core.proofs.Numbers.{last_lsn_is_before, length_begun, lsn_is_lsn, number_fits, open_is_txn}
+use Rattle.aries_core.proofs.Pending.{StandsBefore, all_stand, last_pending}
+use Rattle.aries_core.proofs.Refusals.{ChangePasses, active_passes, change_passes, undo_passes}
+use Rattle.aries_core.proofs.Steps.{record_for}
+
+-- the log of the state, with its page count
+abbrev pub log_of : EngineState → Log
+log_of s = record { pages = s.pages; records = s.log }
+
+abbrev pub StandsAtEnd : EngineState → Record → Type 0
+StandsAtEnd s r = StandsAt s.pages (end s) r
+
+-- ---- its parts
+
+end_is_lsn : (s : EngineState) → IsLog (log_of s) → IsLsn (end s)
+end_is_lsn s valid = lsn_is_lsn (length s.log) valid.count
+
+-- the numbers of a record of an open transaction
+record OpenParts (s : EngineState) (txn : ℕ) : Type 0 where
+  lsn : IsLsn (end s)
+  number : IsTxn txn
+  prev : IsBefore (end s) (last_lsn s.log txn)
+
+open_parts : (s : EngineState) (txn : ℕ) → IsLog (log_of s) → is_open s.log txn ≡ true → OpenParts s txn
+open_parts s txn valid still_open = record {
+  lsn = end_is_lsn s valid;
+  number = open_is_txn (log_of s) txn valid still_open;
+  prev = last_lsn_is_before (log_of s) txn valid still_open;
+}
+
+undo_fits : (change : Change) → IsChange change → IsChange (undo_of change)
+undo_fits (Set before after) fits = (omega arith, fits.0)
+undo_fits (Add amount) fits = omega arith
+
+undo_has_no_before : (change : Change) → HasNoBefore (undo_of change)
+undo_has_no_before (Set before after) = refl
+undo_has_no_before (Add amount) = tt
+
+-- ---- each record
+
+begin_stands : (s : EngineState) → IsLog (log_of s) → StandsAtEnd s (log.Begin (end s) (next_txn s))
+begin_stands s valid = record {
+  lsn = refl;
+  valid = (
+    end_is_lsn s valid,
+    record { first = omega arith; fits = let few = valid.count in omega (arith, length_begun s.log) },
+  );
+  within = tt;
+}
+
+update_stands : (s : EngineState) (txn page slot : ℕ) (change : Change) → IsLog (log_of s)
+    → ChangePasses s txn page slot (kind_of change) → IsChange change
+    → StandsAtEnd s (update_record s txn page slot change)
+update_stands s txn page slot change valid passes fits =
+    let parts = open_parts s txn valid passes.active.still_open in
+    let within = passes.place.within in
+    record {
+      lsn = refl;
+      valid = (
+        parts.lsn,
+        parts.number,
+        parts.prev,
+        record { page = let most = valid.pages.most in omega arith; slot = passes.place.fits; change = fits },
+      );
+      within = within;
+    }
+
+set_fits : (s : EngineState) (page slot number : ℕ) → IsLog (log_of s) → number < 2 ^ 64
+    → IsChange (Set (number_in s.log page slot) number)
+set_fits s page slot number valid fits = (
+  number_fits s.log page slot
+      (All-weaker (StandsBefore s.pages (end s)) IsRecord (λ r stands. stands.valid) s.log (all_stand (log_of s) valid)),
+  fits,
+)
+
+commit_stands : (s : EngineState) (txn : ℕ) → IsLog (log_of s) → is_open s.log txn ≡ true
+    → StandsAtEnd s (commit_record s txn)
+commit_stands s txn valid still_open =
+    let parts = open_parts s txn valid still_open in
+    record { lsn = refl; valid = (parts.lsn, parts.number, parts.prev); within = tt }
+
+abort_stands : (s : EngineState) (txn : ℕ) → IsLog (log_of s) → is_open s.log txn ≡ true
+    → StandsAtEnd s (abort_record s txn)
+abort_stands s txn valid still_open =
+    let parts = open_parts s txn valid still_open in
+    record { lsn = refl; valid = (parts.lsn, parts.number, parts.prev); within = tt }
+
+end_stands : (s : EngineState) (txn : ℕ) → IsLog (log_of s) → is_open s.log txn ≡ true
+    → StandsAtEnd s (end_record s txn)
+end_stands s txn valid still_open =
+    let parts = open_parts s txn valid still_open in
+    record { lsn = refl; valid = (parts.lsn, parts.number, parts.prev); within = tt }
+
+comp_stands : (s : EngineState) (txn : ℕ) (p : PendingChange) → IsLog (log_of s) → is_open s.log txn ≡ true
+    → last_of (pending s.log txn) ≡ Some p → StandsAtEnd s (comp_record s txn p)
+comp_stands s txn p valid still_open last =
+    let parts = open_parts s txn valid still_open in
+    let change = last_pending (log_of s) txn p valid last in
+    let fits = change.fits in
+    record {
+      lsn = refl;
+      valid = (
+        parts.lsn,
+        parts.number,
+        parts.prev,
+        record { page = fits.page; slot = fits.slot; change = undo_fits p.change fits.change },
+        change.prev,
+        undo_has_no_before p.change,
+      );
+      within = change.within;
+    }
+
+-- ---- the record of an accepted event
+
+pub stands : (s : EngineState) (event : Event) (r : Record) → IsLog (log_of s) → EventFits event → refusal s event ≡ None
+    → record_for s event ≡ Some r → StandsAtEnd s r
+stands s event.Begin r valid fits none made = subst (StandsAtEnd s) (same_Some _ _ made) (begin_stands s valid)
+stands s (event.Set txn page slot number) r valid fits none made =
+    subst (StandsAtEnd s) (same_Some _ _ made)
+    (update_stands s txn page slot (Set (number_in s.log page slot) number) valid
+    (change_passes s txn page slot kind.Set none) (set_fits s page slot number valid fits))
+stands s (event.Add txn page slot amount) r valid fits none made =
+    subst (StandsAtEnd s) (same_Some _ _ made)
+    (update_stands s txn page slot (Add amount) valid (change_passes s txn page slot kind.Add none) fits)
+stands s (event.Read page slot) r valid fits none made = absurd (cc)
+stands s (event.Commit txn) r valid fits none made =
+    subst (StandsAtEnd s) (same_Some _ _ made) (commit_stands s txn valid (active_passes s txn none).still_open)
+stands s (event.Abort txn) r valid fits none made =
+    subst (StandsAtEnd s) (same_Some _ _ made) (abort_stands s txn valid (active_passes s txn none).still_open)
+stands s (event.UndoStep txn) r valid fits none made =
+    let still_open = (undo_passes s txn none).still_open in
+    undo_has (StandsAtEnd s) s txn r made (λ p last. comp_stands s txn p valid still_open last)
+    (λ no_more. end_stands s txn valid still_open)
+stands s event.Force r valid fits none made = absurd (cc)

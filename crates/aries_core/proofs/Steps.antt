@@ -1,0 +1,134 @@
+-- What a step does to the log.
+use Rattle.std.proofs.Common.{◌≡◌, ℕ, ◌++◌, ◌⊎◌, [], ◌∷◌, refl, ap, ◌∙◌, inl, inr}
+use Rattle.std.specs.Prelude.{Option, Some, None, Result, Ok, Err}
+use Rattle.std.specs.Option.{option_map_or}
+use Rattle.page_core.specs.declared.change.Change.TheVariants.{Set, Add}
+use Rattle.log_store.specs.declared.pending_change.PendingChange.{PendingChange}
+use Rattle.log_store.specs.declared.record.Record.{Record}
+use Rattle.log_store.specs.declared.record.Record.TheVariants as log
+use Rattle.log_store.specs.Linked.{number_in}
+use Rattle.log_store.specs.Transactions.{last_of, pending}
+use Rattle.log_store.specs.Work.{call_of}
+use Rattle.aries_core.specs.declared.event.Answer.{Answer}
+use Rattle.aries_core.specs.declared.event.Event.{Event}
+use Rattle.aries_core.specs.declared.event.Event.TheVariants as event
+use Rattle.aries_core.specs.declared.refusal.Refusal.{Refusal}
+use Rattle.aries_core.specs.declared.refusal.Refusal.TheVariants.{OutOfMemory, LogFault, CommitUnsure}
+use Rattle.aries_core.specs.Accepted.{shown_call}
+use Rattle.aries_core.specs.EngineState.{EngineState, abort_record, appended, commit_record, comp_record, effect, end, end_record, next_txn, update_record}
+use Rattle.aries_core.specs.Refusal.{refusal}
+use Rattle.aries_core.specs.Step.{Fails, Step}
+use Rattle.aries_core.proofs.Refusals.{commit_not_unsure}
+
+-- the record that an accepted event appends, if it appends one
+abbrev pub record_for : EngineState → Event → Option Record
+record_for s event.Begin = Some (log.Begin (end s) (next_txn s))
+record_for s (event.Set txn page slot number) =
+    Some (update_record s txn page slot (Set (number_in s.log page slot) number))
+record_for s (event.Add txn page slot amount) = Some (update_record s txn page slot (Add amount))
+record_for s (event.Read page slot) = None
+record_for s (event.Commit txn) = Some (commit_record s txn)
+record_for s (event.Abort txn) = Some (abort_record s txn)
+record_for s (event.UndoStep txn) =
+    Some (option_map_or (comp_record s txn) (last_of (pending s.log txn)) (end_record s txn))
+record_for s event.Force = None
+
+-- the step leaves the log as it is, and shows no call
+pub record Stays (old : EngineState) (event : Event) (reply : Result Answer Refusal) (new : EngineState) : Type 0 where
+  pub pages : new.pages ≡ old.pages
+  pub log : new.log ≡ old.log
+  pub unseen : shown_call event reply ≡ None
+
+-- the step appends the event's record, which shows the call
+pub record Grows (old : EngineState) (event : Event) (reply : Result Answer Refusal) (new : EngineState) : Type 0 where
+  pub r : Record
+  pub accepted : refusal old event ≡ None
+  pub made : record_for old event ≡ Some r
+  pub pages : new.pages ≡ old.pages
+  pub log : new.log ≡ old.log ++ r ∷ []
+  pub shown : shown_call event reply ≡ call_of r
+
+-- ---- each reply
+
+-- a step to a state that is known
+stays : (old : EngineState) (event : Event) (reply : Result Answer Refusal) (new state : EngineState) → new ≡ state
+    → state.pages ≡ old.pages → state.log ≡ old.log → shown_call event reply ≡ None → Stays old event reply new
+stays old event reply new state is pages log unseen = record {
+  pages = ap (λ (s : EngineState). s.pages) is ∙ pages;
+  log = ap (λ (s : EngineState). s.log) is ∙ log;
+  unseen = unseen;
+}
+
+grows : (old : EngineState) (event : Event) (reply : Result Answer Refusal) (new state : EngineState) (r : Record)
+    → new ≡ state → refusal old event ≡ None → record_for old event ≡ Some r → state.pages ≡ old.pages
+    → state.log ≡ old.log ++ r ∷ [] → shown_call event reply ≡ call_of r → Grows old event reply new
+grows old event reply new state r is accepted made pages log shown = record {
+  r = r;
+  accepted = accepted;
+  made = made;
+  pages = ap (λ (s : EngineState). s.pages) is ∙ pages;
+  log = ap (λ (s : EngineState). s.log) is ∙ log;
+  shown = shown;
+}
+
+-- an undo appends the record that it makes, a step of an undo
+undo_grows : (old : EngineState) (txn : ℕ) (answer : Answer) (new : EngineState) (o : Option PendingChange)
+    → last_of (pending old.log txn) ≡ o → refusal old (event.UndoStep txn) ≡ None
+    → new ≡ (effect old (event.UndoStep txn)).state → Grows old (event.UndoStep txn) (Ok answer) new
+undo_grows old txn answer new None o none is =
+    grows old (event.UndoStep txn) (Ok answer) new (appended old (end_record old txn)) (end_record old txn)
+    (rw o at is) none (rw o refl) refl refl refl
+undo_grows old txn answer new (Some p) o none is =
+    grows old (event.UndoStep txn) (Ok answer) new (appended old (comp_record old txn p)) (comp_record old txn p)
+    (rw o at is) none (rw o refl) refl refl refl
+
+-- an accepted call
+answered : (old : EngineState) (event : Event) (answer : Answer) (new : EngineState) → refusal old event ≡ None
+    → answer ≡ (effect old event).answer → new ≡ (effect old event).state
+    → Stays old event (Ok answer) new ⊎ Grows old event (Ok answer) new
+answered old event.Begin answer new none given is =
+    inr (grows old event.Begin (Ok answer) new _ _ is none refl refl refl
+    (ap (λ (a : Answer). shown_call event.Begin (Ok a)) given))
+answered old (event.Set txn page slot number) answer new none given is =
+    inr (grows old (event.Set txn page slot number) (Ok answer) new _ _ is none refl refl refl refl)
+answered old (event.Add txn page slot amount) answer new none given is =
+    inr (grows old (event.Add txn page slot amount) (Ok answer) new _ _ is none refl refl refl refl)
+answered old (event.Read page slot) answer new none given is =
+    inl (stays old (event.Read page slot) (Ok answer) new _ is refl refl refl)
+answered old (event.Commit txn) answer new none given is =
+    inr (grows old (event.Commit txn) (Ok answer) new _ _ is none refl refl refl refl)
+answered old (event.Abort txn) answer new none given is =
+    inr (grows old (event.Abort txn) (Ok answer) new _ _ is none refl refl refl refl)
+answered old (event.UndoStep txn) answer new none given is = inr (undo_grows old txn answer new _ refl none is)
+answered old event.Force answer new none given is = inl (stays old event.Force (Ok answer) new _ is refl refl refl)
+
+-- an error shows no call, but for an unsure Commit
+not_shown : (call : Event) (why : Refusal) → ((txn lsn : ℕ) → call ≡ event.Commit txn → why ≡ CommitUnsure lsn → ⊥)
+    → shown_call call (Err why) ≡ None
+not_shown (event.Commit txn) (CommitUnsure lsn) other = absurd (other txn lsn refl refl)
+not_shown call why other = refl
+
+-- a refused call
+refused : (old : EngineState) (event : Event) (why : Refusal) (new : EngineState)
+    → refusal old event ≡ Some why → new ≡ old → Stays old event (Err why) new
+refused old event why new some is =
+    stays old event (Err why) new old is refl refl (not_shown event why (λ txn lsn commit unsure.
+    commit_not_unsure old txn lsn (rw (commit, unsure) at some)))
+
+-- a call that fails for want of memory or by the device
+failed : (old : EngineState) (event : Event) (why : Refusal) (new : EngineState) → refusal old event ≡ None
+    → Fails old event why new → Stays old event (Err why) new ⊎ Grows old event (Err why) new
+failed old event OutOfMemory new none fails =
+    inl (stays old event (Err OutOfMemory) new old fails.1 refl refl
+    (not_shown event OutOfMemory (λ txn lsn commit unsure. (cc))))
+failed old event.Force LogFault new none fails =
+    inl (stays old event.Force (Err LogFault) new _ fails.reached.2 refl refl refl)
+failed old (event.Commit txn) (CommitUnsure lsn) new none fails =
+    inr (grows old (event.Commit txn) (Err (CommitUnsure lsn)) new _ _ fails.1.reached.2 none refl refl refl refl)
+failed old event why new none fails = absurd fails
+
+pub stays_or_grows : (old : EngineState) (event : Event) (reply : Result Answer Refusal) (new : EngineState)
+    → Step old event reply new → Stays old event reply new ⊎ Grows old event reply new
+stays_or_grows old event (Ok answer) new step = answered old event answer new step.0 step.1 step.2
+stays_or_grows old event (Err why) new (inl both) = inl (refused old event why new both.0 both.1)
+stays_or_grows old event (Err why) new (inr both) = failed old event why new both.0 both.1
