@@ -8,9 +8,14 @@ use Rattle.log_store.specs.declared.limits.TheConstants.{MAX_RECORDS}
 use Rattle.log_store.specs.declared.pending_change.PendingChange.{PendingChange}
 use Rattle.log_store.specs.declared.record.Record.{Record}
 use Rattle.log_store.specs.declared.record.Record.TheVariants as log
+use Rattle.page_core.specs.declared.page.Page.{Page}
+use Rattle.log_store.specs.Image.{redo_all}
 use Rattle.log_store.specs.Linked.{IsLinked, number_in}
 use Rattle.log_store.specs.Log.{IsLog, lsn_of}
 use Rattle.log_store.specs.Transactions.{begun, last_lsn, last_of, owed, pending}
+use Rattle.log_store.specs.Table.{Table}
+use Rattle.log_store.specs.WrittenLog.{WrittenLog}
+use Rattle.txn_table.specs.TxnTable.{IsTableOf}
 use Rattle.aries_core.specs.declared.event.Answer.{Answer}
 use Rattle.aries_core.specs.declared.event.Answer.TheVariants as answer
 use Rattle.aries_core.specs.declared.event.Event.{Event}
@@ -102,3 +107,22 @@ pub record IsFit (s : EngineState) : Type 0 where
   pub linked : IsLinked s.log
   pub room : (n : ℕ) → n ≤ length s.log → length (take n s.log) + owed (take n s.log) ≤ MAX_RECORDS
   pub forced : (k : ℕ) × (k ≤ length s.log) × (s.forced_end ≡ lsn_of k)
+
+-- ---- the engine and its device
+
+pub record EngineView (D : Type 0) : Type 0 where
+  pub state : EngineState
+  pub device : D
+
+-- what an engine is, by the log that it writes
+abbrev pub engine_view : {D : Type 0} → WrittenLog D → EngineView D
+engine_view it = record {
+  state = record { pages = it.log.pages; log = it.log.records; forced_end = it.forced_end };
+  device = it.device;
+}
+
+-- the transaction table and the pages are those of the log
+pub record IsKept (s : EngineState) (table : Table) (pages : List Page) : Type 0 where
+  pub fit : IsFit s
+  pub table_of_log : IsTableOf s.log table
+  pub images : pages ≡ redo_all s.log s.pages

@@ -1,10 +1,12 @@
 //! The engine for one thread: each call is one event, and appends just its record to the log.
 #![tactic(auto)]
 
+mod engine;
 mod event;
 mod laws;
 mod refusal;
 
+pub use engine::Engine;
 pub use event::{Answer, Event, Reply};
 pub use laws::{
     an_answered_commit_is_forced, log_shows_the_accepted_calls, the_forced_end_never_falls,

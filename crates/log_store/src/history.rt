@@ -1,15 +1,15 @@
 //! A log that is read is replayed: at each place the records so far have made open transactions and
 //! pages, and these decide whether the next record may follow.
 
-ghost use Rattle.std.specs.Prelude.{◌≡◌, ◌↔◌, [], length, map, IfOk, IsTrue};
-ghost use Rattle.log_store.specs.Image.{AreNumbered, redo_all, with_record};
+ghost use Rattle.std.specs.Prelude.{◌↔◌, length, IsTrue};
 ghost use Rattle.log_store.specs.Log.{IsWithin};
 ghost use Rattle.log_store.specs.Record.{IsRecord};
 ghost use Rattle.log_store.specs.History.{NamesNumber};
 
 use crate::open_transactions::OpenTransactions;
 use crate::record::Record;
-use page_core::{Change, Page, PageNo};
+use crate::volume::{formatted_pages, redo_on_its_page};
+use page_core::{Change, Page};
 use std::alloc::{AllocError, Global};
 use std::marker::Model;
 
@@ -87,27 +87,4 @@ fn names_number(pages: &[Page], next: &Record) -> bool
         } => pages[page.0 as usize].slots[slot.0 as usize] == before,
         _ => true,
     }
-}
-
-/// Makes the change of a record, if it makes one, on the page that it names. Every other page
-/// stays.
-fn redo_on_its_page(pages: &mut [Page], next: &Record)
-    requires within { IsWithin (length pages.old) next.now }
-    requires numbered { AreNumbered pages.old }
-    ensures { pages.new ≡ map (λ page. with_record page next.now) pages.old }
-{
-    if let Some(change) = next.change() {
-        next.redo_on(&mut pages[change.page.0 as usize]);
-    }
-}
-
-/// Pages 0 to `count` - 1, formatted.
-fn formatted_pages(alloc: Global, count: u32) -> Result<Vec<Page>, AllocError>
-    ensures { IfOk result (λ pages. pages.items ≡ redo_all [] count) }
-{
-    let mut pages = Vec::with_capacity(alloc, count as usize)?;
-    for number in 0..count {
-        pages.push(Page::formatted(PageNo(number)))?;
-    }
-    Ok(pages)
 }

@@ -24,6 +24,7 @@ mod record;
 mod scan;
 mod sink;
 mod txn_state;
+mod volume;
 
 pub use codec::{decode, encode};
 pub use device::{DeviceFault, LogDevice};
@@ -46,6 +47,7 @@ pub use record::Record;
 pub use scan::{Scan, scan_log};
 pub use sink::RecordSink;
 pub use txn_state::TxnState;
+pub use volume::{formatted_pages, redo_on_its_page};
 
 #[cfg(test)]
 mod tests;

@@ -5,7 +5,7 @@ use Rattle.log_store.specs.declared.page_change.PageChange.{PageChange}
 use Rattle.log_store.specs.Record.{change_of}
 use Rattle.log_store.specs.Image.{with_record}
 use Rattle.log_store.proofs.Images.{none_changed, one_changed}
-use Rattle.log_store.proofs.history.redo_on_its_page.Goals as goal
+use Rattle.log_store.proofs.volume.redo_on_its_page.Goals as goal
 
 pub returns-in-Some : goal.returns-in-Some
 returns-in-Some c =

@@ -1,7 +1,7 @@
 use Rattle.std.proofs.Common.{[], sym, arith}
 use Rattle.std.proofs.lemmas.List.FromFn.{map-range_with_len_more}
 use Rattle.log_store.specs.Image.{image}
-use Rattle.log_store.proofs.history.formatted_pages.Goals as goal
+use Rattle.log_store.proofs.volume.formatted_pages.Goals as goal
 
 pub loop-number-preserved : goal.loop-number-preserved
 loop-number-preserved c =
