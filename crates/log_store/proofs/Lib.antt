@@ -9,3 +9,5 @@ pub mod Histories
 pub mod Tests
 pub mod Pushes
 pub mod Begun
+pub mod Steps
+pub mod Checks
