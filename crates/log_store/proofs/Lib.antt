@@ -1,5 +1,6 @@
 pub mod Begun
 pub mod Changes
+pub mod Checks
 pub mod Devices
 pub mod Faults
 pub mod Followed
@@ -11,5 +12,6 @@ pub mod Pushes
 pub mod Records
 pub mod Rows
 pub mod Scans
+pub mod Steps
 pub mod Tests
 pub mod WrittenLogs

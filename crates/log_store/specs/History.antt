@@ -23,15 +23,15 @@ abbrev pub number_on : List Page → ℕ → ℕ → ℕ
 number_on pages page slot = slice_index (slice_index_or pages page (formatted page)).slots slot
 
 -- an Update that replaces a number names the one that is there
-abbrev pub NamesNumber : List Page → Record → Type 0
-NamesNumber pages (Update lsn txn prev page slot change) =
+abbrev pub NamesNumberOn : List Page → Record → Type 0
+NamesNumberOn pages (Update lsn txn prev page slot change) =
     Replaces change (number_on pages page slot)
-NamesNumber pages other = Unit {0}
+NamesNumberOn pages other = Unit {0}
 
 -- the record may come next, as far as the transactions and the pages say
 pub record MayComeNext (made : Made) (r : Record) : Type 0 where
   pub may_note : MayNote made.table r
-  pub replaces : NamesNumber made.pages r
+  pub replaces : NamesNumberOn made.pages r
 
 -- what stands after it
 abbrev pub followed : Made → Record → Made

@@ -1,3 +1,4 @@
+pub mod Checked
 pub mod Committed
 pub mod Device
 pub mod Failures

@@ -4,7 +4,7 @@
 ghost use Rattle.std.specs.Prelude.{◌↔◌, length, IsTrue};
 ghost use Rattle.log_store.specs.Log.{IsWithin};
 ghost use Rattle.log_store.specs.Record.{IsRecord};
-ghost use Rattle.log_store.specs.History.{NamesNumber};
+ghost use Rattle.log_store.specs.History.{NamesNumberOn};
 
 use crate::open_transactions::OpenTransactions;
 use crate::record::Record;
@@ -63,7 +63,7 @@ impl History {
             → MayComeNext self.old next.now × (self.new ≡ followed self.old next.now)) }
         ensures refused { IfOk result (λ may. MayComeNext self.old next.now → IsTrue may) }
     {
-        if !self.txns.may_note(next) || !names_number(&self.pages, next) {
+        if !self.txns.may_note(next) || !names_number_on(&self.pages, next) {
             return Ok(false);
         }
         self.txns.note(next)?;
@@ -73,10 +73,10 @@ impl History {
 }
 
 /// Whether a record that replaces a number names the one that is there.
-fn names_number(pages: &[Page], next: &Record) -> bool
+fn names_number_on(pages: &[Page], next: &Record) -> bool
     requires valid { IsRecord next.now }
     requires within { IsWithin (length pages.now) next.now }
-    ensures { IsTrue result ↔ NamesNumber pages.now next.now }
+    ensures { IsTrue result ↔ NamesNumberOn pages.now next.now }
 {
     match *next {
         Record::Update {
