@@ -1,6 +1,6 @@
 //! The table of open transactions.
 
-ghost use Rattle.std.specs.Prelude.{ℕ, ◌≡◌, ◌+◌, ◌<◌, ◌++◌, ◌∷◌, [], List, length, OnOk, OnErr};
+ghost use Rattle.std.specs.Prelude.{ℕ, ◌≡◌, ◌+◌, ◌<◌, ◌++◌, ◌∷◌, [], List, length, IfOk, OnOk, OnErr};
 ghost use Rattle.std.specs.Prelude.{if◌then◌else◌, Some, None};
 ghost use Rattle.log_store.specs.declared.record.Record.{Record};
 ghost use Rattle.log_store.specs.Linked.{MayFollow};
@@ -32,12 +32,12 @@ impl Model for TxnTable {
 
 impl TxnTable {
     /// The table of a log without records.
-    pub fn new(alloc: Global) -> TxnTable
-        ensures { result ≡ table_of [] }
+    pub fn new(alloc: Global) -> Result<TxnTable, AllocError>
+        ensures { IfOk result (λ table. table ≡ table_of []) }
     {
-        TxnTable {
-            open: OpenTransactions::new(alloc),
-        }
+        Ok(TxnTable {
+            open: OpenTransactions::new(alloc)?,
+        })
     }
 
     /// The number of the next transaction.
