@@ -11,3 +11,4 @@ pub mod Pushes
 pub mod Begun
 pub mod Steps
 pub mod Checks
+pub mod Room
