@@ -10,3 +10,6 @@ pub mod Histories
 pub mod Tests
 pub mod Pushes
 pub mod Begun
+pub mod Steps
+pub mod Checks
+pub mod Room

@@ -12,6 +12,7 @@ use Rattle.log_store.specs.declared.record.Record.{Record}
 use Rattle.log_store.specs.declared.record.Record.TheVariants.{Begin}
 use Rattle.log_store.specs.Record.{own_lsn}
 use Rattle.log_store.specs.Transactions.{begun, begun_by, first_lsn, has_aborted, is_abort, is_last, is_open, is_rollback, is_rolling, last_lsn, last_or, open_in, pending, pending_from, records_of, txn_of, with_pending}
+use Rattle.log_store.specs.Work.{call_of, work}
 use Rattle.log_store.proofs.Tests.{filter-filter, filter_agree_but, filter_map_push, filter_push_in, filter_push_out, first_push, list_any_push}
 
 -- ---- the records of a transaction
@@ -171,3 +172,8 @@ open_in_push_last rs r none last =
     is_open_push rs r none true last o ∙ ap (λ b. is_open rs o && not b) (and-true (eqb o (txn_of r))) in
     ap (filter after) (begun_push_none rs r none) ∙ filter_agree after (λ o. is_open rs o && away o) same (begun rs)
     ∙ sym (filter-filter (is_open rs) away (begun rs))
+
+-- ---- the calls that it shows
+
+pub work_push : (rs : List Record) (r : Record) → work (rs ++ r ∷ []) ≡ work rs ++ option_to_list (call_of r)
+work_push rs r = filter_map_push call_of rs r

@@ -1,13 +1,13 @@
 -- Lists under tests: filters, and what one more element changes.
-use Rattle.std.proofs.Common.{◌≡◌, ◌≢◌, ℕ, ◌<◌, length, arith, subst, inl, inr, ◌⊎◌, Bool, true, false, cond, ◌&&◌, ◌||◌, eqb, List, [], ◌∷◌, ◌++◌, map, slice_get, sym, refl, ap, ap₂, ◌∙◌}
+use Rattle.std.proofs.Common.{◌≡◌, ◌≢◌, ℕ, ◌<◌, length, arith, subst, inl, inr, ◌⊎◌, Bool, true, false, cond, ◌&&◌, ◌||◌, eqb, List, [], ◌∷◌, ◌++◌, map, slice_get, sym, eq-eqb, ne_eqb, refl, ap, ap₂, ◌∙◌}
 use Rattle.std.specs.Prelude.{Option, Some, None}
 use Rattle.std.specs.Option.{option_map, option_to_list}
 use Rattle.std.specs.List.{filter, filter_map, find, list_any, cons_option}
-use Rattle.std.proofs.lemmas.Bool.{eqb-false, or_cases, or_parts}
+use Rattle.std.proofs.lemmas.Bool.{cases_eq, eqb-false, or_cases, or_parts}
 use Rattle.std.proofs.lemmas.List.{append-nil}
 use Rattle.std.proofs.lemmas.List.Elements.{filter-append, filter_map-append}
 use Rattle.std.proofs.lemmas.List.Folds.{list_any-append}
-use Rattle.std.proofs.Math.Bool.{or-false}
+use Rattle.std.proofs.Math.Bool.{and-false, or-false}
 
 -- ---- one more element
 
@@ -110,3 +110,28 @@ filter_some {X = X} {Y = Y} h p q from (x ∷ xs) found =
     behind : (b : Bool) → 0 < length (filter q xs) → 0 < length (cond b (x ∷ filter q xs) (filter q xs))
     behind true some = omega arith
     behind false some = some
+
+-- a number is found among those that pass if it is there and passes
+found_here : (t : ℕ) (l passes : Bool) (xs : List ℕ) → find (λ n. eqb n t) xs ≡ cond (l && passes) (Some t) None
+    → find (λ n. eqb n t) (cond passes (t ∷ xs) xs) ≡ cond ((eqb t t || l) && passes) (Some t) None
+found_here t l true xs behind = rw (eq-eqb t t refl) refl
+found_here t l false xs behind =
+    behind ∙ ap (λ b. cond b (Some t) None) (and-false l ∙ sym (and-false (eqb t t || l)))
+
+found_behind : (t x : ℕ) (passes : Bool) (xs : List ℕ) → x ≢ t
+    → find (λ n. eqb n t) (cond passes (x ∷ xs) xs) ≡ find (λ n. eqb n t) xs
+found_behind t x true xs other = ap (λ b. cond b (Some x) (find (λ n. eqb n t) xs)) (ne_eqb x t other)
+found_behind t x false xs other = refl
+
+pub find-filter : (p : ℕ → Bool) (t : ℕ) (xs : List ℕ)
+    → find (λ n. eqb n t) (filter p xs) ≡ cond (list_any (λ n. eqb n t) xs && p t) (Some t) None
+find-filter p t [] = refl
+find-filter p t (x ∷ xs) =
+    let among = list_any (λ n. eqb n t) xs in
+    let behind = find-filter p t xs in
+    elim (cases_eq x t) [
+      | inl same ↦ rw same (found_here t among (p t) (filter p xs) behind)
+      | inr other ↦
+          found_behind t x (p x) (filter p xs) other ∙ behind
+          ∙ ap (λ b. cond ((b || among) && p t) (Some t) None) (sym (ne_eqb x t other))
+    ]

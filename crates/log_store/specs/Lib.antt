@@ -10,3 +10,4 @@ pub mod Linked
 pub mod Table
 pub mod Committed
 pub mod Work
+pub mod Checked

@@ -1,8 +1,13 @@
 //! Laws of linked logs, for those who read the contracts.
 
-ghost use Rattle.std.specs.Prelude.{ℕ, ◌∷◌, ◌++◌, List, [], take};
+ghost use Rattle.std.specs.Prelude.{ℕ, ◌≡◌, ◌↔◌, ◌∷◌, ◌++◌, List, [], take, Some, None, option_to_list, if◌then◌else◌};
+ghost use Rattle.page_core.specs.declared.change.ChangeKind.{ChangeKind};
 ghost use Rattle.log_store.specs.declared.record.Record.{Record};
+ghost use Rattle.log_store.specs.Transactions.{holder, is_open, owed};
 ghost use Rattle.log_store.specs.Linked.{IsLinked, MayFollow};
+ghost use Rattle.log_store.specs.Table.{MayNote, entry_in, entry_of, holder_in, noted, owed_in, table_of};
+ghost use Rattle.log_store.specs.Checked.{NamesNumber};
+ghost use Rattle.log_store.specs.Work.{call_of, work};
 
 /// Each prefix of a linked log is linked.
 pub fn prefixes_of_linked_logs_are_linked()
@@ -13,4 +18,32 @@ pub fn prefixes_of_linked_logs_are_linked()
 pub fn linked_logs_grow_by_what_may_follow()
     ensures none { IsLinked [] }
     ensures more { (rs : List Record) (r : Record) → IsLinked rs → MayFollow rs r → IsLinked (rs ++ r ∷ []) }
+{}
+
+/// The table of a linked log, with a record noted that may follow it, is the table of the log with
+/// that record.
+pub fn tables_are_kept_record_by_record()
+    ensures { (rs : List Record) (r : Record) → IsLinked rs → MayFollow rs r
+        → table_of (rs ++ r ∷ []) ≡ noted (table_of rs) r }
+{}
+
+/// The table of a log says which record may follow it, but for the number that a Set replaces.
+pub fn tables_say_what_may_follow()
+    ensures { (rs : List Record) (r : Record)
+        → MayFollow rs r ↔ (MayNote (table_of rs) r × NamesNumber rs r) }
+{}
+
+/// The table of a log has an entry for each open transaction, and knows who holds a slot and what
+/// the open transactions are owed.
+pub fn tables_say_what_logs_say()
+    ensures entries { (rs : List Record) (t : ℕ)
+        → entry_in (table_of rs) t ≡ (if is_open rs t then Some (entry_of rs t) else None) }
+    ensures holders { (rs : List Record) (page slot : ℕ) (kind : ChangeKind) (t : ℕ)
+        → holder_in (table_of rs) page slot kind t ≡ holder rs page slot kind t }
+    ensures rooms { (rs : List Record) → owed_in (table_of rs) ≡ owed rs }
+{}
+
+/// A log with one more record shows the calls that it showed, and the one that the record shows.
+pub fn work_grows_call_by_call()
+    ensures { (rs : List Record) (r : Record) → work (rs ++ r ∷ []) ≡ work rs ++ option_to_list (call_of r) }
 {}
