@@ -12,6 +12,7 @@ use Rattle.log_store.specs.declared.limits.TheConstants.{MAX_OPEN, MAX_RECORDS}
 use Rattle.log_store.specs.Log.{IsPageCount}
 use Rattle.log_store.specs.Transactions.{holder, is_open, is_rolling, keeps_out, last_lsn, least, open_in, owed, owed_by, pending}
 use Rattle.log_store.proofs.Pushes.{is_open_push_own, is_rolling_push, open_in_push_last, open_in_push_same}
+use Rattle.log_store.proofs.Room.{claimed_update}
 use Rattle.aries_core.specs.declared.event.Event.{Event}
 use Rattle.aries_core.specs.declared.event.Event.TheVariants as event
 use Rattle.aries_core.specs.declared.refusal.Refusal.{Refusal}
@@ -21,7 +22,6 @@ use Rattle.aries_core.specs.Refusal.{active_refusal, has_no_room, or_else, page_
 use Rattle.aries_core.proofs.Fit.{fit_of_step, new_is_fit}
 use Rattle.aries_core.proofs.Follows.{add_follows}
 use Rattle.aries_core.proofs.Refusals.{change_passes}
-use Rattle.aries_core.proofs.Owed.{owed_of_update}
 
 -- the Add that comes again and again
 abbrev an_add : Event
@@ -102,6 +102,7 @@ filled_more n s is few =
     let may = add_follows s 1 0 0 1 (record { still_open = is.still_open; active = is.active }) free in
     let count = is.count in
     let owes = is.owes in
+    let more = claimed_update s.log (end s) 1 (last_lsn s.log 1) 0 0 (Add 1) is.fit.linked may in
     record {
       fit = fit_of_step s an_add (Ok _) (effect s an_add).state is.fit (omega arith) (adds_room n s is few, refl, refl);
       one_page = is.one_page;
@@ -109,7 +110,7 @@ filled_more n s is few =
       still_open = is_open_push_own s.log r 1 refl refl ∙ ap (λ b. b && true) is.still_open;
       active = is_rolling_push s.log r 1 refl ∙ ap (λ b. b || false) is.active;
       count = omega (arith, length_push s.log r);
-      owes = omega (arith, owed_of_update s.log (end s) 1 (last_lsn s.log 1) 0 0 (Add 1) is.fit.linked may);
+      owes = omega (arith, length_push s.log r, more);
     }
 
 filled_is : (n : ℕ) → n ≤ 524286 → Filled n (filled n)

@@ -11,13 +11,13 @@ use Rattle.log_store.specs.declared.record.Record.{Record}
 use Rattle.log_store.specs.declared.record.Record.TheVariants as log
 use Rattle.log_store.specs.Linked.{MayFollow, number_in}
 use Rattle.log_store.specs.Transactions.{last_lsn, owed}
+use Rattle.log_store.proofs.Room.{claimed_begin, claimed_push, claimed_update, needs}
 use Rattle.aries_core.specs.declared.event.Event.{Event}
 use Rattle.aries_core.specs.declared.event.Event.TheVariants as event
 use Rattle.aries_core.specs.declared.refusal.Refusal.TheVariants.{LogFull}
 use Rattle.aries_core.specs.EngineState.{EngineState, IsFit, effect, end, next_txn, update_record}
 use Rattle.aries_core.specs.Refusal.{refusal}
 use Rattle.aries_core.proofs.Follows.{add_follows, follows, set_follows, undo_has}
-use Rattle.aries_core.proofs.Owed.{growth, owed_after, owed_of_begin, owed_of_update}
 use Rattle.aries_core.proofs.Refusals.{HasRoom, active_not_full, begin_full, begin_passes, change_full, change_passes, read_not_full, undo_not_full}
 use Rattle.aries_core.proofs.Steps.{record_for, stays_or_grows}
 
@@ -32,29 +32,29 @@ room_now s fit =
     omega arith
 
 grows_within : (s : EngineState) (event : Event) (r : Record) → IsFit s → refusal s event ≡ None
-    → record_for s event ≡ Some r → HasRoom s (growth r)
+    → record_for s event ≡ Some r → HasRoom s (needs r)
 grows_within s event.Begin r fit none made =
-    subst (λ (q : Record). HasRoom s (growth q)) (same_Some _ _ made) (begin_passes s none).room
+    subst (λ (q : Record). HasRoom s (needs q)) (same_Some _ _ made) (begin_passes s none).room
 grows_within s (event.Set txn page slot number) r fit none made =
-    subst (λ (q : Record). HasRoom s (growth q)) (same_Some _ _ made)
+    subst (λ (q : Record). HasRoom s (needs q)) (same_Some _ _ made)
     (change_passes s txn page slot kind.Set none).room
 grows_within s (event.Add txn page slot amount) r fit none made =
-    subst (λ (q : Record). HasRoom s (growth q)) (same_Some _ _ made)
+    subst (λ (q : Record). HasRoom s (needs q)) (same_Some _ _ made)
     (change_passes s txn page slot kind.Add none).room
 grows_within s (event.Read page slot) r fit none made = absurd (cc)
 grows_within s (event.Commit txn) r fit none made =
-    subst (λ (q : Record). HasRoom s (growth q)) (same_Some _ _ made) (room_now s fit)
+    subst (λ (q : Record). HasRoom s (needs q)) (same_Some _ _ made) (room_now s fit)
 grows_within s (event.Abort txn) r fit none made =
-    subst (λ (q : Record). HasRoom s (growth q)) (same_Some _ _ made) (room_now s fit)
+    subst (λ (q : Record). HasRoom s (needs q)) (same_Some _ _ made) (room_now s fit)
 grows_within s (event.UndoStep txn) r fit none made =
-    undo_has (λ (q : Record). HasRoom s (growth q)) s txn r made (λ p last. room_now s fit) (λ last. room_now s fit)
+    undo_has (λ (q : Record). HasRoom s (needs q)) s txn r made (λ p last. room_now s fit) (λ last. room_now s fit)
 grows_within s event.Force r fit none made = absurd (cc)
 
 pub room_grows : (s : EngineState) (event : Event) (r : Record) → IsFit s → refusal s event ≡ None
     → record_for s event ≡ Some r → length (s.log ++ r ∷ []) + owed (s.log ++ r ∷ []) ≤ MAX_RECORDS
 room_grows s event r fit none made =
     let within = grows_within s event r fit none made in
-    omega (arith, owed_after s.log r fit.linked (follows s event r none made))
+    omega (arith, claimed_push s.log r fit.linked (follows s event r none made))
 
 -- after an accepted call, whatever it is
 pub room_if_accepted : (s : EngineState) (event : Event) → IsFit s → refusal s event ≡ None
@@ -75,7 +75,7 @@ update_past s txn page slot change fit may past =
     omega (
       arith,
       length_push s.log (update_record s txn page slot change),
-      owed_of_update s.log (end s) txn (last_lsn s.log txn) page slot change fit.linked may,
+      claimed_update s.log (end s) txn (last_lsn s.log txn) page slot change fit.linked may,
     )
 
 pub past_if_full : (s : EngineState) (event : Event) → IsFit s → refusal s event ≡ Some LogFull
@@ -86,7 +86,7 @@ past_if_full s event.Begin fit full =
     omega (
       arith,
       length_push s.log (log.Begin (end s) (next_txn s)),
-      owed_of_begin s.log (end s) (next_txn s) fit.linked (record { next = refl; room = both.0 }),
+      claimed_begin s.log (end s) (next_txn s) fit.linked (record { next = refl; room = both.0 }),
     )
 past_if_full s (event.Set txn page slot number) fit full =
     let parts = change_full s txn page slot kind.Set full in
