@@ -1,11 +1,10 @@
 -- The calls that the log shows, after a step and after a run.
-use Rattle.std.proofs.Common.{◌≡◌, ◌++◌, List, [], ◌∷◌, refl, ap, sym, ◌∙◌, inl, inr}
-use Rattle.std.specs.Prelude.{Option, Some, None, Result}
+use Rattle.std.proofs.Common.{◌≡◌, ◌++◌, List, [], ◌∷◌, ap, sym, ◌∙◌, inl, inr}
+use Rattle.std.specs.Prelude.{Result}
 use Rattle.std.specs.Option.{option_to_list}
 use Rattle.std.proofs.lemmas.List.{append-nil, append_assoc}
-use Rattle.std.proofs.lemmas.List.Elements.{filter_map-append}
-use Rattle.log_store.specs.declared.record.Record.{Record}
-use Rattle.log_store.specs.Work.{Call, call_of, work}
+use Rattle.log_store.specs.Work.{Call, work}
+use Rattle.log_store.proofs.Pushes.{work_push}
 use Rattle.aries_core.specs.declared.event.Answer.{Answer}
 use Rattle.aries_core.specs.declared.event.Event.{Event}
 use Rattle.aries_core.specs.declared.refusal.Refusal.{Refusal}
@@ -15,20 +14,11 @@ use Rattle.aries_core.specs.Run.{Run}
 use Rattle.aries_core.specs.Step.{Step}
 use Rattle.aries_core.proofs.Steps.{stays_or_grows}
 
--- one record more
-work-push : (rs : List Record) (r : Record) → work (rs ++ r ∷ []) ≡ work rs ++ option_to_list (call_of r)
-work-push rs r =
-    filter_map-append call_of rs (r ∷ []) ∙ ap (λ (calls : List Call). work rs ++ calls) (one (call_of r) refl)
-  where
-    one : (o : Option Call) → call_of r ≡ o → work (r ∷ []) ≡ option_to_list o
-    one None e = rw e refl
-    one (Some call) e = rw e refl
-
 pub work_of_step : (old : EngineState) (event : Event) (reply : Result Answer Refusal) (new : EngineState)
     → Step old event reply new → work new.log ≡ work old.log ++ option_to_list (shown_call event reply)
 work_of_step old event reply new step = elim (stays_or_grows old event reply new step) [
   | inl stays ↦ rw (stays.log, stays.unseen) (sym (append-nil (work old.log)))
-  | inr grows ↦ rw (grows.log, grows.shown) (work-push old.log grows.r)
+  | inr grows ↦ rw (grows.log, grows.shown) (work_push old.log grows.r)
 ]
 
 pub work_of_run : (old : EngineState) (events : List Event) (replies : List (Result Answer Refusal)) (new : EngineState)

@@ -8,12 +8,12 @@ use Rattle.log_store.specs.declared.pending_change.PendingChange.{PendingChange}
 use Rattle.log_store.specs.declared.record.Record.{Record}
 use Rattle.log_store.specs.declared.record.Record.TheVariants as log
 use Rattle.log_store.specs.Linked.{GoesOn, IsActive, MayFollow, number_in}
-use Rattle.log_store.specs.Transactions.{last_lsn, last_of, pending}
+use Rattle.log_store.specs.Transactions.{holder, last_lsn, last_of, pending}
 use Rattle.aries_core.specs.declared.event.Event.{Event}
 use Rattle.aries_core.specs.declared.event.Event.TheVariants as event
 use Rattle.aries_core.specs.EngineState.{EngineState, abort_record, commit_record, comp_record, end, end_record, next_txn, update_record}
 use Rattle.aries_core.specs.Refusal.{refusal}
-use Rattle.aries_core.proofs.Refusals.{ActiveIn, ChangePasses, RollsIn, active_passes, begin_passes, change_passes, undo_passes}
+use Rattle.aries_core.proofs.Refusals.{ActiveIn, RollsIn, active_passes, begin_passes, change_passes, undo_passes}
 use Rattle.aries_core.proofs.Steps.{record_for}
 
 -- a list that has no last element has none
@@ -34,15 +34,17 @@ is_active s txn active = record {
 begin_follows : (s : EngineState) → refusal s event.Begin ≡ None → MayFollow s.log (log.Begin (end s) (next_txn s))
 begin_follows s none = record { next = refl; room = (begin_passes s none).few }
 
-set_follows : (s : EngineState) (txn page slot number : ℕ) → ChangePasses s txn page slot kind.Set
+pub set_follows : (s : EngineState) (txn page slot number : ℕ) → ActiveIn s txn
+    → holder s.log page slot kind.Set txn ≡ None
     → MayFollow s.log (update_record s txn page slot (Set (number_in s.log page slot) number))
-set_follows s txn page slot number passes =
-    record { active = is_active s txn passes.active; free = passes.free; replaces = refl }
+set_follows s txn page slot number active free =
+    record { active = is_active s txn active; free = free; replaces = refl }
 
-add_follows : (s : EngineState) (txn page slot amount : ℕ) → ChangePasses s txn page slot kind.Add
+pub add_follows : (s : EngineState) (txn page slot amount : ℕ) → ActiveIn s txn
+    → holder s.log page slot kind.Add txn ≡ None
     → MayFollow s.log (update_record s txn page slot (Add amount))
-add_follows s txn page slot amount passes =
-    record { active = is_active s txn passes.active; free = passes.free; replaces = tt }
+add_follows s txn page slot amount active free =
+    record { active = is_active s txn active; free = free; replaces = tt }
 
 commit_follows : (s : EngineState) (txn : ℕ) → ActiveIn s txn → MayFollow s.log (commit_record s txn)
 commit_follows s txn active = is_active s txn active
@@ -74,11 +76,11 @@ pub follows : (s : EngineState) (event : Event) (r : Record) → refusal s event
     → MayFollow s.log r
 follows s event.Begin r none made = subst (MayFollow s.log) (same_Some _ _ made) (begin_follows s none)
 follows s (event.Set txn page slot number) r none made =
-    subst (MayFollow s.log) (same_Some _ _ made)
-    (set_follows s txn page slot number (change_passes s txn page slot kind.Set none))
+    let passes = change_passes s txn page slot kind.Set none in
+    subst (MayFollow s.log) (same_Some _ _ made) (set_follows s txn page slot number passes.active passes.free)
 follows s (event.Add txn page slot amount) r none made =
-    subst (MayFollow s.log) (same_Some _ _ made)
-    (add_follows s txn page slot amount (change_passes s txn page slot kind.Add none))
+    let passes = change_passes s txn page slot kind.Add none in
+    subst (MayFollow s.log) (same_Some _ _ made) (add_follows s txn page slot amount passes.active passes.free)
 follows s (event.Read page slot) r none made = absurd (cc)
 follows s (event.Commit txn) r none made =
     subst (MayFollow s.log) (same_Some _ _ made) (commit_follows s txn (active_passes s txn none))

@@ -55,8 +55,8 @@ commit_forces old txn ends =
     let first = appended_forces old (commit_record old txn) ends in
     both_force old after (forced_to after (end after)) first (all_forces after first.at_record)
 
-undo_forces : (old : EngineState) (txn : ℕ) (o : Option PendingChange) → last_of (pending old.log txn) ≡ o → EndsAtRecord old
-    → Forces old (effect old (event.UndoStep txn)).state
+undo_forces : (old : EngineState) (txn : ℕ) (o : Option PendingChange) → last_of (pending old.log txn) ≡ o
+    → EndsAtRecord old → Forces old (effect old (event.UndoStep txn)).state
 undo_forces old txn None o ends = rw o (appended_forces old (end_record old txn) ends)
 undo_forces old txn (Some p) o ends = rw o (appended_forces old (comp_record old txn p) ends)
 

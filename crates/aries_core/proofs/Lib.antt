@@ -1,9 +1,12 @@
 pub mod Calls
+pub mod Fit
 pub mod Follows
 pub mod Forces
+pub mod FullLog
 pub mod Numbers
 pub mod Pending
 pub mod Refusals
+pub mod Rooms
 pub mod Runs
 pub mod Stands
 pub mod Steps

@@ -102,4 +102,5 @@ all_pending log t valid =
 pub last_pending : (log : Log) (t : ℕ) (p : PendingChange) → IsLog log → last_of (pending log.records t) ≡ Some p
     → IsPending log.pages (lsn_of (length log.records)) p
 last_pending log t p valid last =
-    All-last_of (IsPending log.pages (lsn_of (length log.records))) (pending log.records t) p (all_pending log t valid) last
+    let at = lsn_of (length log.records) in
+    All-last_of (IsPending log.pages at) (pending log.records t) p (all_pending log t valid) last

@@ -1,16 +1,16 @@
 -- What an event that is not refused has passed.
 use Rattle.std.proofs.Common.{◌≡◌, ℕ, ◌+◌, ◌<◌, ◌≤◌, ◌⊎◌, Bool, true, false, not, length, refl, inl, inr}
-use Rattle.std.proofs.lemmas.Option.{same_Some}
 use Rattle.std.specs.Prelude.{Option, Some, None}
 use Rattle.std.specs.Option.{option_map}
-use Rattle.std.proofs.lemmas.Bool.{not-false, leb-false, ltb-false}
+use Rattle.std.proofs.lemmas.Option.{cond_some, same_Some}
+use Rattle.std.proofs.lemmas.Bool.{not-false, leb-false, ltb-false, ltb-true}
 use Rattle.page_core.specs.declared.change.ChangeKind.{ChangeKind}
 use Rattle.page_core.specs.declared.page.TheConstants.{SLOTS}
 use Rattle.log_store.specs.declared.limits.TheConstants.{MAX_OPEN, MAX_RECORDS}
 use Rattle.log_store.specs.Transactions.{holder, is_open, is_rolling, open_in, owed}
 use Rattle.aries_core.specs.declared.event.Event.TheVariants as event
 use Rattle.aries_core.specs.declared.refusal.Refusal.{Refusal}
-use Rattle.aries_core.specs.declared.refusal.Refusal.TheVariants.{CommitUnsure, NoTxn, SlotBusy, TxnRolling}
+use Rattle.aries_core.specs.declared.refusal.Refusal.TheVariants.{CommitUnsure, LogFull, NoTxn, NotRolling, PageOut, SlotBusy, SlotOut, TooManyTxns, TxnRolling}
 use Rattle.aries_core.specs.EngineState.{EngineState}
 use Rattle.aries_core.specs.Refusal.{active_refusal, change_refusal, has_no_room, or_else, page_refusal, refused_if, refusal}
 
@@ -97,15 +97,72 @@ undo_passes s txn none =
 
 -- ---- a Commit is not refused as unsure
 
-never_unsure : (first second : Bool) (a b why : Refusal) → or_else (refused_if first a) (refused_if second b) ≡ Some why
+-- the refusal of two tests is one of those that they name
+one_of_both : (first second : Bool) (a b why : Refusal) → or_else (refused_if first a) (refused_if second b) ≡ Some why
     → (a ≡ why) ⊎ (b ≡ why)
-never_unsure true second a b why some = inl (same_Some a why some)
-never_unsure false true a b why some = inr (same_Some b why some)
-never_unsure false false a b why some = absurd (cc)
+one_of_both true second a b why some = inl (same_Some a why some)
+one_of_both false true a b why some = inr (same_Some b why some)
+one_of_both false false a b why some = absurd (cc)
 
 pub commit_not_unsure : (s : EngineState) (txn lsn : ℕ) → active_refusal s txn ≡ Some (CommitUnsure lsn) → ⊥
 commit_not_unsure s txn lsn some =
-    elim (never_unsure (not (is_open s.log txn)) (is_rolling s.log txn) NoTxn TxnRolling (CommitUnsure lsn) some) [
+    elim (one_of_both (not (is_open s.log txn)) (is_rolling s.log txn) NoTxn TxnRolling (CommitUnsure lsn) some) [
       | inl same ↦ (cc)
       | inr same ↦ (cc)
     ]
+
+-- ---- the log is full
+
+-- the second of two refusals, which the first never is
+second_of_both : (a b : Option Refusal) (why : Refusal) → (a ≡ Some why → ⊥) → or_else a b ≡ Some why
+    → (a ≡ None) × (b ≡ Some why)
+second_of_both None b why never some = (refl, some)
+second_of_both (Some other) b why never some = absurd (never some)
+
+refused_so : (test : Bool) (why other : Refusal) → refused_if test why ≡ Some other → (test ≡ true) × (why ≡ other)
+refused_so test why other some = cond_some test why other some
+
+busy_not_full : (o : Option ℕ) → option_map SlotBusy o ≡ Some LogFull → ⊥
+busy_not_full None some = (cc)
+busy_not_full (Some txn) some = let same = same_Some _ _ some in (cc)
+
+-- a test does not give a refusal that it does not name
+not_of_one : (test : Bool) (a why : Refusal) → (a ≡ why → ⊥) → refused_if test a ≡ Some why → ⊥
+not_of_one test a why not_a some = not_a (refused_so test a why some).1
+
+-- nor do two
+not_of_both : (first second : Bool) (a b why : Refusal) → (a ≡ why → ⊥) → (b ≡ why → ⊥)
+    → or_else (refused_if first a) (refused_if second b) ≡ Some why → ⊥
+not_of_both first second a b why not_a not_b some =
+    elim (one_of_both first second a b why some) [ inl same ↦ not_a same | inr same ↦ not_b same ]
+
+-- a Begin is refused for room alone
+pub begin_full : (s : EngineState) → refusal s event.Begin ≡ Some LogFull
+    → (length (open_in s.log) < MAX_OPEN) × (MAX_RECORDS < length s.log + owed s.log + 3)
+begin_full s full =
+    let few = not_of_one _ TooManyTxns LogFull (λ same. (cc)) in
+    let both = second_of_both (refused_if _ TooManyTxns) _ LogFull few full in
+    (leb-false _ _ (not_refused _ _ both.0), ltb-true _ _ (refused_so _ _ _ both.1).0)
+
+-- and so is a change
+pub change_full : (s : EngineState) (txn page slot : ℕ) (kind : ChangeKind)
+    → change_refusal s txn page slot kind ≡ Some LogFull
+    → ActiveIn s txn × (holder s.log page slot kind txn ≡ None) × (MAX_RECORDS < length s.log + owed s.log + 2)
+change_full s txn page slot kind full =
+    let active = second_of_both (active_refusal s txn) _ LogFull
+    (not_of_both _ _ NoTxn TxnRolling LogFull (λ same. (cc)) (λ same. (cc))) full in
+    let place = second_of_both (page_refusal s page slot) _ LogFull
+    (not_of_both _ _ PageOut SlotOut LogFull (λ same. (cc)) (λ same. (cc))) active.1 in
+    let free = second_of_both (option_map SlotBusy (holder s.log page slot kind txn)) _ LogFull
+    (busy_not_full (holder s.log page slot kind txn)) place.1 in
+    (active_passes s txn active.0, not_busy _ free.0, ltb-true _ _ (refused_so _ _ _ free.1).0)
+
+-- no other call is
+pub active_not_full : (s : EngineState) (txn : ℕ) → active_refusal s txn ≡ Some LogFull → ⊥
+active_not_full s txn full = not_of_both _ _ NoTxn TxnRolling LogFull (λ same. (cc)) (λ same. (cc)) full
+
+pub read_not_full : (s : EngineState) (page slot : ℕ) → page_refusal s page slot ≡ Some LogFull → ⊥
+read_not_full s page slot full = not_of_both _ _ PageOut SlotOut LogFull (λ same. (cc)) (λ same. (cc)) full
+
+pub undo_not_full : (s : EngineState) (txn : ℕ) → refusal s (event.UndoStep txn) ≡ Some LogFull → ⊥
+undo_not_full s txn full = not_of_both _ _ NoTxn NotRolling LogFull (λ same. (cc)) (λ same. (cc)) full

@@ -1,18 +1,23 @@
 -- Laws of steps, over whole runs.
-use Rattle.std.proofs.Common.{◌≡◌, ℕ, ◌<◌, ◌≤◌, ◌++◌, List, [], ◌∷◌, sym, ap, ◌∙◌, arith, inl, inr}
-use Rattle.std.specs.Prelude.{Result, Ok}
+use Rattle.std.proofs.Common.{◌≡◌, ◌≢◌, refl, ℕ, ◌<◌, ◌≤◌, false, ◌++◌, List, [], ◌∷◌, sym, ap, ◌∙◌, arith, inl, inr}
+use Rattle.std.specs.Prelude.{None, Result, Ok, Err}
 use Rattle.std.proofs.lemmas.List.{append-nil, append_assoc, length_push}
+use Rattle.std.proofs.Math.Bool.{and-false}
 use Rattle.log_store.specs.declared.record.Record.{Record}
 use Rattle.log_store.specs.declared.record.Record.TheVariants as log
-use Rattle.log_store.specs.Transactions.{last_lsn}
+use Rattle.log_store.specs.Transactions.{is_open, last_lsn}
+use Rattle.log_store.proofs.Pushes.{is_open_push_own}
 use Rattle.aries_core.specs.declared.event.Answer.{Answer}
 use Rattle.aries_core.specs.declared.event.Answer.TheVariants as answer
 use Rattle.aries_core.specs.declared.event.Event.{Event}
 use Rattle.aries_core.specs.declared.event.Event.TheVariants as event
 use Rattle.aries_core.specs.declared.refusal.Refusal.{Refusal}
+use Rattle.aries_core.specs.declared.refusal.Refusal.TheVariants.{CommitUnsure, LogFault, OutOfMemory}
 use Rattle.aries_core.specs.EngineState.{EngineState, IsFit, commit_record, end}
 use Rattle.aries_core.specs.Run.{Run}
-use Rattle.aries_core.specs.Step.{Step}
+use Rattle.aries_core.specs.Step.{Fails, Step}
+use Rattle.aries_core.specs.Refusal.{refusal}
+use Rattle.aries_core.proofs.Refusals.{commit_not_unsure}
 use Rattle.aries_core.proofs.Forces.{EndsAtRecord, forces}
 use Rattle.aries_core.proofs.Steps.{stays_or_grows}
 
@@ -64,3 +69,42 @@ commit_is_forced old txn lsn new step =
     let log_is : new.log ≡ old.log ++ commit_record old txn ∷ [] = ap (λ (s : EngineState). s.log) step.2 in
     let forced_is = ap (λ (s : EngineState). s.forced_end) step.2 in
     (rw at log_is, omega (arith, at, forced_is, length_push old.log (commit_record old txn)))
+
+unsure_at : (old : EngineState) (txn lsn : ℕ) (new : EngineState) → refusal old (event.Commit txn) ≡ None
+    → Fails old (event.Commit txn) (CommitUnsure lsn) new
+    → (new.log ≡ old.log ++ log.Commit lsn txn (last_lsn old.log txn) ∷ []) × (is_open new.log txn ≡ false)
+    × (new.forced_end ≤ lsn)
+unsure_at old txn lsn new none fails =
+    let r = commit_record old txn in
+    let at = fails.0 in
+    let part = fails.1 in
+    let log_is : new.log ≡ old.log ++ r ∷ [] = ap (λ (s : EngineState). s.log) part.reached.2 in
+    let forced_is = ap (λ (s : EngineState). s.forced_end) part.reached.2 in
+    let before = part.reached.1 in (
+      rw at log_is,
+      rw log_is (is_open_push_own old.log r txn refl refl ∙ and-false (is_open old.log txn)),
+      omega (arith, at, forced_is, length_push old.log r),
+    )
+
+-- a Commit that is not known to be forced
+pub unsure_commit : (old : EngineState) (txn lsn : ℕ) (new : EngineState)
+    → Step old (event.Commit txn) (Err (CommitUnsure lsn)) new
+    → (new.log ≡ old.log ++ log.Commit lsn txn (last_lsn old.log txn) ∷ []) × (is_open new.log txn ≡ false)
+    × (new.forced_end ≤ lsn)
+unsure_commit old txn lsn new (inl both) = absurd (commit_not_unsure old txn lsn both.0)
+unsure_commit old txn lsn new (inr both) = unsure_at old txn lsn new both.0 both.1
+
+-- ---- a refusal
+
+failed_same : (old : EngineState) (event : Event) (why : Refusal) (new : EngineState) → why ≢ LogFault
+    → ((lsn : ℕ) → why ≢ CommitUnsure lsn) → Fails old event why new → new ≡ old
+failed_same old event OutOfMemory new no_fault sure fails = fails.1
+failed_same old event.Force LogFault new no_fault sure fails = absurd (no_fault refl)
+failed_same old (event.Commit txn) (CommitUnsure lsn) new no_fault sure fails = absurd (sure lsn refl)
+failed_same old event why new no_fault sure fails = absurd fails
+
+-- it changes nothing, unless it tells of the device
+pub refused_same : (old : EngineState) (event : Event) (why : Refusal) (new : EngineState) → why ≢ LogFault
+    → ((lsn : ℕ) → why ≢ CommitUnsure lsn) → Step old event (Err why) new → new ≡ old
+refused_same old event why new no_fault sure (inl both) = both.1
+refused_same old event why new no_fault sure (inr both) = failed_same old event why new no_fault sure both.1

@@ -11,12 +11,12 @@ use Rattle.log_store.specs.declared.pending_change.PendingChange.{PendingChange}
 use Rattle.log_store.specs.declared.record.Record.{Record}
 use Rattle.log_store.specs.declared.record.Record.TheVariants as log
 use Rattle.log_store.specs.Linked.{number_in}
-use Rattle.log_store.specs.Log.{IsLog, Log, StandsAt}
+use Rattle.log_store.specs.Log.{Log, StandsAt}
 use Rattle.log_store.specs.Record.{HasNoBefore, IsBefore, IsChange, IsLsn, IsRecord, IsTxn}
 use Rattle.log_store.specs.Transactions.{is_open, last_lsn, last_of, pending}
 use Rattle.aries_core.specs.declared.event.Event.{Event}
 use Rattle.aries_core.specs.declared.event.Event.TheVariants as event
-use Rattle.aries_core.specs.EngineState.{EngineState, abort_record, commit_record, comp_record, end, end_record, next_txn, update_record}
+use Rattle.aries_core.specs.EngineState.{EngineState, IsFit, abort_record, commit_record, comp_record, end, end_record, next_txn, update_record}
 use Rattle.aries_core.specs.EventFits.{EventFits}
 use Rattle.aries_core.specs.Refusal.{refusal}
 use Rattle.aries_core.proofs.Follows.{undo_has}
@@ -34,8 +34,8 @@ StandsAtEnd s r = StandsAt s.pages (end s) r
 
 -- ---- its parts
 
-end_is_lsn : (s : EngineState) → IsLog (log_of s) → IsLsn (end s)
-end_is_lsn s valid = lsn_is_lsn (length s.log) valid.count
+end_is_lsn : (s : EngineState) → IsFit s → IsLsn (end s)
+end_is_lsn s fit = lsn_is_lsn (length s.log) fit.valid.count
 
 -- the numbers of a record of an open transaction
 record OpenParts (s : EngineState) (txn : ℕ) : Type 0 where
@@ -43,11 +43,11 @@ record OpenParts (s : EngineState) (txn : ℕ) : Type 0 where
   number : IsTxn txn
   prev : IsBefore (end s) (last_lsn s.log txn)
 
-open_parts : (s : EngineState) (txn : ℕ) → IsLog (log_of s) → is_open s.log txn ≡ true → OpenParts s txn
-open_parts s txn valid still_open = record {
-  lsn = end_is_lsn s valid;
-  number = open_is_txn (log_of s) txn valid still_open;
-  prev = last_lsn_is_before (log_of s) txn valid still_open;
+open_parts : (s : EngineState) (txn : ℕ) → IsFit s → is_open s.log txn ≡ true → OpenParts s txn
+open_parts s txn fit still_open = record {
+  lsn = end_is_lsn s fit;
+  number = open_is_txn s.log txn fit.linked fit.valid.count still_open;
+  prev = last_lsn_is_before (log_of s) txn fit.valid still_open;
 }
 
 undo_fits : (change : Change) → IsChange change → IsChange (undo_of change)
@@ -60,21 +60,21 @@ undo_has_no_before (Add amount) = tt
 
 -- ---- each record
 
-begin_stands : (s : EngineState) → IsLog (log_of s) → StandsAtEnd s (log.Begin (end s) (next_txn s))
-begin_stands s valid = record {
+begin_stands : (s : EngineState) → IsFit s → StandsAtEnd s (log.Begin (end s) (next_txn s))
+begin_stands s fit = record {
   lsn = refl;
   valid = (
-    end_is_lsn s valid,
-    record { first = omega arith; fits = let few = valid.count in omega (arith, length_begun s.log) },
+    end_is_lsn s fit,
+    record { first = omega arith; fits = let few = fit.valid.count in omega (arith, length_begun s.log) },
   );
   within = tt;
 }
 
-update_stands : (s : EngineState) (txn page slot : ℕ) (change : Change) → IsLog (log_of s)
+update_stands : (s : EngineState) (txn page slot : ℕ) (change : Change) → IsFit s
     → ChangePasses s txn page slot (kind_of change) → IsChange change
     → StandsAtEnd s (update_record s txn page slot change)
-update_stands s txn page slot change valid passes fits =
-    let parts = open_parts s txn valid passes.active.still_open in
+update_stands s txn page slot change fit passes fits =
+    let parts = open_parts s txn fit passes.active.still_open in
     let within = passes.place.within in
     record {
       lsn = refl;
@@ -82,42 +82,41 @@ update_stands s txn page slot change valid passes fits =
         parts.lsn,
         parts.number,
         parts.prev,
-        record { page = let most = valid.pages.most in omega arith; slot = passes.place.fits; change = fits },
+        record { page = let most = fit.valid.pages.most in omega arith; slot = passes.place.fits; change = fits },
       );
       within = within;
     }
 
-set_fits : (s : EngineState) (page slot number : ℕ) → IsLog (log_of s) → number < 2 ^ 64
+set_fits : (s : EngineState) (page slot number : ℕ) → IsFit s → number < 2 ^ 64
     → IsChange (Set (number_in s.log page slot) number)
-set_fits s page slot number valid fits = (
-  number_fits s.log page slot
-      (All-weaker (StandsBefore s.pages (end s)) IsRecord (λ r stands. stands.valid) s.log (all_stand (log_of s) valid)),
-  fits,
-)
+set_fits s page slot number fit fits =
+    let all = all_stand (log_of s) fit.valid in
+    let before = All-weaker (StandsBefore s.pages (end s)) IsRecord (λ r stands. stands.valid) s.log all in
+    (number_fits s.log page slot before, fits)
 
-commit_stands : (s : EngineState) (txn : ℕ) → IsLog (log_of s) → is_open s.log txn ≡ true
+commit_stands : (s : EngineState) (txn : ℕ) → IsFit s → is_open s.log txn ≡ true
     → StandsAtEnd s (commit_record s txn)
-commit_stands s txn valid still_open =
-    let parts = open_parts s txn valid still_open in
+commit_stands s txn fit still_open =
+    let parts = open_parts s txn fit still_open in
     record { lsn = refl; valid = (parts.lsn, parts.number, parts.prev); within = tt }
 
-abort_stands : (s : EngineState) (txn : ℕ) → IsLog (log_of s) → is_open s.log txn ≡ true
+abort_stands : (s : EngineState) (txn : ℕ) → IsFit s → is_open s.log txn ≡ true
     → StandsAtEnd s (abort_record s txn)
-abort_stands s txn valid still_open =
-    let parts = open_parts s txn valid still_open in
+abort_stands s txn fit still_open =
+    let parts = open_parts s txn fit still_open in
     record { lsn = refl; valid = (parts.lsn, parts.number, parts.prev); within = tt }
 
-end_stands : (s : EngineState) (txn : ℕ) → IsLog (log_of s) → is_open s.log txn ≡ true
+end_stands : (s : EngineState) (txn : ℕ) → IsFit s → is_open s.log txn ≡ true
     → StandsAtEnd s (end_record s txn)
-end_stands s txn valid still_open =
-    let parts = open_parts s txn valid still_open in
+end_stands s txn fit still_open =
+    let parts = open_parts s txn fit still_open in
     record { lsn = refl; valid = (parts.lsn, parts.number, parts.prev); within = tt }
 
-comp_stands : (s : EngineState) (txn : ℕ) (p : PendingChange) → IsLog (log_of s) → is_open s.log txn ≡ true
+comp_stands : (s : EngineState) (txn : ℕ) (p : PendingChange) → IsFit s → is_open s.log txn ≡ true
     → last_of (pending s.log txn) ≡ Some p → StandsAtEnd s (comp_record s txn p)
-comp_stands s txn p valid still_open last =
-    let parts = open_parts s txn valid still_open in
-    let change = last_pending (log_of s) txn p valid last in
+comp_stands s txn p fit still_open last =
+    let parts = open_parts s txn fit still_open in
+    let change = last_pending (log_of s) txn p fit.valid last in
     let fits = change.fits in
     record {
       lsn = refl;
@@ -134,23 +133,23 @@ comp_stands s txn p valid still_open last =
 
 -- ---- the record of an accepted event
 
-pub stands : (s : EngineState) (event : Event) (r : Record) → IsLog (log_of s) → EventFits event → refusal s event ≡ None
-    → record_for s event ≡ Some r → StandsAtEnd s r
-stands s event.Begin r valid fits none made = subst (StandsAtEnd s) (same_Some _ _ made) (begin_stands s valid)
-stands s (event.Set txn page slot number) r valid fits none made =
+pub stands : (s : EngineState) (event : Event) (r : Record) → IsFit s → EventFits event
+    → refusal s event ≡ None → record_for s event ≡ Some r → StandsAtEnd s r
+stands s event.Begin r fit fits none made = subst (StandsAtEnd s) (same_Some _ _ made) (begin_stands s fit)
+stands s (event.Set txn page slot number) r fit fits none made =
     subst (StandsAtEnd s) (same_Some _ _ made)
-    (update_stands s txn page slot (Set (number_in s.log page slot) number) valid
-    (change_passes s txn page slot kind.Set none) (set_fits s page slot number valid fits))
-stands s (event.Add txn page slot amount) r valid fits none made =
+    (update_stands s txn page slot (Set (number_in s.log page slot) number) fit
+    (change_passes s txn page slot kind.Set none) (set_fits s page slot number fit fits))
+stands s (event.Add txn page slot amount) r fit fits none made =
     subst (StandsAtEnd s) (same_Some _ _ made)
-    (update_stands s txn page slot (Add amount) valid (change_passes s txn page slot kind.Add none) fits)
-stands s (event.Read page slot) r valid fits none made = absurd (cc)
-stands s (event.Commit txn) r valid fits none made =
-    subst (StandsAtEnd s) (same_Some _ _ made) (commit_stands s txn valid (active_passes s txn none).still_open)
-stands s (event.Abort txn) r valid fits none made =
-    subst (StandsAtEnd s) (same_Some _ _ made) (abort_stands s txn valid (active_passes s txn none).still_open)
-stands s (event.UndoStep txn) r valid fits none made =
+    (update_stands s txn page slot (Add amount) fit (change_passes s txn page slot kind.Add none) fits)
+stands s (event.Read page slot) r fit fits none made = absurd (cc)
+stands s (event.Commit txn) r fit fits none made =
+    subst (StandsAtEnd s) (same_Some _ _ made) (commit_stands s txn fit (active_passes s txn none).still_open)
+stands s (event.Abort txn) r fit fits none made =
+    subst (StandsAtEnd s) (same_Some _ _ made) (abort_stands s txn fit (active_passes s txn none).still_open)
+stands s (event.UndoStep txn) r fit fits none made =
     let still_open = (undo_passes s txn none).still_open in
-    undo_has (StandsAtEnd s) s txn r made (λ p last. comp_stands s txn p valid still_open last)
-    (λ no_more. end_stands s txn valid still_open)
-stands s event.Force r valid fits none made = absurd (cc)
+    undo_has (StandsAtEnd s) s txn r made (λ p last. comp_stands s txn p fit still_open last)
+    (λ no_more. end_stands s txn fit still_open)
+stands s event.Force r fit fits none made = absurd (cc)

@@ -76,8 +76,11 @@ logged s r = record { answer = answer.Logged (end s); state = appended s r }
 
 abbrev pub undo_effect : EngineState → ℕ → Outcome
 undo_effect s txn =
-    option_map_or (λ p. record { answer = answer.Undid (end s); state =
-        appended s (comp_record s txn p) })
+    option_map_or (λ p. record {
+      answer = answer.Undid (end s);
+      state =
+          appended s (comp_record s txn p);
+    })
     (last_of (pending s.log txn))
     (record { answer = answer.Ended (end s); state = appended s (end_record s txn) })
 
@@ -89,8 +92,10 @@ effect s event.Begin = record {
 effect s (event.Set txn page slot number) =
     logged s (update_record s txn page slot (Set (number_in s.log page slot) number))
 effect s (event.Add txn page slot amount) = logged s (update_record s txn page slot (Add amount))
-effect s (event.Read page slot) = record { answer = answer.Number (number_in s.log page slot);
-    state = s }
+effect s (event.Read page slot) = record {
+  answer = answer.Number (number_in s.log page slot);
+  state = s;
+}
 effect s (event.Commit txn) = record {
   answer = answer.Logged (end s);
   state = let after = appended s (commit_record s txn) in forced_to after (end after);

@@ -38,7 +38,7 @@ page_refusal s page slot =
 abbrev pub active_refusal : EngineState → ℕ → Option Refusal
 active_refusal s txn =
     or_else (refused_if (not (is_open s.log txn)) NoTxn)
-        (refused_if (is_rolling s.log txn) TxnRolling)
+    (refused_if (is_rolling s.log txn) TxnRolling)
 
 -- of a change: an Update owes its own compensation, so it takes room for two records
 abbrev pub change_refusal : EngineState → ℕ → ℕ → ℕ → ChangeKind → Option Refusal
@@ -46,14 +46,14 @@ change_refusal s txn page slot kind =
     or_else (active_refusal s txn)
     (or_else (page_refusal s page slot)
     (or_else (option_map SlotBusy (holder s.log page slot kind txn))
-        (refused_if (has_no_room s 2) LogFull)))
+    (refused_if (has_no_room s 2) LogFull)))
 
 -- the refusal that needs neither memory nor a device, in the order of the checks; a Begin owes two
 -- more records
 abbrev pub refusal : EngineState → Event → Option Refusal
 refusal s event.Begin =
     or_else (refused_if (nat_le MAX_OPEN (length (open_in s.log))) TooManyTxns)
-        (refused_if (has_no_room s 3) LogFull)
+    (refused_if (has_no_room s 3) LogFull)
 refusal s (event.Set txn page slot number) = change_refusal s txn page slot kind.Set
 refusal s (event.Add txn page slot amount) = change_refusal s txn page slot kind.Add
 refusal s (event.Read page slot) = page_refusal s page slot
@@ -61,7 +61,7 @@ refusal s (event.Commit txn) = active_refusal s txn
 refusal s (event.Abort txn) = active_refusal s txn
 refusal s (event.UndoStep txn) =
     or_else (refused_if (not (is_open s.log txn)) NoTxn)
-        (refused_if (not (is_rolling s.log txn)) NotRolling)
+    (refused_if (not (is_rolling s.log txn)) NotRolling)
 refusal s event.Force = None
 
 -- what is printed of a refusal

@@ -35,7 +35,7 @@ Fails old event refusal new = ⊥
 abbrev pub Step : EngineState → Event → Result Answer Refusal → EngineState → Type 0
 Step old event (Ok answer) new =
     (refusal old event ≡ None) × (answer ≡ (effect old event).answer)
-        × (new ≡ (effect old event).state)
+    × (new ≡ (effect old event).state)
 Step old event (Err why) new =
     ((refusal old event ≡ Some why) × (new ≡ old))
-        ⊎ ((refusal old event ≡ None) × Fails old event why new)
+    ⊎ ((refusal old event ≡ None) × Fails old event why new)

@@ -1,12 +1,17 @@
 //! Laws of whole runs, for those who read the contracts.
 
-ghost use Rattle.std.specs.Prelude.{ℕ, ◌≡◌, ◌<◌, ◌≤◌, ◌++◌, List, [], ◌∷◌, Result, Ok};
+ghost use Rattle.std.specs.Prelude.{ℕ, ◌≡◌, ◌≢◌, ◌+◌, ◌<◌, ◌≤◌, ◌++◌, List, [], ◌∷◌, length, Option, Some, None, Result, Ok, Err, false};
+ghost use Rattle.std.specs.List.{All};
+ghost use Rattle.log_store.specs.declared.limits.TheConstants.{MAX_RECORDS};
 ghost use Rattle.log_store.specs.declared.record.Record.{Record};
 ghost use Rattle.log_store.specs.declared.record.Record.TheVariants as log;
-ghost use Rattle.log_store.specs.Transactions.{last_lsn};
+ghost use Rattle.log_store.specs.Log.{IsPageCount};
+ghost use Rattle.log_store.specs.Transactions.{is_open, last_lsn, owed};
 ghost use Rattle.log_store.specs.Work.{work};
 ghost use Rattle.aries_core.specs.Accepted.{accepted};
-ghost use Rattle.aries_core.specs.EngineState.{EngineState, IsFit};
+ghost use Rattle.aries_core.specs.EngineState.{EngineState, IsFit, effect, new_state};
+ghost use Rattle.aries_core.specs.EventFits.{EventFits};
+ghost use Rattle.aries_core.specs.Refusal.{refusal};
 ghost use Rattle.aries_core.specs.Run.{Run};
 ghost use Rattle.aries_core.specs.Step.{Step};
 ghost use Rattle.aries_core.specs.declared.event.Answer.{Answer};
@@ -14,6 +19,27 @@ ghost use Rattle.aries_core.specs.declared.event.Answer.TheVariants as answer;
 ghost use Rattle.aries_core.specs.declared.event.Event.{Event};
 ghost use Rattle.aries_core.specs.declared.event.Event.TheVariants as event;
 ghost use Rattle.aries_core.specs.declared.refusal.Refusal.{Refusal};
+ghost use Rattle.aries_core.specs.declared.refusal.Refusal.TheVariants.{CommitUnsure, LogFault, LogFull};
+
+/// A new engine is fit: its log has a spelling, is linked, and has room for what open transactions may still need.
+pub fn a_new_engine_is_fit()
+    ensures { (pages : ℕ) → IsPageCount pages → IsFit (new_state pages) }
+{}
+
+/// An engine stays fit, whatever calls come and whatever its device does.
+pub fn engines_stay_fit()
+    ensures { (old : EngineState) (events : List Event) (replies : List (Result Answer Refusal)) (new : EngineState)
+        → IsFit old → All EventFits events → Run old events replies new → IsFit new }
+{}
+
+/// LogFull is answered exactly where the log's records and those that open transactions may still need would be more
+/// than a log may have, after the call.
+pub fn log_full_is_exact()
+    ensures accepted { (s : EngineState) (event : Event) → IsFit s → refusal s event ≡ None
+        → let after = (effect s event).state in length after.log + owed after.log ≤ MAX_RECORDS }
+    ensures refused { (s : EngineState) (event : Event) → IsFit s → refusal s event ≡ Some LogFull
+        → let after = (effect s event).state in MAX_RECORDS < length after.log + owed after.log }
+{}
 
 /// The log is the run: read back as calls, it shows the calls that were accepted, in their order,
 /// behind those that it showed before the run.
@@ -39,4 +65,18 @@ pub fn an_answered_commit_is_forced()
     ensures { (old : EngineState) (txn lsn : ℕ) (new : EngineState)
         → Step old (event.Commit txn) (Ok (answer.Logged lsn)) new
         → (new.log ≡ old.log ++ log.Commit lsn txn (last_lsn old.log txn) ∷ []) × (lsn < new.forced_end) }
+{}
+
+/// At CommitUnsure the Commit stands at the end of the log, not counted as forced, and its transaction has ended.
+pub fn an_unsure_commit_ends_its_transaction()
+    ensures { (old : EngineState) (txn lsn : ℕ) (new : EngineState)
+        → Step old (event.Commit txn) (Err (CommitUnsure lsn)) new
+        → (new.log ≡ old.log ++ log.Commit lsn txn (last_lsn old.log txn) ∷ []) × (is_open new.log txn ≡ false)
+        × (new.forced_end ≤ lsn) }
+{}
+
+/// A refusal changes nothing, but for the two that tell of the device.
+pub fn a_refusal_changes_nothing()
+    ensures { (old : EngineState) (event : Event) (why : Refusal) (new : EngineState) → why ≢ LogFault
+        → ((lsn : ℕ) → why ≢ CommitUnsure lsn) → Step old event (Err why) new → new ≡ old }
 {}

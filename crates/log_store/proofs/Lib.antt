@@ -10,6 +10,7 @@ pub mod Inputs
 pub mod Logs
 pub mod Pushes
 pub mod Records
+pub mod Room
 pub mod Rows
 pub mod Scans
 pub mod Steps

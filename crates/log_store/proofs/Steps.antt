@@ -105,7 +105,7 @@ entry_of_push rs r none more some t =
 
 -- ---- the open transactions without one
 
-not_among : (p : ℕ → Bool) (t : ℕ) → p t ≡ false → (xs : List ℕ) → list_any (λ n. eqb n t) (filter p xs) ≡ false
+pub not_among : (p : ℕ → Bool) (t : ℕ) → p t ≡ false → (xs : List ℕ) → list_any (λ n. eqb n t) (filter p xs) ≡ false
 not_among p t out xs = any-filter_same (λ n. eqb n t) p false (λ n is. ap p (eqb-true n t is) ∙ out) xs
 
 -- ---- the table

@@ -5,14 +5,11 @@ use Rattle.std.specs.Prelude.{Option, IfSome}
 use Rattle.std.specs.List.{range_with_len, AllByRecursion}
 use Rattle.std.proofs.lemmas.List.{length-set}
 use Rattle.page_core.specs.declared.change.Change.{Change}
-use Rattle.page_core.specs.declared.change.Change.TheVariants.{Set, Add}
 use Rattle.page_core.specs.declared.page.Page.{Page}
-use Rattle.page_core.specs.Change.{changed}
 use Rattle.page_core.specs.Page.{formatted, put, IsPage}
 use Rattle.log_store.specs.declared.page_change.PageChange.{PageChange}
 use Rattle.log_store.specs.declared.record.Record.{Record}
-use Rattle.log_store.specs.declared.record.Record.TheVariants.{Begin, Update, Comp, Commit, Abort, End}
-use Rattle.log_store.specs.Record.{IsChange, IsLsn, IsPageChange, IsRecord, change_of, own_lsn}
+use Rattle.log_store.specs.Record.{IsChange, IsLsn, IsPageChange, IsRecord, own_lsn}
 use Rattle.log_store.specs.Log.{Log, IsLog}
 use Rattle.log_store.specs.Image.{with_record, image_from, image, redo_all}
 use Rattle.log_store.proofs.Changes.{changed_fits, valid_change}

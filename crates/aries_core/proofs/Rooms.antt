@@ -1,0 +1,102 @@
+-- The log has room for its records and for those that open transactions may still need.
+use Rattle.std.proofs.Common.{◌≡◌, ℕ, ◌+◌, ◌<◌, ◌≤◌, ◌++◌, List, [], ◌∷◌, length, refl, subst, arith, inl, inr}
+use Rattle.std.specs.Prelude.{Some, None, Ok}
+use Rattle.std.proofs.lemmas.List.{length_push, take_all}
+use Rattle.std.proofs.lemmas.Option.{same_Some}
+use Rattle.page_core.specs.declared.change.Change.{Change}
+use Rattle.page_core.specs.declared.change.Change.TheVariants.{Set, Add}
+use Rattle.page_core.specs.declared.change.ChangeKind.TheVariants as kind
+use Rattle.log_store.specs.declared.limits.TheConstants.{MAX_RECORDS}
+use Rattle.log_store.specs.declared.record.Record.{Record}
+use Rattle.log_store.specs.declared.record.Record.TheVariants as log
+use Rattle.log_store.specs.Linked.{MayFollow, number_in}
+use Rattle.log_store.specs.Transactions.{last_lsn, owed}
+use Rattle.log_store.proofs.Room.{claimed_begin, claimed_push, claimed_update, needs}
+use Rattle.aries_core.specs.declared.event.Event.{Event}
+use Rattle.aries_core.specs.declared.event.Event.TheVariants as event
+use Rattle.aries_core.specs.declared.refusal.Refusal.TheVariants.{LogFull}
+use Rattle.aries_core.specs.EngineState.{EngineState, IsFit, effect, end, next_txn, update_record}
+use Rattle.aries_core.specs.Refusal.{refusal}
+use Rattle.aries_core.proofs.Follows.{add_follows, follows, set_follows, undo_has}
+use Rattle.aries_core.proofs.Refusals.{HasRoom, active_not_full, begin_full, begin_passes, change_full, change_passes, read_not_full, undo_not_full}
+use Rattle.aries_core.proofs.Steps.{record_for, stays_or_grows}
+
+-- ---- an accepted call
+
+-- records plus owed ones, of the whole log
+room_now : (s : EngineState) → IsFit s → HasRoom s 0
+room_now s fit =
+    let whole : length s.log + owed s.log ≤ MAX_RECORDS =
+    subst (λ (rs : List Record). length rs + owed rs ≤ MAX_RECORDS) (take_all (length s.log) s.log (omega arith))
+    (fit.room (length s.log) (omega arith)) in
+    omega arith
+
+grows_within : (s : EngineState) (event : Event) (r : Record) → IsFit s → refusal s event ≡ None
+    → record_for s event ≡ Some r → HasRoom s (needs r)
+grows_within s event.Begin r fit none made =
+    subst (λ (q : Record). HasRoom s (needs q)) (same_Some _ _ made) (begin_passes s none).room
+grows_within s (event.Set txn page slot number) r fit none made =
+    subst (λ (q : Record). HasRoom s (needs q)) (same_Some _ _ made)
+    (change_passes s txn page slot kind.Set none).room
+grows_within s (event.Add txn page slot amount) r fit none made =
+    subst (λ (q : Record). HasRoom s (needs q)) (same_Some _ _ made)
+    (change_passes s txn page slot kind.Add none).room
+grows_within s (event.Read page slot) r fit none made = absurd (cc)
+grows_within s (event.Commit txn) r fit none made =
+    subst (λ (q : Record). HasRoom s (needs q)) (same_Some _ _ made) (room_now s fit)
+grows_within s (event.Abort txn) r fit none made =
+    subst (λ (q : Record). HasRoom s (needs q)) (same_Some _ _ made) (room_now s fit)
+grows_within s (event.UndoStep txn) r fit none made =
+    undo_has (λ (q : Record). HasRoom s (needs q)) s txn r made (λ p last. room_now s fit) (λ last. room_now s fit)
+grows_within s event.Force r fit none made = absurd (cc)
+
+pub room_grows : (s : EngineState) (event : Event) (r : Record) → IsFit s → refusal s event ≡ None
+    → record_for s event ≡ Some r → length (s.log ++ r ∷ []) + owed (s.log ++ r ∷ []) ≤ MAX_RECORDS
+room_grows s event r fit none made =
+    let within = grows_within s event r fit none made in
+    omega (arith, claimed_push s.log r fit.linked (follows s event r none made))
+
+-- after an accepted call, whatever it is
+pub room_if_accepted : (s : EngineState) (event : Event) → IsFit s → refusal s event ≡ None
+    → let after = (effect s event).state in length after.log + owed after.log ≤ MAX_RECORDS
+room_if_accepted s event fit none =
+    let after = (effect s event).state in
+    elim (stays_or_grows s event (Ok (effect s event).answer) after (none, refl, refl)) [
+      | inl stays ↦ let room = room_now s fit in rw stays.log (omega arith)
+      | inr grows ↦ rw grows.log (room_grows s event grows.r fit grows.accepted grows.made)
+    ]
+
+-- ---- a call that is refused since the log is full
+
+update_past : (s : EngineState) (txn page slot : ℕ) (change : Change) → IsFit s
+    → MayFollow s.log (update_record s txn page slot change) → MAX_RECORDS < length s.log + owed s.log + 2
+    → let after = s.log ++ update_record s txn page slot change ∷ [] in MAX_RECORDS < length after + owed after
+update_past s txn page slot change fit may past =
+    omega (
+      arith,
+      length_push s.log (update_record s txn page slot change),
+      claimed_update s.log (end s) txn (last_lsn s.log txn) page slot change fit.linked may,
+    )
+
+pub past_if_full : (s : EngineState) (event : Event) → IsFit s → refusal s event ≡ Some LogFull
+    → let after = (effect s event).state in MAX_RECORDS < length after.log + owed after.log
+past_if_full s event.Begin fit full =
+    let both = begin_full s full in
+    let past = both.1 in
+    omega (
+      arith,
+      length_push s.log (log.Begin (end s) (next_txn s)),
+      claimed_begin s.log (end s) (next_txn s) fit.linked (record { next = refl; room = both.0 }),
+    )
+past_if_full s (event.Set txn page slot number) fit full =
+    let parts = change_full s txn page slot kind.Set full in
+    update_past s txn page slot (Set (number_in s.log page slot) number) fit
+    (set_follows s txn page slot number parts.0 parts.1) parts.2
+past_if_full s (event.Add txn page slot amount) fit full =
+    let parts = change_full s txn page slot kind.Add full in
+    update_past s txn page slot (Add amount) fit (add_follows s txn page slot amount parts.0 parts.1) parts.2
+past_if_full s (event.Read page slot) fit full = absurd (read_not_full s page slot full)
+past_if_full s (event.Commit txn) fit full = absurd (active_not_full s txn full)
+past_if_full s (event.Abort txn) fit full = absurd (active_not_full s txn full)
+past_if_full s (event.UndoStep txn) fit full = absurd (undo_not_full s txn full)
+past_if_full s event.Force fit full = absurd (cc)
