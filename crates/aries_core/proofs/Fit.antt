@@ -14,7 +14,8 @@ use Rattle.log_store.proofs.Scans.{valid_next}
 use Rattle.aries_core.specs.declared.event.Answer.{Answer}
 use Rattle.aries_core.specs.declared.event.Event.{Event}
 use Rattle.aries_core.specs.declared.refusal.Refusal.{Refusal}
-use Rattle.aries_core.specs.EngineState.{EngineState, IsFit, new_state}
+use Rattle.aries_core.specs.Call.{Calls}
+use Rattle.aries_core.specs.EngineState.{EngineState, IsFit, appended, new_state}
 use Rattle.aries_core.specs.EventFits.{EventFits}
 use Rattle.aries_core.specs.Run.{Run}
 use Rattle.aries_core.specs.Step.{Step}
@@ -43,6 +44,19 @@ room_push rs r room whole n le = elim (cases_lt (length rs) n) [
   | inl all ↦ rw (take_all n (rs ++ r ∷ []) (omega (arith, length_push rs r))) whole
   | inr part ↦ rw (take-append-le n rs (r ∷ []) part) (room n part)
 ]
+
+-- the state with the record of an accepted call at the end of its log
+pub fit_appended : (s : EngineState) (r : Record) → IsFit s → Calls s r → IsFit (appended s r)
+fit_appended s r fit calls =
+    let may = follows s calls.call r calls.accepted calls.made in
+    let whole = room_grows s calls.call r fit calls.accepted calls.made in
+    let few : length s.log < MAX_RECORDS = omega (arith, length_push s.log r) in
+    record {
+      valid = valid_next (log_of s) r fit.valid few (stands s calls.call r fit calls.fits calls.accepted calls.made);
+      linked = linked_push s.log r fit.linked may;
+      room = room_push s.log r fit.room whole;
+      forced = (fit.forced.0, omega (arith, fit.forced.1, length_push s.log r), fit.forced.2);
+    }
 
 fit_grows : (old : EngineState) (event : Event) (reply : Result Answer Refusal) (new : EngineState) → IsFit old
     → EventFits event → EndsAtRecord new → Grows old event reply new → IsFit new

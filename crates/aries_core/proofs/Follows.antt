@@ -14,7 +14,7 @@ use Rattle.aries_core.specs.declared.event.Event.TheVariants as event
 use Rattle.aries_core.specs.EngineState.{EngineState, abort_record, commit_record, comp_record, end, end_record, next_txn, update_record}
 use Rattle.aries_core.specs.Refusal.{refusal}
 use Rattle.aries_core.proofs.Refusals.{ActiveIn, RollsIn, active_passes, begin_passes, change_passes, undo_passes}
-use Rattle.aries_core.proofs.Steps.{record_for}
+use Rattle.aries_core.specs.Call.{record_for}
 
 -- a list that has no last element has none
 pub none_last : {X : Type 0} (xs : List X) → last_of xs ≡ None → xs ≡ []

@@ -19,7 +19,8 @@ use Rattle.aries_core.specs.EngineState.{EngineState, IsFit, effect, end, next_t
 use Rattle.aries_core.specs.Refusal.{refusal}
 use Rattle.aries_core.proofs.Follows.{add_follows, follows, set_follows, undo_has}
 use Rattle.aries_core.proofs.Refusals.{HasRoom, active_not_full, begin_full, begin_passes, change_full, change_passes, read_not_full, undo_not_full}
-use Rattle.aries_core.proofs.Steps.{record_for, stays_or_grows}
+use Rattle.aries_core.specs.Call.{record_for}
+use Rattle.aries_core.proofs.Steps.{stays_or_grows}
 
 -- ---- an accepted call
 

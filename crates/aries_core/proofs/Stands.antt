@@ -23,7 +23,7 @@ use Rattle.aries_core.proofs.Follows.{undo_has}
 use Rattle.aries_core.proofs.Numbers.{last_lsn_is_before, length_begun, lsn_is_lsn, number_fits, open_is_txn}
 use Rattle.aries_core.proofs.Pending.{StandsBefore, all_stand, last_pending}
 use Rattle.aries_core.proofs.Refusals.{ChangePasses, active_passes, change_passes, undo_passes}
-use Rattle.aries_core.proofs.Steps.{record_for}
+use Rattle.aries_core.specs.Call.{record_for}
 
 -- the log of the state, with its page count
 abbrev pub log_of : EngineState → Log

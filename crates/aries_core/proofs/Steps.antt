@@ -9,6 +9,7 @@ use Rattle.log_store.specs.declared.record.Record.TheVariants as log
 use Rattle.log_store.specs.Linked.{number_in}
 use Rattle.log_store.specs.Transactions.{last_of, pending}
 use Rattle.log_store.specs.Work.{call_of}
+use Rattle.aries_core.specs.Call.{record_for}
 use Rattle.aries_core.specs.declared.event.Answer.{Answer}
 use Rattle.aries_core.specs.declared.event.Event.{Event}
 use Rattle.aries_core.specs.declared.event.Event.TheVariants as event
@@ -19,19 +20,6 @@ use Rattle.aries_core.specs.EngineState.{EngineState, abort_record, appended, co
 use Rattle.aries_core.specs.Refusal.{refusal}
 use Rattle.aries_core.specs.Step.{Fails, Step}
 use Rattle.aries_core.proofs.Refusals.{commit_not_unsure}
-
--- the record that an accepted event appends, if it appends one
-abbrev pub record_for : EngineState → Event → Option Record
-record_for s event.Begin = Some (log.Begin (end s) (next_txn s))
-record_for s (event.Set txn page slot number) =
-    Some (update_record s txn page slot (Set (number_in s.log page slot) number))
-record_for s (event.Add txn page slot amount) = Some (update_record s txn page slot (Add amount))
-record_for s (event.Read page slot) = None
-record_for s (event.Commit txn) = Some (commit_record s txn)
-record_for s (event.Abort txn) = Some (abort_record s txn)
-record_for s (event.UndoStep txn) =
-    Some (option_map_or (comp_record s txn) (last_of (pending s.log txn)) (end_record s txn))
-record_for s event.Force = None
 
 -- the step leaves the log as it is, and shows no call
 pub record Stays (old : EngineState) (event : Event) (reply : Result Answer Refusal) (new : EngineState) : Type 0 where

@@ -1,4 +1,5 @@
 pub mod Accepted
+pub mod Call
 pub mod EngineState
 pub mod EventFits
 pub mod Refusal

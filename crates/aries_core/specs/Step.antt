@@ -39,3 +39,13 @@ Step old event (Ok answer) new =
 Step old event (Err why) new =
     ((refusal old event ≡ Some why) × (new ≡ old))
     ⊎ ((refusal old event ≡ None) × Fails old event why new)
+
+-- the reply of a call whose answers have a type of their own
+abbrev pub reply_of : {T : Type 0} → (T → Answer) → Result T Refusal → Result Answer Refusal
+reply_of answered (Ok value) = Ok (answered value)
+reply_of answered (Err why) = Err why
+
+-- a Commit that is not known to be forced
+abbrev pub IsUnsure : Refusal → Type 0
+IsUnsure (CommitUnsure lsn) = Unit {0}
+IsUnsure other = ⊥

@@ -1,36 +1,31 @@
 //! The engine keeps its log, the table of its open transactions and its pages in step: each call
 //! appends its record, notes it and makes its change.
 
-ghost use Rattle.std.specs.Prelude.{ℕ, ◌≡◌, ◌+◌, ◌<◌, ◌≤◌, ◌++◌, ◌∷◌, [], length, not, Some, None, Ok, Err};
-ghost use Rattle.std.specs.Prelude.{IfOk, IfErr, IfSome, OnOk, OnErr, IsTrue, ◌↔◌};
-ghost use Rattle.std.specs.Result.{result_map};
-ghost use Rattle.log_store.specs.declared.limits.TheConstants.{MAX_RECORDS};
-ghost use Rattle.log_store.specs.Linked.{MayFollow, number_in};
-ghost use Rattle.log_store.specs.Log.{StandsAt, IsPageCount};
-ghost use Rattle.log_store.specs.Table.{entry_of};
-ghost use Rattle.log_store.specs.Transactions.{owed};
-ghost use Rattle.log_store.specs.TxnState.{txn_state};
-ghost use Rattle.aries_core.specs.EngineState.{appended, end, new_state};
-ghost use Rattle.aries_core.specs.Refusal.{active_refusal, has_no_room, page_refusal};
-ghost use Rattle.aries_core.specs.Step.{Step};
+ghost use Rattle.std.specs.Prelude.{ℕ, ◌≡◌, ◌+◌, ◌<◌, ◌≤◌, ◌^◌, length, not, Some, None};
+ghost use Rattle.std.specs.Prelude.{IfOk, IfErr, OnOk, OnErr};
+ghost use Rattle.log_store.specs.Linked.{number_in};
+ghost use Rattle.log_store.specs.Transactions.{last_lsn};
+ghost use Rattle.aries_core.specs.Call.{Calls};
+ghost use Rattle.aries_core.specs.EngineState.{appended, end, update_record};
+ghost use Rattle.aries_core.specs.Refusal.{active_refusal, change_refusal, has_no_room, page_refusal};
+ghost use Rattle.aries_core.specs.Step.{IsUnsure, Step, reply_of};
 ghost use Rattle.aries_core.specs.declared.event.Answer.TheVariants as answer;
 ghost use Rattle.aries_core.specs.declared.event.Event.TheVariants as event;
 
 use crate::refusal::Refusal;
 use log_store::{
-    Log, LogDevice, MAX_OPEN, MAX_RECORDS, Record, TxnState, formatted_pages, redo_on_its_page,
+    Log, LogDevice, MAX_OPEN, MAX_RECORDS, PendingChange, Record, TxnState, redo_on_its_page,
 };
-use page_core::{Lsn, Page, PageNo, SLOTS, SlotNo, TxnNo};
-use std::alloc::Global;
+use page_core::{Change, ChangeKind, Lsn, Page, PageNo, SLOTS, SlotNo, TxnNo, undo_of};
 use std::marker::Model;
 use txn_table::TxnTable;
 
 /// An engine for one thread, over a device that keeps its log. Each call is one event.
 #[derive(Drop)]
 pub struct Engine<D: LogDevice> {
-    log: Log<D>,
-    txns: TxnTable,
-    pages: Vec<Page>,
+    pub(crate) log: Log<D>,
+    pub(crate) txns: TxnTable,
+    pub(crate) pages: Vec<Page>,
 }
 
 impl<D: LogDevice> Model for Engine<D> {
@@ -44,13 +39,113 @@ impl<D: LogDevice> Model for Engine<D> {
 }
 
 impl<D: LogDevice> Engine<D> {
+    /// Begins a transaction, and answers its number and the LSN of its Begin. Refusals in order:
+    /// `TooManyTxns`, `LogFull`, `OutOfMemory`.
+    pub fn begin(&mut self) -> Result<(TxnNo, Lsn), Refusal>
+        ensures step { Step self.old.state event.Begin (reply_of (λ a. answer.Began a.0 a.1) result)
+            self.new.state }
+        ensures device { self.new.device ≡ self.old.device }
+    {
+        if self.txns.open_txns() >= MAX_OPEN {
+            return Err(Refusal::TooManyTxns);
+        }
+        if !self.has_room(3) {
+            return Err(Refusal::LogFull);
+        }
+        let lsn = self.log.end();
+        let txn = self.txns.begin();
+        self.append(Record::Begin { lsn, txn })?;
+        Ok((txn, lsn))
+    }
+
+    /// Puts a number into a slot, and answers the LSN of its Update. Refusals in order: `NoTxn`,
+    /// `TxnRolling`, `PageOut`, `SlotOut`, `SlotBusy`, `LogFull`, `OutOfMemory`.
+    pub fn set(
+        &mut self,
+        txn: TxnNo,
+        page: PageNo,
+        slot: SlotNo,
+        number: u64,
+    ) -> Result<Lsn, Refusal>
+        ensures step { Step self.old.state (event.Set txn page slot number)
+            (reply_of answer.Logged result) self.new.state }
+        ensures device { self.new.device ≡ self.old.device }
+    {
+        let prev = self.find_changeable(txn, page, slot, ChangeKind::Set)?;
+        let change = Change::Set {
+            before: self.number(page, slot),
+            after: number,
+        };
+        self.update(txn, prev, page, slot, change)
+    }
+
+    /// Adds to the number in a slot, modulo 2^64, and answers the LSN of its Update. Refusals are
+    /// those of `set`.
+    pub fn add(
+        &mut self,
+        txn: TxnNo,
+        page: PageNo,
+        slot: SlotNo,
+        amount: u64,
+    ) -> Result<Lsn, Refusal>
+        ensures step { Step self.old.state (event.Add txn page slot amount)
+            (reply_of answer.Logged result) self.new.state }
+        ensures device { self.new.device ≡ self.old.device }
+    {
+        let prev = self.find_changeable(txn, page, slot, ChangeKind::Add)?;
+        self.update(txn, prev, page, slot, Change::Add { amount })
+    }
+
     /// The number in a slot, with the changes of all transactions so far. Refusals in order:
     /// `PageOut`, `SlotOut`.
     pub fn read(&self, page: PageNo, slot: SlotNo) -> Result<u64, Refusal>
-        ensures { Step self.now.state (event.Read page slot) (result_map answer.Number result) self.now.state }
+        ensures { Step self.now.state (event.Read page slot) (reply_of answer.Number result)
+            self.now.state }
     {
         self.find_slot(page, slot)?;
-        Ok(self.pages[page.0 as usize].slots[slot.0 as usize])
+        Ok(self.number(page, slot))
+    }
+
+    /// Ends a transaction whose changes are to last, forces the log through its Commit and answers
+    /// its LSN. Refusals in order: `NoTxn`, `TxnRolling`, `OutOfMemory`, `CommitUnsure`.
+    pub fn commit(&mut self, txn: TxnNo) -> Result<Lsn, Refusal>
+        ensures step { Step self.old.state (event.Commit txn) (reply_of answer.Logged result)
+            self.new.state }
+        ensures cause { IfErr result (λ why. IsUnsure why
+            → D.failures self.old.device < D.failures self.new.device) }
+    {
+        let prev = self.find_active(txn)?;
+        let lsn = self.log.end();
+        self.append(Record::Commit { lsn, txn, prev })?;
+        match self.log.force() {
+            Ok(()) => Ok(lsn),
+            Err(_) => Err(Refusal::CommitUnsure(lsn)),
+        }
+    }
+
+    /// Begins to take the changes of a transaction back, and answers the LSN of its Abort. Refusals
+    /// in order: `NoTxn`, `TxnRolling`, `OutOfMemory`.
+    pub fn abort(&mut self, txn: TxnNo) -> Result<Lsn, Refusal>
+        ensures step { Step self.old.state (event.Abort txn) (reply_of answer.Logged result)
+            self.new.state }
+        ensures device { self.new.device ≡ self.old.device }
+    {
+        let prev = self.find_active(txn)?;
+        let lsn = self.log.end();
+        self.append(Record::Abort { lsn, txn, prev })?;
+        Ok(lsn)
+    }
+
+    /// Forces the whole log, and answers its forced end. `LogFault` comes where the device fails.
+    pub fn force(&mut self) -> Result<Lsn, Refusal>
+        ensures step { Step self.old.state event.Force (reply_of answer.Forced result)
+            self.new.state }
+        ensures cause { OnErr result (D.failures self.old.device < D.failures self.new.device) }
+    {
+        match self.log.force() {
+            Ok(()) => Ok(self.log.end()),
+            Err(_) => Err(Refusal::LogFault),
+        }
     }
 
     /// The LSN that the next record will have.
@@ -73,11 +168,11 @@ impl<D: LogDevice> Engine<D> {
         Ok(())
     }
 
-    /// The state of an active transaction.
-    fn find_active(&self, txn: TxnNo) -> Result<TxnState, Refusal>
+    /// The LSN of the last record of an active transaction.
+    fn find_active(&self, txn: TxnNo) -> Result<Lsn, Refusal>
         ensures refused { IfErr result (λ why. active_refusal self.now.state txn ≡ Some why) }
         ensures active { OnOk result (active_refusal self.now.state txn ≡ None) }
-        ensures state { IfOk result (λ state. state ≡ txn_state (entry_of self.now.state.log txn)) }
+        ensures last { IfOk result (λ last. last ≡ last_lsn self.now.state.log txn) }
     {
         let Some(state) = self.txns.entry(txn) else {
             return Err(Refusal::NoTxn);
@@ -85,7 +180,39 @@ impl<D: LogDevice> Engine<D> {
         if state.rolling {
             return Err(Refusal::TxnRolling);
         }
-        Ok(state)
+        Ok(state.last)
+    }
+
+    /// The LSN of the last record of a transaction that may make a change.
+    fn find_changeable(
+        &self,
+        txn: TxnNo,
+        page: PageNo,
+        slot: SlotNo,
+        kind: ChangeKind,
+    ) -> Result<Lsn, Refusal>
+        ensures refused { IfErr result (λ why.
+            change_refusal self.now.state txn page slot kind ≡ Some why) }
+        ensures free { OnOk result (change_refusal self.now.state txn page slot kind ≡ None) }
+        ensures last { IfOk result (λ last. last ≡ last_lsn self.now.state.log txn) }
+    {
+        let last = self.find_active(txn)?;
+        self.find_slot(page, slot)?;
+        if let Some(holder) = self.txns.may_change(txn, page, slot, kind) {
+            return Err(Refusal::SlotBusy(holder));
+        }
+        if !self.has_room(2) {
+            return Err(Refusal::LogFull);
+        }
+        Ok(last)
+    }
+
+    /// The number in a slot that is there.
+    fn number(&self, page: PageNo, slot: SlotNo) -> u64
+        requires { page_refusal self.now.state page slot ≡ None }
+        ensures { result ≡ number_in self.now.state.log page slot }
+    {
+        self.pages[page.0 as usize].slots[slot.0 as usize]
     }
 
     /// Whether records and owed records stay within the limit, with so many more.
@@ -96,14 +223,42 @@ impl<D: LogDevice> Engine<D> {
         self.log.records().len() as u64 + self.txns.owed() + more <= MAX_RECORDS as u64
     }
 
-    /// Appends a record that may come next, notes it and makes its change.
+    /// Appends the Update of a change that may be made.
+    fn update(
+        &mut self,
+        txn: TxnNo,
+        prev: Lsn,
+        page: PageNo,
+        slot: SlotNo,
+        change: Change,
+    ) -> Result<Lsn, Refusal>
+        requires last { prev ≡ last_lsn self.old.state.log txn }
+        requires called { Calls self.old.state (update_record self.old.state txn page slot change) }
+        ensures ok { IfOk result (λ lsn. (lsn ≡ end self.old.state)
+            × (self.new.state ≡ appended self.old.state
+            (update_record self.old.state txn page slot change))) }
+        ensures err { IfErr result (λ why. (why ≡ Refusal.OutOfMemory)
+            × (self.new.state ≡ self.old.state)) }
+        ensures device { self.new.device ≡ self.old.device }
+    {
+        let lsn = self.log.end();
+        self.append(Record::Update {
+            lsn,
+            txn,
+            prev,
+            page,
+            slot,
+            change,
+        })?;
+        Ok(lsn)
+    }
+
+    /// Appends the record of an accepted call, notes it and makes its change.
     fn append(&mut self, next: Record) -> Result<(), Refusal>
-        requires follows { MayFollow self.old.state.log next }
-        requires stands { StandsAt self.old.state.pages (end self.old.state) next }
-        requires room { length (self.old.state.log ++ next ∷ []) + owed (self.old.state.log ++ next ∷ []) ≤ MAX_RECORDS }
+        requires { Calls self.old.state next }
         ensures ok { OnOk result (self.new.state ≡ appended self.old.state next) }
-        ensures err { OnErr result (self.new.state ≡ self.old.state) }
-        ensures why { IfErr result (λ why. why ≡ Refusal.OutOfMemory) }
+        ensures err { IfErr result (λ why. (why ≡ Refusal.OutOfMemory)
+            × (self.new.state ≡ self.old.state)) }
         ensures device { self.new.device ≡ self.old.device }
     {
         if self.log.make_room().is_err() || self.txns.note(&next).is_err() {

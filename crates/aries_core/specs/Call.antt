@@ -1,0 +1,34 @@
+-- The record of a call.
+use Rattle.std.specs.Prelude.{◌≡◌, Option, Some, None}
+use Rattle.std.specs.Option.{option_map_or}
+use Rattle.page_core.specs.declared.change.Change.TheVariants.{Set, Add}
+use Rattle.log_store.specs.declared.record.Record.{Record}
+use Rattle.log_store.specs.declared.record.Record.TheVariants as log
+use Rattle.log_store.specs.Linked.{number_in}
+use Rattle.log_store.specs.Transactions.{last_of, pending}
+use Rattle.aries_core.specs.declared.event.Event.{Event}
+use Rattle.aries_core.specs.declared.event.Event.TheVariants as event
+use Rattle.aries_core.specs.EngineState.{EngineState, abort_record, commit_record, comp_record, end, end_record}
+use Rattle.aries_core.specs.EngineState.{next_txn, update_record}
+use Rattle.aries_core.specs.EventFits.{EventFits}
+use Rattle.aries_core.specs.Refusal.{refusal}
+
+-- the record that an accepted event appends, if it appends one
+abbrev pub record_for : EngineState → Event → Option Record
+record_for s event.Begin = Some (log.Begin (end s) (next_txn s))
+record_for s (event.Set txn page slot number) =
+    Some (update_record s txn page slot (Set (number_in s.log page slot) number))
+record_for s (event.Add txn page slot amount) = Some (update_record s txn page slot (Add amount))
+record_for s (event.Read page slot) = None
+record_for s (event.Commit txn) = Some (commit_record s txn)
+record_for s (event.Abort txn) = Some (abort_record s txn)
+record_for s (event.UndoStep txn) =
+    Some (option_map_or (comp_record s txn) (last_of (pending s.log txn)) (end_record s txn))
+record_for s event.Force = None
+
+-- the record is that of a call that is accepted
+pub record Calls (s : EngineState) (r : Record) : Type 0 where
+  pub call : Event
+  pub fits : EventFits call
+  pub accepted : refusal s call ≡ None
+  pub made : record_for s call ≡ Some r
