@@ -112,8 +112,8 @@ refused_same old event why new no_fault sure (inr both) = failed_same old event 
 -- ---- what a step may choose
 
 -- where a refusal is due, it is the reply
-pub refused_only : (old : EngineState) (event : Event) (reply : Result Answer Refusal) (new : EngineState) (why : Refusal)
-    → refusal old event ≡ Some why → Step old event reply new → (reply ≡ Err why) × (new ≡ old)
+pub refused_only : (old : EngineState) (event : Event) (reply : Result Answer Refusal) (new : EngineState)
+    (why : Refusal) → refusal old event ≡ Some why → Step old event reply new → (reply ≡ Err why) × (new ≡ old)
 refused_only old event (Ok answer) new why due step = let none = step.0 in absurd (cc)
 refused_only old event (Err other) new why due (inl both) = let some = both.0 in (cc, both.1)
 refused_only old event (Err other) new why due (inr both) = let none = both.0 in absurd (cc)
