@@ -1,6 +1,6 @@
 -- Laws of steps, over whole runs.
 use Rattle.std.proofs.Common.{◌≡◌, ◌≢◌, refl, ℕ, ◌<◌, ◌≤◌, false, ◌++◌, List, [], ◌∷◌, sym, ap, ◌∙◌, arith, inl, inr}
-use Rattle.std.specs.Prelude.{None, Result, Ok, Err}
+use Rattle.std.specs.Prelude.{Some, None, Result, Ok, Err}
 use Rattle.std.proofs.lemmas.List.{append-nil, append_assoc, length_push}
 use Rattle.std.proofs.Math.Bool.{and-false}
 use Rattle.log_store.specs.declared.record.Record.{Record}
@@ -108,3 +108,17 @@ pub refused_same : (old : EngineState) (event : Event) (why : Refusal) (new : En
     → ((lsn : ℕ) → why ≢ CommitUnsure lsn) → Step old event (Err why) new → new ≡ old
 refused_same old event why new no_fault sure (inl both) = both.1
 refused_same old event why new no_fault sure (inr both) = failed_same old event why new no_fault sure both.1
+
+-- ---- what a step may choose
+
+-- where a refusal is due, it is the reply
+pub refused_only : (old : EngineState) (event : Event) (reply : Result Answer Refusal) (new : EngineState)
+    (why : Refusal) → refusal old event ≡ Some why → Step old event reply new → (reply ≡ Err why) × (new ≡ old)
+refused_only old event (Ok answer) new why due step = let none = step.0 in absurd (cc)
+refused_only old event (Err other) new why due (inl both) = let some = both.0 in (cc, both.1)
+refused_only old event (Err other) new why due (inr both) = let none = both.0 in absurd (cc)
+
+-- two answers are the same, and so is what stands after them
+pub answered_alike : (old : EngineState) (event : Event) (a b : Answer) (new other : EngineState)
+    → Step old event (Ok a) new → Step old event (Ok b) other → (a ≡ b) × (new ≡ other)
+answered_alike old event a b new other first second = (first.1 ∙ sym second.1, first.2 ∙ sym second.2)

@@ -80,3 +80,12 @@ pub fn a_refusal_changes_nothing()
     ensures { (old : EngineState) (event : Event) (why : Refusal) (new : EngineState) → why ≢ LogFault
         → ((lsn : ℕ) → why ≢ CommitUnsure lsn) → Step old event (Err why) new → new ≡ old }
 {}
+
+/// Only memory and the device leave an engine a choice: where a refusal is due it is the reply, and an event has no two
+/// answers.
+pub fn replies_are_determined()
+    ensures refused { (old : EngineState) (event : Event) (reply : Result Answer Refusal) (new : EngineState)
+        (why : Refusal) → refusal old event ≡ Some why → Step old event reply new → (reply ≡ Err why) × (new ≡ old) }
+    ensures answered { (old : EngineState) (event : Event) (a b : Answer) (new other : EngineState)
+        → Step old event (Ok a) new → Step old event (Ok b) other → (a ≡ b) × (new ≡ other) }
+{}
