@@ -6,15 +6,16 @@ ghost use Rattle.std.specs.Prelude.{IfOk, IfErr, OnOk, OnErr};
 ghost use Rattle.log_store.specs.Linked.{number_in};
 ghost use Rattle.log_store.specs.Transactions.{last_lsn};
 ghost use Rattle.aries_core.specs.Call.{Calls};
-ghost use Rattle.aries_core.specs.EngineState.{appended, end, update_record};
+ghost use Rattle.aries_core.specs.EngineState.{appended, end, forced_to, update_record};
 ghost use Rattle.aries_core.specs.Refusal.{active_refusal, change_refusal, has_no_room, page_refusal};
-ghost use Rattle.aries_core.specs.Step.{IsUnsure, Step, reply_of};
+ghost use Rattle.aries_core.specs.Step.{ForcedPart, IsUnsure, Step, reply_of};
 ghost use Rattle.aries_core.specs.declared.event.Answer.TheVariants as answer;
 ghost use Rattle.aries_core.specs.declared.event.Event.TheVariants as event;
 
 use crate::refusal::Refusal;
 use log_store::{
-    Log, LogDevice, MAX_OPEN, MAX_RECORDS, PendingChange, Record, TxnState, redo_on_its_page,
+    DeviceFault, Log, LogDevice, MAX_OPEN, MAX_RECORDS, PendingChange, Record, TxnState,
+    redo_on_its_page,
 };
 use page_core::{Change, ChangeKind, Lsn, Page, PageNo, SLOTS, SlotNo, TxnNo, undo_of};
 use std::marker::Model;
@@ -117,7 +118,7 @@ impl<D: LogDevice> Engine<D> {
         let prev = self.find_active(txn)?;
         let lsn = self.log.end();
         self.append(Record::Commit { lsn, txn, prev })?;
-        match self.log.force() {
+        match self.force_log() {
             Ok(()) => Ok(lsn),
             Err(_) => Err(Refusal::CommitUnsure(lsn)),
         }
@@ -142,7 +143,7 @@ impl<D: LogDevice> Engine<D> {
             self.new.state }
         ensures cause { OnErr result (D.failures self.old.device < D.failures self.new.device) }
     {
-        match self.log.force() {
+        match self.force_log() {
             Ok(()) => Ok(self.log.end()),
             Err(_) => Err(Refusal::LogFault),
         }
@@ -153,6 +154,16 @@ impl<D: LogDevice> Engine<D> {
         ensures { result ≡ end self.now.state }
     {
         self.log.end()
+    }
+
+    /// Stores the records that are not forced yet.
+    fn force_log(&mut self) -> Result<(), DeviceFault>
+        ensures ok { OnOk result (self.new.state ≡ forced_to self.old.state (end self.old.state)) }
+        ensures err { OnErr result (ForcedPart self.old.state self.new.state) }
+        ensures cause { OnErr result
+            (D.failures self.old.device < D.failures self.new.device) }
+    {
+        self.log.force()
     }
 
     fn find_slot(&self, page: PageNo, slot: SlotNo) -> Result<(), Refusal>

@@ -19,13 +19,19 @@ use Rattle.log_store.proofs.Checks.{may_follow as table_allows}
 use Rattle.log_store.proofs.Images.{redo_all-append}
 use Rattle.log_store.proofs.Steps.{table_of_push}
 
+-- the number in a slot of a log's volume
+pub number_of_volume : (rs : List Record) (n page slot : ℕ) (d : Page) → page < n
+    → slice_index (get_or (redo_all rs n) page d).slots slot ≡ number_in rs page slot
+number_of_volume rs n page slot d lt =
+    ap (λ (p : Page). slice_index p.slots slot)
+    (get_or-map-range_with_len (image rs) 0 n page page d lt (omega arith))
+
 -- the number in a slot of the pages is that of the log
 number_made : (log : Log) (made : Made) → IsMadeOf log made → (page slot : ℕ) → page < log.pages
     → number_on made.pages page slot ≡ number_in log.records page slot
 number_made log made of page slot lt =
     ap (λ (pages : List Page). number_on pages page slot) of.pages
-    ∙ ap (λ (p : Page). slice_index p.slots slot)
-    (get_or-map-range_with_len (image log.records) 0 log.pages page page (formatted page) lt (omega arith))
+    ∙ number_of_volume log.records log.pages page slot (formatted page) lt
 
 names : (log : Log) (made : Made) (r : Record) → IsMadeOf log made → IsWithin log.pages r
     → NamesNumberOn made.pages r → NamesNumber log.records r

@@ -45,3 +45,7 @@ pub record HasRecordAt (log : Log) (lsn : ℕ) (r : Record) : Type 0 where
 -- the LSN behind the last record at or before an LSN
 abbrev pub end_up_to : Log → ℕ → ℕ
 end_up_to log lsn = lsn_of (min (lsn / 64) (length log.records))
+
+-- the forced end is that of a record, or of the header
+abbrev pub EndsAtRecord : {D : Type 0} → WrittenLog D → Type 0
+EndsAtRecord it = (k : ℕ) × (k ≤ length it.log.records) × (it.forced_end ≡ lsn_of k)

@@ -6,7 +6,7 @@ ghost use Rattle.log_store.specs.declared.record.Record.{Record};
 ghost use Rattle.log_store.specs.Device.{KeepsFirst};
 ghost use Rattle.log_store.specs.Log.{IsLog, IsPageCount, StandsAt, lsn_of};
 ghost use Rattle.log_store.specs.Scan.{with_next};
-ghost use Rattle.log_store.specs.WrittenLog.{IsWritten, HasRecordAt, end_up_to};
+ghost use Rattle.log_store.specs.WrittenLog.{EndsAtRecord, HasRecordAt, IsWritten, end_up_to};
 
 use crate::codec::encode;
 use crate::device::{DeviceFault, LogDevice};
@@ -123,6 +123,7 @@ impl<D: LogDevice> Log<D> {
     pub fn force(&mut self) -> Result<(), DeviceFault>
         ensures same { self.new.log ≡ self.old.log }
         ensures rising { self.old.forced_end ≤ self.new.forced_end }
+        ensures at_record { EndsAtRecord self.new }
         ensures stands { KeepsFirst self.old.forced_end
             (D.bytes self.old.device) (D.bytes self.new.device) }
 
@@ -133,7 +134,10 @@ impl<D: LogDevice> Log<D> {
         ensures failure { OnErr result (D.failures self.old.device < D.failures self.new.device) }
     {
         let end = offset_of(self.records.len());
-        self.force_to(Lsn(end))
+        let done = self.force_to(Lsn(end));
+        // What the log keeps holds of it now, and is seen where it is read.
+        prove!(self.forced <= self.records.len());
+        done
     }
 
     /// The record that stands at an LSN. None stands at 0, within a record, or at the log's end or

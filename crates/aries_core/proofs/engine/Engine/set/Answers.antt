@@ -1,0 +1,11 @@
+use Rattle.std.proofs.Common.{◌≡◌, refl, ap, ◌∙◌}
+use Rattle.aries_core.specs.declared.event.Event.TheVariants as event
+use Rattle.aries_core.proofs.engine.Engine.set.Goals as goal
+
+pub update-requires-clause-called : goal.update-requires-clause-called
+update-requires-clause-called g c = record {
+  call = event.Set c.args.txn c.args.page c.args.slot c.args.number;
+  fits = c.ranges.number.fits;
+  accepted = c.in_ok-prev.ensures.free;
+  made = rw c.number.ensures refl;
+}
