@@ -1,3 +1,4 @@
+pub mod Holds
 pub mod Faults
 pub mod Inputs
 pub mod Logs

@@ -1,3 +1,4 @@
+pub mod Claims
 pub mod Fault
 pub mod Fields
 pub mod Image

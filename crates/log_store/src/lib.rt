@@ -1,6 +1,7 @@
 //! The records of the log, their bytes, and the reading of a whole log.
 #![tactic(auto)]
 
+mod claims;
 mod codec;
 mod fault;
 mod fields;
@@ -14,6 +15,7 @@ mod place;
 mod read;
 mod record;
 mod scan;
+mod seat_set;
 mod sink;
 
 pub use codec::{decode, encode};
