@@ -9,7 +9,7 @@ use Rattle.std.specs.Int.{bit_at, bit_not}
 use Rattle.std.specs.Int.RustNames.{bit_or}
 use Rattle.std.specs.Option.{unwrap_or}
 use Rattle.std.specs.Ordering.{is_eq, nat_cmp}
-use Rattle.std.specs.Result.{OnErr}
+use Rattle.std.specs.Result.{OnErr, OnOk}
 use lib.Bits.{bit_and}
 use mir.Syntax.{w64}
 use Rattle.log_store.specs.declared.claims.Claim.{Claim}
@@ -70,3 +70,7 @@ hold_in-no_claim seat =
 pub on_err_from : {T E : Type 0} (r : Result T E) (P : Type 0) → P → OnErr r P
 on_err_from (Ok x) P p = tt
 on_err_from (Err e) P p = p
+
+pub sure_ok : {T E P Q : Type 0} (r : Result T E) → OnOk r P → OnErr r Q → (Q → ⊥) → P
+sure_ok (Ok x) p q never = p
+sure_ok (Err e) p q never = absurd (never q)

@@ -1,3 +1,4 @@
+pub mod Pendings
 pub mod Holds
 pub mod Faults
 pub mod Inputs

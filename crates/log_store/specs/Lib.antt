@@ -3,6 +3,8 @@ pub mod Fault
 pub mod Fields
 pub mod Image
 pub mod Log
+pub mod OpenEntry
+pub mod OpenTransactions
 pub mod Record
 pub mod Scan
 pub mod Turn

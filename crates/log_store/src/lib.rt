@@ -9,6 +9,7 @@ mod header;
 mod laws;
 mod limits;
 mod log_image;
+mod open_entry;
 mod page_change;
 mod pending_change;
 mod place;
@@ -17,6 +18,7 @@ mod record;
 mod scan;
 mod seat_set;
 mod sink;
+mod txn_state;
 
 pub use codec::{decode, encode};
 pub use fault::LogReadFault;

@@ -1,0 +1,19 @@
+//! The numbers of an open transaction.
+
+use page_core::{Lsn, TxnNo};
+
+/// An open transaction, as the transaction table has it (ARIES, section 4.3).
+#[derive(Clone, Copy, Debug, PartialEq, Eq)]
+pub struct TxnState {
+    pub txn: TxnNo,
+    /// The LSN of its Begin.
+    pub first: Lsn,
+    /// The LSN of its last record.
+    pub last: Lsn,
+    /// It takes its changes back: it has an Abort or a compensation record.
+    pub rolling: bool,
+    /// It has an Abort.
+    pub aborted: bool,
+    /// How many of its changes are pending.
+    pub pending: usize,
+}
