@@ -1,3 +1,4 @@
+pub mod Ranks
 pub mod Pendings
 pub mod Holds
 pub mod Faults

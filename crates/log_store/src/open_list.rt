@@ -1,0 +1,71 @@
+//! The open transactions in the order of their numbers.
+
+ghost use Rattle.std.specs.Prelude.{ℕ, ◌≡◌, ◌<◌, ◌≤◌, ◌==◌, ◌&&◌, not, false, length, map, nat_le, None};
+ghost use Rattle.std.specs.List.{All, find, list_any, position};
+ghost use Rattle.std.specs.Option.{option_map};
+ghost use Rattle.log_store.specs.Claims.{has_seat};
+ghost use Rattle.log_store.specs.declared.limits.TheConstants.{MAX_OPEN};
+
+use crate::open_entry::OpenEntry;
+use crate::seat_set::{SEATS, SeatSet};
+use page_core::TxnNo;
+
+/// Where a transaction stands.
+pub fn place_of(open: &[OpenEntry], txn: TxnNo) -> Option<usize>
+    ensures { result ≡ position (λ e. e.txn == txn) open.now }
+{
+    open.iter().position(|entry| entry.txn == txn)
+}
+
+/// Where the first transaction stands that has this number or one above it.
+pub fn place_from(open: &[OpenEntry], from: TxnNo) -> Option<usize>
+    ensures { result ≡ position (λ e. nat_le from e.txn) open.now }
+{
+    open.iter().position(|entry| entry.txn >= from)
+}
+
+/// The first transaction but this one that has its seat in the set.
+pub fn first_other(open: &[OpenEntry], seats: SeatSet, txn: TxnNo) -> Option<TxnNo>
+    requires { All (λ e. e.seat < SEATS) open.now }
+    ensures { result ≡ option_map (λ e. e.txn)
+        (find (λ e. not (e.txn == txn) && has_seat seats e.seat) open.now) }
+{
+    if seats.is_empty() {
+        return None;
+    }
+    for entry in open {
+        if entry.txn != txn && seats.contains(entry.seat) {
+            return Some(entry.txn);
+        }
+    }
+    None
+}
+
+/// The seats that are taken.
+fn taken_seats(open: &[OpenEntry]) -> SeatSet
+    requires { All (λ e. e.seat < SEATS) open.now }
+    ensures { (seat : ℕ) → seat < SEATS
+        → has_seat result seat ≡ list_any (λ e. seat == e.seat) open.now }
+{
+    let mut taken = SeatSet::new();
+    for entry in open {
+        taken = taken.with(entry.seat, true);
+    }
+    taken
+}
+
+/// A seat that nobody has.
+pub fn free_seat(open: &[OpenEntry]) -> u8
+    requires seats { All (λ e. e.seat < SEATS) open.now }
+    requires room { length open.now < MAX_OPEN }
+    ensures seat { result < SEATS }
+    ensures free { list_any (λ e. result == e.seat) open.now ≡ false }
+{
+    let taken = taken_seats(open);
+    for seat in 0..SEATS {
+        if !taken.contains(seat) {
+            return seat;
+        }
+    }
+    unreachable!()
+}
