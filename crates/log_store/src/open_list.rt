@@ -11,29 +11,29 @@ use crate::seat_set::{SEATS, SeatSet};
 use page_core::TxnNo;
 
 /// Where a transaction stands.
-pub fn place_of(open: &[OpenEntry], txn: TxnNo) -> Option<usize>
-    ensures { result ≡ position (λ e. e.txn == txn) open.now }
+pub fn place_of(entries: &[OpenEntry], txn: TxnNo) -> Option<usize>
+    ensures { result ≡ position (λ e. e.txn == txn) entries.now }
 {
-    open.iter().position(|entry| entry.txn == txn)
+    entries.iter().position(|entry| entry.txn == txn)
 }
 
 /// Where the first transaction stands that has this number or one above it.
-pub fn place_from(open: &[OpenEntry], from: TxnNo) -> Option<usize>
-    ensures { result ≡ position (λ e. nat_le from e.txn) open.now }
+pub fn place_from(entries: &[OpenEntry], from: TxnNo) -> Option<usize>
+    ensures { result ≡ position (λ e. nat_le from e.txn) entries.now }
 {
-    open.iter().position(|entry| entry.txn >= from)
+    entries.iter().position(|entry| entry.txn >= from)
 }
 
 /// The first transaction but this one that has its seat in the set.
-pub fn first_other(open: &[OpenEntry], seats: SeatSet, txn: TxnNo) -> Option<TxnNo>
-    requires { All (λ e. e.seat < SEATS) open.now }
+pub fn first_other(entries: &[OpenEntry], seats: SeatSet, txn: TxnNo) -> Option<TxnNo>
+    requires { All (λ e. e.seat < SEATS) entries.now }
     ensures { result ≡ option_map (λ e. e.txn)
-        (find (λ e. not (e.txn == txn) && has_seat seats e.seat) open.now) }
+        (find (λ e. not (e.txn == txn) && has_seat seats e.seat) entries.now) }
 {
     if seats.is_empty() {
         return None;
     }
-    for entry in open {
+    for entry in entries {
         if entry.txn != txn && seats.contains(entry.seat) {
             return Some(entry.txn);
         }
@@ -42,26 +42,26 @@ pub fn first_other(open: &[OpenEntry], seats: SeatSet, txn: TxnNo) -> Option<Txn
 }
 
 /// The seats that are taken.
-fn taken_seats(open: &[OpenEntry]) -> SeatSet
-    requires { All (λ e. e.seat < SEATS) open.now }
+fn taken_seats(entries: &[OpenEntry]) -> SeatSet
+    requires { All (λ e. e.seat < SEATS) entries.now }
     ensures { (seat : ℕ) → seat < SEATS
-        → has_seat result seat ≡ list_any (λ e. seat == e.seat) open.now }
+        → has_seat result seat ≡ list_any (λ e. seat == e.seat) entries.now }
 {
     let mut taken = SeatSet::new();
-    for entry in open {
+    for entry in entries {
         taken = taken.with(entry.seat, true);
     }
     taken
 }
 
 /// A seat that nobody has.
-pub fn free_seat(open: &[OpenEntry]) -> u8
-    requires seats { All (λ e. e.seat < SEATS) open.now }
-    requires room { length open.now < MAX_OPEN }
+pub fn free_seat(entries: &[OpenEntry]) -> u8
+    requires seats { All (λ e. e.seat < SEATS) entries.now }
+    requires room { length entries.now < MAX_OPEN }
     ensures seat { result < SEATS }
-    ensures free { list_any (λ e. result == e.seat) open.now ≡ false }
+    ensures free { list_any (λ e. result == e.seat) entries.now ≡ false }
 {
-    let taken = taken_seats(open);
+    let taken = taken_seats(entries);
     for seat in 0..SEATS {
         if !taken.contains(seat) {
             return seat;
