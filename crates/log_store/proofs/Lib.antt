@@ -1,3 +1,4 @@
+pub mod Tracked
 pub mod Ranks
 pub mod Pendings
 pub mod Holds

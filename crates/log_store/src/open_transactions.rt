@@ -240,11 +240,13 @@ impl OpenTransactions {
             (Update change.lsn txn change.prev change.page change.slot change.change)) }
         ensures err { OnErr result (self.new ≡ self.old) }
     {
-        if let Some(place) = place_of(&self.entries, txn) {
-            let entry = &mut self.entries[place];
-            entry.update(&mut self.claims, change)?;
+        match place_of(&self.entries, txn) {
+            Some(place) => {
+                let entry = &mut self.entries[place];
+                entry.update(&mut self.claims, change)
+            }
+            None => Ok(()),
         }
-        Ok(())
     }
 
     /// A transaction takes its last pending change back.
@@ -253,9 +255,12 @@ impl OpenTransactions {
         ensures { (prev undo_next page slot : ℕ) (change : Change) →
             self.new ≡ with_entry self.old txn (Comp lsn txn prev undo_next page slot change) }
     {
-        if let Some(place) = place_of(&self.entries, txn) {
-            let entry = &mut self.entries[place];
-            entry.compensate(&mut self.claims, lsn);
+        match place_of(&self.entries, txn) {
+            Some(place) => {
+                let entry = &mut self.entries[place];
+                entry.compensate(&mut self.claims, lsn);
+            }
+            None => {}
         }
     }
 
@@ -264,9 +269,12 @@ impl OpenTransactions {
         requires { IsSome (entry_in self.old txn) }
         ensures { (prev : ℕ) → self.new ≡ with_entry self.old txn (Abort lsn txn prev) }
     {
-        if let Some(place) = place_of(&self.entries, txn) {
-            let entry = &mut self.entries[place];
-            entry.abort(lsn);
+        match place_of(&self.entries, txn) {
+            Some(place) => {
+                let entry = &mut self.entries[place];
+                entry.abort(lsn);
+            }
+            None => {}
         }
     }
 
@@ -275,10 +283,13 @@ impl OpenTransactions {
         requires { IsSome (entry_in self.old txn) }
         ensures { self.new ≡ without_entry self.old txn }
     {
-        if let Some(place) = place_of(&self.entries, txn) {
-            let entry = &mut self.entries[place];
-            entry.release(&mut self.claims);
-            let _ = self.entries.remove(place);
+        match place_of(&self.entries, txn) {
+            Some(place) => {
+                let entry = &mut self.entries[place];
+                entry.release(&mut self.claims);
+                let _ = self.entries.remove(place);
+            }
+            None => {}
         }
     }
 }
