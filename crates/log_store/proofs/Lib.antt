@@ -1,3 +1,4 @@
+pub mod Firsts
 pub mod Tracked
 pub mod Ranks
 pub mod Pendings

@@ -2,20 +2,27 @@
 use Rattle.std.proofs.Common.{zero, suc, ◌≡◌, ◌≢◌, ◌∙◌, ◌<◌, ◌≤◌, ◌+◌, ◌++◌, ◌∷◌, [], ℕ, Bool, true, false, ◌&&◌, ◌||◌, not, List, Option, Some, None, map, length, get_or, set, drop, take, cond, eqb, refl, sym, ap, subst, ⊎_elim, arith}
 use Rattle.std.proofs.lemmas.Bool.{cases_eq, eq-eqb, eqb-true, false≢true, ltb-false, ltb-true, ne_eqb, or_parts}
 use Rattle.std.proofs.lemmas.List.{get_or-map, get_or-set_same, length-set, map-append, map-set, set-get_or}
-use Rattle.std.proofs.lemmas.List.Elements.{All-append, All-drop, All-push, All-set, All-take}
+use Rattle.std.proofs.lemmas.List.Elements.{All-nil, All-append, All-drop, All-push, All-set, All-take}
 use Rattle.std.proofs.lemmas.List.Folds.{find_at}
 use Rattle.std.proofs.lemmas.List.Quantifiers.{position-Some}
 use Rattle.std.proofs.lemmas.Option.{slice_get-get_or, slice_get_past}
 use Rattle.std.specs.List.{AllByRecursion, filter, find, list_any, position, position_or_len, remove, slice_get}
-use Rattle.std.specs.Option.{IsSome, option_map}
+use Rattle.std.specs.Option.{IsSome, MatchOption, option_map}
 use lib.Dec.{ltb}
+use Rattle.page_core.specs.declared.change.ChangeKind.{ChangeKind}
+use Rattle.page_core.specs.declared.change.ChangeKind.TheVariants as kinds
+use Rattle.log_store.specs.declared.claims.Claim.{Claim}
 use Rattle.log_store.specs.declared.claims.Claims.{Claims}
+use Rattle.log_store.specs.declared.claims.Hold.{Hold}
 use Rattle.log_store.specs.declared.open_entry.OpenEntry.{OpenEntry}
 use Rattle.log_store.specs.declared.seat_set.TheConstants.{SEATS}
-use Rattle.log_store.specs.Claims.{hold_at}
+use Rattle.log_store.specs.Claims.{claim_at, has_seat, hold_at, hold_in, no_claim, seats_against}
 use Rattle.log_store.specs.OpenEntry.{AreStacked, IsHeld, KeepsSeat, changes_of, entry_view, hold_among, hold_by}
 use Rattle.log_store.specs.OpenTransactions.{AreRanked, IsSound, Tracks, key_of}
-use Rattle.log_store.specs.Table.{Entry, Table, entry_in}
+use Rattle.log_store.specs.Table.{Entry, Table, entry_in, holder_in}
+use Rattle.log_store.specs.Transactions.{keeps_out}
+use Rattle.log_store.proofs.Firsts.{least-first}
+use Rattle.log_store.proofs.Holds.{hold_in-no_claim}
 use Rattle.log_store.proofs.Ranks.{all-push, all-remove, hold-at, hold-push, hold-remove, hold-set, keys-set, ranked-push, ranked-remove, view-remove, view-set}
 
 -- ---- one of them
@@ -209,3 +216,37 @@ module _ {begun i t : ℕ} {xs : List OpenEntry} {x : OpenEntry} {before : Claim
   view-drop e txn seat =
       view-remove t xs i x tracks.ranked at.within (ap (λ (y : OpenEntry). y.txn) at.there ∙ at.txn)
       ∙ ap (map entry_view) (sym (remove-set xs i e at.within))
+
+-- ---- what a slot's claim says of an entry
+
+kept-out : (kind : ChangeKind) (claim : Claim) (e : OpenEntry) (page slot : ℕ)
+    → hold_in claim e.seat ≡ hold_by (changes_of e.pending.items) page slot
+    → list_any (keeps_out page slot kind) (changes_of e.pending.items) ≡ has_seat (seats_against claim kind) e.seat
+unfolding hold_by
+kept-out kinds.Set claim e page slot h = sym (ap (λ (x : Hold). x.against_sets) h)
+kept-out kinds.Add claim e page slot h = sym (ap (λ (x : Hold). x.against_adds) h)
+
+pub least-holder : {begun : ℕ} {claims : Claims} {xs : List OpenEntry} (page slot : ℕ) (kind : ChangeKind) (t : ℕ) → Tracks begun claims xs
+    → holder_in (record { begun = begun; entries = map entry_view xs }) page slot kind t
+    ≡ option_map (λ e. e.txn) (find (λ e. not (eqb e.txn t) && has_seat (seats_against (claim_at claims page slot) kind) e.seat) xs)
+least-holder {begun} {claims} {xs} page slot kind t tracks =
+    least-first (λ v. not (eqb v.txn t) && list_any (keeps_out page slot kind) v.pending)
+    (λ e. not (eqb e.txn t) && has_seat (seats_against (claim_at claims page slot) kind) e.seat) xs tracks.ranked
+    (λ i d l. ap (λ b. not (eqb (get_or xs i d).txn t) && b)
+    (kept-out kind (claim_at claims page slot) (get_or xs i d) page slot ((tracks-at i d tracks l).held page slot)))
+
+-- ---- no entry
+
+pub tracks-nil : (claims : Claims) → ((page slot : ℕ) → claim_at claims page slot ≡ no_claim) → Tracks 0 claims []
+tracks-nil claims none = record {
+  ranked = tt;
+  reached = tt;
+  sound = All-nil IsSound;
+  held = λ page slot seat within. ap (λ k. hold_in k seat) (none page slot) ∙ hold_in-no_claim seat;
+}
+
+pub match_some : {X : Type 0} (o : Option X) (x : X) (P : Type 0) (Q : X → Type 0) → o ≡ Some x → Q x → MatchOption o P Q
+match_some o x P Q e q = subst (λ v. MatchOption v P Q) (sym e) q
+
+pub match_none : {X : Type 0} (o : Option X) (P : Type 0) (Q : X → Type 0) → o ≡ None → P → MatchOption o P Q
+match_none o P Q e p = subst (λ v. MatchOption v P Q) (sym e) p

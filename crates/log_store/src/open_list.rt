@@ -24,6 +24,14 @@ pub fn place_from(entries: &[OpenEntry], from: TxnNo) -> Option<usize>
     entries.iter().position(|entry| entry.txn >= from)
 }
 
+/// It is not this transaction, and has its seat in the set.
+fn is_other(entry: &OpenEntry, seats: SeatSet, txn: TxnNo) -> bool
+    requires { entry.now.seat < SEATS }
+    ensures { result ≡ (not (entry.now.txn == txn) && has_seat seats entry.now.seat) }
+{
+    entry.txn != txn && seats.contains(entry.seat)
+}
+
 /// The first transaction but this one that has its seat in the set.
 pub fn first_other(entries: &[OpenEntry], seats: SeatSet, txn: TxnNo) -> Option<TxnNo>
     requires { All (λ e. e.seat < SEATS) entries.now }
@@ -34,7 +42,7 @@ pub fn first_other(entries: &[OpenEntry], seats: SeatSet, txn: TxnNo) -> Option<
         return None;
     }
     for entry in entries {
-        if entry.txn != txn && seats.contains(entry.seat) {
+        if is_other(entry, seats, txn) {
             return Some(entry.txn);
         }
     }
