@@ -43,7 +43,7 @@ impl History {
         ensures { IfOk result (IsMadeOf (record { pages = pages; records = [] })) }
     {
         Ok(History {
-            txns: OpenTransactions::new(alloc)?,
+            txns: OpenTransactions::new(alloc),
             pages: formatted_pages(alloc, pages)?,
         })
     }

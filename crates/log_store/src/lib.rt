@@ -1,6 +1,8 @@
-//! The records of the log, their bytes, the reading of a whole log, and a log that is written.
+//! The records of the log, their bytes and their chain, the reading of a whole log, and a log that is
+//! written.
 #![tactic(auto)]
 
+mod claims;
 mod codec;
 mod device;
 mod failures;
@@ -15,6 +17,8 @@ mod limits;
 mod log;
 mod log_image;
 mod mem_device;
+mod open_entry;
+mod open_list;
 mod open_transactions;
 mod page_change;
 mod pending_change;
@@ -22,6 +26,7 @@ mod place;
 mod read;
 mod record;
 mod scan;
+mod seat_set;
 mod sink;
 mod txn_state;
 mod volume;
@@ -53,5 +58,7 @@ pub use sink::RecordSink;
 pub use txn_state::TxnState;
 pub use volume::{formatted_pages, redo_on_its_page};
 
+#[cfg(test)]
+mod open_tests;
 #[cfg(test)]
 mod tests;

@@ -9,7 +9,7 @@ use Rattle.log_store.specs.declared.record.Record.TheVariants.{Begin, Update, Co
 use Rattle.log_store.specs.declared.txn_state.TxnState.{TxnState}
 use Rattle.log_store.specs.Table.{Entry, Table, entry_in, entry_of, table_of}
 use Rattle.log_store.specs.Transactions.{begun, is_open, last_of, pending}
-use Rattle.log_store.specs.TxnState.{txn_state}
+use Rattle.log_store.specs.TxnState.{state_of}
 use Rattle.log_store.proofs.Checks.{entry_in-table_of}
 use Rattle.txn_table.specs.TxnTable.{IsTableOf}
 
@@ -24,13 +24,13 @@ begun_few (Abort lsn txn prev ∷ rs) = let few = begun_few rs in omega arith
 begun_few (End lsn txn prev ∷ rs) = let few = begun_few rs in omega arith
 
 pub state_is : (rs : List Record) (table : Table) (t : ℕ) → IsTableOf rs table
-    → option_map txn_state (entry_in table t) ≡ (if is_open rs t then Some (txn_state (entry_of rs t)) else None)
+    → option_map state_of (entry_in table t) ≡ (if is_open rs t then Some (state_of (entry_of rs t)) else None)
 state_is rs table t of =
-    ap (λ (x : Table). option_map txn_state (entry_in x t)) of.made ∙ ap (option_map txn_state) (entry_in-table_of rs t)
+    ap (λ (x : Table). option_map state_of (entry_in x t)) of.made ∙ ap (option_map state_of) (entry_in-table_of rs t)
     ∙ choose (is_open rs t)
   where
-    choose : (b : Bool) → option_map txn_state (cond b (Some (entry_of rs t)) None)
-        ≡ cond b (Some (txn_state (entry_of rs t))) None
+    choose : (b : Bool) → option_map state_of (cond b (Some (entry_of rs t)) None)
+        ≡ cond b (Some (state_of (entry_of rs t))) None
     choose true = refl
     choose false = refl
 

@@ -1,13 +1,13 @@
 //! The table of open transactions.
 
-ghost use Rattle.std.specs.Prelude.{ℕ, ◌≡◌, ◌+◌, ◌<◌, ◌++◌, ◌∷◌, [], List, length, IfOk, OnOk, OnErr};
+ghost use Rattle.std.specs.Prelude.{ℕ, ◌≡◌, ◌+◌, ◌<◌, ◌≤◌, ◌++◌, ◌∷◌, [], List, length, IfOk, OnOk, OnErr};
 ghost use Rattle.std.specs.Prelude.{if◌then◌else◌, Some, None};
 ghost use Rattle.log_store.specs.declared.record.Record.{Record};
 ghost use Rattle.log_store.specs.Linked.{MayFollow};
 ghost use Rattle.log_store.specs.Transactions.{begun, holder, is_open, last_of, open_in, owed};
 ghost use Rattle.log_store.specs.Transactions.{pending};
 ghost use Rattle.log_store.specs.Table.{entry_of, table_of};
-ghost use Rattle.log_store.specs.TxnState.{txn_state};
+ghost use Rattle.log_store.specs.TxnState.{state_of};
 ghost use Rattle.txn_table.specs.TxnTable.{IsTableOf};
 
 use log_store::{OpenTransactions, PendingChange, Record, TxnState};
@@ -32,12 +32,12 @@ impl Model for TxnTable {
 
 impl TxnTable {
     /// The table of a log without records.
-    pub fn new(alloc: Global) -> Result<TxnTable, AllocError>
-        ensures { IfOk result (λ table. table ≡ table_of []) }
+    pub fn new(alloc: Global) -> TxnTable
+        ensures { result ≡ table_of [] }
     {
-        Ok(TxnTable {
-            open: OpenTransactions::new(alloc)?,
-        })
+        TxnTable {
+            open: OpenTransactions::new(alloc),
+        }
     }
 
     /// The number of the next transaction.
@@ -84,7 +84,7 @@ impl TxnTable {
     /// What the table has of a transaction, if it is open.
     pub fn entry(&self, txn: TxnNo) -> Option<TxnState>
         ensures { (rs : List Record) → IsTableOf rs self.now
-            → result ≡ (if is_open rs txn then Some (txn_state (entry_of rs txn)) else None) }
+            → result ≡ (if is_open rs txn then Some (state_of (entry_of rs txn)) else None) }
     {
         self.open.state(txn)
     }
@@ -99,7 +99,8 @@ impl TxnTable {
 
     /// How many records the open transactions may still need.
     pub fn owed(&self) -> u64
-        ensures { (rs : List Record) → IsTableOf rs self.now → result ≡ owed rs }
+        ensures { (rs : List Record) → IsTableOf rs self.now → owed rs ≤ u64.MAX
+            → result ≡ owed rs }
     {
         self.open.owed()
     }

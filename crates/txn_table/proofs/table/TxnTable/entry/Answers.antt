@@ -1,11 +1,11 @@
 use Rattle.std.proofs.Common.{◌≡◌, ap, ◌∙◌}
 use Rattle.std.specs.Option.{option_map}
 use Rattle.log_store.specs.Table.{Table, entry_in}
-use Rattle.log_store.specs.TxnState.{txn_state}
+use Rattle.log_store.specs.TxnState.{state_of}
 use Rattle.txn_table.proofs.Tables.{state_is}
 use Rattle.txn_table.proofs.table.TxnTable.entry.Goals as goal
 
 pub returns : goal.returns
 returns c = λ rs of.
-    c.state.ensures ∙ ap (λ (t : Table). option_map txn_state (entry_in t c.args.txn)) c.self.view_is
+    c.state.ensures ∙ ap (λ (t : Table). option_map state_of (entry_in t c.args.txn)) c.self.view_is
     ∙ state_is rs c.args.self.now c.args.txn of
