@@ -120,6 +120,7 @@ class History:
     """The records of a log so far, and which record may come next."""
 
     def __init__(self, pages):
+        self.pages = pages
         self.end = HEADER_SIZE  # the LSN of the next record
         self.begun = 0  # how many transactions began
         self.open = {}  # each open transaction by its number
