@@ -2,20 +2,22 @@
 //!
 //! Each function takes a record, and gives `None` if it may not come next. After that no more is to be taken.
 
-use crate::claims::{place, Claim, Claims};
+use crate::claims::{place, Claims, Held};
 use crate::MOST_OPEN;
 
 /// In the place of the seat of a transaction that is not open any more.
 const NO_SEAT: u8 = MOST_OPEN as u8;
 
+/// A Set keeps out more than an Add does, and is the greater one.
 #[derive(Clone, Copy, PartialEq)]
+#[repr(u8)]
 pub enum ChangeKind {
-    Set,
-    Add,
+    Add = 0x40,
+    Set = 0x80,
 }
 
 /// A Set to the number, or an Add of it.
-#[derive(Clone, Copy)]
+#[derive(Clone, Copy, PartialEq)]
 pub struct Change {
     pub page: u16,
     pub slot: u8,
@@ -36,12 +38,10 @@ struct Transaction {
 
 /// An Update that no Comp has taken back.
 struct Pending {
-    /// The number of the change that takes it back.
-    undo: u64,
+    /// The change that takes it back.
+    undo: Change,
     previous: u32,
-    page: u16,
-    slot: u8,
-    claim: Claim,
+    held: Held,
 }
 
 pub struct Chains {
@@ -62,6 +62,12 @@ impl Chains {
             free_seats: u64::MAX,
             claims: Claims::new(pages),
         }
+    }
+
+    /// A byte that says who holds a slot, so that it comes from memory; 0 where there is no such slot.
+    #[inline]
+    pub fn claim(&self, page: u16, slot: u8) -> u8 {
+        self.claims.byte(place(page, slot))
     }
 
     pub fn begin(&mut self, transaction: u32, lsn: u64) -> Option<()> {
@@ -99,20 +105,16 @@ impl Chains {
         before: u64,
     ) -> Option<()> {
         let place = place(change.page, change.slot);
-        let (claim, undo) = match change.kind {
-            ChangeKind::Set => (self.claims.set(place, seat.0)?, before),
-            ChangeKind::Add => (
-                self.claims.add(place, seat.0)?,
-                change.number.wrapping_neg(),
-            ),
+        let held = self.claims.take(place, seat.0, change.kind)?;
+        let number = match change.kind {
+            ChangeKind::Set => before,
+            ChangeKind::Add => change.number.wrapping_neg(),
         };
         let open = &mut self.open[usize::from(seat.0)];
         open.pending.push(Pending {
-            undo,
+            undo: Change { number, ..*change },
             previous: previous as u32,
-            page: change.page,
-            slot: change.slot,
-            claim,
+            held,
         });
         (!open.is_rolling).then_some(())
     }
@@ -122,15 +124,11 @@ impl Chains {
         let open = &mut self.open[usize::from(seat.0)];
         open.is_rolling = true;
         let pending = open.pending.pop()?;
-        let is_undo = change.page == pending.page
-            && change.slot == pending.slot
-            && change.kind == pending.claim.kind()
-            && change.number == pending.undo;
-        if !is_undo || undo_next != u64::from(pending.previous) {
+        if *change != pending.undo || undo_next != u64::from(pending.previous) {
             return None;
         }
-        self.claims
-            .release(place(pending.page, pending.slot), seat.0, pending.claim);
+        let place = place(change.page, change.slot);
+        self.claims.release(place, seat.0, pending.held);
         Some(())
     }
 
@@ -146,8 +144,8 @@ impl Chains {
             return None;
         }
         for pending in open.pending.drain(..).rev() {
-            self.claims
-                .release(place(pending.page, pending.slot), seat.0, pending.claim);
+            let place = place(pending.undo.page, pending.undo.slot);
+            self.claims.release(place, seat.0, pending.held);
         }
         self.close(transaction, seat);
         Some(())

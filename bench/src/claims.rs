@@ -1,51 +1,29 @@
 //! Which open transactions hold a slot by their pending changes.
 //!
-//! A slot has one byte, and nearly always the byte says it all: free, or held by one transaction. The table of bytes is
-//! an eighth of the volume, so a look at it costs little beside the look at the page. The slots to which several
-//! transactions add, of which there are few, have their transactions in a map.
+//! A slot has one byte, and nearly always the byte says it all: free, or held by one transaction. These bytes are an
+//! eighth of the volume. The slots to which several transactions add, of which there are few, have their transactions
+//! in a map. A map of all held slots takes as long on a large volume, and half as long again on a small one.
 
 use crate::chains::ChangeKind;
 use crate::SLOTS;
-use std::collections::HashMap;
+use std::collections::hash_map::{Entry, HashMap};
 use std::hash::{BuildHasherDefault, Hasher};
 
 /// The byte of a slot that no pending change is on.
 const FREE: u8 = 0;
-/// The bytes of a slot that one transaction holds, by Adds alone or also by a Set: these and its seat.
-const ADDED: u8 = 0x40;
-const SET: u8 = 0x80;
 /// The byte of a slot to which two transactions or more add.
 const SHARED: u8 = 0xc0;
 
-/// The lowest bits of a byte, and of a place, that number a seat and a slot.
-const SEAT: u8 = 0x3f;
+/// The bits of a byte, and of a place, that number a seat and a slot. The other bits of a byte are the kind of change
+/// by which the seat's transaction holds the slot.
+const SEAT_BITS: u8 = 0x3f;
 const SLOT_BITS: u32 = 6;
 const _: () = assert!(SLOTS <= 1 << SLOT_BITS);
 
-/// A change, and what it added to what its transaction holds. Its release takes that away again. The changes of a
-/// transaction are released in the order from the last one to the first.
+/// How a transaction held a slot before a change: not at all, by Adds alone, or also by a Set. A transaction's changes
+/// are released from the last one to the first, so the release of a change brings this back.
 #[derive(Clone, Copy)]
-#[repr(u8)]
-pub enum Claim {
-    /// The transaction holds the slot by this change.
-    FirstSet,
-    FirstAdd,
-    /// It held the slot by Adds alone, and now by a Set.
-    RaisingSet,
-    /// It has the claim by a change before.
-    LaterSet,
-    LaterAdd,
-}
-
-impl Claim {
-    #[inline]
-    pub fn kind(self) -> ChangeKind {
-        match self {
-            Claim::FirstSet | Claim::RaisingSet | Claim::LaterSet => ChangeKind::Set,
-            Claim::FirstAdd | Claim::LaterAdd => ChangeKind::Add,
-        }
-    }
-}
+pub struct Held(u8);
 
 pub struct Claims {
     bytes: Vec<u8>,
@@ -60,63 +38,63 @@ impl Claims {
         }
     }
 
-    /// The claim of a Set, unless another transaction holds the slot.
+    /// Takes the claim of a change, unless another transaction holds the slot against it.
     #[inline]
-    pub fn set(&mut self, place: u32, seat: u8) -> Option<Claim> {
+    pub fn take(&mut self, place: u32, seat: u8, kind: ChangeKind) -> Option<Held> {
         let byte = &mut self.bytes[place as usize];
-        let claim = match *byte {
-            FREE => Claim::FirstSet,
-            held if held == SET | seat => Claim::LaterSet,
-            held if held == ADDED | seat => Claim::RaisingSet,
-            _ => return None,
-        };
-        *byte = SET | seat;
-        Some(claim)
+        if *byte == FREE {
+            *byte = kind as u8 | seat;
+            return Some(Held(FREE));
+        }
+        if *byte != SHARED && *byte & SEAT_BITS == seat {
+            let held = *byte & !SEAT_BITS;
+            *byte = held.max(kind as u8) | seat;
+            return Some(Held(held));
+        }
+        self.share(place, seat, kind)
     }
 
-    /// The claim of an Add, unless another transaction holds the slot by a Set.
-    #[inline]
-    pub fn add(&mut self, place: u32, seat: u8) -> Option<Claim> {
+    /// Takes a claim on a slot that another transaction holds, too.
+    fn share(&mut self, place: u32, seat: u8, kind: ChangeKind) -> Option<Held> {
         let byte = &mut self.bytes[place as usize];
-        match *byte {
-            FREE => {
-                *byte = ADDED | seat;
-                Some(Claim::FirstAdd)
-            }
-            held if held == ADDED | seat || held == SET | seat => Some(Claim::LaterAdd),
-            SHARED => {
-                let adders = self.adders.entry(place).or_default();
-                let is_first = *adders & bit(seat) == 0;
-                *adders |= bit(seat);
-                Some(if is_first {
-                    Claim::FirstAdd
-                } else {
-                    Claim::LaterAdd
-                })
-            }
-            held if held & !SEAT == ADDED => {
-                *byte = SHARED;
-                self.adders.insert(place, bit(held & SEAT) | bit(seat));
-                Some(Claim::FirstAdd)
-            }
-            _ => None,
+        if kind == ChangeKind::Set || *byte & !SEAT_BITS == ChangeKind::Set as u8 {
+            return None;
+        }
+        let adders = self.adders.entry(place).or_default();
+        if *byte != SHARED {
+            *adders = bit(*byte & SEAT_BITS);
+            *byte = SHARED;
+        }
+        let had_it = *adders & bit(seat) != 0;
+        *adders |= bit(seat);
+        Some(Held(if had_it { ChangeKind::Add as u8 } else { FREE }))
+    }
+
+    #[inline]
+    pub fn byte(&self, place: u32) -> u8 {
+        *self.bytes.get(place as usize).unwrap_or(&FREE)
+    }
+
+    #[inline]
+    pub fn release(&mut self, place: u32, seat: u8, before: Held) {
+        let byte = &mut self.bytes[place as usize];
+        if *byte != SHARED {
+            *byte = if before.0 == FREE {
+                FREE
+            } else {
+                before.0 | seat
+            };
+        } else if before.0 == FREE {
+            self.leave(place, seat);
         }
     }
 
-    #[inline]
-    pub fn release(&mut self, place: u32, seat: u8, claim: Claim) {
-        let byte = &mut self.bytes[place as usize];
-        match claim {
-            Claim::LaterSet | Claim::LaterAdd => {}
-            Claim::RaisingSet => *byte = ADDED | seat,
-            Claim::FirstSet | Claim::FirstAdd if *byte != SHARED => *byte = FREE,
-            Claim::FirstSet | Claim::FirstAdd => {
-                let adders = self.adders.entry(place).or_default();
-                *adders &= !bit(seat);
-                if adders.is_power_of_two() {
-                    *byte = ADDED | adders.trailing_zeros() as u8;
-                    self.adders.remove(&place);
-                }
+    fn leave(&mut self, place: u32, seat: u8) {
+        if let Entry::Occupied(mut adders) = self.adders.entry(place) {
+            *adders.get_mut() &= !bit(seat);
+            if adders.get().is_power_of_two() {
+                let last = adders.remove().trailing_zeros() as u8;
+                self.bytes[place as usize] = ChangeKind::Add as u8 | last;
             }
         }
     }

@@ -12,6 +12,9 @@ use std::process::ExitCode;
 
 const CHUNK_SIZE: usize = 1 << 18;
 
+/// How many records are looked at ahead.
+const AHEAD: usize = 32;
+
 type Page = [u8; PAGE_SIZE];
 
 enum Fault {
@@ -127,18 +130,39 @@ impl Redo {
     }
 
     fn take_chunk(&mut self, chunk: &[u8]) -> Result<(), Fault> {
-        for bytes in chunk.chunks(RECORD_SIZE) {
-            if self.lsn == LONGEST_LOG {
-                return Err(Fault::TooLong);
+        for records in chunk.chunks(AHEAD * RECORD_SIZE) {
+            self.touch(records);
+            for bytes in records.chunks(RECORD_SIZE) {
+                self.take_bytes(bytes)?;
             }
-            if bytes.len() < RECORD_SIZE {
-                return Err(Fault::Torn(self.lsn));
-            }
-            let record =
-                read_record(bytes, self.lsn, self.page_count).ok_or(Fault::BadRecord(self.lsn))?;
-            self.take(&record).ok_or(Fault::BadChain(self.lsn))?;
-            self.lsn += RECORD_SIZE;
         }
+        Ok(())
+    }
+
+    /// Looks at the slots of these records, right or wrong, so that all of them come from memory at the same time.
+    fn touch(&self, records: &[u8]) {
+        let looks = records.chunks_exact(RECORD_SIZE).map(|bytes| {
+            let (number, slot) = halves(word(&bytes[24..32]));
+            let at = FIRST_SLOT + 8 * usize::from(slot as u8);
+            let page = self.volume.get(number as usize);
+            let claim = self.chains.claim(number as u16, slot as u8);
+            claim ^ page.map_or(0, |page| page[8] ^ page.get(at).unwrap_or(&0))
+        });
+        std::hint::black_box(looks.fold(0, |all, byte| all ^ byte));
+    }
+
+    #[inline]
+    fn take_bytes(&mut self, bytes: &[u8]) -> Result<(), Fault> {
+        if self.lsn == LONGEST_LOG {
+            return Err(Fault::TooLong);
+        }
+        if bytes.len() < RECORD_SIZE {
+            return Err(Fault::Torn(self.lsn));
+        }
+        let record =
+            read_record(bytes, self.lsn, self.page_count).ok_or(Fault::BadRecord(self.lsn))?;
+        self.take(&record).ok_or(Fault::BadChain(self.lsn))?;
+        self.lsn += RECORD_SIZE;
         Ok(())
     }
 
@@ -155,7 +179,7 @@ impl Redo {
             Step::Update { change, before } => {
                 self.chains.update(seat, previous, change, *before)?;
                 let replaced = self.apply(change);
-                (change.kind == ChangeKind::Add || replaced == *before).then_some(())
+                ((change.kind == ChangeKind::Add) | (replaced == *before)).then_some(())
             }
             Step::Comp { change, undo_next } => {
                 self.chains.compensate(seat, change, *undo_next)?;
@@ -176,10 +200,12 @@ impl Redo {
         let at = FIRST_SLOT + 8 * usize::from(change.slot);
         let slot = &mut page[at..at + 8];
         let before = word(slot);
-        let after = match change.kind {
-            ChangeKind::Set => change.number,
-            ChangeKind::Add => before.wrapping_add(change.number),
+        let base = if change.kind == ChangeKind::Add {
+            before
+        } else {
+            0
         };
+        let after = base.wrapping_add(change.number);
         slot.copy_from_slice(&after.to_le_bytes());
         before
     }
@@ -223,7 +249,7 @@ fn read_record(bytes: &[u8], lsn: usize, page_count: u32) -> Option<Record> {
         BEGIN if previous == 0 && undo_next == 0 && no_change => Step::Begin,
         UPDATE if is_chained => Step::Update {
             change: read_change(place, number, page_count)
-                .filter(|change| change.kind == ChangeKind::Set || before == 0)?,
+                .filter(|change| (change.kind == ChangeKind::Set) | (before == 0))?,
             before,
         },
         COMP if is_chained && is_before(undo_next, own) && before == 0 => Step::Comp {
@@ -250,15 +276,15 @@ fn is_before(lsn: u64, own: u64) -> bool {
 fn read_change(place: u64, number: u64, page_count: u32) -> Option<Change> {
     let (page, slot_and_kind) = halves(place);
     let (slot, kind) = (slot_and_kind as u16, (slot_and_kind >> 16) as u16);
-    let kind = match kind {
-        SET => ChangeKind::Set,
-        ADD => ChangeKind::Add,
-        _ => return None,
-    };
-    (page < page_count && usize::from(slot) < SLOTS).then_some(Change {
+    let is_change = (kind == SET) | (kind == ADD);
+    (is_change && page < page_count && usize::from(slot) < SLOTS).then_some(Change {
         page: page as u16,
         slot: slot as u8,
-        kind,
+        kind: if kind == SET {
+            ChangeKind::Set
+        } else {
+            ChangeKind::Add
+        },
         number,
     })
 }
