@@ -10,13 +10,15 @@ them, and logs made one byte and one record too long. `answer` says what each mu
 import copy
 import os
 import shutil
+import signal
 import subprocess
 import sys
 import tempfile
-from concurrent.futures import ThreadPoolExecutor
+from concurrent.futures import ProcessPoolExecutor
+from itertools import repeat
 
 import spoiled_logs
-from log_format import (COMMIT, HEADER_SIZE, LONGEST_LOG, MOST_RECORDS, RECORD_SIZE, History, decode_record,
+from log_format import (ABORT, HEADER_SIZE, LONGEST_LOG, MOST_RECORDS, RECORD_SIZE, History, decode_record,
                         fault_of_header, fault_of_record, page_count)
 
 
@@ -61,13 +63,13 @@ def read_record(data, at, history):
     return record
 
 
-def check(program, name, log, wanted):
+def check(program, name, log, wanted=None):
     """Fails unless the program answers as it must."""
     with tempfile.TemporaryFile() as source:
         source.write(log)
         source.seek(0)
         done = subprocess.run([program, "redo"], stdin=source, capture_output=True)
-    given = done.returncode, done.stdout, done.stderr
+    given, wanted = (done.returncode, done.stdout, done.stderr), wanted or answer(log)
     if given != wanted:
         raise Failure(f"{name}: {describe(given)} in place of {describe(wanted)}")
 
@@ -89,45 +91,47 @@ def small_logs():
         yield name, log
 
 
-def long_logs():
-    """Each long log with its name and its answer. The records before the last are read once for all of them."""
-    for name, records in (("pairs", spoiled_logs.longest_pairs()), ("rollback", spoiled_logs.longest_rollback())):
-        log = spoiled_logs.log_of(records, pages=1)
-        history = History(pages=1)
-        last = log[-RECORD_SIZE:]
-        for at in range(HEADER_SIZE, len(log) - RECORD_SIZE, RECORD_SIZE):
-            history.take(read_record(log[at:at + RECORD_SIZE], at, history))
-        unchained = decode_record(last)._replace(transaction=MOST_RECORDS).encode()
-        uncommitted = decode_record(last)._replace(kind=COMMIT).encode()
-        for words, end in {
-            "": last,
-            " and one byte": last + b"\0",
-            " and one record": last + last,
-            " without its last byte": last[:-1],
-            " with a misspelt last record, and one byte": last[:-1] + b"\1\0",
-            " with an unchained last record, and one byte": unchained + b"\0",
-            " with a misspelt and unchained last record": unchained[:-1] + b"\1",
-            " with a Commit at its end": uncommitted,
-        }.items():
-            spoiled = log[:-RECORD_SIZE] + end
-            yield f"the longest log of {name}{words}", spoiled, answer(spoiled, copy.deepcopy(history))
+LONGEST = {"pairs": spoiled_logs.longest_pairs, "rollback": spoiled_logs.longest_rollback}
+
+
+def check_longest(program, name):
+    """Checks one of the longest logs with other ends, and gives their count. All but the end is read only once."""
+    log = spoiled_logs.log_of(LONGEST[name](), pages=1)
+    front, last = log[:-RECORD_SIZE], log[-RECORD_SIZE:]
+    history = History(pages=1)
+    for at in range(HEADER_SIZE, len(front), RECORD_SIZE):
+        history.take(read_record(front[at:at + RECORD_SIZE], at, history))
+    unchained = decode_record(last)._replace(transaction=MOST_RECORDS).encode()
+    ends = {
+        "": last,
+        " and one byte": last + b"\0",
+        " and one record": last + last,
+        " without its last byte": last[:-1],
+        " with a misspelt last record, and one byte": last[:-1] + b"\1\0",
+        " with an unchained last record, and one byte": unchained + b"\0",
+        " with a misspelt and unchained last record": unchained[:-1] + b"\1",
+        " with an Abort at its end": decode_record(last)._replace(kind=ABORT).encode(),
+    }
+    for words, end in ends.items():
+        check(program, f"the longest log of {name}{words}", front + end, answer(front + end, copy.deepcopy(history)))
+    return len(ends)
 
 
 def compare(program):
     """How many answers were compared."""
-    with ThreadPoolExecutor(os.cpu_count()) as pool:
-        logs = list(small_logs())
-        count = sum(1 for _ in pool.map(lambda one: check(program, *one, answer(one[1])), logs))
-    for name, log, wanted in long_logs():
-        check(program, name, log, wanted)
-        count += 1
-    return count
+    names, logs = zip(*small_logs())
+    with ProcessPoolExecutor(os.cpu_count()) as pool:
+        longest = [pool.submit(check_longest, program, name) for name in LONGEST]
+        for _ in pool.map(check, repeat(program), names, logs, chunksize=50):
+            pass
+        return len(logs) + sum(one.result() for one in longest)
 
 
 def main(arguments):
     try:
         if len(arguments) != 1:
             raise Failure("one argument is wanted, the program to check")
+        signal.signal(signal.SIGTERM, lambda *_: sys.exit("faults.py: ended by a signal"))
         program = shutil.which(arguments[0])
         if program is None:
             raise Failure(f"there is no program {arguments[0]}")
