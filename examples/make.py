@@ -10,8 +10,8 @@ import random
 import sys
 from pathlib import Path
 
-from log_format import (ABORT, ADD, BEGIN, COMMIT, COMP, END, NO_CHANGE, RECORD_SIZE, SET, SLOTS, UPDATE, Change, Record,
-                        Volume, encode_header, lsn_of)
+from log_format import (ABORT, ADD, BEGIN, COMMIT, COMP, END, NO_CHANGE, RECORD_SIZE, SET, SLOTS, UPDATE, Change,
+                        Record, Volume, encode_header, lsn_of)
 
 
 class Log:

@@ -317,7 +317,7 @@ def compensations():
 
 
 def two_faults():
-    """A fault of a chain and a fault of spelling in one log, at each two records; and a fault of a chain in a torn log."""
+    """A fault of a chain at each record: with a misspelt record in the same log, at each place, and in a torn log."""
     records = BASES["rollback"]
     for chain in range(len(records)):
         unchained = with_fields(records, chain, transaction=9)
@@ -353,7 +353,7 @@ def drawn_step(draw, begun):
 
 
 def scenarios():
-    """Each log of SCENARIOS, and others with many transactions; and the offset of the record that is marked, or None."""
+    """The logs of SCENARIOS and others with many transactions, each with the offset of its marked record, or None."""
     everyone = begins(MOST_OPEN)
     crowds = [everyone, f"{everyone} !begin65", f"{everyone} commit9 begin65 !begin66", f"{everyone} end64 begin65",
               f"{everyone} abort3 !begin65", f"{everyone} set3a comp3 !begin65", f"{everyone} set3a comp3 end3 begin65",
