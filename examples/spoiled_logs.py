@@ -170,6 +170,11 @@ SCENARIOS = """
     begin1 begin2 set1a add1a comp1 !add2a
     begin1 begin2 add1a set1a comp1 add2a
     begin1 begin2 add1a set1a comp1 !set2a
+    begin1 begin2 add1a add2a add1a comp1 !set2a
+    begin1 begin2 add1a add2a add2a comp2 !set1a
+    begin1 begin2 add1a add2a add1a comp1 comp1 set2a
+    begin1 begin2 add1a add2a add1a commit1 set2a
+    begin1 begin2 begin3 add1a add2a add2a comp2 commit1 !set3a
     begin1 begin2 begin3 add1a add2a commit1 !set3a
     begin1 begin2 begin3 add1a add2a commit2 !set3a
     begin1 begin2 begin3 add1a add2a commit2 commit1 set3a
