@@ -52,6 +52,8 @@ INPUTS = [
     *(Input("uniform", "uniform", records, 65536) for records in (65536, 131072, 262144, 524288, 1048576)),
     Input("hot", "hot", 1048576, 1024),
     Input("short", "short", 1048576, 65536),
+    Input("interleaved", "interleaved", 1048576, 65536),
+    Input("rollback", "rollback", 1048576, 65536),
     Input("small", "uniform", 65536, 1024),
 ]
 

@@ -5,12 +5,14 @@ A volume is its pages of 512 bytes one after the other. All numbers are little-e
 """
 
 import struct
+from collections import Counter, defaultdict
 from typing import NamedTuple
 
 MAGIC = b"AIMGLOG1"
 HEADER_SIZE = 64
 RECORD_SIZE = 64
 MOST_RECORDS = 2**20
+MOST_OPEN = 64
 LONGEST_LOG = HEADER_SIZE + RECORD_SIZE * MOST_RECORDS
 
 PAGE_SIZE = 512
@@ -64,6 +66,10 @@ class Change(NamedTuple):
         """The slot's number after this change."""
         return self.number if self.kind == SET else (number + self.number) % 2**64
 
+    def undo(self):
+        """The change of the Comp that takes this one back."""
+        return self._replace(before=0, number=self.before if self.kind == SET else -self.number % 2**64)
+
 
 NO_CHANGE = Change(page=0, slot=0, kind=0, before=0, number=0)
 
@@ -99,6 +105,102 @@ class Volume:
     def encode(self):
         pages = zip(self.lsns, self.slots)
         return b"".join(PAGE.pack(number, PAGE_FORMAT, lsn, *slots) for number, (lsn, slots) in enumerate(pages))
+
+
+class Transaction:
+    """An open transaction. Its pending changes are its Updates that no Comp has taken back, the oldest first."""
+
+    def __init__(self):
+        self.last_lsn = 0
+        self.is_rolling = False
+        self.pending = []
+
+
+class History:
+    """The records of a log so far, and which record may come next."""
+
+    def __init__(self, pages):
+        self.pages = pages
+        self.end = HEADER_SIZE  # the LSN of the next record
+        self.begun = 0  # how many transactions began
+        self.open = {}  # each open transaction by its number
+        self.claims = defaultdict(Counter)  # by slot: of which transactions and kinds changes are pending there
+        self.volume = Volume(pages)
+
+    def fault(self, record):
+        """Why this record, which is spelt right, may not come next, in words, or None."""
+        if record.kind == BEGIN:
+            return self.fault_of_begin(record)
+        number, transaction = record.transaction, self.open.get(record.transaction)
+        if transaction is None:
+            return f"transaction {number} is not open"
+        if record.previous != transaction.last_lsn:
+            return f"the PrevLSN is {record.previous}, and transaction {number} has its last record at" \
+                   f" {transaction.last_lsn}"
+        if record.kind in (UPDATE, COMMIT, ABORT) and transaction.is_rolling:
+            return f"transaction {number} is rolling back"
+        if record.kind == UPDATE:
+            return self.fault_of_update(record)
+        if record.kind == COMP:
+            return self.fault_of_comp(record, transaction)
+        if record.kind == END and transaction.pending:
+            return f"transaction {number} ends, and its change at {transaction.pending[-1].lsn} is pending"
+        return None
+
+    def fault_of_begin(self, record):
+        if record.transaction != self.begun + 1:
+            return f"transaction {record.transaction} begins, and the next one is {self.begun + 1}"
+        if len(self.open) >= MOST_OPEN:
+            return f"{MOST_OPEN} transactions are open"
+        return None
+
+    def fault_of_update(self, record):
+        change = record.change
+        for other, kind in self.claims_of(record):
+            if other != record.transaction and SET in (kind, change.kind):
+                return f"transaction {other} holds the slot"
+        number = self.volume.slots[change.page][change.slot]
+        if change.kind == SET and change.before != number:
+            return f"the number before is {change.before}, and the slot has {number}"
+        return None
+
+    def fault_of_comp(self, record, transaction):
+        if not transaction.pending:
+            return f"transaction {record.transaction} has no pending change"
+        update = transaction.pending[-1]
+        if record.change != update.change.undo():
+            return f"the change does not take back the one at {update.lsn}"
+        if record.undo_next != update.previous:
+            return f"the UndoNxtLSN is {record.undo_next}, and the change at {update.lsn} has PrevLSN {update.previous}"
+        return None
+
+    def take(self, record):
+        """Adds the next record, which has no fault."""
+        if record.kind == BEGIN:
+            self.begun += 1
+            self.open[record.transaction] = Transaction()
+        transaction = self.open[record.transaction]
+        transaction.last_lsn = record.lsn
+        if record.kind == UPDATE:
+            transaction.pending.append(record)
+            self.claims_of(record)[record.transaction, record.change.kind] += 1
+        elif record.kind == COMP:
+            self.release(transaction.pending.pop())
+        elif record.kind in (COMMIT, END):
+            for update in self.open.pop(record.transaction).pending:
+                self.release(update)
+        transaction.is_rolling |= record.kind in (COMP, ABORT)
+        self.volume.redo(record)
+        self.end += RECORD_SIZE
+
+    def claims_of(self, update):
+        return self.claims[update.change.page, update.change.slot]
+
+    def release(self, update):
+        claims, claim = self.claims_of(update), (update.transaction, update.change.kind)
+        claims[claim] -= 1
+        if claims[claim] == 0:
+            del claims[claim]
 
 
 def encode_header(pages):

@@ -10,11 +10,13 @@ import random
 import sys
 from pathlib import Path
 
-from log_format import (ADD, BEGIN, COMMIT, NO_CHANGE, RECORD_SIZE, SET, SLOTS, UPDATE, Change, Record, Volume,
-                        encode_header, lsn_of)
+from log_format import (ABORT, ADD, BEGIN, COMMIT, COMP, END, NO_CHANGE, RECORD_SIZE, SET, SLOTS, UPDATE, Change,
+                        Record, Volume, encode_header, lsn_of)
 
 
 class Log:
+    """A log that is written record by record, each chained to its transaction's last one."""
+
     def __init__(self, pages):
         self.pages = pages
         self.records = []
@@ -31,10 +33,31 @@ class Log:
         self.append(COMMIT, transaction)
         del self.open[transaction]
 
-    def append(self, kind, transaction, change=NO_CHANGE):
+    def abort(self, transaction):
+        self.append(ABORT, transaction)
+
+    def compensate(self, transaction):
+        """Takes back the transaction's last change that is not taken back yet."""
+        update = self.pending(transaction)[-1]
+        self.append(COMP, transaction, update.change.undo(), undo_next=update.previous)
+
+    def end(self, transaction):
+        self.append(END, transaction)
+        del self.open[transaction]
+
+    def pending(self, transaction):
+        updates = []
+        for record in self.open[transaction]:
+            if record.kind == UPDATE:
+                updates.append(record)
+            elif record.kind == COMP:
+                updates.pop()
+        return updates
+
+    def append(self, kind, transaction, change=NO_CHANGE, undo_next=0):
         earlier = self.open[transaction]
         previous = earlier[-1].lsn if earlier else 0
-        record = Record(kind, transaction, previous, change, lsn=lsn_of(len(self.records)))
+        record = Record(kind, transaction, previous, change, undo_next, lsn_of(len(self.records)))
         self.records.append(record)
         earlier.append(record)
 
@@ -108,6 +131,33 @@ def conflicts(log, transaction, change):
                for claim in claims)
 
 
+def rollback():
+    """Transaction 1 takes back all that it did. Transaction 2 takes back one of three changes, and stays open."""
+    log = Log(pages=2)
+    log.begin(1)
+    log.begin(2)
+    log.update(1, Change(page=0, slot=3, kind=SET, before=0, number=7))
+    log.update(2, Change(page=1, slot=61, kind=ADD, before=0, number=100))
+    log.update(1, Change(page=1, slot=61, kind=ADD, before=0, number=2**64 - 30))
+    log.update(1, Change(page=0, slot=3, kind=SET, before=7, number=9))
+    log.abort(1)
+    log.compensate(1)
+    log.compensate(1)
+    log.compensate(1)
+    log.end(1)
+    log.update(2, Change(page=0, slot=3, kind=SET, before=0, number=8))
+    log.update(2, Change(page=0, slot=3, kind=ADD, before=0, number=1))
+    log.compensate(2)
+    return log
+
+
+def bad_chain():
+    """The log of four records whose last one names another record of its transaction, and its fault line."""
+    log = four_records()
+    log.records[-1] = log.records[-1]._replace(previous=128)
+    return log.encode(), f"E35 BadChain {log.records[-1].lsn}\n"
+
+
 def torn():
     """The log of four records cut inside its last one, and the fault line that names the offset of that record."""
     length = 266
@@ -115,12 +165,12 @@ def torn():
 
 
 def main(folder):
-    for name, log in [("four_records", four_records()), ("interleaved", interleaved())]:
+    for name, log in [("four_records", four_records()), ("interleaved", interleaved()), ("rollback", rollback())]:
         (folder / f"{name}.log").write_bytes(log.encode())
         (folder / f"{name}.volume").write_bytes(volume_of(log))
-    log, fault = torn()
-    (folder / "torn.log").write_bytes(log)
-    (folder / "torn.fault").write_text(fault)
+    for name, (log, fault) in [("torn", torn()), ("bad_chain", bad_chain())]:
+        (folder / f"{name}.log").write_bytes(log)
+        (folder / f"{name}.fault").write_text(fault)
 
 
 if __name__ == "__main__":

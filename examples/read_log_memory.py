@@ -40,6 +40,10 @@ fn main(rt: HostRuntime) -> ExitCode {
 """
 
 OUT_OF_MEMORY = (2, b"", b"out of memory\n")
+TEXTS = {
+    "Torn": "the log ends within the record at {}",
+    "BadChain": "the record at {} may not follow those before it",
+}
 
 
 def build(folder):
@@ -63,9 +67,9 @@ def cases():
             answer = (0, b"", b"%d\n" % ((log.stat().st_size - HEADER_SIZE) // RECORD_SIZE))
         else:
             _, name, at = log.with_suffix(".fault").read_text().split()
-            if name != "Torn":
+            if name not in TEXTS:
                 raise Failure(f"{log.name}: the fault {name} has no text here")
-            answer = (2, b"", f"the log ends within the record at {at}\n".encode())
+            answer = (2, b"", f"{TEXTS[name].format(at)}\n".encode())
         yield Case([], log, answer)
 
 

@@ -10,7 +10,7 @@ Ends with status 1 if the log has a fault.
 import signal
 import sys
 
-from log_format import (ADD, HEADER_SIZE, KINDS, LONGEST_LOG, RECORD_SIZE, decode_record, fault_of_header,
+from log_format import (ADD, HEADER_SIZE, KINDS, LONGEST_LOG, RECORD_SIZE, History, decode_record, fault_of_header,
                         fault_of_record, page_count)
 
 
@@ -21,8 +21,10 @@ class Fault(Exception):
 def show(log):
     pages = read_header(log[:HEADER_SIZE])
     print(f"0  header  {pages} page{'s' if pages > 1 else ''}")
+    history = History(pages)
     for at in range(HEADER_SIZE, len(log), RECORD_SIZE):
-        record = read_record(log[at:at + RECORD_SIZE], at, pages)
+        record = read_record(log[at:at + RECORD_SIZE], at, pages, history)
+        history.take(record)
         print(f"{at}  {describe(record)}")
 
 
@@ -33,13 +35,13 @@ def read_header(data):
     return page_count(data)
 
 
-def read_record(data, at, pages):
+def read_record(data, at, pages, history):
     if at >= LONGEST_LOG:
         raise Fault(f"{at}  FAULT: the log is too long: no record may stand here")
     if len(data) < RECORD_SIZE:
         raise Fault(f"{at}  FAULT: the log is torn: {len(data)} bytes of this record are there")
     record = decode_record(data)
-    fault = fault_of_record(record, at, pages)
+    fault = fault_of_record(record, at, pages) or history.fault(record)
     if fault:
         raise Fault(f"{at}  FAULT: {fault}")
     return record

@@ -1,4 +1,7 @@
-//! The format of logs and volumes, for the programs of the benchmark.
+//! The format of logs and volumes, and which record may follow which, for the programs of the benchmark.
+
+pub mod chains;
+mod claims;
 
 pub const MAGIC: &[u8; 8] = b"AIMGLOG1";
 pub const HEADER_SIZE: usize = 64;
@@ -6,10 +9,16 @@ pub const RECORD_SIZE: usize = 64;
 pub const MOST_RECORDS: usize = 1 << 20;
 pub const LONGEST_LOG: usize = HEADER_SIZE + RECORD_SIZE * MOST_RECORDS;
 
+/// How many transactions may be open at once.
+pub const MOST_OPEN: usize = 64;
+
 /// The kinds of records, each with the three zeros behind it.
 pub const BEGIN: u32 = 1;
 pub const UPDATE: u32 = 2;
+pub const COMP: u32 = 3;
 pub const COMMIT: u32 = 4;
+pub const ABORT: u32 = 5;
+pub const END: u32 = 6;
 
 /// The kinds of changes, each with the zero behind it.
 pub const SET: u16 = 1;

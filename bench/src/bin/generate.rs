@@ -1,45 +1,57 @@
-//! `generate --records N --pages P --shape uniform|hot|short --seed S > log` writes a valid log to standard output.
-//! The same arguments always give the same bytes.
+//! `generate --records N --pages P --shape SHAPE --seed S > log` writes a log to standard output, in which each record
+//! may follow those before it. The same arguments always give the same bytes. README.md says what the shapes are.
 
 use bench::{
-    ADD, BEGIN, COMMIT, HEADER_SIZE, MAGIC, MOST_PAGES, MOST_RECORDS, RECORD_SIZE, SET, SLOTS,
-    UPDATE,
+    ABORT, ADD, BEGIN, COMMIT, COMP, END, HEADER_SIZE, MAGIC, MOST_OPEN, MOST_PAGES, MOST_RECORDS,
+    RECORD_SIZE, SET, SLOTS, UPDATE,
 };
 use std::io::{self, BufWriter, Write};
 use std::process::ExitCode;
 
 const DRAWS: u32 = 8;
 
-#[derive(Clone, Copy)]
+/// How many changes the long transaction of the shape `rollback` makes, if the log has room to take them back.
+const LONG_TRANSACTION: u64 = 500_000;
+
+#[derive(Clone, Copy, PartialEq)]
 enum Shape {
     Uniform,
     Hot,
     Short,
+    Interleaved,
+    Rollback,
+    Mixed,
 }
+
+const SHAPES: [(&str, Shape); 6] = [
+    ("uniform", Shape::Uniform),
+    ("hot", Shape::Hot),
+    ("short", Shape::Short),
+    ("interleaved", Shape::Interleaved),
+    ("rollback", Shape::Rollback),
+    ("mixed", Shape::Mixed),
+];
 
 impl Shape {
     fn from_name(name: &str) -> Result<Shape, String> {
-        match name {
-            "uniform" => Ok(Shape::Uniform),
-            "hot" => Ok(Shape::Hot),
-            "short" => Ok(Shape::Short),
-            _ => Err(format!(
-                "unknown shape {name:?}: uniform, hot or short is wanted"
-            )),
-        }
+        let found = SHAPES.iter().find(|(other, _)| *other == name);
+        found.map(|(_, shape)| *shape).ok_or_else(|| {
+            let names = SHAPES.map(|(name, _)| name).join(", ");
+            format!("unknown shape {name:?}: one of {names} is wanted")
+        })
     }
 
     fn open_transactions(self) -> usize {
         match self {
-            Shape::Uniform | Shape::Hot => 64,
-            Shape::Short => 8,
+            Shape::Short | Shape::Rollback => 8,
+            _ => MOST_OPEN,
         }
     }
 
     fn most_changes(self) -> u64 {
         match self {
-            Shape::Uniform | Shape::Hot => 16,
-            Shape::Short => 2,
+            Shape::Short | Shape::Rollback => 2,
+            _ => 16,
         }
     }
 }
@@ -118,6 +130,13 @@ struct Change {
     kind: ChangeKind,
 }
 
+/// A change that is not taken back: the number that its undo has, and its record's PrevLSN.
+struct Pending {
+    change: Change,
+    undo: u64,
+    previous: u64,
+}
+
 impl Change {
     fn place(&self) -> usize {
         (self.page * SLOTS as u64 + self.slot) as usize
@@ -127,8 +146,9 @@ impl Change {
 struct Transaction {
     number: u32,
     last_lsn: u64,
-    changes: Vec<Change>,
+    pending: Vec<Pending>,
     wanted_changes: u64,
+    is_rolling: bool,
 }
 
 /// The bytes of one record, all zero at first.
@@ -160,11 +180,14 @@ impl Record {
 struct Generator {
     random: Random,
     shape: Shape,
+    records: u64,
     pages: u64,
     hot_page: u64,
     slots: Vec<u64>,
     open: Vec<Transaction>,
     last_transaction: u32,
+    /// The transaction whose turn it is, where they take turns.
+    turn: usize,
 }
 
 impl Generator {
@@ -174,21 +197,27 @@ impl Generator {
                 state: options.seed,
             },
             shape: options.shape,
+            records: options.records,
             pages: options.pages,
             hot_page: options.pages / 2,
             slots: vec![0; options.pages as usize * SLOTS],
             open: Vec::new(),
             last_transaction: 0,
+            turn: 0,
         }
     }
 
     fn next_record(&mut self, lsn: u64) -> Record {
-        if self.open.len() < self.shape.open_transactions() {
+        if self.open.len() < self.open_transactions() {
             return self.begin(lsn);
         }
-        let chosen = self.random.below(self.open.len() as u64) as usize;
-        if self.open[chosen].changes.len() as u64 == self.open[chosen].wanted_changes {
-            return self.commit(chosen, lsn);
+        let chosen = self.choose();
+        let transaction = &self.open[chosen];
+        if transaction.is_rolling {
+            return self.roll_back(chosen, lsn);
+        }
+        if transaction.pending.len() as u64 == transaction.wanted_changes {
+            return self.finish(chosen, lsn);
         }
         match self.draw_change(chosen) {
             Some(change) => self.update(chosen, change, lsn),
@@ -196,39 +225,120 @@ impl Generator {
         }
     }
 
+    /// The long transaction of the shape `rollback` is the first one, and alone.
+    fn open_transactions(&self) -> usize {
+        match (self.shape, self.last_transaction, self.open.len()) {
+            (Shape::Rollback, 0, _) | (Shape::Rollback, 1, 1) => 1,
+            _ => self.shape.open_transactions(),
+        }
+    }
+
+    fn choose(&mut self) -> usize {
+        if self.shape == Shape::Interleaved {
+            self.turn = (self.turn + 1) % self.open.len();
+            return self.turn;
+        }
+        self.random.below(self.open.len() as u64) as usize
+    }
+
     fn begin(&mut self, lsn: u64) -> Record {
         self.last_transaction += 1;
         let number = self.last_transaction;
-        let wanted_changes = 1 + self.random.below(self.shape.most_changes());
-        self.open.push(Transaction {
+        let wanted_changes = match (self.shape, number) {
+            (Shape::Rollback, 1) => LONG_TRANSACTION.min(self.records.saturating_sub(3) / 2),
+            _ => 1 + self.random.below(self.shape.most_changes()),
+        };
+        let opened = Transaction {
             number,
             last_lsn: lsn,
-            changes: Vec::new(),
+            pending: Vec::new(),
             wanted_changes,
-        });
+            is_rolling: false,
+        };
+        let turn = self.turn.min(self.open.len());
+        match self.shape {
+            Shape::Interleaved => self.open.insert(turn, opened),
+            _ => self.open.push(opened),
+        }
         Record::new(BEGIN, number, 0, lsn)
     }
 
+    /// The record behind the last change: some transactions of the shape `mixed` abort, and the long one does.
+    fn finish(&mut self, chosen: usize, lsn: u64) -> Record {
+        let aborts = match self.shape {
+            Shape::Rollback => self.open[chosen].number == 1,
+            Shape::Mixed => self.random.below(4) == 0,
+            _ => false,
+        };
+        if aborts {
+            self.open[chosen].is_rolling = true;
+            self.chained(ABORT, chosen, lsn)
+        } else {
+            self.commit(chosen, lsn)
+        }
+    }
+
     fn commit(&mut self, chosen: usize, lsn: u64) -> Record {
-        let transaction = self.open.swap_remove(chosen);
-        Record::new(COMMIT, transaction.number, transaction.last_lsn, lsn)
+        let record = self.chained(COMMIT, chosen, lsn);
+        self.close(chosen);
+        record
+    }
+
+    fn close(&mut self, chosen: usize) {
+        match self.shape {
+            Shape::Interleaved => drop(self.open.remove(chosen)),
+            _ => drop(self.open.swap_remove(chosen)),
+        }
+    }
+
+    /// A record of an open transaction, without a change.
+    fn chained(&mut self, kind: u32, chosen: usize, lsn: u64) -> Record {
+        let transaction = &mut self.open[chosen];
+        let previous = std::mem::replace(&mut transaction.last_lsn, lsn);
+        Record::new(kind, transaction.number, previous, lsn)
     }
 
     fn update(&mut self, chosen: usize, change: Change, lsn: u64) -> Record {
         let number = self.random.next();
-        let slot = &mut self.slots[change.place()];
-        let (before, after) = match change.kind {
-            ChangeKind::Set => (*slot, number),
-            ChangeKind::Add => (0, slot.wrapping_add(number)),
+        let old = self.make(&change, number);
+        let (before, undo) = match change.kind {
+            ChangeKind::Set => (old, old),
+            ChangeKind::Add => (0, number.wrapping_neg()),
         };
-        *slot = after;
-
-        let transaction = &mut self.open[chosen];
-        let mut record = Record::new(UPDATE, transaction.number, transaction.last_lsn, lsn);
+        let previous = self.open[chosen].last_lsn;
+        let mut record = self.chained(UPDATE, chosen, lsn);
         record.put_change(&change, before, number);
-        transaction.last_lsn = lsn;
-        transaction.changes.push(change);
+        self.open[chosen].pending.push(Pending {
+            change,
+            undo,
+            previous,
+        });
         record
+    }
+
+    /// The Comp of the last pending change, or the End.
+    fn roll_back(&mut self, chosen: usize, lsn: u64) -> Record {
+        let Some(pending) = self.open[chosen].pending.pop() else {
+            let record = self.chained(END, chosen, lsn);
+            self.close(chosen);
+            return record;
+        };
+        self.make(&pending.change, pending.undo);
+        let mut record = self.chained(COMP, chosen, lsn);
+        record.put(16, &pending.previous.to_le_bytes());
+        record.put_change(&pending.change, 0, pending.undo);
+        record
+    }
+
+    /// Changes the slot, and gives what it had before.
+    fn make(&mut self, change: &Change, number: u64) -> u64 {
+        let slot = &mut self.slots[change.place()];
+        let old = *slot;
+        *slot = match change.kind {
+            ChangeKind::Set => number,
+            ChangeKind::Add => old.wrapping_add(number),
+        };
+        old
     }
 
     /// A change that conflicts with no other open transaction, if a few draws give one.
@@ -265,10 +375,12 @@ impl Generator {
             .iter()
             .enumerate()
             .filter(|(index, _)| *index != chosen);
-        others.flat_map(|(_, other)| &other.changes).any(|claim| {
-            let both_add = change.kind == ChangeKind::Add && claim.kind == ChangeKind::Add;
-            claim.place() == change.place() && !both_add
-        })
+        others
+            .flat_map(|(_, other)| &other.pending)
+            .any(|Pending { change: claim, .. }| {
+                let both_add = change.kind == ChangeKind::Add && claim.kind == ChangeKind::Add;
+                claim.place() == change.place() && !both_add
+            })
     }
 }
 

@@ -1,9 +1,10 @@
 //! `plain_redo redo < log > volume` does what `imgcopy redo` does, with the same checks and the same faults, in
 //! plain Rust. It is the measure that imgcopy is held to.
 
+use bench::chains::{Chains, Change, ChangeKind};
 use bench::{
-    ADD, BEGIN, COMMIT, FIRST_SLOT, HEADER_SIZE, LONGEST_LOG, MAGIC, MOST_PAGES, PAGE_FORMAT,
-    PAGE_SIZE, RECORD_SIZE, SET, SLOTS, UPDATE,
+    ABORT, ADD, BEGIN, COMMIT, COMP, END, FIRST_SLOT, HEADER_SIZE, LONGEST_LOG, MAGIC, MOST_PAGES,
+    PAGE_FORMAT, PAGE_SIZE, RECORD_SIZE, SET, SLOTS, UPDATE,
 };
 use std::fmt;
 use std::io::{self, ErrorKind, Read, Write};
@@ -11,11 +12,15 @@ use std::process::ExitCode;
 
 const CHUNK_SIZE: usize = 1 << 18;
 
+/// How many records are looked at ahead.
+const AHEAD: usize = 32;
+
 type Page = [u8; PAGE_SIZE];
 
 enum Fault {
     BadHeader,
     BadRecord(usize),
+    BadChain(usize),
     Torn(usize),
     TooLong,
 }
@@ -25,27 +30,26 @@ impl fmt::Display for Fault {
         match self {
             Fault::BadHeader => write!(out, "E30 BadHeader"),
             Fault::BadRecord(at) => write!(out, "E31 BadRecord {at}"),
+            Fault::BadChain(at) => write!(out, "E35 BadChain {at}"),
             Fault::Torn(at) => write!(out, "E32 Torn {at}"),
             Fault::TooLong => write!(out, "E34 TooLong"),
         }
     }
 }
 
-enum Change {
-    Set { after: u64 },
-    Add { amount: u64 },
+struct Record {
+    transaction: u32,
+    previous: u64,
+    step: Step,
 }
 
-struct Update {
-    page: usize,
-    slot: usize,
-    change: Change,
-}
-
-enum Record {
+enum Step {
     Begin,
-    Update(Update),
+    Update { change: Change, before: u64 },
+    Comp { change: Change, undo_next: u64 },
     Commit,
+    Abort,
+    End,
 }
 
 enum Failure {
@@ -96,34 +100,115 @@ fn redo(mut log: impl Read) -> Result<Vec<Page>, Failure> {
         return Err(Fault::BadHeader.into());
     }
     let page_count = read_header(&header).ok_or(Fault::BadHeader)?;
-    let mut volume = formatted_volume(page_count);
-
+    let mut redo = Redo::new(page_count);
     let mut chunk = vec![0; CHUNK_SIZE];
-    let mut lsn = HEADER_SIZE;
     loop {
         let count = fill(&mut log, &mut chunk)?;
-        redo_chunk(&chunk[..count], &mut lsn, &mut volume)?;
+        redo.take_chunk(&chunk[..count])?;
         if count < CHUNK_SIZE {
-            return Ok(volume);
+            return Ok(redo.volume);
         }
     }
 }
 
-fn redo_chunk(chunk: &[u8], lsn: &mut usize, volume: &mut [Page]) -> Result<(), Fault> {
-    for bytes in chunk.chunks(RECORD_SIZE) {
-        if *lsn == LONGEST_LOG {
+/// What the records until now leave.
+struct Redo {
+    lsn: usize,
+    page_count: u32,
+    volume: Vec<Page>,
+    chains: Chains,
+}
+
+impl Redo {
+    fn new(page_count: u32) -> Redo {
+        Redo {
+            lsn: HEADER_SIZE,
+            page_count,
+            volume: formatted_volume(page_count),
+            chains: Chains::new(page_count as usize),
+        }
+    }
+
+    fn take_chunk(&mut self, chunk: &[u8]) -> Result<(), Fault> {
+        for records in chunk.chunks(AHEAD * RECORD_SIZE) {
+            self.touch(records);
+            for bytes in records.chunks(RECORD_SIZE) {
+                self.take_bytes(bytes)?;
+            }
+        }
+        Ok(())
+    }
+
+    /// Looks at the slots of these records, right or wrong, so that all of them come from memory at the same time.
+    fn touch(&self, records: &[u8]) {
+        let looks = records.chunks_exact(RECORD_SIZE).map(|bytes| {
+            let (number, slot) = halves(word(&bytes[24..32]));
+            let at = FIRST_SLOT + 8 * usize::from(slot as u8);
+            let page = self.volume.get(number as usize);
+            let claim = self.chains.claim(number as u16, slot as u8);
+            claim ^ page.map_or(0, |page| page[8] ^ page.get(at).unwrap_or(&0))
+        });
+        std::hint::black_box(looks.fold(0, |all, byte| all ^ byte));
+    }
+
+    #[inline]
+    fn take_bytes(&mut self, bytes: &[u8]) -> Result<(), Fault> {
+        if self.lsn == LONGEST_LOG {
             return Err(Fault::TooLong);
         }
         if bytes.len() < RECORD_SIZE {
-            return Err(Fault::Torn(*lsn));
+            return Err(Fault::Torn(self.lsn));
         }
-        match read_record(bytes, *lsn, volume.len() as u32).ok_or(Fault::BadRecord(*lsn))? {
-            Record::Update(update) => apply(&mut volume[update.page], &update, *lsn),
-            Record::Begin | Record::Commit => {}
-        }
-        *lsn += RECORD_SIZE;
+        let record =
+            read_record(bytes, self.lsn, self.page_count).ok_or(Fault::BadRecord(self.lsn))?;
+        self.take(&record).ok_or(Fault::BadChain(self.lsn))?;
+        self.lsn += RECORD_SIZE;
+        Ok(())
     }
-    Ok(())
+
+    /// Makes the record's change, or gives `None` if the record may not follow those before it.
+    #[inline]
+    fn take(&mut self, record: &Record) -> Option<()> {
+        let (transaction, previous, lsn) = (record.transaction, record.previous, self.lsn as u64);
+        if let Step::Begin = record.step {
+            return self.chains.begin(transaction, lsn);
+        }
+        let seat = self.chains.go_on(transaction, previous, lsn)?;
+        match &record.step {
+            Step::Begin => unreachable!("a Begin was taken above"),
+            Step::Update { change, before } => {
+                self.chains.update(seat, previous, change, *before)?;
+                let replaced = self.apply(change);
+                ((change.kind == ChangeKind::Add) | (replaced == *before)).then_some(())
+            }
+            Step::Comp { change, undo_next } => {
+                self.chains.compensate(seat, change, *undo_next)?;
+                self.apply(change);
+                Some(())
+            }
+            Step::Commit => self.chains.commit(transaction, seat),
+            Step::Abort => self.chains.abort(seat),
+            Step::End => self.chains.end(transaction, seat),
+        }
+    }
+
+    /// Makes the change, and gives the slot's number before it.
+    #[inline]
+    fn apply(&mut self, change: &Change) -> u64 {
+        let page = &mut self.volume[usize::from(change.page)];
+        page[8..16].copy_from_slice(&(self.lsn as u64).to_le_bytes());
+        let at = FIRST_SLOT + 8 * usize::from(change.slot);
+        let slot = &mut page[at..at + 8];
+        let before = word(slot);
+        let base = if change.kind == ChangeKind::Add {
+            before
+        } else {
+            0
+        };
+        let after = base.wrapping_add(change.number);
+        slot.copy_from_slice(&after.to_le_bytes());
+        before
+    }
 }
 
 /// Reads until the buffer is full or the input ends, and says how much was read.
@@ -151,38 +236,56 @@ fn read_header(header: &[u8; HEADER_SIZE]) -> Option<u32> {
 }
 
 /// The record, if these bytes are one at this LSN in a volume of this many pages.
+#[inline]
 fn read_record(bytes: &[u8], lsn: usize, page_count: u32) -> Option<Record> {
-    let [head, previous, zero, place, before, number, also_zero, own] = words(bytes);
+    let [head, previous, undo_next, place, before, number, zero, own] = words(bytes);
     let (kind, transaction) = halves(head);
-    if transaction == 0 || zero != 0 || also_zero != 0 || own != lsn as u64 {
+    if transaction == 0 || zero != 0 || own != lsn as u64 {
         return None;
     }
-    let changes_nothing = place == 0 && before == 0 && number == 0;
-    let has_previous =
-        previous >= RECORD_SIZE as u64 && previous < own && previous % RECORD_SIZE as u64 == 0;
-    match kind {
-        BEGIN if previous == 0 && changes_nothing => Some(Record::Begin),
-        UPDATE if has_previous => {
-            read_update(place, before, number, page_count).map(Record::Update)
-        }
-        COMMIT if has_previous && changes_nothing => Some(Record::Commit),
-        _ => None,
-    }
-}
-
-fn read_update(place: u64, before: u64, number: u64, page_count: u32) -> Option<Update> {
-    let (page, slot_and_kind) = halves(place);
-    let (slot, kind) = (slot_and_kind as u16, (slot_and_kind >> 16) as u16);
-    let change = match kind {
-        SET => Change::Set { after: number },
-        ADD if before == 0 => Change::Add { amount: number },
+    let no_change = place == 0 && before == 0 && number == 0;
+    let is_chained = is_before(previous, own) && (kind == COMP || undo_next == 0);
+    let step = match kind {
+        BEGIN if previous == 0 && undo_next == 0 && no_change => Step::Begin,
+        UPDATE if is_chained => Step::Update {
+            change: read_change(place, number, page_count)
+                .filter(|change| (change.kind == ChangeKind::Set) | (before == 0))?,
+            before,
+        },
+        COMP if is_chained && is_before(undo_next, own) && before == 0 => Step::Comp {
+            change: read_change(place, number, page_count)?,
+            undo_next,
+        },
+        COMMIT if is_chained && no_change => Step::Commit,
+        ABORT if is_chained && no_change => Step::Abort,
+        END if is_chained && no_change => Step::End,
         _ => return None,
     };
-    let (page_is_inside, slot_is_inside) = (page < page_count, (slot as usize) < SLOTS);
-    (page_is_inside && slot_is_inside).then_some(Update {
-        page: page as usize,
-        slot: slot as usize,
-        change,
+    Some(Record {
+        transaction,
+        previous,
+        step,
+    })
+}
+
+/// Whether a record may stand at this LSN and before the other one.
+fn is_before(lsn: u64, own: u64) -> bool {
+    lsn >= HEADER_SIZE as u64 && lsn < own && lsn % RECORD_SIZE as u64 == 0
+}
+
+fn read_change(place: u64, number: u64, page_count: u32) -> Option<Change> {
+    let (page, slot_and_kind) = halves(place);
+    let (slot, kind) = (slot_and_kind as u16, (slot_and_kind >> 16) as u16);
+    let is_change = (kind == SET) | (kind == ADD);
+    (is_change && page < page_count && usize::from(slot) < SLOTS).then_some(Change {
+        page: page as u16,
+        slot: slot as u8,
+        kind: if kind == SET {
+            ChangeKind::Set
+        } else {
+            ChangeKind::Add
+        },
+        number,
     })
 }
 
@@ -193,17 +296,6 @@ fn formatted_volume(page_count: u32) -> Vec<Page> {
         page[4..8].copy_from_slice(&PAGE_FORMAT.to_le_bytes());
     }
     volume
-}
-
-fn apply(page: &mut Page, update: &Update, lsn: usize) {
-    let at = FIRST_SLOT + 8 * update.slot;
-    let slot = &mut page[at..at + 8];
-    let number = match update.change {
-        Change::Set { after } => after,
-        Change::Add { amount } => word(slot).wrapping_add(amount),
-    };
-    slot.copy_from_slice(&number.to_le_bytes());
-    page[8..16].copy_from_slice(&(lsn as u64).to_le_bytes());
 }
 
 fn words(bytes: &[u8]) -> [u64; 8] {
