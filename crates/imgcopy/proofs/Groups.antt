@@ -20,18 +20,18 @@ pub further : (pages : List Page) (first count : ℕ)
     ≡ volume_bytes (take (first + count) pages)
 further pages first count =
     sym (flat_map-append page_bytes (take first pages) (group pages first count))
-        ∙ ap volume_bytes (front pages first count)
+    ∙ ap volume_bytes (front pages first count)
 
 -- and with the pages behind it those of all
 pub whole : (pages : List Page) (first count : ℕ)
     → volume_bytes (take first pages) ++ (volume_bytes (group pages first count)
-        ++ volume_bytes (drop (first + count) pages)) ≡ volume_bytes pages
+    ++ volume_bytes (drop (first + count) pages)) ≡ volume_bytes pages
 whole pages first count =
     sym (append_assoc (volume_bytes (take first pages)) (volume_bytes (group pages first count))
-        (volume_bytes (drop (first + count) pages)))
+    (volume_bytes (drop (first + count) pages)))
     ∙ ap (λ (bs : List ℕ). bs ++ volume_bytes (drop (first + count) pages)) (further pages first count)
     ∙ sym (flat_map-append page_bytes (take (first + count) pages) (drop (first + count) pages))
-        ∙ ap volume_bytes (take-append-drop (first + count) pages)
+    ∙ ap volume_bytes (take-append-drop (first + count) pages)
 
 -- a front of the middle of three lists
 pub into : (a b c : List ℕ) (m n : ℕ) → m ≡ length a → n ≤ length b → a ++ take n b ≡ take (m + n) (a ++ (b ++ c))
@@ -40,4 +40,4 @@ into a b c m n start fits =
     let wide : m + n - m ≡ n = omega arith in
     grow xs a (take n b) m (m + n) (omega arith) (sym (take_at a (b ++ c) m (sym start)))
     (sym (ap (λ k. take k (drop m xs)) wide ∙ ap (take n) (drop_at a (b ++ c) m (sym start))
-        ∙ take-append-le n b c fits))
+    ∙ take-append-le n b c fits))

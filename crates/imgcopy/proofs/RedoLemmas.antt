@@ -77,15 +77,15 @@ turn faults met = or_else faults (step_fault redo_shape 1 met.0 met.1)
 bundle_refused : (word flags : Text) (k : ℕ) (first : Option ℕ)
     → turn (bundle_step_fault rules false first flags 0 nothing_held (flags_fault rules false k))
     (let met = bundle_step rules first flags 0 plain nothing_held (bundle_met rules k) in
-        after_flag rules idle word met.0 met.1) ≡ [] → ⊥
+    after_flag rules idle word met.0 met.1) ≡ [] → ⊥
 bundle_refused word flags k None e = not_empty _ _ e
 bundle_refused word flags k (Some x) e =
     short_refused (arg_by_short rules x) _ _ (find_one (λ a. not (is_some a.index) && has_short a x) help)
-        (first_empty _ _ e)
+    (first_empty _ _ e)
 
 short_or_plain_refused : (word : Text) (flags : Option Text)
     → turn (option_map_or (λ f. bundle_fault rules false f nothing_held) flags [])
-        (short_or_plain rules idle word flags nothing_held) ≡ [] → ⊥
+    (short_or_plain rules idle word flags nothing_held) ≡ [] → ⊥
 unfolding clap_on_literals
 short_or_plain_refused word None e = not_empty _ _ e
 short_or_plain_refused word (Some []) e = not_empty _ _ e
@@ -96,17 +96,17 @@ short_or_plain_refused word (Some (b ∷ bs)) e =
 
 flag_refused : (word : Text) (name : Option (Text × Option Text))
     → turn (flag_word_fault rules false name word nothing_held) (long_or_other rules idle word name nothing_held) ≡ []
-        → ⊥
+    → ⊥
 unfolding clap_on_literals
 flag_refused word (Some p) e =
     long_refused (arg_by_long rules p.0) p.1 (find_one (λ a. not (is_some a.index) && has_long a p.0) help)
-        (first_empty _ _ e)
+    (first_empty _ _ e)
 flag_refused word None e = short_or_plain_refused word (short_of word) e
 
 word_is_dashes : (word : Text) (is_dashes : Bool)
     → turn (cond is_dashes [] (flag_word_fault rules false (long_of word) word nothing_held))
     (cond is_dashes (nothing_held, trailing 1) (long_or_other rules idle word (long_of word) nothing_held)) ≡ []
-        → is_dashes ≡ true
+    → is_dashes ≡ true
 word_is_dashes word true e = refl
 word_is_dashes word false e = absurd (flag_refused word (long_of word) e)
 
@@ -129,9 +129,9 @@ redo_words (name ∷ []) named taken = inl (ap (λ n. n ∷ []) (same_Some _ _ n
 redo_words (name ∷ word ∷ rest) named taken =
     let dashes : word ≡ codes "--" = (bytes_eq-Decides word (codes "--")).0 (first_is_dashes name word rest taken) in
     let none : rest ≡ [] = none_after_dashes name rest
-        (ap (λ w. fault_of redo_app (name ∷ w ∷ rest)) (sym dashes) ∙ taken) in
+    (ap (λ w. fault_of redo_app (name ∷ w ∷ rest)) (sym dashes) ∙ taken) in
     inr (ap (λ n. n ∷ word ∷ rest) (same_Some _ _ named) ∙ ap (λ w. codes "redo" ∷ w ∷ rest) dashes
-        ∙ ap (λ ws. codes "redo" ∷ codes "--" ∷ ws) none)
+    ∙ ap (λ ws. codes "redo" ∷ codes "--" ∷ ws) none)
 
 pub given_redo : (words : List Text) (command : Command) → Gives words command → command ≡ Redo → IsRedo words
 given_redo words command given is = let P : Command → Type 0 = Gives words in

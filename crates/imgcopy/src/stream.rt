@@ -49,7 +49,7 @@ fn write_pages<W: Write>(writer: &mut W, pages: &[Page], buffer: &mut [u8]) -> R
     ensures within { IfErr result (λ done. done < length (volume_bytes pages.now)) }
     ensures err { IfErr result (λ done.
         Appends (W.contents writer.old) (W.contents writer.new)
-            (take done (volume_bytes pages.now))) }
+        (take done (volume_bytes pages.now))) }
 {
     let group = buffer.len() / PAGE_BYTES;
     let mut first = 0;

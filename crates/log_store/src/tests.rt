@@ -8,8 +8,8 @@ use crate::{
     LogReadFault, MAX_LOG_BYTES, MAX_RECORDS, Record, TxnNo, decode, encode, encode_header,
     read_log,
 };
-use page_core::Lsn;
-use readers::{Begins, NeverReady, Steps};
+use page_core::{Change, Lsn, PageNo, SlotNo};
+use readers::{NeverReady, Pairs, Steps};
 use std::alloc::Global;
 use std::io;
 use std::io::Read;
@@ -74,9 +74,9 @@ fn other_bytes_are_refused(rt: HostRuntime) {
     }
 }
 
-/// A compensation record, a kind that is not read yet.
+/// A compensation record, and a kind that is not read yet.
 #[test]
-fn a_later_kind_is_no_record(rt: HostRuntime) {
+fn a_compensation_record_has_its_bytes(rt: HostRuntime) {
     let bytes = bytes_of(&[
         0x0300000001000000,
         0x4002000000000000,
@@ -87,7 +87,22 @@ fn a_later_kind_is_no_record(rt: HostRuntime) {
         0,
         0x8002000000000000,
     ]);
-    assert_eq!(rt; decode(&bytes, Lsn(640)), None);
+    let comp = Record::Comp {
+        lsn: Lsn(640),
+        txn: TxnNo(1),
+        prev: Lsn(576),
+        undo_next: Lsn(192),
+        page: PageNo(0),
+        slot: SlotNo(0),
+        change: Change::Add {
+            amount: 18_446_744_073_709_551_611,
+        },
+    };
+    assert_eq!(rt; decode(&bytes, Lsn(640)), Some(comp));
+    assert_eq!(rt; encode(&comp), bytes);
+    let mut later = bytes;
+    later[0] = 7;
+    assert_eq!(rt; decode(&later, Lsn(640)), None);
 }
 
 /// The page count and the count of records of the log that a reader gives. They are the first of
@@ -170,7 +185,7 @@ fn long_logs_are_read(rt: HostRuntime) {
         (longest + 64, Err(LogReadFault::TooLong)),
         (u64::MAX, Err(LogReadFault::TooLong)),
     ] {
-        let mut reader = Begins::until(end);
+        let mut reader = Pairs::until(end);
         let read = read_log(alloc, &mut reader).map(|log| log.records().len());
         assert_eq!(rt; read, want, "a log that ends at {end}");
     }

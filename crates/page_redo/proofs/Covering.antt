@@ -25,7 +25,7 @@ none_above log valid (suc i) lsn d le reached =
     let not : is_above lsn r ≡ false = le-ltb lsn (own_lsn r) (omega arith) in
     subst (λ (n : ℕ). filter (is_above lsn) (take n log.records) ≡ []) next
     (filter-more lsn log.records i d (omega arith)
-        ∙ ap (λ (b : Bool). filter (is_above lsn) (take i log.records) ++ cond b (r ∷ []) []) not
+    ∙ ap (λ (b : Bool). filter (is_above lsn) (take i log.records) ++ cond b (r ∷ []) []) not
     ∙ ap (λ (rs : List Record). rs ++ []) (none_above log valid i lsn d (omega arith) (omega arith)))
 
 -- the redo of a record that changes nothing
@@ -55,11 +55,11 @@ redo_of_own log valid p (suc i) d le =
           (ap (image_from q) (filter-more q.lsn rs i d lt)
           ∙ image_from-append q (filter (is_above q.lsn) (take i rs)) (cond (is_above q.lsn r) (r ∷ []) [])
           ∙ ap (λ (page : Page). image_from page (cond (is_above q.lsn r) (r ∷ []) []))
-              (redo_of_own log valid p i d (omega arith))
+          (redo_of_own log valid p i d (omega arith))
           ∙ no_page q r same)
       | inr moved ↦
           ap (image_from (with_record q r))
-              (none_above log valid (i + 1) (with_record q r).lsn d (omega arith) (omega (arith, moved, own)))
+          (none_above log valid (i + 1) (with_record q r).lsn d (omega arith) (omega (arith, moved, own)))
     ]))
 
 -- redo of the records behind those that the page has makes each change
@@ -83,7 +83,7 @@ redo_goes_on log valid p k (suc m) d le =
     subst (λ (n : ℕ). redone q (take n rs) ≡ image (take n rs) p) next
     (redo-more q q.lsn rs i d lt ∙ ap (λ (b : Bool). cond b (with_record so_far r) so_far) above
     ∙ ap (λ (page : Page). with_record page r) (redo_goes_on log valid p k m d (omega arith))
-        ∙ sym (image_from-more (formatted p) rs i d lt))
+    ∙ sym (image_from-more (formatted p) rs i d lt))
 
 nothing_of_none : (k : ℕ) → take {A = Record} k [] ≡ []
 nothing_of_none zero = refl

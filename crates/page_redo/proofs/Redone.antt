@@ -13,20 +13,20 @@ use Rattle.page_redo.specs.Redo.{is_above}
 -- one record more is redone if it is above the LSN
 pub filter-more : (lsn : ℕ) (rs : List Record) (i : ℕ) (d : Record) → i < length rs
     → filter (is_above lsn) (take (i + 1) rs) ≡ filter (is_above lsn) (take i rs)
-        ++ cond (is_above lsn (get_or rs i d)) (get_or rs i d ∷ []) []
+    ++ cond (is_above lsn (get_or rs i d)) (get_or rs i d ∷ []) []
 filter-more lsn rs i d lt =
     ap (filter (is_above lsn)) (take_more rs i d lt) ∙ filter-append (is_above lsn) (take i rs) (get_or rs i d ∷ [])
 
 pub redo-more : (page : Page) (lsn : ℕ) (rs : List Record) (i : ℕ) (d : Record) → i < length rs
     → image_from page (filter (is_above lsn) (take (i + 1) rs))
     ≡ cond (is_above lsn (get_or rs i d)) (with_record (image_from page (filter (is_above lsn) (take i rs)))
-        (get_or rs i d)) (image_from page (filter (is_above lsn) (take i rs)))
+    (get_or rs i d)) (image_from page (filter (is_above lsn) (take i rs)))
 redo-more page lsn rs i d lt =
     let before = filter (is_above lsn) (take i rs) in
     let r = get_or rs i d in
     ap (image_from page) (filter-more lsn rs i d lt)
     ∙ image_from-append page before (cond (is_above lsn r) (r ∷ []) [])
-        ∙ last (is_above lsn r) (image_from page before) r
+    ∙ last (is_above lsn r) (image_from page before) r
   where
     last : (b : Bool) (page : Page) (r : Record)
         → image_from page (cond b (r ∷ []) []) ≡ cond b (with_record page r) page
@@ -36,10 +36,10 @@ redo-more page lsn rs i d lt =
 pub redo-step : (page : Page) (lsn : ℕ) (rs : List Record) (i : ℕ) (r : Record) → i < length rs → r ≡ get_or rs i r
     → (now next : Page) (b : Bool)
     → now ≡ image_from page (filter (is_above lsn) (take i rs)) → b ≡ is_above lsn r
-        → next ≡ cond b (with_record now r) now
+    → next ≡ cond b (with_record now r) now
     → next ≡ image_from page (filter (is_above lsn) (take (i + 1) rs))
 redo-step page lsn rs i r lt e now next b before test step =
     let so_far = image_from page (filter (is_above lsn) (take i rs)) in
     step ∙ ap (λ (q : Page). cond b (with_record q r) q) before
-        ∙ ap (λ (t : Bool). cond t (with_record so_far r) so_far) test
+    ∙ ap (λ (t : Bool). cond t (with_record so_far r) so_far) test
     ∙ ap (λ (s : Record). cond (is_above lsn s) (with_record so_far s) so_far) e ∙ sym (redo-more page lsn rs i r lt)

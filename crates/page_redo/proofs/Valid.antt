@@ -56,7 +56,7 @@ valid-image_from : (page : Page) (rs : List Record) → IsPage page
 valid-image_from page [] page_valid each = page_valid
 valid-image_from page (r ∷ rs) page_valid each =
     valid-image_from (with_record page r) rs (valid-with_record page r page_valid (each 0 r (omega arith)))
-        (λ i d lt. each (suc i) d (omega arith))
+    (λ i d lt. each (suc i) d (omega arith))
 
 pub valid-redo_all : (log : Log) → IsLog log → AllByRecursion IsPage (redo_all log.records log.pages)
 valid-redo_all log valid = over 0 log.pages (let few = valid.pages.most in omega arith)

@@ -1,9 +1,8 @@
 //! What no clause says: that these calls succeed, and what they make of known records.
 
-use crate::{Volume, redo_page};
-use log_store::{Record, TxnNo, encode, encode_header, scan_log};
+use crate::redo_page;
+use log_store::{Record, TxnNo};
 use page_core::{Change, Lsn, Page, PageNo, SlotNo};
-use std::test::Fail;
 
 /// Transaction 1 sets slot 3 of page 0 to 7, adds 5 to it, and commits.
 fn four_records() -> [Record; 4] {
@@ -65,20 +64,4 @@ fn a_page_gets_what_it_lacks(rt: HostRuntime) {
         redo_page(&mut page, &four_records());
         assert!(rt; page == wanted, "a page with LSN {lsn}, once more");
     }
-}
-
-#[test]
-fn a_volume_is_made_of_its_log(rt: HostRuntime) -> Result<(), Fail> {
-    let mut bytes = Vec::new(rt.alloc());
-    bytes.extend_from_slice(&encode_header(2))?;
-    for record in &four_records() {
-        bytes.extend_from_slice(&encode(record))?;
-    }
-    let volume: Volume = scan_log(rt.alloc(), &mut bytes.as_slice())?;
-    let wanted = [
-        page_with(PageNo(0), Lsn(192), 12),
-        page_with(PageNo(1), Lsn(0), 0),
-    ];
-    assert!(rt; volume.pages() == wanted.as_slice());
-    Ok(())
 }

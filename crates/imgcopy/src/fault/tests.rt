@@ -11,6 +11,7 @@ fn has_its_line(rt: HostRuntime) -> Result<(), Fail> {
         (Fault::Torn(Lsn(256)), "E32 Torn 256"),
         (Fault::ReadFault, "E33 ReadFault"),
         (Fault::TooLong, "E34 TooLong"),
+        (Fault::BadChain(Lsn(256)), "E35 BadChain 256"),
     ];
     for (fault, line) in cases {
         assert_eq!(rt; fault.to_string(rt.alloc())?.as_str(), line);

@@ -11,7 +11,7 @@ use crate::header::encode_header;
 use crate::mem_device::MemDevice;
 use crate::read::read_log;
 use crate::record::Record;
-use page_core::{Change, Lsn, PageNo, SlotNo};
+use page_core::{Change, Lsn, PageNo, SlotNo, TxnNo};
 use std::alloc::{AllocError, Global};
 use std::process::Abort;
 use std::test::Fail;

@@ -64,21 +64,21 @@ impl Read for Steps<'_> {
     }
 }
 
-/// Gives a log of one page whose records all begin transaction 1.
+/// Gives a log of one page whose transactions begin and commit, one after another.
 #[derive(Drop)]
-pub struct Begins {
+pub struct Pairs {
     at: u64,
     end: u64,
 }
 
-impl Begins {
+impl Pairs {
     /// The first bytes of this log, so many.
-    pub fn until(end: u64) -> Begins {
-        Begins { at: 0, end }
+    pub fn until(end: u64) -> Pairs {
+        Pairs { at: 0, end }
     }
 }
 
-impl Read for Begins {
+impl Read for Pairs {
     fn read(&mut self, buf: &mut [u8]) -> io::Result<usize> {
         let skipped = (self.at % 64) as usize;
         let bytes = bytes_at(self.at - self.at % 64);
@@ -91,14 +91,19 @@ impl Read for Begins {
 }
 
 fn bytes_at(offset: u64) -> [u8; 64] {
-    if offset == 0 {
-        encode_header(1)
-    } else {
-        encode(&Record::Begin {
-            lsn: Lsn(offset),
-            txn: TxnNo(1),
-        })
+    if offset < 64 {
+        return encode_header(1);
     }
+    let lsn = Lsn(offset);
+    let index = offset / 64 - 1;
+    let txn = TxnNo(u32::try_from(index / 2 + 1).unwrap_or(u32::MAX));
+    let record = if index % 2 == 0 {
+        Record::Begin { lsn, txn }
+    } else {
+        let prev = Lsn(offset - 64);
+        Record::Commit { lsn, txn, prev }
+    };
+    encode(&record)
 }
 
 /// Never gives a byte, since each call is interrupted. It counts the calls.
