@@ -13,7 +13,7 @@ use Rattle.std.specs.Result.{OnErr, OnOk}
 use lib.Bits.{bit_and}
 use mir.Syntax.{w64}
 use Rattle.log_store.specs.declared.claims.Claim.{Claim}
-use Rattle.log_store.specs.Claims.{has_seat, hold_in, no_claim, no_hold, place_cmp}
+use Rattle.log_store.specs.Claims.{has_seat, hold_in, no_claim, no_hold, no_seats, place_cmp}
 
 -- ---- bits
 
@@ -74,3 +74,7 @@ on_err_from (Err e) P p = p
 pub sure_ok : {T E P Q : Type 0} (r : Result T E) → OnOk r P → OnErr r Q → (Q → ⊥) → P
 sure_ok (Ok x) p q never = p
 sure_ok (Err e) p q never = absurd (never q)
+
+pub has_seat-no_seats : (seat : ℕ) → has_seat no_seats seat ≡ false
+unfolding has_seat
+has_seat-no_seats seat = ap (λ b. eqb b 1) (bit_at-zero seat)

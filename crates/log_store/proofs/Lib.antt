@@ -1,3 +1,6 @@
+pub mod Firsts
+pub mod Tracked
+pub mod Ranks
 pub mod Pendings
 pub mod Holds
 pub mod Faults

@@ -1,6 +1,7 @@
 pub mod Claims
 pub mod Fault
 pub mod Fields
+pub mod Growth
 pub mod Image
 pub mod Log
 pub mod OpenEntry

@@ -24,7 +24,7 @@ IsSound e = (e.seat < SEATS) × AreStacked [] e.pending.items
 -- the entries are in order, and the claims say what they keep out
 pub record Tracks (begun : ℕ) (claims : Claims) (entries : List OpenEntry) : Type 0 where
   pub ranked : AreRanked (map key_of entries)
-  pub begun : AllByRecursion (λ k. k.0 ≤ begun) (map key_of entries)
+  pub reached : AllByRecursion (λ k. k.0 ≤ begun) (map key_of entries)
   pub sound : All IsSound entries
   pub held : (page slot seat : ℕ) → seat < SEATS → hold_at claims page slot seat ≡ hold_among entries page slot seat
 

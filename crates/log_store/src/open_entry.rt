@@ -7,6 +7,7 @@ ghost use Rattle.log_store.specs.Transactions.{without_last};
 use crate::claims::{Claims, Hold};
 use crate::pending_change::PendingChange;
 use crate::seat_set::SEATS;
+use crate::txn_state::TxnState;
 use page_core::{Lsn, TxnNo};
 use std::alloc::{AllocError, Global};
 
@@ -86,6 +87,8 @@ fn drain_pending(pending: &mut Vec<Pending>, claims: &mut Claims, seat: u8)
 impl OpenEntry {
     ghost use Rattle.std.specs.Prelude.{true};
     ghost use Rattle.log_store.specs.OpenEntry.{KeepsSeat, entry_view};
+    ghost use Rattle.log_store.specs.OpenTransactions.{state_of};
+    ghost use Rattle.log_store.specs.Transactions.{last_of};
 
     /// The transaction makes a change: its Update has this change's LSN. An `Err` changes nothing.
     pub fn update(&mut self, claims: &mut Claims, change: PendingChange) -> Result<(), AllocError>
@@ -113,6 +116,38 @@ impl OpenEntry {
         pop_pending(&mut self.pending, claims, self.seat);
         self.last = lsn;
         self.rolling = true;
+    }
+
+    /// The transaction begins to roll back, by an Abort of this LSN.
+    pub fn abort(&mut self, lsn: Lsn)
+        ensures entry { entry_view self.new ≡ record (entry_view self.old) {
+            last = lsn; rolling = true; aborted = true } }
+        ensures same { (self.new.seat ≡ self.old.seat) × (self.new.pending.items ≡ self.old.pending.items) }
+    {
+        self.last = lsn;
+        self.rolling = true;
+        self.aborted = true;
+    }
+
+    /// Its numbers.
+    pub fn state(&self) -> TxnState
+        ensures { result ≡ state_of (entry_view self.now) }
+    {
+        TxnState {
+            txn: self.txn,
+            first: self.first,
+            last: self.last,
+            rolling: self.rolling,
+            aborted: self.aborted,
+            pending: self.pending.len(),
+        }
+    }
+
+    /// Its last pending change, if it has one.
+    pub fn last_pending(&self) -> Option<PendingChange>
+        ensures { result ≡ last_of (entry_view self.now).pending }
+    {
+        self.pending.last().map(|pending| pending.change)
     }
 
     /// The transaction keeps nothing out any more.
