@@ -35,7 +35,7 @@ chosen : (b : Bool) (x : OpenEntry) (ns : List ℕ) (o : Option OpenEntry) → l
 chosen true x ns o e h = ap (λ m. Some (option_map_or (min x.txn) m x.txn)) e ∙ ap Some (least-of x.txn o h)
 chosen false x ns o e h = e
 
-cond_map : (b : Bool) (v : Entry) (vs : List Entry) → map (λ e. e.txn) (cond b (v ∷ vs) vs) ≡ cond b (v.txn ∷ map (λ e. e.txn) vs) (map (λ e. e.txn) vs)
+pub cond_map : (b : Bool) (v : Entry) (vs : List Entry) → map (λ e. e.txn) (cond b (v ∷ vs) vs) ≡ cond b (v.txn ∷ map (λ e. e.txn) vs) (map (λ e. e.txn) vs)
 cond_map true v vs = refl
 cond_map false v vs = refl
 

@@ -8,7 +8,7 @@ use Rattle.std.proofs.lemmas.List.Quantifiers.{position-Some}
 use Rattle.std.proofs.lemmas.Option.{slice_get-get_or, slice_get_past}
 use Rattle.std.specs.List.{AllByRecursion, filter, find, list_any, position, position_or_len, remove, slice_get}
 use Rattle.std.specs.Option.{IsSome, MatchOption, option_map}
-use lib.Dec.{ltb}
+use lib.Dec.{leb, ltb}
 use Rattle.page_core.specs.declared.change.ChangeKind.{ChangeKind}
 use Rattle.page_core.specs.declared.change.ChangeKind.TheVariants as kinds
 use Rattle.log_store.specs.declared.claims.Claim.{Claim}
@@ -20,10 +20,11 @@ use Rattle.log_store.specs.Claims.{claim_at, has_seat, hold_at, hold_in, no_clai
 use Rattle.log_store.specs.OpenEntry.{AreStacked, IsHeld, KeepsSeat, changes_of, entry_view, hold_among, hold_by}
 use Rattle.log_store.specs.OpenTransactions.{AreRanked, IsSound, Tracks, key_of}
 use Rattle.log_store.specs.Table.{Entry, Table, entry_in, holder_in}
-use Rattle.log_store.specs.Transactions.{keeps_out}
-use Rattle.log_store.proofs.Firsts.{least-first}
+use Rattle.log_store.specs.Transactions.{keeps_out, least}
+use Rattle.log_store.specs.TxnState.{next_in}
+use Rattle.log_store.proofs.Firsts.{cond_map, least-first}
 use Rattle.log_store.proofs.Holds.{hold_in-no_claim}
-use Rattle.log_store.proofs.Ranks.{all-push, all-remove, hold-at, hold-push, hold-remove, hold-set, keys-set, ranked-push, ranked-remove, view-remove, view-set}
+use Rattle.log_store.proofs.Ranks.{find-place, all-push, all-remove, hold-at, hold-push, hold-remove, hold-set, keys-set, ranked-push, ranked-remove, view-remove, view-set}
 
 -- ---- one of them
 
@@ -126,38 +127,38 @@ pub record IsAt (xs : List OpenEntry) (i t : ℕ) (x : OpenEntry) : Type 0 where
   pub txn : x.txn ≡ t
   pub found : find (λ v. eqb v.txn t) (map entry_view xs) ≡ Some (entry_view x)
 
-pub found : (q : Entry → Bool) (xs : List OpenEntry) (i : ℕ) (d : OpenEntry)
-    → Some i ≡ position (λ e. q (entry_view e)) xs
-    → (i < length xs) × (find q (map entry_view xs) ≡ Some (entry_view (get_or xs i d)))
-found q xs i d e =
-    let p : OpenEntry → Bool = λ e. q (entry_view e) in
+pub found-first : (p : OpenEntry → Bool) (xs : List OpenEntry) (i : ℕ) (d : OpenEntry) → Some i ≡ position p xs
+    → (i < length xs) × (find p xs ≡ Some (get_or xs i d))
+found-first p xs i d e =
     let n = position_or_len p xs in
     let parts = some-place (ltb n (length xs)) n i (sym e) in
     let within : n < length xs = ltb-true n (length xs) parts.0 in
     let here : i < length xs = subst (λ m. m < length xs) parts.1 within in
-    (here, find-view q xs ∙ ap (option_map entry_view)
-    (find_at p xs ∙ ap (slice_get xs) parts.1 ∙ slice_get-get_or xs i d here))
+    (here, find_at p xs ∙ ap (slice_get xs) parts.1 ∙ slice_get-get_or xs i d here)
+
+pub found-none : (p : OpenEntry → Bool) (xs : List OpenEntry) → None ≡ position p xs → find p xs ≡ None
+found-none p xs e =
+    let n = position_or_len p xs in
+    let past : length xs ≤ n = ltb-false n (length xs) (no-place (ltb n (length xs)) n (sym e)) in
+    find_at p xs ∙ slice_get_past xs n past
 
 pub placed : (t : ℕ) (xs ys : List OpenEntry) (i : ℕ) (x : OpenEntry) → ys ≡ xs
     → Some i ≡ position (λ e. eqb e.txn t) ys → x ≡ get_or xs i x → IsAt xs i t x
 placed t xs ys i x same e there =
     let at : Some i ≡ position (λ e. eqb e.txn t) xs = e ∙ ap (position (λ e. eqb e.txn t)) same in
     let parts = position-Some (λ e. eqb e.txn t) xs i x (sym at) in
-    let says = found (λ v. eqb v.txn t) xs i x at in
+    let says = found-first (λ e. eqb e.txn t) xs i x at in
     record {
       within = parts.0;
       there = sym there;
       txn = eqb-true x.txn t (ap (λ (e : OpenEntry). eqb e.txn t) there ∙ parts.1);
-      found = says.1 ∙ ap (λ e. Some (entry_view e)) (sym there);
+      found = find-view (λ v. eqb v.txn t) xs ∙ ap (option_map entry_view) says.1 ∙ ap (λ e. Some (entry_view e)) (sym there);
     }
 
 pub missing : (q : Entry → Bool) (xs ys : List OpenEntry) → ys ≡ xs → None ≡ position (λ e. q (entry_view e)) ys
     → find q (map entry_view xs) ≡ None
 missing q xs ys same e =
-    let p : OpenEntry → Bool = λ e. q (entry_view e) in
-    let n = position_or_len p xs in
-    let past : length xs ≤ n = ltb-false n (length xs) (no-place (ltb n (length xs)) n (sym (e ∙ ap (position p) same))) in
-    find-view q xs ∙ ap (option_map entry_view) (find_at p xs ∙ slice_get_past xs n past)
+    find-view q xs ∙ ap (option_map entry_view) (found-none (λ e. q (entry_view e)) xs (e ∙ ap (position (λ e. q (entry_view e))) same))
 
 is-there : {X : Type 0} (o : Option X) → IsSome o → o ≡ None → ⊥
 is-there (Some x) s e = cc
@@ -250,3 +251,22 @@ match_some o x P Q e q = subst (λ v. MatchOption v P Q) (sym e) q
 
 pub match_none : {X : Type 0} (o : Option X) (P : Type 0) (Q : X → Type 0) → o ≡ None → P → MatchOption o P Q
 match_none o P Q e p = subst (λ v. MatchOption v P Q) (sym e) p
+
+-- ---- the next one
+
+txns-filter : (p : ℕ → Bool) (vs : List Entry) → filter p (map (λ v. v.txn) vs) ≡ map (λ v. v.txn) (filter (λ v. p v.txn) vs)
+txns-filter p [] = refl
+txns-filter p (v ∷ vs) =
+    ap (λ ns. cond (p v.txn) (v.txn ∷ ns) ns) (txns-filter p vs) ∙ sym (cond_map (p v.txn) v (filter (λ v. p v.txn) vs))
+
+pub least-next : {begun : ℕ} {claims : Claims} {xs : List OpenEntry} (from : ℕ) → Tracks begun claims xs
+    → next_in (record { begun = begun; entries = map entry_view xs }) from ≡ option_map (λ e. e.txn) (find (λ e. leb from e.txn) xs)
+least-next {begun} {claims} {xs} from tracks =
+    ap least (txns-filter (λ n. leb from n) (map entry_view xs))
+    ∙ least-first (λ v. leb from v.txn) (λ e. leb from e.txn) xs tracks.ranked (λ i d l. refl)
+
+-- the entry of the transaction at a place
+pub entry-there : {begun : ℕ} {claims : Claims} {xs : List OpenEntry} (i : ℕ) (x : OpenEntry) → Tracks begun claims xs → i < length xs
+    → x ≡ get_or xs i x → find (λ v. eqb v.txn x.txn) (map entry_view xs) ≡ Some (entry_view x)
+entry-there {begun} {claims} {xs} i x tracks l there =
+    find-place x.txn xs i x tracks.ranked l (ap (λ (e : OpenEntry). e.txn) (sym there)) ∙ ap (λ e. Some (entry_view e)) (sym there)

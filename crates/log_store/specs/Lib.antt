@@ -14,3 +14,4 @@ pub mod Linked
 pub mod Table
 pub mod Committed
 pub mod Work
+pub mod TxnState

@@ -1,13 +1,11 @@
 -- The open transactions as the table stores them.
-use Rattle.std.specs.Prelude.{ℕ, ◌≡◌, ◌≢◌, ◌<◌, ◌≤◌, List, [], ◌∷◌, length, map}
+use Rattle.std.specs.Prelude.{ℕ, ◌≡◌, ◌≢◌, ◌<◌, ◌≤◌, List, [], ◌∷◌, map}
 use Rattle.std.specs.List.{All, AllByRecursion}
 use Rattle.log_store.specs.declared.claims.Claims.{Claims}
 use Rattle.log_store.specs.declared.open_entry.OpenEntry.{OpenEntry}
 use Rattle.log_store.specs.declared.seat_set.TheConstants.{SEATS}
-use Rattle.log_store.specs.declared.txn_state.TxnState.{TxnState}
 use Rattle.log_store.specs.Claims.{hold_at}
 use Rattle.log_store.specs.OpenEntry.{AreStacked, hold_among}
-use Rattle.log_store.specs.Table.{Entry}
 
 -- the number of a transaction, and its seat
 abbrev pub key_of : OpenEntry → ℕ × ℕ
@@ -27,14 +25,3 @@ pub record Tracks (begun : ℕ) (claims : Claims) (entries : List OpenEntry) : T
   pub reached : AllByRecursion (λ k. k.0 ≤ begun) (map key_of entries)
   pub sound : All IsSound entries
   pub held : (page slot seat : ℕ) → seat < SEATS → hold_at claims page slot seat ≡ hold_among entries page slot seat
-
--- the numbers of an entry
-abbrev pub state_of : Entry → TxnState
-state_of e = record {
-  txn = e.txn;
-  first = e.first;
-  last = e.last;
-  rolling = e.rolling;
-  aborted = e.aborted;
-  pending = length e.pending;
-}

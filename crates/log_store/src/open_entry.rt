@@ -85,9 +85,10 @@ fn drain_pending(pending: &mut Vec<Pending>, claims: &mut Claims, seat: u8)
 }
 
 impl OpenEntry {
-    ghost use Rattle.std.specs.Prelude.{true};
+    ghost use Rattle.std.specs.Prelude.{◌^◌, true};
     ghost use Rattle.log_store.specs.OpenEntry.{KeepsSeat, entry_view};
-    ghost use Rattle.log_store.specs.OpenTransactions.{state_of};
+    ghost use Rattle.log_store.specs.TxnState.{state_of};
+    ghost use Rattle.log_store.specs.Table.{owed_by_entry};
     ghost use Rattle.log_store.specs.Transactions.{last_of};
 
     /// The transaction makes a change: its Update has this change's LSN. An `Err` changes nothing.
@@ -141,6 +142,15 @@ impl OpenEntry {
             aborted: self.aborted,
             pending: self.pending.len(),
         }
+    }
+
+    /// How many records it may still need: one for each pending change, its Abort, and its last.
+    pub fn owed(&self) -> u64
+        requires { owed_by_entry (entry_view self.now) < 2 ^ 64 }
+        ensures { result ≡ owed_by_entry (entry_view self.now) }
+    {
+        let last = if self.aborted { 1 } else { 2 };
+        self.pending.len() as u64 + last
     }
 
     /// Its last pending change, if it has one.

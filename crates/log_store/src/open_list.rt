@@ -1,9 +1,11 @@
 //! The open transactions in the order of their numbers.
 
-ghost use Rattle.std.specs.Prelude.{ℕ, ◌≡◌, ◌<◌, ◌≤◌, ◌==◌, ◌&&◌, not, false, length, map, nat_le, None};
-ghost use Rattle.std.specs.List.{All, find, list_any, position};
+ghost use Rattle.std.specs.Prelude.{ℕ, ◌≡◌, ◌<◌, ◌==◌, ◌&&◌, ◌^◌, not, false, length, nat_le};
+ghost use Rattle.std.specs.List.{All, find, list_any, position, sum_by};
 ghost use Rattle.std.specs.Option.{option_map};
 ghost use Rattle.log_store.specs.Claims.{has_seat};
+ghost use Rattle.log_store.specs.OpenEntry.{entry_view};
+ghost use Rattle.log_store.specs.Table.{owed_by_entry};
 ghost use Rattle.log_store.specs.declared.limits.TheConstants.{MAX_OPEN};
 
 use crate::open_entry::OpenEntry;
@@ -76,4 +78,16 @@ pub fn free_seat(entries: &[OpenEntry]) -> u8
         }
     }
     unreachable!()
+}
+
+/// How many records they may still need, all together.
+pub fn owed_by(entries: &[OpenEntry]) -> u64
+    requires { sum_by (λ e. owed_by_entry (entry_view e)) entries.now < 2 ^ 64 }
+    ensures { result ≡ sum_by (λ e. owed_by_entry (entry_view e)) entries.now }
+{
+    let mut owed = 0;
+    for entry in entries {
+        owed += entry.owed();
+    }
+    owed
 }

@@ -1,18 +1,18 @@
 //! The table of open transactions.
 
-ghost use Rattle.std.specs.Prelude.{ℕ, ◌≡◌, ◌↔◌, IsTrue, IsSome, IsSomeAnd, OnOk, OnErr, MatchOption, None, [], length};
-ghost use Rattle.std.specs.Option.{option_map};
+ghost use Rattle.std.specs.Prelude.{ℕ, ◌≡◌, ◌<◌, ◌^◌, ◌↔◌, IsTrue, IsSome, IsSomeAnd, OnOk, OnErr, MatchOption, None, [], length};
+ghost use Rattle.std.specs.Option.{option_and_then, option_map};
 ghost use Rattle.log_store.specs.Growth.{MayGrow};
 ghost use Rattle.page_core.specs.declared.change.Change.{Change};
 ghost use Rattle.log_store.specs.Linked.{Compensates};
-ghost use Rattle.log_store.specs.Table.{IsActiveEntry, IsChained, MayNote, entry_in, holder_in, noted, with_entry, without_entry};
+ghost use Rattle.log_store.specs.Table.{IsActiveEntry, IsChained, MayNote, entry_in, holder_in, noted, owed_in, with_entry, without_entry};
 ghost use Rattle.log_store.specs.Transactions.{last_of};
 ghost use Rattle.log_store.specs.declared.record.Record.TheVariants.{Begin, Update, Comp, Abort};
 
 use crate::claims::Claims;
 use crate::limits::MAX_OPEN;
 use crate::open_entry::{OpenEntry, begun_entry};
-use crate::open_list::{first_other, free_seat, place_of};
+use crate::open_list::{first_other, free_seat, owed_by, place_from, place_of};
 use crate::pending_change::PendingChange;
 use crate::record::Record;
 use crate::txn_state::TxnState;
@@ -44,7 +44,7 @@ impl Model for OpenTransactions {
 }
 
 impl OpenTransactions {
-    ghost use Rattle.log_store.specs.OpenTransactions.{state_of};
+    ghost use Rattle.log_store.specs.TxnState.{next_in, state_of};
 
     /// Before the first record: no transaction began.
     pub fn new(alloc: Global) -> OpenTransactions
@@ -105,6 +105,26 @@ impl OpenTransactions {
             Some(place) => self.entries[place].last_pending(),
             None => None,
         }
+    }
+
+    /// The open transaction with the least number at or above `from`; None where there is none.
+    pub fn next_from(&self, from: TxnNo) -> Option<TxnState>
+        ensures { result ≡ option_map state_of
+            (option_and_then (entry_in self.now) (next_in self.now from)) }
+    {
+        match place_from(&self.entries, from) {
+            Some(place) => Some(self.entries[place].state()),
+            None => None,
+        }
+    }
+
+    /// How many records the open transactions may still need: one for each pending change, an Abort
+    /// of each that has none, and the last of each.
+    pub fn owed(&self) -> u64
+        requires { owed_in self.now < 2 ^ 64 }
+        ensures { result ≡ owed_in self.now }
+    {
+        owed_by(&self.entries)
     }
 
     /// The record may come next, as far as the transactions say (ARIES, section 3). Whether a Set

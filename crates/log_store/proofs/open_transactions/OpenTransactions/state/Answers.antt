@@ -1,6 +1,6 @@
 use Rattle.std.proofs.Common.{◌≡◌, ◌∙◌, Some, None, ap, sym, eqb}
 use Rattle.std.specs.Option.{option_map}
-use Rattle.log_store.specs.OpenTransactions.{state_of}
+use Rattle.log_store.specs.TxnState.{state_of}
 use Rattle.log_store.specs.Table.{Entry, Table, entry_in}
 use Rattle.log_store.proofs.Tracked.{IsAt, missing, placed}
 use Rattle.log_store.proofs.open_transactions.OpenTransactions.state.Goals as goal
