@@ -1,6 +1,6 @@
 -- Pending changes, and what they keep out.
-use Rattle.std.proofs.Common.{◌≡◌, ◌∙◌, ◌<◌, ◌&&◌, ◌||◌, ◌++◌, ◌∷◌, [], ℕ, Bool, true, false, not, List, map, cond, eqb, refl, sym, ap, subst, ⊎_elim, append_assoc, append-nil}
-use Rattle.std.proofs.lemmas.Bool.{and_from, and_parts, cases_Bool, eq-eqb, eqb-true, true≢false}
+use Rattle.std.proofs.Common.{◌≡◌, ◌∙◌, ◌<◌, ◌&&◌, ◌||◌, ◌++◌, ◌∷◌, [], ℕ, Bool, true, false, not, List, cond, eqb, refl, sym, ap, append_assoc, append-nil}
+use Rattle.std.proofs.lemmas.Bool.{and_from, and_parts, eq-eqb, eqb-true, true≢false}
 use Rattle.std.proofs.lemmas.List.{map-append}
 use Rattle.std.proofs.lemmas.List.Folds.{list_any-append}
 use Rattle.std.specs.List.{list_any}
@@ -46,16 +46,18 @@ hold_by-push cs c page slot =
 pub stacked-push : (below : List PendingChange) (ps : List Pending) (q : Pending) → AreStacked below ps
     → q.before ≡ hold_by (below ++ changes_of ps) q.change.page q.change.slot → AreStacked below (ps ++ q ∷ [])
 stacked-push below [] q s e = (rw append-nil at e, tt)
-stacked-push below (p ∷ ps) q s e =
-    (s.0, stacked-push (below ++ p.change ∷ []) ps q s.1
-    (e ∙ ap (λ cs. hold_by cs q.change.page q.change.slot) (sym (append_assoc below (p.change ∷ []) (changes_of ps)))))
+stacked-push below (p ∷ ps) q s e = (
+  s.0,
+  stacked-push (below ++ p.change ∷ []) ps q s.1
+      (e ∙ ap (λ cs. hold_by cs q.change.page q.change.slot) (sym (append_assoc below (p.change ∷ []) (changes_of ps)))),
+)
 
 pub stacked-pop : (below : List PendingChange) (ps : List Pending) (q : Pending) → AreStacked below (ps ++ q ∷ [])
     → AreStacked below ps × (q.before ≡ hold_by (below ++ changes_of ps) q.change.page q.change.slot)
 stacked-pop below [] q s = (tt, rw append-nil s.0)
 stacked-pop below (p ∷ ps) q s =
     let rest : AreStacked (below ++ p.change ∷ []) ps × (q.before ≡ hold_by ((below ++ p.change ∷ []) ++ changes_of ps) q.change.page q.change.slot)
-        = stacked-pop (below ++ p.change ∷ []) ps q s.1 in
+    = stacked-pop (below ++ p.change ∷ []) ps q s.1 in
     ((s.0, rest.0), rest.1 ∙ ap (λ cs. hold_by cs q.change.page q.change.slot) (append_assoc below (p.change ∷ []) (changes_of ps)))
 
 -- ---- the claims with it
@@ -73,8 +75,8 @@ own before after page slot seat hold within set p s =
     set p s seat within
     ∙ ap (λ b. cond ((eqb page p && eqb slot s) && b) hold (hold_at before p s seat)) (eq-eqb seat seat refl)
     ∙ (let both : (b : Bool) → cond (b && true) hold (hold_at before p s seat) ≡ cond b hold (hold_at before p s seat)
-          = λ b. elim b as (λ v. cond (v && true) hold (hold_at before p s seat) ≡ cond v hold (hold_at before p s seat))
-          [ true ↦ refl | false ↦ refl ] in
+    = λ b. elim b as (λ v. cond (v && true) hold (hold_at before p s seat) ≡ cond v hold (hold_at before p s seat))
+    [ true ↦ refl | false ↦ refl ] in
     both (eqb page p && eqb slot s))
 
 -- the same slot
@@ -98,14 +100,14 @@ held-push before after seat ps c h within held e set =
     record {
       stacked = stacked-push [] ps q held.stacked here;
       held = λ page slot.
-        own before after c.page c.slot seat (hold_with h (kind_of c.change)) within set page slot
-        ∙ cond_congr (eqb c.page page && eqb c.slot slot) (hold_with h (kind_of c.change))
-        (hold_with (hold_by (changes_of ps) page slot) (kind_of c.change)) (hold_at before page slot seat)
-        (λ t. ap (λ x. hold_with x (kind_of c.change)) (here ∙ same_place (changes_of ps) c.page c.slot page slot t))
-        ∙ ap (λ x. cond (eqb c.page page && eqb c.slot slot) (hold_with (hold_by (changes_of ps) page slot) (kind_of c.change)) x)
-        (held.held page slot)
-        ∙ sym (hold_by-push (changes_of ps) c page slot)
-        ∙ sym (ap (λ cs. hold_by cs page slot) (map-append (λ (p : Pending). p.change) ps (q ∷ [])));
+          own before after c.page c.slot seat (hold_with h (kind_of c.change)) within set page slot
+          ∙ cond_congr (eqb c.page page && eqb c.slot slot) (hold_with h (kind_of c.change))
+          (hold_with (hold_by (changes_of ps) page slot) (kind_of c.change)) (hold_at before page slot seat)
+          (λ t. ap (λ x. hold_with x (kind_of c.change)) (here ∙ same_place (changes_of ps) c.page c.slot page slot t))
+          ∙ ap (λ x. cond (eqb c.page page && eqb c.slot slot) (hold_with (hold_by (changes_of ps) page slot) (kind_of c.change)) x)
+          (held.held page slot)
+          ∙ sym (hold_by-push (changes_of ps) c page slot)
+          ∙ sym (ap (λ cs. hold_by cs page slot) (map-append (λ (p : Pending). p.change) ps (q ∷ [])));
     }
 
 -- what the pending changes kept out with one more
@@ -129,11 +131,11 @@ held-pop before after seat ps q within held set =
     record {
       stacked = below.0;
       held = λ page slot.
-        own before after q.change.page q.change.slot seat q.before within set page slot
-        ∙ back (eqb q.change.page page && eqb q.change.slot slot) q.before (hold_at before page slot seat)
-        (hold_by (changes_of ps) page slot) (hold_with (hold_by (changes_of ps) page slot) (kind_of q.change.change))
-        (λ t. below.1 ∙ same_place (changes_of ps) q.change.page q.change.slot page slot t)
-        (before-push before seat ps q held page slot);
+          own before after q.change.page q.change.slot seat q.before within set page slot
+          ∙ back (eqb q.change.page page && eqb q.change.slot slot) q.before (hold_at before page slot seat)
+          (hold_by (changes_of ps) page slot) (hold_with (hold_by (changes_of ps) page slot) (kind_of q.change.change))
+          (λ t. below.1 ∙ same_place (changes_of ps) q.change.page q.change.slot page slot t)
+          (before-push before seat ps q held page slot);
     }
 
 some_kept : (h : Hold) (k : ChangeKind) → hold_with h k ≡ no_hold → ⊥

@@ -1,7 +1,7 @@
 -- Open transactions in the order of their numbers: what a change of one leaves of the others.
-use Rattle.std.proofs.Common.{◌≡◌, ◌≢◌, ◌∙◌, ◌<◌, ◌≤◌, ◌+◌, ◌++◌, ◌∷◌, [], ℕ, zero, suc, Bool, true, false, not, List, Option, Some, None, map, length, get_or, set, cond, eqb, refl, sym, ap, subst, arith}
-use Rattle.std.proofs.lemmas.Bool.{cases_Bool, eq-eqb, eqb-true, ne_eqb}
-use Rattle.std.proofs.lemmas.List.{get_or-map, map-append, map-set, set-get_or}
+use Rattle.std.proofs.Common.{◌≡◌, ◌≢◌, ◌∙◌, ◌<◌, ◌++◌, ◌∷◌, [], ℕ, zero, suc, Bool, true, false, not, List, Some, map, length, get_or, set, cond, eqb, refl, sym, ap, subst, arith}
+use Rattle.std.proofs.lemmas.Bool.{eq-eqb, eqb-true, ne_eqb}
+use Rattle.std.proofs.lemmas.List.{get_or-map, map-set, set-get_or}
 use Rattle.std.specs.List.{AllByRecursion, filter, find, remove}
 use Rattle.log_store.specs.declared.claims.Hold.{Hold}
 use Rattle.log_store.specs.declared.open_entry.OpenEntry.{OpenEntry}
@@ -48,7 +48,7 @@ pub keys-set : (xs : List OpenEntry) (i : ℕ) (d e : OpenEntry) → i < length 
     → e.seat ≡ (get_or xs i d).seat → map key_of (set xs i e) ≡ map key_of xs
 keys-set xs i d e l t s =
     let same : key_of e ≡ key_of (get_or xs i d)
-        = ap (λ (n : ℕ). let p : ℕ × ℕ = (n, e.seat) in p) t ∙ ap (λ (n : ℕ). let p : ℕ × ℕ = ((get_or xs i d).txn, n) in p) s in
+    = ap (λ (n : ℕ). let p : ℕ × ℕ = (n, e.seat) in p) t ∙ ap (λ (n : ℕ). let p : ℕ × ℕ = ((get_or xs i d).txn, n) in p) s in
     map-set key_of xs i e ∙ ap (λ k. set (map key_of xs) i k) (same ∙ sym (get_or-map key_of xs i d (0, 0) l))
     ∙ set-get_or (map key_of xs) i (0, 0)
 
@@ -68,7 +68,7 @@ pub view-set : (g : Entry → Entry) (t : ℕ) (xs : List OpenEntry) (i : ℕ) (
 view-set g t [] i d e r l h is = absurd (omega arith)
 view-set g t (x ∷ xs) zero d e r l h is =
     let after : AllByRecursion (λ k. t < k.0) (map key_of xs)
-        = all-weaker (λ k. (x.txn < k.0) × (k.1 ≢ x.seat)) (λ k. t < k.0) (λ k p. subst (λ n. n < k.0) h p.0) (map key_of xs) r.0 in
+    = all-weaker (λ k. (x.txn < k.0) × (k.1 ≢ x.seat)) (λ k. t < k.0) (λ k p. subst (λ n. n < k.0) h p.0) (map key_of xs) r.0 in
     ap (λ b. cond b (g (entry_view x)) (entry_view x) ∷ map (λ v. cond (eqb v.txn t) (g v) v) (map entry_view xs)) (eq-eqb x.txn t h)
     ∙ ap (λ v. v ∷ map (λ v. cond (eqb v.txn t) (g v) v) (map entry_view xs)) (sym is)
     ∙ ap (λ vs. entry_view e ∷ vs) (later-kept g t xs after)
@@ -93,7 +93,7 @@ pub view-remove : (t : ℕ) (xs : List OpenEntry) (i : ℕ) (d : OpenEntry) → 
 view-remove t [] i d r l h = absurd (omega arith)
 view-remove t (x ∷ xs) zero d r l h =
     let after : AllByRecursion (λ k. t < k.0) (map key_of xs)
-        = all-weaker (λ k. (x.txn < k.0) × (k.1 ≢ x.seat)) (λ k. t < k.0) (λ k p. subst (λ n. n < k.0) h p.0) (map key_of xs) r.0 in
+    = all-weaker (λ k. (x.txn < k.0) × (k.1 ≢ x.seat)) (λ k. t < k.0) (λ k p. subst (λ n. n < k.0) h p.0) (map key_of xs) r.0 in
     let rest = filter (λ v. not (eqb v.txn t)) (map entry_view xs) in
     ap (λ b. cond (not b) (entry_view x ∷ rest) rest) (eq-eqb x.txn t h) ∙ all-kept t xs after
 view-remove t (x ∷ xs) (suc i) d r l h =

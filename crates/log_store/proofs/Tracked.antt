@@ -1,5 +1,5 @@
 -- The table of open transactions: what each change keeps.
-use Rattle.std.proofs.Common.{zero, suc, ◌≡◌, ◌≢◌, ◌∙◌, ◌<◌, ◌≤◌, ◌+◌, ◌++◌, ◌∷◌, [], ℕ, Bool, true, false, ◌&&◌, ◌||◌, not, List, Option, Some, None, map, length, get_or, set, drop, take, cond, eqb, refl, sym, ap, subst, ⊎_elim, arith}
+use Rattle.std.proofs.Common.{zero, suc, ◌≡◌, ◌≢◌, ◌∙◌, ◌<◌, ◌≤◌, ◌+◌, ◌++◌, ◌∷◌, [], ℕ, Bool, true, false, ◌&&◌, not, List, Option, Some, None, map, length, get_or, set, drop, take, cond, eqb, refl, sym, ap, subst, ⊎_elim, arith}
 use Rattle.std.proofs.lemmas.Bool.{cases_eq, eq-eqb, eqb-true, false≢true, ltb-false, ltb-true, ne_eqb, or_parts}
 use Rattle.std.proofs.lemmas.List.{get_or-map, get_or-set_same, length-set, map-append, map-set, set-get_or}
 use Rattle.std.proofs.lemmas.List.Elements.{All-nil, All-append, All-drop, All-push, All-set, All-take}
@@ -44,12 +44,12 @@ tracks-set {begun} {before} {xs} after i d e t l k =
       reached = subst (λ ks. AllByRecursion (λ j. j.0 ≤ begun) ks) (sym keys) t.reached;
       sound = All-set IsSound xs i e (subst (λ n. n < SEATS) (sym k.seat) (t.sound i d l).0, k.held.stacked) t.sound;
       held = λ page slot seat within. (⊎_elim
-        (λ same. ap (λ n. hold_at after page slot n) (sym same) ∙ k.held.held page slot
-        ∙ sym (ap (λ b. cond b (hold_by (changes_of e.pending.items) page slot) (hold_among xs page slot seat)) (eq-eqb e.seat seat same)))
-        (λ other. k.others page slot seat within (λ is. other (k.seat ∙ sym is)) ∙ t.held page slot seat within
-        ∙ sym (ap (λ b. cond b (hold_by (changes_of e.pending.items) page slot) (hold_among xs page slot seat)) (ne_eqb e.seat seat other)))
-        (cases_eq e.seat seat))
-        ∙ sym (hold-set xs i d e page slot seat t.ranked l k.seat);
+          (λ same. ap (λ n. hold_at after page slot n) (sym same) ∙ k.held.held page slot
+          ∙ sym (ap (λ b. cond b (hold_by (changes_of e.pending.items) page slot) (hold_among xs page slot seat)) (eq-eqb e.seat seat same)))
+          (λ other. k.others page slot seat within (λ is. other (k.seat ∙ sym is)) ∙ t.held page slot seat within
+          ∙ sym (ap (λ b. cond b (hold_by (changes_of e.pending.items) page slot) (hold_among xs page slot seat)) (ne_eqb e.seat seat other)))
+          (cases_eq e.seat seat))
+          ∙ sym (hold-set xs i d e page slot seat t.ranked l k.seat);
     }
 
 -- ---- one more
@@ -76,8 +76,8 @@ tracks-push {begun} {claims} {xs} e t next within free none =
     record {
       ranked = subst AreRanked (sym keys) (ranked-push (map key_of xs) (key_of e) t.ranked beside);
       reached = subst (λ ks. AllByRecursion (λ j. j.0 ≤ begun + 1) ks) (sym keys)
-        (all-push (λ j. j.0 ≤ begun + 1) (map key_of xs) (key_of e) (above begun (map key_of xs) t.reached)
-        (let last : e.txn ≤ begun + 1 = omega arith in last));
+          (all-push (λ j. j.0 ≤ begun + 1) (map key_of xs) (key_of e) (above begun (map key_of xs) t.reached)
+          (let last : e.txn ≤ begun + 1 = omega arith in last));
       sound = All-push IsSound xs e t.sound (within, subst (λ ps. AreStacked [] ps) (sym none) tt);
       held = λ page slot seat inside. t.held page slot seat inside ∙ sym (hold-push xs e page slot seat none);
     }

@@ -1,6 +1,6 @@
 -- Which open transactions keep others from a slot, by their seats.
-use Rattle.std.specs.Prelude.{ℕ, ◌==◌, Bool, true, false, ◌||◌, not, Option}
-use Rattle.std.specs.BTreeMap.{BTreeMap, get}
+use Rattle.std.specs.Prelude.{ℕ, ◌==◌, Bool, true, false}
+use Rattle.std.specs.BTreeMap.{get}
 use Rattle.std.specs.Int.{bit_at}
 use Rattle.std.specs.Option.{unwrap_or}
 use Rattle.std.specs.declared.cmp.Ordering.{Ordering}
@@ -11,7 +11,6 @@ use Rattle.log_store.specs.declared.claims.Claim.{Claim}
 use Rattle.log_store.specs.declared.claims.Claims.{Claims}
 use Rattle.log_store.specs.declared.claims.Hold.{Hold}
 use Rattle.log_store.specs.declared.seat_set.SeatSet.{SeatSet}
-use Rattle.log_store.specs.Transactions.{is_add}
 
 -- ---- sets of seats
 

@@ -1,5 +1,4 @@
 -- Which records may need memory.
-use Rattle.std.specs.Prelude.{ℕ}
 use Rattle.log_store.specs.declared.record.Record.{Record}
 use Rattle.log_store.specs.declared.record.Record.TheVariants.{Begin, Update, Comp, Commit, Abort, End}
 

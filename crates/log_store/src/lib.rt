@@ -39,4 +39,6 @@ pub use sink::RecordSink;
 pub use txn_state::TxnState;
 
 #[cfg(test)]
+mod open_tests;
+#[cfg(test)]
 mod tests;

@@ -85,7 +85,7 @@ fn drain_pending(pending: &mut Vec<Pending>, claims: &mut Claims, seat: u8)
 }
 
 impl OpenEntry {
-    ghost use Rattle.std.specs.Prelude.{◌^◌, true};
+    ghost use Rattle.std.specs.Prelude.{min, true};
     ghost use Rattle.log_store.specs.OpenEntry.{KeepsSeat, entry_view};
     ghost use Rattle.log_store.specs.TxnState.{state_of};
     ghost use Rattle.log_store.specs.Table.{owed_by_entry};
@@ -96,7 +96,9 @@ impl OpenEntry {
         requires seat { self.old.seat < SEATS }
         requires held { IsHeld claims.old self.old.seat self.old.pending.items }
         ensures ok { OnOk result (entry_view self.new ≡ record (entry_view self.old) {
-            last = change.lsn; pending = (entry_view self.old).pending ++ change ∷ [] }) }
+          last = change.lsn;
+          pending = (entry_view self.old).pending ++ change ∷ [];
+        }) }
         ensures err { OnErr result (entry_view self.new ≡ entry_view self.old) }
         ensures kept { KeepsSeat self.old self.new claims.old claims.new }
     {
@@ -111,7 +113,10 @@ impl OpenEntry {
         requires seat { self.old.seat < SEATS }
         requires held { IsHeld claims.old self.old.seat self.old.pending.items }
         ensures entry { entry_view self.new ≡ record (entry_view self.old) {
-            last = lsn; rolling = true; pending = without_last (entry_view self.old).pending } }
+          last = lsn;
+          rolling = true;
+          pending = without_last (entry_view self.old).pending;
+        } }
         ensures kept { KeepsSeat self.old self.new claims.old claims.new }
     {
         pop_pending(&mut self.pending, claims, self.seat);
@@ -122,7 +127,10 @@ impl OpenEntry {
     /// The transaction begins to roll back, by an Abort of this LSN.
     pub fn abort(&mut self, lsn: Lsn)
         ensures entry { entry_view self.new ≡ record (entry_view self.old) {
-            last = lsn; rolling = true; aborted = true } }
+          last = lsn;
+          rolling = true;
+          aborted = true;
+        } }
         ensures same { (self.new.seat ≡ self.old.seat) × (self.new.pending.items ≡ self.old.pending.items) }
     {
         self.last = lsn;
@@ -146,11 +154,10 @@ impl OpenEntry {
 
     /// How many records it may still need: one for each pending change, its Abort, and its last.
     pub fn owed(&self) -> u64
-        requires { owed_by_entry (entry_view self.now) < 2 ^ 64 }
-        ensures { result ≡ owed_by_entry (entry_view self.now) }
+        ensures { result ≡ min (owed_by_entry (entry_view self.now)) u64.MAX }
     {
         let last = if self.aborted { 1 } else { 2 };
-        self.pending.len() as u64 + last
+        (self.pending.len() as u64).saturating_add(last)
     }
 
     /// Its last pending change, if it has one.

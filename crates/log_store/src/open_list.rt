@@ -1,6 +1,6 @@
 //! The open transactions in the order of their numbers.
 
-ghost use Rattle.std.specs.Prelude.{ℕ, ◌≡◌, ◌<◌, ◌==◌, ◌&&◌, ◌^◌, not, false, length, nat_le};
+ghost use Rattle.std.specs.Prelude.{ℕ, ◌≡◌, ◌<◌, ◌==◌, ◌&&◌, not, false, length, min, nat_le};
 ghost use Rattle.std.specs.List.{All, find, list_any, position, sum_by};
 ghost use Rattle.std.specs.Option.{option_map};
 ghost use Rattle.log_store.specs.Claims.{has_seat};
@@ -82,12 +82,11 @@ pub fn free_seat(entries: &[OpenEntry]) -> u8
 
 /// How many records they may still need, all together.
 pub fn owed_by(entries: &[OpenEntry]) -> u64
-    requires { sum_by (λ e. owed_by_entry (entry_view e)) entries.now < 2 ^ 64 }
-    ensures { result ≡ sum_by (λ e. owed_by_entry (entry_view e)) entries.now }
+    ensures { result ≡ min (sum_by (λ e. owed_by_entry (entry_view e)) entries.now) u64.MAX }
 {
-    let mut owed = 0;
+    let mut owed = 0u64;
     for entry in entries {
-        owed += entry.owed();
+        owed = owed.saturating_add(entry.owed());
     }
     owed
 }

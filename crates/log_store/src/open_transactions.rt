@@ -1,6 +1,6 @@
 //! The table of open transactions.
 
-ghost use Rattle.std.specs.Prelude.{ℕ, ◌≡◌, ◌<◌, ◌^◌, ◌↔◌, IsTrue, IsSome, IsSomeAnd, OnOk, OnErr, MatchOption, None, [], length};
+ghost use Rattle.std.specs.Prelude.{ℕ, ◌≡◌, ◌↔◌, min, IsTrue, IsSome, IsSomeAnd, OnOk, OnErr, MatchOption, None, [], length};
 ghost use Rattle.std.specs.Option.{option_and_then, option_map};
 ghost use Rattle.log_store.specs.Growth.{MayGrow};
 ghost use Rattle.page_core.specs.declared.change.Change.{Change};
@@ -73,13 +73,7 @@ impl OpenTransactions {
 
     /// The least other open transaction that holds a slot against a change of this kind by `txn`;
     /// None where nobody does. It looks at one claim, and at no pending change.
-    pub fn holder(
-        &self,
-        page: PageNo,
-        slot: SlotNo,
-        kind: ChangeKind,
-        txn: TxnNo,
-    ) -> Option<TxnNo>
+    pub fn holder(&self, page: PageNo, slot: SlotNo, kind: ChangeKind, txn: TxnNo) -> Option<TxnNo>
         ensures { result ≡ holder_in self.now page slot kind txn }
     {
         let seats = self.claims.claim(page, slot).against(kind);
@@ -119,10 +113,10 @@ impl OpenTransactions {
     }
 
     /// How many records the open transactions may still need: one for each pending change, an Abort
-    /// of each that has none, and the last of each.
+    /// of each that has none, and the last of each. A number that is too large for the type is cut
+    /// to the largest one.
     pub fn owed(&self) -> u64
-        requires { owed_in self.now < 2 ^ 64 }
-        ensures { result ≡ owed_in self.now }
+        ensures { result ≡ min (owed_in self.now) u64.MAX }
     {
         owed_by(&self.entries)
     }
@@ -189,10 +183,11 @@ impl OpenTransactions {
             × IsSomeAnd (last_of e.pending) (Compensates undo_next page slot change)) }
     {
         match self.state(txn) {
-            Some(state) => state.last == prev && match self.last_pending(txn) {
-                Some(last) => compensates(undo_next, page, slot, change, &last),
-                None => false,
-            },
+            Some(state) => state.last == prev
+                && match self.last_pending(txn) {
+                    Some(last) => compensates(undo_next, page, slot, change, &last),
+                    None => false,
+                },
             None => false,
         }
     }

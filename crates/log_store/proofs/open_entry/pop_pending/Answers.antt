@@ -1,4 +1,4 @@
-use Rattle.std.proofs.Common.{◌∙◌, ap, sym, subst}
+use Rattle.std.proofs.Common.{subst}
 use Rattle.log_store.specs.OpenEntry.{IsHeld}
 use Rattle.log_store.proofs.Holds.{sure_ok}
 use Rattle.log_store.proofs.Pendings.{held-pop, held-some}

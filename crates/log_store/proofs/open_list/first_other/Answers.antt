@@ -1,6 +1,5 @@
-use Rattle.std.proofs.Common.{Bool, Some, ◌∙◌, ◌≡◌, ◌&&◌, not, eqb, ap, sym, false}
+use Rattle.std.proofs.Common.{Bool, Some, ◌∙◌, ◌&&◌, not, eqb, ap, sym}
 use Rattle.std.proofs.lemmas.Bool.{and_right}
-use Rattle.std.specs.List.{find}
 use Rattle.std.specs.Option.{option_map}
 use Rattle.log_store.specs.declared.open_entry.OpenEntry.{OpenEntry}
 use Rattle.log_store.specs.Claims.{has_seat}

@@ -1,7 +1,6 @@
-use Rattle.std.proofs.Common.{◌≡◌, ◌∙◌, ap, sym}
-use Rattle.std.specs.BTreeMap.{get}
+use Rattle.std.proofs.Common.{◌∙◌, ap}
 use Rattle.std.specs.Option.{unwrap_or}
-use Rattle.log_store.specs.Claims.{claim_at, no_claim, place_cmp}
+use Rattle.log_store.specs.Claims.{claim_at, no_claim}
 use Rattle.log_store.proofs.claims.Claims.claim.Goals as goal
 
 pub returns-in-Some : goal.returns-in-Some

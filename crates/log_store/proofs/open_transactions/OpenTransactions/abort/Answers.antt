@@ -1,24 +1,22 @@
-use Rattle.std.proofs.Common.{◌≡◌, ◌∙◌, ap, sym, map}
-use Rattle.log_store.specs.OpenEntry.{entry_view}
-use Rattle.log_store.specs.Table.{Table, entry_after, with_entry, without_entry}
-use Rattle.log_store.specs.declared.record.Record.TheVariants.{Update, Comp, Abort}
-use Rattle.log_store.proofs.Tracked.{IsAt, held-at, never, placed, tracks-alone, tracks-drop, tracks-put, view-drop, view-put, view-same}
-use Rattle.std.proofs.lemmas.Result.{on_err_weaker, on_ok_weaker}
+use Rattle.std.proofs.Common.{◌∙◌, ap, sym}
+use Rattle.log_store.specs.Table.{Table, entry_after, with_entry}
+use Rattle.log_store.specs.declared.record.Record.TheVariants.{Abort}
+use Rattle.log_store.proofs.Tracked.{IsAt, never, placed, tracks-alone, view-put}
 use Rattle.log_store.proofs.open_transactions.OpenTransactions.abort.Goals as goal
 
 pub invariant_of-self : goal.invariant_of-self
 invariant_of-self c =
     let at : IsAt c.self.inside.entries.items c.in-Some.place c.args.txn c.index_mut-entry.result.now
-        = placed c.args.txn c.self.inside.entries.items c.deref.result.now c.in-Some.place c.index_mut-entry.result.now
-        c.deref.ensures.value c.in-Some.ensures c.index_mut-entry.ensures.value in
+    = placed c.args.txn c.self.inside.entries.items c.deref.result.now c.in-Some.place c.index_mut-entry.result.now
+    c.deref.ensures.value c.in-Some.ensures c.index_mut-entry.ensures.value in
     tracks-alone at c.self.invariant c.abort.new.self (ap (λ v. v.txn) c.abort.ensures.entry) c.abort.ensures.same.0
     c.abort.ensures.same.1
 
 pub returns-in-Some : goal.returns-in-Some
 returns-in-Some c = λ prev.
     let at : IsAt c.self.inside.entries.items c.in-Some.place c.args.txn c.index_mut-entry.result.now
-        = placed c.args.txn c.self.inside.entries.items c.deref.result.now c.in-Some.place c.index_mut-entry.result.now
-        c.deref.ensures.value c.in-Some.ensures c.index_mut-entry.ensures.value in
+    = placed c.args.txn c.self.inside.entries.items c.deref.result.now c.in-Some.place c.index_mut-entry.result.now
+    c.deref.ensures.value c.in-Some.ensures c.index_mut-entry.ensures.value in
     ap (λ es. let v : Table = record { begun = c.self.inside.begun; entries = es } in v)
     (sym (view-put at c.self.invariant (λ v. entry_after v (Abort c.args.lsn c.args.txn prev)) c.abort.new.self c.abort.ensures.entry))
     ∙ ap (λ (v : Table). with_entry v c.args.txn (Abort c.args.lsn c.args.txn prev)) c.self.view_is

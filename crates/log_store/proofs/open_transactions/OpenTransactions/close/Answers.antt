@@ -1,31 +1,29 @@
-use Rattle.std.proofs.Common.{◌≡◌, ◌∙◌, ap, sym, map}
+use Rattle.std.proofs.Common.{◌∙◌, ap, sym, map}
 use Rattle.log_store.specs.OpenEntry.{entry_view}
-use Rattle.log_store.specs.Table.{Table, entry_after, with_entry, without_entry}
-use Rattle.log_store.specs.declared.record.Record.TheVariants.{Update, Comp, Abort}
-use Rattle.log_store.proofs.Tracked.{IsAt, held-at, never, placed, tracks-alone, tracks-drop, tracks-put, view-drop, view-put, view-same}
-use Rattle.std.proofs.lemmas.Result.{on_err_weaker, on_ok_weaker}
+use Rattle.log_store.specs.Table.{Table, without_entry}
+use Rattle.log_store.proofs.Tracked.{IsAt, held-at, never, placed, tracks-drop, view-drop}
 use Rattle.log_store.proofs.open_transactions.OpenTransactions.close.Goals as goal
 
 pub release-requires-clause-held : goal.release-requires-clause-held
 release-requires-clause-held c =
     let at : IsAt c.self.inside.entries.items c.in-Some.place c.args.txn c.index_mut-entry.result.now
-        = placed c.args.txn c.self.inside.entries.items c.deref.result.now c.in-Some.place c.index_mut-entry.result.now
-        c.deref.ensures.value c.in-Some.ensures c.index_mut-entry.ensures.value in
+    = placed c.args.txn c.self.inside.entries.items c.deref.result.now c.in-Some.place c.index_mut-entry.result.now
+    c.deref.ensures.value c.in-Some.ensures c.index_mut-entry.ensures.value in
     held-at at c.self.invariant
 
 pub invariant_of-self : goal.invariant_of-self
 invariant_of-self c =
     let at : IsAt c.self.inside.entries.items c.in-Some.place c.args.txn c.index_mut-entry.result.now
-        = placed c.args.txn c.self.inside.entries.items c.deref.result.now c.in-Some.place c.index_mut-entry.result.now
-        c.deref.ensures.value c.in-Some.ensures c.index_mut-entry.ensures.value in
+    = placed c.args.txn c.self.inside.entries.items c.deref.result.now c.in-Some.place c.index_mut-entry.result.now
+    c.deref.ensures.value c.in-Some.ensures c.index_mut-entry.ensures.value in
     rw c.remove.ensures.items
     (tracks-drop at c.self.invariant c.release.new.claims c.release.new.self c.release.ensures.kept c.release.ensures.changes)
 
 pub returns-in-Some : goal.returns-in-Some
 returns-in-Some c =
     let at : IsAt c.self.inside.entries.items c.in-Some.place c.args.txn c.index_mut-entry.result.now
-        = placed c.args.txn c.self.inside.entries.items c.deref.result.now c.in-Some.place c.index_mut-entry.result.now
-        c.deref.ensures.value c.in-Some.ensures c.index_mut-entry.ensures.value in
+    = placed c.args.txn c.self.inside.entries.items c.deref.result.now c.in-Some.place c.index_mut-entry.result.now
+    c.deref.ensures.value c.in-Some.ensures c.index_mut-entry.ensures.value in
     ap (λ es. let v : Table = record { begun = c.self.inside.begun; entries = es } in v)
     (ap (map entry_view) c.remove.ensures.items
     ∙ sym (view-drop at c.self.invariant c.release.new.self c.release.ensures.kept.txn c.release.ensures.kept.seat))

@@ -1,4 +1,4 @@
-use Rattle.std.proofs.Common.{◌≡◌, ◌∙◌, Some, None, ap, sym, eqb, refl}
+use Rattle.std.proofs.Common.{◌≡◌, ◌∙◌, None, ap, sym, eqb, refl}
 use Rattle.log_store.specs.OpenEntry.{entry_view}
 use Rattle.log_store.specs.Table.{Table, entry_in}
 use Rattle.log_store.specs.Transactions.{last_of}
@@ -8,8 +8,8 @@ use Rattle.log_store.proofs.open_transactions.OpenTransactions.last_pending.Goal
 pub returns-in-Some : goal.returns-in-Some
 returns-in-Some c =
     let at : IsAt c.self.inside.entries.items c.in-Some.place c.args.txn c.index.result.now
-        = placed c.args.txn c.self.inside.entries.items c.deref.result.now c.in-Some.place c.index.result.now c.deref.ensures.value
-        c.in-Some.ensures c.index.ensures in
+    = placed c.args.txn c.self.inside.entries.items c.deref.result.now c.in-Some.place c.index.result.now c.deref.ensures.value
+    c.in-Some.ensures c.index.ensures in
     match_some (entry_in c.args.self.now c.args.txn) (entry_view c.index.result.now) (c.last_pending.result ≡ None)
     (λ e. c.last_pending.result ≡ last_of e.pending)
     (ap (λ (v : Table). entry_in v c.args.txn) (sym c.self.view_is) ∙ at.found) c.last_pending.ensures

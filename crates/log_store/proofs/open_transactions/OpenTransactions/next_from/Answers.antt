@@ -20,7 +20,7 @@ returns-in-Some c =
     let xs = c.self.inside.entries.items in
     let x = c.index.result.now in
     let at : Some c.in-Some.place ≡ position (λ e. leb c.args.from e.txn) xs
-        = c.in-Some.ensures ∙ ap (position (λ (e : OpenEntry). leb c.args.from e.txn)) c.deref.ensures.value in
+    = c.in-Some.ensures ∙ ap (position (λ (e : OpenEntry). leb c.args.from e.txn)) c.deref.ensures.value in
     let first = found-first (λ e. leb c.args.from e.txn) xs c.in-Some.place x at in
     let table : Table = record { begun = c.self.inside.begun; entries = map entry_view xs } in
     ap Some c.state.ensures
@@ -33,7 +33,7 @@ pub returns-in-None : goal.returns-in-None
 returns-in-None c =
     let xs = c.self.inside.entries.items in
     let none : find (λ e. leb c.args.from e.txn) xs ≡ None
-        = found-none (λ e. leb c.args.from e.txn) xs (c.in-None.ensures ∙ ap (position (λ (e : OpenEntry). leb c.args.from e.txn)) c.deref.ensures.value) in
+    = found-none (λ e. leb c.args.from e.txn) xs (c.in-None.ensures ∙ ap (position (λ (e : OpenEntry). leb c.args.from e.txn)) c.deref.ensures.value) in
     let table : Table = record { begun = c.self.inside.begun; entries = map entry_view xs } in
     ap (λ o. option_map state_of (option_and_then (entry_in table) o))
     (sym (least-next c.args.from c.self.invariant ∙ ap (option_map (λ (e : OpenEntry). e.txn)) none))
