@@ -20,7 +20,8 @@ use Rattle.log_store.specs.Claims.{has_seat, hold_in, no_claim, no_hold, no_seat
 pub with_bit : (n k i : ℕ) → k < 64 → i < 64
     → eqb (bit_at (bit_or n (1 * 2 ^ k % 2 ^ 64)) i) 1 ≡ cond (eqb i k) true (eqb (bit_at n i) 1)
 with_bit n k i within below = ⊎_elim
-    (λ e. ap (λ j. eqb (bit_at (bit_or n (1 * 2 ^ k % 2 ^ 64)) j) 1) e ∙ ap (λ b. eqb b 1) (bit_at_set_same w64 n k within)
+    (λ e. ap (λ j. eqb (bit_at (bit_or n (1 * 2 ^ k % 2 ^ 64)) j) 1) e
+    ∙ ap (λ b. eqb b 1) (bit_at_set_same w64 n k within)
     ∙ sym (ap (λ t. cond t true (eqb (bit_at n i) 1)) (eq-eqb i k e)))
     (λ ne. ap (λ b. eqb b 1) (bit_at_set_other w64 n k within i ne)
     ∙ sym (ap (λ t. cond t true (eqb (bit_at n i) 1)) (ne_eqb i k ne)))

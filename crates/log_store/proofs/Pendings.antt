@@ -27,17 +27,23 @@ or_false false = refl
 one_more : (b : Bool) (k : ChangeKind) (x y : Bool) → (let h : Hold = record {
   against_sets = x || ((b && not (is_add kind.Set && is_add k)) || false);
   against_adds = y || ((b && not (is_add kind.Add && is_add k)) || false);
-} in h) ≡ cond b (hold_with (record { against_sets = x; against_adds = y }) k) (record { against_sets = x; against_adds = y })
+} in h) ≡ cond b (hold_with (record { against_sets = x; against_adds = y }) k)
+    (record { against_sets = x; against_adds = y })
 one_more true kind.Set x y = rw (or_true x, or_true y)
 one_more true kind.Add x y = rw (or_true x, or_false y)
 one_more false k x y = rw (or_false x, or_false y)
 
 pub hold_by-push : (cs : List PendingChange) (c : PendingChange) (page slot : ℕ)
     → hold_by (cs ++ c ∷ []) page slot
-    ≡ cond (eqb c.page page && eqb c.slot slot) (hold_with (hold_by cs page slot) (kind_of c.change)) (hold_by cs page slot)
+    ≡ cond (eqb c.page page && eqb c.slot slot) (hold_with (hold_by cs page slot) (kind_of c.change))
+    (hold_by cs page slot)
 unfolding hold_by
 hold_by-push cs c page slot =
-    rw (list_any-append (keeps_out page slot kind.Set) cs (c ∷ []), list_any-append (keeps_out page slot kind.Add) cs (c ∷ []))
+    rw (
+      list_any-append (keeps_out page slot kind.Set) cs (c ∷ []),
+      list_any-append (keeps_out page slot kind.Add) cs
+          (c ∷ []),
+    )
     (one_more (eqb c.page page && eqb c.slot slot) (kind_of c.change) (list_any (keeps_out page slot kind.Set) cs)
     (list_any (keeps_out page slot kind.Add) cs))
 
@@ -49,16 +55,21 @@ stacked-push below [] q s e = (rw append-nil at e, tt)
 stacked-push below (p ∷ ps) q s e = (
   s.0,
   stacked-push (below ++ p.change ∷ []) ps q s.1
-      (e ∙ ap (λ cs. hold_by cs q.change.page q.change.slot) (sym (append_assoc below (p.change ∷ []) (changes_of ps)))),
+      (e ∙ ap (λ cs. hold_by cs q.change.page q.change.slot)
+      (sym (append_assoc below (p.change ∷ []) (changes_of ps)))),
 )
 
 pub stacked-pop : (below : List PendingChange) (ps : List Pending) (q : Pending) → AreStacked below (ps ++ q ∷ [])
     → AreStacked below ps × (q.before ≡ hold_by (below ++ changes_of ps) q.change.page q.change.slot)
 stacked-pop below [] q s = (tt, rw append-nil s.0)
 stacked-pop below (p ∷ ps) q s =
-    let rest : AreStacked (below ++ p.change ∷ []) ps × (q.before ≡ hold_by ((below ++ p.change ∷ []) ++ changes_of ps) q.change.page q.change.slot)
-    = stacked-pop (below ++ p.change ∷ []) ps q s.1 in
-    ((s.0, rest.0), rest.1 ∙ ap (λ cs. hold_by cs q.change.page q.change.slot) (append_assoc below (p.change ∷ []) (changes_of ps)))
+    let rest : AreStacked (below ++ p.change ∷ []) ps ×
+    (q.before ≡ hold_by ((below ++ p.change ∷ []) ++ changes_of ps) q.change.page q.change.slot)
+    = stacked-pop (below ++ p.change ∷ []) ps q s.1 in (
+      (s.0, rest.0),
+      rest.1 ∙ ap (λ cs. hold_by cs q.change.page q.change.slot)
+          (append_assoc below (p.change ∷ []) (changes_of ps)),
+    )
 
 -- ---- the claims with it
 
@@ -69,7 +80,8 @@ SetsHold before after page slot seat hold =
     → hold_at after p s other ≡ cond ((eqb page p && eqb slot s) && eqb other seat) hold (hold_at before p s other)
 
 -- of one seat
-own : (before after : Claims) (page slot seat : ℕ) (hold : Hold) → seat < SEATS → SetsHold before after page slot seat hold
+own : (before after : Claims) (page slot seat : ℕ) (hold : Hold) → seat < SEATS
+    → SetsHold before after page slot seat hold
     → (p s : ℕ) → hold_at after p s seat ≡ cond (eqb page p && eqb slot s) hold (hold_at before p s seat)
 own before after page slot seat hold within set p s =
     set p s seat within
@@ -104,7 +116,8 @@ held-push before after seat ps c h within held e set =
           ∙ cond_congr (eqb c.page page && eqb c.slot slot) (hold_with h (kind_of c.change))
           (hold_with (hold_by (changes_of ps) page slot) (kind_of c.change)) (hold_at before page slot seat)
           (λ t. ap (λ x. hold_with x (kind_of c.change)) (here ∙ same_place (changes_of ps) c.page c.slot page slot t))
-          ∙ ap (λ x. cond (eqb c.page page && eqb c.slot slot) (hold_with (hold_by (changes_of ps) page slot) (kind_of c.change)) x)
+          ∙ ap (λ x. cond (eqb c.page page && eqb c.slot slot)
+          (hold_with (hold_by (changes_of ps) page slot) (kind_of c.change)) x)
           (held.held page slot)
           ∙ sym (hold_by-push (changes_of ps) c page slot)
           ∙ sym (ap (λ cs. hold_by cs page slot) (map-append (λ (p : Pending). p.change) ps (q ∷ [])));
@@ -113,7 +126,8 @@ held-push before after seat ps c h within held e set =
 -- what the pending changes kept out with one more
 before-push : (before : Claims) (seat : ℕ) (ps : List Pending) (q : Pending) → IsHeld before seat (ps ++ q ∷ [])
     → (page slot : ℕ) → hold_at before page slot seat
-    ≡ cond (eqb q.change.page page && eqb q.change.slot slot) (hold_with (hold_by (changes_of ps) page slot) (kind_of q.change.change))
+    ≡ cond (eqb q.change.page page && eqb q.change.slot slot)
+    (hold_with (hold_by (changes_of ps) page slot) (kind_of q.change.change))
     (hold_by (changes_of ps) page slot)
 before-push before seat ps q held page slot =
     held.held page slot ∙ ap (λ cs. hold_by cs page slot) (map-append (λ (p : Pending). p.change) ps (q ∷ []))

@@ -28,14 +28,16 @@ use Rattle.log_store.proofs.Ranks.{find-place, all-push, all-remove, hold-at, ho
 
 -- ---- one of them
 
-pub tracks-at : {begun : ℕ} {claims : Claims} {xs : List OpenEntry} (i : ℕ) (d : OpenEntry) → Tracks begun claims xs → i < length xs
+pub tracks-at : {begun : ℕ} {claims : Claims} {xs : List OpenEntry} (i : ℕ) (d : OpenEntry) → Tracks begun claims xs
+    → i < length xs
     → IsHeld claims (get_or xs i d).seat (get_or xs i d).pending.items
 tracks-at {begun} {claims} {xs} i d t l = record {
   stacked = (t.sound i d l).1;
   held = λ page slot. t.held page slot (get_or xs i d).seat (t.sound i d l).0 ∙ hold-at xs i d page slot t.ranked l;
 }
 
-pub tracks-set : {begun : ℕ} {before : Claims} {xs : List OpenEntry} (after : Claims) (i : ℕ) (d e : OpenEntry) → Tracks begun before xs
+pub tracks-set : {begun : ℕ} {before : Claims} {xs : List OpenEntry} (after : Claims) (i : ℕ) (d e : OpenEntry)
+    → Tracks begun before xs
     → i < length xs → KeepsSeat (get_or xs i d) e before after → Tracks begun after (set xs i e)
 tracks-set {begun} {before} {xs} after i d e t l k =
     let keys = keys-set xs i d e l k.txn k.seat in
@@ -45,9 +47,11 @@ tracks-set {begun} {before} {xs} after i d e t l k =
       sound = All-set IsSound xs i e (subst (λ n. n < SEATS) (sym k.seat) (t.sound i d l).0, k.held.stacked) t.sound;
       held = λ page slot seat within. (⊎_elim
           (λ same. ap (λ n. hold_at after page slot n) (sym same) ∙ k.held.held page slot
-          ∙ sym (ap (λ b. cond b (hold_by (changes_of e.pending.items) page slot) (hold_among xs page slot seat)) (eq-eqb e.seat seat same)))
+          ∙ sym (ap (λ b. cond b (hold_by (changes_of e.pending.items) page slot) (hold_among xs page slot seat))
+          (eq-eqb e.seat seat same)))
           (λ other. k.others page slot seat within (λ is. other (k.seat ∙ sym is)) ∙ t.held page slot seat within
-          ∙ sym (ap (λ b. cond b (hold_by (changes_of e.pending.items) page slot) (hold_among xs page slot seat)) (ne_eqb e.seat seat other)))
+          ∙ sym (ap (λ b. cond b (hold_by (changes_of e.pending.items) page slot) (hold_among xs page slot seat))
+          (ne_eqb e.seat seat other)))
           (cases_eq e.seat seat))
           ∙ sym (hold-set xs i d e page slot seat t.ranked l k.seat);
     }
@@ -63,7 +67,8 @@ apart begun seat (x ∷ xs) a free =
     let below : x.txn ≤ begun = a.0 in
     ((omega arith, λ same. false≢true (sym parts.0 ∙ eq-eqb seat x.seat same)), apart begun seat xs a.1 parts.1)
 
-above : (begun : ℕ) (ks : List (ℕ × ℕ)) → AllByRecursion (λ k. k.0 ≤ begun) ks → AllByRecursion (λ k. k.0 ≤ begun + 1) ks
+above : (begun : ℕ) (ks : List (ℕ × ℕ)) → AllByRecursion (λ k. k.0 ≤ begun) ks
+    → AllByRecursion (λ k. k.0 ≤ begun + 1) ks
 above begun [] a = tt
 above begun (k ∷ ks) a = let below : k.0 ≤ begun = a.0 in (omega arith, above begun ks a.1)
 
@@ -72,7 +77,8 @@ pub tracks-push : {begun : ℕ} {claims : Claims} {xs : List OpenEntry} (e : Ope
     → Tracks (begun + 1) claims (xs ++ e ∷ [])
 tracks-push {begun} {claims} {xs} e t next within free none =
     let keys = map-append key_of xs (e ∷ []) in
-    let beside = subst (λ n. AllByRecursion (λ k. (k.0 < n) × (e.seat ≢ k.1)) (map key_of xs)) (sym next) (apart begun e.seat xs t.reached free) in
+    let beside = subst (λ n. AllByRecursion (λ k. (k.0 < n) × (e.seat ≢ k.1)) (map key_of xs)) (sym next)
+    (apart begun e.seat xs t.reached free) in
     record {
       ranked = subst AreRanked (sym keys) (ranked-push (map key_of xs) (key_of e) t.ranked beside);
       reached = subst (λ ks. AllByRecursion (λ j. j.0 ≤ begun + 1) ks) (sym keys)
@@ -84,13 +90,16 @@ tracks-push {begun} {claims} {xs} e t next within free none =
 
 -- ---- one less
 
-pub tracks-remove : {begun : ℕ} {claims : Claims} {xs : List OpenEntry} (i : ℕ) (d : OpenEntry) → Tracks begun claims xs → i < length xs
+pub tracks-remove : {begun : ℕ} {claims : Claims} {xs : List OpenEntry} (i : ℕ) (d : OpenEntry)
+    → Tracks begun claims xs → i < length xs
     → (get_or xs i d).pending.items ≡ [] → Tracks begun claims (remove xs i)
 tracks-remove {begun} {claims} {xs} i d t l none = record {
   ranked = ranked-remove xs i t.ranked l;
   reached = all-remove (λ j. j.0 ≤ begun) xs i t.reached l;
-  sound = All-append IsSound (take i xs) (drop (suc i) xs) (All-take IsSound i xs t.sound) (All-drop IsSound (suc i) xs t.sound);
-  held = λ page slot seat inside. t.held page slot seat inside ∙ sym (hold-remove xs i d page slot seat t.ranked l none);
+  sound = All-append IsSound (take i xs) (drop (suc i) xs) (All-take IsSound i xs t.sound)
+      (All-drop IsSound (suc i) xs t.sound);
+  held = λ page slot seat inside. t.held page slot seat inside
+      ∙ sym (hold-remove xs i d page slot seat t.ranked l none);
 }
 
 pub remove-set : (xs : List OpenEntry) (i : ℕ) (e : OpenEntry) → i < length xs → remove (set xs i e) i ≡ remove xs i
@@ -152,27 +161,32 @@ placed t xs ys i x same e there =
       within = parts.0;
       there = sym there;
       txn = eqb-true x.txn t (ap (λ (e : OpenEntry). eqb e.txn t) there ∙ parts.1);
-      found = find-view (λ v. eqb v.txn t) xs ∙ ap (option_map entry_view) says.1 ∙ ap (λ e. Some (entry_view e)) (sym there);
+      found = find-view (λ v. eqb v.txn t) xs ∙ ap (option_map entry_view) says.1
+          ∙ ap (λ e. Some (entry_view e)) (sym there);
     }
 
 pub missing : (q : Entry → Bool) (xs ys : List OpenEntry) → ys ≡ xs → None ≡ position (λ e. q (entry_view e)) ys
     → find q (map entry_view xs) ≡ None
 missing q xs ys same e =
-    find-view q xs ∙ ap (option_map entry_view) (found-none (λ e. q (entry_view e)) xs (e ∙ ap (position (λ e. q (entry_view e))) same))
+    find-view q xs ∙ ap (option_map entry_view)
+    (found-none (λ e. q (entry_view e)) xs (e ∙ ap (position (λ e. q (entry_view e))) same))
 
 is-there : {X : Type 0} (o : Option X) → IsSome o → o ≡ None → ⊥
 is-there (Some x) s e = cc
 is-there None s e = false≢true s
 
 -- an open transaction has a place
-pub never : (begun t : ℕ) (xs ys : List OpenEntry) (table : Table) → (record { begun = begun; entries = map entry_view xs }) ≡ table
+pub never : (begun t : ℕ) (xs ys : List OpenEntry) (table : Table)
+    → (record { begun = begun; entries = map entry_view xs }) ≡ table
     → IsSome (entry_in table t) → ys ≡ xs → None ≡ position (λ e. eqb e.txn t) ys → ⊥
 never begun t xs ys table is there same e =
-    is-there (entry_in table t) there (ap (λ (v : Table). entry_in v t) (sym is) ∙ missing (λ v. eqb v.txn t) xs ys same e)
+    is-there (entry_in table t) there (ap (λ (v : Table). entry_in v t) (sym is)
+    ∙ missing (λ v. eqb v.txn t) xs ys same e)
 
 -- ---- a change of the entry at a place
 
-module _ {begun i t : ℕ} {xs : List OpenEntry} {x : OpenEntry} {before : Claims} (at : IsAt xs i t x) (tracks : Tracks begun before xs) where
+module _ {begun i t : ℕ} {xs : List OpenEntry} {x : OpenEntry} {before : Claims} (at : IsAt xs i t x)
+    (tracks : Tracks begun before xs) where
   pub held-at : IsHeld before x.seat x.pending.items
   held-at = subst (λ (e : OpenEntry). IsHeld before e.seat e.pending.items) at.there (tracks-at i x tracks at.within)
 
@@ -180,7 +194,8 @@ module _ {begun i t : ℕ} {xs : List OpenEntry} {x : OpenEntry} {before : Claim
   seat-at = subst (λ (e : OpenEntry). e.seat < SEATS) at.there (tracks.sound i x at.within).0
 
   pub tracks-put : (after : Claims) (e : OpenEntry) → KeepsSeat x e before after → Tracks begun after (set xs i e)
-  tracks-put after e k = tracks-set after i x e tracks at.within (subst (λ (y : OpenEntry). KeepsSeat y e before after) (sym at.there) k)
+  tracks-put after e k = tracks-set after i x e tracks at.within
+      (subst (λ (y : OpenEntry). KeepsSeat y e before after) (sym at.there) k)
 
   pub view-put : (g : Entry → Entry) (e : OpenEntry) → entry_view e ≡ g (entry_view x)
       → map (λ v. cond (eqb v.txn t) (g v) v) (map entry_view xs) ≡ map entry_view (set xs i e)
@@ -191,7 +206,8 @@ module _ {begun i t : ℕ} {xs : List OpenEntry} {x : OpenEntry} {before : Claim
   pub view-same : (e : OpenEntry) → entry_view e ≡ entry_view x → map entry_view (set xs i e) ≡ map entry_view xs
   view-same e is =
       map-set entry_view xs i e
-      ∙ ap (λ v. set (map entry_view xs) i v) (is ∙ ap entry_view (sym at.there) ∙ sym (get_or-map entry_view xs i x (entry_view x) at.within))
+      ∙ ap (λ v. set (map entry_view xs) i v)
+      (is ∙ ap entry_view (sym at.there) ∙ sym (get_or-map entry_view xs i x (entry_view x) at.within))
       ∙ set-get_or (map entry_view xs) i (entry_view x)
 
   -- an entry whose pending changes stay
@@ -200,7 +216,8 @@ module _ {begun i t : ℕ} {xs : List OpenEntry} {x : OpenEntry} {before : Claim
   tracks-alone e txn seat items = tracks-put before e (record {
     txn = txn;
     seat = seat;
-    held = subst (λ ps. IsHeld before e.seat ps) (sym items) (subst (λ n. IsHeld before n x.pending.items) (sym seat) held-at);
+    held = subst (λ ps. IsHeld before e.seat ps) (sym items)
+        (subst (λ n. IsHeld before n x.pending.items) (sym seat) held-at);
     others = λ page slot other within ne. refl;
   })
 
@@ -227,9 +244,11 @@ unfolding hold_by
 kept-out kinds.Set claim e page slot h = sym (ap (λ (x : Hold). x.against_sets) h)
 kept-out kinds.Add claim e page slot h = sym (ap (λ (x : Hold). x.against_adds) h)
 
-pub least-holder : {begun : ℕ} {claims : Claims} {xs : List OpenEntry} (page slot : ℕ) (kind : ChangeKind) (t : ℕ) → Tracks begun claims xs
+pub least-holder : {begun : ℕ} {claims : Claims} {xs : List OpenEntry} (page slot : ℕ) (kind : ChangeKind) (t : ℕ)
+    → Tracks begun claims xs
     → holder_in (record { begun = begun; entries = map entry_view xs }) page slot kind t
-    ≡ option_map (λ e. e.txn) (find (λ e. not (eqb e.txn t) && has_seat (seats_against (claim_at claims page slot) kind) e.seat) xs)
+    ≡ option_map (λ e. e.txn) (find (λ e. not (eqb e.txn t) && has_seat
+    (seats_against (claim_at claims page slot) kind) e.seat) xs)
 least-holder {begun} {claims} {xs} page slot kind t tracks =
     least-first (λ v. not (eqb v.txn t) && list_any (keeps_out page slot kind) v.pending)
     (λ e. not (eqb e.txn t) && has_seat (seats_against (claim_at claims page slot) kind) e.seat) xs tracks.ranked
@@ -246,7 +265,8 @@ tracks-nil claims none = record {
   held = λ page slot seat within. ap (λ k. hold_in k seat) (none page slot) ∙ hold_in-no_claim seat;
 }
 
-pub match_some : {X : Type 0} (o : Option X) (x : X) (P : Type 0) (Q : X → Type 0) → o ≡ Some x → Q x → MatchOption o P Q
+pub match_some : {X : Type 0} (o : Option X) (x : X) (P : Type 0) (Q : X → Type 0) → o ≡ Some x → Q x
+    → MatchOption o P Q
 match_some o x P Q e q = subst (λ v. MatchOption v P Q) (sym e) q
 
 pub match_none : {X : Type 0} (o : Option X) (P : Type 0) (Q : X → Type 0) → o ≡ None → P → MatchOption o P Q
@@ -254,19 +274,23 @@ match_none o P Q e p = subst (λ v. MatchOption v P Q) (sym e) p
 
 -- ---- the next one
 
-txns-filter : (p : ℕ → Bool) (vs : List Entry) → filter p (map (λ v. v.txn) vs) ≡ map (λ v. v.txn) (filter (λ v. p v.txn) vs)
+txns-filter : (p : ℕ → Bool) (vs : List Entry)
+    → filter p (map (λ v. v.txn) vs) ≡ map (λ v. v.txn) (filter (λ v. p v.txn) vs)
 txns-filter p [] = refl
 txns-filter p (v ∷ vs) =
     ap (λ ns. cond (p v.txn) (v.txn ∷ ns) ns) (txns-filter p vs) ∙ sym (cond_map (p v.txn) v (filter (λ v. p v.txn) vs))
 
 pub least-next : {begun : ℕ} {claims : Claims} {xs : List OpenEntry} (from : ℕ) → Tracks begun claims xs
-    → next_in (record { begun = begun; entries = map entry_view xs }) from ≡ option_map (λ e. e.txn) (find (λ e. leb from e.txn) xs)
+    → next_in (record { begun = begun; entries = map entry_view xs }) from ≡ option_map (λ e. e.txn)
+    (find (λ e. leb from e.txn) xs)
 least-next {begun} {claims} {xs} from tracks =
     ap least (txns-filter (λ n. leb from n) (map entry_view xs))
     ∙ least-first (λ v. leb from v.txn) (λ e. leb from e.txn) xs tracks.ranked (λ i d l. refl)
 
 -- the entry of the transaction at a place
-pub entry-there : {begun : ℕ} {claims : Claims} {xs : List OpenEntry} (i : ℕ) (x : OpenEntry) → Tracks begun claims xs → i < length xs
+pub entry-there : {begun : ℕ} {claims : Claims} {xs : List OpenEntry} (i : ℕ) (x : OpenEntry) → Tracks begun claims xs
+    → i < length xs
     → x ≡ get_or xs i x → find (λ v. eqb v.txn x.txn) (map entry_view xs) ≡ Some (entry_view x)
 entry-there {begun} {claims} {xs} i x tracks l there =
-    find-place x.txn xs i x tracks.ranked l (ap (λ (e : OpenEntry). e.txn) (sym there)) ∙ ap (λ e. Some (entry_view e)) (sym there)
+    find-place x.txn xs i x tracks.ranked l (ap (λ (e : OpenEntry). e.txn) (sym there))
+    ∙ ap (λ e. Some (entry_view e)) (sym there)

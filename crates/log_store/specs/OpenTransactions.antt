@@ -24,4 +24,5 @@ pub record Tracks (begun : ℕ) (claims : Claims) (entries : List OpenEntry) : T
   pub ranked : AreRanked (map key_of entries)
   pub reached : AllByRecursion (λ k. k.0 ≤ begun) (map key_of entries)
   pub sound : All IsSound entries
-  pub held : (page slot seat : ℕ) → seat < SEATS → hold_at claims page slot seat ≡ hold_among entries page slot seat
+  pub held : (page slot seat : ℕ) → seat < SEATS
+      → hold_at claims page slot seat ≡ hold_among entries page slot seat

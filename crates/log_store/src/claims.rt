@@ -132,7 +132,8 @@ impl Claims {
     /// Puts this claim on a slot. Only a slot with no claim before can run out of memory.
     fn put(&mut self, page: PageNo, slot: SlotNo, claim: Claim) -> Result<(), AllocError>
         ensures put { OnOk result ((p s : ℕ)
-            → claim_at self.new p s ≡ (if page == p && slot == s then claim else claim_at self.old p s)) }
+            → claim_at self.new p s
+            ≡ (if page == p && slot == s then claim else claim_at self.old p s)) }
         ensures new_slot { OnErr result (claim_at self.old page slot ≡ no_claim) }
         ensures err { OnErr result ((p s : ℕ) → claim_at self.new p s ≡ claim_at self.old p s) }
     {

@@ -1,6 +1,7 @@
 //! One open transaction: its numbers, and its pending changes as a stack.
 
-ghost use Rattle.std.specs.Prelude.{◌≡◌, ◌<◌, ◌++◌, ◌∷◌, [], OnOk, OnErr, false};
+ghost use Rattle.std.specs.Prelude.{◌≡◌, ◌<◌, ◌++◌, ◌∷◌, ◌↔◌, [], IsTrue, OnOk, OnErr, false};
+ghost use Rattle.log_store.specs.Linked.{Compensates};
 ghost use Rattle.log_store.specs.OpenEntry.{IsHeld, KeepsOtherSeats, changes_of};
 ghost use Rattle.log_store.specs.Transactions.{without_last};
 
@@ -8,7 +9,7 @@ use crate::claims::{Claims, Hold};
 use crate::pending_change::PendingChange;
 use crate::seat_set::SEATS;
 use crate::txn_state::TxnState;
-use page_core::{Lsn, TxnNo};
+use page_core::{Change, Lsn, PageNo, SlotNo, TxnNo, undo_of};
 use std::alloc::{AllocError, Global};
 
 /// A pending change, and what its transaction kept out of the slot before it.
@@ -41,7 +42,8 @@ fn push_pending(
 ) -> Result<(), AllocError>
     requires seat { seat < SEATS }
     requires held { IsHeld claims.old seat pending.old.items }
-    ensures ok { OnOk result (changes_of pending.new.items ≡ changes_of pending.old.items ++ change ∷ []) }
+    ensures ok { OnOk result
+        (changes_of pending.new.items ≡ changes_of pending.old.items ++ change ∷ []) }
     ensures err { OnErr result (pending.new.items ≡ pending.old.items) }
     ensures held { IsHeld claims.new seat pending.new.items }
     ensures others { KeepsOtherSeats seat claims.old claims.new }
@@ -131,7 +133,8 @@ impl OpenEntry {
           rolling = true;
           aborted = true;
         } }
-        ensures same { (self.new.seat ≡ self.old.seat) × (self.new.pending.items ≡ self.old.pending.items) }
+        ensures same { (self.new.seat ≡ self.old.seat)
+            × (self.new.pending.items ≡ self.old.pending.items) }
     {
         self.last = lsn;
         self.rolling = true;
@@ -195,4 +198,20 @@ pub fn begun_entry(alloc: Global, txn: TxnNo, seat: u8, lsn: Lsn) -> OpenEntry
         aborted: false,
         pending: Vec::new(alloc),
     }
+}
+
+/// The change, with this UndoNxt, takes the pending change back.
+pub fn compensates(
+    undo_next: Lsn,
+    page: PageNo,
+    slot: SlotNo,
+    change: Change,
+    last: &PendingChange,
+) -> bool
+    ensures { IsTrue result ↔ Compensates undo_next page slot change last.now }
+{
+    undo_next == last.prev
+        && page == last.page
+        && slot == last.slot
+        && change == undo_of(&last.change)
 }

@@ -11,12 +11,12 @@ ghost use Rattle.log_store.specs.declared.record.Record.TheVariants.{Begin, Upda
 
 use crate::claims::Claims;
 use crate::limits::MAX_OPEN;
-use crate::open_entry::{OpenEntry, begun_entry};
+use crate::open_entry::{OpenEntry, begun_entry, compensates};
 use crate::open_list::{first_other, free_seat, owed_by, place_from, place_of};
 use crate::pending_change::PendingChange;
 use crate::record::Record;
 use crate::txn_state::TxnState;
-use page_core::{Change, ChangeKind, Lsn, PageNo, SlotNo, TxnNo, undo_of};
+use page_core::{Change, ChangeKind, Lsn, PageNo, SlotNo, TxnNo};
 use std::alloc::{AllocError, Global};
 use std::marker::Model;
 
@@ -307,20 +307,4 @@ impl OpenTransactions {
             None => {}
         }
     }
-}
-
-/// The change, with this UndoNxt, takes the pending change back.
-fn compensates(
-    undo_next: Lsn,
-    page: PageNo,
-    slot: SlotNo,
-    change: Change,
-    last: &PendingChange,
-) -> bool
-    ensures { IsTrue result ↔ Compensates undo_next page slot change last.now }
-{
-    undo_next == last.prev
-        && page == last.page
-        && slot == last.slot
-        && change == undo_of(&last.change)
 }

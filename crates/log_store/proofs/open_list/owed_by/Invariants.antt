@@ -5,4 +5,5 @@ use Rattle.log_store.specs.Table.{owed_by_entry}
 use Rattle.log_store.proofs.open_list.owed_by.Given as goal
 
 abbrev pub invariant-loop-entry : goal.invariant-loop-entry
-invariant-loop-entry l = l.owed ≡ min (sum_by (λ e. owed_by_entry (entry_view e)) (take l.entry-index l.entries)) 18446744073709551615
+invariant-loop-entry l = l.owed ≡ min (sum_by (λ e. owed_by_entry (entry_view e))
+    (take l.entry-index l.entries)) 18446744073709551615

@@ -18,7 +18,8 @@ returns-in-Some c = λ prev.
     = placed c.args.txn c.self.inside.entries.items c.deref.result.now c.in-Some.place c.index_mut-entry.result.now
     c.deref.ensures.value c.in-Some.ensures c.index_mut-entry.ensures.value in
     ap (λ es. let v : Table = record { begun = c.self.inside.begun; entries = es } in v)
-    (sym (view-put at c.self.invariant (λ v. entry_after v (Abort c.args.lsn c.args.txn prev)) c.abort.new.self c.abort.ensures.entry))
+    (sym (view-put at c.self.invariant (λ v. entry_after v
+    (Abort c.args.lsn c.args.txn prev)) c.abort.new.self c.abort.ensures.entry))
     ∙ ap (λ (v : Table). with_entry v c.args.txn (Abort c.args.lsn c.args.txn prev)) c.self.view_is
 
 pub returns-in-None : goal.returns-in-None

@@ -13,7 +13,8 @@ invariant_of-self-2 c =
     let next : c.txn.inside.0 ≡ c.self.inside.begun + 1
     = c.txn.view_is ∙ c.requires.0 ∙ ap (λ (v : Table). v.begun + 1) (sym c.self.view_is) in
     let free : list_any (λ f. eqb c.free_seat-seat.result f.seat) c.self.inside.entries.items ≡ false
-    = ap (λ xs. list_any (λ (f : OpenEntry). eqb c.free_seat-seat.result f.seat) xs) (sym c.deref.ensures.value) ∙ c.free_seat-seat.ensures.free in
+    = ap (λ xs. list_any (λ (f : OpenEntry). eqb c.free_seat-seat.result f.seat) xs) (sym c.deref.ensures.value)
+    ∙ c.free_seat-seat.ensures.free in
     let pushed : Tracks (c.self.inside.begun + 1) c.self.inside.claims (c.self.inside.entries.items ++ e ∷ [])
     = tracks-push e c.self.invariant (c.begun_entry.ensures.txn ∙ sym c.txn.view_is ∙ next)
     (subst (λ n. n < SEATS) (sym c.begun_entry.ensures.seat) c.free_seat-seat.ensures.seat)

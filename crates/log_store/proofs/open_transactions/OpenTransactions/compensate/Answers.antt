@@ -24,8 +24,10 @@ returns-in-Some c = λ prev undo_next page slot change.
     = placed c.args.txn c.self.inside.entries.items c.deref.result.now c.in-Some.place c.index_mut-entry.result.now
     c.deref.ensures.value c.in-Some.ensures c.index_mut-entry.ensures.value in
     ap (λ es. let v : Table = record { begun = c.self.inside.begun; entries = es } in v)
-    (sym (view-put at c.self.invariant (λ v. entry_after v (Comp c.args.lsn c.args.txn prev undo_next page slot change)) c.compensate.new.self c.compensate.ensures.entry))
-    ∙ ap (λ (v : Table). with_entry v c.args.txn (Comp c.args.lsn c.args.txn prev undo_next page slot change)) c.self.view_is
+    (sym (view-put at c.self.invariant (λ v. entry_after v
+    (Comp c.args.lsn c.args.txn prev undo_next page slot change)) c.compensate.new.self c.compensate.ensures.entry))
+    ∙ ap (λ (v : Table). with_entry v c.args.txn
+    (Comp c.args.lsn c.args.txn prev undo_next page slot change)) c.self.view_is
 
 pub returns-in-None : goal.returns-in-None
 returns-in-None c = absurd (never c.self.inside.begun c.args.txn c.self.inside.entries.items c.deref.result.now c.args.self.now c.self.view_is

@@ -10,8 +10,10 @@ use Rattle.log_store.proofs.open_transactions.OpenTransactions.holder.Goals as g
 
 pub returns : goal.returns
 returns c =
-    let first = λ (seats : SeatSet) (xs : List OpenEntry). option_map (λ (e : OpenEntry). e.txn) (find (λ e. not (eqb e.txn c.args.txn) && has_seat seats e.seat) xs) in
+    let first = λ (seats : SeatSet) (xs : List OpenEntry). option_map (λ (e : OpenEntry). e.txn)
+    (find (λ e. not (eqb e.txn c.args.txn) && has_seat seats e.seat) xs) in
     c.first_other.ensures ∙ ap (first c.against-seats.result) c.deref.ensures.value
-    ∙ ap (λ s. first s c.self.inside.entries.items) (c.against-seats.ensures ∙ ap (λ k. seats_against k c.args.kind) c.claim.ensures)
+    ∙ ap (λ s. first s c.self.inside.entries.items)
+    (c.against-seats.ensures ∙ ap (λ k. seats_against k c.args.kind) c.claim.ensures)
     ∙ sym (least-holder c.args.page c.args.slot c.args.kind c.args.txn c.self.invariant)
     ∙ ap (λ (v : Table). holder_in v c.args.page c.args.slot c.args.kind c.args.txn) c.self.view_is

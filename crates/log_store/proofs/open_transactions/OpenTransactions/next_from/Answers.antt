@@ -10,7 +10,8 @@ use Rattle.log_store.proofs.Tracked.{entry-there, found-first, found-none, least
 use Rattle.log_store.proofs.open_transactions.OpenTransactions.next_from.Goals as goal
 
 -- what is known of the next one says the state
-told : (table : Table) (from : ℕ) (x : OpenEntry) → next_in table from ≡ Some x.txn → entry_in table x.txn ≡ Some (entry_view x)
+told : (table : Table) (from : ℕ) (x : OpenEntry) → next_in table from ≡ Some x.txn
+    → entry_in table x.txn ≡ Some (entry_view x)
     → Some (state_of (entry_view x)) ≡ option_map state_of (option_and_then (entry_in table) (next_in table from))
 told table from x next here =
     ap (option_map state_of) (sym here) ∙ ap (λ o. option_map state_of (option_and_then (entry_in table) o)) (sym next)
@@ -25,7 +26,8 @@ returns-in-Some c =
     let table : Table = record { begun = c.self.inside.begun; entries = map entry_view xs } in
     ap Some c.state.ensures
     ∙ told table c.args.from x
-    (least-next c.args.from c.self.invariant ∙ ap (option_map (λ (e : OpenEntry). e.txn)) first.1 ∙ ap (λ (e : OpenEntry). Some e.txn) (sym c.index.ensures))
+    (least-next c.args.from c.self.invariant ∙ ap (option_map (λ (e : OpenEntry). e.txn)) first.1
+    ∙ ap (λ (e : OpenEntry). Some e.txn) (sym c.index.ensures))
     (entry-there c.in-Some.place x c.self.invariant first.0 c.index.ensures)
     ∙ ap (λ (v : Table). option_map state_of (option_and_then (entry_in v) (next_in v c.args.from))) c.self.view_is
 
@@ -33,7 +35,8 @@ pub returns-in-None : goal.returns-in-None
 returns-in-None c =
     let xs = c.self.inside.entries.items in
     let none : find (λ e. leb c.args.from e.txn) xs ≡ None
-    = found-none (λ e. leb c.args.from e.txn) xs (c.in-None.ensures ∙ ap (position (λ (e : OpenEntry). leb c.args.from e.txn)) c.deref.ensures.value) in
+    = found-none (λ e. leb c.args.from e.txn) xs
+    (c.in-None.ensures ∙ ap (position (λ (e : OpenEntry). leb c.args.from e.txn)) c.deref.ensures.value) in
     let table : Table = record { begun = c.self.inside.begun; entries = map entry_view xs } in
     ap (λ o. option_map state_of (option_and_then (entry_in table) o))
     (sym (least-next c.args.from c.self.invariant ∙ ap (option_map (λ (e : OpenEntry). e.txn)) none))

@@ -26,8 +26,10 @@ returns-in-Some-clause-ok c =
     c.deref.ensures.value c.in-Some.ensures c.index_mut-entry.ensures.value in
     on_ok_weaker c.update.result (λ is.
     ap (λ es. let v : Table = record { begun = c.self.inside.begun; entries = es } in v)
-    (sym (view-put at c.self.invariant (λ v. entry_after v (Update c.args.change.lsn c.args.txn c.args.change.prev c.args.change.page c.args.change.slot c.args.change.change)) c.update.new.self is))
-    ∙ ap (λ (v : Table). with_entry v c.args.txn (Update c.args.change.lsn c.args.txn c.args.change.prev c.args.change.page c.args.change.slot c.args.change.change)) c.self.view_is)
+    (sym (view-put at c.self.invariant (λ v. entry_after v
+    (Update c.args.change.lsn c.args.txn c.args.change.prev c.args.change.page c.args.change.slot c.args.change.change)) c.update.new.self is))
+    ∙ ap (λ (v : Table). with_entry v c.args.txn
+    (Update c.args.change.lsn c.args.txn c.args.change.prev c.args.change.page c.args.change.slot c.args.change.change)) c.self.view_is)
     c.update.ensures.ok
 
 pub returns-in-Some-clause-err : goal.returns-in-Some-clause-err
