@@ -146,23 +146,25 @@ impl Claims {
         Ok(())
     }
 
-    /// Says what the transaction of a seat keeps out of a slot. Only a transaction that kept
-    /// nothing out can run out of memory.
+    /// Says what the transaction of a seat keeps out of a slot whose claim is this. Only a
+    /// transaction that kept nothing out can run out of memory.
     pub fn set_hold(
         &mut self,
         page: PageNo,
         slot: SlotNo,
+        claim: Claim,
         seat: u8,
         hold: Hold,
     ) -> Result<(), AllocError>
-        requires { seat < SEATS }
+        requires claim { claim ≡ claim_at self.old page slot }
+        requires seat { seat < SEATS }
         ensures set { OnOk result ((p s other : ℕ) → other < SEATS
             → hold_at self.new p s other ≡ (if (page == p && slot == s) && other == seat then hold
-            else hold_at self.old p s other)) }
+                else hold_at self.old p s other)) }
         ensures new_hold { OnErr result (hold_at self.old page slot seat ≡ no_hold) }
-        ensures err { OnErr result ((p s : ℕ) → claim_at self.new p s ≡ claim_at self.old p s) }
+        ensures err { OnErr result ((p s other : ℕ)
+            → hold_at self.new p s other ≡ hold_at self.old p s other) }
     {
-        let claim = self.claim(page, slot).with(seat, hold);
-        self.put(page, slot, claim)
+        self.put(page, slot, claim.with(seat, hold))
     }
 }

@@ -48,10 +48,11 @@ fn push_pending(
     ensures held { IsHeld claims.new seat pending.new.items }
     ensures others { KeepsOtherSeats seat claims.old claims.new }
 {
-    let before = claims.claim(change.page, change.slot).hold(seat);
+    let claim = claims.claim(change.page, change.slot);
+    let before = claim.hold(seat);
     pending.push(Pending { change, before })?;
     let hold = before.with(change.change.kind());
-    match claims.set_hold(change.page, change.slot, seat, hold) {
+    match claims.set_hold(change.page, change.slot, claim, seat, hold) {
         Ok(()) => Ok(()),
         Err(error) => {
             let _ = pending.pop();
@@ -69,7 +70,9 @@ fn pop_pending(pending: &mut Vec<Pending>, claims: &mut Claims, seat: u8)
     ensures others { KeepsOtherSeats seat claims.old claims.new }
 {
     if let Some(last) = pending.pop() {
-        let _ = claims.set_hold(last.change.page, last.change.slot, seat, last.before);
+        let change = last.change;
+        let claim = claims.claim(change.page, change.slot);
+        let _ = claims.set_hold(change.page, change.slot, claim, seat, last.before);
     }
 }
 

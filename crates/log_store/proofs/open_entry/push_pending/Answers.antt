@@ -9,6 +9,6 @@ returns-in-Ok-clause-held c =
     subst (λ ps. IsHeld c.set_hold.new.self c.args.seat ps) (sym c.in_ok-push.ensures.items)
     (held-push c.args.claims.now c.set_hold.new.self c.args.seat c.args.pending.now.items c.args.change c.hold-before.result
     c.requires.seat c.requires.held
-    (c.hold-before.ensures ∙ ap (λ k. hold_in k c.args.seat) c.claim.ensures)
+    (c.hold-before.ensures ∙ ap (λ k. hold_in k c.args.seat) c.claim-claim.ensures)
     (subst (λ h. SetsHold c.args.claims.now c.set_hold.new.self c.args.change.page c.args.change.slot c.args.seat h)
     (c.with-hold.ensures ∙ ap (λ k. hold_with c.hold-before.result k) c.kind.ensures) c.in-Ok.ensures.set))
