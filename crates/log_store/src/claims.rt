@@ -160,7 +160,7 @@ impl Claims {
         requires seat { seat < SEATS }
         ensures set { OnOk result ((p s other : ℕ) → other < SEATS
             → hold_at self.new p s other ≡ (if (page == p && slot == s) && other == seat then hold
-                else hold_at self.old p s other)) }
+            else hold_at self.old p s other)) }
         ensures new_hold { OnErr result (hold_at self.old page slot seat ≡ no_hold) }
         ensures err { OnErr result ((p s other : ℕ)
             → hold_at self.new p s other ≡ hold_at self.old p s other) }
