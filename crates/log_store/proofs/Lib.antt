@@ -12,3 +12,9 @@ pub mod Begun
 pub mod Steps
 pub mod Checks
 pub mod Room
+pub mod Chains
+pub mod Slots
+pub mod Fronts
+pub mod Owned
+pub mod Settled
+pub mod Undone
