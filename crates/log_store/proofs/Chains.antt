@@ -1,7 +1,6 @@
 -- Changes of one slot, one after another, each made of the number that the one before it left.
-use Rattle.std.proofs.Common.{◌≡◌, ◌≢◌, ℕ, zero, suc, ◌+◌, ◌-◌, ◌*◌, ◌%◌, ◌^◌, ◌<◌, ◌≤◌, Bool, true, false, ◌&&◌, List, [], ◌∷◌, ◌++◌, length, get_or, All, sym, refl, ap, subst, ◌∙◌, arith, fold, append_assoc, lit<, mod-lt, le_of_lt, mod-eq_of_lt}
-use Rattle.std.proofs.lemmas.Bool.{and_parts}
-use Rattle.std.proofs.lemmas.List.Elements.{All-append, All-head, All-nil, All-push, All-tail}
+use Rattle.std.proofs.Common.{◌≡◌, ℕ, ◌+◌, ◌-◌, ◌%◌, ◌^◌, ◌<◌, ◌≤◌, true, ◌&&◌, List, [], ◌∷◌, ◌++◌, get_or, All, sym, ap, subst, ◌∙◌, arith, le_of_lt, mod-eq_of_lt}
+use Rattle.std.proofs.lemmas.List.Elements.{All-head, All-tail}
 use Rattle.std.proofs.Math.Nat.{add-mod-mod, add-mod_right, mod-add-mod}
 use Rattle.std.proofs.Math.Bool.{and_comm}
 use Rattle.page_core.specs.declared.change.Change.{Change}
@@ -70,9 +69,13 @@ leads_pop (x ∷ xs) c from to valid fits leads =
 abbrev pub AreAdds : Change → Change → Type 0
 AreAdds c d = (is_add (kind_of c) && is_add (kind_of d)) ≡ true
 
+-- a change and each of these are Adds
+abbrev pub AddsWith : List Change → Change → Type 0
+AddsWith ds c = All (AreAdds c) ds
+
 -- each of these and each of those are Adds
 abbrev pub Apart : List Change → List Change → Type 0
-Apart cs ds = All (λ c. All (λ d. AreAdds c d) ds) cs
+Apart cs ds = All (AddsWith ds) cs
 
 pub apart_back : (cs ds : List Change) → Apart cs ds → Apart ds cs
 apart_back cs ds apart k d within = λ i c inside. swapped (get_or cs i c) (get_or ds k d) (apart i c inside k d within)
@@ -85,24 +88,24 @@ add_swap a b c m =
     let same : a + b + c ≡ a + c + b = omega arith in
     mod-add-mod (a + b) m c ∙ ap (λ x. x % m) same ∙ sym (mod-add-mod (a + c) m b)
 
-swap_two : (c d : Change) (rest : List Change) (from to : ℕ) → AreAdds c d → Leads (c ∷ d ∷ rest) from to → Leads (d ∷ c ∷ rest) from to
+swap_two : (c d : Change) (rest : List Change) (from to : ℕ) → AreAdds c d → Leads (c ∷ d ∷ rest) from to
+    → Leads (d ∷ c ∷ rest) from to
 swap_two (Set before after) d rest from to adds leads = cc
 swap_two (Add m) (Set before after) rest from to adds leads = cc
 swap_two (Add m) (Add n) rest from to adds leads =
     (tt, (tt, subst (λ x. Leads rest x to) (add_swap from m n (2 ^ 64)) leads.1.1))
 
-swap_one : (c : Change) (ds rest : List Change) (from to : ℕ) → All (λ d. AreAdds c d) ds
+swap_one : (c : Change) (ds rest : List Change) (from to : ℕ) → AddsWith ds c
     → Leads (c ∷ (ds ++ rest)) from to → Leads (ds ++ c ∷ rest) from to
 swap_one c [] rest from to adds leads = leads
 swap_one c (d ∷ ds) rest from to adds leads =
-    let first = All-head (λ x. AreAdds c x) d ds adds in
+    let first = All-head (AreAdds c) d ds adds in
     let swapped = swap_two c d (ds ++ rest) from to first leads in
-    (swapped.0, swap_one c ds rest (changed d from) to (All-tail (λ x. AreAdds c x) d ds adds) swapped.1)
+    (swapped.0, swap_one c ds rest (changed d from) to (All-tail (AreAdds c) d ds adds) swapped.1)
 
 pub swap_parts : (cs ds rest : List Change) (from to : ℕ) → Apart cs ds
     → Leads (cs ++ (ds ++ rest)) from to → Leads (ds ++ (cs ++ rest)) from to
 swap_parts [] ds rest from to apart leads = leads
 swap_parts (c ∷ cs) ds rest from to apart leads =
-    let P : Change → Type 0 = λ x. All (λ d. AreAdds x d) ds in
-    let inner = swap_parts cs ds rest (changed c from) to (All-tail P c cs apart) leads.1 in
-    swap_one c ds (cs ++ rest) from to (All-head P c cs apart) (leads.0, inner)
+    let inner = swap_parts cs ds rest (changed c from) to (All-tail (AddsWith ds) c cs apart) leads.1 in
+    swap_one c ds (cs ++ rest) from to (All-head (AddsWith ds) c cs apart) (leads.0, inner)

@@ -1,31 +1,10 @@
 -- The changes of one transaction, among those of several, brought before the others.
-use Rattle.std.proofs.Common.{◌≡◌, ◌≢◌, ◌↔◌, ℕ, ◌+◌, ◌-◌, ◌^◌, ◌<◌, ◌≤◌, Bool, true, false, cond, ◌&&◌, not, eqb, List, [], ◌∷◌, ◌++◌, length, get_or, map, take, All, sym, refl, ap, ap₂, subst, ◌∙◌, inl, inr, arith, append_assoc, append-nil, eq-eqb, ne_eqb, eqb-true, true≢false}
-use Rattle.std.specs.Prelude.{Option, Some, None, IfSome, IsSomeAnd}
-use Rattle.std.specs.List.{filter, flat_map, list_any}
-use Rattle.std.proofs.lemmas.Bool.{and_left, and_parts, cases_Bool, cases_eq, or_left, or_right}
-use Rattle.std.proofs.lemmas.List.{get_or_append_left, length-append, length_push}
+use Rattle.std.proofs.Common.{◌≡◌, ◌↔◌, ℕ, Bool, true, false, cond, not, eqb, List, [], ◌∷◌, ◌++◌, All, sym, refl, ap, subst, ◌∙◌, arith, append-nil}
+use Rattle.std.specs.List.{filter, flat_map}
+use Rattle.std.proofs.lemmas.List.{get_or_append_left, length-append}
 use Rattle.std.proofs.lemmas.List.Concat.{flat_map-append}
-use Rattle.std.proofs.lemmas.List.Elements.{All-append, All-filter, All-head, All-map, All-nil, All-push, All-tail, All-take}
-use Rattle.std.proofs.lemmas.List.Folds.{flat_map-map}
-use Rattle.std.proofs.lemmas.Map.Views.{any-filter_same}
 use Rattle.page_core.specs.declared.change.Change.{Change}
-use Rattle.page_core.specs.declared.page.TheConstants.{SLOTS}
-use Rattle.page_core.specs.Change.{Replaces, changed, kind_of, undo_of}
-use Rattle.log_store.specs.declared.pending_change.PendingChange.{PendingChange}
-use Rattle.log_store.specs.declared.record.Record.{Record}
-use Rattle.log_store.specs.declared.record.Record.TheVariants.{Begin, Update, Comp, Commit, Abort, End}
-use Rattle.log_store.specs.Record.{IsChange, change_of}
-use Rattle.log_store.specs.Transactions.{begun, begun_by, holder, is_last, is_open, keeps_out, last_of, least, open_in, pending, pending_from, records_of, txn_of, with_pending, without_last}
-use Rattle.log_store.specs.Linked.{IsLinked, MayFollow, number_in}
-use Rattle.log_store.specs.Committed.{committed, with_changes}
-use Rattle.log_store.proofs.Histories.{along_linked}
-use Rattle.log_store.proofs.Tests.{map_agree_but}
-use Rattle.log_store.proofs.Pushes.{has_begun, is_open_push_other, is_open_push_own, open_in_push_begin, open_in_push_last, open_in_push_same, pending_push, records_of_push_other}
-use Rattle.log_store.proofs.Begun.{next_is_new, none_before_begin}
-use Rattle.log_store.proofs.Steps.{not_among}
-use Rattle.log_store.proofs.Room.{open_once}
-use Rattle.log_store.proofs.Chains.{Apart, AreAdds, Leads, apart_back, changed_by, changed_by_fits, leads-append, leads_pop, leads_push, swap_parts}
-use Rattle.log_store.proofs.Slots.{after_change, apart_from_free, changes_on, changes_on-append, committed_push, is_on, number_in_push, with_changes_on}
+use Rattle.log_store.proofs.Chains.{Apart, AddsWith, Leads, apart_back, swap_parts}
 
 -- ---- one number out of a list in which it stands once
 
@@ -88,8 +67,7 @@ in_front own t os once apart from to =
     ap (flat_map own) split.whole ∙ flat_map-append own split.before (t ∷ split.after) in
     let rest : flat_map own (filter (λ o. not (eqb o t)) os) ≡ xs ++ ys =
     ap (flat_map own) split.rest ∙ flat_map-append own split.before split.after in
-    let P : Change → Type 0 = λ c. All (λ d. AreAdds c d) (own t) in
-    let free : Apart xs (own t) = all_front P xs ys (subst (All P) rest apart) in (
+    let free : Apart xs (own t) = all_front (AddsWith (own t)) xs ys (subst (All (AddsWith (own t))) rest apart) in (
       λ leads. subst
           (λ cs. Leads (own t ++ cs) from to)
           (sym rest) (swap_parts xs (own t) ys from to free (subst (λ cs. Leads cs from to) whole leads)),

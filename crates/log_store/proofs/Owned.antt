@@ -1,10 +1,9 @@
 -- The changes of a slot that are pending for a transaction.
-use Rattle.std.proofs.Common.{◌≡◌, ◌≢◌, ◌↔◌, ℕ, ◌+◌, ◌-◌, ◌^◌, ◌<◌, ◌≤◌, Bool, true, false, cond, ◌&&◌, not, eqb, List, [], ◌∷◌, ◌++◌, length, get_or, map, take, All, sym, refl, ap, ap₂, subst, ◌∙◌, inl, inr, arith, append_assoc, append-nil, eq-eqb, ne_eqb, eqb-true, true≢false}
-use Rattle.std.specs.Prelude.{Option, Some, None, IfSome, IsSomeAnd}
+use Rattle.std.proofs.Common.{◌≡◌, ◌≢◌, ℕ, ◌+◌, ◌-◌, ◌<◌, ◌≤◌, Bool, true, false, ◌&&◌, not, eqb, List, [], ◌∷◌, ◌++◌, length, get_or, All, sym, refl, ap, subst, ◌∙◌, arith, eq-eqb, ne_eqb, eqb-true}
+use Rattle.std.specs.Prelude.{None, IfSome, IsSomeAnd}
 use Rattle.std.specs.List.{filter, flat_map, list_any}
-use Rattle.std.proofs.lemmas.Bool.{and_left, and_parts, cases_Bool, cases_eq, or_left, or_right}
+use Rattle.std.proofs.lemmas.Bool.{and_parts, or_left, or_right}
 use Rattle.std.proofs.lemmas.List.{take_all, take_more}
-use Rattle.std.proofs.lemmas.List.Concat.{flat_map-append}
 use Rattle.std.proofs.lemmas.List.Elements.{All-append, All-filter, All-head, All-map, All-nil, All-push, All-tail, All-take}
 use Rattle.std.proofs.lemmas.List.Folds.{flat_map-map}
 use Rattle.std.proofs.lemmas.Option.{slice_get-get_or}
@@ -12,23 +11,15 @@ use Rattle.std.proofs.Math.Bool.{and-true}
 use Rattle.std.proofs.lemmas.Map.Views.{any-filter_same}
 use Rattle.page_core.specs.declared.change.Change.{Change}
 use Rattle.page_core.specs.declared.change.ChangeKind.{ChangeKind}
-use Rattle.page_core.specs.declared.page.TheConstants.{SLOTS}
-use Rattle.page_core.specs.Change.{Replaces, changed, kind_of, undo_of}
 use Rattle.log_store.specs.declared.pending_change.PendingChange.{PendingChange}
 use Rattle.log_store.specs.declared.record.Record.{Record}
-use Rattle.log_store.specs.declared.record.Record.TheVariants.{Begin, Update, Comp, Commit, Abort, End}
+use Rattle.log_store.specs.declared.record.Record.TheVariants.{Update, Comp}
 use Rattle.log_store.specs.Record.{IsChange, change_of}
-use Rattle.log_store.specs.Transactions.{begun, begun_by, holder, is_last, is_open, keeps_out, last_of, least, open_in, pending, pending_from, records_of, txn_of, with_pending, without_last}
-use Rattle.log_store.specs.Linked.{IsLinked, MayFollow, number_in}
-use Rattle.log_store.specs.Committed.{committed, with_changes}
-use Rattle.log_store.proofs.Histories.{along_linked}
+use Rattle.log_store.specs.Transactions.{begun, holder, is_open, keeps_out, last_of, least, open_in, pending, pending_from, records_of, txn_of, with_pending, without_last}
 use Rattle.log_store.proofs.Tests.{map_agree_but}
-use Rattle.log_store.proofs.Pushes.{has_begun, is_open_push_other, is_open_push_own, open_in_push_begin, open_in_push_last, open_in_push_same, pending_push, records_of_push_other}
-use Rattle.log_store.proofs.Begun.{open_has_begun, next_is_new, none_before_begin}
-use Rattle.log_store.proofs.Steps.{not_among}
-use Rattle.log_store.proofs.Room.{open_once}
-use Rattle.log_store.proofs.Chains.{Apart, AreAdds, Leads, apart_back, changed_by, changed_by_fits, leads-append, leads_pop, leads_push, swap_parts}
-use Rattle.log_store.proofs.Slots.{after_change, apart_from_free, changes_on, changes_on-append, committed_push, is_on, number_in_push, with_changes_on}
+use Rattle.log_store.proofs.Pushes.{pending_push, records_of_push_other}
+use Rattle.log_store.proofs.Begun.{open_has_begun}
+use Rattle.log_store.proofs.Slots.{changes_on, is_on}
 
 -- ---- the changes of a slot that are pending for a transaction
 
@@ -39,8 +30,10 @@ own rs page slot t = changes_on page slot (pending rs t)
 abbrev pub rest_of : List Record → ℕ → List ℕ
 rest_of rs t = filter (λ o. not (eqb o t)) (open_in rs)
 
-pub own_push_other : (rs : List Record) (r : Record) (page slot o : ℕ) → txn_of r ≢ o → own (rs ++ r ∷ []) page slot o ≡ own rs page slot o
-own_push_other rs r page slot o other = ap (λ xs. changes_on page slot (pending_from [] xs)) (records_of_push_other rs r o other)
+pub own_push_other : (rs : List Record) (r : Record) (page slot o : ℕ) → txn_of r ≢ o
+    → own (rs ++ r ∷ []) page slot o ≡ own rs page slot o
+own_push_other rs r page slot o other =
+    ap (λ xs. changes_on page slot (pending_from [] xs)) (records_of_push_other rs r o other)
 
 pub own_push : (rs : List Record) (r : Record) (page slot : ℕ)
     → own (rs ++ r ∷ []) page slot (txn_of r) ≡ changes_on page slot (with_pending (pending rs (txn_of r)) r)
@@ -57,22 +50,26 @@ flat_map_agree_but t f g agree ns out =
 abbrev pub HasChange : Record → Type 0
 HasChange r = IfSome (change_of r) (λ c. IsChange c.change)
 
-pending_valid : (changes : List PendingChange) (rs : List Record) → All (λ p. IsChange p.change) changes → All HasChange rs
-    → All (λ p. IsChange p.change) (pending_from changes rs)
+abbrev Valid : PendingChange → Type 0
+Valid p = IsChange p.change
+
+pending_valid : (changes : List PendingChange) (rs : List Record) → All Valid changes → All HasChange rs
+    → All Valid (pending_from changes rs)
 pending_valid changes [] before valid = before
 pending_valid changes (r ∷ rs) before valid =
     pending_valid (with_pending changes r) rs (next r (All-head HasChange r rs valid)) (All-tail HasChange r rs valid)
   where
-    next : (x : Record) → HasChange x → All (λ p. IsChange p.change) (with_pending changes x)
-    next (Update lsn t prev page slot change) has = All-push (λ p. IsChange p.change) changes _ before has
-    next (Comp lsn t prev undo_next page slot change) has = All-take (λ p. IsChange p.change) (length changes - 1) changes before
+    next : (x : Record) → HasChange x → All Valid (with_pending changes x)
+    next (Update lsn t prev page slot change) has = All-push Valid changes _ before has
+    next (Comp lsn t prev undo_next page slot change) has = All-take Valid (length changes - 1) changes before
     next x has = before
 
 pub own_valid : (rs : List Record) (page slot t : ℕ) → All HasChange rs → All IsChange (own rs page slot t)
 own_valid rs page slot t valid =
-    let Valid : PendingChange → Type 0 = λ p. IsChange p.change in
-    let ps = pending_valid [] (records_of rs t) (All-nil Valid) (All-filter (λ r. eqb (txn_of r) t) HasChange rs valid) in
-    All-map IsChange (λ p. p.change) (filter (is_on page slot) (pending rs t)) (All-filter (is_on page slot) Valid (pending rs t) ps)
+    let its = All-filter (λ r. eqb (txn_of r) t) HasChange rs valid in
+    let all = pending_valid [] (records_of rs t) (All-nil Valid) its in
+    let here = All-filter (is_on page slot) Valid (pending rs t) all in
+    All-map IsChange (λ p. p.change) (filter (is_on page slot) (pending rs t)) here
 
 -- ---- what holds of the changes of each of several transactions holds of all
 

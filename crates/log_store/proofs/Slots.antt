@@ -1,13 +1,12 @@
 -- What a log says of one slot: the number in it, the committed one, and the pending changes of it.
-use Rattle.std.proofs.Common.{◌≡◌, ◌≢◌, ℕ, ◌+◌, ◌<◌, Bool, true, false, cond, ◌&&◌, not, eqb, List, [], ◌∷◌, ◌++◌, length, get_or, set, map, slice_index, All, sym, refl, ap, ap₂, subst, ◌∙◌, inl, inr, arith, append_assoc, eq-eqb, ne_eqb}
+use Rattle.std.proofs.Common.{◌≡◌, ℕ, ◌<◌, Bool, true, false, cond, ◌&&◌, not, eqb, List, [], ◌∷◌, ◌++◌, length, get_or, set, map, slice_index, sym, refl, ap, ap₂, ◌∙◌, inl, inr, arith, append_assoc, eq-eqb, ne_eqb}
 use Rattle.std.specs.Prelude.{Option, Some, None}
-use Rattle.std.specs.List.{filter, flat_map, list_any}
+use Rattle.std.specs.List.{filter, list_any}
 use Rattle.std.specs.Option.{option_map_or}
 use Rattle.std.proofs.lemmas.Bool.{cases_eq, not-false, or_parts}
 use Rattle.std.proofs.lemmas.List.{append-nil, get_or-set_other, get_or-set_same, length-replicate, length-set, map-append}
 use Rattle.std.proofs.lemmas.List.Elements.{All-cons, All-nil, filter-append}
 use Rattle.page_core.specs.declared.change.Change.{Change}
-use Rattle.page_core.specs.declared.change.ChangeKind.{ChangeKind}
 use Rattle.page_core.specs.declared.page.Page.{Page}
 use Rattle.page_core.specs.declared.page.TheConstants.{SLOTS}
 use Rattle.page_core.specs.Change.{changed, kind_of}
@@ -21,7 +20,7 @@ use Rattle.log_store.specs.Transactions.{is_add, keeps_out}
 use Rattle.log_store.specs.Linked.{number_in}
 use Rattle.log_store.specs.Committed.{Values, committed, committed_from, with_changes, with_commit, zeros}
 use Rattle.log_store.proofs.Images.{image_from-append, number-image, with_record-has}
-use Rattle.log_store.proofs.Chains.{AreAdds, changed_by}
+use Rattle.log_store.proofs.Chains.{AddsWith, AreAdds, changed_by}
 
 -- ---- the number in a slot after one more record
 
@@ -100,6 +99,10 @@ is_on page slot p = eqb p.page page && eqb p.slot slot
 abbrev pub changes_on : ℕ → ℕ → List PendingChange → List Change
 changes_on page slot ps = map (λ p. p.change) (filter (is_on page slot) ps)
 
+-- a filter keeps the first one, or does not
+abbrev with_first : Bool → PendingChange → List PendingChange → List PendingChange
+with_first b p ps = cond b (p ∷ ps) ps
+
 pub changes_on-append : (page slot : ℕ) (ps qs : List PendingChange)
     → changes_on page slot (ps ++ qs) ≡ changes_on page slot ps ++ changes_on page slot qs
 changes_on-append page slot ps qs =
@@ -124,20 +127,20 @@ with_changes_on (p ∷ ps) values page slot =
   where
     taken : (b : Bool)
         → changed_by (changes_on page slot ps) (cond b (changed p.change (values page slot)) (values page slot))
-        ≡ changed_by (map (λ q. q.change) (cond b (p ∷ filter (is_on page slot) ps) (filter (is_on page slot) ps))) (values page slot)
+        ≡ changed_by (map (λ q. q.change) (with_first b p (filter (is_on page slot) ps))) (values page slot)
     taken true = refl
     taken false = refl
 
 -- no pending change of the slot keeps out a change that none of these holds it against
 pub apart_from_free : (page slot : ℕ) (c : Change) (ps : List PendingChange)
-    → list_any (keeps_out page slot (kind_of c)) ps ≡ false → All (λ d. AreAdds c d) (changes_on page slot ps)
-apart_from_free page slot c [] free = All-nil (λ d. AreAdds c d)
+    → list_any (keeps_out page slot (kind_of c)) ps ≡ false → AddsWith (changes_on page slot ps) c
+apart_from_free page slot c [] free = All-nil (AreAdds c)
 apart_from_free page slot c (p ∷ ps) free =
     let parts = or_parts (keeps_out page slot (kind_of c) p) (list_any (keeps_out page slot (kind_of c)) ps) free in
     with_one (is_on page slot p) parts.0 (apart_from_free page slot c ps parts.1)
   where
     with_one : (b : Bool) → (b && not (is_add (kind_of c) && is_add (kind_of p.change))) ≡ false
-        → All (λ d. AreAdds c d) (changes_on page slot ps)
-        → All (λ d. AreAdds c d) (map (λ q. q.change) (cond b (p ∷ filter (is_on page slot) ps) (filter (is_on page slot) ps)))
-    with_one true here rest = All-cons (λ d. AreAdds c d) p.change (changes_on page slot ps) (not-false _ here) rest
+        → AddsWith (changes_on page slot ps) c
+        → AddsWith (map (λ q. q.change) (with_first b p (filter (is_on page slot) ps))) c
+    with_one true here rest = All-cons (AreAdds c) p.change (changes_on page slot ps) (not-false _ here) rest
     with_one false here rest = rest

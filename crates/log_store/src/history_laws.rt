@@ -1,6 +1,7 @@
 //! Laws of linked logs, for those who read the contracts.
 
-ghost use Rattle.std.specs.Prelude.{ℕ, ◌≡◌, ◌↔◌, ◌<◌, ◌∷◌, ◌++◌, List, [], take, Some, None, option_to_list, if◌then◌else◌};
+ghost use Rattle.std.specs.Prelude.{ℕ, ◌≡◌, ◌↔◌, ◌<◌, ◌∷◌, ◌++◌, List, [], take, Some, None};
+ghost use Rattle.std.specs.Prelude.{option_to_list, if◌then◌else◌};
 ghost use Rattle.std.specs.List.{flat_map};
 ghost use Rattle.page_core.specs.declared.change.ChangeKind.{ChangeKind};
 ghost use Rattle.page_core.specs.declared.page.TheConstants.{SLOTS};
