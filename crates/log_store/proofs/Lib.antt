@@ -6,7 +6,7 @@ pub mod Scans
 pub mod Images
 pub mod Rows
 pub mod Histories
-pub mod Tests
+pub mod Filters
 pub mod Pushes
 pub mod Begun
 pub mod Steps

@@ -16,7 +16,7 @@ use Rattle.log_store.specs.declared.record.Record.{Record}
 use Rattle.log_store.specs.declared.record.Record.TheVariants.{Update, Comp}
 use Rattle.log_store.specs.Record.{IsChange, change_of}
 use Rattle.log_store.specs.Transactions.{begun, holder, is_open, keeps_out, last_of, least, open_in, pending, pending_from, records_of, txn_of, with_pending, without_last}
-use Rattle.log_store.proofs.Tests.{map_agree_but}
+use Rattle.log_store.proofs.Filters.{map_agree_but}
 use Rattle.log_store.proofs.Pushes.{pending_push, records_of_push_other}
 use Rattle.log_store.proofs.Begun.{open_has_begun}
 use Rattle.log_store.proofs.Slots.{changes_on, is_on}
