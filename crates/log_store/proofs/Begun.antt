@@ -15,7 +15,7 @@ use Rattle.log_store.specs.declared.record.Record.TheVariants.{Begin, Update, Co
 use Rattle.log_store.specs.Transactions.{begun, begun_by, is_last, is_open, open_in, records_of, txn_of}
 use Rattle.log_store.specs.Linked.{IsLinked, MayFollow}
 use Rattle.log_store.proofs.Histories.{along_linked}
-use Rattle.log_store.proofs.Tests.{filter_some}
+use Rattle.log_store.proofs.Filters.{filter_some}
 use Rattle.log_store.proofs.Pushes.{begun_push, begun_push_none, has_begun, has_begun_push_begin, has_begun_push_none, has_begun_push_other, records_of_push_other}
 
 -- ---- a record that may follow begins the next transaction, or is one of an open transaction

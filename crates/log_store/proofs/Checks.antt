@@ -16,7 +16,7 @@ use Rattle.log_store.specs.Transactions.{begun, holder, is_open, keeps_out, last
 use Rattle.log_store.specs.Linked.{Compensates, IsActive, MayFollow}
 use Rattle.log_store.specs.Table.{Entry, IsActiveEntry, IsChained, MayNote, entry_in, entry_of, holder_in, owed_by_entry, owed_in, table_of}
 use Rattle.log_store.specs.Checked.{NamesNumber}
-use Rattle.log_store.proofs.Tests.{filter-map, find-filter, find-map}
+use Rattle.log_store.proofs.Filters.{filter-map, find-filter, find-map}
 use Rattle.log_store.proofs.Pushes.{has_begun, has_ended}
 
 -- ---- what a log's table says is what the log says

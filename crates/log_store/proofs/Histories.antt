@@ -1,5 +1,5 @@
 -- Linked logs, one record after another.
-use Rattle.std.proofs.Common.{◌≡◌, ℕ, zero, suc, ◌<◌, ◌≤◌, List, [], ◌∷◌, ◌++◌, length, get_or, take, take-suc, sym, subst, subst₂, inl, inr, arith}
+use Rattle.std.proofs.Common.{◌≡◌, ℕ, zero, suc, ◌<◌, ◌≤◌, List, [], ◌∷◌, ◌++◌, length, get_or, take, take-suc, sym, refl, subst, subst₂, inl, inr, arith}
 use Rattle.std.proofs.lemmas.Bool.{cases_lt}
 use Rattle.std.proofs.lemmas.List.{get_or-take, get_or_append_left, get_or_push, length-take, length_push, take-append-le, take-take, take_all, take_at}
 use Rattle.log_store.specs.declared.record.Record.{Record}
@@ -30,6 +30,13 @@ linked_push rs r linked may i d lt = elim (cases_lt i (length rs)) [
       let last : length rs ≡ i = omega (arith, length_push rs r) in
       subst₂ MayFollow (sym (take_at rs (r ∷ []) i last)) (sym (get_or_push rs r d i last)) may
 ]
+
+pub linked_pop : (rs : List Record) (r : Record) → IsLinked (rs ++ r ∷ []) → IsLinked rs × MayFollow rs r
+linked_pop rs r linked =
+    let whole = take_at rs (r ∷ []) (length rs) refl in
+    let here = linked (length rs) r (omega (arith, length_push rs r)) in
+    let last = get_or_push rs r r (length rs) refl in
+    (subst IsLinked whole (linked-take (rs ++ r ∷ []) linked (length rs)), subst₂ MayFollow whole last here)
 
 -- ---- induction
 

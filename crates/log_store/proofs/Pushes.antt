@@ -13,7 +13,7 @@ use Rattle.log_store.specs.declared.record.Record.TheVariants.{Begin}
 use Rattle.log_store.specs.Record.{own_lsn}
 use Rattle.log_store.specs.Transactions.{begun, begun_by, first_lsn, has_aborted, is_abort, is_last, is_open, is_rollback, is_rolling, last_lsn, last_or, open_in, pending, pending_from, records_of, txn_of, with_pending}
 use Rattle.log_store.specs.Work.{call_of, work}
-use Rattle.log_store.proofs.Tests.{filter-filter, filter_agree_but, filter_map_push, filter_push_in, filter_push_out, first_push, list_any_push}
+use Rattle.log_store.proofs.Filters.{filter-filter, filter_agree_but, filter_map_push, filter_push_in, filter_push_out, first_push, list_any_push}
 
 -- ---- the records of a transaction
 

@@ -14,7 +14,7 @@ use Rattle.log_store.specs.declared.record.Record.{Record}
 use Rattle.log_store.specs.declared.record.Record.TheVariants.{Begin, Update, Comp, Commit, Abort, End}
 use Rattle.log_store.specs.Transactions.{begun, begun_by, has_aborted, is_abort, is_last, is_open, is_rollback, last_of, open_in, owed, owed_by, pending, pending_from, records_of, txn_of, with_pending, without_last}
 use Rattle.log_store.specs.Linked.{IsLinked, MayFollow}
-use Rattle.log_store.proofs.Tests.{filter-filter, map_agree_but}
+use Rattle.log_store.proofs.Filters.{filter-filter, map_agree_but}
 use Rattle.log_store.proofs.Pushes.{has_aborted_push, has_begun, open_in_push_begin, open_in_push_last, open_in_push_same, pending_push, records_of_push_other, records_of_push_own}
 use Rattle.log_store.proofs.Begun.{begun_bounds, begun_is, next_is_new, none_before_begin, open_has_begun}
 use Rattle.log_store.proofs.Steps.{not_among}

@@ -15,7 +15,7 @@ use Rattle.log_store.specs.Record.{own_lsn}
 use Rattle.log_store.specs.Transactions.{begun, begun_by, first_lsn, has_aborted, is_abort, is_last, is_open, is_rollback, is_rolling, last_or, open_in, pending, pending_from, records_of, txn_of, with_pending}
 use Rattle.log_store.specs.Linked.{IsLinked, MayFollow}
 use Rattle.log_store.specs.Table.{Entry, entry_after, entry_of, noted, table_of, with_entry, without_entry}
-use Rattle.log_store.proofs.Tests.{filter-map, map_agree_but}
+use Rattle.log_store.proofs.Filters.{filter-map, map_agree_but}
 use Rattle.log_store.proofs.Pushes.{begun_push, begun_push_none, first_lsn_push, has_aborted_push, has_begun, is_rolling_push, last_lsn_push, open_in_push_begin, open_in_push_last, open_in_push_same, pending_push, records_of_push_other, records_of_push_own}
 use Rattle.log_store.proofs.Begun.{next_is_new, none_before_begin, open_has_begun, some_from_begin}
 

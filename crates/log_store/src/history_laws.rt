@@ -1,11 +1,16 @@
 //! Laws of linked logs, for those who read the contracts.
 
-ghost use Rattle.std.specs.Prelude.{ℕ, ◌≡◌, ◌↔◌, ◌∷◌, ◌++◌, List, [], take, Some, None, option_to_list, if◌then◌else◌};
+ghost use Rattle.std.specs.Prelude.{ℕ, ◌≡◌, ◌↔◌, ◌<◌, ◌∷◌, ◌++◌, List, [], take, Some, None};
+ghost use Rattle.std.specs.Prelude.{option_to_list, if◌then◌else◌};
+ghost use Rattle.std.specs.List.{flat_map};
 ghost use Rattle.page_core.specs.declared.change.ChangeKind.{ChangeKind};
+ghost use Rattle.page_core.specs.declared.page.TheConstants.{SLOTS};
 ghost use Rattle.log_store.specs.declared.record.Record.{Record};
-ghost use Rattle.log_store.specs.Transactions.{holder, is_open, owed};
-ghost use Rattle.log_store.specs.Linked.{IsLinked, MayFollow};
+ghost use Rattle.log_store.specs.Committed.{committed, with_changes};
+ghost use Rattle.log_store.specs.Linked.{IsLinked, MayFollow, number_in};
+ghost use Rattle.log_store.specs.Log.{IsLog, Log};
 ghost use Rattle.log_store.specs.Table.{MayNote, entry_in, entry_of, holder_in, noted, owed_in, table_of};
+ghost use Rattle.log_store.specs.Transactions.{holder, is_open, open_in, owed, pending};
 ghost use Rattle.log_store.specs.Checked.{NamesNumber};
 ghost use Rattle.log_store.specs.Work.{call_of, work};
 
@@ -46,4 +51,14 @@ pub fn tables_say_what_logs_say()
 /// A log with one more record shows the calls that it showed, and the one that the record shows.
 pub fn work_grows_call_by_call()
     ensures { (rs : List Record) (r : Record) → work (rs ++ r ∷ []) ≡ work rs ++ option_to_list (call_of r) }
+{}
+
+/// In each slot of a linked log stands the committed number with the pending changes of the open
+/// transactions made of it. So where none is open it is the committed number.
+pub fn numbers_are_committed_under_pending_changes()
+    ensures pending { (log : Log) (page slot : ℕ) → IsLog log → IsLinked log.records → slot < SLOTS
+        → number_in log.records page slot
+        ≡ with_changes (committed log.records) (flat_map (pending log.records) (open_in log.records)) page slot }
+    ensures closed { (log : Log) (page slot : ℕ) → IsLog log → IsLinked log.records → slot < SLOTS
+        → open_in log.records ≡ [] → number_in log.records page slot ≡ committed log.records page slot }
 {}

@@ -38,9 +38,9 @@ pub use faulty_device::FaultyDevice;
 pub use header::encode_header;
 pub use history::History;
 pub use history_laws::{
-    linked_logs_grow_by_what_may_follow, prefixes_of_linked_logs_are_linked,
-    tables_are_kept_record_by_record, tables_say_what_logs_say, tables_say_what_may_follow,
-    work_grows_call_by_call,
+    linked_logs_grow_by_what_may_follow, numbers_are_committed_under_pending_changes,
+    prefixes_of_linked_logs_are_linked, tables_are_kept_record_by_record, tables_say_what_logs_say,
+    tables_say_what_may_follow, work_grows_call_by_call,
 };
 pub use laws::{logs_are_spelled_apart, records_are_spelled_apart, spelled_logs_have_no_fault};
 pub use limits::{HEADER_BYTES, MAX_LOG_BYTES, MAX_OPEN, MAX_RECORDS, RECORD_BYTES};
