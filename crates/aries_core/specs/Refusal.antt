@@ -15,6 +15,8 @@ use Rattle.aries_core.specs.declared.refusal.Refusal.TheVariants.{OutOfMemory, N
 use Rattle.aries_core.specs.declared.refusal.Refusal.TheVariants.{SlotOut, SlotBusy, TxnRolling}
 use Rattle.aries_core.specs.declared.refusal.Refusal.TheVariants.{NotRolling, LogFull, TooManyTxns}
 use Rattle.aries_core.specs.declared.refusal.Refusal.TheVariants.{LogFault, CommitUnsure}
+use Rattle.aries_core.specs.declared.setup.PlayFault.{PlayFault}
+use Rattle.aries_core.specs.declared.setup.PlayFault.TheVariants as fault
 use Rattle.aries_core.specs.EngineState.{EngineState}
 
 -- the first refusal that is there
@@ -77,3 +79,8 @@ line_of LogFull = codes "E8 LogFull"
 line_of TooManyTxns = codes "E9 TooManyTxns"
 line_of LogFault = codes "E23 LogFault"
 line_of (CommitUnsure lsn) = codes "E26 CommitUnsure " ++ decimal lsn
+
+-- what is printed where an engine cannot be made
+abbrev pub line_of_fault : PlayFault → List ℕ
+line_of_fault fault.OutOfMemory = line_of OutOfMemory
+line_of_fault fault.LogFault = line_of LogFault

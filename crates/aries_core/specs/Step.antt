@@ -3,8 +3,11 @@ use Rattle.std.specs.Prelude.{ℕ, ◌≡◌, ◌*◌, ◌<◌, ◌≤◌, ◌�
 use Rattle.std.specs.Prelude.{Err}
 use Rattle.log_store.specs.Log.{lsn_of}
 use Rattle.aries_core.specs.declared.event.Answer.{Answer}
+use Rattle.aries_core.specs.declared.event.Answer.TheVariants as answer
 use Rattle.aries_core.specs.declared.event.Event.{Event}
 use Rattle.aries_core.specs.declared.event.Event.TheVariants as event
+use Rattle.aries_core.specs.declared.event.Undone.{Undone}
+use Rattle.aries_core.specs.declared.event.Undone.TheVariants as undone
 use Rattle.aries_core.specs.declared.refusal.Refusal.{Refusal}
 use Rattle.aries_core.specs.declared.refusal.Refusal.TheVariants.{CommitUnsure, LogFault}
 use Rattle.aries_core.specs.declared.refusal.Refusal.TheVariants.{OutOfMemory}
@@ -45,7 +48,18 @@ abbrev pub reply_of : {T : Type 0} → (T → Answer) → Result T Refusal → R
 reply_of answered (Ok value) = Ok (answered value)
 reply_of answered (Err why) = Err why
 
+-- what a step of a rollback answers
+abbrev pub undo_answer : Undone → Answer
+undo_answer (undone.Undid lsn) = answer.Undid lsn
+undo_answer (undone.Ended lsn) = answer.Ended lsn
+
 -- a Commit that is not known to be forced
 abbrev pub IsUnsure : Refusal → Type 0
 IsUnsure (CommitUnsure lsn) = Unit {0}
 IsUnsure other = ⊥
+
+-- a fault of the device
+abbrev pub IsByDevice : Refusal → Type 0
+IsByDevice LogFault = Unit {0}
+IsByDevice (CommitUnsure lsn) = Unit {0}
+IsByDevice other = ⊥

@@ -1,23 +1,30 @@
 //! The engine keeps its log, the table of its open transactions and its pages in step: each call
 //! appends its record, notes it and makes its change.
 
-ghost use Rattle.std.specs.Prelude.{ℕ, ◌≡◌, ◌+◌, ◌<◌, ◌≤◌, ◌^◌, length, not, Some, None};
+ghost use Rattle.std.specs.Prelude.{ℕ, ◌≡◌, ◌+◌, ◌<◌, ◌≤◌, ◌^◌, length, not, true, Some, None};
 ghost use Rattle.std.specs.Prelude.{IfOk, IfErr, OnOk, OnErr};
 ghost use Rattle.log_store.specs.Linked.{number_in};
-ghost use Rattle.log_store.specs.Transactions.{last_lsn};
+ghost use Rattle.log_store.specs.Log.{IsPageCount};
+ghost use Rattle.log_store.specs.Transactions.{is_open, last_lsn};
 ghost use Rattle.aries_core.specs.Call.{Calls};
-ghost use Rattle.aries_core.specs.EngineState.{appended, end, forced_to, update_record};
+ghost use Rattle.aries_core.specs.EngineState.{appended, end, forced_to, new_state};
+ghost use Rattle.aries_core.specs.EngineState.{update_record};
 ghost use Rattle.aries_core.specs.Refusal.{active_refusal, change_refusal, has_no_room, page_refusal};
-ghost use Rattle.aries_core.specs.Step.{ForcedPart, IsUnsure, Step, reply_of};
+ghost use Rattle.aries_core.specs.Refusal.{refusal};
+ghost use Rattle.aries_core.specs.Step.{ForcedPart, IsByDevice, IsUnsure, Step};
+ghost use Rattle.aries_core.specs.Step.{reply_of, undo_answer};
 ghost use Rattle.aries_core.specs.declared.event.Answer.TheVariants as answer;
 ghost use Rattle.aries_core.specs.declared.event.Event.TheVariants as event;
 
+use crate::event::{Answer, Event, Reply, Undone};
 use crate::refusal::Refusal;
+use crate::setup::{PlayFault, Setup};
 use log_store::{
     DeviceFault, Log, LogDevice, MAX_OPEN, MAX_RECORDS, PendingChange, Record, TxnState,
-    redo_on_its_page,
+    formatted_pages, redo_on_its_page,
 };
 use page_core::{Change, ChangeKind, Lsn, Page, PageNo, SLOTS, SlotNo, TxnNo, undo_of};
+use std::alloc::Global;
 use std::marker::Model;
 use txn_table::TxnTable;
 
@@ -39,7 +46,68 @@ impl<D: LogDevice> Model for Engine<D> {
     ghost invariant = { λ it. IsKept (engine_view it.log).state it.txns it.pages.items };
 }
 
+impl<D: LogDevice + Drop> Engine<D> {
+    /// An engine over a formatted volume, with a log without records, whose header is stored. Each
+    /// page has a frame of its own. Where this call fails, the device is dropped.
+    pub fn new(alloc: Global, setup: Setup, device: D) -> Result<Engine<D>, PlayFault>
+        requires pages { IsPageCount setup.pages }
+        requires frames { setup.pages ≤ setup.frames }
+
+        ensures empty { IfOk result (λ it. it.state ≡ new_state setup.pages) }
+        ensures no_failure { IfOk result (λ it. D.failures it.device ≡ D.failures device) }
+        ensures cause { IfErr result (λ why. why ≡ PlayFault.LogFault
+            → (left : D) × (D.failures device < D.failures left)) }
+    {
+        let Ok(pages) = formatted_pages(alloc, setup.pages) else {
+            return Err(PlayFault::OutOfMemory);
+        };
+        match Log::new(alloc, setup.pages, device) {
+            Ok(log) => Ok(Engine {
+                log,
+                txns: TxnTable::new(alloc),
+                pages,
+            }),
+            Err(_) => Err(PlayFault::LogFault),
+        }
+    }
+}
+
 impl<D: LogDevice> Engine<D> {
+    /// Does what an event says. Refusals are those of the call of that name.
+    pub fn apply(&mut self, event: Event) -> Reply
+        ensures step { Step self.old.state event result self.new.state }
+        ensures cause { IfErr result (λ why. IsByDevice why
+            → D.failures self.old.device < D.failures self.new.device) }
+    {
+        let answer = match event {
+            Event::Begin => {
+                let (txn, lsn) = self.begin()?;
+                Answer::Began { txn, lsn }
+            }
+            Event::Set {
+                txn,
+                page,
+                slot,
+                number,
+            } => { Answer::Logged(self.set(txn, page, slot, number)?) }
+            Event::Add {
+                txn,
+                page,
+                slot,
+                amount,
+            } => { Answer::Logged(self.add(txn, page, slot, amount)?) }
+            Event::Read { page, slot } => Answer::Number(self.read(page, slot)?),
+            Event::Commit(txn) => Answer::Logged(self.commit(txn)?),
+            Event::Abort(txn) => Answer::Logged(self.abort(txn)?),
+            Event::UndoStep(txn) => match self.undo_step(txn)? {
+                Undone::Undid(lsn) => Answer::Undid(lsn),
+                Undone::Ended(lsn) => Answer::Ended(lsn),
+            },
+            Event::Force => Answer::Forced(self.force()?),
+        };
+        Ok(answer)
+    }
+
     /// Begins a transaction, and answers its number and the LSN of its Begin. Refusals in order:
     /// `TooManyTxns`, `LogFull`, `OutOfMemory`.
     pub fn begin(&mut self) -> Result<(TxnNo, Lsn), Refusal>
@@ -137,6 +205,36 @@ impl<D: LogDevice> Engine<D> {
         Ok(lsn)
     }
 
+    /// Takes the last pending change of a transaction that rolls back out again, or ends the
+    /// transaction where none is left; answers the LSN of the Comp or End. Refusals in order:
+    /// `NoTxn`, `NotRolling`, `OutOfMemory`.
+    pub fn undo_step(&mut self, txn: TxnNo) -> Result<Undone, Refusal>
+        ensures step { Step self.old.state (event.UndoStep txn) (reply_of undo_answer result)
+            self.new.state }
+        ensures device { self.new.device ≡ self.old.device }
+    {
+        let prev = self.find_rolling(txn)?;
+        let lsn = self.log.end();
+        match self.txns.last_pending(txn) {
+            Some(last) => {
+                self.append(Record::Comp {
+                    lsn,
+                    txn,
+                    prev,
+                    undo_next: last.prev,
+                    page: last.page,
+                    slot: last.slot,
+                    change: undo_of(&last.change),
+                })?;
+                Ok(Undone::Undid(lsn))
+            }
+            None => {
+                self.append(Record::End { lsn, txn, prev })?;
+                Ok(Undone::Ended(lsn))
+            }
+        }
+    }
+
     /// Forces the whole log, and answers its forced end. `LogFault` comes where the device fails.
     pub fn force(&mut self) -> Result<Lsn, Refusal>
         ensures step { Step self.old.state event.Force (reply_of answer.Forced result)
@@ -190,6 +288,23 @@ impl<D: LogDevice> Engine<D> {
         };
         if state.rolling {
             return Err(Refusal::TxnRolling);
+        }
+        Ok(state.last)
+    }
+
+    /// The LSN of the last record of a transaction that rolls back.
+    fn find_rolling(&self, txn: TxnNo) -> Result<Lsn, Refusal>
+        ensures refused { IfErr result (λ why.
+            refusal self.now.state (event.UndoStep txn) ≡ Some why) }
+        ensures rolling { OnOk result (refusal self.now.state (event.UndoStep txn) ≡ None) }
+        ensures last { IfOk result (λ last. last ≡ last_lsn self.now.state.log txn) }
+        ensures still_open { OnOk result (is_open self.now.state.log txn ≡ true) }
+    {
+        let Some(state) = self.txns.entry(txn) else {
+            return Err(Refusal::NoTxn);
+        };
+        if !state.rolling {
+            return Err(Refusal::NotRolling);
         }
         Ok(state.last)
     }

@@ -54,5 +54,14 @@ pub enum Answer {
     Forced(Lsn),
 }
 
+/// What a step of a rollback did.
+#[derive(Clone, Copy, Debug, PartialEq, Eq)]
+pub enum Undone {
+    /// It took a change back: the LSN of the compensation record.
+    Undid(Lsn),
+    /// It ended the transaction: the LSN of the End.
+    Ended(Lsn),
+}
+
 /// The answer of a call, or why it was refused.
 pub type Reply = Result<Answer, Refusal>;

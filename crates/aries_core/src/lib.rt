@@ -5,9 +5,10 @@ mod engine;
 mod event;
 mod laws;
 mod refusal;
+mod setup;
 
 pub use engine::Engine;
-pub use event::{Answer, Event, Reply};
+pub use event::{Answer, Event, Reply, Undone};
 pub use laws::{
     a_new_engine_is_fit, a_refusal_changes_nothing, an_answered_commit_is_forced,
     an_unsure_commit_ends_its_transaction, engines_stay_fit, log_full_is_exact,
@@ -15,3 +16,4 @@ pub use laws::{
     the_log_only_grows,
 };
 pub use refusal::Refusal;
+pub use setup::{PlayFault, Setup};
