@@ -76,6 +76,18 @@ fn holder(table: &OpenTransactions, slot: SlotNo, kind: ChangeKind, txn: u32) ->
         .map(|holder| holder.0)
 }
 
+/// The first transaction, with one pending change.
+fn first_state(last: u64, aborted: bool) -> TxnState {
+    TxnState {
+        txn: TxnNo(1),
+        first: Lsn(64),
+        last: Lsn(last),
+        rolling: aborted,
+        aborted,
+        pending: 1,
+    }
+}
+
 const SET: Change = Change::Set {
     before: 0,
     after: 9,
@@ -93,15 +105,7 @@ fn a_transaction_has_its_state(rt: HostRuntime) -> Result<(), Fail> {
     let mut table = OpenTransactions::new(rt.alloc());
     note(&rt, &mut table, begin(64, 1))?;
     note(&rt, &mut table, update(128, 1, 64, SLOT, SET))?;
-    let mut state = TxnState {
-        txn: TxnNo(1),
-        first: Lsn(64),
-        last: Lsn(128),
-        rolling: false,
-        aborted: false,
-        pending: 1,
-    };
-    assert_eq!(rt; table.state(TxnNo(1)), Some(state));
+    assert_eq!(rt; table.state(TxnNo(1)), Some(first_state(128, false)));
     assert_eq!(rt; table.state(TxnNo(2)), None);
     let change = PendingChange {
         lsn: Lsn(128),
@@ -113,10 +117,7 @@ fn a_transaction_has_its_state(rt: HostRuntime) -> Result<(), Fail> {
     assert_eq!(rt; table.last_pending(TxnNo(1)), Some(change));
     assert_eq!(rt; table.owed(), 3);
     note(&rt, &mut table, abort(192, 1, 128))?;
-    state.last = Lsn(192);
-    state.rolling = true;
-    state.aborted = true;
-    assert_eq!(rt; table.state(TxnNo(1)), Some(state));
+    assert_eq!(rt; table.state(TxnNo(1)), Some(first_state(192, true)));
     assert_eq!(rt; table.owed(), 2);
     assert!(rt; !table.may_note(&update(256, 1, 192, SLOT, ADD)));
     assert!(rt; !table.may_note(&end(256, 1, 192)));
