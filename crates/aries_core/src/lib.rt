@@ -17,3 +17,6 @@ pub use laws::{
 };
 pub use refusal::Refusal;
 pub use setup::{PlayFault, Setup};
+
+#[cfg(test)]
+mod tests;
