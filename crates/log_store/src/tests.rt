@@ -225,6 +225,10 @@ fn faults_have_texts(rt: HostRuntime) -> Result<(), Fail> {
             "the record at 128 is misspelt",
         ),
         (
+            LogReadFault::BadChain(Lsn(192)),
+            "the record at 192 may not follow those before it",
+        ),
+        (
             LogReadFault::Torn(Lsn(256)),
             "the log ends within the record at 256",
         ),
