@@ -8,7 +8,8 @@ use Rattle.log_store.specs.Linked.{number_in}
 use Rattle.log_store.specs.Transactions.{last_of, pending}
 use Rattle.aries_core.specs.declared.event.Event.{Event}
 use Rattle.aries_core.specs.declared.event.Event.TheVariants as event
-use Rattle.aries_core.specs.EngineState.{EngineState, abort_record, commit_record, comp_record, end, end_record}
+use Rattle.aries_core.specs.EngineState.{EngineState, abort_record, commit_record, comp_record, end}
+use Rattle.aries_core.specs.EngineState.{end_record}
 use Rattle.aries_core.specs.EngineState.{next_txn, update_record}
 use Rattle.aries_core.specs.EventFits.{EventFits}
 use Rattle.aries_core.specs.Refusal.{refusal}

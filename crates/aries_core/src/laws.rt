@@ -1,6 +1,7 @@
 //! Laws of whole runs, for those who read the contracts.
 
-ghost use Rattle.std.specs.Prelude.{ℕ, ◌≡◌, ◌≢◌, ◌+◌, ◌<◌, ◌≤◌, ◌++◌, List, [], ◌∷◌, length, Option, Some, None, Result, Ok, Err, false};
+ghost use Rattle.std.specs.Prelude.{ℕ, ◌≡◌, ◌≢◌, ◌+◌, ◌<◌, ◌≤◌, ◌++◌, List, [], ◌∷◌, length};
+ghost use Rattle.std.specs.Prelude.{Option, Some, None, Result, Ok, Err, false};
 ghost use Rattle.std.specs.List.{All};
 ghost use Rattle.log_store.specs.declared.limits.TheConstants.{MAX_RECORDS};
 ghost use Rattle.log_store.specs.declared.record.Record.{Record};
@@ -19,21 +20,24 @@ ghost use Rattle.aries_core.specs.declared.event.Answer.TheVariants as answer;
 ghost use Rattle.aries_core.specs.declared.event.Event.{Event};
 ghost use Rattle.aries_core.specs.declared.event.Event.TheVariants as event;
 ghost use Rattle.aries_core.specs.declared.refusal.Refusal.{Refusal};
-ghost use Rattle.aries_core.specs.declared.refusal.Refusal.TheVariants.{CommitUnsure, LogFault, LogFull};
+ghost use Rattle.aries_core.specs.declared.refusal.Refusal.TheVariants.{CommitUnsure, LogFault};
+ghost use Rattle.aries_core.specs.declared.refusal.Refusal.TheVariants.{LogFull};
 
-/// A new engine is fit: its log has a spelling, is linked, and has room for what open transactions may still need.
+/// A new engine is fit: its log has a spelling, is linked, and has room for what open transactions
+/// may still need.
 pub fn a_new_engine_is_fit()
     ensures { (pages : ℕ) → IsPageCount pages → IsFit (new_state pages) }
 {}
 
 /// An engine stays fit, whatever calls come and whatever its device does.
 pub fn engines_stay_fit()
-    ensures { (old : EngineState) (events : List Event) (replies : List (Result Answer Refusal)) (new : EngineState)
+    ensures { (old : EngineState) (events : List Event)
+        (replies : List (Result Answer Refusal)) (new : EngineState)
         → IsFit old → All EventFits events → Run old events replies new → IsFit new }
 {}
 
-/// LogFull is answered exactly where the log's records and those that open transactions may still need would be more
-/// than a log may have, after the call.
+/// LogFull is answered exactly where the log's records and those that open transactions may still
+/// need would be more than a log may have, after the call.
 pub fn log_full_is_exact()
     ensures accepted { (s : EngineState) (event : Event) → IsFit s → refusal s event ≡ None
         → let after = (effect s event).state in length after.log + owed after.log ≤ MAX_RECORDS }
@@ -44,48 +48,57 @@ pub fn log_full_is_exact()
 /// The log is the run: read back as calls, it shows the calls that were accepted, in their order,
 /// behind those that it showed before the run.
 pub fn log_shows_the_accepted_calls()
-    ensures { (old : EngineState) (events : List Event) (replies : List (Result Answer Refusal)) (new : EngineState)
+    ensures { (old : EngineState) (events : List Event)
+        (replies : List (Result Answer Refusal)) (new : EngineState)
         → Run old events replies new → work new.log ≡ work old.log ++ accepted events replies }
 {}
 
 /// The log only grows: a record that stands in it stays where it is.
 pub fn the_log_only_grows()
-    ensures { (old : EngineState) (events : List Event) (replies : List (Result Answer Refusal)) (new : EngineState)
+    ensures { (old : EngineState) (events : List Event)
+        (replies : List (Result Answer Refusal)) (new : EngineState)
         → Run old events replies new → (rest : List Record) × (new.log ≡ old.log ++ rest) }
 {}
 
 /// The forced end of the log never falls: what was forced stays so.
 pub fn the_forced_end_never_falls()
-    ensures { (old : EngineState) (events : List Event) (replies : List (Result Answer Refusal)) (new : EngineState)
+    ensures { (old : EngineState) (events : List Event)
+        (replies : List (Result Answer Refusal)) (new : EngineState)
         → IsFit old → Run old events replies new → old.forced_end ≤ new.forced_end }
 {}
 
-/// Once a Commit is answered, its record stands at the end of the log, and lies below the forced end.
+/// Once a Commit is answered, its record stands at the end of the log, and lies below the forced
+/// end.
 pub fn an_answered_commit_is_forced()
     ensures { (old : EngineState) (txn lsn : ℕ) (new : EngineState)
         → Step old (event.Commit txn) (Ok (answer.Logged lsn)) new
-        → (new.log ≡ old.log ++ log.Commit lsn txn (last_lsn old.log txn) ∷ []) × (lsn < new.forced_end) }
+        → (new.log ≡ old.log ++ log.Commit lsn txn (last_lsn old.log txn) ∷ [])
+        × (lsn < new.forced_end) }
 {}
 
-/// At CommitUnsure the Commit stands at the end of the log, not counted as forced, and its transaction has ended.
+/// At CommitUnsure the Commit stands at the end of the log, not counted as forced, and its
+/// transaction has ended.
 pub fn an_unsure_commit_ends_its_transaction()
     ensures { (old : EngineState) (txn lsn : ℕ) (new : EngineState)
         → Step old (event.Commit txn) (Err (CommitUnsure lsn)) new
-        → (new.log ≡ old.log ++ log.Commit lsn txn (last_lsn old.log txn) ∷ []) × (is_open new.log txn ≡ false)
+        → (new.log ≡ old.log ++ log.Commit lsn txn (last_lsn old.log txn) ∷ [])
+        × (is_open new.log txn ≡ false)
         × (new.forced_end ≤ lsn) }
 {}
 
 /// A refusal changes nothing, but for the two that tell of the device.
 pub fn a_refusal_changes_nothing()
-    ensures { (old : EngineState) (event : Event) (why : Refusal) (new : EngineState) → why ≢ LogFault
+    ensures { (old : EngineState) (event : Event) (why : Refusal) (new : EngineState)
+        → why ≢ LogFault
         → ((lsn : ℕ) → why ≢ CommitUnsure lsn) → Step old event (Err why) new → new ≡ old }
 {}
 
-/// Only memory and the device leave an engine a choice: where a refusal is due it is the reply, and an event has no two
-/// answers.
+/// Only memory and the device leave an engine a choice: where a refusal is due it is the reply, and
+/// an event has no two answers.
 pub fn replies_are_determined()
-    ensures refused { (old : EngineState) (event : Event) (reply : Result Answer Refusal) (new : EngineState)
-        (why : Refusal) → refusal old event ≡ Some why → Step old event reply new → (reply ≡ Err why) × (new ≡ old) }
+    ensures refused { (old : EngineState) (event : Event) (reply : Result Answer Refusal)
+        (new : EngineState) (why : Refusal) → refusal old event ≡ Some why
+        → Step old event reply new → (reply ≡ Err why) × (new ≡ old) }
     ensures answered { (old : EngineState) (event : Event) (a b : Answer) (new other : EngineState)
         → Step old event (Ok a) new → Step old event (Ok b) other → (a ≡ b) × (new ≡ other) }
 {}

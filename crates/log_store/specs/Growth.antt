@@ -1,6 +1,7 @@
 -- Which records may need memory.
 use Rattle.log_store.specs.declared.record.Record.{Record}
-use Rattle.log_store.specs.declared.record.Record.TheVariants.{Begin, Update, Comp, Commit, Abort, End}
+use Rattle.log_store.specs.declared.record.Record.TheVariants.{Begin, Update, Comp, Commit, Abort}
+use Rattle.log_store.specs.declared.record.Record.TheVariants.{End}
 
 -- a record that makes the table of open transactions larger
 abbrev pub MayGrow : Record → Type 0

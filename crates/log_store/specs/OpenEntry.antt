@@ -62,4 +62,5 @@ pub record KeepsSeat (old new : OpenEntry) (before after : Claims) : Type 0 wher
 abbrev pub hold_among : List OpenEntry → ℕ → ℕ → ℕ → Hold
 hold_among [] page slot seat = no_hold
 hold_among (e ∷ es) page slot seat =
-    if e.seat == seat then hold_by (changes_of e.pending.items) page slot else hold_among es page slot seat
+    if e.seat == seat then hold_by (changes_of e.pending.items) page slot
+    else hold_among es page slot seat

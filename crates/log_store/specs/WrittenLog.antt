@@ -3,7 +3,8 @@ use Rattle.std.specs.Prelude.{ℕ, ◌≡◌, ◌/◌, ◌≤◌, List, length, 
 use Rattle.log_store.specs.declared.record.Record.{Record}
 use Rattle.log_store.specs.Log.{Log, IsLog, SpellsLog, lsn_of}
 
--- the log, the LSN behind its last forced record, for how many records more it has memory, and its device
+-- the log, the LSN behind its last forced record, for how many records more it has memory, and its
+-- device
 pub record WrittenLog (D : Type 0) : Type 0 where
   pub log : Log
   pub forced_end : ℕ

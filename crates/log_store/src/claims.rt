@@ -1,7 +1,9 @@
 //! Which open transactions keep others from a slot, by their seats.
 
-ghost use Rattle.std.specs.Prelude.{ℕ, ◌≡◌, ◌<◌, ◌==◌, ◌&&◌, ◌↔◌, IsTrue, OnOk, OnErr, if◌then◌else◌};
-ghost use Rattle.log_store.specs.Claims.{claim_at, hold_at, hold_in, hold_with, no_claim, no_hold, seats_against};
+ghost use Rattle.std.specs.Prelude.{ℕ, ◌≡◌, ◌<◌, ◌==◌, ◌&&◌, ◌↔◌, IsTrue, OnOk, OnErr};
+ghost use Rattle.std.specs.Prelude.{if◌then◌else◌};
+ghost use Rattle.log_store.specs.Claims.{claim_at, hold_at, hold_in, hold_with, no_claim, no_hold};
+ghost use Rattle.log_store.specs.Claims.{seats_against};
 
 use crate::seat_set::{SEATS, SeatSet};
 use page_core::{ChangeKind, PageNo, SlotNo};

@@ -9,7 +9,8 @@ ghost use Rattle.log_store.specs.declared.record.Record.{Record};
 ghost use Rattle.log_store.specs.Committed.{committed, with_changes};
 ghost use Rattle.log_store.specs.Linked.{IsLinked, MayFollow, number_in};
 ghost use Rattle.log_store.specs.Log.{IsLog, Log};
-ghost use Rattle.log_store.specs.Table.{MayNote, entry_in, entry_of, holder_in, noted, owed_in, table_of};
+ghost use Rattle.log_store.specs.Table.{MayNote, entry_in, entry_of, holder_in, noted, owed_in};
+ghost use Rattle.log_store.specs.Table.{table_of};
 ghost use Rattle.log_store.specs.Transactions.{holder, is_open, open_in, owed, pending};
 ghost use Rattle.log_store.specs.Checked.{NamesNumber};
 ghost use Rattle.log_store.specs.Work.{call_of, work};
@@ -22,7 +23,8 @@ pub fn prefixes_of_linked_logs_are_linked()
 /// A log of no records is linked, and it stays linked with each record that may follow it.
 pub fn linked_logs_grow_by_what_may_follow()
     ensures none { IsLinked [] }
-    ensures more { (rs : List Record) (r : Record) → IsLinked rs → MayFollow rs r → IsLinked (rs ++ r ∷ []) }
+    ensures more { (rs : List Record) (r : Record) → IsLinked rs → MayFollow rs r
+        → IsLinked (rs ++ r ∷ []) }
 {}
 
 /// The table of a linked log, with a record noted that may follow it, is the table of the log with
@@ -50,7 +52,8 @@ pub fn tables_say_what_logs_say()
 
 /// A log with one more record shows the calls that it showed, and the one that the record shows.
 pub fn work_grows_call_by_call()
-    ensures { (rs : List Record) (r : Record) → work (rs ++ r ∷ []) ≡ work rs ++ option_to_list (call_of r) }
+    ensures { (rs : List Record) (r : Record)
+        → work (rs ++ r ∷ []) ≡ work rs ++ option_to_list (call_of r) }
 {}
 
 /// In each slot of a linked log stands the committed number with the pending changes of the open
@@ -58,7 +61,9 @@ pub fn work_grows_call_by_call()
 pub fn numbers_are_committed_under_pending_changes()
     ensures pending { (log : Log) (page slot : ℕ) → IsLog log → IsLinked log.records → slot < SLOTS
         → number_in log.records page slot
-        ≡ with_changes (committed log.records) (flat_map (pending log.records) (open_in log.records)) page slot }
+        ≡ with_changes (committed log.records)
+        (flat_map (pending log.records) (open_in log.records)) page slot }
     ensures closed { (log : Log) (page slot : ℕ) → IsLog log → IsLinked log.records → slot < SLOTS
-        → open_in log.records ≡ [] → number_in log.records page slot ≡ committed log.records page slot }
+        → open_in log.records ≡ []
+        → number_in log.records page slot ≡ committed log.records page slot }
 {}

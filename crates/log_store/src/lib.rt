@@ -1,5 +1,5 @@
-//! The records of the log, their bytes and their chain, the reading of a whole log, and a log that is
-//! written.
+//! The records of the log, their bytes and their chain, the reading of a whole log, and a log that
+//! is written.
 #![tactic(auto)]
 
 mod claims;

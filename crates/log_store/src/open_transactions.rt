@@ -1,11 +1,13 @@
 //! The table of open transactions.
 
-ghost use Rattle.std.specs.Prelude.{ℕ, ◌≡◌, ◌↔◌, min, IsTrue, IsSome, IsSomeAnd, OnOk, OnErr, MatchOption, None, [], length};
+ghost use Rattle.std.specs.Prelude.{ℕ, ◌≡◌, ◌↔◌, min, IsTrue, IsSome, IsSomeAnd, OnOk, OnErr};
+ghost use Rattle.std.specs.Prelude.{MatchOption, None, [], length};
 ghost use Rattle.std.specs.Option.{option_and_then, option_map};
 ghost use Rattle.log_store.specs.Growth.{MayGrow};
 ghost use Rattle.page_core.specs.declared.change.Change.{Change};
 ghost use Rattle.log_store.specs.Linked.{Compensates};
-ghost use Rattle.log_store.specs.Table.{IsActiveEntry, IsChained, MayNote, entry_in, holder_in, noted, owed_in, with_entry, without_entry};
+ghost use Rattle.log_store.specs.Table.{IsActiveEntry, IsChained, MayNote, entry_in, holder_in};
+ghost use Rattle.log_store.specs.Table.{noted, owed_in, with_entry, without_entry};
 ghost use Rattle.log_store.specs.Transactions.{last_of};
 ghost use Rattle.log_store.specs.declared.record.Record.TheVariants.{Begin, Update, Comp, Abort};
 
