@@ -63,3 +63,9 @@ abbrev pub IsByDevice : Refusal → Type 0
 IsByDevice LogFault = Unit {0}
 IsByDevice (CommitUnsure lsn) = Unit {0}
 IsByDevice other = ⊥
+
+-- the event forces nothing, so no call of the device is made
+abbrev pub LeavesDevice : Event → Type 0
+LeavesDevice (event.Commit txn) = ⊥
+LeavesDevice event.Force = ⊥
+LeavesDevice other = Unit {0}

@@ -12,8 +12,8 @@ ghost use Rattle.aries_core.specs.EngineState.{update_record};
 ghost use Rattle.aries_core.specs.Refusal.{active_refusal, change_refusal, has_no_room};
 ghost use Rattle.aries_core.specs.Refusal.{page_refusal};
 ghost use Rattle.aries_core.specs.Refusal.{refusal};
-ghost use Rattle.aries_core.specs.Step.{ForcedPart, IsByDevice, IsUnsure, Step};
-ghost use Rattle.aries_core.specs.Step.{reply_of, undo_answer};
+ghost use Rattle.aries_core.specs.Step.{ForcedPart, IsByDevice, IsUnsure, LeavesDevice};
+ghost use Rattle.aries_core.specs.Step.{Step, reply_of, undo_answer};
 ghost use Rattle.aries_core.specs.declared.event.Answer.TheVariants as answer;
 ghost use Rattle.aries_core.specs.declared.event.Event.TheVariants as event;
 
@@ -77,6 +77,9 @@ impl<D: LogDevice> Engine<D> {
     /// Does what an event says. Refusals are those of the call of that name.
     pub fn apply(&mut self, event: Event) -> Reply
         ensures step { Step self.old.state event result self.new.state }
+        ensures device { LeavesDevice event → self.new.device ≡ self.old.device }
+        ensures no_failure { OnOk result
+            (D.failures self.new.device ≡ D.failures self.old.device) }
         ensures cause { IfErr result (λ why. IsByDevice why
             → D.failures self.old.device < D.failures self.new.device) }
     {
@@ -181,6 +184,8 @@ impl<D: LogDevice> Engine<D> {
     pub fn commit(&mut self, txn: TxnNo) -> Result<Lsn, Refusal>
         ensures step { Step self.old.state (event.Commit txn) (reply_of answer.Logged result)
             self.new.state }
+        ensures no_failure { OnOk result
+            (D.failures self.new.device ≡ D.failures self.old.device) }
         ensures cause { IfErr result (λ why. IsUnsure why
             → D.failures self.old.device < D.failures self.new.device) }
     {
@@ -240,6 +245,8 @@ impl<D: LogDevice> Engine<D> {
     pub fn force(&mut self) -> Result<Lsn, Refusal>
         ensures step { Step self.old.state event.Force (reply_of answer.Forced result)
             self.new.state }
+        ensures no_failure { OnOk result
+            (D.failures self.new.device ≡ D.failures self.old.device) }
         ensures cause { OnErr result (D.failures self.old.device < D.failures self.new.device) }
     {
         match self.force_log() {
@@ -259,6 +266,8 @@ impl<D: LogDevice> Engine<D> {
     fn force_log(&mut self) -> Result<(), DeviceFault>
         ensures ok { OnOk result (self.new.state ≡ forced_to self.old.state (end self.old.state)) }
         ensures err { OnErr result (ForcedPart self.old.state self.new.state) }
+        ensures no_failure { OnOk result
+            (D.failures self.new.device ≡ D.failures self.old.device) }
         ensures cause { OnErr result
             (D.failures self.old.device < D.failures self.new.device) }
     {
