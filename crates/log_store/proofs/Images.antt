@@ -47,7 +47,7 @@ other_page page r c e other =
     ap (λ (o : Option PageChange). option_map_or (with_change page (own_lsn r)) o page) e
     ∙ ap (λ (b : Bool). cond b (put page (own_lsn r) c.slot c.change) page) (ne_eqb c.page page.number other)
 
-number-with_record : (page : Page) (r : Record) → (with_record page r).number ≡ page.number
+pub number-with_record : (page : Page) (r : Record) → (with_record page r).number ≡ page.number
 number-with_record page r = with_record-has (λ q. q.number ≡ page.number) page r refl (λ c e. refl)
 
 lsn-with_record : (page : Page) (r : Record) (n : ℕ) → page.lsn ≤ n → own_lsn r ≤ n → (with_record page r).lsn ≤ n

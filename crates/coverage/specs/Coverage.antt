@@ -1,0 +1,46 @@
+-- Which changes of a log a page has that was kept elsewhere meanwhile.
+use Rattle.std.specs.Prelude.{ℕ, ◌≡◌, ◌<◌, ◌≤◌, ◌==◌, ◌/◌, nat_le, nat_lt, Bool, false, ◌&&◌, List}
+use Rattle.std.specs.Prelude.{length, map, filter, take, Option}
+use Rattle.std.specs.List.{All}
+use Rattle.std.specs.Option.{option_map_or}
+use Rattle.page_core.specs.declared.numbers.TheConstants.{LSN_STEP}
+use Rattle.page_core.specs.declared.page.Page.{Page}
+use Rattle.log_store.specs.declared.record.Record.{Record}
+use Rattle.log_store.specs.Image.{image, image_from}
+use Rattle.log_store.specs.Record.{change_of, own_lsn}
+use Rattle.log_store.specs.Transactions.{least}
+
+-- the record changes this page
+abbrev pub changes : ℕ → Record → Bool
+changes number r = option_map_or (λ c. c.page == number) (change_of r) false
+
+-- the LSNs of the records that change a page, the oldest first
+abbrev pub changes_on : List Record → ℕ → List ℕ
+changes_on rs number = map own_lsn (filter (changes number) rs)
+
+-- the page is as the log made it at some moment
+pub record IsPast (rs : List Record) (number : ℕ) (page : Page) : Type 0 where
+  pub count : ℕ
+  pub within : count ≤ length rs
+  pub made : page ≡ image (take count rs) number
+
+-- and it has each of its changes below an LSN
+pub record Covers (rs : List Record) (number : ℕ) (page : Page) (bound : ℕ) : Type 0 where
+  pub past : IsPast rs number page
+  pub reached : All (λ lsn. lsn < bound → lsn ≤ page.lsn) (changes_on rs number)
+
+-- the records of a log up to an LSN and with it
+abbrev pub up_to : List Record → ℕ → List Record
+up_to rs lsn = take (lsn / LSN_STEP) rs
+
+-- a record is redone where it is at or above the redo point, and above the page's LSN
+abbrev pub is_resumed : ℕ → ℕ → Record → Bool
+is_resumed from lsn r = nat_le from (own_lsn r) && nat_lt lsn (own_lsn r)
+
+-- a page after redo from a redo point on
+abbrev pub resume : Page → List Record → ℕ → Page
+resume page rs from = image_from page (filter (is_resumed from page.lsn) rs)
+
+-- the RecLSN of a page whose last write had this LSN: of the changes above it, the LSN of the first
+abbrev pub rec_lsn : List Record → ℕ → ℕ → Option ℕ
+rec_lsn rs number written = least (filter (nat_lt written) (changes_on rs number))
