@@ -1,8 +1,8 @@
 -- Which changes of a log a page has that was kept elsewhere meanwhile.
 use Rattle.std.specs.Prelude.{ℕ, ◌≡◌, ◌<◌, ◌≤◌, ◌==◌, ◌/◌, nat_le, nat_lt, Bool, false, ◌&&◌, List}
-use Rattle.std.specs.Prelude.{length, map, filter, take, Option}
-use Rattle.std.specs.List.{All}
-use Rattle.std.specs.Option.{option_map_or}
+use Rattle.std.specs.Prelude.{length, map, filter, take, Option, None, IfSome, slice_index, slice_index_or}
+use Rattle.std.specs.List.{All, filter_map, range_with_len}
+use Rattle.std.specs.Option.{option_map, option_map_or}
 use Rattle.page_core.specs.declared.numbers.TheConstants.{LSN_STEP}
 use Rattle.page_core.specs.declared.page.Page.{Page}
 use Rattle.log_store.specs.declared.record.Record.{Record}
@@ -44,3 +44,36 @@ resume page rs from = image_from page (filter (is_resumed from page.lsn) rs)
 -- the RecLSN of a page whose last write had this LSN: of the changes above it, the LSN of the first
 abbrev pub rec_lsn : List Record → ℕ → ℕ → Option ℕ
 rec_lsn rs number written = least (filter (nat_lt written) (changes_on rs number))
+
+-- ---- pages that are stored while the log goes on
+
+-- a stored page is of the log's past, and not older than its last write
+pub record IsStored (rs : List Record) (number : ℕ) (page : Page) (written : ℕ) : Type 0 where
+  pub past : IsPast rs number page
+  pub reached : written ≤ page.lsn
+
+-- the image of a write in progress is of the log's past, and not older than the stored page
+pub record IsWriting (rs : List Record) (number : ℕ) (stored image : Page) : Type 0 where
+  pub past : IsPast rs number image
+  pub newer : stored.lsn ≤ image.lsn
+
+-- of each page: the stored one, with the LSN of its last write, and the image that is being written
+pub record AreStored (rs : List Record) (stored : List Page) (written : List ℕ)
+    (writing : List (Option Page)) : Type 0 where
+  pub pages : (p : ℕ) (d : Page) → p < length stored
+      → IsStored rs p (slice_index_or stored p d) (slice_index written p)
+  pub images : (p : ℕ) (d : Page) → p < length stored
+      → IfSome (slice_index_or writing p None) (IsWriting rs p (slice_index_or stored p d))
+
+-- a page that is dirty, and its RecLSN
+pub record DirtyEntry : Type 0 where
+  pub page : ℕ
+  pub rec_lsn : ℕ
+
+-- the dirty page table, in order of the pages' numbers: the pages with a change above the LSN of
+-- their last write
+abbrev pub dirty : List Record → List ℕ → List DirtyEntry
+dirty rs written = filter_map
+    (λ p. option_map (λ lsn. record { page = p; rec_lsn = lsn })
+    (rec_lsn rs p (slice_index written p)))
+    (range_with_len 0 (length written))
