@@ -1,10 +1,13 @@
 -- Which changes of a log a page has that was kept elsewhere meanwhile.
-use Rattle.std.specs.Prelude.{ℕ, ◌≡◌, ◌<◌, ◌≤◌, ◌==◌, ◌/◌, nat_le, nat_lt, Bool, false, ◌&&◌, List}
+use Rattle.std.specs.Prelude.{ℕ, ◌≡◌, ◌<◌, ◌≤◌, ◌==◌, ◌/◌, nat_le, nat_lt, Bool, false, ◌&&◌, List, [], ◌∷◌}
 use Rattle.std.specs.Prelude.{length, map, filter, take, Option, None, IfSome, slice_index, slice_index_or}
 use Rattle.std.specs.List.{All, filter_map, range_with_len}
 use Rattle.std.specs.Option.{option_map, option_map_or}
 use Rattle.page_core.specs.declared.numbers.TheConstants.{LSN_STEP}
 use Rattle.page_core.specs.declared.page.Page.{Page}
+use Rattle.coverage.specs.declared.dirty_page.DirtyPage.{DirtyPage}
+use Rattle.coverage.specs.declared.dirty_page.DirtyPages.{DirtyPages}
+use Rattle.coverage.specs.declared.dirty_page.DirtyPages.TheVariants.{One, Two, Three}
 use Rattle.log_store.specs.declared.record.Record.{Record}
 use Rattle.log_store.specs.Image.{image, image_from}
 use Rattle.log_store.specs.Record.{change_of, own_lsn}
@@ -65,15 +68,20 @@ pub record AreStored (rs : List Record) (stored : List Page) (written : List ℕ
   pub images : (p : ℕ) (d : Page) → p < length stored
       → IfSome (slice_index_or writing p None) (IsWriting rs p (slice_index_or stored p d))
 
--- a page that is dirty, and its RecLSN
-pub record DirtyEntry : Type 0 where
-  pub page : ℕ
-  pub rec_lsn : ℕ
-
 -- the dirty page table, in order of the pages' numbers: the pages with a change above the LSN of
 -- their last write
-abbrev pub dirty : List Record → List ℕ → List DirtyEntry
+abbrev pub dirty : List Record → List ℕ → List DirtyPage
 dirty rs written = filter_map
     (λ p. option_map (λ lsn. record { page = p; rec_lsn = lsn })
     (rec_lsn rs p (slice_index written p)))
     (range_with_len 0 (length written))
+
+-- the entries of one to three dirty pages
+abbrev pub entries_of : DirtyPages → List DirtyPage
+entries_of (One a) = a ∷ []
+entries_of (Two a b) = a ∷ b ∷ []
+entries_of (Three a b c) = a ∷ b ∷ c ∷ []
+
+-- the next dirty pages of a table, from a page number on: at most three
+abbrev pub next_dirty : List DirtyPage → ℕ → List DirtyPage
+next_dirty table from = take 3 (filter (λ e. nat_le from e.page) table)

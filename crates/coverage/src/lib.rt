@@ -1,6 +1,10 @@
 //! Laws.
 #![tactic(auto)]
 
+mod dirty_page;
+
+pub use dirty_page::{DirtyPage, DirtyPages};
+
 ghost use Rattle.std.specs.Prelude.{ℕ, ◌≡◌, ◌<◌, ◌≤◌, ◌++◌, ◌∷◌, [], List, length, take, Some, None};
 ghost use Rattle.log_store.specs.declared.record.Record.{Record};
 ghost use Rattle.log_store.specs.Log.{Log, IsLog, lsn_of};
