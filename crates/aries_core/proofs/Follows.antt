@@ -90,3 +90,5 @@ follows s (event.UndoStep txn) r none made =
     let rolls = undo_passes s txn none in
     undo_has (MayFollow s.log) s txn r made (λ p last. comp_follows s txn p rolls last) (end_follows s txn rolls)
 follows s event.Force r none made = absurd (cc)
+follows s (event.WriteBegin page) r none made = absurd (cc)
+follows s (event.WriteEnd page) r none made = absurd (cc)

@@ -11,3 +11,5 @@ pub mod Rooms
 pub mod Runs
 pub mod Stands
 pub mod Steps
+pub mod Writes
+pub mod PageLaws

@@ -26,6 +26,8 @@ record_for s (event.Abort txn) = Some (abort_record s txn)
 record_for s (event.UndoStep txn) =
     Some (option_map_or (comp_record s txn) (last_of (pending s.log txn)) (end_record s txn))
 record_for s event.Force = None
+record_for s (event.WriteBegin page) = None
+record_for s (event.WriteEnd page) = None
 
 -- the record is that of a call that is accepted
 pub record Calls (s : EngineState) (r : Record) : Type 0 where

@@ -108,6 +108,7 @@ impl<D: LogDevice> Engine<D> {
                 Undone::Ended(lsn) => Answer::Ended(lsn),
             },
             Event::Force => Answer::Forced(self.force()?),
+            Event::WriteBegin(_) | Event::WriteEnd(_) => return Err(Refusal::OutOfMemory),
         };
         Ok(answer)
     }
