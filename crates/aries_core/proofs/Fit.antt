@@ -5,11 +5,11 @@ use Rattle.std.specs.List.{All}
 use Rattle.std.proofs.lemmas.Bool.{cases_lt}
 use Rattle.std.proofs.lemmas.List.{length_push, take-append-le, take_all}
 use Rattle.std.proofs.lemmas.List.Elements.{All-head, All-tail}
-use Rattle.log_store.specs.declared.limits.TheConstants.{MAX_RECORDS}
-use Rattle.log_store.specs.declared.record.Record.{Record}
-use Rattle.log_store.specs.Log.{IsPageCount}
-use Rattle.log_store.specs.Transactions.{owed}
-use Rattle.log_store.proofs.Histories.{linked_none, linked_push}
+use Rattle.log_records.specs.declared.limits.TheConstants.{MAX_RECORDS}
+use Rattle.log_records.specs.declared.record.Record.{Record}
+use Rattle.log_records.specs.Log.{IsPageCount}
+use Rattle.log_history.specs.Transactions.{owed}
+use Rattle.log_history.proofs.Histories.{linked_none, linked_push}
 use Rattle.log_store.proofs.Scans.{valid_next}
 use Rattle.aries_core.specs.declared.event.Answer.{Answer}
 use Rattle.aries_core.specs.declared.event.Event.{Event}

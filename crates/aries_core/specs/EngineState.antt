@@ -4,16 +4,16 @@ use Rattle.std.specs.Option.{option_map_or}
 use Rattle.page_core.specs.declared.change.Change.{Change}
 use Rattle.page_core.specs.declared.change.Change.TheVariants.{Set, Add}
 use Rattle.page_core.specs.Change.{undo_of}
-use Rattle.log_store.specs.declared.limits.TheConstants.{MAX_RECORDS}
-use Rattle.log_store.specs.declared.pending_change.PendingChange.{PendingChange}
-use Rattle.log_store.specs.declared.record.Record.{Record}
-use Rattle.log_store.specs.declared.record.Record.TheVariants as log
+use Rattle.log_records.specs.declared.limits.TheConstants.{MAX_RECORDS}
+use Rattle.log_history.specs.declared.pending_change.PendingChange.{PendingChange}
+use Rattle.log_records.specs.declared.record.Record.{Record}
+use Rattle.log_records.specs.declared.record.Record.TheVariants as log
 use Rattle.page_core.specs.declared.page.Page.{Page}
-use Rattle.log_store.specs.Image.{redo_all}
-use Rattle.log_store.specs.Linked.{IsLinked, number_in}
-use Rattle.log_store.specs.Log.{IsLog, lsn_of}
-use Rattle.log_store.specs.Transactions.{begun, last_lsn, last_of, owed, pending}
-use Rattle.log_store.specs.Table.{Table}
+use Rattle.log_records.specs.Image.{redo_all}
+use Rattle.log_history.specs.Linked.{IsLinked, number_in}
+use Rattle.log_records.specs.Log.{IsLog, lsn_of}
+use Rattle.log_history.specs.Transactions.{begun, last_lsn, last_of, owed, pending}
+use Rattle.log_history.specs.Table.{Table}
 use Rattle.log_store.specs.WrittenLog.{WrittenLog}
 use Rattle.txn_table.specs.TxnTable.{IsTableOf}
 use Rattle.aries_core.specs.declared.event.Answer.{Answer}

@@ -3,12 +3,12 @@
 ghost use Rattle.std.specs.Prelude.{ℕ, ◌≡◌, ◌≢◌, ◌+◌, ◌<◌, ◌≤◌, ◌++◌, List, [], ◌∷◌, length};
 ghost use Rattle.std.specs.Prelude.{Option, Some, None, Result, Ok, Err, false};
 ghost use Rattle.std.specs.List.{All};
-ghost use Rattle.log_store.specs.declared.limits.TheConstants.{MAX_RECORDS};
-ghost use Rattle.log_store.specs.declared.record.Record.{Record};
-ghost use Rattle.log_store.specs.declared.record.Record.TheVariants as log;
-ghost use Rattle.log_store.specs.Log.{IsPageCount};
-ghost use Rattle.log_store.specs.Transactions.{is_open, last_lsn, owed};
-ghost use Rattle.log_store.specs.Work.{work};
+ghost use Rattle.log_records.specs.declared.limits.TheConstants.{MAX_RECORDS};
+ghost use Rattle.log_records.specs.declared.record.Record.{Record};
+ghost use Rattle.log_records.specs.declared.record.Record.TheVariants as log;
+ghost use Rattle.log_records.specs.Log.{IsPageCount};
+ghost use Rattle.log_history.specs.Transactions.{is_open, last_lsn, owed};
+ghost use Rattle.log_history.specs.Work.{work};
 ghost use Rattle.aries_core.specs.Accepted.{accepted};
 ghost use Rattle.aries_core.specs.EngineState.{EngineState, IsFit, effect, new_state};
 ghost use Rattle.aries_core.specs.EventFits.{EventFits};

@@ -1,0 +1,4 @@
+pub mod Changes
+pub mod Images
+pub mod Logs
+pub mod Records

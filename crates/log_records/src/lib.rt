@@ -1,0 +1,21 @@
+//! The records of a log and their bytes, a log's spelling, and what its records make of pages.
+#![tactic(auto)]
+
+mod codec;
+mod fields;
+mod header;
+mod laws;
+mod limits;
+mod page_change;
+mod place;
+mod record;
+mod volume;
+
+pub use codec::{decode, encode};
+pub use header::{encode_header, page_count};
+pub use laws::{logs_are_spelled_apart, records_are_spelled_apart};
+pub use limits::{HEADER_BYTES, MAX_LOG_BYTES, MAX_OPEN, MAX_RECORDS, RECORD_BYTES};
+pub use page_change::PageChange;
+pub use place::record_at;
+pub use record::Record;
+pub use volume::{formatted_pages, redo_on_its_page};
