@@ -2,10 +2,10 @@
 use Rattle.std.proofs.Common.{◌≡◌, ℕ, ◌<◌, List, [], ◌∷◌, length, get_or, set, replicate, refl, sym, ap, subst, ◌∙◌, arith, inl, inr}
 use Rattle.std.specs.Prelude.{Option, Some, None, Result, Ok, Err}
 use Rattle.page_core.specs.declared.page.Page.{Page}
-use Rattle.coverage.specs.Coverage.{Covers}
-use Rattle.coverage.proofs.Coverage.{clean_is_image, dirty_covers}
-use Rattle.log_store.specs.declared.pending_change.PendingChange.{PendingChange}
-use Rattle.log_store.specs.Transactions.{last_of, pending}
+use Rattle.log_records.specs.Coverage.{Covers}
+use Rattle.log_records.proofs.Coverage.{clean_is_image, dirty_covers}
+use Rattle.log_history.specs.declared.pending_change.PendingChange.{PendingChange}
+use Rattle.log_history.specs.Transactions.{last_of, pending}
 use Rattle.aries_core.specs.declared.event.Answer.{Answer}
 use Rattle.aries_core.specs.declared.event.Answer.TheVariants as answer
 use Rattle.aries_core.specs.declared.event.Event.{Event}

@@ -7,8 +7,8 @@ use Rattle.std.proofs.lemmas.Bool.{not-false, leb-false, ltb-false, ltb-true}
 use Rattle.page_core.specs.declared.change.ChangeKind.{ChangeKind}
 use Rattle.page_core.specs.declared.page.Page.{Page}
 use Rattle.page_core.specs.declared.page.TheConstants.{SLOTS}
-use Rattle.log_store.specs.declared.limits.TheConstants.{MAX_OPEN, MAX_RECORDS}
-use Rattle.log_store.specs.Transactions.{holder, is_open, is_rolling, open_in, owed}
+use Rattle.log_records.specs.declared.limits.TheConstants.{MAX_OPEN, MAX_RECORDS}
+use Rattle.log_history.specs.Transactions.{holder, is_open, is_rolling, open_in, owed}
 use Rattle.aries_core.specs.declared.event.Event.TheVariants as event
 use Rattle.aries_core.specs.declared.refusal.Refusal.{Refusal}
 use Rattle.aries_core.specs.declared.refusal.Refusal.TheVariants.{CommitUnsure, LogFull, NoTxn, NoWrite, NotDirty, NotRolling, PageOut, SlotBusy, SlotOut, TooManyTxns, TxnRolling, WriteBegun}

@@ -7,13 +7,13 @@ use Rattle.page_core.specs.declared.change.Change.{Change}
 use Rattle.page_core.specs.declared.change.Change.TheVariants.{Set, Add}
 use Rattle.page_core.specs.declared.change.ChangeKind.TheVariants as kind
 use Rattle.page_core.specs.Change.{kind_of, undo_of}
-use Rattle.log_store.specs.declared.pending_change.PendingChange.{PendingChange}
-use Rattle.log_store.specs.declared.record.Record.{Record}
-use Rattle.log_store.specs.declared.record.Record.TheVariants as log
-use Rattle.log_store.specs.Linked.{number_in}
-use Rattle.log_store.specs.Log.{Log, StandsAt}
-use Rattle.log_store.specs.Record.{HasNoBefore, IsBefore, IsChange, IsLsn, IsRecord, IsTxn}
-use Rattle.log_store.specs.Transactions.{is_open, last_lsn, last_of, pending}
+use Rattle.log_history.specs.declared.pending_change.PendingChange.{PendingChange}
+use Rattle.log_records.specs.declared.record.Record.{Record}
+use Rattle.log_records.specs.declared.record.Record.TheVariants as log
+use Rattle.log_history.specs.Linked.{number_in}
+use Rattle.log_records.specs.Log.{Log, StandsAt}
+use Rattle.log_records.specs.Record.{HasNoBefore, IsBefore, IsChange, IsLsn, IsRecord, IsTxn}
+use Rattle.log_history.specs.Transactions.{is_open, last_lsn, last_of, pending}
 use Rattle.aries_core.specs.declared.event.Event.{Event}
 use Rattle.aries_core.specs.declared.event.Event.TheVariants as event
 use Rattle.aries_core.specs.EngineState.{EngineState, IsFit, abort_record, commit_record, comp_record, end, end_record, log_of, next_txn, update_record}

@@ -4,12 +4,12 @@ use Rattle.std.specs.Prelude.{Option, Some, None, IsSomeAnd, Result, Ok, Err}
 use Rattle.std.specs.Option.{option_map_or}
 use Rattle.page_core.specs.declared.change.Change.TheVariants.{Set, Add}
 use Rattle.page_core.specs.declared.page.Page.{Page}
-use Rattle.log_store.specs.declared.pending_change.PendingChange.{PendingChange}
-use Rattle.log_store.specs.declared.record.Record.{Record}
-use Rattle.log_store.specs.declared.record.Record.TheVariants as log
-use Rattle.log_store.specs.Linked.{number_in}
-use Rattle.log_store.specs.Transactions.{last_of, pending}
-use Rattle.log_store.specs.Work.{call_of}
+use Rattle.log_history.specs.declared.pending_change.PendingChange.{PendingChange}
+use Rattle.log_records.specs.declared.record.Record.{Record}
+use Rattle.log_records.specs.declared.record.Record.TheVariants as log
+use Rattle.log_history.specs.Linked.{number_in}
+use Rattle.log_history.specs.Transactions.{last_of, pending}
+use Rattle.log_history.specs.Work.{call_of}
 use Rattle.aries_core.specs.Call.{record_for}
 use Rattle.aries_core.specs.declared.event.Answer.{Answer}
 use Rattle.aries_core.specs.declared.event.Event.{Event}

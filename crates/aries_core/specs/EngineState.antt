@@ -9,17 +9,17 @@ use Rattle.page_core.specs.declared.change.Change.TheVariants.{Set, Add}
 use Rattle.page_core.specs.Change.{undo_of}
 use Rattle.page_core.specs.Volume.{formatted_pages}
 use Rattle.buffer_pool.specs.Pool.{IsPoolOf, PoolView}
-use Rattle.coverage.specs.Coverage.{AreStored, rec_lsn}
-use Rattle.log_store.specs.declared.limits.TheConstants.{MAX_RECORDS}
-use Rattle.log_store.specs.declared.pending_change.PendingChange.{PendingChange}
-use Rattle.log_store.specs.declared.record.Record.{Record}
-use Rattle.log_store.specs.declared.record.Record.TheVariants as log
+use Rattle.log_records.specs.Coverage.{AreStored, rec_lsn}
+use Rattle.log_records.specs.declared.limits.TheConstants.{MAX_RECORDS}
+use Rattle.log_history.specs.declared.pending_change.PendingChange.{PendingChange}
+use Rattle.log_records.specs.declared.record.Record.{Record}
+use Rattle.log_records.specs.declared.record.Record.TheVariants as log
 use Rattle.page_core.specs.declared.page.Page.{Page}
-use Rattle.log_store.specs.Image.{image}
-use Rattle.log_store.specs.Linked.{IsLinked, number_in}
-use Rattle.log_store.specs.Log.{IsLog, Log, lsn_of}
-use Rattle.log_store.specs.Transactions.{begun, last_lsn, last_of, owed, pending}
-use Rattle.log_store.specs.Table.{Table}
+use Rattle.log_records.specs.Image.{image}
+use Rattle.log_history.specs.Linked.{IsLinked, number_in}
+use Rattle.log_records.specs.Log.{IsLog, Log, lsn_of}
+use Rattle.log_history.specs.Transactions.{begun, last_lsn, last_of, owed, pending}
+use Rattle.log_history.specs.Table.{Table}
 use Rattle.log_store.specs.WrittenLog.{WrittenLog, end_up_to}
 use Rattle.txn_table.specs.TxnTable.{IsTableOf}
 use Rattle.aries_core.specs.declared.event.Answer.{Answer}

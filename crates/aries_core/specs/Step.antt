@@ -1,7 +1,7 @@
 -- One call of the engine: what it may answer, and what stands after it.
 use Rattle.std.specs.Prelude.{ℕ, ◌≡◌, ◌*◌, ◌<◌, ◌≤◌, ◌⊎◌, length, Option, Some, None, IsSomeAnd, Result, Ok}
 use Rattle.std.specs.Prelude.{Err}
-use Rattle.log_store.specs.Log.{lsn_of}
+use Rattle.log_records.specs.Log.{lsn_of}
 use Rattle.log_store.specs.WrittenLog.{end_up_to}
 use Rattle.aries_core.specs.declared.event.Answer.{Answer}
 use Rattle.aries_core.specs.declared.event.Answer.TheVariants as answer

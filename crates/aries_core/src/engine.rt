@@ -3,9 +3,9 @@
 
 ghost use Rattle.std.specs.Prelude.{ℕ, ◌≡◌, ◌+◌, ◌<◌, ◌≤◌, ◌^◌, length, not, true, Some, None};
 ghost use Rattle.std.specs.Prelude.{IfOk, IfErr, OnOk, OnErr};
-ghost use Rattle.log_store.specs.Linked.{number_in};
-ghost use Rattle.log_store.specs.Log.{IsPageCount};
-ghost use Rattle.log_store.specs.Transactions.{is_open, last_lsn};
+ghost use Rattle.log_history.specs.Linked.{number_in};
+ghost use Rattle.log_records.specs.Log.{IsPageCount};
+ghost use Rattle.log_history.specs.Transactions.{is_open, last_lsn};
 ghost use Rattle.aries_core.specs.Call.{Calls};
 ghost use Rattle.aries_core.specs.EngineState.{appended, end, forced_to, new_state};
 ghost use Rattle.aries_core.specs.EngineState.{update_record};
@@ -20,10 +20,9 @@ ghost use Rattle.aries_core.specs.declared.event.Event.TheVariants as event;
 use crate::event::{Answer, Event, Reply, Undone};
 use crate::refusal::Refusal;
 use crate::setup::{PlayFault, Setup};
-use log_store::{
-    DeviceFault, Log, LogDevice, MAX_OPEN, MAX_RECORDS, PendingChange, Record, TxnState,
-    formatted_pages, redo_on_its_page,
-};
+use log_history::{PendingChange, TxnState};
+use log_records::{MAX_OPEN, MAX_RECORDS, Record, formatted_pages, redo_on_its_page};
+use log_store::{DeviceFault, Log, LogDevice};
 use page_core::{Change, ChangeKind, Lsn, Page, PageNo, SLOTS, SlotNo, TxnNo, undo_of};
 use std::alloc::Global;
 use std::marker::Model;

@@ -1,7 +1,7 @@
 //! Rows of calls with their answers, and what the device has after a fault.
 
 ghost use Rattle.std.specs.Prelude.{◌≤◌};
-ghost use Rattle.log_store.specs.Log.{IsPageCount};
+ghost use Rattle.log_records.specs.Log.{IsPageCount};
 
 use crate::{Answer, Engine, Event, PlayFault, Refusal, Reply, Setup};
 use log_store::{FaultyDevice, LogDevice, MemDevice};

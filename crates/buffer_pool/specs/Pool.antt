@@ -3,9 +3,9 @@ use Rattle.std.specs.Prelude.{ℕ, ◌≡◌, ◌<◌, List, length, map, Option
 use Rattle.std.specs.List.{All}
 use Rattle.std.specs.Option.{option_map_or}
 use Rattle.page_core.specs.declared.page.Page.{Page}
-use Rattle.coverage.specs.Coverage.{AreStored, rec_lsn}
-use Rattle.log_store.specs.Image.{image}
-use Rattle.log_store.specs.Log.{IsLog, Log, lsn_of}
+use Rattle.log_records.specs.Coverage.{AreStored, rec_lsn}
+use Rattle.log_records.specs.Image.{image}
+use Rattle.log_records.specs.Log.{IsLog, Log, lsn_of}
 
 pub record PageState : Type 0 where
   pub written : ℕ

@@ -5,7 +5,7 @@ ghost use Rattle.log_store.specs.MemDevice.{Stores, empty_memory, after_failure}
 
 use crate::device::{DeviceFault, LogDevice};
 use crate::failures::Failures;
-use crate::limits::{HEADER_BYTES, RECORD_BYTES};
+use log_records::{HEADER_BYTES, RECORD_BYTES};
 use std::alloc::{AllocError, Global};
 use std::marker::Model;
 

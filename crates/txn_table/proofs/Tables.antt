@@ -3,14 +3,14 @@ use Rattle.std.proofs.Common.{◌≡◌, ℕ, zero, suc, ◌+◌, ◌≤◌, ◌
 use Rattle.std.proofs.Common.{refl, sym, ap, subst, ◌∙◌, arith}
 use Rattle.std.specs.Prelude.{Option, Some, None, if◌then◌else◌}
 use Rattle.std.specs.Option.{option_and_then, option_map}
-use Rattle.log_store.specs.declared.pending_change.PendingChange.{PendingChange}
-use Rattle.log_store.specs.declared.record.Record.{Record}
-use Rattle.log_store.specs.declared.record.Record.TheVariants.{Begin, Update, Comp, Commit, Abort, End}
-use Rattle.log_store.specs.declared.txn_state.TxnState.{TxnState}
-use Rattle.log_store.specs.Table.{Entry, Table, entry_in, entry_of, table_of}
-use Rattle.log_store.specs.Transactions.{begun, is_open, last_of, pending}
-use Rattle.log_store.specs.TxnState.{state_of}
-use Rattle.log_store.proofs.Checks.{entry_in-table_of}
+use Rattle.log_history.specs.declared.pending_change.PendingChange.{PendingChange}
+use Rattle.log_records.specs.declared.record.Record.{Record}
+use Rattle.log_records.specs.declared.record.Record.TheVariants.{Begin, Update, Comp, Commit, Abort, End}
+use Rattle.log_history.specs.declared.txn_state.TxnState.{TxnState}
+use Rattle.log_history.specs.Table.{Entry, Table, entry_in, entry_of, table_of}
+use Rattle.log_history.specs.Transactions.{begun, is_open, last_of, pending}
+use Rattle.log_history.specs.TxnState.{state_of}
+use Rattle.log_history.proofs.Checks.{entry_in-table_of}
 use Rattle.txn_table.specs.TxnTable.{IsTableOf}
 
 -- no more transactions began than there are records

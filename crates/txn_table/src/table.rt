@@ -3,15 +3,16 @@
 ghost use Rattle.std.specs.Prelude.{ℕ, ◌≡◌, ◌+◌, ◌<◌, ◌≤◌, ◌++◌, ◌∷◌, [], List, length, IfOk, OnOk};
 ghost use Rattle.std.specs.Prelude.{OnErr};
 ghost use Rattle.std.specs.Prelude.{if◌then◌else◌, Some, None};
-ghost use Rattle.log_store.specs.declared.record.Record.{Record};
-ghost use Rattle.log_store.specs.Linked.{MayFollow};
-ghost use Rattle.log_store.specs.Transactions.{begun, holder, is_open, last_of, open_in, owed};
-ghost use Rattle.log_store.specs.Transactions.{pending};
-ghost use Rattle.log_store.specs.Table.{entry_of, table_of};
-ghost use Rattle.log_store.specs.TxnState.{state_of};
+ghost use Rattle.log_records.specs.declared.record.Record.{Record};
+ghost use Rattle.log_history.specs.Linked.{MayFollow};
+ghost use Rattle.log_history.specs.Transactions.{begun, holder, is_open, last_of, open_in, owed};
+ghost use Rattle.log_history.specs.Transactions.{pending};
+ghost use Rattle.log_history.specs.Table.{entry_of, table_of};
+ghost use Rattle.log_history.specs.TxnState.{state_of};
 ghost use Rattle.txn_table.specs.TxnTable.{IsTableOf};
 
-use log_store::{OpenTransactions, PendingChange, Record, TxnState};
+use log_history::{OpenTransactions, PendingChange, TxnState};
+use log_records::Record;
 use page_core::{ChangeKind, PageNo, SlotNo, TxnNo};
 use std::alloc::{AllocError, Global};
 use std::marker::Model;
@@ -24,7 +25,7 @@ pub struct TxnTable {
 }
 
 impl Model for TxnTable {
-    ghost use Rattle.log_store.specs.Table.{Table};
+    ghost use Rattle.log_history.specs.Table.{Table};
 
     ghost Value = { Table };
 

@@ -1,8 +1,8 @@
 use Rattle.std.proofs.Common.{◌≡◌, ◌<◌, Bool, true, false, length, refl, sym, ap, subst, ◌∙◌, arith}
 use Rattle.std.specs.Prelude.{None, not}
 use Rattle.std.proofs.lemmas.Bool.{lt-leb}
-use Rattle.log_store.specs.declared.limits.TheConstants.{MAX_OPEN}
-use Rattle.log_store.specs.Transactions.{open_in}
+use Rattle.log_records.specs.declared.limits.TheConstants.{MAX_OPEN}
+use Rattle.log_history.specs.Transactions.{open_in}
 use Rattle.aries_core.specs.declared.event.Event.TheVariants as event
 use Rattle.aries_core.specs.EngineState.{EngineState, EngineView, end, next_txn}
 use Rattle.aries_core.specs.Refusal.{has_no_room, refusal}

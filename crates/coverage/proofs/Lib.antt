@@ -1,2 +1,0 @@
-pub mod Coverage
-pub mod Stored

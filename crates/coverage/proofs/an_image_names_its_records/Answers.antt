@@ -1,5 +1,0 @@
-use Rattle.coverage.proofs.Coverage.{past_is_named}
-use Rattle.coverage.proofs.an_image_names_its_records.Goals as goal
-
-pub returns : goal.returns
-returns c = λ log number page valid past. past_is_named log number page valid past

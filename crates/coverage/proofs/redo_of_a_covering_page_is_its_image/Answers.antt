@@ -1,5 +1,0 @@
-use Rattle.coverage.proofs.Coverage.{resume_covering}
-use Rattle.coverage.proofs.redo_of_a_covering_page_is_its_image.Goals as goal
-
-pub returns : goal.returns
-returns c = λ log number page from valid covers. resume_covering log number page from valid covers

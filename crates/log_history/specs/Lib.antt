@@ -1,0 +1,12 @@
+pub mod Checked
+pub mod Claims
+pub mod Committed
+pub mod Growth
+pub mod History
+pub mod Linked
+pub mod OpenEntry
+pub mod OpenTransactions
+pub mod Table
+pub mod Transactions
+pub mod TxnState
+pub mod Work
