@@ -116,7 +116,7 @@ fn a_store_in_memory_never_fails(rt: HostRuntime) -> Result<(), Fail> {
 #[test]
 fn one_call_fails(rt: HostRuntime) -> Result<(), Fail> {
     let alloc = rt.alloc();
-    for k in 0..SCRIPT.len() + 2 {
+    for k in 0..=SCRIPT.len() {
         let mut store = FaultyStore::new(alloc, MemStore::new(alloc, 2)?, k as u64)?;
         assert_eq!(rt; store.pages(), 2);
         assert_follows(&rt, &mut store, k);
