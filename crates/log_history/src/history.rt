@@ -7,8 +7,8 @@ ghost use Rattle.log_records.specs.Record.{IsRecord};
 ghost use Rattle.log_history.specs.History.{NamesNumberOn};
 
 use crate::open_transactions::OpenTransactions;
-use log_records::{Record, formatted_pages, redo_on_its_page};
-use page_core::{Change, Page};
+use log_records::{Record, redo_on_its_page};
+use page_core::{Change, Page, formatted_pages};
 use std::alloc::{AllocError, Global};
 use std::marker::Model;
 

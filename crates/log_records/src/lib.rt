@@ -25,4 +25,4 @@ pub use limits::{HEADER_BYTES, MAX_LOG_BYTES, MAX_OPEN, MAX_RECORDS, RECORD_BYTE
 pub use page_change::PageChange;
 pub use place::record_at;
 pub use record::Record;
-pub use volume::{formatted_pages, redo_on_its_page};
+pub use volume::redo_on_its_page;

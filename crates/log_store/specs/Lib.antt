@@ -1,5 +1,4 @@
 pub mod Device
-pub mod Failures
 pub mod Fault
 pub mod FaultyDevice
 pub mod MemDevice

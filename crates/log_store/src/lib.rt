@@ -2,7 +2,6 @@
 #![tactic(auto)]
 
 mod device;
-mod failures;
 mod fault;
 mod faulty_device;
 mod laws;
