@@ -1,17 +1,16 @@
 -- An engine whose log, table and pages are in step, and the record of an accepted call.
-use Rattle.std.proofs.Common.{◌≡◌, ℕ, ◌<◌, ◌≤◌, ◌++◌, ◌∷◌, [], List, length, map, refl, sym, ap, subst, ◌∙◌, arith}
+use Rattle.std.proofs.Common.{◌≡◌, ℕ, ◌<◌, ◌++◌, ◌∷◌, [], List, length, map, refl, sym, ap, subst, ◌∙◌, arith}
 use Rattle.std.proofs.lemmas.List.{length_push}
 use Rattle.page_core.specs.declared.page.Page.{Page}
 use Rattle.log_store.specs.declared.limits.TheConstants.{MAX_RECORDS}
 use Rattle.log_store.specs.declared.record.Record.{Record}
-use Rattle.log_store.specs.Image.{AreNumbered, redo_all, with_record}
+use Rattle.log_store.specs.Image.{AreNumbered, with_record}
 use Rattle.log_store.specs.Linked.{MayFollow}
 use Rattle.log_store.specs.Log.{IsWithin, Log, StandsAt}
 use Rattle.log_store.specs.Scan.{with_next}
 use Rattle.log_store.specs.Table.{Table, table_of}
 use Rattle.log_store.specs.WrittenLog.{WrittenLog}
 use Rattle.log_store.proofs.Images.{length-redo_all, numbered-redo_all, redo_all-append}
-use Rattle.txn_table.specs.TxnTable.{IsTableOf}
 use Rattle.aries_core.specs.Call.{Calls}
 use Rattle.aries_core.specs.EngineState.{EngineState, IsKept, appended, end, engine_view}
 use Rattle.aries_core.proofs.Fit.{fit_appended}

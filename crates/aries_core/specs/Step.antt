@@ -1,5 +1,5 @@
 -- One call of the engine: what it may answer, and what stands after it.
-use Rattle.std.specs.Prelude.{ℕ, ◌≡◌, ◌*◌, ◌<◌, ◌≤◌, ◌⊎◌, length, Option, Some, None, Result, Ok}
+use Rattle.std.specs.Prelude.{ℕ, ◌≡◌, ◌<◌, ◌≤◌, ◌⊎◌, length, Some, None, Result, Ok}
 use Rattle.std.specs.Prelude.{Err}
 use Rattle.log_store.specs.Log.{lsn_of}
 use Rattle.aries_core.specs.declared.event.Answer.{Answer}
@@ -69,3 +69,8 @@ abbrev pub LeavesDevice : Event → Type 0
 LeavesDevice (event.Commit txn) = ⊥
 LeavesDevice event.Force = ⊥
 LeavesDevice other = Unit {0}
+
+-- a reply that tells of a fault of the device
+abbrev pub IsFaultReply : Result Answer Refusal → Type 0
+IsFaultReply (Ok answer) = ⊥
+IsFaultReply (Err why) = IsByDevice why

@@ -4,6 +4,7 @@
 mod engine;
 mod event;
 mod laws;
+mod played;
 mod refusal;
 mod setup;
 
@@ -15,6 +16,7 @@ pub use laws::{
     log_shows_the_accepted_calls, replies_are_determined, the_forced_end_never_falls,
     the_log_only_grows,
 };
+pub use played::{Played, play};
 pub use refusal::Refusal;
 pub use setup::{PlayFault, Setup};
 
