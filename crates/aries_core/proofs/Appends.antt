@@ -1,13 +1,12 @@
 -- An engine whose log, table and pages are in step, and the record of an accepted call.
-use Rattle.std.proofs.Common.{◌≡◌, ℕ, ◌<◌, ◌≤◌, ◌++◌, ◌∷◌, [], List, length, map, refl, sym, ap, subst, ◌∙◌, arith}
+use Rattle.std.proofs.Common.{◌≡◌, ℕ, ◌<◌, ◌++◌, ◌∷◌, [], List, length, map, refl, sym, ap, subst, ◌∙◌, arith}
 use Rattle.std.proofs.lemmas.List.{length_push}
 use Rattle.page_core.specs.declared.page.Page.{Page}
 use Rattle.log_records.specs.declared.limits.TheConstants.{MAX_RECORDS}
 use Rattle.log_records.specs.declared.record.Record.{Record}
 use Rattle.log_records.specs.Image.{AreNumbered, redo_all, with_record}
 use Rattle.log_history.specs.Linked.{MayFollow}
-use Rattle.log_records.specs.Log.{IsWithin, Log, StandsAt}
-use Rattle.log_records.specs.Log.{with_next}
+use Rattle.log_records.specs.Log.{IsWithin, Log, StandsAt, with_next}
 use Rattle.log_history.specs.Table.{Table, table_of}
 use Rattle.log_store.specs.WrittenLog.{WrittenLog}
 use Rattle.log_records.proofs.Images.{length-redo_all, numbered-redo_all, redo_all-append}

@@ -6,6 +6,7 @@ pub mod Forces
 pub mod FullLog
 pub mod Numbers
 pub mod Pending
+pub mod Plays
 pub mod Refusals
 pub mod Rooms
 pub mod Runs

@@ -1,7 +1,5 @@
 -- What an engine is, and what an accepted call makes of it.
-use Rattle.std.specs.Prelude.{ℕ, ◌≡◌, ◌+◌, ◌*◌, ◌<◌, ◌≤◌, List, [], ◌∷◌, ◌++◌, length, map, max}
-use Rattle.std.specs.Prelude.{replicate, slice_index, slice_index_or, slice_set, take, Option, Some}
-use Rattle.std.specs.Prelude.{None, IfSome}
+use Rattle.std.specs.Prelude.{ℕ, ◌≡◌, ◌+◌, ◌*◌, ◌<◌, ◌≤◌, List, [], ◌∷◌, ◌++◌, length, map, max, replicate, slice_index, slice_index_or, slice_set, take, Option, Some, None, IfSome}
 use Rattle.std.specs.List.{All}
 use Rattle.std.specs.Option.{option_map_or}
 use Rattle.page_core.specs.declared.change.Change.{Change}

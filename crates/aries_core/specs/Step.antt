@@ -91,3 +91,8 @@ LeavesDevice other = Unit {0}
 abbrev pub LeavesStore : Event → Type 0
 LeavesStore (event.WriteEnd page) = ⊥
 LeavesStore other = Unit {0}
+
+-- a reply that tells of a fault of the device
+abbrev pub IsFaultReply : Result Answer Refusal → Type 0
+IsFaultReply (Ok answer) = ⊥
+IsFaultReply (Err why) = IsByDevice why

@@ -7,7 +7,7 @@ ghost use Rattle.log_history.specs.Linked.{number_in};
 ghost use Rattle.log_records.specs.Log.{IsPageCount};
 ghost use Rattle.log_history.specs.Transactions.{is_open, last_lsn};
 ghost use Rattle.aries_core.specs.Call.{Calls};
-ghost use Rattle.aries_core.specs.EngineState.{appended, end, forced_to, new_state};
+ghost use Rattle.aries_core.specs.EngineState.{IsFit, appended, end, forced_to, new_state};
 ghost use Rattle.aries_core.specs.EngineState.{update_record};
 ghost use Rattle.aries_core.specs.Refusal.{active_refusal, change_refusal, has_no_room};
 ghost use Rattle.aries_core.specs.Refusal.{page_refusal};
@@ -77,6 +77,8 @@ impl<D: LogDevice> Engine<D> {
     pub fn apply(&mut self, event: Event) -> Reply
         ensures step { Step self.old.state event result self.new.state }
         ensures device { LeavesDevice event → self.new.device ≡ self.old.device }
+        ensures refused { IfErr result (λ why. ¬ IsByDevice why
+            → self.new.device ≡ self.old.device) }
         ensures no_failure { OnOk result
             (D.failures self.new.device ≡ D.failures self.old.device) }
         ensures cause { IfErr result (λ why. IsByDevice why
@@ -184,6 +186,8 @@ impl<D: LogDevice> Engine<D> {
     pub fn commit(&mut self, txn: TxnNo) -> Result<Lsn, Refusal>
         ensures step { Step self.old.state (event.Commit txn) (reply_of answer.Logged result)
             self.new.state }
+        ensures refused { IfErr result (λ why. ¬ IsUnsure why
+            → self.new.device ≡ self.old.device) }
         ensures no_failure { OnOk result
             (D.failures self.new.device ≡ D.failures self.old.device) }
         ensures cause { IfErr result (λ why. IsUnsure why
@@ -257,7 +261,8 @@ impl<D: LogDevice> Engine<D> {
 
     /// The LSN that the next record will have.
     pub fn log_end(&self) -> Lsn
-        ensures { result ≡ end self.now.state }
+        ensures end { result ≡ end self.now.state }
+        ensures fit { IsFit self.now.state }
     {
         self.log.end()
     }

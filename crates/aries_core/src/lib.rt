@@ -4,6 +4,7 @@
 mod engine;
 mod event;
 mod laws;
+mod played;
 mod refusal;
 mod setup;
 
@@ -15,6 +16,7 @@ pub use laws::{
     log_shows_the_accepted_calls, replies_are_determined, stored_pages_cover_their_rec_lsn, the_forced_end_never_falls,
     the_log_only_grows, the_written_lsns_are_those_answered,
 };
+pub use played::{Played, play};
 pub use refusal::Refusal;
 pub use setup::{PlayFault, Setup};
 

@@ -5,11 +5,11 @@ ghost use Rattle.std.specs.Prelude.{OnErr};
 ghost use Rattle.std.specs.Prelude.{if◌then◌else◌, Some, None};
 ghost use Rattle.log_records.specs.declared.record.Record.{Record};
 ghost use Rattle.log_history.specs.Linked.{MayFollow};
-ghost use Rattle.log_history.specs.Transactions.{begun, holder, is_open, last_of, open_in, owed};
-ghost use Rattle.log_history.specs.Transactions.{pending};
+ghost use Rattle.log_history.specs.Transactions.{begun, holder, is_open, last_of, open_in, owed, pending};
 ghost use Rattle.log_history.specs.Table.{entry_of, table_of};
 ghost use Rattle.log_history.specs.TxnState.{state_of};
-ghost use Rattle.txn_table.specs.TxnTable.{IsTableOf};
+ghost use Rattle.txn_table.specs.TxnTable.{IsTableOf, next_open};
+ghost use Rattle.std.specs.Option.{option_map};
 
 use log_history::{OpenTransactions, PendingChange, TxnState};
 use log_records::Record;
@@ -89,6 +89,15 @@ impl TxnTable {
             → result ≡ (if is_open rs txn then Some (state_of (entry_of rs txn)) else None) }
     {
         self.open.state(txn)
+    }
+
+    /// What the table has of the open transaction with the least number at or past the cursor; None
+    /// where there is none.
+    pub fn next_from(&self, cursor: TxnNo) -> Option<TxnState>
+        ensures { (rs : List Record) → IsTableOf rs self.now
+            → result ≡ option_map (λ t. state_of (entry_of rs t)) (next_open rs cursor) }
+    {
+        self.open.next_from(cursor)
     }
 
     /// The last pending change of a transaction, if it is open and has one.

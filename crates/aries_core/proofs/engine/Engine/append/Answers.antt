@@ -1,4 +1,4 @@
-use Rattle.std.proofs.Common.{◌≡◌, ◌≤◌, ◌++◌, ◌∷◌, [], List, length, map, refl, sym, ap, subst, ◌∙◌, arith}
+use Rattle.std.proofs.Common.{◌≡◌, List, length, map, sym, ap, subst, ◌∙◌, arith}
 use Rattle.std.proofs.lemmas.List.{length-map, with_items_is}
 use Rattle.std.specs.Vec.{with_items}
 use Rattle.std.specs.Prelude.{Result, Ok, Err, OnOk, is_err, false}
@@ -6,8 +6,8 @@ use Rattle.page_core.specs.declared.page.Page.{Page}
 use Rattle.log_records.specs.Image.{AreNumbered, with_record}
 use Rattle.log_records.specs.Log.{IsWithin, Log, StandsAt, lsn_of}
 use Rattle.aries_core.specs.Call.{Calls}
-use Rattle.aries_core.specs.EngineState.{EngineState, EngineView, IsKept, appended, engine_view}
-use Rattle.aries_core.proofs.Appends.{Comes, appended_is, comes, kept_next}
+use Rattle.aries_core.specs.EngineState.{EngineState, EngineView, IsKept, engine_view}
+use Rattle.aries_core.proofs.Appends.{appended_is, comes, kept_next}
 use Rattle.aries_core.proofs.engine.Engine.append.Goals as goal
 
 -- what an answer that is no `Err` says

@@ -1,5 +1,4 @@
-use Rattle.std.proofs.Common.{◌≡◌, ℕ, ◌<◌, length, get_or, List, refl, sym, ap, subst, ◌∙◌, arith}
-use Rattle.std.specs.Prelude.{slice_index}
+use Rattle.std.proofs.Common.{◌≡◌, ℕ, ◌<◌, length, get_or, List, sym, ap, subst, ◌∙◌, arith}
 use Rattle.page_core.specs.declared.page.Page.{Page}
 use Rattle.log_history.specs.Linked.{number_in}
 use Rattle.log_history.proofs.Followed.{number_of_volume}
