@@ -1,12 +1,14 @@
 -- What an engine is, and what an accepted call makes of it.
-use Rattle.std.specs.Prelude.{ℕ, ◌≡◌, ◌+◌, ◌*◌, ◌<◌, ◌≤◌, List, [], ◌∷◌, ◌++◌, length, map, max, replicate, slice_index, slice_index_or, slice_set, take, Option, Some, None, IfSome}
+use Rattle.std.specs.Prelude.{ℕ, ◌≡◌, ◌+◌, ◌*◌, ◌<◌, ◌≤◌, List, [], ◌∷◌, ◌++◌, length, max}
+use Rattle.std.specs.Prelude.{replicate, slice_index, slice_index_or, slice_set, take, Option, Some}
+use Rattle.std.specs.Prelude.{None, IfSome}
 use Rattle.std.specs.List.{All}
 use Rattle.std.specs.Option.{option_map_or}
 use Rattle.page_core.specs.declared.change.Change.{Change}
 use Rattle.page_core.specs.declared.change.Change.TheVariants.{Set, Add}
 use Rattle.page_core.specs.Change.{undo_of}
 use Rattle.page_core.specs.Volume.{formatted_pages}
-use Rattle.buffer_pool.specs.Pool.{IsPoolOf, PoolView}
+use Rattle.buffer_pool.specs.Pool.{IsPoolOf, PoolView, writing_of, written_of}
 use Rattle.log_records.specs.Coverage.{AreStored, rec_lsn}
 use Rattle.log_records.specs.declared.limits.TheConstants.{MAX_RECORDS}
 use Rattle.log_history.specs.declared.pending_change.PendingChange.{PendingChange}
@@ -208,8 +210,8 @@ engine_view stored it pool = record {
     log = it.log.records;
     forced_end = it.forced_end;
     stored = stored pool.store;
-    written = map (λ state. state.written) pool.states;
-    writing = map (λ state. state.writing) pool.states;
+    written = written_of pool.states;
+    writing = writing_of pool.states;
   };
   store = pool.store;
   device = it.device;

@@ -92,7 +92,7 @@ abbrev pub LeavesStore : Event → Type 0
 LeavesStore (event.WriteEnd page) = ⊥
 LeavesStore other = Unit {0}
 
--- a reply that tells of a fault of the device
-abbrev pub IsFaultReply : Result Answer Refusal → Type 0
-IsFaultReply (Ok answer) = ⊥
-IsFaultReply (Err why) = IsByDevice why
+-- a reply that tells of a fault of such a kind
+abbrev pub IsFaultReply : (Refusal → Type 0) → Result Answer Refusal → Type 0
+IsFaultReply IsOfKind (Ok answer) = ⊥
+IsFaultReply IsOfKind (Err why) = IsOfKind why

@@ -4,6 +4,7 @@
 mod engine;
 mod event;
 mod laws;
+mod page_writes;
 mod played;
 mod refusal;
 mod setup;

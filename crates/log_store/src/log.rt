@@ -98,6 +98,7 @@ impl<D: LogDevice> Log<D> {
     pub fn force_to(&mut self, lsn: Lsn) -> Result<(), DeviceFault>
         ensures same { self.new.log ≡ self.old.log }
         ensures rising { self.old.forced_end ≤ self.new.forced_end }
+        ensures at_record { EndsAtRecord self.new }
         ensures stands { KeepsFirst self.old.forced_end
             (D.bytes self.old.device) (D.bytes self.new.device) }
 

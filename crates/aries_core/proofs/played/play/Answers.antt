@@ -2,8 +2,10 @@ use Rattle.std.proofs.Common.{◌≡◌, ◌<◌, ◌+◌, length, [], ◌∷◌
 use Rattle.std.proofs.lemmas.List.{take_more}
 use Rattle.aries_core.specs.declared.event.Event.{Event}
 use Rattle.aries_core.specs.EngineState.{IsFit, EngineView, new_state}
+use Rattle.aries_core.specs.Step.{IsByDevice, IsByStore}
 use Rattle.aries_core.proofs.Calls.{work_of_run}
-use Rattle.aries_core.proofs.Plays.{run_push, tells_push}
+use Rattle.aries_core.proofs.PageLaws.{written_of_run}
+use Rattle.aries_core.proofs.Plays.{by_device, by_store, run_push, tells_push}
 use Rattle.aries_core.proofs.played.play.Goals as goal
 
 pub loop-event-preserved : goal.loop-event-preserved
@@ -23,9 +25,12 @@ loop-event-preserved g c =
       room = omega (arith, so_far.room, c.push.ensures.capacity);
       run = rw (next, items) (run_push start (take i events) c.loop-event.replies.items c.loop-event.engine.state event
           c.apply.result c.apply.new.self.state so_far.run c.apply.ensures.step);
-      tells = rw items (tells_push g.D.LogDevice.failures (g.D.LogDevice.failures c.args.device)
+      tells = rw items (tells_push IsByDevice by_device g.D.LogDevice.failures (g.D.LogDevice.failures c.args.device)
           c.loop-event.engine.device c.apply.new.self.device c.loop-event.replies.items c.apply.result so_far.tells
           c.apply.ensures.refused c.apply.ensures.no_failure c.apply.ensures.cause);
+      store_tells = rw items (tells_push IsByStore by_store g.S.PageStore.failures (g.S.PageStore.failures c.args.store)
+          c.loop-event.engine.store c.apply.new.self.store c.loop-event.replies.items c.apply.result so_far.store_tells
+          c.apply.ensures.store_refused c.apply.ensures.no_store_failure c.apply.ensures.store_cause);
     }
 
 pub returns-clause-work : goal.returns-clause-work
@@ -37,4 +42,11 @@ returns-clause-work g c =
 
 pub returns-clause-fit : goal.returns-clause-fit
 returns-clause-fit g c =
-    subst (λ (v : EngineView g.row.D.Denot). IsFit v.state) c.engine.view_is c.engine.invariant.fit
+    subst (λ (v : EngineView g.row.S.Denot g.row.D.Denot). IsFit v.state) c.engine.view_is c.engine.invariant.fit
+
+pub returns-clause-written : goal.returns-clause-written
+returns-clause-written g c =
+    let so_far = c.loop-event.invariant in
+    let all : take c.loop-event.event-index c.args.events.now ≡ c.args.events.now = take_all _ _ (omega arith) in
+    written_of_run (new_state c.args.setup.pages) c.args.events.now c.loop-event.replies.items
+    c.loop-event.engine.state (rw all at so_far.run)
