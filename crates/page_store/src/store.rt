@@ -1,4 +1,4 @@
-//! What the pages of a volume are stored on: stable storage, in the words of ARIES.
+//! What the pages of a volume are stored on: nonvolatile storage, in the words of ARIES.
 
 ghost use Rattle.std.specs.Prelude.{ℕ, ◌≡◌, ◌<◌, List, length, slice_get, slice_set, Some};
 ghost use Rattle.std.specs.Prelude.{IfOk, OnOk, OnErr};
@@ -18,7 +18,7 @@ pub trait PageStore {
     /// How often the store has failed: a number that contracts alone see. It has no last value.
     ghost failures: { Self → ℕ };
 
-    /// How many pages are stored. It stays so: a read and a write change no count.
+    /// How many pages are stored. No read and no write changes that.
     fn pages(&self) -> u32
         ensures count { result ≡ length (stored self.now) }
         ensures numbered { AreNumbered (stored self.now) };
