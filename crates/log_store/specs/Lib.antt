@@ -2,7 +2,6 @@ pub mod Checked
 pub mod Claims
 pub mod Committed
 pub mod Device
-pub mod Failures
 pub mod Fault
 pub mod FaultyDevice
 pub mod Fields

@@ -5,7 +5,6 @@
 mod claims;
 mod codec;
 mod device;
-mod failures;
 mod fault;
 mod faulty_device;
 mod fields;
