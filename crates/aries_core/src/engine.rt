@@ -22,9 +22,11 @@ use crate::refusal::Refusal;
 use crate::setup::{PlayFault, Setup};
 use log_store::{
     DeviceFault, Log, LogDevice, MAX_OPEN, MAX_RECORDS, PendingChange, Record, TxnState,
-    formatted_pages, redo_on_its_page,
+    redo_on_its_page,
 };
-use page_core::{Change, ChangeKind, Lsn, Page, PageNo, SLOTS, SlotNo, TxnNo, undo_of};
+use page_core::{
+    Change, ChangeKind, Lsn, Page, PageNo, SLOTS, SlotNo, TxnNo, formatted_pages, undo_of,
+};
 use std::alloc::Global;
 use std::marker::Model;
 use txn_table::TxnTable;

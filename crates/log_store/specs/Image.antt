@@ -1,10 +1,10 @@
 -- The pages that a log makes.
-use Rattle.std.specs.Prelude.{ℕ, ◌≡◌, ◌<◌, ◌==◌, List, [], ◌∷◌, length, map, slice_index_or}
-use Rattle.std.specs.Prelude.{if◌then◌else◌}
+use Rattle.std.specs.Prelude.{ℕ, ◌==◌, List, [], ◌∷◌, map, if◌then◌else◌}
 use Rattle.std.specs.List.{range_with_len}
 use Rattle.std.specs.Option.{option_map_or}
 use Rattle.page_core.specs.declared.page.Page.{Page}
 use Rattle.page_core.specs.Page.{formatted, put}
+pub use Rattle.page_core.specs.Volume.{AreNumbered}
 use Rattle.log_store.specs.declared.page_change.PageChange.{PageChange}
 use Rattle.log_store.specs.declared.record.Record.{Record}
 use Rattle.log_store.specs.Record.{change_of, own_lsn}
@@ -29,7 +29,3 @@ image records number = image_from (formatted number) records
 -- the volume as the log makes it
 abbrev pub redo_all : List Record → ℕ → List Page
 redo_all records pages = map (image records) (range_with_len 0 pages)
-
--- the pages stand in order of their numbers, which count from 0
-abbrev pub AreNumbered : List Page → Type 0
-AreNumbered pages = (k : ℕ) (d : Page) → k < length pages → (slice_index_or pages k d).number ≡ k

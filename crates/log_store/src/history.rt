@@ -8,8 +8,8 @@ ghost use Rattle.log_store.specs.History.{NamesNumberOn};
 
 use crate::open_transactions::OpenTransactions;
 use crate::record::Record;
-use crate::volume::{formatted_pages, redo_on_its_page};
-use page_core::{Change, Page};
+use crate::volume::redo_on_its_page;
+use page_core::{Change, Page, formatted_pages};
 use std::alloc::{AllocError, Global};
 use std::marker::Model;
 

@@ -55,7 +55,7 @@ pub use record::Record;
 pub use scan::{Scan, scan_log};
 pub use sink::RecordSink;
 pub use txn_state::TxnState;
-pub use volume::{formatted_pages, redo_on_its_page};
+pub use volume::redo_on_its_page;
 
 #[cfg(test)]
 mod open_tests;
