@@ -148,6 +148,8 @@ fn a_damaged_page_is_read_once_it_is_written(rt: HostRuntime) -> Result<(), Fail
     ] {
         assert_eq!(rt; make_call(&rt, &mut store, call), want, "{call:?}");
     }
+    let written = [page_with(0, 6), page_with(1, 7)];
+    assert_eq!(rt; store.stored(), written.as_slice());
     Ok(())
 }
 
