@@ -4,7 +4,7 @@ use super::{
     abort, add, began, call_row, commit, ended, forced, logged, play_row, read, set, setup_of,
     undid, undo, value,
 };
-use crate::{Answer, Engine, Event, PlayFault, Refusal, Reply, play};
+use crate::{Engine, Event, PlayFault, Refusal, Reply, play};
 use log_store::{FaultyDevice, MemDevice, read_log};
 use page_core::Lsn;
 use std::alloc::Global;
