@@ -14,3 +14,4 @@ pub mod Stands
 pub mod Steps
 pub mod Writes
 pub mod PageLaws
+pub mod PoolStates

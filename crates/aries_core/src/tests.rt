@@ -1,14 +1,17 @@
 //! Rows of calls with their replies, what a device has of them, and texts.
 
 ghost use Rattle.std.specs.Prelude.{◌≤◌, ◌≡◌};
+ghost use Rattle.page_core.specs.Volume.{formatted_pages};
 ghost use Rattle.log_records.specs.Log.{IsPageCount};
 
 mod devices;
 mod rows;
+mod stores;
 
 use crate::{Answer, Engine, Event, PlayFault, Played, Refusal, Reply, Setup, play};
 use log_store::LogDevice;
 use page_core::{Lsn, PageNo, SlotNo, TxnNo};
+use page_store::PageStore;
 use std::alloc::Global;
 use std::process::Abort;
 use std::test::Fail;
@@ -60,6 +63,14 @@ fn undo(txn: u32) -> Event {
     Event::UndoStep(TxnNo(txn))
 }
 
+fn write_begin(page: u32) -> Event {
+    Event::WriteBegin(PageNo(page))
+}
+
+fn write_end(page: u32) -> Event {
+    Event::WriteEnd(PageNo(page))
+}
+
 fn began(txn: u32, lsn: u64) -> Reply {
     Ok(Answer::Began {
         txn: TxnNo(txn),
@@ -87,21 +98,31 @@ fn forced(lsn: u64) -> Reply {
     Ok(Answer::Forced(Lsn(lsn)))
 }
 
+fn writing(lsn: u64) -> Reply {
+    Ok(Answer::Writing(Lsn(lsn)))
+}
+
+fn written(lsn: u64) -> Reply {
+    Ok(Answer::Written(Lsn(lsn)))
+}
+
 fn busy(txn: u32) -> Reply {
     Err(Refusal::SlotBusy(TxnNo(txn)))
 }
 
 /// Makes the calls of a row on a new engine, one by one, and asserts their replies.
-fn call_row<D: LogDevice + Drop>(
+fn call_row<S: PageStore + Drop, D: LogDevice + Drop>(
     rt: &impl Abort,
     alloc: Global,
     pages: u32,
+    store: S,
     device: D,
     row: &[(Event, Reply)],
-) -> Result<Engine<D>, Fail>
-    requires { IsPageCount pages }
+) -> Result<Engine<S, D>, Fail>
+    requires pages { IsPageCount pages }
+    requires formatted { S.stored store ≡ formatted_pages pages }
 {
-    let mut engine = Engine::new(alloc, setup_of(pages), device)?;
+    let mut engine = Engine::new(alloc, setup_of(pages), store, device)?;
     for &(event, reply) in row {
         assert_eq!(rt; engine.apply(event), reply, "{event:?}");
     }
@@ -109,20 +130,22 @@ fn call_row<D: LogDevice + Drop>(
 }
 
 /// Plays the events of a row as one list, and asserts their replies.
-fn play_row<D: LogDevice + Drop>(
+fn play_row<S: PageStore + Drop, D: LogDevice + Drop>(
     rt: &impl Abort,
     alloc: Global,
     pages: u32,
+    store: S,
     device: D,
     row: &[(Event, Reply)],
-) -> Result<Engine<D>, Fail>
-    requires { IsPageCount pages }
+) -> Result<Engine<S, D>, Fail>
+    requires pages { IsPageCount pages }
+    requires formatted { S.stored store ≡ formatted_pages pages }
 {
     let mut events = Vec::with_capacity(alloc, row.len())?;
     for &(event, _) in row {
         events.push(event)?;
     }
-    let Played { replies, engine } = play(alloc, setup_of(pages), device, &events)?;
+    let Played { replies, engine } = play(alloc, setup_of(pages), store, device, &events)?;
     assert_eq!(rt; replies.len(), row.len());
     for (given, &(event, reply)) in replies.iter().zip(row) {
         assert_eq!(rt; *given, reply, "{event:?}");
@@ -142,6 +165,10 @@ fn refusals_have_texts(rt: HostRuntime) -> Result<(), Fail> {
         (Refusal::NotRolling, "E7 NotRolling"),
         (Refusal::LogFull, "E8 LogFull"),
         (Refusal::TooManyTxns, "E9 TooManyTxns"),
+        (Refusal::NotDirty, "E10 NotDirty"),
+        (Refusal::WriteBegun, "E11 WriteBegun"),
+        (Refusal::NoWrite, "E12 NoWrite"),
+        (Refusal::StoreFault, "E22 StoreFault"),
         (Refusal::LogFault, "E23 LogFault"),
         (Refusal::CommitUnsure(Lsn(192)), "E26 CommitUnsure 192"),
     ];

@@ -7,6 +7,7 @@ use super::{
 use crate::{Engine, Event, PlayFault, Refusal, Reply, play};
 use log_store::{FaultyDevice, MemDevice, read_log};
 use page_core::Lsn;
+use page_store::MemStore;
 use std::alloc::Global;
 use std::process::Abort;
 use std::test::Fail;
@@ -19,7 +20,7 @@ fn unsure(lsn: u64) -> Reply {
 fn assert_forced(
     rt: &impl Abort,
     alloc: Global,
-    engine: &Engine<FaultyDevice>,
+    engine: &Engine<MemStore, FaultyDevice>,
 ) -> Result<(), Fail> {
     let mut bytes = engine.log.device().bytes();
     assert_eq!(rt; bytes.len() as u64, engine.log.forced_end().0);
@@ -42,7 +43,7 @@ fn assert_row(
     place: usize,
 ) -> Result<(), Fail> {
     let device = FaultyDevice::new(MemDevice::new(alloc, row.len())?, k);
-    let mut engine = Engine::new(alloc, setup_of(1), device)?;
+    let mut engine = Engine::new(alloc, setup_of(1), MemStore::new(alloc, 1)?, device)?;
     for (index, &(event, reply)) in row.iter().enumerate() {
         assert_eq!(rt;
             engine.apply(event),
@@ -55,7 +56,7 @@ fn assert_row(
         }
     }
     let device = FaultyDevice::new(MemDevice::new(alloc, row.len())?, k);
-    let played = play_row(rt, alloc, 1, device, row)?;
+    let played = play_row(rt, alloc, 1, MemStore::new(alloc, 1)?, device, row)?;
     assert_forced(rt, alloc, &played)
 }
 
@@ -123,14 +124,15 @@ fn each_call_fails_beside_another_transaction(rt: HostRuntime) -> Result<(), Fai
 
 #[test]
 fn a_device_is_full(rt: HostRuntime) -> Result<(), Fail> {
+    let alloc = rt.alloc();
     let row = [
         (Event::Begin, began(1, 64)),
         (Event::Force, forced(128)),
         (add(1, 0, 0, 1), logged(128)),
         (Event::Force, Err(Refusal::LogFault)),
     ];
-    let _ = call_row(&rt, rt.alloc(), 1, MemDevice::new(rt.alloc(), 1)?, &row)?;
-    let _ = play_row(&rt, rt.alloc(), 1, MemDevice::new(rt.alloc(), 1)?, &row)?;
+    let _ = call_row(&rt, alloc, 1, MemStore::new(alloc, 1)?, MemDevice::new(alloc, 1)?, &row)?;
+    let _ = play_row(&rt, alloc, 1, MemStore::new(alloc, 1)?, MemDevice::new(alloc, 1)?, &row)?;
     Ok(())
 }
 
@@ -138,10 +140,10 @@ fn a_device_is_full(rt: HostRuntime) -> Result<(), Fail> {
 fn the_header_is_not_stored(rt: HostRuntime) -> Result<(), Fail> {
     let alloc = rt.alloc();
     let device = FaultyDevice::new(MemDevice::new(alloc, 1)?, 1);
-    let fault = Engine::new(alloc, setup_of(1), device).err();
+    let fault = Engine::new(alloc, setup_of(1), MemStore::new(alloc, 1)?, device).err();
     assert_eq!(rt; fault, Some(PlayFault::LogFault));
     let device = FaultyDevice::new(MemDevice::new(alloc, 1)?, 1);
-    let fault = play(alloc, setup_of(1), device, &[Event::Begin]).err();
+    let fault = play(alloc, setup_of(1), MemStore::new(alloc, 1)?, device, &[Event::Begin]).err();
     assert_eq!(rt; fault, Some(PlayFault::LogFault));
     Ok(())
 }

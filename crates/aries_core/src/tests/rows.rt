@@ -4,10 +4,11 @@ ghost use Rattle.log_records.specs.Log.{IsPageCount};
 
 use super::{
     abort, add, began, busy, call_row, commit, ended, forced, logged, play_row, read, set, undid,
-    undo, value,
+    undo, value, write_begin, write_end, writing, written,
 };
 use crate::{Event, Refusal, Reply};
 use log_store::MemDevice;
+use page_store::MemStore;
 use std::alloc::Global;
 use std::process::Abort;
 use std::test::Fail;
@@ -35,8 +36,10 @@ fn assert_row(
 ) -> Result<(), Fail>
     requires { IsPageCount pages }
 {
-    let called = call_row(rt, alloc, pages, MemDevice::new(alloc, row.len())?, row)?;
-    let played = play_row(rt, alloc, pages, MemDevice::new(alloc, row.len())?, row)?;
+    let (store, device) = (MemStore::new(alloc, pages)?, MemDevice::new(alloc, row.len())?);
+    let called = call_row(rt, alloc, pages, store, device, row)?;
+    let (store, device) = (MemStore::new(alloc, pages)?, MemDevice::new(alloc, row.len())?);
+    let played = play_row(rt, alloc, pages, store, device, row)?;
     assert_eq!(rt; called.log_end(), played.log_end());
     assert_eq!(rt; called.log.device().bytes(), played.log.device().bytes());
     Ok(())
@@ -143,11 +146,30 @@ fn an_add_is_compensated(rt: HostRuntime) -> Result<(), Fail> {
     ];
     assert_row(&rt, rt.alloc(), 1, &row)?;
     let device = MemDevice::new(rt.alloc(), row.len())?;
-    let engine = call_row(&rt, rt.alloc(), 1, device, &row)?;
+    let store = MemStore::new(rt.alloc(), 1)?;
+    let engine = call_row(&rt, rt.alloc(), 1, store, device, &row)?;
     let bytes = engine.log.device().bytes();
     assert_eq!(rt; bytes.len(), 704);
     for (part, number) in bytes[640..].chunks_exact(8).zip(&COMPENSATION) {
         assert_eq!(rt; part, number.to_be_bytes().as_slice());
     }
     Ok(())
+}
+
+#[test]
+fn a_page_is_written(rt: HostRuntime) -> Result<(), Fail> {
+    let row = [
+        (write_begin(0), Err(Refusal::NotDirty)),
+        (write_end(0), Err(Refusal::NoWrite)),
+        (Event::Begin, began(1, 64)),
+        (set(1, 0, 0, 5), logged(128)),
+        (write_begin(0), writing(128)),
+        (Event::Force, forced(192)),
+        (write_begin(0), Err(Refusal::WriteBegun)),
+        (write_end(0), written(128)),
+        (write_begin(0), Err(Refusal::NotDirty)),
+        (write_begin(1), Err(Refusal::PageOut)),
+        (write_end(1), Err(Refusal::PageOut)),
+    ];
+    assert_row(&rt, rt.alloc(), 1, &row)
 }
