@@ -15,3 +15,4 @@ pub mod Steps
 pub mod Writes
 pub mod PageLaws
 pub mod PoolStates
+pub mod WriteCalls

@@ -18,7 +18,7 @@ use Rattle.aries_core.specs.Run.{Run}
 use Rattle.aries_core.specs.Step.{Fails, Step}
 use Rattle.aries_core.specs.Written.{with_write, written_by, written_from}
 use Rattle.aries_core.proofs.Refusals.{write_end_passes}
-use Rattle.aries_core.proofs.PoolStates.{begun_is}
+use Rattle.aries_core.proofs.WriteCalls.{begun}
 use Rattle.aries_core.proofs.Steps.{stored_or_not}
 
 -- ---- the pages of a fit engine

@@ -25,16 +25,16 @@ run_push old (first ∷ events) [] mid event reply new run step = absurd run
 
 -- ---- what fails: the log's device, or the store
 
-abbrev IsSound : (Refusal → Type 0) → Result Answer Refusal → Type 0
+abbrev pub IsSound : (Refusal → Type 0) → Result Answer Refusal → Type 0
 IsSound Of reply = ¬ IsFaultReply Of reply
 
-record NoFault (Of : Refusal → Type 0) (replies : List (Result Answer Refusal)) (start now : ℕ) : Type 0 where
-  sound : All (IsSound Of) replies
-  same : now ≡ start
+pub record NoFault (Of : Refusal → Type 0) (replies : List (Result Answer Refusal)) (start now : ℕ) : Type 0 where
+  pub sound : All (IsSound Of) replies
+  pub same : now ≡ start
 
-record SomeFault (Of : Refusal → Type 0) (replies : List (Result Answer Refusal)) (start now : ℕ) : Type 0 where
-  fault : Any (IsFaultReply Of) replies
-  more : start < now
+pub record SomeFault (Of : Refusal → Type 0) (replies : List (Result Answer Refusal)) (start now : ℕ) : Type 0 where
+  pub fault : Any (IsFaultReply Of) replies
+  pub more : start < now
 
 -- the failures of a device or a store were so many at the start, and are so many now: more just where a reply tells
 -- of one

@@ -1,10 +1,10 @@
 -- What the pool says of the engine's state.
-use Rattle.std.proofs.Common.{◌≡◌, ℕ, ◌<◌, ◌≤◌, Bool, true, false, List, length, get_or, set, map, refl, sym, ap, ◌∙◌, max, arith}
+use Rattle.std.proofs.Common.{◌≡◌, ℕ, ◌<◌, ◌≤◌, Bool, true, false, List, [], ◌∷◌, zero, suc, length, replicate, get_or, set, map, refl, sym, ap, ◌∙◌, max, arith}
 use Rattle.std.specs.Prelude.{Option, Some, None, is_none, is_some}
 use Rattle.std.proofs.lemmas.Bool.{le-leb, lt-leb}
 use Rattle.std.proofs.lemmas.List.{get_or-map, map-set, set-get_or}
 use Rattle.page_core.specs.declared.page.Page.{Page}
-use Rattle.buffer_pool.specs.Pool.{IsPoolOf, PoolView, state_at, unwritten, with_state, write_begun, write_ended}
+use Rattle.buffer_pool.specs.Pool.{IsPoolOf, PoolView, new_pool, state_at, unwritten, with_state, write_begun, write_ended}
 use Rattle.buffer_pool.specs.Pool.{writing_of, written_of}
 use Rattle.log_records.specs.Coverage.{rec_lsn}
 use Rattle.log_records.specs.Log.{Log}
@@ -12,7 +12,8 @@ use Rattle.log_store.specs.WrittenLog.{WrittenLog, end_up_to}
 use Rattle.aries_core.specs.declared.event.Event.TheVariants as event
 use Rattle.aries_core.specs.declared.refusal.Refusal.TheVariants.{NoWrite, NotDirty, PageOut, WriteBegun}
 use Rattle.aries_core.specs.EngineState.{EngineState, begun_write, ended_write, engine_view, forced_through, image_of}
-use Rattle.aries_core.specs.EngineState.{log_of, rec_lsn_of, with_stored}
+use Rattle.aries_core.specs.EngineState.{log_of, new_state, rec_lsn_of, with_stored}
+use Rattle.page_core.specs.Volume.{formatted_pages}
 use Rattle.aries_core.specs.Refusal.{refusal}
 
 -- ---- refusals
@@ -98,3 +99,20 @@ pub kept_is : {S D : Type 0} (stored : S → List Page) (it : WrittenLog D) (poo
     → stored after.store ≡ stored pool.store → after.states ≡ pool.states
     → (engine_view stored it after).state ≡ (engine_view stored it pool).state
 kept_is stored it pool after store states = rw (store, states) refl
+
+-- ---- a new engine
+
+map-replicate : {X Y : Type 0} (f : X → Y) (n : ℕ) (x : X) → map f (replicate n x) ≡ replicate n (f x)
+map-replicate f zero x = refl
+map-replicate f (suc n) x = ap (λ ys. f x ∷ ys) (map-replicate f n x)
+
+pub new_is : {S D : Type 0} (stored : S → List Page) (it : WrittenLog D) (pool : PoolView S) (store : S) (n : ℕ)
+    → it.log ≡ record { pages = n; records = [] } → it.forced_end ≡ 64 → pool ≡ new_pool store n
+    → stored store ≡ formatted_pages n → (engine_view stored it pool).state ≡ new_state n
+new_is {S = S} stored it pool store n log forced is formatted =
+    let written : written_of pool.states ≡ replicate n 0 =
+    ap (λ (v : PoolView S). written_of v.states) is ∙ map-replicate (λ s. s.written) n unwritten in
+    let writing : writing_of pool.states ≡ replicate n None =
+    ap (λ (v : PoolView S). writing_of v.states) is ∙ map-replicate (λ s. s.writing) n unwritten in
+    let pages : stored pool.store ≡ formatted_pages n = ap (λ (v : PoolView S). stored v.store) is ∙ formatted in
+    rw (log, forced, written, writing, pages) refl

@@ -1,1 +1,2 @@
+pub mod PageStates
 pub mod Pool
