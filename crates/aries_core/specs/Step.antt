@@ -64,13 +64,13 @@ IsByDevice LogFault = Unit {0}
 IsByDevice (CommitUnsure lsn) = Unit {0}
 IsByDevice other = ⊥
 
+-- a reply that tells of a fault of the device
+abbrev pub IsFaultReply : Result Answer Refusal → Type 0
+IsFaultReply (Ok answer) = ⊥
+IsFaultReply (Err why) = IsByDevice why
+
 -- the event forces nothing, so no call of the device is made
 abbrev pub LeavesDevice : Event → Type 0
 LeavesDevice (event.Commit txn) = ⊥
 LeavesDevice event.Force = ⊥
 LeavesDevice other = Unit {0}
-
--- a reply that tells of a fault of the device
-abbrev pub IsFaultReply : Result Answer Refusal → Type 0
-IsFaultReply (Ok answer) = ⊥
-IsFaultReply (Err why) = IsByDevice why
