@@ -123,7 +123,7 @@ fn each_call_fails_beside_another_transaction(rt: HostRuntime) -> Result<(), Fai
 }
 
 #[test]
-fn a_device_is_full(rt: HostRuntime) -> Result<(), Fail> {
+fn the_log_is_not_forced(rt: HostRuntime) -> Result<(), Fail> {
     let alloc = rt.alloc();
     let row = [
         (Event::Begin, began(1, 64)),
