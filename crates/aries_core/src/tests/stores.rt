@@ -1,5 +1,8 @@
 //! Writes of pages: what the store has of them, and what stands where one of its calls fails.
 
+ghost use Rattle.std.specs.Prelude.{◌≡◌, IfOk};
+ghost use Rattle.page_core.specs.Volume.{formatted_pages};
+
 use super::{
     began, call_row, commit, forced, logged, play_row, read, set, setup_of, value, write_begin,
     write_end, writing, written,
@@ -14,7 +17,9 @@ use std::process::Abort;
 use std::test::Fail;
 
 /// A store of one page whose `k`-th call fails.
-fn failing_store(alloc: Global, k: u64) -> Result<FaultyStore, Fail> {
+fn failing_store(alloc: Global, k: u64) -> Result<FaultyStore, Fail>
+    ensures { IfOk result (λ store. store.pages ≡ formatted_pages 1) }
+{
     Ok(FaultyStore::new(alloc, MemStore::new(alloc, 1)?, k)?)
 }
 
