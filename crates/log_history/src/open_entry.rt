@@ -13,14 +13,14 @@ use page_core::{Change, Lsn, PageNo, SlotNo, TxnNo, undo_of};
 use std::alloc::{AllocError, Global};
 
 /// A pending change, and what its transaction kept out of the slot before it.
-#[derive(Clone, Copy, Debug, PartialEq, Eq)]
+#[derive(Clone, Copy)]
 pub struct Pending {
     pub change: PendingChange,
     pub before: Hold,
 }
 
 /// An open transaction.
-#[derive(Debug, Drop)]
+#[derive(Drop)]
 pub struct OpenEntry {
     pub txn: TxnNo,
     /// Its place in the sets of seats, as long as it is open.
