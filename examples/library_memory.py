@@ -48,6 +48,7 @@ PLAYER = """\
 use aries_core::{Answer, Engine, Event, Refusal, Reply, Setup, play};
 use log_store::MemDevice;
 use page_core::{Lsn, PageNo, SlotNo, TxnNo};
+use page_store::MemStore;
 use std::alloc::Global;
 
 const SETUP: Setup = Setup {
@@ -84,15 +85,20 @@ fn logged(lsn: u64) -> Reply {
     Ok(Answer::Logged(Lsn(lsn)))
 }
 
-fn row() -> [(Event, Reply); 14] {
+fn row() -> [(Event, Reply); 18] {
     let one = TxnNo(1);
+    let page = PageNo(0);
     [
         (Event::Begin, began(1, 64)),
         (set(1, 5), logged(128)),
         (add(1, 0, 3), logged(192)),
+        (Event::WriteBegin(page), Ok(Answer::Writing(Lsn(192)))),
         (Event::Begin, began(2, 256)),
         (set(2, 9), Err(Refusal::SlotBusy(one))),
         (add(2, 1, 7), logged(320)),
+        (Event::WriteEnd(page), Ok(Answer::Written(Lsn(192)))),
+        (Event::WriteBegin(page), Ok(Answer::Writing(Lsn(320)))),
+        (Event::WriteEnd(page), Ok(Answer::Written(Lsn(320)))),
         (Event::Abort(one), logged(384)),
         (Event::UndoStep(one), Ok(Answer::Undid(Lsn(448)))),
         (Event::UndoStep(one), Ok(Answer::Undid(Lsn(512)))),
@@ -104,13 +110,14 @@ fn row() -> [(Event, Reply); 14] {
     ]
 }
 
-fn new_engine(alloc: Global) -> Option<Engine<MemDevice>> {
+fn new_engine(alloc: Global) -> Option<Engine<MemStore, MemDevice>> {
+    let store = MemStore::new(alloc, 1).ok()?;
     let device = MemDevice::new(alloc, 14).ok()?;
-    Engine::new(alloc, SETUP, device).ok()
+    Engine::new(alloc, SETUP, store, device).ok()
 }
 
 /// Makes a call, and makes it again where memory was refused. The reply, and whether it was.
-fn call(engine: &mut Engine<MemDevice>, event: &Event) -> (Reply, bool) {
+fn call(engine: &mut Engine<MemStore, MemDevice>, event: &Event) -> (Reply, bool) {
     let reply = engine.apply(*event);
     if reply == Err(Refusal::OutOfMemory) {
         (engine.apply(*event), true)
@@ -120,7 +127,7 @@ fn call(engine: &mut Engine<MemDevice>, event: &Event) -> (Reply, bool) {
 }
 
 /// Has a new transaction change each slot, so that all that an engine keeps of it grows.
-fn change_each_slot(engine: &mut Engine<MemDevice>) -> Option<bool> {
+fn change_each_slot(engine: &mut Engine<MemStore, MemDevice>) -> Option<bool> {
     let (begun, mut again) = call(engine, &Event::Begin);
     if begun != began(3, 768) {
         return None;
@@ -161,8 +168,9 @@ fn replies_to(alloc: Global, row: &[(Event, Reply)]) -> Option<Vec<Reply>> {
     for &(event, _) in row {
         events.push(event).ok()?;
     }
+    let store = MemStore::new(alloc, 1).ok()?;
     let device = MemDevice::new(alloc, 14).ok()?;
-    let replies = play(alloc, SETUP, device, &events).ok()?.replies;
+    let replies = play(alloc, SETUP, store, device, &events).ok()?.replies;
     for &reply in &replies {
         if reply == Err(Refusal::OutOfMemory) {
             return None;
@@ -215,7 +223,7 @@ fn main(rt: HostRuntime) {
 # Each program, and the crates that it names.
 PROGRAMS = {
     "reader": (READER, ["log_store", "page_core"]),
-    "player": (PLAYER, ["aries_core", "log_store", "page_core"]),
+    "player": (PLAYER, ["aries_core", "log_store", "page_core", "page_store"]),
 }
 
 TEXTS = {

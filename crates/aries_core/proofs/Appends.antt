@@ -1,5 +1,5 @@
 -- An engine whose log, table and pool are in step, and the record of an accepted call.
-use Rattle.std.proofs.Common.{◌≡◌, ℕ, ◌<◌, ◌++◌, ◌∷◌, [], List, length, refl, ap, ◌∙◌, arith}
+use Rattle.std.proofs.Common.{◌≡◌, ◌<◌, ◌++◌, ◌∷◌, [], List, length, refl, ap, ◌∙◌, arith}
 use Rattle.std.proofs.lemmas.List.{length_push}
 use Rattle.page_core.specs.declared.page.Page.{Page}
 use Rattle.buffer_pool.specs.Pool.{IsPoolOf, PoolView, writing_of, written_of}

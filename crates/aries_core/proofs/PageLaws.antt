@@ -1,5 +1,5 @@
 -- Laws of stored pages, of steps and of whole runs.
-use Rattle.std.proofs.Common.{◌≡◌, ℕ, ◌<◌, List, [], ◌∷◌, length, get_or, set, replicate, refl, sym, ap, subst, ◌∙◌, arith, inl, inr}
+use Rattle.std.proofs.Common.{◌≡◌, ℕ, ◌<◌, List, [], ◌∷◌, length, get_or, refl, sym, ap, ◌∙◌, arith, inl, inr}
 use Rattle.std.specs.Prelude.{Option, Some, None, Result, Ok, Err}
 use Rattle.page_core.specs.declared.page.Page.{Page}
 use Rattle.log_records.specs.Coverage.{Covers}
@@ -12,13 +12,12 @@ use Rattle.aries_core.specs.declared.event.Event.{Event}
 use Rattle.aries_core.specs.declared.event.Event.TheVariants as event
 use Rattle.aries_core.specs.declared.refusal.Refusal.{Refusal}
 use Rattle.aries_core.specs.declared.refusal.Refusal.TheVariants.{CommitUnsure, LogFault, OutOfMemory, StoreFault}
-use Rattle.aries_core.specs.EngineState.{EngineState, IsFit, effect, ended_write, log_of, new_state, page_now, rec_lsn_of}
+use Rattle.aries_core.specs.EngineState.{EngineState, IsFit, effect, ended_write, log_of, page_now, rec_lsn_of}
 use Rattle.aries_core.specs.Refusal.{refusal}
 use Rattle.aries_core.specs.Run.{Run}
 use Rattle.aries_core.specs.Step.{Fails, Step}
-use Rattle.aries_core.specs.Written.{with_write, written_by, written_from}
+use Rattle.aries_core.specs.Written.{with_write, written_from}
 use Rattle.aries_core.proofs.Refusals.{write_end_passes}
-use Rattle.aries_core.proofs.WriteCalls.{begun}
 use Rattle.aries_core.proofs.Steps.{stored_or_not}
 
 -- ---- the pages of a fit engine

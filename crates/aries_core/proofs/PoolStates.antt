@@ -1,5 +1,5 @@
 -- What the pool says of the engine's state.
-use Rattle.std.proofs.Common.{◌≡◌, ℕ, ◌<◌, ◌≤◌, Bool, true, false, List, [], ◌∷◌, zero, suc, length, replicate, get_or, set, map, refl, sym, ap, ◌∙◌, max, arith}
+use Rattle.std.proofs.Common.{◌≡◌, ℕ, ◌<◌, ◌≤◌, Bool, true, false, List, [], ◌∷◌, zero, suc, length, replicate, set, map, refl, sym, ap, ◌∙◌, max}
 use Rattle.std.specs.Prelude.{Option, Some, None, is_none, is_some}
 use Rattle.std.proofs.lemmas.Bool.{le-leb, lt-leb}
 use Rattle.std.proofs.lemmas.List.{get_or-map, map-set, set-get_or}
@@ -7,12 +7,11 @@ use Rattle.page_core.specs.declared.page.Page.{Page}
 use Rattle.buffer_pool.specs.Pool.{IsPoolOf, PoolView, new_pool, state_at, unwritten, with_state, write_begun, write_ended}
 use Rattle.buffer_pool.specs.Pool.{writing_of, written_of}
 use Rattle.log_records.specs.Coverage.{rec_lsn}
-use Rattle.log_records.specs.Log.{Log}
 use Rattle.log_store.specs.WrittenLog.{WrittenLog, end_up_to}
 use Rattle.aries_core.specs.declared.event.Event.TheVariants as event
 use Rattle.aries_core.specs.declared.refusal.Refusal.TheVariants.{NoWrite, NotDirty, PageOut, WriteBegun}
 use Rattle.aries_core.specs.EngineState.{EngineState, begun_write, ended_write, engine_view, forced_through, image_of}
-use Rattle.aries_core.specs.EngineState.{log_of, new_state, rec_lsn_of, with_stored}
+use Rattle.aries_core.specs.EngineState.{new_state, rec_lsn_of, with_stored}
 use Rattle.page_core.specs.Volume.{formatted_pages}
 use Rattle.aries_core.specs.Refusal.{refusal}
 

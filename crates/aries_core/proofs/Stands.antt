@@ -11,7 +11,7 @@ use Rattle.log_history.specs.declared.pending_change.PendingChange.{PendingChang
 use Rattle.log_records.specs.declared.record.Record.{Record}
 use Rattle.log_records.specs.declared.record.Record.TheVariants as log
 use Rattle.log_history.specs.Linked.{number_in}
-use Rattle.log_records.specs.Log.{Log, StandsAt}
+use Rattle.log_records.specs.Log.{StandsAt}
 use Rattle.log_records.specs.Record.{HasNoBefore, IsBefore, IsChange, IsLsn, IsRecord, IsTxn}
 use Rattle.log_history.specs.Transactions.{is_open, last_lsn, last_of, pending}
 use Rattle.aries_core.specs.declared.event.Event.{Event}

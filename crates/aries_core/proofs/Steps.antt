@@ -1,13 +1,9 @@
 -- What a step does to the log.
 use Rattle.std.proofs.Common.{◌≡◌, ℕ, ◌++◌, ◌⊎◌, [], ◌∷◌, refl, ap, ◌∙◌, inl, inr}
 use Rattle.std.specs.Prelude.{Option, Some, None, IsSomeAnd, Result, Ok, Err}
-use Rattle.std.specs.Option.{option_map_or}
-use Rattle.page_core.specs.declared.change.Change.TheVariants.{Set, Add}
 use Rattle.page_core.specs.declared.page.Page.{Page}
 use Rattle.log_history.specs.declared.pending_change.PendingChange.{PendingChange}
 use Rattle.log_records.specs.declared.record.Record.{Record}
-use Rattle.log_records.specs.declared.record.Record.TheVariants as log
-use Rattle.log_history.specs.Linked.{number_in}
 use Rattle.log_history.specs.Transactions.{last_of, pending}
 use Rattle.log_history.specs.Work.{call_of}
 use Rattle.aries_core.specs.Call.{record_for}
@@ -17,7 +13,7 @@ use Rattle.aries_core.specs.declared.event.Event.TheVariants as event
 use Rattle.aries_core.specs.declared.refusal.Refusal.{Refusal}
 use Rattle.aries_core.specs.declared.refusal.Refusal.TheVariants.{OutOfMemory, StoreFault, LogFault, CommitUnsure}
 use Rattle.aries_core.specs.Accepted.{shown_call}
-use Rattle.aries_core.specs.EngineState.{EngineState, abort_record, appended, commit_record, comp_record, effect, end, end_record, ended_write, image_of, next_txn, update_record, with_stored}
+use Rattle.aries_core.specs.EngineState.{EngineState, appended, comp_record, effect, end_record, ended_write, image_of, with_stored}
 use Rattle.aries_core.specs.Refusal.{refusal}
 use Rattle.aries_core.specs.Step.{Fails, MayBeStored, Step}
 use Rattle.aries_core.proofs.Refusals.{commit_not_unsure}

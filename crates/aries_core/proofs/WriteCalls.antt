@@ -1,28 +1,25 @@
 -- The calls that write a page: what they make of an engine that is in step with its pool.
-use Rattle.std.proofs.Common.{◌≡◌, ◌⊎◌, ℕ, ◌<◌, List, length, set, refl, sym, ap, subst, ◌∙◌, arith, max, inl, inr}
+use Rattle.std.proofs.Common.{◌≡◌, ℕ, ◌<◌, List, length, set, refl, sym, ap, subst, ◌∙◌, max, inl, inr}
 use Rattle.std.specs.Prelude.{Option, Some, None, IfSome, Result, Ok, Err}
 use Rattle.page_core.specs.declared.page.Page.{Page}
 use Rattle.page_store.specs.Store.{StoresOrKeeps}
 use Rattle.buffer_pool.specs.Pool.{IsPoolOf, PoolView, state_at, with_state, write_begun, write_ended}
 use Rattle.log_records.specs.Image.{image}
-use Rattle.log_records.specs.Log.{lsn_of}
 use Rattle.log_history.specs.Table.{Table}
-use Rattle.log_store.specs.WrittenLog.{EndsAtRecord, WrittenLog, end_up_to}
-use Rattle.txn_table.specs.TxnTable.{IsTableOf}
+use Rattle.log_store.specs.WrittenLog.{WrittenLog, end_up_to}
 use Rattle.aries_core.specs.declared.event.Answer.{Answer}
 use Rattle.aries_core.specs.declared.event.Answer.TheVariants as answer
 use Rattle.aries_core.specs.declared.event.Event.{Event}
 use Rattle.aries_core.specs.declared.event.Event.TheVariants as event
 use Rattle.aries_core.specs.declared.refusal.Refusal.{Refusal}
-use Rattle.aries_core.specs.declared.refusal.Refusal.TheVariants.{LogFault, StoreFault}
-use Rattle.aries_core.specs.EngineState.{EngineState, IsKept, begun_write, effect, ended_write, engine_view, forced_through}
-use Rattle.aries_core.specs.EngineState.{image_of, log_of, with_stored}
+use Rattle.aries_core.specs.declared.refusal.Refusal.TheVariants.{StoreFault}
+use Rattle.aries_core.specs.EngineState.{IsKept, begun_write, effect, ended_write, engine_view, forced_through}
 use Rattle.aries_core.specs.EventFits.{EventFits}
 use Rattle.aries_core.specs.Refusal.{refusal}
 use Rattle.aries_core.specs.Step.{MayBeStored, Step}
 use Rattle.aries_core.proofs.Fit.{fit_of_step}
 use Rattle.aries_core.proofs.PoolStates.{begun_is, ended_is, image_at, kept_is, repeated_is}
-use Rattle.aries_core.proofs.Refusals.{WriteEnds, write_end_passes}
+use Rattle.aries_core.proofs.Refusals.{write_end_passes}
 
 -- what a call says of the state after it: it is a step, and the engine is in step with its pool
 pub record Called {S D : Type 0} (stored : S → List Page) (it new : WrittenLog D) (table : Table)

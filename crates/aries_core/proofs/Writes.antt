@@ -1,5 +1,5 @@
 -- What a step does to the stored pages, and to the images that are being written.
-use Rattle.std.proofs.Common.{◌≡◌, ℕ, ◌+◌, ◌*◌, ◌<◌, ◌≤◌, ◌/◌, ◌⊎◌, ◌++◌, List, [], ◌∷◌, length, get_or, set, take, replicate, min}
+use Rattle.std.proofs.Common.{◌≡◌, ℕ, ◌*◌, ◌<◌, ◌≤◌, ◌++◌, List, length, get_or, set, take}
 use Rattle.std.proofs.Common.{refl, sym, ap, subst, ◌∙◌, arith, inl, inr}
 use Rattle.std.specs.Prelude.{Option, Some, None, IfSome, Result, Ok, Err}
 use Rattle.std.specs.List.{All}
@@ -7,13 +7,12 @@ use Rattle.std.proofs.lemmas.Bool.{cases_eq, cases_lt}
 use Rattle.std.proofs.lemmas.List.{get_or-set_other, get_or-set_same, get_or_past, length-set, take_all}
 use Rattle.std.proofs.lemmas.List.Elements.{All-set, All-weaker}
 use Rattle.page_core.specs.declared.page.Page.{Page}
-use Rattle.log_records.specs.Coverage.{AreStored, IsWriting}
+use Rattle.log_records.specs.Coverage.{AreStored}
 use Rattle.log_records.proofs.Stored.{past_is_older, past_now, stored_begun, stored_ended, stored_failed, stored_later}
 use Rattle.log_history.specs.declared.pending_change.PendingChange.{PendingChange}
 use Rattle.log_records.specs.declared.record.Record.{Record}
 use Rattle.log_records.specs.declared.record.Record.TheVariants.{Begin}
 use Rattle.log_records.specs.Image.{image}
-use Rattle.log_records.specs.Log.{lsn_of}
 use Rattle.log_history.specs.Transactions.{last_of, pending}
 use Rattle.log_store.specs.WrittenLog.{end_up_to}
 use Rattle.log_records.proofs.Images.{lsn-image}

@@ -1,5 +1,5 @@
 -- One call of the engine: what it may answer, and what stands after it.
-use Rattle.std.specs.Prelude.{ℕ, ◌≡◌, ◌*◌, ◌<◌, ◌≤◌, ◌⊎◌, length, Option, Some, None, IsSomeAnd, Result, Ok}
+use Rattle.std.specs.Prelude.{ℕ, ◌≡◌, ◌<◌, ◌≤◌, ◌⊎◌, Some, None, IsSomeAnd, Result, Ok}
 use Rattle.std.specs.Prelude.{Err}
 use Rattle.log_records.specs.Log.{lsn_of}
 use Rattle.log_store.specs.WrittenLog.{end_up_to}
@@ -37,7 +37,7 @@ TakesMemory other = Unit {0}
 abbrev pub Fails : EngineState → Event → Refusal → EngineState → Type 0
 Fails old event OutOfMemory new = TakesMemory event × (new ≡ old)
 Fails old event.Force LogFault new = ForcedPart (end old) old new
-Fails old (event.WriteBegin page) LogFault new = 
+Fails old (event.WriteBegin page) LogFault new =
     ForcedPart (end_up_to (log_of old) (page_now old page).lsn) old new
 Fails old (event.WriteEnd page) StoreFault new = MayBeStored page old new
 Fails old (event.Commit txn) (CommitUnsure lsn) new =

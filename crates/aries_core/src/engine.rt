@@ -56,12 +56,7 @@ impl<S: PageStore + Drop, D: LogDevice + Drop> Engine<S, D> {
     /// An engine over a formatted volume, with a log without records, whose header is stored. Each
     /// page has a frame of its own. The store is not called but for its count. Where this call
     /// fails, store and device are dropped.
-    pub fn new(
-        alloc: Global,
-        setup: Setup,
-        store: S,
-        device: D,
-    ) -> Result<Engine<S, D>, PlayFault>
+    pub fn new(alloc: Global, setup: Setup, store: S, device: D) -> Result<Engine<S, D>, PlayFault>
         requires pages { IsPageCount setup.pages }
         requires frames { setup.pages ≤ setup.frames }
         requires formatted { S.stored store ≡ formatted_pages setup.pages }

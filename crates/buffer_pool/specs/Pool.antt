@@ -79,8 +79,8 @@ changed state lsn = record state {
 abbrev pub write_begun : PageState → Page → PageState
 write_begun state q = record state { writing = Some q; since = None }
 
--- a write of the page has ended, whose image has this LSN: the page is as dirty as the changes since
--- the image make it
+-- a write of the page has ended, whose image has this LSN: the page is as dirty as the changes
+-- since the image make it
 abbrev pub write_ended : PageState → ℕ → PageState
 write_ended state lsn = record {
   written = lsn;

@@ -108,7 +108,8 @@ impl PageStates {
     /// A write of a page has ended: its image, which has this LSN, is stored.
     pub(crate) fn end_write(&mut self, number: PageNo, lsn: Lsn)
         requires { number < length self.old }
-        ensures { self.new ≡ slice_set self.old number (write_ended (state_in self.old number) lsn) }
+        ensures { self.new
+            ≡ slice_set self.old number (write_ended (state_in self.old number) lsn) }
     {
         let index = number.0 as usize;
         self.last_writes[index] = lsn;

@@ -16,8 +16,7 @@ ghost use Rattle.buffer_pool.specs.Pool.{write_ended, writing_of, written_of};
 
 use crate::page_image::PageImage;
 use crate::page_states::PageStates;
-use log_records::DirtyPages;
-use log_records::{Record, redo_on_its_page};
+use log_records::{DirtyPages, Record, redo_on_its_page};
 use page_core::{Lsn, Page, PageNo, formatted_pages};
 use page_store::{PageStore, StoreFault};
 use std::alloc::{AllocError, Global};

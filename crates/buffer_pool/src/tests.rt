@@ -4,8 +4,7 @@
 ghost use Rattle.log_records.specs.Log.{IsPageCount};
 
 use crate::Pool;
-use log_records::{DirtyPage, DirtyPages};
-use log_records::Record;
+use log_records::{DirtyPage, DirtyPages, Record};
 use page_core::{Change, Lsn, Page, PageNo, SlotNo, TxnNo};
 use page_store::{FaultyStore, MemStore, PageStore, StoreFault};
 use std::alloc::Global;

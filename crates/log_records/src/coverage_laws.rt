@@ -1,6 +1,7 @@
 //! Laws of pages that are kept elsewhere while their log goes on, for those who read the contracts.
 
-ghost use Rattle.std.specs.Prelude.{ℕ, ◌≡◌, ◌<◌, ◌≤◌, ◌++◌, ◌∷◌, [], List, length, take, Some, None};
+ghost use Rattle.std.specs.Prelude.{ℕ, ◌≡◌, ◌<◌, ◌≤◌, ◌++◌, ◌∷◌, [], List, length, take, Some};
+ghost use Rattle.std.specs.Prelude.{None};
 ghost use Rattle.log_records.specs.declared.record.Record.{Record};
 ghost use Rattle.log_records.specs.Log.{Log, IsLog, lsn_of};
 ghost use Rattle.log_records.specs.Image.{image};

@@ -1,5 +1,6 @@
 -- A store in memory that fails where it is told to.
-use Rattle.std.specs.Prelude.{ℕ, ◌≡◌, ◌+◌, ◌-◌, ◌⊎◌, Bool, true, false, List, Some, slice_get, slice_set}
+use Rattle.std.specs.Prelude.{ℕ, ◌≡◌, ◌+◌, ◌-◌, ◌⊎◌, Bool, true, false, List, Some, slice_get}
+use Rattle.std.specs.Prelude.{slice_set}
 use Rattle.page_core.specs.declared.page.Page.{Page}
 
 -- the call that fails is counted from the next one on as 1, and at 0 none is to fail; of each page

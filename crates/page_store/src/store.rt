@@ -44,7 +44,8 @@ pub trait PageStore {
         requires there { number < length (stored self.old) }
         requires numbered { page.now.number ≡ number }
 
-        ensures stored { OnOk result (stored self.new ≡ slice_set (stored self.old) number page.now) }
+        ensures stored { OnOk result
+            (stored self.new ≡ slice_set (stored self.old) number page.now) }
         ensures either { OnErr result
             (StoresOrKeeps (stored self.old) number page.now (stored self.new)) }
 

@@ -1,11 +1,9 @@
 -- What the table of a log says, in the log's words.
-use Rattle.std.proofs.Common.{◌≡◌, ℕ, zero, suc, ◌+◌, ◌≤◌, ◌++◌, ◌∷◌, [], Bool, true, false, cond, List, length, refl, sym, ap, subst, ◌∙◌, arith, min, inl, inr}
+use Rattle.std.proofs.Common.{◌≡◌, ℕ, ◌≤◌, ◌∷◌, [], Bool, true, false, cond, List, length, refl, sym, ap, subst, ◌∙◌, arith, min, inl, inr}
 use Rattle.std.specs.Prelude.{Option, Some, None, if◌then◌else◌, IfSome, filter, nat_le}
 use Rattle.std.specs.Option.{option_and_then, option_map, option_map_or}
-use Rattle.log_history.specs.declared.pending_change.PendingChange.{PendingChange}
 use Rattle.log_records.specs.declared.record.Record.{Record}
 use Rattle.log_records.specs.declared.record.Record.TheVariants.{Begin, Update, Comp, Commit, Abort, End}
-use Rattle.log_history.specs.declared.txn_state.TxnState.{TxnState}
 use Rattle.log_history.specs.Table.{Entry, Table, entry_in, entry_of, table_of}
 use Rattle.log_history.specs.Transactions.{begun, is_open, last_of, pending, open_in}
 use Rattle.log_history.specs.TxnState.{state_of, next_in}

@@ -131,8 +131,22 @@ fn the_log_is_not_forced(rt: HostRuntime) -> Result<(), Fail> {
         (add(1, 0, 0, 1), logged(128)),
         (Event::Force, Err(Refusal::LogFault)),
     ];
-    let _ = call_row(&rt, alloc, 1, MemStore::new(alloc, 1)?, MemDevice::new(alloc, 1)?, &row)?;
-    let _ = play_row(&rt, alloc, 1, MemStore::new(alloc, 1)?, MemDevice::new(alloc, 1)?, &row)?;
+    let _ = call_row(
+        &rt,
+        alloc,
+        1,
+        MemStore::new(alloc, 1)?,
+        MemDevice::new(alloc, 1)?,
+        &row,
+    )?;
+    let _ = play_row(
+        &rt,
+        alloc,
+        1,
+        MemStore::new(alloc, 1)?,
+        MemDevice::new(alloc, 1)?,
+        &row,
+    )?;
     Ok(())
 }
 
@@ -143,7 +157,14 @@ fn the_header_is_not_stored(rt: HostRuntime) -> Result<(), Fail> {
     let fault = Engine::new(alloc, setup_of(1), MemStore::new(alloc, 1)?, device).err();
     assert_eq!(rt; fault, Some(PlayFault::LogFault));
     let device = FaultyDevice::new(MemDevice::new(alloc, 1)?, 1);
-    let fault = play(alloc, setup_of(1), MemStore::new(alloc, 1)?, device, &[Event::Begin]).err();
+    let fault = play(
+        alloc,
+        setup_of(1),
+        MemStore::new(alloc, 1)?,
+        device,
+        &[Event::Begin],
+    )
+    .err();
     assert_eq!(rt; fault, Some(PlayFault::LogFault));
     Ok(())
 }

@@ -36,9 +36,15 @@ fn assert_row(
 ) -> Result<(), Fail>
     requires { IsPageCount pages }
 {
-    let (store, device) = (MemStore::new(alloc, pages)?, MemDevice::new(alloc, row.len())?);
+    let (store, device) = (
+        MemStore::new(alloc, pages)?,
+        MemDevice::new(alloc, row.len())?,
+    );
     let called = call_row(rt, alloc, pages, store, device, row)?;
-    let (store, device) = (MemStore::new(alloc, pages)?, MemDevice::new(alloc, row.len())?);
+    let (store, device) = (
+        MemStore::new(alloc, pages)?,
+        MemDevice::new(alloc, row.len())?,
+    );
     let played = play_row(rt, alloc, pages, store, device, row)?;
     assert_eq!(rt; called.log_end(), played.log_end());
     assert_eq!(rt; called.log.device().bytes(), played.log.device().bytes());

@@ -96,7 +96,10 @@ fn a_later_write_fails(rt: HostRuntime) -> Result<(), Fail> {
     let mut engine = call_row(&rt, alloc, 1, failing_store(alloc, 2)?, device, &row)?;
     assert_eq!(rt; engine.pool.dirty_from(PageNo(0)), None);
     let stored = engine.pool.stored(PageNo(0))?;
-    assert_eq!(rt; (stored.lsn, stored.slots[0], stored.slots[1]), (Lsn(320), 5, 7));
+    assert_eq!(rt;
+        (stored.lsn, stored.slots[0], stored.slots[1]),
+        (Lsn(320), 5, 7)
+    );
     Ok(())
 }
 

@@ -1,10 +1,9 @@
-use Rattle.std.proofs.Common.{◌≡◌, ◌++◌, ◌∷◌, [], List, length, refl, sym, ap, subst, ◌∙◌, arith}
+use Rattle.std.proofs.Common.{◌≡◌, length, sym, ap, subst, ◌∙◌, arith}
 use Rattle.std.specs.Prelude.{Result, Ok, Err, OnOk, is_err, false}
-use Rattle.page_core.specs.declared.page.Page.{Page}
 use Rattle.log_records.specs.Log.{Log, StandsAt, lsn_of}
 use Rattle.aries_core.specs.Call.{Calls}
-use Rattle.aries_core.specs.EngineState.{EngineState, EngineView, IsKept, appended, engine_view, log_of}
-use Rattle.aries_core.proofs.Appends.{Comes, appended_is, comes, kept_next}
+use Rattle.aries_core.specs.EngineState.{EngineState, EngineView, IsKept, engine_view, log_of}
+use Rattle.aries_core.proofs.Appends.{appended_is, comes, kept_next}
 use Rattle.aries_core.proofs.engine.Engine.append.Goals as goal
 
 -- what an answer that is no `Err` says
@@ -17,9 +16,13 @@ note-requires g c =
     let it = c.self.inside in
     let s = (engine_view g.S.PageStore.stored it.log it.pool).state in
     let calls : Calls s c.args.next =
-    subst (λ (v : EngineView g.row.S.Denot g.row.D.Denot). Calls v.state c.args.next) (sym c.self.view_is) c.requires in
-    (s.log, (c.self.invariant.table_of_log,
-    (comes g.S.PageStore.stored s it.txns it.pool c.args.next c.self.invariant calls).may_follow))
+    subst (λ (v : EngineView g.row.S.Denot g.row.D.Denot). Calls v.state c.args.next) (sym c.self.view_is) c.requires in (
+      s.log,
+      (
+        c.self.invariant.table_of_log,
+        (comes g.S.PageStore.stored s it.txns it.pool c.args.next c.self.invariant calls).may_follow,
+      ),
+    )
 
 pub append-requires-clause-stands : goal.append-requires-clause-stands
 append-requires-clause-stands g c =
@@ -44,9 +47,13 @@ change-requires g c =
     let it = c.self.inside in
     let s = (engine_view g.S.PageStore.stored it.log it.pool).state in
     let calls : Calls s c.args.next =
-    subst (λ (v : EngineView g.row.S.Denot g.row.D.Denot). Calls v.state c.args.next) (sym c.self.view_is) c.requires in
-    (log_of s, (c.self.invariant.pool_of_log,
-    (comes g.S.PageStore.stored s it.txns it.pool c.args.next c.self.invariant calls).valid))
+    subst (λ (v : EngineView g.row.S.Denot g.row.D.Denot). Calls v.state c.args.next) (sym c.self.view_is) c.requires in (
+      log_of s,
+      (
+        c.self.invariant.pool_of_log,
+        (comes g.S.PageStore.stored s it.txns it.pool c.args.next c.self.invariant calls).valid,
+      ),
+    )
 
 pub invariant_of-self-2 : goal.invariant_of-self-2
 invariant_of-self-2 g c =

@@ -1,10 +1,10 @@
-use Rattle.std.proofs.Common.{◌≡◌, List, [], sym, ap, subst, ◌∙◌, arith}
+use Rattle.std.proofs.Common.{List, sym, ap, subst, arith}
 use Rattle.log_records.specs.declared.record.Record.{Record}
 use Rattle.log_records.specs.Log.{Log}
 use Rattle.log_history.proofs.Histories.{linked_none}
 use Rattle.buffer_pool.specs.Pool.{IsPoolOf}
 use Rattle.txn_table.specs.TxnTable.{IsTableOf}
-use Rattle.aries_core.specs.EngineState.{EngineState, IsFit}
+use Rattle.aries_core.specs.EngineState.{IsFit}
 use Rattle.aries_core.proofs.Fit.{new_is_fit}
 use Rattle.aries_core.proofs.PoolStates.{new_is}
 use Rattle.aries_core.proofs.engine.Engine.new.Goals as goal

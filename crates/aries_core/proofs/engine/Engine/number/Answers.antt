@@ -1,4 +1,4 @@
-use Rattle.std.proofs.Common.{◌≡◌, ℕ, ◌<◌, length, get_or, sym, ap, subst, ◌∙◌, arith}
+use Rattle.std.proofs.Common.{ℕ, ◌<◌, get_or, sym, ap, subst, ◌∙◌, arith}
 use Rattle.page_core.specs.declared.page.Page.{Page}
 use Rattle.log_history.specs.Linked.{number_in}
 use Rattle.log_records.specs.Image.{image}

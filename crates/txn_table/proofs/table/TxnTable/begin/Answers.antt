@@ -1,4 +1,4 @@
-use Rattle.std.proofs.Common.{◌≡◌, ◌≤◌, length, ap, ◌∙◌, arith}
+use Rattle.std.proofs.Common.{◌≡◌, length, ap, ◌∙◌, arith}
 use Rattle.log_history.specs.Table.{Table}
 use Rattle.log_history.specs.Transactions.{begun}
 use Rattle.txn_table.proofs.Tables.{begun_few}
