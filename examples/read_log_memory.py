@@ -4,8 +4,8 @@
 usage: read_log_memory.py LIBRARY
 
 LIBRARY is refuse_memory.rs, built as a library for LD_PRELOAD. In a temporary folder this has `rt` prove and build a
-small program over the crates page_core and log_store, which reads a log by `read_log` and tells what came of it. It
-then goes to each example log as in memory.py.
+small program over the crate log_store, which reads a log by `read_log` and tells what came of it. It then goes to each
+example log as in memory.py.
 """
 
 import os
@@ -17,6 +17,9 @@ from pathlib import Path
 
 from log_format import HEADER_SIZE, RECORD_SIZE
 from memory import EXAMPLES, Case, Failure, check
+
+# The crates below the program, each over those before it.
+LIBRARIES = ("page_core", "log_records", "log_history", "log_store")
 
 PROGRAM = """\
 //! Reads a log on standard input, and tells what came of it.
@@ -48,9 +51,10 @@ TEXTS = {
 
 def build(folder):
     crates = folder / "crates"
-    for name in ("page_core", "log_store"):
+    for name in LIBRARIES:
         shutil.copytree(EXAMPLES.parent / "crates" / name, crates / name)
-    (folder / "crates.txt").write_text("page_core:\nlog_store: page_core\nreader: log_store page_core\n")
+    listed = "".join(f"{name}: {' '.join(LIBRARIES[:place])}\n" for place, name in enumerate(LIBRARIES))
+    (folder / "crates.txt").write_text(f"{listed}reader: {' '.join(LIBRARIES)}\n")
     (crates / "reader" / "src").mkdir(parents=True)
     (crates / "reader" / "src" / "main.rt").write_text(PROGRAM)
     done = subprocess.run(["rt", "run"], cwd=crates / "reader", stdin=subprocess.DEVNULL, capture_output=True)
