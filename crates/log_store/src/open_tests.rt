@@ -1,10 +1,11 @@
-//! The table of open transactions on short logs, and that each call succeeds.
+//! The table of open transactions on short logs, and that each call succeeds. A test is a row of
+//! steps, and one function takes them.
 
 use log_history::{OpenTransactions, PendingChange, TxnState};
 use log_records::Record;
 use page_core::{Change, ChangeKind, Lsn, PageNo, SlotNo, TxnNo};
+use std::alloc::AllocError;
 use std::process::Abort;
-use std::test::Fail;
 
 const PAGE: PageNo = PageNo(7);
 
@@ -64,31 +65,6 @@ fn end(lsn: u64, txn: u32, prev: u64) -> Record {
     }
 }
 
-/// Notes a record that may be noted.
-fn note(rt: &impl Abort, table: &mut OpenTransactions, record: Record) -> Result<(), Fail> {
-    assert!(rt; table.may_note(&record), "{record:?}");
-    table.note(&record)?;
-    Ok(())
-}
-
-fn holder(table: &OpenTransactions, slot: SlotNo, kind: ChangeKind, txn: u32) -> Option<u32> {
-    table
-        .holder(PAGE, slot, kind, TxnNo(txn))
-        .map(|holder| holder.0)
-}
-
-/// The first transaction, with one pending change.
-fn first_state(last: u64, aborted: bool) -> TxnState {
-    TxnState {
-        txn: TxnNo(1),
-        first: Lsn(64),
-        last: Lsn(last),
-        rolling: aborted,
-        aborted,
-        pending: 1,
-    }
-}
-
 const SET: Change = Change::Set {
     before: 0,
     after: 9,
@@ -101,13 +77,83 @@ const UNSET: Change = Change::Set {
 
 const ADD: Change = Change::Add { amount: 5 };
 
+const UNDO_ADD: Change = Change::Add {
+    amount: 18_446_744_073_709_551_611,
+};
+
+/// What a test does with a table, or wants of it.
+#[derive(Clone, Copy)]
+enum Step {
+    /// The record may come next, and comes.
+    Note(Record),
+    /// The record may not come next.
+    Refused(Record),
+    /// Who holds a slot against a change of this kind by a transaction.
+    Holder(SlotNo, ChangeKind, TxnNo, Option<TxnNo>),
+    /// The numbers of a transaction.
+    State(u32, Option<TxnState>),
+    /// The numbers of the first transaction at or above a number.
+    Next(u32, Option<TxnState>),
+    /// The last pending change of a transaction.
+    Pending(u32, Option<PendingChange>),
+    /// How many transactions began, how many are open, and how many records they are owed.
+    Counts(u32, usize, u64),
+}
+
+/// Takes a step, and answers whether all was as the test wants it.
+fn is_as_wanted(table: &mut OpenTransactions, step: &Step) -> Result<bool, AllocError> {
+    Ok(match *step {
+        Step::Note(record) => {
+            let may = table.may_note(&record);
+            if may {
+                table.note(&record)?;
+            }
+            may
+        }
+        Step::Refused(record) => !table.may_note(&record),
+        Step::Holder(slot, kind, txn, want) => { table.holder(PAGE, slot, kind, txn) == want }
+        Step::State(txn, want) => table.state(TxnNo(txn)) == want,
+        Step::Next(from, want) => table.next_from(TxnNo(from)) == want,
+        Step::Pending(txn, want) => table.last_pending(TxnNo(txn)) == want,
+        Step::Counts(begun, open_count, owed) => {
+            table.begun() == begun && table.open_count() == open_count && table.owed() == owed
+        }
+    })
+}
+
+fn take(rt: &impl Abort, table: &mut OpenTransactions, steps: &[Step]) -> Result<(), AllocError> {
+    for (index, step) in steps.iter().enumerate() {
+        assert!(rt; is_as_wanted(table, step)?, "step {index}");
+    }
+    Ok(())
+}
+
+/// The first transaction, with one pending change.
+fn first_state(last: u64, aborted: bool) -> TxnState {
+    TxnState {
+        last: Lsn(last),
+        rolling: aborted,
+        aborted,
+        pending: 1,
+        ..begun_state(64, 1)
+    }
+}
+
+/// A transaction that only began.
+fn begun_state(lsn: u64, txn: u32) -> TxnState {
+    TxnState {
+        txn: TxnNo(txn),
+        first: Lsn(lsn),
+        last: Lsn(lsn),
+        rolling: false,
+        aborted: false,
+        pending: 0,
+    }
+}
+
 #[test]
-fn a_transaction_has_its_state(rt: HostRuntime) -> Result<(), Fail> {
+fn a_transaction_has_its_state(rt: HostRuntime) -> Result<(), AllocError> {
     let mut table = OpenTransactions::new(rt.alloc());
-    note(&rt, &mut table, begin(64, 1))?;
-    note(&rt, &mut table, update(128, 1, 64, SLOT, SET))?;
-    assert_eq!(rt; table.state(TxnNo(1)), Some(first_state(128, false)));
-    assert_eq!(rt; table.state(TxnNo(2)), None);
     let change = PendingChange {
         lsn: Lsn(128),
         prev: Lsn(64),
@@ -115,95 +161,108 @@ fn a_transaction_has_its_state(rt: HostRuntime) -> Result<(), Fail> {
         slot: SLOT,
         change: SET,
     };
-    assert_eq!(rt; table.last_pending(TxnNo(1)), Some(change));
-    assert_eq!(rt; table.owed(), 3);
-    note(&rt, &mut table, abort(192, 1, 128))?;
-    assert_eq!(rt; table.state(TxnNo(1)), Some(first_state(192, true)));
-    assert_eq!(rt; table.owed(), 2);
-    assert!(rt; !table.may_note(&update(256, 1, 192, SLOT, ADD)));
-    assert!(rt; !table.may_note(&end(256, 1, 192)));
-    assert!(rt; !table.may_note(&comp(256, 1, 192, 128, SLOT, UNSET)));
-    note(&rt, &mut table, comp(256, 1, 192, 64, SLOT, UNSET))?;
-    assert_eq!(rt; table.last_pending(TxnNo(1)), None);
-    assert!(rt; !table.may_note(&commit(320, 1, 256)));
-    note(&rt, &mut table, end(320, 1, 256))?;
-    assert_eq!(rt; table.state(TxnNo(1)), None);
-    assert_eq!(rt; table.begun(), 1);
-    assert_eq!(rt; table.open_count(), 0);
-    assert_eq!(rt; table.owed(), 0);
-    Ok(())
+    let steps = [
+        Step::Note(begin(64, 1)),
+        Step::Note(update(128, 1, 64, SLOT, SET)),
+        Step::State(1, Some(first_state(128, false))),
+        Step::State(2, None),
+        Step::Pending(1, Some(change)),
+        Step::Counts(1, 1, 3),
+        Step::Note(abort(192, 1, 128)),
+        Step::State(1, Some(first_state(192, true))),
+        Step::Counts(1, 1, 2),
+        Step::Refused(update(256, 1, 192, SLOT, ADD)),
+        Step::Refused(end(256, 1, 192)),
+        Step::Refused(comp(256, 1, 192, 128, SLOT, UNSET)),
+        Step::Note(comp(256, 1, 192, 64, SLOT, UNSET)),
+        Step::Pending(1, None),
+        Step::Refused(commit(320, 1, 256)),
+        Step::Note(end(320, 1, 256)),
+        Step::State(1, None),
+        Step::Counts(1, 0, 0),
+    ];
+    take(&rt, &mut table, &steps)
 }
 
 #[test]
-fn a_slot_has_its_holder(rt: HostRuntime) -> Result<(), Fail> {
+fn a_slot_has_its_holder(rt: HostRuntime) -> Result<(), AllocError> {
     let mut table = OpenTransactions::new(rt.alloc());
-    for txn in 1..4 {
-        note(&rt, &mut table, begin(64 * txn as u64, txn))?;
-    }
-    note(&rt, &mut table, update(256, 3, 192, SLOT, ADD))?;
-    note(&rt, &mut table, update(320, 2, 128, SLOT, ADD))?;
-    assert_eq!(rt; holder(&table, SLOT, ChangeKind::Add, 1), None);
-    assert_eq!(rt; holder(&table, SLOT, ChangeKind::Set, 1), Some(2));
-    assert_eq!(rt; holder(&table, SLOT, ChangeKind::Set, 2), Some(3));
-    assert_eq!(rt; holder(&table, SlotNo(4), ChangeKind::Set, 1), None);
-    assert!(rt; !table.may_note(&update(384, 1, 64, SLOT, SET)));
-    note(&rt, &mut table, update(384, 1, 64, SLOT, ADD))?;
-    note(&rt, &mut table, update(448, 1, 384, SlotNo(4), SET))?;
-    assert_eq!(rt; holder(&table, SlotNo(4), ChangeKind::Add, 2), Some(1));
-    assert_eq!(rt; holder(&table, SlotNo(4), ChangeKind::Add, 1), None);
-    // What transaction 3 takes back, it keeps out no more.
-    let undo = Change::Add {
-        amount: 18_446_744_073_709_551_611,
-    };
-    note(&rt, &mut table, comp(512, 3, 256, 192, SLOT, undo))?;
-    assert_eq!(rt; holder(&table, SLOT, ChangeKind::Set, 2), Some(1));
-    // An Abort keeps out what its transaction did, and a Commit does not.
-    note(&rt, &mut table, abort(576, 2, 320))?;
-    note(&rt, &mut table, commit(640, 1, 448))?;
-    assert_eq!(rt; holder(&table, SLOT, ChangeKind::Set, 3), Some(2));
-    assert_eq!(rt; holder(&table, SlotNo(4), ChangeKind::Set, 3), None);
-    note(&rt, &mut table, comp(704, 2, 576, 128, SLOT, undo))?;
-    assert_eq!(rt; holder(&table, SLOT, ChangeKind::Set, 3), None);
-    Ok(())
+    let other = SlotNo(4);
+    let steps = [
+        Step::Note(begin(64, 1)),
+        Step::Note(begin(128, 2)),
+        Step::Note(begin(192, 3)),
+        Step::Note(update(256, 3, 192, SLOT, ADD)),
+        Step::Note(update(320, 2, 128, SLOT, ADD)),
+        Step::Holder(SLOT, ChangeKind::Add, TxnNo(1), None),
+        Step::Holder(SLOT, ChangeKind::Set, TxnNo(1), Some(TxnNo(2))),
+        Step::Holder(SLOT, ChangeKind::Set, TxnNo(2), Some(TxnNo(3))),
+        Step::Holder(other, ChangeKind::Set, TxnNo(1), None),
+        Step::Refused(update(384, 1, 64, SLOT, SET)),
+        Step::Note(update(384, 1, 64, SLOT, ADD)),
+        Step::Note(update(448, 1, 384, other, SET)),
+        Step::Holder(other, ChangeKind::Add, TxnNo(2), Some(TxnNo(1))),
+        Step::Holder(other, ChangeKind::Add, TxnNo(1), None),
+        // What transaction 3 takes back, it keeps out no more.
+        Step::Note(comp(512, 3, 256, 192, SLOT, UNDO_ADD)),
+        Step::Holder(SLOT, ChangeKind::Set, TxnNo(2), Some(TxnNo(1))),
+        // An Abort keeps out what its transaction did, and a Commit does not.
+        Step::Note(abort(576, 2, 320)),
+        Step::Note(commit(640, 1, 448)),
+        Step::Holder(SLOT, ChangeKind::Set, TxnNo(3), Some(TxnNo(2))),
+        Step::Holder(other, ChangeKind::Set, TxnNo(3), None),
+        Step::Note(comp(704, 2, 576, 128, SLOT, UNDO_ADD)),
+        Step::Holder(SLOT, ChangeKind::Set, TxnNo(3), None),
+    ];
+    take(&rt, &mut table, &steps)
 }
 
 /// A transaction that changed a slot twice still keeps it after one compensation.
 #[test]
-fn a_slot_is_kept_until_the_first_change_is_taken_back(rt: HostRuntime) -> Result<(), Fail> {
+fn a_slot_is_kept_until_the_first_change_is_taken_back(rt: HostRuntime) -> Result<(), AllocError> {
     let mut table = OpenTransactions::new(rt.alloc());
-    note(&rt, &mut table, begin(64, 1))?;
-    note(&rt, &mut table, begin(128, 2))?;
-    note(&rt, &mut table, update(192, 1, 64, SLOT, ADD))?;
-    note(&rt, &mut table, update(256, 1, 192, SLOT, SET))?;
-    assert_eq!(rt; holder(&table, SLOT, ChangeKind::Add, 2), Some(1));
-    note(&rt, &mut table, comp(320, 1, 256, 192, SLOT, UNSET))?;
-    assert_eq!(rt; holder(&table, SLOT, ChangeKind::Add, 2), None);
-    assert_eq!(rt; holder(&table, SLOT, ChangeKind::Set, 2), Some(1));
-    Ok(())
+    let steps = [
+        Step::Note(begin(64, 1)),
+        Step::Note(begin(128, 2)),
+        Step::Note(update(192, 1, 64, SLOT, ADD)),
+        Step::Note(update(256, 1, 192, SLOT, SET)),
+        Step::Holder(SLOT, ChangeKind::Add, TxnNo(2), Some(TxnNo(1))),
+        Step::Note(comp(320, 1, 256, 192, SLOT, UNSET)),
+        Step::Holder(SLOT, ChangeKind::Add, TxnNo(2), None),
+        Step::Holder(SLOT, ChangeKind::Set, TxnNo(2), Some(TxnNo(1))),
+    ];
+    take(&rt, &mut table, &steps)
 }
 
 #[test]
-fn seats_are_taken_again(rt: HostRuntime) -> Result<(), Fail> {
+fn seats_are_taken_again(rt: HostRuntime) -> Result<(), AllocError> {
     let mut table = OpenTransactions::new(rt.alloc());
     for txn in 1..65 {
-        note(&rt, &mut table, begin(64 * txn as u64, txn))?;
+        let steps = [Step::Note(begin(64 * txn as u64, txn))];
+        take(&rt, &mut table, &steps)?;
     }
-    assert_eq!(rt; table.open_count(), 64);
-    assert!(rt; !table.may_note(&begin(4160, 65)));
-    note(&rt, &mut table, update(4160, 2, 128, SLOT, SET))?;
-    note(&rt, &mut table, update(4224, 63, 4032, SlotNo(9), SET))?;
-    note(&rt, &mut table, commit(4288, 2, 4160))?;
-    assert!(rt; !table.may_note(&begin(4352, 66)));
-    note(&rt, &mut table, begin(4352, 65))?;
-    note(&rt, &mut table, update(4416, 65, 4352, SLOT, SET))?;
-    assert_eq!(rt; holder(&table, SLOT, ChangeKind::Set, 1), Some(65));
-    assert_eq!(rt; holder(&table, SLOT, ChangeKind::Set, 65), None);
-    assert_eq!(rt; holder(&table, SlotNo(9), ChangeKind::Set, 65), Some(63));
-    assert_eq!(rt; table.next_from(TxnNo(2)).map(|state| state.txn.0), Some(3));
-    assert_eq!(rt;
-        table.next_from(TxnNo(65)).map(|state| state.first.0),
-        Some(4352)
-    );
-    assert_eq!(rt; table.next_from(TxnNo(66)), None);
-    Ok(())
+    let other = SlotNo(9);
+    let reused = TxnState {
+        last: Lsn(4416),
+        pending: 1,
+        ..begun_state(4352, 65)
+    };
+    let steps = [
+        Step::Counts(64, 64, 128),
+        Step::Refused(begin(4160, 65)),
+        Step::Note(update(4160, 2, 128, SLOT, SET)),
+        Step::Note(update(4224, 63, 4032, other, SET)),
+        Step::Note(commit(4288, 2, 4160)),
+        Step::Refused(begin(4352, 66)),
+        Step::Note(begin(4352, 65)),
+        Step::Note(update(4416, 65, 4352, SLOT, SET)),
+        Step::Holder(SLOT, ChangeKind::Set, TxnNo(1), Some(TxnNo(65))),
+        Step::Holder(SLOT, ChangeKind::Set, TxnNo(65), None),
+        Step::Holder(other, ChangeKind::Set, TxnNo(65), Some(TxnNo(63))),
+        Step::Next(2, Some(begun_state(192, 3))),
+        Step::Next(64, Some(begun_state(4096, 64))),
+        Step::Next(65, Some(reused)),
+        Step::Next(66, None),
+    ];
+    take(&rt, &mut table, &steps)
 }

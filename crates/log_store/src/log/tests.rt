@@ -5,14 +5,12 @@ ghost use Rattle.log_records.specs.Log.{StandsAt};
 
 use super::Log;
 use crate::device::{DeviceFault, LogDevice};
-use crate::fault::LogReadFault;
 use crate::faulty_device::FaultyDevice;
 use crate::mem_device::MemDevice;
 use crate::read::read_log;
 use log_records::{Record, encode_header};
 use page_core::{Change, Lsn, PageNo, SlotNo, TxnNo};
 use std::alloc::{AllocError, Global};
-use std::process::Abort;
 use std::test::Fail;
 
 /// Transaction 1 begins.
@@ -70,38 +68,39 @@ fn append_records<D: LogDevice>(log: &mut Log<D>) -> Result<(), AllocError>
     Ok(())
 }
 
-/// Asserts that the first of the records are what a device spells up to an LSN.
-fn assert_forced(
-    rt: &impl Abort,
-    alloc: Global,
-    bytes: &[u8],
-    end: Lsn,
-    count: usize,
-) -> Result<(), LogReadFault> {
+/// A log of one page on a device, with these records in memory.
+fn log_on<D: LogDevice + Drop>(alloc: Global, device: D) -> Result<Log<D>, Fail> {
+    let mut log = Log::new(alloc, 1, device).map_err(|refused| refused.0)?;
+    append_records(&mut log)?;
+    Ok(log)
+}
+
+/// Whether a device spells the first of the records up to an LSN.
+fn has_records(alloc: Global, bytes: &[u8], end: Lsn, count: usize) -> bool {
     let end = end.0 as usize;
-    assert!(rt; end <= bytes.len() && count <= 3);
+    if end > bytes.len() || count > 3 {
+        return false;
+    }
     let mut forced = &bytes[..end];
-    let read = read_log(alloc, &mut forced)?;
-    assert_eq!(rt; read.pages(), 1);
-    assert_eq!(rt; read.records(), &records()[..count]);
-    Ok(())
+    match read_log(alloc, &mut forced) {
+        Ok(read) => read.pages() == 1 && read.records() == &records()[..count],
+        Err(_) => false,
+    }
 }
 
 #[test]
 fn forced_records_are_read(rt: HostRuntime) -> Result<(), Fail> {
     let alloc = rt.alloc();
-    let device = MemDevice::new(alloc, 3)?;
-    let mut log = Log::new(alloc, 1, device).map_err(|refused| refused.0)?;
-    append_records(&mut log)?;
-    log.force_to(Lsn(128))?;
-    assert_eq!(rt; log.forced_end(), Lsn(192));
-    assert_forced(&rt, alloc, log.device().bytes(), Lsn(192), 2)?;
-    assert_eq!(rt; log.device().bytes().len(), 192);
-    log.force()?;
-    assert_eq!(rt; log.forced_end(), log.end());
+    let mut log = log_on(alloc, MemDevice::new(alloc, 3)?)?;
+    let done = log.force_to(Lsn(128));
+    assert_eq!(rt; (done, log.forced_end()), (Ok(()), Lsn(192)));
+    let bytes = log.device().bytes();
+    assert!(rt; bytes.len() == 192 && has_records(alloc, bytes, Lsn(192), 2));
+    let done = log.force();
+    assert_eq!(rt; (done, log.forced_end()), (Ok(()), Lsn(256)));
     let (kept, device) = log.into_parts();
     assert_eq!(rt; kept.as_slice(), records().as_slice());
-    assert_forced(&rt, alloc, device.bytes(), Lsn(256), 3)?;
+    assert!(rt; has_records(alloc, device.bytes(), Lsn(256), 3));
     Ok(())
 }
 
@@ -111,14 +110,17 @@ fn a_call_fails(rt: HostRuntime) -> Result<(), Fail> {
     let alloc = rt.alloc();
     for k in 2..5 {
         let device = FaultyDevice::new(MemDevice::new(alloc, 3)?, k);
-        let mut log = Log::new(alloc, 1, device).map_err(|refused| refused.0)?;
-        append_records(&mut log)?;
-        assert_eq!(rt; log.force(), Err(DeviceFault), "call {k} fails");
-        let end = log.forced_end();
-        assert_eq!(rt; end, Lsn(64 * (k - 1)), "call {k} fails");
-        assert_forced(&rt, alloc, log.device().bytes(), end, k as usize - 2)?;
-        log.force()?;
-        assert_forced(&rt, alloc, log.device().bytes(), log.end(), 3)?;
+        let mut log = log_on(alloc, device)?;
+        let end = Lsn(64 * (k - 1));
+        let done = log.force();
+        assert_eq!(rt;
+            (done, log.forced_end()),
+            (Err(DeviceFault), end),
+            "call {k} fails"
+        );
+        assert!(rt; has_records(alloc, log.device().bytes(), end, k as usize - 2));
+        assert_eq!(rt; log.force(), Ok(()));
+        assert!(rt; has_records(alloc, log.device().bytes(), Lsn(256), 3));
     }
     Ok(())
 }
@@ -128,37 +130,34 @@ fn the_header_is_stored_again(rt: HostRuntime) -> Result<(), Fail> {
     let alloc = rt.alloc();
     let device = FaultyDevice::new(MemDevice::new(alloc, 3)?, 1);
     let (fault, device) = Log::new(alloc, 1, device).err().ok_or("call 1 fails")?;
-    assert_eq!(rt; fault, DeviceFault);
-    assert_eq!(rt; device.bytes().len(), 0);
-    let mut log = Log::new(alloc, 1, device).map_err(|refused| refused.0)?;
-    assert_forced(&rt, alloc, log.device().bytes(), Lsn(64), 0)?;
-    append_records(&mut log)?;
-    log.force()?;
-    assert_forced(&rt, alloc, log.device().bytes(), Lsn(256), 3)?;
+    assert_eq!(rt; (fault, device.bytes().len()), (DeviceFault, 0));
+    let mut log = log_on(alloc, device)?;
+    assert!(rt; has_records(alloc, log.device().bytes(), Lsn(64), 0));
+    assert_eq!(rt; log.force(), Ok(()));
+    assert!(rt; has_records(alloc, log.device().bytes(), Lsn(256), 3));
     Ok(())
+}
+
+/// Whether a log has the three records, and nothing between them.
+fn finds_records(log: &Log<MemDevice>) -> bool {
+    let [first, second, third] = records();
+    log.get(Lsn(64)) == Some(first)
+        && log.get(Lsn(128)) == Some(second)
+        && log.get(Lsn(192)) == Some(third)
+        && [0, 1, 65, 256, u64::MAX]
+            .iter()
+            .all(|lsn| log.get(Lsn(*lsn)).is_none())
 }
 
 #[test]
 fn records_are_found(rt: HostRuntime) -> Result<(), Fail> {
     let alloc = rt.alloc();
-    let device = MemDevice::new(alloc, 0)?;
-    let mut log = Log::new(alloc, 1, device).map_err(|refused| refused.0)?;
-    append_records(&mut log)?;
-    for (lsn, want) in [
-        (0, None),
-        (1, None),
-        (64, Some(begin())),
-        (65, None),
-        (128, Some(update())),
-        (192, Some(commit())),
-        (256, None),
-        (u64::MAX, None),
-    ] {
-        assert_eq!(rt; log.get(Lsn(lsn)), want, "at {lsn}");
-    }
-    assert_eq!(rt; log.end(), Lsn(256));
-    assert_eq!(rt; log.forced_end(), Lsn(64));
-    assert_eq!(rt; log.pages(), 1);
+    let log = log_on(alloc, MemDevice::new(alloc, 0)?)?;
+    assert!(rt; finds_records(&log));
+    assert_eq!(rt;
+        (log.forced_end(), log.end(), log.pages()),
+        (Lsn(64), Lsn(256), 1)
+    );
     assert_eq!(rt; log.records(), records().as_slice());
     Ok(())
 }
