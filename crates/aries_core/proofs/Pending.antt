@@ -6,7 +6,7 @@ use Rattle.std.proofs.lemmas.List.Elements.{All-filter, All-get_or, All-head, Al
 use Rattle.std.proofs.lemmas.Option.{get_or_from_slice_get, slice_get_within}
 use Rattle.log_history.specs.declared.pending_change.PendingChange.{PendingChange}
 use Rattle.log_records.specs.declared.record.Record.{Record}
-use Rattle.log_records.specs.declared.record.Record.TheVariants.{Begin, Update, Comp, Commit, Abort, End}
+use Rattle.log_records.specs.declared.record.Record.TheVariants.{Begin, Update, Comp, Commit, Abort, End, BeginChkpt, ChkptPages, ChkptTxns, EndChkpt}
 use Rattle.log_records.specs.Log.{IsLog, IsWithin, Log, lsn_of}
 use Rattle.log_records.specs.Record.{IsBefore, IsPageChange, IsRecord, own_lsn}
 use Rattle.log_history.specs.Transactions.{last_of, pending, pending_from, records_of, txn_of, with_pending}
@@ -90,6 +90,10 @@ is_noted pages at (Comp lsn txn prev undo_next page slot change) stands = tt
 is_noted pages at (Commit lsn txn prev) stands = tt
 is_noted pages at (Abort lsn txn prev) stands = tt
 is_noted pages at (End lsn txn prev) stands = tt
+is_noted pages at (BeginChkpt lsn) stands = tt
+is_noted pages at (ChkptPages lsn begin entries) stands = tt
+is_noted pages at (ChkptTxns lsn begin txn state last undo) stands = tt
+is_noted pages at (EndChkpt lsn begin redo) stands = tt
 
 pub all_pending : (log : Log) (t : ℕ) → IsLog log
     → All (IsPending log.pages (lsn_of (length log.records))) (pending log.records t)
