@@ -28,6 +28,10 @@ All-with_pending Q changes (Begin lsn txn) all new = all
 All-with_pending Q changes (Commit lsn txn prev) all new = all
 All-with_pending Q changes (Abort lsn txn prev) all new = all
 All-with_pending Q changes (End lsn txn prev) all new = all
+All-with_pending Q changes (BeginChkpt lsn) all new = all
+All-with_pending Q changes (ChkptPages lsn begin entries) all new = all
+All-with_pending Q changes (ChkptTxns lsn begin txn state last undo) all new = all
+All-with_pending Q changes (EndChkpt lsn begin redo) all new = all
 
 All-pending_from : (Q : PendingChange → Type 0) (changes : List PendingChange) (rs : List Record) → All Q changes
     → All (λ r. IfSome (noted r) Q) rs → All Q (pending_from changes rs)
