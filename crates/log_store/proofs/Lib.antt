@@ -1,3 +1,4 @@
+pub mod AdderSets
 pub mod Begun
 pub mod Chains
 pub mod Changes
@@ -22,8 +23,10 @@ pub mod Room
 pub mod Rows
 pub mod Scans
 pub mod Settled
+pub mod SlotMarks
 pub mod Slots
 pub mod Steps
+pub mod Taken
 pub mod Tracked
 pub mod Undone
 pub mod WrittenLogs

@@ -1,3 +1,4 @@
+pub mod Adders
 pub mod Checked
 pub mod Claims
 pub mod Committed
@@ -11,11 +12,14 @@ pub mod History
 pub mod Image
 pub mod Linked
 pub mod Log
+pub mod Mark
+pub mod Marks
 pub mod MemDevice
 pub mod OpenEntry
 pub mod OpenTransactions
 pub mod Record
 pub mod Scan
+pub mod SeatSet
 pub mod Table
 pub mod Transactions
 pub mod Turn

@@ -2,6 +2,7 @@
 //! is written.
 #![tactic(auto)]
 
+mod adders;
 mod claims;
 mod codec;
 mod device;
@@ -16,6 +17,8 @@ mod laws;
 mod limits;
 mod log;
 mod log_image;
+mod mark;
+mod marks;
 mod mem_device;
 mod open_entry;
 mod open_list;

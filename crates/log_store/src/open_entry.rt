@@ -1,8 +1,8 @@
 //! One open transaction: its numbers, and its pending changes as a stack.
 
-ghost use Rattle.std.specs.Prelude.{◌≡◌, ◌<◌, ◌++◌, ◌∷◌, ◌↔◌, [], IsTrue, OnOk, OnErr, false};
+ghost use Rattle.std.specs.Prelude.{◌≡◌, ◌<◌, ◌↔◌, [], IfOk, IsTrue, OnErr, false};
 ghost use Rattle.log_store.specs.Linked.{Compensates};
-ghost use Rattle.log_store.specs.OpenEntry.{IsHeld, KeepsOtherSeats, changes_of};
+ghost use Rattle.log_store.specs.OpenEntry.{IsHeld, KeepsOtherSeats, Pushes, changes_of};
 ghost use Rattle.log_store.specs.Transactions.{without_last};
 
 use crate::claims::{Claims, Hold};
@@ -33,32 +33,29 @@ pub struct OpenEntry {
     pub pending: Vec<Pending>,
 }
 
-/// Adds a pending change, and says what it keeps out. An `Err` changes nothing.
+/// Adds a pending change and takes its slot, unless another transaction keeps it out. Answers
+/// whether it did. An `Err` changes nothing.
 fn push_pending(
     pending: &mut Vec<Pending>,
     claims: &mut Claims,
     seat: u8,
     change: PendingChange,
-) -> Result<(), AllocError>
+) -> Result<bool, AllocError>
     requires seat { seat < SEATS }
     requires held { IsHeld claims.old seat pending.old.items }
-    ensures ok { OnOk result
-        (changes_of pending.new.items ≡ changes_of pending.old.items ++ change ∷ []) }
+    ensures ok { IfOk result (Pushes claims.old pending.old.items pending.new.items seat change) }
     ensures err { OnErr result (pending.new.items ≡ pending.old.items) }
     ensures held { IsHeld claims.new seat pending.new.items }
     ensures others { KeepsOtherSeats seat claims.old claims.new }
 {
-    let claim = claims.claim(change.page, change.slot);
-    let before = claim.hold(seat);
-    pending.push(Pending { change, before })?;
-    let hold = before.with(change.change.kind());
-    match claims.set_hold(change.page, change.slot, claim, seat, hold) {
-        Ok(()) => Ok(()),
-        Err(error) => {
-            let _ = pending.pop();
-            Err(error)
-        }
-    }
+    // With room for it, the push cannot fail.
+    pending.reserve(1)?;
+    let kind = change.change.kind();
+    let Some(before) = claims.take(change.page, change.slot, seat, kind)? else {
+        return Ok(false);
+    };
+    let _ = pending.push(Pending { change, before });
+    Ok(true)
 }
 
 /// Takes the last pending change away, and what it kept out.
@@ -71,8 +68,7 @@ fn pop_pending(pending: &mut Vec<Pending>, claims: &mut Claims, seat: u8)
 {
     if let Some(last) = pending.pop() {
         let change = last.change;
-        let claim = claims.claim(change.page, change.slot);
-        let _ = claims.set_hold(change.page, change.slot, claim, seat, last.before);
+        claims.release(change.page, change.slot, seat, last.before);
     }
 }
 
@@ -91,26 +87,26 @@ fn drain_pending(pending: &mut Vec<Pending>, claims: &mut Claims, seat: u8)
 
 impl OpenEntry {
     ghost use Rattle.std.specs.Prelude.{min, true};
-    ghost use Rattle.log_store.specs.OpenEntry.{KeepsSeat, entry_view};
+    ghost use Rattle.log_store.specs.OpenEntry.{KeepsSeat, Updates, entry_view};
     ghost use Rattle.log_store.specs.TxnState.{state_of};
     ghost use Rattle.log_store.specs.Table.{owed_by_entry};
     ghost use Rattle.log_store.specs.Transactions.{last_of};
 
-    /// The transaction makes a change: its Update has this change's LSN. An `Err` changes nothing.
-    pub fn update(&mut self, claims: &mut Claims, change: PendingChange) -> Result<(), AllocError>
+    /// The transaction makes a change, unless another one keeps it out: its Update has this
+    /// change's LSN. Answers whether it did. An `Err` changes nothing.
+    pub fn update(&mut self, claims: &mut Claims, change: PendingChange) -> Result<bool, AllocError>
         requires seat { self.old.seat < SEATS }
         requires held { IsHeld claims.old self.old.seat self.old.pending.items }
-        ensures ok { OnOk result (entry_view self.new ≡ record (entry_view self.old) {
-          last = change.lsn;
-          pending = (entry_view self.old).pending ++ change ∷ [];
-        }) }
+        ensures ok { IfOk result (Updates claims.old self.old self.new change) }
         ensures err { OnErr result (entry_view self.new ≡ entry_view self.old) }
         ensures kept { KeepsSeat self.old self.new claims.old claims.new }
     {
         let lsn = change.lsn;
-        push_pending(&mut self.pending, claims, self.seat, change)?;
-        self.last = lsn;
-        Ok(())
+        let may = push_pending(&mut self.pending, claims, self.seat, change)?;
+        if may {
+            self.last = lsn;
+        }
+        Ok(may)
     }
 
     /// The transaction takes its last pending change back, by a compensation record of this LSN.

@@ -3,7 +3,7 @@
 ghost use Rattle.std.specs.Prelude.{ℕ, ◌≡◌, ◌<◌, ◌==◌, ◌&&◌, not, false, length, min, nat_le};
 ghost use Rattle.std.specs.List.{All, find, list_any, position, sum_by};
 ghost use Rattle.std.specs.Option.{option_map};
-ghost use Rattle.log_store.specs.Claims.{has_seat};
+ghost use Rattle.log_store.specs.SeatSet.{has_seat};
 ghost use Rattle.log_store.specs.OpenEntry.{entry_view};
 ghost use Rattle.log_store.specs.Table.{owed_by_entry};
 ghost use Rattle.log_store.specs.declared.limits.TheConstants.{MAX_OPEN};

@@ -260,7 +260,8 @@ impl OpenTransactions {
         match place_of(&self.entries, txn) {
             Some(place) => {
                 let entry = &mut self.entries[place];
-                entry.update(&mut self.claims, change)
+                entry.update(&mut self.claims, change)?;
+                Ok(())
             }
             None => Ok(()),
         }

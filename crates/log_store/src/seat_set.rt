@@ -1,7 +1,7 @@
 //! Sets of seats: each open transaction has a seat, and no two have the same.
 
-ghost use Rattle.std.specs.Prelude.{ℕ, ◌≡◌, ◌<◌, ◌==◌, ◌↔◌, IsTrue, if◌then◌else◌};
-ghost use Rattle.log_store.specs.Claims.{has_seat, no_seats};
+ghost use Rattle.std.specs.Prelude.{ℕ, ◌≡◌, ◌<◌, ◌==◌, ◌↔◌, IsFalse, IsTrue, if◌then◌else◌};
+ghost use Rattle.log_store.specs.SeatSet.{HasSome, has_seat, no_seats, only};
 
 /// How many seats there are: one for each transaction that may be open.
 pub const SEATS: u8 = 64;
@@ -20,9 +20,18 @@ impl SeatSet {
         SeatSet { bits: 0 }
     }
 
+    /// The set of one seat.
+    pub fn only(seat: u8) -> SeatSet
+        requires { seat < SEATS }
+        ensures { result ≡ only seat }
+    {
+        SeatSet { bits: 1 << seat }
+    }
+
     /// The set has no seat.
     pub fn is_empty(self) -> bool
-        ensures { IsTrue result ↔ (self ≡ no_seats) }
+        ensures empty { IsTrue result ↔ (self ≡ no_seats) }
+        ensures some { IsFalse result → HasSome self }
     {
         self.bits == 0
     }

@@ -2,7 +2,7 @@ use Rattle.std.proofs.Common.{Bool, Some, ◌∙◌, ◌&&◌, not, eqb, ap, sym
 use Rattle.std.proofs.lemmas.Bool.{and_right}
 use Rattle.std.specs.Option.{option_map}
 use Rattle.log_store.specs.declared.open_entry.OpenEntry.{OpenEntry}
-use Rattle.log_store.specs.Claims.{has_seat}
+use Rattle.log_store.specs.SeatSet.{has_seat}
 use Rattle.log_store.proofs.Firsts.{find-first, find-more, find-none}
 use Rattle.log_store.proofs.Holds.{has_seat-no_seats}
 use Rattle.log_store.proofs.open_list.first_other.Goals as goal

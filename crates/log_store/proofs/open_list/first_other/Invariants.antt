@@ -1,6 +1,6 @@
 use Rattle.std.proofs.Common.{◌≡◌, ◌&&◌, not, eqb, take, None}
 use Rattle.std.specs.List.{find}
-use Rattle.log_store.specs.Claims.{has_seat}
+use Rattle.log_store.specs.SeatSet.{has_seat}
 use Rattle.log_store.proofs.open_list.first_other.Given as goal
 
 abbrev pub invariant-loop-entry : goal.invariant-loop-entry

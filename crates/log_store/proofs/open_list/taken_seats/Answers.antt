@@ -1,5 +1,5 @@
 use Rattle.std.proofs.Common.{◌∙◌, ap}
-use Rattle.log_store.specs.Claims.{has_seat}
+use Rattle.log_store.specs.SeatSet.{has_seat}
 use Rattle.log_store.proofs.Holds.{has_seat-no_seats}
 use Rattle.log_store.proofs.open_list.taken_seats.Goals as goal
 

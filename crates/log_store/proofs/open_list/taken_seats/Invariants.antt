@@ -1,7 +1,7 @@
 use Rattle.std.proofs.Common.{ℕ, ◌≡◌, ◌<◌, eqb, take}
 use Rattle.std.specs.List.{list_any}
 use Rattle.log_store.specs.declared.seat_set.TheConstants.{SEATS}
-use Rattle.log_store.specs.Claims.{has_seat}
+use Rattle.log_store.specs.SeatSet.{has_seat}
 use Rattle.log_store.proofs.open_list.taken_seats.Given as goal
 
 abbrev pub invariant-loop-entry : goal.invariant-loop-entry

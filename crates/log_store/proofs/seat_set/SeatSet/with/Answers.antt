@@ -1,5 +1,5 @@
 use Rattle.std.proofs.Common.{◌∙◌, ap, cond, eqb, sym}
-use Rattle.log_store.specs.Claims.{has_seat}
+use Rattle.log_store.specs.SeatSet.{has_seat}
 use Rattle.log_store.proofs.Holds.{with_bit, without_bit}
 use Rattle.log_store.proofs.seat_set.SeatSet.with.Goals as goal
 
