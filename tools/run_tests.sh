@@ -61,9 +61,9 @@ run_checks() {
     check memory "$program" python3 rustc -- refuse_memory examples/memory.py "$program"
     check faults "$program" python3 -- python3 examples/faults.py "$program"
     if "$uses_rt"; then
-        check read_log_memory "$program" rt python3 rustc -- refuse_memory examples/read_log_memory.py
+        check library_memory "$program" rt python3 rustc -- refuse_memory examples/library_memory.py
     else
-        skip read_log_memory "it has rt prove a program of its own"
+        skip library_memory "it has rt prove programs of its own"
     fi
 }
 

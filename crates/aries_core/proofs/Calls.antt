@@ -3,8 +3,8 @@ use Rattle.std.proofs.Common.{◌≡◌, ◌++◌, List, [], ◌∷◌, ap, sym,
 use Rattle.std.specs.Prelude.{Result}
 use Rattle.std.specs.Option.{option_to_list}
 use Rattle.std.proofs.lemmas.List.{append-nil, append_assoc}
-use Rattle.log_store.specs.Work.{Call, work}
-use Rattle.log_store.proofs.Pushes.{work_push}
+use Rattle.log_history.specs.Work.{Call, work}
+use Rattle.log_history.proofs.Pushes.{work_push}
 use Rattle.aries_core.specs.declared.event.Answer.{Answer}
 use Rattle.aries_core.specs.declared.event.Event.{Event}
 use Rattle.aries_core.specs.declared.refusal.Refusal.{Refusal}

@@ -1,39 +1,64 @@
 -- Each engine is fit: a new one, and one after a step.
-use Rattle.std.proofs.Common.{ℕ, ◌+◌, ◌<◌, ◌≤◌, ◌++◌, List, [], ◌∷◌, length, take, refl, sym, subst, arith, inl, inr}
-use Rattle.std.specs.Prelude.{Result}
+use Rattle.std.proofs.Common.{◌≡◌, ℕ, zero, suc, get_or, replicate, ◌+◌, ◌<◌, ◌≤◌, ◌++◌, List, [], ◌∷◌, length, take, refl, sym, ◌⊎◌, ◌∙◌, subst, arith, inl, inr}
+use Rattle.std.specs.Prelude.{Option, Result, None}
+use Rattle.std.proofs.lemmas.List.FromFn.{get_or-map-range_with_len, length-map-range_with_len}
+use Rattle.page_core.specs.declared.page.Page.{Page}
+use Rattle.page_core.specs.Page.{formatted}
+use Rattle.page_core.specs.Volume.{formatted_pages}
+use Rattle.log_records.proofs.Stored.{stored_later}
 use Rattle.std.specs.List.{All}
 use Rattle.std.proofs.lemmas.Bool.{cases_lt}
-use Rattle.std.proofs.lemmas.List.{length_push, take-append-le, take_all}
+use Rattle.std.proofs.lemmas.List.{append-nil, length-replicate, length_push, take-append-le, take_all}
 use Rattle.std.proofs.lemmas.List.Elements.{All-head, All-tail}
-use Rattle.log_store.specs.declared.limits.TheConstants.{MAX_RECORDS}
-use Rattle.log_store.specs.declared.record.Record.{Record}
-use Rattle.log_store.specs.Log.{IsPageCount}
-use Rattle.log_store.specs.Transactions.{owed}
-use Rattle.log_store.proofs.Histories.{linked_none, linked_push}
+use Rattle.log_records.specs.declared.limits.TheConstants.{MAX_RECORDS}
+use Rattle.log_records.specs.declared.record.Record.{Record}
+use Rattle.log_records.specs.Log.{IsPageCount}
+use Rattle.log_history.specs.Transactions.{owed}
+use Rattle.log_history.proofs.Histories.{linked_none, linked_push}
 use Rattle.log_store.proofs.Scans.{valid_next}
 use Rattle.aries_core.specs.declared.event.Answer.{Answer}
 use Rattle.aries_core.specs.declared.event.Event.{Event}
 use Rattle.aries_core.specs.declared.refusal.Refusal.{Refusal}
 use Rattle.aries_core.specs.Call.{Calls}
-use Rattle.aries_core.specs.EngineState.{EngineState, IsFit, appended, new_state}
+use Rattle.aries_core.specs.EngineState.{EngineState, IsFit, appended, log_of, new_state}
 use Rattle.aries_core.specs.EventFits.{EventFits}
 use Rattle.aries_core.specs.Run.{Run}
 use Rattle.aries_core.specs.Step.{Step}
 use Rattle.aries_core.proofs.Follows.{follows}
-use Rattle.aries_core.proofs.Forces.{EndsAtRecord, forces}
+use Rattle.aries_core.proofs.Forces.{EndsAtRecord, Forces, forces}
 use Rattle.aries_core.proofs.Rooms.{room_grows}
-use Rattle.aries_core.proofs.Stands.{log_of, stands}
+use Rattle.aries_core.proofs.Stands.{stands}
 use Rattle.aries_core.proofs.Steps.{Grows, Stays, stays_or_grows}
+use Rattle.aries_core.proofs.Writes.{GoesOn, PagesFit, page_step, pages_fit}
 
 -- ---- after a step
 
+-- how the log goes on
+goes_on : (old : EngineState) (event : Event) (reply : Result Answer Refusal) (new : EngineState) → Forces old new
+    → Stays old event reply new ⊎ Grows old event reply new → GoesOn old new
+goes_on old event reply new forces (inl stays) = record {
+  pages = stays.pages;
+  rest = [];
+  log = stays.log ∙ sym (append-nil old.log);
+  no_less = forces.no_less;
+}
+goes_on old event reply new forces (inr grows) = record {
+  pages = grows.pages;
+  rest = grows.r ∷ [];
+  log = grows.log;
+  no_less = forces.no_less;
+}
+
 fit_stays : (old : EngineState) (event : Event) (reply : Result Answer Refusal) (new : EngineState) → IsFit old
-    → EndsAtRecord new → Stays old event reply new → IsFit new
-fit_stays old event reply new fit forced stays = record {
+    → EndsAtRecord new → PagesFit new → Stays old event reply new → IsFit new
+fit_stays old event reply new fit forced pages stays = record {
   valid = rw (stays.pages, stays.log) fit.valid;
   linked = rw stays.log fit.linked;
   room = rw stays.log fit.room;
   forced = forced;
+  counted = pages.counted;
+  stored = pages.stored;
+  stable = pages.stable;
 }
 
 room_push : (rs : List Record) (r : Record)
@@ -56,11 +81,18 @@ fit_appended s r fit calls =
       linked = linked_push s.log r fit.linked may;
       room = room_push s.log r fit.room whole;
       forced = (fit.forced.0, omega (arith, fit.forced.1, length_push s.log r), fit.forced.2);
+      counted = record {
+        stored = fit.counted.stored;
+        written = fit.counted.written;
+        writing = fit.counted.writing;
+      };
+      stored = stored_later s.log (r ∷ []) s.stored s.written s.writing fit.stored;
+      stable = record { pages = fit.stable.pages; images = fit.stable.images };
     }
 
 fit_grows : (old : EngineState) (event : Event) (reply : Result Answer Refusal) (new : EngineState) → IsFit old
-    → EventFits event → EndsAtRecord new → Grows old event reply new → IsFit new
-fit_grows old event reply new fit numbers forced grows =
+    → EventFits event → EndsAtRecord new → PagesFit new → Grows old event reply new → IsFit new
+fit_grows old event reply new fit numbers forced pages grows =
     let r = grows.r in
     let may = follows old event r grows.accepted grows.made in
     let whole = room_grows old event r fit grows.accepted grows.made in
@@ -71,15 +103,21 @@ fit_grows old event reply new fit numbers forced grows =
       linked = rw grows.log (linked_push old.log r fit.linked may);
       room = rw grows.log (room_push old.log r fit.room whole);
       forced = forced;
+      counted = pages.counted;
+      stored = pages.stored;
+      stable = pages.stable;
     }
 
 pub fit_of_step : (old : EngineState) (event : Event) (reply : Result Answer Refusal) (new : EngineState) → IsFit old
     → EventFits event → Step old event reply new → IsFit new
 fit_of_step old event reply new fit numbers step =
-    let forced = (forces old event reply new fit.forced step).at_record in
-    elim (stays_or_grows old event reply new step) [
-      | inl stays ↦ fit_stays old event reply new fit forced stays
-      | inr grows ↦ fit_grows old event reply new fit numbers forced grows
+    let forces = forces old event reply new fit.forced step in
+    let kind = stays_or_grows old event reply new step in
+    let goes = goes_on old event reply new forces kind in
+    let pages = pages_fit old new fit goes (page_step old event reply new step) in
+    elim kind [
+      | inl stays ↦ fit_stays old event reply new fit forces.at_record pages stays
+      | inr grows ↦ fit_grows old event reply new fit numbers forces.at_record pages grows
     ]
 
 pub fit_of_run : (old : EngineState) (events : List Event) (replies : List (Result Answer Refusal)) (new : EngineState)
@@ -94,12 +132,45 @@ fit_of_run old (event ∷ events) [] new fit numbers run = absurd run
 
 -- ---- a new engine
 
+formatted_at : (pages p : ℕ) (d : Page) → p < pages → get_or (formatted_pages pages) p d ≡ formatted p
+formatted_at pages p d lt = get_or-map-range_with_len formatted 0 pages p p d lt (omega arith)
+
+lsn_of_formatted : (p : ℕ) → (formatted p).lsn ≡ 0
+unfolding formatted
+lsn_of_formatted p = refl
+
+get_or-replicate : {X : Type 0} (n : ℕ) (x : X) (i : ℕ) → get_or (replicate n x) i x ≡ x
+get_or-replicate zero x i = refl
+get_or-replicate (suc n) x zero = refl
+get_or-replicate (suc n) x (suc i) = get_or-replicate n x i
+
 pub new_is_fit : (pages : ℕ) → IsPageCount pages → IsFit (new_state pages)
 new_is_fit pages count = record {
   valid = record { pages = count; count = omega arith; records = λ i d lt. absurd (omega arith) };
   linked = linked_none;
   room = room_of_none;
   forced = (0, omega arith, refl);
+  counted = record {
+    stored = length-map-range_with_len formatted 0 pages;
+    written = length-replicate pages 0;
+    writing = length-replicate pages None;
+  };
+  stored = record {
+    pages = λ p d lt.
+        let page = formatted_at pages p d (omega (arith, length-map-range_with_len formatted 0 pages)) in
+        rw (page, get_or-replicate {X = ℕ} pages 0 p)
+        (record {
+          past = record { count = 0; within = omega arith; made = refl };
+          reached = omega (arith, lsn_of_formatted p);
+        });
+    images = λ p d lt. rw (get_or-replicate {X = Option Page} pages None p) tt;
+  };
+  stable = record {
+    pages = λ p d lt.
+        let page = formatted_at pages p d (omega (arith, length-map-range_with_len formatted 0 pages)) in
+        rw page (omega (arith, lsn_of_formatted p));
+    images = λ p. rw (get_or-replicate {X = Option Page} pages None p) tt;
+  };
 }
   where
     room_of_none : (n : ℕ) → n ≤ 0

@@ -4,11 +4,11 @@ use Rattle.std.specs.Prelude.{Option, Some, None}
 use Rattle.std.proofs.lemmas.Option.{same_Some, slice_get-get_or}
 use Rattle.page_core.specs.declared.change.Change.TheVariants.{Set, Add}
 use Rattle.page_core.specs.declared.change.ChangeKind.TheVariants as kind
-use Rattle.log_store.specs.declared.pending_change.PendingChange.{PendingChange}
-use Rattle.log_store.specs.declared.record.Record.{Record}
-use Rattle.log_store.specs.declared.record.Record.TheVariants as log
-use Rattle.log_store.specs.Linked.{GoesOn, IsActive, MayFollow, number_in}
-use Rattle.log_store.specs.Transactions.{holder, last_lsn, last_of, pending}
+use Rattle.log_history.specs.declared.pending_change.PendingChange.{PendingChange}
+use Rattle.log_records.specs.declared.record.Record.{Record}
+use Rattle.log_records.specs.declared.record.Record.TheVariants as log
+use Rattle.log_history.specs.Linked.{GoesOn, IsActive, MayFollow, number_in}
+use Rattle.log_history.specs.Transactions.{holder, last_lsn, last_of, pending}
 use Rattle.aries_core.specs.declared.event.Event.{Event}
 use Rattle.aries_core.specs.declared.event.Event.TheVariants as event
 use Rattle.aries_core.specs.EngineState.{EngineState, abort_record, commit_record, comp_record, end, end_record, next_txn, update_record}
@@ -90,3 +90,5 @@ follows s (event.UndoStep txn) r none made =
     let rolls = undo_passes s txn none in
     undo_has (MayFollow s.log) s txn r made (λ p last. comp_follows s txn p rolls last) (end_follows s txn rolls)
 follows s event.Force r none made = absurd (cc)
+follows s (event.WriteBegin page) r none made = absurd (cc)
+follows s (event.WriteEnd page) r none made = absurd (cc)

@@ -1,18 +1,22 @@
 -- How much of the log is forced after a step.
-use Rattle.std.proofs.Common.{◌≡◌, ℕ, ◌<◌, ◌≤◌, length, refl, sym, subst, arith, inl, inr}
+use Rattle.std.proofs.Common.{◌≡◌, ℕ, ◌<◌, ◌≤◌, ◌/◌, min, length, refl, sym, subst, arith, inl, inr}
 use Rattle.std.specs.Prelude.{Result, Ok, Err, Option, Some, None}
+use Rattle.std.proofs.lemmas.Bool.{cases_lt}
 use Rattle.std.proofs.lemmas.List.{length_push}
-use Rattle.log_store.specs.declared.pending_change.PendingChange.{PendingChange}
-use Rattle.log_store.specs.declared.record.Record.{Record}
-use Rattle.log_store.specs.Log.{lsn_of}
-use Rattle.log_store.specs.Transactions.{last_of, pending}
+use Rattle.page_core.specs.declared.page.Page.{Page}
+use Rattle.log_history.specs.declared.pending_change.PendingChange.{PendingChange}
+use Rattle.log_records.specs.declared.record.Record.{Record}
+use Rattle.log_records.specs.Log.{lsn_of}
+use Rattle.log_history.specs.Transactions.{last_of, pending}
+use Rattle.log_store.specs.WrittenLog.{end_up_to}
 use Rattle.aries_core.specs.declared.event.Answer.{Answer}
 use Rattle.aries_core.specs.declared.event.Event.{Event}
 use Rattle.aries_core.specs.declared.event.Event.TheVariants as event
 use Rattle.aries_core.specs.declared.refusal.Refusal.{Refusal}
-use Rattle.aries_core.specs.declared.refusal.Refusal.TheVariants.{OutOfMemory, LogFault, CommitUnsure}
-use Rattle.aries_core.specs.EngineState.{EngineState, appended, commit_record, comp_record, effect, end, end_record, forced_to}
+use Rattle.aries_core.specs.declared.refusal.Refusal.TheVariants.{OutOfMemory, StoreFault, LogFault, CommitUnsure}
+use Rattle.aries_core.specs.EngineState.{EngineState, appended, commit_record, comp_record, effect, end, end_record, forced_through, forced_to, image_of, log_of, page_now}
 use Rattle.aries_core.specs.Step.{Fails, ForcedPart, Step}
+use Rattle.aries_core.proofs.Steps.{stored_or_not}
 
 -- the forced end is the LSN of a record, or of the log's end
 abbrev pub EndsAtRecord : EngineState → Type 0
@@ -33,14 +37,28 @@ appended_forces old r (k, le, e) =
 all_forces : (old : EngineState) → EndsAtRecord old → Forces old (forced_to old (end old))
 all_forces old (k, le, e) = record { at_record = (length old.log, omega arith, refl); no_less = omega arith }
 
-part_forces : (old new : EngineState) → ForcedPart old new → Forces old new
-part_forces old new part =
+part_forces : (old new : EngineState) (target : ℕ) → target ≤ end old → ForcedPart target old new → Forces old new
+part_forces old new target within part =
     let k = part.reached.0 in
-    let lt : k < length old.log = part.reached.1 in
+    let lt : k < length old.log = omega (arith, part.reached.1, within) in
     record {
       at_record = subst EndsAtRecord (sym part.reached.2) (k, omega arith, refl);
       no_less = part.no_less;
     }
+
+-- up to an LSN, but not past the log's end
+pub up_to_is_record : (s : EngineState) (lsn : ℕ) → end_up_to (log_of s) lsn ≤ end s
+up_to_is_record s lsn = omega arith
+
+through_forces : (old : EngineState) (lsn : ℕ) → EndsAtRecord old → Forces old (forced_through old lsn)
+through_forces old lsn (k, le, e) = elim (cases_lt old.forced_end (end_up_to (log_of old) lsn)) [
+  | inl lt ↦
+      record {
+        at_record = (min (lsn / 64) (length old.log), omega arith, omega arith);
+        no_less = omega arith;
+      }
+  | inr past ↦ record { at_record = (k, le, omega arith); no_less = omega arith }
+]
 
 -- one after the other
 both_force : (old mid new : EngineState) → Forces old mid → Forces mid new → Forces old new
@@ -60,6 +78,11 @@ undo_forces : (old : EngineState) (txn : ℕ) (o : Option PendingChange) → las
 undo_forces old txn None o ends = rw o (appended_forces old (end_record old txn) ends)
 undo_forces old txn (Some p) o ends = rw o (appended_forces old (comp_record old txn p) ends)
 
+write_end_forces : (old : EngineState) (page : ℕ) (o : Option Page) → image_of old page ≡ o → EndsAtRecord old
+    → Forces old (effect old (event.WriteEnd page)).state
+write_end_forces old page None o ends = rw o (same_forces old ends)
+write_end_forces old page (Some image) o ends = rw o (record { at_record = ends; no_less = omega arith })
+
 effect_forces : (old : EngineState) (event : Event) → EndsAtRecord old → Forces old (effect old event).state
 effect_forces old event.Begin ends = appended_forces old _ ends
 effect_forces old (event.Set txn page slot number) ends = appended_forces old _ ends
@@ -69,13 +92,23 @@ effect_forces old (event.Commit txn) ends = commit_forces old txn ends
 effect_forces old (event.Abort txn) ends = appended_forces old _ ends
 effect_forces old (event.UndoStep txn) ends = undo_forces old txn (last_of (pending old.log txn)) refl ends
 effect_forces old event.Force ends = all_forces old ends
+effect_forces old (event.WriteBegin page) ends =
+    let through = through_forces old (page_now old page).lsn ends in
+    record { at_record = through.at_record; no_less = through.no_less }
+effect_forces old (event.WriteEnd page) ends = write_end_forces old page (image_of old page) refl ends
 
 failed_forces : (old : EngineState) (event : Event) (why : Refusal) (new : EngineState) → EndsAtRecord old
     → Fails old event why new → Forces old new
 failed_forces old event OutOfMemory new ends fails = subst (Forces old) (sym fails.1) (same_forces old ends)
-failed_forces old event.Force LogFault new ends fails = part_forces old new fails
+failed_forces old event.Force LogFault new ends fails = part_forces old new (end old) (omega arith) fails
+failed_forces old (event.WriteBegin page) LogFault new ends fails =
+    part_forces old new _ (up_to_is_record old (page_now old page).lsn) fails
+failed_forces old (event.WriteEnd page) StoreFault new ends fails = elim (stored_or_not old page new fails) [
+  | inl same ↦ subst (Forces old) (sym same) (same_forces old ends)
+  | inr stored ↦ subst (Forces old) (sym stored.2) (record { at_record = ends; no_less = omega arith })
+]
 failed_forces old (event.Commit txn) (CommitUnsure lsn) new ends fails =
-    both_force old (appended old (commit_record old txn)) new (appended_forces old _ ends) (part_forces _ new fails.1)
+    both_force old (appended old (commit_record old txn)) new (appended_forces old _ ends) (part_forces _ new _ (omega arith) fails.1)
 failed_forces old event why new ends fails = absurd fails
 
 pub forces : (old : EngineState) (event : Event) (reply : Result Answer Refusal) (new : EngineState) → EndsAtRecord old

@@ -8,11 +8,12 @@ use Rattle.std.proofs.lemmas.Bool.{le-ltb, lt-leb, lt-ltb}
 use Rattle.std.proofs.lemmas.List.{length_push}
 use Rattle.page_core.specs.declared.change.Change.TheVariants.{Add}
 use Rattle.page_core.specs.declared.change.ChangeKind.TheVariants as kind
-use Rattle.log_store.specs.declared.limits.TheConstants.{MAX_OPEN, MAX_RECORDS}
-use Rattle.log_store.specs.Log.{IsPageCount}
-use Rattle.log_store.specs.Transactions.{holder, is_open, is_rolling, keeps_out, last_lsn, least, open_in, owed, owed_by, pending}
-use Rattle.log_store.proofs.Pushes.{is_open_push_own, is_rolling_push, open_in_push_last, open_in_push_same}
-use Rattle.log_store.proofs.Room.{claimed_update}
+use Rattle.log_records.specs.declared.limits.TheConstants.{MAX_OPEN, MAX_RECORDS}
+use Rattle.log_records.specs.Log.{IsPageCount}
+use Rattle.log_history.specs.Transactions.{holder, is_open, is_rolling, keeps_out, last_lsn, open_in, owed, owed_by, pending}
+use Rattle.log_records.specs.Least.{least}
+use Rattle.log_history.proofs.Pushes.{is_open_push_own, is_rolling_push, open_in_push_last, open_in_push_same}
+use Rattle.log_history.proofs.Room.{claimed_update}
 use Rattle.aries_core.specs.declared.event.Event.{Event}
 use Rattle.aries_core.specs.declared.event.Event.TheVariants as event
 use Rattle.aries_core.specs.declared.refusal.Refusal.{Refusal}

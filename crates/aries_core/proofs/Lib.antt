@@ -6,8 +6,13 @@ pub mod Forces
 pub mod FullLog
 pub mod Numbers
 pub mod Pending
+pub mod Plays
 pub mod Refusals
 pub mod Rooms
 pub mod Runs
 pub mod Stands
 pub mod Steps
+pub mod Writes
+pub mod PageLaws
+pub mod PoolStates
+pub mod WriteCalls

@@ -9,18 +9,18 @@ use Rattle.std.proofs.lemmas.List.Elements.{All-filter, All-head, All-map, All-r
 use Rattle.page_core.specs.declared.page.Page.{Page}
 use Rattle.page_core.specs.Change.{changed}
 use Rattle.page_core.specs.Page.{formatted}
-use Rattle.log_store.specs.declared.limits.TheConstants.{MAX_RECORDS}
-use Rattle.log_store.specs.declared.page_change.PageChange.{PageChange}
-use Rattle.log_store.specs.declared.record.Record.{Record}
-use Rattle.log_store.specs.declared.record.Record.TheVariants.{Begin}
-use Rattle.log_store.specs.Image.{image_from, with_record}
-use Rattle.log_store.specs.Linked.{IsLinked, number_in}
-use Rattle.log_store.specs.Log.{IsLog, Log, lsn_of}
-use Rattle.log_store.specs.Record.{IsBefore, IsLsn, IsPageChange, IsRecord, IsTxn, own_lsn}
-use Rattle.log_store.specs.Transactions.{begun, is_open, last_lsn, last_or, records_of, txn_of}
-use Rattle.log_store.proofs.Begun.{begun_bounds, open_has_begun, some_from_begin}
-use Rattle.log_store.proofs.Changes.{changed_fits, valid_change}
-use Rattle.log_store.proofs.Images.{with_record-has}
+use Rattle.log_records.specs.declared.limits.TheConstants.{MAX_RECORDS}
+use Rattle.log_records.specs.declared.page_change.PageChange.{PageChange}
+use Rattle.log_records.specs.declared.record.Record.{Record}
+use Rattle.log_records.specs.declared.record.Record.TheVariants.{Begin}
+use Rattle.log_records.specs.Image.{image_from, with_record}
+use Rattle.log_history.specs.Linked.{IsLinked, number_in}
+use Rattle.log_records.specs.Log.{IsLog, Log, lsn_of}
+use Rattle.log_records.specs.Record.{IsBefore, IsLsn, IsPageChange, IsRecord, IsTxn, own_lsn}
+use Rattle.log_history.specs.Transactions.{begun, is_open, last_lsn, last_or, records_of, txn_of}
+use Rattle.log_history.proofs.Begun.{begun_bounds, open_has_begun, some_from_begin}
+use Rattle.log_records.proofs.Changes.{changed_fits, valid_change}
+use Rattle.log_records.proofs.Images.{with_record-has}
 use Rattle.aries_core.proofs.Pending.{StandsBefore, all_stand, is_before}
 
 -- ---- numbers in slots

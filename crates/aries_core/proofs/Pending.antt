@@ -4,13 +4,13 @@ use Rattle.std.specs.Prelude.{Option, Some, None, IfSome}
 use Rattle.std.specs.List.{All}
 use Rattle.std.proofs.lemmas.List.Elements.{All-filter, All-get_or, All-head, All-nil, All-push, All-tail, All-take, All-weaker}
 use Rattle.std.proofs.lemmas.Option.{get_or_from_slice_get, slice_get_within}
-use Rattle.log_store.specs.declared.pending_change.PendingChange.{PendingChange}
-use Rattle.log_store.specs.declared.record.Record.{Record}
-use Rattle.log_store.specs.declared.record.Record.TheVariants.{Begin, Update, Comp, Commit, Abort, End}
-use Rattle.log_store.specs.Log.{IsLog, IsWithin, Log, lsn_of}
-use Rattle.log_store.specs.Record.{IsBefore, IsPageChange, IsRecord, own_lsn}
-use Rattle.log_store.specs.Transactions.{last_of, pending, pending_from, records_of, txn_of, with_pending}
-use Rattle.log_store.proofs.Changes.{valid_change}
+use Rattle.log_history.specs.declared.pending_change.PendingChange.{PendingChange}
+use Rattle.log_records.specs.declared.record.Record.{Record}
+use Rattle.log_records.specs.declared.record.Record.TheVariants.{Begin, Update, Comp, Commit, Abort, End}
+use Rattle.log_records.specs.Log.{IsLog, IsWithin, Log, lsn_of}
+use Rattle.log_records.specs.Record.{IsBefore, IsPageChange, IsRecord, own_lsn}
+use Rattle.log_history.specs.Transactions.{last_of, pending, pending_from, records_of, txn_of, with_pending}
+use Rattle.log_records.proofs.Changes.{valid_change}
 
 -- ---- what holds of each Update's change
 

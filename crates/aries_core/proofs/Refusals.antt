@@ -1,17 +1,18 @@
 -- What an event that is not refused has passed.
 use Rattle.std.proofs.Common.{◌≡◌, ℕ, ◌+◌, ◌<◌, ◌≤◌, ◌⊎◌, Bool, true, false, not, length, refl, inl, inr}
-use Rattle.std.specs.Prelude.{Option, Some, None}
+use Rattle.std.specs.Prelude.{Option, Some, None, is_none, is_some}
 use Rattle.std.specs.Option.{option_map}
 use Rattle.std.proofs.lemmas.Option.{cond_some, same_Some}
 use Rattle.std.proofs.lemmas.Bool.{not-false, leb-false, ltb-false, ltb-true}
 use Rattle.page_core.specs.declared.change.ChangeKind.{ChangeKind}
+use Rattle.page_core.specs.declared.page.Page.{Page}
 use Rattle.page_core.specs.declared.page.TheConstants.{SLOTS}
-use Rattle.log_store.specs.declared.limits.TheConstants.{MAX_OPEN, MAX_RECORDS}
-use Rattle.log_store.specs.Transactions.{holder, is_open, is_rolling, open_in, owed}
+use Rattle.log_records.specs.declared.limits.TheConstants.{MAX_OPEN, MAX_RECORDS}
+use Rattle.log_history.specs.Transactions.{holder, is_open, is_rolling, open_in, owed}
 use Rattle.aries_core.specs.declared.event.Event.TheVariants as event
 use Rattle.aries_core.specs.declared.refusal.Refusal.{Refusal}
-use Rattle.aries_core.specs.declared.refusal.Refusal.TheVariants.{CommitUnsure, LogFull, NoTxn, NotRolling, PageOut, SlotBusy, SlotOut, TooManyTxns, TxnRolling}
-use Rattle.aries_core.specs.EngineState.{EngineState}
+use Rattle.aries_core.specs.declared.refusal.Refusal.TheVariants.{CommitUnsure, LogFull, NoTxn, NoWrite, NotDirty, NotRolling, PageOut, SlotBusy, SlotOut, TooManyTxns, TxnRolling, WriteBegun}
+use Rattle.aries_core.specs.EngineState.{EngineState, image_of, rec_lsn_of}
 use Rattle.aries_core.specs.Refusal.{active_refusal, change_refusal, has_no_room, or_else, page_refusal, refused_if, refusal}
 
 -- ---- one test, and two
@@ -166,3 +167,49 @@ read_not_full s page slot full = not_of_both _ _ PageOut SlotOut LogFull (λ sam
 
 pub undo_not_full : (s : EngineState) (txn : ℕ) → refusal s (event.UndoStep txn) ≡ Some LogFull → ⊥
 undo_not_full s txn full = not_of_both _ _ NoTxn NotRolling LogFull (λ same. (cc)) (λ same. (cc)) full
+
+pub write_begin_not_full : (s : EngineState) (page : ℕ) → refusal s (event.WriteBegin page) ≡ Some LogFull → ⊥
+write_begin_not_full s page full =
+    not_of_both _ _ WriteBegun NotDirty LogFull (λ same. (cc)) (λ same. (cc))
+    (second_of_both (refused_if _ PageOut) _ LogFull (not_of_one _ PageOut LogFull (λ same. (cc))) full).1
+
+pub write_end_not_full : (s : EngineState) (page : ℕ) → refusal s (event.WriteEnd page) ≡ Some LogFull → ⊥
+write_end_not_full s page full = not_of_both _ _ PageOut NoWrite LogFull (λ same. (cc)) (λ same. (cc)) full
+
+-- ---- writes of pages
+
+-- a page may be written: it is one of the volume, none of its writes is in progress, and it is dirty
+pub record WriteBegins (s : EngineState) (page : ℕ) : Type 0 where
+  pub within : page < s.pages
+  pub free : image_of s page ≡ None
+  pub dirty : is_none (rec_lsn_of s page) ≡ false
+
+-- a write of the page is in progress
+pub record WriteEnds (s : EngineState) (page : ℕ) : Type 0 where
+  pub within : page < s.pages
+  pub image : Page
+  pub there : image_of s page ≡ Some image
+
+none_by_test : {X : Type 0} (o : Option X) → is_some o ≡ false → o ≡ None
+none_by_test None no_some = refl
+none_by_test (Some x) no_some = absurd (cc)
+
+some_by_test : {X : Type 0} (o : Option X) → is_none o ≡ false → (x : X) × (o ≡ Some x)
+some_by_test None no_none = absurd (cc)
+some_by_test (Some x) no_none = (x, refl)
+
+pub write_begin_passes : (s : EngineState) (page : ℕ) → refusal s (event.WriteBegin page) ≡ None → WriteBegins s page
+write_begin_passes s page none =
+    let place = none_of_both _ _ none in
+    let rest = none_of_both _ _ place.1 in
+    record {
+      within = leb-false _ _ (not_refused _ _ place.0);
+      free = none_by_test (image_of s page) (not_refused _ _ rest.0);
+      dirty = not_refused _ _ rest.1;
+    }
+
+pub write_end_passes : (s : EngineState) (page : ℕ) → refusal s (event.WriteEnd page) ≡ None → WriteEnds s page
+write_end_passes s page none =
+    let place = none_of_both _ _ none in
+    let some = some_by_test (image_of s page) (not_refused _ _ place.1) in
+    record { within = leb-false _ _ (not_refused _ _ place.0); image = some.0; there = some.1 }

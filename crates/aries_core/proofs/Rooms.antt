@@ -6,19 +6,19 @@ use Rattle.std.proofs.lemmas.Option.{same_Some}
 use Rattle.page_core.specs.declared.change.Change.{Change}
 use Rattle.page_core.specs.declared.change.Change.TheVariants.{Set, Add}
 use Rattle.page_core.specs.declared.change.ChangeKind.TheVariants as kind
-use Rattle.log_store.specs.declared.limits.TheConstants.{MAX_RECORDS}
-use Rattle.log_store.specs.declared.record.Record.{Record}
-use Rattle.log_store.specs.declared.record.Record.TheVariants as log
-use Rattle.log_store.specs.Linked.{MayFollow, number_in}
-use Rattle.log_store.specs.Transactions.{last_lsn, owed}
-use Rattle.log_store.proofs.Room.{claimed_begin, claimed_push, claimed_update, needs}
+use Rattle.log_records.specs.declared.limits.TheConstants.{MAX_RECORDS}
+use Rattle.log_records.specs.declared.record.Record.{Record}
+use Rattle.log_records.specs.declared.record.Record.TheVariants as log
+use Rattle.log_history.specs.Linked.{MayFollow, number_in}
+use Rattle.log_history.specs.Transactions.{last_lsn, owed}
+use Rattle.log_history.proofs.Room.{claimed_begin, claimed_push, claimed_update, needs}
 use Rattle.aries_core.specs.declared.event.Event.{Event}
 use Rattle.aries_core.specs.declared.event.Event.TheVariants as event
 use Rattle.aries_core.specs.declared.refusal.Refusal.TheVariants.{LogFull}
 use Rattle.aries_core.specs.EngineState.{EngineState, IsFit, effect, end, next_txn, update_record}
 use Rattle.aries_core.specs.Refusal.{refusal}
 use Rattle.aries_core.proofs.Follows.{add_follows, follows, set_follows, undo_has}
-use Rattle.aries_core.proofs.Refusals.{HasRoom, active_not_full, begin_full, begin_passes, change_full, change_passes, read_not_full, undo_not_full}
+use Rattle.aries_core.proofs.Refusals.{HasRoom, active_not_full, begin_full, begin_passes, change_full, change_passes, read_not_full, undo_not_full, write_begin_not_full, write_end_not_full}
 use Rattle.aries_core.specs.Call.{record_for}
 use Rattle.aries_core.proofs.Steps.{stays_or_grows}
 
@@ -50,6 +50,8 @@ grows_within s (event.Abort txn) r fit none made =
 grows_within s (event.UndoStep txn) r fit none made =
     undo_has (λ (q : Record). HasRoom s (needs q)) s txn r made (λ p last. room_now s fit) (λ last. room_now s fit)
 grows_within s event.Force r fit none made = absurd (cc)
+grows_within s (event.WriteBegin page) r fit none made = absurd (cc)
+grows_within s (event.WriteEnd page) r fit none made = absurd (cc)
 
 pub room_grows : (s : EngineState) (event : Event) (r : Record) → IsFit s → refusal s event ≡ None
     → record_for s event ≡ Some r → length (s.log ++ r ∷ []) + owed (s.log ++ r ∷ []) ≤ MAX_RECORDS
@@ -101,3 +103,5 @@ past_if_full s (event.Commit txn) fit full = absurd (active_not_full s txn full)
 past_if_full s (event.Abort txn) fit full = absurd (active_not_full s txn full)
 past_if_full s (event.UndoStep txn) fit full = absurd (undo_not_full s txn full)
 past_if_full s event.Force fit full = absurd (cc)
+past_if_full s (event.WriteBegin page) fit full = absurd (write_begin_not_full s page full)
+past_if_full s (event.WriteEnd page) fit full = absurd (write_end_not_full s page full)

@@ -3,16 +3,16 @@ use Rattle.std.proofs.Common.{◌≡◌, ◌≢◌, refl, ℕ, ◌<◌, ◌≤�
 use Rattle.std.specs.Prelude.{Some, None, Result, Ok, Err}
 use Rattle.std.proofs.lemmas.List.{append-nil, append_assoc, length_push}
 use Rattle.std.proofs.Math.Bool.{and-false}
-use Rattle.log_store.specs.declared.record.Record.{Record}
-use Rattle.log_store.specs.declared.record.Record.TheVariants as log
-use Rattle.log_store.specs.Transactions.{is_open, last_lsn}
-use Rattle.log_store.proofs.Pushes.{is_open_push_own}
+use Rattle.log_records.specs.declared.record.Record.{Record}
+use Rattle.log_records.specs.declared.record.Record.TheVariants as log
+use Rattle.log_history.specs.Transactions.{is_open, last_lsn}
+use Rattle.log_history.proofs.Pushes.{is_open_push_own}
 use Rattle.aries_core.specs.declared.event.Answer.{Answer}
 use Rattle.aries_core.specs.declared.event.Answer.TheVariants as answer
 use Rattle.aries_core.specs.declared.event.Event.{Event}
 use Rattle.aries_core.specs.declared.event.Event.TheVariants as event
 use Rattle.aries_core.specs.declared.refusal.Refusal.{Refusal}
-use Rattle.aries_core.specs.declared.refusal.Refusal.TheVariants.{CommitUnsure, LogFault, OutOfMemory}
+use Rattle.aries_core.specs.declared.refusal.Refusal.TheVariants.{CommitUnsure, LogFault, OutOfMemory, StoreFault}
 use Rattle.aries_core.specs.EngineState.{EngineState, IsFit, commit_record, end}
 use Rattle.aries_core.specs.Run.{Run}
 use Rattle.aries_core.specs.Step.{Fails, Step}
@@ -97,17 +97,19 @@ unsure_commit old txn lsn new (inr both) = unsure_at old txn lsn new both.0 both
 -- ---- a refusal
 
 failed_same : (old : EngineState) (event : Event) (why : Refusal) (new : EngineState) → why ≢ LogFault
-    → ((lsn : ℕ) → why ≢ CommitUnsure lsn) → Fails old event why new → new ≡ old
-failed_same old event OutOfMemory new no_fault sure fails = fails.1
-failed_same old event.Force LogFault new no_fault sure fails = absurd (no_fault refl)
-failed_same old (event.Commit txn) (CommitUnsure lsn) new no_fault sure fails = absurd (sure lsn refl)
-failed_same old event why new no_fault sure fails = absurd fails
+    → why ≢ StoreFault → ((lsn : ℕ) → why ≢ CommitUnsure lsn) → Fails old event why new → new ≡ old
+failed_same old event OutOfMemory new no_fault no_store sure fails = fails.1
+failed_same old event.Force LogFault new no_fault no_store sure fails = absurd (no_fault refl)
+failed_same old (event.WriteBegin page) LogFault new no_fault no_store sure fails = absurd (no_fault refl)
+failed_same old (event.WriteEnd page) StoreFault new no_fault no_store sure fails = absurd (no_store refl)
+failed_same old (event.Commit txn) (CommitUnsure lsn) new no_fault no_store sure fails = absurd (sure lsn refl)
+failed_same old event why new no_fault no_store sure fails = absurd fails
 
 -- it changes nothing, unless it tells of the device
 pub refused_same : (old : EngineState) (event : Event) (why : Refusal) (new : EngineState) → why ≢ LogFault
-    → ((lsn : ℕ) → why ≢ CommitUnsure lsn) → Step old event (Err why) new → new ≡ old
-refused_same old event why new no_fault sure (inl both) = both.1
-refused_same old event why new no_fault sure (inr both) = failed_same old event why new no_fault sure both.1
+    → why ≢ StoreFault → ((lsn : ℕ) → why ≢ CommitUnsure lsn) → Step old event (Err why) new → new ≡ old
+refused_same old event why new no_fault no_store sure (inl both) = both.1
+refused_same old event why new no_fault no_store sure (inr both) = failed_same old event why new no_fault no_store sure both.1
 
 -- ---- what a step may choose
 

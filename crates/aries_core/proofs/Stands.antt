@@ -7,16 +7,16 @@ use Rattle.page_core.specs.declared.change.Change.{Change}
 use Rattle.page_core.specs.declared.change.Change.TheVariants.{Set, Add}
 use Rattle.page_core.specs.declared.change.ChangeKind.TheVariants as kind
 use Rattle.page_core.specs.Change.{kind_of, undo_of}
-use Rattle.log_store.specs.declared.pending_change.PendingChange.{PendingChange}
-use Rattle.log_store.specs.declared.record.Record.{Record}
-use Rattle.log_store.specs.declared.record.Record.TheVariants as log
-use Rattle.log_store.specs.Linked.{number_in}
-use Rattle.log_store.specs.Log.{Log, StandsAt}
-use Rattle.log_store.specs.Record.{HasNoBefore, IsBefore, IsChange, IsLsn, IsRecord, IsTxn}
-use Rattle.log_store.specs.Transactions.{is_open, last_lsn, last_of, pending}
+use Rattle.log_history.specs.declared.pending_change.PendingChange.{PendingChange}
+use Rattle.log_records.specs.declared.record.Record.{Record}
+use Rattle.log_records.specs.declared.record.Record.TheVariants as log
+use Rattle.log_history.specs.Linked.{number_in}
+use Rattle.log_records.specs.Log.{StandsAt}
+use Rattle.log_records.specs.Record.{HasNoBefore, IsBefore, IsChange, IsLsn, IsRecord, IsTxn}
+use Rattle.log_history.specs.Transactions.{is_open, last_lsn, last_of, pending}
 use Rattle.aries_core.specs.declared.event.Event.{Event}
 use Rattle.aries_core.specs.declared.event.Event.TheVariants as event
-use Rattle.aries_core.specs.EngineState.{EngineState, IsFit, abort_record, commit_record, comp_record, end, end_record, next_txn, update_record}
+use Rattle.aries_core.specs.EngineState.{EngineState, IsFit, abort_record, commit_record, comp_record, end, end_record, log_of, next_txn, update_record}
 use Rattle.aries_core.specs.EventFits.{EventFits}
 use Rattle.aries_core.specs.Refusal.{refusal}
 use Rattle.aries_core.proofs.Follows.{undo_has}
@@ -24,10 +24,6 @@ use Rattle.aries_core.proofs.Numbers.{last_lsn_is_before, length_begun, lsn_is_l
 use Rattle.aries_core.proofs.Pending.{StandsBefore, all_stand, last_pending}
 use Rattle.aries_core.proofs.Refusals.{ChangePasses, active_passes, change_passes, undo_passes}
 use Rattle.aries_core.specs.Call.{record_for}
-
--- the log of the state, with its page count
-abbrev pub log_of : EngineState → Log
-log_of s = record { pages = s.pages; records = s.log }
 
 abbrev pub StandsAtEnd : EngineState → Record → Type 0
 StandsAtEnd s r = StandsAt s.pages (end s) r
@@ -153,3 +149,5 @@ stands s (event.UndoStep txn) r fit fits none made =
     undo_has (StandsAtEnd s) s txn r made (λ p last. comp_stands s txn p fit still_open last)
     (λ no_more. end_stands s txn fit still_open)
 stands s event.Force r fit fits none made = absurd (cc)
+stands s (event.WriteBegin page) r fit fits none made = absurd (cc)
+stands s (event.WriteEnd page) r fit fits none made = absurd (cc)

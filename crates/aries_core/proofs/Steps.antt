@@ -1,24 +1,21 @@
 -- What a step does to the log.
 use Rattle.std.proofs.Common.{◌≡◌, ℕ, ◌++◌, ◌⊎◌, [], ◌∷◌, refl, ap, ◌∙◌, inl, inr}
-use Rattle.std.specs.Prelude.{Option, Some, None, Result, Ok, Err}
-use Rattle.std.specs.Option.{option_map_or}
-use Rattle.page_core.specs.declared.change.Change.TheVariants.{Set, Add}
-use Rattle.log_store.specs.declared.pending_change.PendingChange.{PendingChange}
-use Rattle.log_store.specs.declared.record.Record.{Record}
-use Rattle.log_store.specs.declared.record.Record.TheVariants as log
-use Rattle.log_store.specs.Linked.{number_in}
-use Rattle.log_store.specs.Transactions.{last_of, pending}
-use Rattle.log_store.specs.Work.{call_of}
+use Rattle.std.specs.Prelude.{Option, Some, None, IsSomeAnd, Result, Ok, Err}
+use Rattle.page_core.specs.declared.page.Page.{Page}
+use Rattle.log_history.specs.declared.pending_change.PendingChange.{PendingChange}
+use Rattle.log_records.specs.declared.record.Record.{Record}
+use Rattle.log_history.specs.Transactions.{last_of, pending}
+use Rattle.log_history.specs.Work.{call_of}
 use Rattle.aries_core.specs.Call.{record_for}
 use Rattle.aries_core.specs.declared.event.Answer.{Answer}
 use Rattle.aries_core.specs.declared.event.Event.{Event}
 use Rattle.aries_core.specs.declared.event.Event.TheVariants as event
 use Rattle.aries_core.specs.declared.refusal.Refusal.{Refusal}
-use Rattle.aries_core.specs.declared.refusal.Refusal.TheVariants.{OutOfMemory, LogFault, CommitUnsure}
+use Rattle.aries_core.specs.declared.refusal.Refusal.TheVariants.{OutOfMemory, StoreFault, LogFault, CommitUnsure}
 use Rattle.aries_core.specs.Accepted.{shown_call}
-use Rattle.aries_core.specs.EngineState.{EngineState, abort_record, appended, commit_record, comp_record, effect, end, end_record, next_txn, update_record}
+use Rattle.aries_core.specs.EngineState.{EngineState, appended, comp_record, effect, end_record, ended_write, image_of, with_stored}
 use Rattle.aries_core.specs.Refusal.{refusal}
-use Rattle.aries_core.specs.Step.{Fails, Step}
+use Rattle.aries_core.specs.Step.{Fails, MayBeStored, Step}
 use Rattle.aries_core.proofs.Refusals.{commit_not_unsure}
 
 -- the step leaves the log as it is, and shows no call
@@ -70,6 +67,27 @@ undo_grows old txn answer new (Some p) o none is =
     grows old (event.UndoStep txn) (Ok answer) new (appended old (comp_record old txn p)) (comp_record old txn p)
     (rw o at is) none (rw o refl) refl refl refl
 
+-- the end of a write leaves the log
+write_end_stays : (old : EngineState) (page : ℕ) (answer : Answer) (new : EngineState) (o : Option Page)
+    → image_of old page ≡ o → new ≡ (effect old (event.WriteEnd page)).state
+    → Stays old (event.WriteEnd page) (Ok answer) new
+write_end_stays old page answer new None o is =
+    stays old (event.WriteEnd page) (Ok answer) new old (rw o at is) refl refl refl
+write_end_stays old page answer new (Some image) o is =
+    stays old (event.WriteEnd page) (Ok answer) new (ended_write old page image) (rw o at is) refl refl refl
+
+-- what stands where the store failed at the end of a write
+pub stored_or_not : (old : EngineState) (page : ℕ) (new : EngineState) → MayBeStored page old new
+    → (new ≡ old) ⊎ ((image : Page) × (image_of old page ≡ Some image) × (new ≡ with_stored old page image))
+stored_or_not old page new may = by_image (image_of old page) refl may
+  where
+    by_image : (o : Option Page) → image_of old page ≡ o
+        → IsSomeAnd o (λ image. (new ≡ old) ⊎ (new ≡ with_stored old page image))
+        → (new ≡ old) ⊎ ((image : Page) × (image_of old page ≡ Some image) × (new ≡ with_stored old page image))
+    by_image None o may = absurd may
+    by_image (Some image) o (inl same) = inl same
+    by_image (Some image) o (inr stored) = inr (image, o, stored)
+
 -- an accepted call
 answered : (old : EngineState) (event : Event) (answer : Answer) (new : EngineState) → refusal old event ≡ None
     → answer ≡ (effect old event).answer → new ≡ (effect old event).state
@@ -89,6 +107,9 @@ answered old (event.Abort txn) answer new none given is =
     inr (grows old (event.Abort txn) (Ok answer) new _ _ is none refl refl refl refl)
 answered old (event.UndoStep txn) answer new none given is = inr (undo_grows old txn answer new _ refl none is)
 answered old event.Force answer new none given is = inl (stays old event.Force (Ok answer) new _ is refl refl refl)
+answered old (event.WriteBegin page) answer new none given is =
+    inl (stays old (event.WriteBegin page) (Ok answer) new _ is refl refl refl)
+answered old (event.WriteEnd page) answer new none given is = inl (write_end_stays old page answer new _ refl is)
 
 -- an error shows no call, but for an unsure Commit
 not_shown : (call : Event) (why : Refusal) → ((txn lsn : ℕ) → call ≡ event.Commit txn → why ≡ CommitUnsure lsn → ⊥)
@@ -113,6 +134,12 @@ failed old event.Force LogFault new none fails =
     inl (stays old event.Force (Err LogFault) new _ fails.reached.2 refl refl refl)
 failed old (event.Commit txn) (CommitUnsure lsn) new none fails =
     inr (grows old (event.Commit txn) (Err (CommitUnsure lsn)) new _ _ fails.1.reached.2 none refl refl refl refl)
+failed old (event.WriteBegin page) LogFault new none fails =
+    inl (stays old (event.WriteBegin page) (Err LogFault) new _ fails.reached.2 refl refl refl)
+failed old (event.WriteEnd page) StoreFault new none fails = elim (stored_or_not old page new fails) [
+  | inl same ↦ inl (stays old (event.WriteEnd page) (Err StoreFault) new _ same refl refl refl)
+  | inr stored ↦ inl (stays old (event.WriteEnd page) (Err StoreFault) new _ stored.2 refl refl refl)
+]
 failed old event why new none fails = absurd fails
 
 pub stays_or_grows : (old : EngineState) (event : Event) (reply : Result Answer Refusal) (new : EngineState)

@@ -1,7 +1,8 @@
 -- The calls of a run that were accepted.
 use Rattle.std.specs.Prelude.{List, [], ◌∷◌, ◌++◌, Option, Some, None, Result, Ok, Err}
 use Rattle.std.specs.Option.{option_to_list}
-use Rattle.log_store.specs.Work.{AbortCall, AddCall, BeginCall, Call, CommitCall, SetCall, UndoCall}
+use Rattle.log_history.specs.Work.{AbortCall, AddCall, BeginCall, Call, CommitCall}
+use Rattle.log_history.specs.Work.{SetCall, UndoCall}
 use Rattle.aries_core.specs.declared.event.Answer.{Answer}
 use Rattle.aries_core.specs.declared.event.Answer.TheVariants as answer
 use Rattle.aries_core.specs.declared.event.Event.{Event}

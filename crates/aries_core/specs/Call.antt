@@ -2,10 +2,10 @@
 use Rattle.std.specs.Prelude.{◌≡◌, Option, Some, None}
 use Rattle.std.specs.Option.{option_map_or}
 use Rattle.page_core.specs.declared.change.Change.TheVariants.{Set, Add}
-use Rattle.log_store.specs.declared.record.Record.{Record}
-use Rattle.log_store.specs.declared.record.Record.TheVariants as log
-use Rattle.log_store.specs.Linked.{number_in}
-use Rattle.log_store.specs.Transactions.{last_of, pending}
+use Rattle.log_records.specs.declared.record.Record.{Record}
+use Rattle.log_records.specs.declared.record.Record.TheVariants as log
+use Rattle.log_history.specs.Linked.{number_in}
+use Rattle.log_history.specs.Transactions.{last_of, pending}
 use Rattle.aries_core.specs.declared.event.Event.{Event}
 use Rattle.aries_core.specs.declared.event.Event.TheVariants as event
 use Rattle.aries_core.specs.EngineState.{EngineState, abort_record, commit_record, comp_record, end}
@@ -26,6 +26,8 @@ record_for s (event.Abort txn) = Some (abort_record s txn)
 record_for s (event.UndoStep txn) =
     Some (option_map_or (comp_record s txn) (last_of (pending s.log txn)) (end_record s txn))
 record_for s event.Force = None
+record_for s (event.WriteBegin page) = None
+record_for s (event.WriteEnd page) = None
 
 -- the record is that of a call that is accepted
 pub record Calls (s : EngineState) (r : Record) : Type 0 where

@@ -1,35 +1,52 @@
 -- What an engine is, and what an accepted call makes of it.
-use Rattle.std.specs.Prelude.{ℕ, ◌≡◌, ◌+◌, ◌*◌, ◌<◌, ◌≤◌, List, [], ◌∷◌, ◌++◌, length, take}
+use Rattle.std.specs.Prelude.{ℕ, ◌≡◌, ◌+◌, ◌<◌, ◌≤◌, List, [], ◌∷◌, ◌++◌, length, max}
+use Rattle.std.specs.Prelude.{replicate, slice_index, slice_index_or, slice_set, take, Option, Some}
+use Rattle.std.specs.Prelude.{None, IfSome}
+use Rattle.std.specs.List.{All}
 use Rattle.std.specs.Option.{option_map_or}
 use Rattle.page_core.specs.declared.change.Change.{Change}
 use Rattle.page_core.specs.declared.change.Change.TheVariants.{Set, Add}
 use Rattle.page_core.specs.Change.{undo_of}
-use Rattle.log_store.specs.declared.limits.TheConstants.{MAX_RECORDS}
-use Rattle.log_store.specs.declared.pending_change.PendingChange.{PendingChange}
-use Rattle.log_store.specs.declared.record.Record.{Record}
-use Rattle.log_store.specs.declared.record.Record.TheVariants as log
+use Rattle.page_core.specs.Volume.{formatted_pages}
+use Rattle.buffer_pool.specs.Pool.{IsPoolOf, PoolView, writing_of, written_of}
+use Rattle.log_records.specs.Coverage.{AreStored, rec_lsn}
+use Rattle.log_records.specs.declared.limits.TheConstants.{MAX_RECORDS}
+use Rattle.log_history.specs.declared.pending_change.PendingChange.{PendingChange}
+use Rattle.log_records.specs.declared.record.Record.{Record}
+use Rattle.log_records.specs.declared.record.Record.TheVariants as log
 use Rattle.page_core.specs.declared.page.Page.{Page}
-use Rattle.log_store.specs.Image.{redo_all}
-use Rattle.log_store.specs.Linked.{IsLinked, number_in}
-use Rattle.log_store.specs.Log.{IsLog, lsn_of}
-use Rattle.log_store.specs.Transactions.{begun, last_lsn, last_of, owed, pending}
-use Rattle.log_store.specs.Table.{Table}
-use Rattle.log_store.specs.WrittenLog.{WrittenLog}
+use Rattle.log_records.specs.Image.{image}
+use Rattle.log_history.specs.Linked.{IsLinked, number_in}
+use Rattle.log_records.specs.Log.{IsLog, Log, lsn_of}
+use Rattle.log_history.specs.Transactions.{begun, last_lsn, last_of, owed, pending}
+use Rattle.log_history.specs.Table.{Table}
+use Rattle.log_store.specs.WrittenLog.{WrittenLog, end_up_to}
 use Rattle.txn_table.specs.TxnTable.{IsTableOf}
 use Rattle.aries_core.specs.declared.event.Answer.{Answer}
 use Rattle.aries_core.specs.declared.event.Answer.TheVariants as answer
 use Rattle.aries_core.specs.declared.event.Event.{Event}
 use Rattle.aries_core.specs.declared.event.Event.TheVariants as event
 
--- the page count of the volume, the log, and the LSN below which each record is on the device
+-- the page count of the volume, the log, the LSN below which each record is on the device, and the
+-- stored pages; of each page the LSN of its last write, and the image that is being written
 pub record EngineState : Type 0 where
   pub pages : ℕ
   pub log : List Record
   pub forced_end : ℕ
+  pub stored : List Page
+  pub written : List ℕ
+  pub writing : List (Option Page)
 
--- a new engine: its log has a header alone
+-- a new engine: its log has a header alone, and its pages are formatted
 abbrev pub new_state : ℕ → EngineState
-new_state pages = record { pages = pages; log = []; forced_end = lsn_of 0 }
+new_state pages = record {
+  pages = pages;
+  log = [];
+  forced_end = lsn_of 0;
+  stored = formatted_pages pages;
+  written = replicate pages 0;
+  writing = replicate pages None;
+}
 
 -- the LSN that the next record will have
 abbrev pub end : EngineState → ℕ
@@ -42,6 +59,43 @@ appended s r = record s { log = s.log ++ r ∷ [] }
 
 abbrev pub forced_to : EngineState → ℕ → EngineState
 forced_to s lsn = record s { forced_end = lsn }
+
+-- the log of the state
+abbrev pub log_of : EngineState → Log
+log_of s = record { pages = s.pages; records = s.log }
+
+-- forced through the record at an LSN, at least
+abbrev pub forced_through : EngineState → ℕ → EngineState
+forced_through s lsn = forced_to s (max s.forced_end (end_up_to (log_of s) lsn))
+
+-- an image of a page is being written
+abbrev pub begun_write : EngineState → ℕ → Page → EngineState
+begun_write s page image = record s { writing = slice_set s.writing page (Some image) }
+
+abbrev pub with_stored : EngineState → ℕ → Page → EngineState
+with_stored s page image = record s { stored = slice_set s.stored page image }
+
+-- the image is stored, and its write has ended
+abbrev pub ended_write : EngineState → ℕ → Page → EngineState
+ended_write s page image = record s {
+  stored = slice_set s.stored page image;
+  written = slice_set s.written page image.lsn;
+  writing = slice_set s.writing page None;
+}
+
+-- ---- a page
+
+-- the page as it is now
+abbrev pub page_now : EngineState → ℕ → Page
+page_now s page = image s.log page
+
+-- the image of it that is being written
+abbrev pub image_of : EngineState → ℕ → Option Page
+image_of s page = slice_index_or s.writing page None
+
+-- its RecLSN, where it is dirty
+abbrev pub rec_lsn_of : EngineState → ℕ → Option ℕ
+rec_lsn_of s page = rec_lsn s.log page (slice_index s.written page)
 
 -- ---- the record of a call
 
@@ -84,6 +138,14 @@ undo_effect s txn =
     (last_of (pending s.log txn))
     (record { answer = answer.Ended (end s); state = appended s (end_record s txn) })
 
+abbrev pub write_end_effect : EngineState → ℕ → Outcome
+write_end_effect s page =
+    option_map_or (λ image. record {
+      answer = answer.Written image.lsn;
+      state = ended_write s page image;
+    })
+    (image_of s page) (record { answer = answer.Written 0; state = s })
+
 abbrev pub effect : EngineState → Event → Outcome
 effect s event.Begin = record {
   answer = answer.Began (next_txn s) (end s);
@@ -103,31 +165,61 @@ effect s (event.Commit txn) = record {
 effect s (event.Abort txn) = logged s (abort_record s txn)
 effect s (event.UndoStep txn) = undo_effect s txn
 effect s event.Force = record { answer = answer.Forced (end s); state = forced_to s (end s) }
+effect s (event.WriteBegin page) = record {
+  answer = answer.Writing (page_now s page).lsn;
+  state = begun_write (forced_through s (page_now s page).lsn) page (page_now s page);
+}
+effect s (event.WriteEnd page) = write_end_effect s page
 
 -- ---- the invariant
 
--- what holds of every engine, whatever calls came and whatever its device did
+-- each page of the volume has its place in each list
+pub record AreCounted (s : EngineState) : Type 0 where
+  pub stored : length s.stored ≡ s.pages
+  pub written : length s.written ≡ s.pages
+  pub writing : length s.writing ≡ s.pages
+
+-- no stored page, and no image that is being written, shows a change whose record is not forced
+pub record AreStable (s : EngineState) : Type 0 where
+  pub pages : All (λ page. page.lsn < s.forced_end) s.stored
+  pub images : (p : ℕ) → IfSome (image_of s p) (λ image. image.lsn < s.forced_end)
+
+-- what holds of every engine, whatever calls came and whatever its devices did
 pub record IsFit (s : EngineState) : Type 0 where
-  pub valid : IsLog (record { pages = s.pages; records = s.log })
+  pub valid : IsLog (log_of s)
   pub linked : IsLinked s.log
   pub room : (n : ℕ) → n ≤ length s.log → length (take n s.log) + owed (take n s.log) ≤ MAX_RECORDS
   pub forced : (k : ℕ) × (k ≤ length s.log) × (s.forced_end ≡ lsn_of k)
+  pub counted : AreCounted s
+  pub stored : AreStored s.log s.stored s.written s.writing
+  pub stable : AreStable s
 
--- ---- the engine and its device
+-- ---- the engine, its store and its device
 
-pub record EngineView (D : Type 0) : Type 0 where
+pub record EngineView (S D : Type 0) : Type 0 where
   pub state : EngineState
+  pub store : S
   pub device : D
 
--- what an engine is, by the log that it writes
-abbrev pub engine_view : {D : Type 0} → WrittenLog D → EngineView D
-engine_view it = record {
-  state = record { pages = it.log.pages; log = it.log.records; forced_end = it.forced_end };
+-- what an engine is, by the log that it writes and the pool of its pages
+abbrev pub engine_view : {S D : Type 0} → (S → List Page) → WrittenLog D → PoolView S
+    → EngineView S D
+engine_view stored it pool = record {
+  state = record {
+    pages = it.log.pages;
+    log = it.log.records;
+    forced_end = it.forced_end;
+    stored = stored pool.store;
+    written = written_of pool.states;
+    writing = writing_of pool.states;
+  };
+  store = pool.store;
   device = it.device;
 }
 
--- the transaction table and the pages are those of the log
-pub record IsKept (s : EngineState) (table : Table) (pages : List Page) : Type 0 where
+-- the engine is fit, and its transaction table and its pool are those of its log
+pub record IsKept {S : Type 0} (stored : S → List Page) (s : EngineState) (table : Table)
+    (pool : PoolView S) : Type 0 where
   pub fit : IsFit s
   pub table_of_log : IsTableOf s.log table
-  pub images : pages ≡ redo_all s.log s.pages
+  pub pool_of_log : IsPoolOf stored (log_of s) pool

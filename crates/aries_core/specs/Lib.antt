@@ -5,3 +5,4 @@ pub mod EventFits
 pub mod Refusal
 pub mod Run
 pub mod Step
+pub mod Written

@@ -1,23 +1,26 @@
 -- When a call is refused, and what is printed of a refusal.
 use Rattle.std.specs.Prelude.{ℕ, ◌+◌, ◌++◌, nat_le, nat_lt, Bool, not, List, length, Option, Some}
+use Rattle.std.specs.Prelude.{is_some, is_none}
 use Rattle.std.specs.Prelude.{None, if◌then◌else◌, codes}
 use Rattle.std.specs.Fmt.{decimal}
 use Rattle.std.specs.Option.{option_map}
 use Rattle.page_core.specs.declared.change.ChangeKind.{ChangeKind}
 use Rattle.page_core.specs.declared.change.ChangeKind.TheVariants as kind
 use Rattle.page_core.specs.declared.page.TheConstants.{SLOTS}
-use Rattle.log_store.specs.declared.limits.TheConstants.{MAX_OPEN, MAX_RECORDS}
-use Rattle.log_store.specs.Transactions.{holder, is_open, is_rolling, open_in, owed}
+use Rattle.log_records.specs.declared.limits.TheConstants.{MAX_OPEN, MAX_RECORDS}
+use Rattle.log_history.specs.Transactions.{holder, is_open, is_rolling, open_in, owed}
 use Rattle.aries_core.specs.declared.event.Event.{Event}
 use Rattle.aries_core.specs.declared.event.Event.TheVariants as event
 use Rattle.aries_core.specs.declared.refusal.Refusal.{Refusal}
 use Rattle.aries_core.specs.declared.refusal.Refusal.TheVariants.{OutOfMemory, NoTxn, PageOut}
 use Rattle.aries_core.specs.declared.refusal.Refusal.TheVariants.{SlotOut, SlotBusy, TxnRolling}
 use Rattle.aries_core.specs.declared.refusal.Refusal.TheVariants.{NotRolling, LogFull, TooManyTxns}
-use Rattle.aries_core.specs.declared.refusal.Refusal.TheVariants.{LogFault, CommitUnsure}
+use Rattle.aries_core.specs.declared.refusal.Refusal.TheVariants.{NotDirty, WriteBegun, NoWrite}
+use Rattle.aries_core.specs.declared.refusal.Refusal.TheVariants.{StoreFault, LogFault}
+use Rattle.aries_core.specs.declared.refusal.Refusal.TheVariants.{CommitUnsure}
 use Rattle.aries_core.specs.declared.setup.PlayFault.{PlayFault}
 use Rattle.aries_core.specs.declared.setup.PlayFault.TheVariants as fault
-use Rattle.aries_core.specs.EngineState.{EngineState}
+use Rattle.aries_core.specs.EngineState.{EngineState, image_of, rec_lsn_of}
 
 -- the first refusal that is there
 abbrev pub or_else : Option Refusal → Option Refusal → Option Refusal
@@ -65,6 +68,13 @@ refusal s (event.UndoStep txn) =
     or_else (refused_if (not (is_open s.log txn)) NoTxn)
     (refused_if (not (is_rolling s.log txn)) NotRolling)
 refusal s event.Force = None
+refusal s (event.WriteBegin page) =
+    or_else (refused_if (nat_le s.pages page) PageOut)
+    (or_else (refused_if (is_some (image_of s page)) WriteBegun)
+    (refused_if (is_none (rec_lsn_of s page)) NotDirty))
+refusal s (event.WriteEnd page) =
+    or_else (refused_if (nat_le s.pages page) PageOut)
+    (refused_if (is_none (image_of s page)) NoWrite)
 
 -- what is printed of a refusal
 abbrev pub line_of : Refusal → List ℕ
@@ -77,6 +87,10 @@ line_of TxnRolling = codes "E6 TxnRolling"
 line_of NotRolling = codes "E7 NotRolling"
 line_of LogFull = codes "E8 LogFull"
 line_of TooManyTxns = codes "E9 TooManyTxns"
+line_of NotDirty = codes "E10 NotDirty"
+line_of WriteBegun = codes "E11 WriteBegun"
+line_of NoWrite = codes "E12 NoWrite"
+line_of StoreFault = codes "E22 StoreFault"
 line_of LogFault = codes "E23 LogFault"
 line_of (CommitUnsure lsn) = codes "E26 CommitUnsure " ++ decimal lsn
 

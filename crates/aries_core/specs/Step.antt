@@ -1,7 +1,8 @@
 -- One call of the engine: what it may answer, and what stands after it.
-use Rattle.std.specs.Prelude.{ℕ, ◌≡◌, ◌*◌, ◌<◌, ◌≤◌, ◌⊎◌, length, Option, Some, None, Result, Ok}
+use Rattle.std.specs.Prelude.{ℕ, ◌≡◌, ◌<◌, ◌≤◌, ◌⊎◌, Some, None, IsSomeAnd, Result, Ok}
 use Rattle.std.specs.Prelude.{Err}
-use Rattle.log_store.specs.Log.{lsn_of}
+use Rattle.log_records.specs.Log.{lsn_of}
+use Rattle.log_store.specs.WrittenLog.{end_up_to}
 use Rattle.aries_core.specs.declared.event.Answer.{Answer}
 use Rattle.aries_core.specs.declared.event.Answer.TheVariants as answer
 use Rattle.aries_core.specs.declared.event.Event.{Event}
@@ -10,28 +11,38 @@ use Rattle.aries_core.specs.declared.event.Undone.{Undone}
 use Rattle.aries_core.specs.declared.event.Undone.TheVariants as undone
 use Rattle.aries_core.specs.declared.refusal.Refusal.{Refusal}
 use Rattle.aries_core.specs.declared.refusal.Refusal.TheVariants.{CommitUnsure, LogFault}
-use Rattle.aries_core.specs.declared.refusal.Refusal.TheVariants.{OutOfMemory}
+use Rattle.aries_core.specs.declared.refusal.Refusal.TheVariants.{OutOfMemory, StoreFault}
 use Rattle.aries_core.specs.EngineState.{EngineState, appended, commit_record, effect, end}
-use Rattle.aries_core.specs.EngineState.{forced_to}
+use Rattle.aries_core.specs.EngineState.{forced_to, image_of, log_of, page_now, with_stored}
 use Rattle.aries_core.specs.Refusal.{refusal}
 
--- some records more are forced, and not all: the device failed at one of them
-pub record ForcedPart (old new : EngineState) : Type 0 where
-  pub reached : (k : ℕ) × (k < length old.log) × (new ≡ forced_to old (lsn_of k))
+-- some records more are forced, but not all below an LSN: the device failed at one of them
+pub record ForcedPart (target : ℕ) (old new : EngineState) : Type 0 where
+  pub reached : (k : ℕ) × (lsn_of k < target) × (new ≡ forced_to old (lsn_of k))
   pub no_less : old.forced_end ≤ new.forced_end
+
+-- the image that was to be stored is, or the old page stays
+abbrev pub MayBeStored : ℕ → EngineState → EngineState → Type 0
+MayBeStored page old new = IsSomeAnd (image_of old page)
+    (λ image. (new ≡ old) ⊎ (new ≡ with_stored old page image))
 
 -- a call that takes memory is refused some
 abbrev pub TakesMemory : Event → Type 0
 TakesMemory (event.Read page slot) = ⊥
 TakesMemory event.Force = ⊥
+TakesMemory (event.WriteEnd page) = ⊥
 TakesMemory other = Unit {0}
 
--- the call fails so for want of memory or by the device, and this stands then
+-- the call fails so for want of memory or by a device, and this stands then
 abbrev pub Fails : EngineState → Event → Refusal → EngineState → Type 0
 Fails old event OutOfMemory new = TakesMemory event × (new ≡ old)
-Fails old event.Force LogFault new = ForcedPart old new
+Fails old event.Force LogFault new = ForcedPart (end old) old new
+Fails old (event.WriteBegin page) LogFault new =
+    ForcedPart (end_up_to (log_of old) (page_now old page).lsn) old new
+Fails old (event.WriteEnd page) StoreFault new = MayBeStored page old new
 Fails old (event.Commit txn) (CommitUnsure lsn) new =
-    (lsn ≡ end old) × ForcedPart (appended old (commit_record old txn)) new
+    let after = appended old (commit_record old txn) in
+    (lsn ≡ end old) × ForcedPart (end after) after new
 Fails old event refusal new = ⊥
 
 -- from old, an engine may reply so to the event and go on to new
@@ -58,14 +69,30 @@ abbrev pub IsUnsure : Refusal → Type 0
 IsUnsure (CommitUnsure lsn) = Unit {0}
 IsUnsure other = ⊥
 
--- a fault of the device
+-- a fault of the log's device
 abbrev pub IsByDevice : Refusal → Type 0
 IsByDevice LogFault = Unit {0}
 IsByDevice (CommitUnsure lsn) = Unit {0}
 IsByDevice other = ⊥
 
--- the event forces nothing, so no call of the device is made
+-- a fault of the page store
+abbrev pub IsByStore : Refusal → Type 0
+IsByStore StoreFault = Unit {0}
+IsByStore other = ⊥
+
+-- the event forces nothing, so no call of the log's device is made
 abbrev pub LeavesDevice : Event → Type 0
 LeavesDevice (event.Commit txn) = ⊥
 LeavesDevice event.Force = ⊥
+LeavesDevice (event.WriteBegin page) = ⊥
 LeavesDevice other = Unit {0}
+
+-- the event ends no write, so no call of the page store is made
+abbrev pub LeavesStore : Event → Type 0
+LeavesStore (event.WriteEnd page) = ⊥
+LeavesStore other = Unit {0}
+
+-- a reply that tells of a fault of such a kind
+abbrev pub IsFaultReply : (Refusal → Type 0) → Result Answer Refusal → Type 0
+IsFaultReply IsOfKind (Ok answer) = ⊥
+IsFaultReply IsOfKind (Err why) = IsOfKind why

@@ -1,18 +1,20 @@
-//! The engine keeps its log, the table of its open transactions and its pages in step: each call
-//! appends its record, notes it and makes its change.
+//! The engine keeps its log, the table of its open transactions and the pool of its pages in step:
+//! each call appends its record, notes it and makes its change.
 
 ghost use Rattle.std.specs.Prelude.{ℕ, ◌≡◌, ◌+◌, ◌<◌, ◌≤◌, ◌^◌, length, not, true, Some, None};
 ghost use Rattle.std.specs.Prelude.{IfOk, IfErr, OnOk, OnErr};
-ghost use Rattle.log_store.specs.Linked.{number_in};
-ghost use Rattle.log_store.specs.Log.{IsPageCount};
-ghost use Rattle.log_store.specs.Transactions.{is_open, last_lsn};
+ghost use Rattle.log_history.specs.Linked.{number_in};
+ghost use Rattle.page_core.specs.Volume.{formatted_pages};
+ghost use Rattle.log_records.specs.Log.{IsPageCount};
+ghost use Rattle.log_history.specs.Transactions.{is_open, last_lsn};
 ghost use Rattle.aries_core.specs.Call.{Calls};
-ghost use Rattle.aries_core.specs.EngineState.{appended, end, forced_to, new_state};
+ghost use Rattle.aries_core.specs.EngineState.{IsFit, appended, end, forced_to, new_state};
 ghost use Rattle.aries_core.specs.EngineState.{update_record};
 ghost use Rattle.aries_core.specs.Refusal.{active_refusal, change_refusal, has_no_room};
 ghost use Rattle.aries_core.specs.Refusal.{page_refusal};
 ghost use Rattle.aries_core.specs.Refusal.{refusal};
-ghost use Rattle.aries_core.specs.Step.{ForcedPart, IsByDevice, IsUnsure, LeavesDevice};
+ghost use Rattle.aries_core.specs.Step.{ForcedPart, IsByDevice, IsByStore, IsUnsure, LeavesDevice};
+ghost use Rattle.aries_core.specs.Step.{LeavesStore};
 ghost use Rattle.aries_core.specs.Step.{Step, reply_of, undo_answer};
 ghost use Rattle.aries_core.specs.declared.event.Answer.TheVariants as answer;
 ghost use Rattle.aries_core.specs.declared.event.Event.TheVariants as event;
@@ -20,68 +22,84 @@ ghost use Rattle.aries_core.specs.declared.event.Event.TheVariants as event;
 use crate::event::{Answer, Event, Reply, Undone};
 use crate::refusal::Refusal;
 use crate::setup::{PlayFault, Setup};
-use log_store::{
-    DeviceFault, Log, LogDevice, MAX_OPEN, MAX_RECORDS, PendingChange, Record, TxnState,
-    formatted_pages, redo_on_its_page,
-};
-use page_core::{Change, ChangeKind, Lsn, Page, PageNo, SLOTS, SlotNo, TxnNo, undo_of};
+use buffer_pool::Pool;
+use log_history::{PendingChange, TxnState};
+use log_records::{MAX_OPEN, MAX_RECORDS, Record};
+use log_store::{DeviceFault, Log, LogDevice};
+use page_core::{Change, ChangeKind, Lsn, PageNo, SLOTS, SlotNo, TxnNo, undo_of};
+use page_store::PageStore;
 use std::alloc::Global;
 use std::marker::Model;
 use txn_table::TxnTable;
 
-/// An engine for one thread, over a device that keeps its log. Each call is one event.
+/// An engine for one thread, over a store of pages and a device that keeps its log. Each call is
+/// one event.
 #[derive(Drop)]
-pub struct Engine<D: LogDevice> {
+pub struct Engine<S: PageStore, D: LogDevice> {
     pub(crate) log: Log<D>,
     pub(crate) txns: TxnTable,
-    pub(crate) pages: Vec<Page>,
+    pub(crate) pool: Pool<S>,
 }
 
-impl<D: LogDevice> Model for Engine<D> {
+impl<S: PageStore, D: LogDevice> Model for Engine<S, D> {
     ghost use Rattle.aries_core.specs.EngineState.{EngineView, IsKept, engine_view};
 
-    ghost Value = { EngineView D };
+    ghost Value = { EngineView S D };
 
-    ghost view = { λ it. engine_view it.log };
+    ghost view = { λ it. engine_view S.stored it.log it.pool };
 
-    ghost invariant = { λ it. IsKept (engine_view it.log).state it.txns it.pages.items };
+    ghost invariant = { λ it.
+        IsKept S.stored (engine_view S.stored it.log it.pool).state it.txns it.pool };
 }
 
-impl<D: LogDevice + Drop> Engine<D> {
+impl<S: PageStore + Drop, D: LogDevice + Drop> Engine<S, D> {
     /// An engine over a formatted volume, with a log without records, whose header is stored. Each
-    /// page has a frame of its own. Where this call fails, the device is dropped.
-    pub fn new(alloc: Global, setup: Setup, device: D) -> Result<Engine<D>, PlayFault>
+    /// page has a frame of its own. The store is not called but for its count. Where this call
+    /// fails, store and device are dropped.
+    pub fn new(alloc: Global, setup: Setup, store: S, device: D) -> Result<Engine<S, D>, PlayFault>
         requires pages { IsPageCount setup.pages }
         requires frames { setup.pages ≤ setup.frames }
+        requires formatted { S.stored store ≡ formatted_pages setup.pages }
 
         ensures empty { IfOk result (λ it. it.state ≡ new_state setup.pages) }
+        ensures store { IfOk result (λ it. it.store ≡ store) }
         ensures no_failure { IfOk result (λ it. D.failures it.device ≡ D.failures device) }
         ensures cause { IfErr result (λ why. why ≡ PlayFault.LogFault
             → (left : D) × (D.failures device < D.failures left)) }
     {
-        let Ok(pages) = formatted_pages(alloc, setup.pages) else {
+        let Ok(pool) = Pool::new(alloc, store) else {
             return Err(PlayFault::OutOfMemory);
         };
         match Log::new(alloc, setup.pages, device) {
             Ok(log) => Ok(Engine {
                 log,
                 txns: TxnTable::new(alloc),
-                pages,
+                pool,
             }),
             Err(_) => Err(PlayFault::LogFault),
         }
     }
 }
 
-impl<D: LogDevice> Engine<D> {
+impl<S: PageStore, D: LogDevice> Engine<S, D> {
     /// Does what an event says. Refusals are those of the call of that name.
     pub fn apply(&mut self, event: Event) -> Reply
         ensures step { Step self.old.state event result self.new.state }
         ensures device { LeavesDevice event → self.new.device ≡ self.old.device }
+        ensures refused { IfErr result (λ why. ¬ IsByDevice why
+            → self.new.device ≡ self.old.device) }
         ensures no_failure { OnOk result
             (D.failures self.new.device ≡ D.failures self.old.device) }
         ensures cause { IfErr result (λ why. IsByDevice why
             → D.failures self.old.device < D.failures self.new.device) }
+
+        ensures store { LeavesStore event → self.new.store ≡ self.old.store }
+        ensures store_refused { IfErr result (λ why. ¬ IsByStore why
+            → self.new.store ≡ self.old.store) }
+        ensures no_store_failure { OnOk result
+            (S.failures self.new.store ≡ S.failures self.old.store) }
+        ensures store_cause { IfErr result (λ why. IsByStore why
+            → S.failures self.old.store < S.failures self.new.store) }
     {
         let answer = match event {
             Event::Begin => {
@@ -108,6 +126,8 @@ impl<D: LogDevice> Engine<D> {
                 Undone::Ended(lsn) => Answer::Ended(lsn),
             },
             Event::Force => Answer::Forced(self.force()?),
+            Event::WriteBegin(page) => Answer::Writing(self.write_begin(page)?),
+            Event::WriteEnd(page) => Answer::Written(self.write_end(page)?),
         };
         Ok(answer)
     }
@@ -117,6 +137,7 @@ impl<D: LogDevice> Engine<D> {
     pub fn begin(&mut self) -> Result<(TxnNo, Lsn), Refusal>
         ensures step { Step self.old.state event.Begin (reply_of (λ a. answer.Began a.0 a.1) result)
             self.new.state }
+        ensures store { self.new.store ≡ self.old.store }
         ensures device { self.new.device ≡ self.old.device }
     {
         if self.txns.open_txns() >= MAX_OPEN {
@@ -142,6 +163,7 @@ impl<D: LogDevice> Engine<D> {
     ) -> Result<Lsn, Refusal>
         ensures step { Step self.old.state (event.Set txn page slot number)
             (reply_of answer.Logged result) self.new.state }
+        ensures store { self.new.store ≡ self.old.store }
         ensures device { self.new.device ≡ self.old.device }
     {
         let prev = self.find_changeable(txn, page, slot, ChangeKind::Set)?;
@@ -163,6 +185,7 @@ impl<D: LogDevice> Engine<D> {
     ) -> Result<Lsn, Refusal>
         ensures step { Step self.old.state (event.Add txn page slot amount)
             (reply_of answer.Logged result) self.new.state }
+        ensures store { self.new.store ≡ self.old.store }
         ensures device { self.new.device ≡ self.old.device }
     {
         let prev = self.find_changeable(txn, page, slot, ChangeKind::Add)?;
@@ -184,6 +207,9 @@ impl<D: LogDevice> Engine<D> {
     pub fn commit(&mut self, txn: TxnNo) -> Result<Lsn, Refusal>
         ensures step { Step self.old.state (event.Commit txn) (reply_of answer.Logged result)
             self.new.state }
+        ensures store { self.new.store ≡ self.old.store }
+        ensures refused { IfErr result (λ why. ¬ IsUnsure why
+            → self.new.device ≡ self.old.device) }
         ensures no_failure { OnOk result
             (D.failures self.new.device ≡ D.failures self.old.device) }
         ensures cause { IfErr result (λ why. IsUnsure why
@@ -203,6 +229,7 @@ impl<D: LogDevice> Engine<D> {
     pub fn abort(&mut self, txn: TxnNo) -> Result<Lsn, Refusal>
         ensures step { Step self.old.state (event.Abort txn) (reply_of answer.Logged result)
             self.new.state }
+        ensures store { self.new.store ≡ self.old.store }
         ensures device { self.new.device ≡ self.old.device }
     {
         let prev = self.find_active(txn)?;
@@ -217,6 +244,7 @@ impl<D: LogDevice> Engine<D> {
     pub fn undo_step(&mut self, txn: TxnNo) -> Result<Undone, Refusal>
         ensures step { Step self.old.state (event.UndoStep txn) (reply_of undo_answer result)
             self.new.state }
+        ensures store { self.new.store ≡ self.old.store }
         ensures device { self.new.device ≡ self.old.device }
     {
         let prev = self.find_rolling(txn)?;
@@ -245,6 +273,7 @@ impl<D: LogDevice> Engine<D> {
     pub fn force(&mut self) -> Result<Lsn, Refusal>
         ensures step { Step self.old.state event.Force (reply_of answer.Forced result)
             self.new.state }
+        ensures store { self.new.store ≡ self.old.store }
         ensures no_failure { OnOk result
             (D.failures self.new.device ≡ D.failures self.old.device) }
         ensures cause { OnErr result (D.failures self.old.device < D.failures self.new.device) }
@@ -257,7 +286,8 @@ impl<D: LogDevice> Engine<D> {
 
     /// The LSN that the next record will have.
     pub fn log_end(&self) -> Lsn
-        ensures { result ≡ end self.now.state }
+        ensures end { result ≡ end self.now.state }
+        ensures fit { IsFit self.now.state }
     {
         self.log.end()
     }
@@ -265,7 +295,8 @@ impl<D: LogDevice> Engine<D> {
     /// Stores the records that are not forced yet.
     fn force_log(&mut self) -> Result<(), DeviceFault>
         ensures ok { OnOk result (self.new.state ≡ forced_to self.old.state (end self.old.state)) }
-        ensures err { OnErr result (ForcedPart self.old.state self.new.state) }
+        ensures store { self.new.store ≡ self.old.store }
+        ensures err { OnErr result (ForcedPart (end self.old.state) self.old.state self.new.state) }
         ensures no_failure { OnOk result
             (D.failures self.new.device ≡ D.failures self.old.device) }
         ensures cause { OnErr result
@@ -348,7 +379,7 @@ impl<D: LogDevice> Engine<D> {
         requires { page_refusal self.now.state page slot ≡ None }
         ensures { result ≡ number_in self.now.state.log page slot }
     {
-        self.pages[page.0 as usize].slots[slot.0 as usize]
+        self.pool.current(page).slots[slot.0 as usize]
     }
 
     /// Whether records and owed records stay within the limit, with so many more.
@@ -375,6 +406,7 @@ impl<D: LogDevice> Engine<D> {
             (update_record self.old.state txn page slot change))) }
         ensures err { IfErr result (λ why. (why ≡ Refusal.OutOfMemory)
             × (self.new.state ≡ self.old.state)) }
+        ensures store { self.new.store ≡ self.old.store }
         ensures device { self.new.device ≡ self.old.device }
     {
         let lsn = self.log.end();
@@ -395,13 +427,14 @@ impl<D: LogDevice> Engine<D> {
         ensures ok { OnOk result (self.new.state ≡ appended self.old.state next) }
         ensures err { IfErr result (λ why. (why ≡ Refusal.OutOfMemory)
             × (self.new.state ≡ self.old.state)) }
+        ensures store { self.new.store ≡ self.old.store }
         ensures device { self.new.device ≡ self.old.device }
     {
         if self.log.make_room().is_err() || self.txns.note(&next).is_err() {
             return Err(Refusal::OutOfMemory);
         }
         self.log.append(next);
-        redo_on_its_page(&mut self.pages, &next);
+        self.pool.change(&next);
         Ok(())
     }
 }

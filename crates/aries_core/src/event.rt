@@ -35,6 +35,10 @@ pub enum Event {
     UndoStep(TxnNo),
     /// Forces the whole log.
     Force,
+    /// Begins to write a page: keeps an image of it, and forces the log through its LSN.
+    WriteBegin(PageNo),
+    /// Stores the image of a page whose write has begun.
+    WriteEnd(PageNo),
 }
 
 /// What an accepted call answers.
@@ -52,6 +56,10 @@ pub enum Answer {
     Ended(Lsn),
     /// The forced end of the log.
     Forced(Lsn),
+    /// The LSN of the image that is being written.
+    Writing(Lsn),
+    /// The LSN of the image that was stored.
+    Written(Lsn),
 }
 
 /// What a step of a rollback did.

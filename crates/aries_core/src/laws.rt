@@ -1,16 +1,20 @@
 //! Laws of whole runs, for those who read the contracts.
 
 ghost use Rattle.std.specs.Prelude.{ℕ, ◌≡◌, ◌≢◌, ◌+◌, ◌<◌, ◌≤◌, ◌++◌, List, [], ◌∷◌, length};
-ghost use Rattle.std.specs.Prelude.{Option, Some, None, Result, Ok, Err, false};
+ghost use Rattle.std.specs.Prelude.{Option, Some, None, Result, Ok, Err, false, slice_index_or};
 ghost use Rattle.std.specs.List.{All};
-ghost use Rattle.log_store.specs.declared.limits.TheConstants.{MAX_RECORDS};
-ghost use Rattle.log_store.specs.declared.record.Record.{Record};
-ghost use Rattle.log_store.specs.declared.record.Record.TheVariants as log;
-ghost use Rattle.log_store.specs.Log.{IsPageCount};
-ghost use Rattle.log_store.specs.Transactions.{is_open, last_lsn, owed};
-ghost use Rattle.log_store.specs.Work.{work};
+ghost use Rattle.log_records.specs.declared.limits.TheConstants.{MAX_RECORDS};
+ghost use Rattle.log_records.specs.declared.record.Record.{Record};
+ghost use Rattle.log_records.specs.declared.record.Record.TheVariants as log;
+ghost use Rattle.log_records.specs.Log.{IsPageCount};
+ghost use Rattle.log_history.specs.Transactions.{is_open, last_lsn, owed};
+ghost use Rattle.log_history.specs.Work.{work};
 ghost use Rattle.aries_core.specs.Accepted.{accepted};
 ghost use Rattle.aries_core.specs.EngineState.{EngineState, IsFit, effect, new_state};
+ghost use Rattle.aries_core.specs.EngineState.{page_now, rec_lsn_of};
+ghost use Rattle.aries_core.specs.Written.{written_by};
+ghost use Rattle.log_records.specs.Coverage.{Covers};
+ghost use Rattle.page_core.specs.declared.page.Page.{Page};
 ghost use Rattle.aries_core.specs.EventFits.{EventFits};
 ghost use Rattle.aries_core.specs.Refusal.{refusal};
 ghost use Rattle.aries_core.specs.Run.{Run};
@@ -21,7 +25,7 @@ ghost use Rattle.aries_core.specs.declared.event.Event.{Event};
 ghost use Rattle.aries_core.specs.declared.event.Event.TheVariants as event;
 ghost use Rattle.aries_core.specs.declared.refusal.Refusal.{Refusal};
 ghost use Rattle.aries_core.specs.declared.refusal.Refusal.TheVariants.{CommitUnsure, LogFault};
-ghost use Rattle.aries_core.specs.declared.refusal.Refusal.TheVariants.{LogFull};
+ghost use Rattle.aries_core.specs.declared.refusal.Refusal.TheVariants.{LogFull, StoreFault};
 
 /// A new engine is fit: its log has a spelling, is linked, and has room for what open transactions
 /// may still need.
@@ -86,10 +90,10 @@ pub fn an_unsure_commit_ends_its_transaction()
         × (new.forced_end ≤ lsn) }
 {}
 
-/// A refusal changes nothing, but for the two that tell of the device.
+/// A refusal changes nothing, but for the three that tell of the log's device or of the store.
 pub fn a_refusal_changes_nothing()
     ensures { (old : EngineState) (event : Event) (why : Refusal) (new : EngineState)
-        → why ≢ LogFault
+        → why ≢ LogFault → why ≢ StoreFault
         → ((lsn : ℕ) → why ≢ CommitUnsure lsn) → Step old event (Err why) new → new ≡ old }
 {}
 
@@ -101,4 +105,22 @@ pub fn replies_are_determined()
         → Step old event reply new → (reply ≡ Err why) × (new ≡ old) }
     ensures answered { (old : EngineState) (event : Event) (a b : Answer) (new other : EngineState)
         → Step old event (Ok a) new → Step old event (Ok b) other → (a ≡ b) × (new ≡ other) }
+{}
+
+/// Each stored page of a fit engine lacks nothing below the page's RecLSN; where the page has none,
+/// it is not dirty, and it is stored as it is now.
+pub fn stored_pages_cover_their_rec_lsn()
+    ensures dirty { (s : EngineState) (page rec_lsn : ℕ) (d : Page) → IsFit s → page < s.pages
+        → rec_lsn_of s page ≡ Some rec_lsn
+        → Covers s.log page (slice_index_or s.stored page d) rec_lsn }
+    ensures clean { (s : EngineState) (page : ℕ) (d : Page) → IsFit s → page < s.pages
+        → rec_lsn_of s page ≡ None → slice_index_or s.stored page d ≡ page_now s page }
+{}
+
+/// The LSN of the last write of each page is the one that its last accepted end of a write
+/// answered, so events and replies alone say with the log which pages are dirty.
+pub fn the_written_lsns_are_those_answered()
+    ensures { (pages : ℕ) (events : List Event) (replies : List (Result Answer Refusal))
+        (new : EngineState) → Run (new_state pages) events replies new
+        → new.written ≡ written_by pages events replies }
 {}

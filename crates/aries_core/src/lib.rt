@@ -4,6 +4,8 @@
 mod engine;
 mod event;
 mod laws;
+mod page_writes;
+mod played;
 mod refusal;
 mod setup;
 
@@ -12,9 +14,10 @@ pub use event::{Answer, Event, Reply, Undone};
 pub use laws::{
     a_new_engine_is_fit, a_refusal_changes_nothing, an_answered_commit_is_forced,
     an_unsure_commit_ends_its_transaction, engines_stay_fit, log_full_is_exact,
-    log_shows_the_accepted_calls, replies_are_determined, the_forced_end_never_falls,
-    the_log_only_grows,
+    log_shows_the_accepted_calls, replies_are_determined, stored_pages_cover_their_rec_lsn,
+    the_forced_end_never_falls, the_log_only_grows, the_written_lsns_are_those_answered,
 };
+pub use played::{Played, play};
 pub use refusal::Refusal;
 pub use setup::{PlayFault, Setup};
 

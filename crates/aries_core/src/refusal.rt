@@ -26,6 +26,15 @@ pub enum Refusal {
     LogFull,
     /// 64 transactions are open.
     TooManyTxns,
+    /// The page has no change that its stored page may lack.
+    NotDirty,
+    /// A write of the page is in progress.
+    WriteBegun,
+    /// No write of the page is in progress.
+    NoWrite,
+    /// The page store failed. The write stays in progress with its image, and may be ended again;
+    /// the old page is stored, or the image.
+    StoreFault,
     /// The log's device failed. The records that were stored before the fault count as forced.
     LogFault,
     /// The log's device failed while the Commit at this LSN was forced. The Commit stands in the
@@ -53,6 +62,10 @@ impl fmt::Display for Refusal {
             Refusal::NotRolling => write!(f, "E7 NotRolling"),
             Refusal::LogFull => write!(f, "E8 LogFull"),
             Refusal::TooManyTxns => write!(f, "E9 TooManyTxns"),
+            Refusal::NotDirty => write!(f, "E10 NotDirty"),
+            Refusal::WriteBegun => write!(f, "E11 WriteBegun"),
+            Refusal::NoWrite => write!(f, "E12 NoWrite"),
+            Refusal::StoreFault => write!(f, "E22 StoreFault"),
             Refusal::LogFault => write!(f, "E23 LogFault"),
             Refusal::CommitUnsure(lsn) => {
                 let lsn = lsn.0;

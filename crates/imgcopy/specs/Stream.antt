@@ -4,9 +4,9 @@ use Rattle.std.specs.Io.KnownBytes.{Appends, Keeps}
 use Rattle.page_core.specs.Page.{volume_bytes}
 use Rattle.log_store.specs.declared.fault.LogReadFault.{LogReadFault}
 use Rattle.log_store.specs.declared.fault.LogReadFault.TheVariants as log
-use Rattle.log_store.specs.Linked.{IsLinked}
-use Rattle.log_store.specs.Log.{Log, IsLog, SpellsLog}
-use Rattle.log_store.specs.Image.{redo_all}
+use Rattle.log_history.specs.Linked.{IsLinked}
+use Rattle.log_records.specs.Log.{Log, IsLog, SpellsLog}
+use Rattle.log_records.specs.Image.{redo_all}
 use Rattle.log_store.specs.Fault.{Refuses, GaveNoFault}
 use Rattle.imgcopy.specs.declared.fault.Fault.{Fault}
 use Rattle.imgcopy.specs.declared.fault.Fault.TheVariants as fault

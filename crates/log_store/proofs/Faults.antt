@@ -1,22 +1,36 @@
 -- Which fault is the first.
-use Rattle.std.proofs.Common.{◌≡◌, ℕ, ◌+◌, ◌-◌, ◌*◌, ◌/◌, ◌%◌, ◌<◌, ◌≤◌, List, [], ◌∷◌, ◌≢◌, length, get_or, take, drop}
+use Rattle.std.proofs.Common.{◌≡◌, ℕ, ◌+◌, ◌-◌, ◌*◌, ◌/◌, ◌%◌, ◌<◌, ◌≤◌, List, [], ◌∷◌, ◌≢◌, length, get_or, take, drop, min}
 use Rattle.std.proofs.Common.{refl, sym, ap, subst, ◌∙◌, arith, inl, inr}
-use Rattle.std.specs.Prelude.{slice_range}
+use Rattle.std.specs.Prelude.{slice_range, slice_index_or}
 use Rattle.std.proofs.lemmas.Bool.{cases_lt}
 use Rattle.std.proofs.lemmas.List.{get_or-take, length-drop, length-take, same_lists, take-append-drop}
-use Rattle.log_store.proofs.Records.{record_length, same_record}
+use Rattle.log_records.proofs.Records.{record_length, same_record}
 use Rattle.log_store.specs.declared.fault.LogReadFault.{LogReadFault}
 use Rattle.log_store.specs.declared.fault.LogReadFault.TheVariants.{OutOfMemory, BadHeader, BadRecord, BadChain, Torn}
 use Rattle.log_store.specs.declared.fault.LogReadFault.TheVariants.{ReadFault, TooLong}
-use Rattle.log_store.specs.declared.limits.TheConstants.{MAX_LOG_BYTES}
-use Rattle.log_store.specs.declared.record.Record.{Record}
-use Rattle.log_store.specs.Record.{IsRecord, record_bytes}
-use Rattle.log_store.specs.Log.{Log, StandsAt, SpellsLog, HasHeader, lsn_of}
-use Rattle.log_store.specs.Linked.{IsLinked, MayFollow}
+use Rattle.log_records.specs.declared.limits.TheConstants.{MAX_LOG_BYTES}
+use Rattle.log_records.specs.declared.record.Record.{Record}
+use Rattle.log_records.specs.Record.{IsRecord, record_bytes}
+use Rattle.log_records.specs.Log.{Log, StandsAt, SpellsLog, HasHeader, lsn_of, pages_in}
+use Rattle.log_history.specs.Linked.{IsLinked, MayFollow}
 use Rattle.log_store.specs.Fault.{BreaksChain, IsPlace, IsHeader, HasRecord, HasFault, IsFirstFault, offset_of}
-use Rattle.log_store.specs.Fault.{pages_in}
-use Rattle.log_store.proofs.Logs.{AreFirst, range_in, whole_records, pages_in-header, length-log, header_of_log}
-use Rattle.log_store.proofs.Logs.{record_of_log}
+use Rattle.log_records.proofs.Logs.{range_in, pages_in-header, length-log, header_of_log, record_of_log}
+
+-- ---- the first records of some bytes
+
+-- how many whole records stand behind the header, of those that a log may have
+abbrev pub whole_records : List ℕ → ℕ
+whole_records bytes = min (length bytes / 64 - 1) 1048576
+
+-- these are the first n records behind the header
+pub record AreFirst (n pages : ℕ) (bytes : List ℕ) (rs : List Record) : Type 0 where
+  pub count : length rs ≡ n
+  pub each : (i : ℕ) (d : Record) → i < n → StandsAt pages (lsn_of i) (slice_index_or rs i d)
+  pub spelled : (i : ℕ) (d : Record) → i < n
+      → slice_range bytes (lsn_of i) (lsn_of i + 64) ≡ record_bytes (slice_index_or rs i d)
+  pub linked : IsLinked rs
+
+-- ---- which fault is the first
 
 -- a record that stands at an LSN, as a fault's absence says it
 pub has_record : (pages : ℕ) (bytes : List ℕ) → HasHeader pages bytes → (i : ℕ) (r : Record)

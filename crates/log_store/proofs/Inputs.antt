@@ -1,20 +1,20 @@
 -- What a fault of the bytes so far says of the whole input.
-use Rattle.std.proofs.Common.{◌≡◌, ℕ, ◌+◌, ◌-◌, ◌<◌, ◌≤◌, List, [], ◌++◌, length, take, drop, sym, ap, subst, ◌∙◌}
+use Rattle.std.proofs.Common.{◌≡◌, ℕ, ◌+◌, ◌<◌, ◌≤◌, List, [], ◌++◌, length, take, sym, ap, subst, ◌∙◌}
 use Rattle.std.proofs.Common.{arith, inl, inr}
 use Rattle.std.proofs.lemmas.Bool.{cases_lt}
-use Rattle.std.specs.Prelude.{slice_range, Option, Some, None, IfSome}
+use Rattle.std.specs.Prelude.{Option, Some, None, IfSome}
 use Rattle.std.specs.Int.{w32, from_le_bytes}
 use Rattle.std.specs.Io.KnownBytes.{Consumes, IsAtEnd}
-use Rattle.std.proofs.lemmas.List.{take-append-le, drop-append-le, length-append, length-drop, length-take, append-nil}
+use Rattle.std.proofs.lemmas.List.{take-append-le, length-append, length-take, append-nil}
 use Rattle.log_store.specs.declared.fault.LogReadFault.{LogReadFault}
 use Rattle.log_store.specs.declared.fault.LogReadFault.TheVariants.{OutOfMemory, BadHeader, BadRecord, BadChain, Torn}
 use Rattle.log_store.specs.declared.fault.LogReadFault.TheVariants.{ReadFault, TooLong}
-use Rattle.log_store.specs.declared.limits.TheConstants.{MAX_LOG_BYTES}
-use Rattle.log_store.specs.Log.{Log, SpellsLog, StandsAt}
-use Rattle.log_store.specs.Linked.{IsLinked}
+use Rattle.log_records.specs.declared.limits.TheConstants.{MAX_LOG_BYTES}
+use Rattle.log_records.specs.Log.{Log, SpellsLog, StandsAt, pages_in}
+use Rattle.log_history.specs.Linked.{IsLinked}
 use Rattle.log_store.specs.Fault.{BreaksChain, IsPlace, IsHeader, HasRecord, HasFault, IsFirstFault, IsHeld}
-use Rattle.log_store.specs.Fault.{HoldsNoFault, Refuses, IsOutside, offset_of, pages_in}
-use Rattle.log_store.proofs.Logs.{length-header_bytes, range_in}
+use Rattle.log_store.specs.Fault.{HoldsNoFault, Refuses, IsOutside, offset_of}
+use Rattle.log_records.proofs.Logs.{length-header_bytes, range_in}
 use Rattle.log_store.proofs.Faults.{break_at, first_header, none_in_log}
 
 -- of a record that lies within what was given

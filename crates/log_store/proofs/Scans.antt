@@ -11,16 +11,16 @@ use Rattle.std.proofs.KnownBytes.{Consumes-trans}
 use Rattle.log_store.specs.declared.fault.LogReadFault.{LogReadFault}
 use Rattle.log_store.specs.declared.fault.LogReadFault.TheVariants.{OutOfMemory, BadHeader, BadRecord, BadChain, Torn}
 use Rattle.log_store.specs.declared.fault.LogReadFault.TheVariants.{ReadFault, TooLong}
-use Rattle.log_store.specs.declared.record.Record.{Record}
-use Rattle.log_store.specs.Record.{record_bytes}
-use Rattle.log_store.specs.Log.{Log, IsLog, StandsAt, SpellsLog, HasHeader, header_bytes, log_bytes, lsn_of}
-use Rattle.log_store.specs.History.{IsMadeOf, Made}
-use Rattle.log_store.specs.Linked.{IsLinked, MayFollow}
+use Rattle.log_records.specs.declared.record.Record.{Record}
+use Rattle.log_records.specs.Record.{record_bytes}
+use Rattle.log_records.specs.Log.{Log, IsLog, StandsAt, SpellsLog, HasHeader, header_bytes, log_bytes, lsn_of, with_next}
+use Rattle.log_history.specs.History.{IsMadeOf, Made}
+use Rattle.log_history.specs.Linked.{IsLinked, MayFollow}
 use Rattle.log_store.specs.Fault.{IsFirstFault, Refuses, HoldsNoFault, GaveNoFault}
-use Rattle.log_store.specs.Scan.{with_next, HasRead, HasTaken}
-use Rattle.log_store.proofs.Logs.{AreFirst, range_in, whole_records, length-log, header_of_log, record_of_log}
-use Rattle.log_store.proofs.Faults.{first_chain, first_record, first_too_long, first_torn}
-use Rattle.log_store.proofs.Records.{record_length}
+use Rattle.log_store.specs.Scan.{HasRead, HasTaken}
+use Rattle.log_records.proofs.Logs.{range_in, length-log, header_of_log, record_of_log}
+use Rattle.log_store.proofs.Faults.{AreFirst, whole_records, first_chain, first_record, first_too_long, first_torn}
+use Rattle.log_records.proofs.Records.{record_length}
 use Rattle.log_store.proofs.Inputs.{refuses_all, none_held, none_in_read, of_input}
 
 -- ---- what a log's bytes have, however they go on

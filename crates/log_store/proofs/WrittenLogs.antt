@@ -1,10 +1,10 @@
 -- What a log that is written keeps.
 use Rattle.std.proofs.Common.{◌≡◌, ℕ, ◌+◌, ◌*◌, ◌≤◌, List, [], length, take, refl, sym, ap, ◌∙◌, arith}
 use Rattle.std.proofs.lemmas.List.{append-nil, length-take, take_all}
-use Rattle.log_store.specs.declared.record.Record.{Record}
-use Rattle.log_store.specs.Log.{IsLog, IsPageCount, header_bytes, lsn_of}
+use Rattle.log_records.specs.declared.record.Record.{Record}
+use Rattle.log_records.specs.Log.{IsLog, IsPageCount, header_bytes, lsn_of}
 use Rattle.log_store.specs.WrittenLog.{IsWritten, written_log}
-use Rattle.log_store.proofs.Logs.{length-log, length-header_bytes}
+use Rattle.log_records.proofs.Logs.{length-log, length-header_bytes}
 
 -- the forced end lies on the device
 pub on_device : {D : Type 0} (bytes : D → List ℕ) (pages : ℕ) (records : List Record) (forced room : ℕ) (device : D)

@@ -2,18 +2,18 @@
 use Rattle.std.specs.Prelude.{ℕ, ◌≡◌, ◌+◌, ◌%◌, ◌<◌, ◌≤◌, List, length, take, slice_range, ◌++◌}
 use Rattle.std.specs.Prelude.{Option, codes}
 use Rattle.std.specs.Io.KnownBytes.{Consumes}
-use Rattle.std.specs.Int.{w32, from_le_bytes}
 use Rattle.std.specs.Fmt.{decimal}
 use Rattle.page_core.specs.declared.numbers.TheConstants.{LSN_STEP}
 use Rattle.log_store.specs.declared.fault.LogReadFault.{LogReadFault}
 use Rattle.log_store.specs.declared.fault.LogReadFault.TheVariants.{OutOfMemory, BadHeader}
 use Rattle.log_store.specs.declared.fault.LogReadFault.TheVariants.{BadRecord, BadChain, Torn}
 use Rattle.log_store.specs.declared.fault.LogReadFault.TheVariants.{ReadFault, TooLong}
-use Rattle.log_store.specs.declared.limits.TheConstants.{HEADER_BYTES, MAX_LOG_BYTES, RECORD_BYTES}
-use Rattle.log_store.specs.declared.record.Record.{Record}
-use Rattle.log_store.specs.Record.{record_bytes}
-use Rattle.log_store.specs.Linked.{IsLinked, MayFollow}
-use Rattle.log_store.specs.Log.{IsPageCount, Log, SpellsLog, StandsAt, header_bytes}
+use Rattle.log_records.specs.declared.limits.TheConstants.{HEADER_BYTES, MAX_LOG_BYTES}
+use Rattle.log_records.specs.declared.limits.TheConstants.{RECORD_BYTES}
+use Rattle.log_records.specs.declared.record.Record.{Record}
+use Rattle.log_records.specs.Record.{record_bytes}
+use Rattle.log_history.specs.Linked.{IsLinked, MayFollow}
+use Rattle.log_records.specs.Log.{IsPageCount, Log, SpellsLog, StandsAt, header_bytes, pages_in}
 
 -- an offset at which a record may stand
 pub record IsPlace (at : ℕ) : Type 0 where
@@ -24,10 +24,6 @@ pub record IsPlace (at : ℕ) : Type 0 where
 -- these 64 bytes are the header of a log
 abbrev pub IsHeader : List ℕ → Type 0
 IsHeader bytes = (pages : ℕ) × IsPageCount pages × (bytes ≡ header_bytes pages)
-
--- the page count that a header has
-abbrev pub pages_in : List ℕ → ℕ
-pages_in bytes = from_le_bytes w32 (slice_range bytes 8 12)
 
 -- the 64 bytes at this offset are a record that stands there
 abbrev pub HasRecord : List ℕ → ℕ → Type 0

@@ -1,13 +1,9 @@
 -- A log that is read a part at a time.
 use Rattle.std.specs.Prelude.{ℕ, ◌≡◌, ◌+◌, List, ◌++◌, length}
-use Rattle.log_store.specs.declared.record.Record.{Record}
-use Rattle.log_store.specs.History.{IsMadeOf, Made}
-use Rattle.log_store.specs.Linked.{IsLinked}
-use Rattle.log_store.specs.Log.{Log, SpellsLog}
-
--- the log with these records behind its own
-abbrev pub with_next : Log → List Record → Log
-with_next log rs = record log { records = log.records ++ rs }
+use Rattle.log_records.specs.declared.record.Record.{Record}
+use Rattle.log_history.specs.History.{IsMadeOf, Made}
+use Rattle.log_history.specs.Linked.{IsLinked}
+use Rattle.log_records.specs.Log.{Log, SpellsLog, with_next}
 
 -- the log with these records behind its own is linked, and has so many pages and records; this is
 -- what it makes, and these are its bytes

@@ -1,7 +1,7 @@
 -- A log that is written: its records, and what of them its device has.
 use Rattle.std.specs.Prelude.{ℕ, ◌≡◌, ◌/◌, ◌≤◌, List, length, take, min, slice_get, Some}
-use Rattle.log_store.specs.declared.record.Record.{Record}
-use Rattle.log_store.specs.Log.{Log, IsLog, SpellsLog, lsn_of}
+use Rattle.log_records.specs.declared.record.Record.{Record}
+use Rattle.log_records.specs.Log.{Log, IsLog, SpellsLog, lsn_of}
 
 -- the log, the LSN behind its last forced record, for how many records more it has memory, and its
 -- device

@@ -2,17 +2,13 @@
 
 ghost use Rattle.std.specs.Prelude.{ℕ, ◌≡◌, ◌+◌, ◌-◌, ◌<◌, ◌≤◌, [], ◌∷◌, length, max, Some};
 ghost use Rattle.std.specs.Prelude.{IfOk, IfErr, IfSome, OnOk, OnErr};
-ghost use Rattle.log_store.specs.declared.record.Record.{Record};
+ghost use Rattle.log_records.specs.declared.record.Record.{Record};
 ghost use Rattle.log_store.specs.Device.{KeepsFirst};
-ghost use Rattle.log_store.specs.Log.{IsLog, IsPageCount, StandsAt, lsn_of};
-ghost use Rattle.log_store.specs.Scan.{with_next};
+ghost use Rattle.log_records.specs.Log.{IsLog, IsPageCount, StandsAt, lsn_of, with_next};
 ghost use Rattle.log_store.specs.WrittenLog.{EndsAtRecord, HasRecordAt, IsWritten, end_up_to};
 
-use crate::codec::encode;
 use crate::device::{DeviceFault, LogDevice};
-use crate::header::encode_header;
-use crate::limits::{MAX_RECORDS, RECORD_BYTES};
-use crate::record::Record;
+use log_records::{MAX_RECORDS, RECORD_BYTES, Record, encode, encode_header};
 use page_core::Lsn;
 use std::alloc::{AllocError, Global};
 use std::marker::Model;
@@ -102,6 +98,7 @@ impl<D: LogDevice> Log<D> {
     pub fn force_to(&mut self, lsn: Lsn) -> Result<(), DeviceFault>
         ensures same { self.new.log ≡ self.old.log }
         ensures rising { self.old.forced_end ≤ self.new.forced_end }
+        ensures at_record { EndsAtRecord self.new }
         ensures stands { KeepsFirst self.old.forced_end
             (D.bytes self.old.device) (D.bytes self.new.device) }
 

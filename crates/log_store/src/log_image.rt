@@ -1,10 +1,10 @@
 //! A log that was read whole, as a value.
 
 ghost use Rattle.std.specs.Prelude.{◌≡◌};
-ghost use Rattle.log_store.specs.Log.{IsLog};
+ghost use Rattle.log_records.specs.Log.{IsLog};
 
-use crate::record::Record;
 use crate::sink::RecordSink;
+use log_records::Record;
 use std::alloc::{AllocError, Global};
 use std::marker::Model;
 
@@ -16,7 +16,7 @@ pub struct LogImage {
 }
 
 impl Model for LogImage {
-    ghost use Rattle.log_store.specs.Log.{IsLog, Log};
+    ghost use Rattle.log_records.specs.Log.{IsLog, Log};
 
     ghost Value = { Log };
 

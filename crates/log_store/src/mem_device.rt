@@ -4,8 +4,8 @@ ghost use Rattle.std.specs.Prelude.{◌≡◌, ◌+◌, ◌*◌, ◌≤◌, [], 
 ghost use Rattle.log_store.specs.MemDevice.{Stores, empty_memory, after_failure};
 
 use crate::device::{DeviceFault, LogDevice};
-use crate::failures::Failures;
-use crate::limits::{HEADER_BYTES, RECORD_BYTES};
+use log_records::{HEADER_BYTES, RECORD_BYTES};
+use page_core::Failures;
 use std::alloc::{AllocError, Global};
 use std::marker::Model;
 
@@ -20,7 +20,7 @@ pub struct MemDevice {
 impl Model for MemDevice {
     ghost use Rattle.std.specs.Prelude.{◌≤◌, vec_len};
     ghost use Rattle.std.specs.Vec.{vec_capacity};
-    ghost use Rattle.log_store.specs.Failures.{failure_count};
+    ghost use Rattle.page_core.specs.Failures.{failure_count};
     ghost use Rattle.log_store.specs.MemDevice.{Memory};
 
     ghost Value = { Memory };

@@ -1,6 +1,7 @@
 //! The table of open transactions on short logs, and that each call succeeds.
 
-use crate::{OpenTransactions, PendingChange, Record, TxnState};
+use log_history::{OpenTransactions, PendingChange, TxnState};
+use log_records::Record;
 use page_core::{Change, ChangeKind, Lsn, PageNo, SlotNo, TxnNo};
 use std::process::Abort;
 use std::test::Fail;

@@ -2,8 +2,8 @@
 
 ghost use Rattle.std.specs.Prelude.{ℕ, ◌≡◌, [], List, IfOk, IfErr, IfSome, OnOk, MatchResult, Some};
 ghost use Rattle.std.specs.Io.KnownBytes.{IsAtEnd};
-ghost use Rattle.log_store.specs.Linked.{IsLinked};
-ghost use Rattle.log_store.specs.Log.{Log, SpellsLog};
+ghost use Rattle.log_history.specs.Linked.{IsLinked};
+ghost use Rattle.log_records.specs.Log.{Log, SpellsLog};
 ghost use Rattle.log_store.specs.Fault.{Refuses, IsOutside, GaveNoFault};
 
 use crate::fault::LogReadFault;

@@ -3,20 +3,17 @@
 ghost use Rattle.std.specs.Prelude.{ℕ, ◌≡◌, ◌+◌, ◌*◌, ◌/◌, ◌<◌, ◌≤◌, ◌++◌, ◌-◌, [], List};
 ghost use Rattle.std.specs.Prelude.{length, take, drop, IfOk, IfErr, IfSome, OnOk};
 ghost use Rattle.std.specs.Io.KnownBytes.{Consumes, IsAtEnd};
-ghost use Rattle.log_store.specs.History.{IsMadeOf};
-ghost use Rattle.log_store.specs.Linked.{IsLinked};
-ghost use Rattle.log_store.specs.Log.{IsLog, Log, SpellsLog, header_bytes};
+ghost use Rattle.log_history.specs.History.{IsMadeOf};
+ghost use Rattle.log_history.specs.Linked.{IsLinked};
+ghost use Rattle.log_records.specs.Log.{IsLog, Log, SpellsLog, header_bytes};
 ghost use Rattle.log_store.specs.Fault.{Refuses, GaveNoFault, IsNoReadFault};
 ghost use Rattle.log_store.specs.Scan.{HasAll, HasRead, HasTaken};
 ghost use Rattle.log_store.specs.Turn.{Gives};
 
 use crate::fault::LogReadFault;
-use crate::header::page_count;
-use crate::history::History;
-use crate::limits::{HEADER_BYTES, MAX_RECORDS, RECORD_BYTES};
-use crate::place::record_at;
-use crate::record::Record;
 use crate::sink::RecordSink;
+use log_history::History;
+use log_records::{HEADER_BYTES, MAX_RECORDS, RECORD_BYTES, Record, page_count, record_at};
 use page_core::{LSN_STEP, Lsn, zeros};
 use std::alloc::Global;
 use std::io::{ErrorKind, Read};

@@ -1,10 +1,9 @@
 //! A sink takes the records of a log as they are read.
 
 ghost use Rattle.std.specs.Prelude.{◌≡◌, [], IfOk, OnOk};
-ghost use Rattle.log_store.specs.Log.{IsLog, IsPageCount, Log};
-ghost use Rattle.log_store.specs.Scan.{with_next};
+ghost use Rattle.log_records.specs.Log.{IsLog, IsPageCount, Log, with_next};
 
-use crate::record::Record;
+use log_records::Record;
 use std::alloc::{AllocError, Global};
 
 /// What takes the records of a log as they are read.

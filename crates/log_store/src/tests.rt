@@ -4,11 +4,9 @@
 mod readers;
 mod vectors;
 
-use crate::{
-    LogReadFault, MAX_LOG_BYTES, MAX_RECORDS, Record, TxnNo, decode, encode, encode_header,
-    read_log,
-};
-use page_core::{Change, Lsn, PageNo, SlotNo};
+use crate::{LogReadFault, read_log};
+use log_records::{MAX_LOG_BYTES, MAX_RECORDS, Record, decode, encode, encode_header};
+use page_core::{Change, Lsn, PageNo, SlotNo, TxnNo};
 use readers::{NeverReady, Pairs, Steps};
 use std::alloc::Global;
 use std::io;

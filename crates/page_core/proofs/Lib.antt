@@ -1,3 +1,4 @@
 pub mod Pieces
 pub mod EightBytes
 pub mod PageBytes
+pub mod Volumes

@@ -1,2 +1,4 @@
 pub mod Change
+pub mod Failures
 pub mod Page
+pub mod Volume

@@ -3,15 +3,19 @@
 
 mod buffer;
 mod change;
+mod failures;
 pub mod field;
 mod numbers;
 mod page;
 #[cfg(test)]
 mod tests;
+mod volume;
 
 pub use buffer::zeros;
 pub use change::{Change, ChangeKind, undo_of};
+pub use failures::Failures;
 pub use numbers::{LSN_STEP, Lsn, PageNo, SlotNo, TxnNo};
 pub use page::{
     BadPage, MAX_PAGES, PAGE_BYTES, Page, SLOTS, pages_are_spelled_apart, volumes_are_spelled_apart,
 };
+pub use volume::formatted_pages;

@@ -75,6 +75,17 @@ impl Page {
         }
     }
 
+    /// The same page once more. Unlike a clone, it cannot be refused.
+    pub fn copy(&self) -> Page
+        ensures { result ≡ self.now }
+    {
+        Page {
+            number: self.number,
+            lsn: self.lsn,
+            slots: self.slots,
+        }
+    }
+
     /// The redo of a change: the slot has the changed number, and the page the record's LSN.
     /// A slot that no page has is left out.
     pub fn apply(&mut self, lsn: Lsn, slot: SlotNo, change: &Change)

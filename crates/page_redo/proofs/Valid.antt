@@ -7,13 +7,13 @@ use Rattle.std.proofs.lemmas.List.{length-set}
 use Rattle.page_core.specs.declared.change.Change.{Change}
 use Rattle.page_core.specs.declared.page.Page.{Page}
 use Rattle.page_core.specs.Page.{formatted, put, IsPage}
-use Rattle.log_store.specs.declared.page_change.PageChange.{PageChange}
-use Rattle.log_store.specs.declared.record.Record.{Record}
-use Rattle.log_store.specs.Record.{IsChange, IsLsn, IsPageChange, IsRecord, own_lsn}
-use Rattle.log_store.specs.Log.{Log, IsLog}
-use Rattle.log_store.specs.Image.{with_record, image_from, image, redo_all}
-use Rattle.log_store.proofs.Changes.{changed_fits, valid_change}
-use Rattle.log_store.proofs.Images.{with_record-has}
+use Rattle.log_records.specs.declared.page_change.PageChange.{PageChange}
+use Rattle.log_records.specs.declared.record.Record.{Record}
+use Rattle.log_records.specs.Record.{IsChange, IsLsn, IsPageChange, IsRecord, own_lsn}
+use Rattle.log_records.specs.Log.{Log, IsLog}
+use Rattle.log_records.specs.Image.{with_record, image_from, image, redo_all}
+use Rattle.log_records.proofs.Changes.{changed_fits, valid_change}
+use Rattle.log_records.proofs.Images.{with_record-has}
 
 all_replicate : {X : Type 0} (P : X → Type 0) (n : ℕ) (x : X) → P x → AllByRecursion P (replicate n x)
 all_replicate P zero x here = tt

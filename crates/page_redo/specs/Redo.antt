@@ -1,9 +1,9 @@
 -- Redo by the page's LSN.
 use Rattle.std.specs.Prelude.{ℕ, nat_lt, Bool, List, filter}
 use Rattle.page_core.specs.declared.page.Page.{Page}
-use Rattle.log_store.specs.declared.record.Record.{Record}
-use Rattle.log_store.specs.Record.{own_lsn}
-use Rattle.log_store.specs.Image.{image_from}
+use Rattle.log_records.specs.declared.record.Record.{Record}
+use Rattle.log_records.specs.Record.{own_lsn}
+use Rattle.log_records.specs.Image.{image_from}
 
 -- a record is redone on a page whose LSN is below the record's
 abbrev pub is_above : ℕ → Record → Bool

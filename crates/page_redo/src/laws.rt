@@ -3,8 +3,8 @@
 ghost use Rattle.std.specs.Prelude.{ℕ, ◌≡◌, ◌≤◌, length, take};
 ghost use Rattle.std.specs.List.{AllByRecursion};
 ghost use Rattle.page_core.specs.Page.{IsPage};
-ghost use Rattle.log_store.specs.Log.{Log, IsLog};
-ghost use Rattle.log_store.specs.Image.{image, redo_all};
+ghost use Rattle.log_records.specs.Log.{Log, IsLog};
+ghost use Rattle.log_records.specs.Image.{image, redo_all};
 ghost use Rattle.page_redo.specs.Redo.{redone};
 
 /// The pages that a log makes are pages that a volume may have, so they have a spelling.

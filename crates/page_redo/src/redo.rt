@@ -3,7 +3,7 @@
 ghost use Rattle.std.specs.Prelude.{◌≡◌};
 ghost use Rattle.page_redo.specs.Redo.{is_above, redone};
 
-use log_store::Record;
+use log_records::Record;
 use page_core::{Lsn, Page};
 
 /// Redoes on a page the records above its LSN, in their order, and leaves out all others: a page

@@ -1,17 +1,21 @@
 -- What the table of a log says, in the log's words.
-use Rattle.std.proofs.Common.{◌≡◌, ℕ, zero, suc, ◌+◌, ◌≤◌, ◌++◌, ◌∷◌, [], Bool, true, false, cond, List, length}
-use Rattle.std.proofs.Common.{refl, sym, ap, subst, ◌∙◌, arith}
-use Rattle.std.specs.Prelude.{Option, Some, None, if◌then◌else◌}
-use Rattle.std.specs.Option.{option_and_then, option_map}
-use Rattle.log_store.specs.declared.pending_change.PendingChange.{PendingChange}
-use Rattle.log_store.specs.declared.record.Record.{Record}
-use Rattle.log_store.specs.declared.record.Record.TheVariants.{Begin, Update, Comp, Commit, Abort, End}
-use Rattle.log_store.specs.declared.txn_state.TxnState.{TxnState}
-use Rattle.log_store.specs.Table.{Entry, Table, entry_in, entry_of, table_of}
-use Rattle.log_store.specs.Transactions.{begun, is_open, last_of, pending}
-use Rattle.log_store.specs.TxnState.{state_of}
-use Rattle.log_store.proofs.Checks.{entry_in-table_of}
-use Rattle.txn_table.specs.TxnTable.{IsTableOf}
+use Rattle.std.proofs.Common.{◌≡◌, ℕ, ◌≤◌, ◌∷◌, [], Bool, true, false, cond, List, length, refl, sym, ap, subst, ◌∙◌, arith, min, inl, inr}
+use Rattle.std.specs.Prelude.{Option, Some, None, if◌then◌else◌, IfSome, filter, nat_le}
+use Rattle.std.specs.Option.{option_and_then, option_map, option_map_or}
+use Rattle.log_records.specs.declared.record.Record.{Record}
+use Rattle.log_records.specs.declared.record.Record.TheVariants.{Begin, Update, Comp, Commit, Abort, End}
+use Rattle.log_history.specs.Table.{Entry, Table, entry_in, entry_of, table_of}
+use Rattle.log_history.specs.Transactions.{begun, is_open, last_of, pending, open_in}
+use Rattle.log_history.specs.TxnState.{state_of, next_in}
+use Rattle.log_history.proofs.Checks.{entry_in-table_of}
+use Rattle.txn_table.specs.TxnTable.{IsTableOf, next_open}
+use Rattle.std.specs.List.{All}
+use Rattle.std.proofs.Math.Nat.{min-eq_left, min-eq_right}
+use Rattle.std.proofs.lemmas.Bool.{cases_lt}
+use Rattle.std.proofs.lemmas.List.{map-id}
+use Rattle.std.proofs.lemmas.List.Elements.{All-filter, All-head, All-tail, filter_passes}
+use Rattle.std.proofs.lemmas.Simd.{map-map}
+use Rattle.log_records.specs.Least.{least}
 
 -- no more transactions began than there are records
 pub begun_few : (rs : List Record) → length (begun rs) ≤ length rs
@@ -45,3 +49,44 @@ last_pending_is rs table t of =
         ≡ cond b (last_of (pending rs t)) None
     choose true = refl
     choose false = refl
+
+-- ---- the next open transaction
+
+-- what holds of both numbers holds of the lesser one
+of_lesser : (P : ℕ → Type 0) (n m : ℕ) → P n → P m → P (min n m)
+of_lesser P n m a b = elim (cases_lt n m) [
+  | inl less ↦ let le : n ≤ m = omega arith in subst P (sym (min-eq_left le)) a
+  | inr le ↦ subst P (sym (min-eq_right le)) b
+]
+
+-- what holds of each number holds of the least
+of_least : (P : ℕ → Type 0) (ns : List ℕ) → All P ns → IfSome (least ns) P
+of_least P [] all = tt
+of_least P (n ∷ ns) all = at (least ns) (of_least P ns (All-tail P n ns all))
+  where
+    at : (o : Option ℕ) → IfSome o P → P (option_map_or (min n) o n)
+    at None h = All-head P n ns all
+    at (Some m) h = of_lesser P n m (All-head P n ns all) h
+
+next_in-table_of : (rs : List Record) (from : ℕ) → next_in (table_of rs) from ≡ next_open rs from
+next_in-table_of rs from =
+    ap (λ (ns : List ℕ). least (filter (λ n. nat_le from n) ns))
+    (map-map (λ (e : Entry). e.txn) (entry_of rs) (open_in rs) ∙ map-id (open_in rs))
+
+next_is_open : (rs : List Record) (from : ℕ) → IfSome (next_open rs from) (λ t. is_open rs t ≡ true)
+next_is_open rs from =
+    of_least (λ t. is_open rs t ≡ true) (filter (λ t. nat_le from t) (open_in rs))
+    (All-filter (λ t. nat_le from t) (λ t. is_open rs t ≡ true) (open_in rs) (filter_passes (is_open rs) (begun rs)))
+
+pub next_from_is : (rs : List Record) (table : Table) (from : ℕ) → IsTableOf rs table
+    → option_map state_of (option_and_then (entry_in table) (next_in table from))
+    ≡ option_map (λ t. state_of (entry_of rs t)) (next_open rs from)
+next_from_is rs table from of =
+    ap (λ (x : Table). option_map state_of (option_and_then (entry_in x) (next_in x from))) of.made
+    ∙ ap (λ o. option_map state_of (option_and_then (entry_in (table_of rs)) o)) (next_in-table_of rs from)
+    ∙ at (next_open rs from) (next_is_open rs from)
+  where
+    at : (o : Option ℕ) → IfSome o (λ t. is_open rs t ≡ true)
+        → option_map state_of (option_and_then (entry_in (table_of rs)) o) ≡ option_map (λ t. state_of (entry_of rs t)) o
+    at None h = refl
+    at (Some t) h = ap (option_map state_of) (entry_in-table_of rs t ∙ ap (λ b. cond b (Some (entry_of rs t)) None) h)

@@ -3,15 +3,17 @@
 ghost use Rattle.std.specs.Prelude.{ℕ, ◌≡◌, ◌+◌, ◌<◌, ◌≤◌, ◌++◌, ◌∷◌, [], List, length, IfOk, OnOk};
 ghost use Rattle.std.specs.Prelude.{OnErr};
 ghost use Rattle.std.specs.Prelude.{if◌then◌else◌, Some, None};
-ghost use Rattle.log_store.specs.declared.record.Record.{Record};
-ghost use Rattle.log_store.specs.Linked.{MayFollow};
-ghost use Rattle.log_store.specs.Transactions.{begun, holder, is_open, last_of, open_in, owed};
-ghost use Rattle.log_store.specs.Transactions.{pending};
-ghost use Rattle.log_store.specs.Table.{entry_of, table_of};
-ghost use Rattle.log_store.specs.TxnState.{state_of};
-ghost use Rattle.txn_table.specs.TxnTable.{IsTableOf};
+ghost use Rattle.log_records.specs.declared.record.Record.{Record};
+ghost use Rattle.log_history.specs.Linked.{MayFollow};
+ghost use Rattle.log_history.specs.Transactions.{begun, holder, is_open, last_of, open_in, owed};
+ghost use Rattle.log_history.specs.Transactions.{pending};
+ghost use Rattle.log_history.specs.Table.{entry_of, table_of};
+ghost use Rattle.log_history.specs.TxnState.{state_of};
+ghost use Rattle.txn_table.specs.TxnTable.{IsTableOf, next_open};
+ghost use Rattle.std.specs.Option.{option_map};
 
-use log_store::{OpenTransactions, PendingChange, Record, TxnState};
+use log_history::{OpenTransactions, PendingChange, TxnState};
+use log_records::Record;
 use page_core::{ChangeKind, PageNo, SlotNo, TxnNo};
 use std::alloc::{AllocError, Global};
 use std::marker::Model;
@@ -24,7 +26,7 @@ pub struct TxnTable {
 }
 
 impl Model for TxnTable {
-    ghost use Rattle.log_store.specs.Table.{Table};
+    ghost use Rattle.log_history.specs.Table.{Table};
 
     ghost Value = { Table };
 
@@ -88,6 +90,15 @@ impl TxnTable {
             → result ≡ (if is_open rs txn then Some (state_of (entry_of rs txn)) else None) }
     {
         self.open.state(txn)
+    }
+
+    /// What the table has of the open transaction with the least number at or past the cursor; None
+    /// where there is none.
+    pub fn next_from(&self, cursor: TxnNo) -> Option<TxnState>
+        ensures { (rs : List Record) → IsTableOf rs self.now
+            → result ≡ option_map (λ t. state_of (entry_of rs t)) (next_open rs cursor) }
+    {
+        self.open.next_from(cursor)
     }
 
     /// The last pending change of a transaction, if it is open and has one.

@@ -1,16 +1,15 @@
 //! What no clause says: that each call succeeds, and what `read_log` makes of a device.
 
 ghost use Rattle.std.specs.Prelude.{◌≡◌, []};
-ghost use Rattle.log_store.specs.Log.{StandsAt};
+ghost use Rattle.log_records.specs.Log.{StandsAt};
 
 use super::Log;
 use crate::device::{DeviceFault, LogDevice};
 use crate::fault::LogReadFault;
 use crate::faulty_device::FaultyDevice;
-use crate::header::encode_header;
 use crate::mem_device::MemDevice;
 use crate::read::read_log;
-use crate::record::Record;
+use log_records::{Record, encode_header};
 use page_core::{Change, Lsn, PageNo, SlotNo, TxnNo};
 use std::alloc::{AllocError, Global};
 use std::process::Abort;

@@ -1,7 +1,7 @@
 //! Readers that give their bytes in steps, are interrupted, fail, or have no end.
 
-use crate::{Record, TxnNo, encode, encode_header};
-use page_core::Lsn;
+use log_records::{Record, encode, encode_header};
+use page_core::{Lsn, TxnNo};
 use std::io;
 use std::io::{ErrorKind, Read};
 

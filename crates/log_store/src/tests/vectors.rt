@@ -1,7 +1,8 @@
 //! Known records and logs, and their bytes.
 
-use crate::{LogReadFault, Record, TxnNo};
-use page_core::{Change, Lsn, PageNo, SlotNo};
+use crate::LogReadFault;
+use log_records::Record;
+use page_core::{Change, Lsn, PageNo, SlotNo, TxnNo};
 use std::alloc::{AllocError, Global};
 
 const MAGIC: u64 = 0x4149_4d47_4c4f_4731;

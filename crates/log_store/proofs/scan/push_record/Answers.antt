@@ -1,13 +1,12 @@
 use Rattle.std.proofs.Common.{rules, ◌≡◌, ℕ, ◌+◌, ◌++◌, List, sym, subst, arith, length, ap, ◌∙◌}
 use Rattle.std.proofs.lemmas.List.{length-append}
-use Rattle.std.proofs.lemmas.Result.{err_from_is_err_and}
-use Rattle.log_store.specs.declared.record.Record.{Record}
-use Rattle.log_store.specs.Log.{IsWithin, Log}
-use Rattle.log_store.specs.History.{Made}
-use Rattle.log_store.specs.Scan.{HasRead, with_next}
-use Rattle.log_store.proofs.Images.{length-redo_all}
-use Rattle.log_store.proofs.Histories.{linked_push}
-use Rattle.log_store.proofs.Followed.{made_next, may_come, may_follow}
+use Rattle.log_records.specs.declared.record.Record.{Record}
+use Rattle.log_records.specs.Log.{IsWithin, Log, with_next}
+use Rattle.log_history.specs.History.{Made}
+use Rattle.log_store.specs.Scan.{HasRead}
+use Rattle.log_records.proofs.Images.{length-redo_all}
+use Rattle.log_history.proofs.Histories.{linked_push}
+use Rattle.log_history.proofs.Followed.{made_next, may_come, may_follow}
 use Rattle.log_store.proofs.Scans.{read_bad_chain, read_bad_record, read_next, read_too_long}
 use Rattle.log_store.proofs.scan.push_record.Goals as goal
 

@@ -6,7 +6,7 @@ use Rattle.std.proofs.lemmas.List.{take-append-drop}
 use Rattle.std.proofs.lemmas.Bool.{cases_lt}
 use Rattle.std.proofs.lemmas.Result.{err_from_is_err_and}
 use Rattle.log_store.specs.declared.fault.LogReadFault.TheVariants.{Torn, TooLong}
-use Rattle.log_store.specs.Log.{header_bytes, lsn_of}
+use Rattle.log_records.specs.Log.{header_bytes, lsn_of}
 use Rattle.log_store.specs.Fault.{Refuses}
 use Rattle.log_store.specs.Scan.{HasTaken}
 use Rattle.log_store.proofs.Inputs.{of_input}

@@ -1,6 +1,6 @@
 use Rattle.std.proofs.Common.{◌≡◌, ℕ, ◌<◌, ◌≤◌, ◌++◌, List, take}
 use Rattle.std.specs.Io.KnownBytes.{Consumes}
-use Rattle.log_store.specs.Log.{header_bytes}
+use Rattle.log_records.specs.Log.{header_bytes}
 use Rattle.log_store.specs.Scan.{HasTaken}
 use Rattle.log_store.proofs.scan.read_records.Given as goal
 

@@ -4,7 +4,7 @@ use Rattle.std.proofs.KnownBytes.{Consumes-trans}
 use Rattle.std.proofs.lemmas.List.{take_all}
 use Rattle.std.proofs.lemmas.Result.{err_from_is_err_and}
 use Rattle.log_store.specs.declared.fault.LogReadFault.TheVariants.{BadHeader}
-use Rattle.log_store.specs.Log.{SpellsLog, header_bytes}
+use Rattle.log_records.specs.Log.{SpellsLog, header_bytes}
 use Rattle.log_store.specs.Fault.{Refuses, IsHeader}
 use Rattle.log_store.proofs.Faults.{first_header}
 use Rattle.log_store.proofs.Inputs.{of_input, goes_on_header}

@@ -1,10 +1,10 @@
 use Rattle.std.proofs.Common.{◌≡◌, ℕ, ◌+◌, ◌-◌, ◌*◌, ◌/◌, ◌++◌, List, length, take, drop, sym, ap, subst, ◌∙◌, arith}
 use Rattle.std.proofs.lemmas.List.{append_assoc, take-append-drop, drop-take, take-take}
 use Rattle.std.proofs.lemmas.Result.{err_from_is_err_and}
-use Rattle.log_store.specs.declared.record.Record.{Record}
-use Rattle.log_store.specs.Log.{IsLog}
+use Rattle.log_records.specs.declared.record.Record.{Record}
+use Rattle.log_records.specs.Log.{IsLog, with_next}
 use Rattle.log_store.specs.Fault.{Refuses}
-use Rattle.log_store.specs.Scan.{with_next, HasRead, HasTaken}
+use Rattle.log_store.specs.Scan.{HasRead, HasTaken}
 use Rattle.log_store.proofs.Scans.{read_none, taken_next}
 use Rattle.log_store.proofs.scan.take_records.Goals as goal
 

@@ -1,5 +1,5 @@
 use Rattle.std.proofs.Common.{ℕ, ◌+◌, ◌*◌, ◌++◌, [], List, take}
-use Rattle.log_store.specs.Log.{Log}
+use Rattle.log_records.specs.Log.{Log}
 use Rattle.log_store.specs.Scan.{HasRead}
 use Rattle.log_store.proofs.scan.take_records.Given as goal
 

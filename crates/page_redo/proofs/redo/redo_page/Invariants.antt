@@ -1,6 +1,6 @@
 use Rattle.std.proofs.Common.{◌≡◌, take}
 use Rattle.std.specs.List.{filter}
-use Rattle.log_store.specs.Image.{image_from}
+use Rattle.log_records.specs.Image.{image_from}
 use Rattle.page_redo.specs.Redo.{is_above}
 use Rattle.page_redo.proofs.redo.redo_page.Given as goal
 

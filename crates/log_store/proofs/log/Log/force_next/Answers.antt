@@ -1,5 +1,5 @@
 use Rattle.std.proofs.Common.{◌≤◌, length, arith}
-use Rattle.log_store.specs.Log.{lsn_of}
+use Rattle.log_records.specs.Log.{lsn_of}
 use Rattle.log_store.proofs.Devices.{keeps_stored}
 use Rattle.log_store.proofs.WrittenLogs.{on_device}
 use Rattle.log_store.proofs.log.Log.force_next.Goals as goal

@@ -1,5 +1,5 @@
 use Rattle.std.proofs.Common.{◌≤◌, length, refl, ◌∙◌, arith}
-use Rattle.log_store.specs.Log.{lsn_of}
+use Rattle.log_records.specs.Log.{lsn_of}
 use Rattle.log_store.proofs.Devices.{keeps_all, keeps_longer}
 use Rattle.log_store.proofs.WrittenLogs.{on_device}
 use Rattle.log_store.proofs.log.Log.force_to.Goals as goal

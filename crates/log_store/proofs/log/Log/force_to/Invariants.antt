@@ -1,6 +1,6 @@
 use Rattle.std.proofs.Common.{◌≡◌, ◌≤◌, max}
 use Rattle.log_store.specs.Device.{KeepsFirst}
-use Rattle.log_store.specs.Log.{lsn_of}
+use Rattle.log_records.specs.Log.{lsn_of}
 use Rattle.log_store.proofs.log.Log.force_to.Given as goal
 
 abbrev pub invariant-loop : goal.invariant-loop

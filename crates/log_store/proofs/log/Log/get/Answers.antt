@@ -1,8 +1,8 @@
-use Rattle.std.proofs.Common.{◌≡◌, ℕ, ◌<◌, List, Bool, true, false, length, get_or, sym, ap, ◌∙◌, arith, Bor}
+use Rattle.std.proofs.Common.{◌≡◌, ℕ, ◌<◌, List, length, get_or, sym, ap, ◌∙◌, arith, Bor}
 use Rattle.std.specs.Prelude.{Option, Some, None, IfSome, nat_lt, is_some, option_copied, slice_get}
 use Rattle.std.proofs.lemmas.Bool.{lt-ltb}
 use Rattle.std.proofs.lemmas.Option.{slice_get-get_or, slice_get_within}
-use Rattle.log_store.specs.declared.record.Record.{Record}
+use Rattle.log_records.specs.declared.record.Record.{Record}
 use Rattle.log_store.specs.WrittenLog.{WrittenLog}
 use Rattle.log_store.proofs.log.Log.get.Goals as goal
 

@@ -1,5 +1,5 @@
 use Rattle.std.proofs.Common.{◌≡◌, ◌∙◌}
-use Rattle.log_store.specs.Log.{header_bytes}
+use Rattle.log_records.specs.Log.{header_bytes}
 use Rattle.log_store.proofs.WrittenLogs.{written_empty}
 use Rattle.log_store.proofs.log.Log.new.Goals as goal
 

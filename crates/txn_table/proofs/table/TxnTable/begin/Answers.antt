@@ -1,6 +1,6 @@
-use Rattle.std.proofs.Common.{◌≡◌, ◌≤◌, length, ap, ◌∙◌, arith}
-use Rattle.log_store.specs.Table.{Table}
-use Rattle.log_store.specs.Transactions.{begun}
+use Rattle.std.proofs.Common.{◌≡◌, length, ap, ◌∙◌, arith}
+use Rattle.log_history.specs.Table.{Table}
+use Rattle.log_history.specs.Transactions.{begun}
 use Rattle.txn_table.proofs.Tables.{begun_few}
 use Rattle.txn_table.proofs.table.TxnTable.begin.Goals as goal
 

@@ -1,8 +1,8 @@
-use Rattle.std.proofs.Common.{◌≡◌, ap, subst, sym, ◌∙◌}
+use Rattle.std.proofs.Common.{ap, subst, sym, ◌∙◌}
 use Rattle.std.specs.Prelude.{Result, Ok, Err, OnOk}
-use Rattle.log_store.specs.Table.{MayNote, Table, noted}
-use Rattle.log_store.proofs.Checks.{may_note}
-use Rattle.log_store.proofs.Steps.{table_of_push}
+use Rattle.log_history.specs.Table.{MayNote, Table, noted}
+use Rattle.log_history.proofs.Checks.{may_note}
+use Rattle.log_history.proofs.Steps.{table_of_push}
 use Rattle.txn_table.proofs.table.TxnTable.note.Goals as goal
 
 pub note-requires : goal.note-requires

@@ -1,0 +1,122 @@
+-- A run that goes on by one step, and what its replies tell of the device.
+use Rattle.std.proofs.Common.{◌≡◌, ◌⊎◌, ℕ, ◌<◌, ◌++◌, List, [], ◌∷◌, refl, ap, subst, ◌∙◌, arith, inl, inr}
+use Rattle.std.specs.Prelude.{Result, Ok, Err, All, Any, IfErr, OnOk}
+use Rattle.std.proofs.lemmas.List.Elements.{All-nil, All-push, Contains-append_left}
+use Rattle.std.proofs.lemmas.List.Quantifiers.{Any-push}
+use Rattle.aries_core.specs.declared.event.Answer.{Answer}
+use Rattle.aries_core.specs.declared.event.Event.{Event}
+use Rattle.aries_core.specs.declared.refusal.Refusal.{Refusal}
+use Rattle.aries_core.specs.declared.refusal.Refusal.TheVariants.{CommitUnsure, LogFault, StoreFault}
+use Rattle.aries_core.specs.EngineState.{EngineState}
+use Rattle.aries_core.specs.Run.{Run}
+use Rattle.aries_core.specs.Step.{IsByDevice, IsByStore, IsFaultReply, Step}
+
+-- ---- one step more
+
+pub run_push : (old : EngineState) (events : List Event) (replies : List (Result Answer Refusal)) (mid : EngineState)
+    (event : Event) (reply : Result Answer Refusal) (new : EngineState)
+    → Run old events replies mid → Step mid event reply new
+    → Run old (events ++ event ∷ []) (replies ++ reply ∷ []) new
+run_push old [] [] mid event reply new is step = (new, subst (λ (s : EngineState). Step s event reply new) is step, refl)
+run_push old (first ∷ events) (answered ∷ replies) mid event reply new run step =
+    (run.0, run.1, run_push run.0 events replies mid event reply new run.2 step)
+run_push old [] (answered ∷ replies) mid event reply new run step = absurd run
+run_push old (first ∷ events) [] mid event reply new run step = absurd run
+
+-- ---- what fails: the log's device, or the store
+
+abbrev pub IsSound : (Refusal → Type 0) → Result Answer Refusal → Type 0
+IsSound Of reply = ¬ IsFaultReply Of reply
+
+pub record NoFault (Of : Refusal → Type 0) (replies : List (Result Answer Refusal)) (start now : ℕ) : Type 0 where
+  pub sound : All (IsSound Of) replies
+  pub same : now ≡ start
+
+pub record SomeFault (Of : Refusal → Type 0) (replies : List (Result Answer Refusal)) (start now : ℕ) : Type 0 where
+  pub fault : Any (IsFaultReply Of) replies
+  pub more : start < now
+
+-- the failures of a device or a store were so many at the start, and are so many now: more just where a reply tells
+-- of one
+abbrev pub Tells : (Refusal → Type 0) → ℕ → List (Result Answer Refusal) → ℕ → Type 0
+Tells Of start replies now = NoFault Of replies start now ⊎ SomeFault Of replies start now
+
+pub tells_none : (Of : Refusal → Type 0) (start now : ℕ) → now ≡ start → Tells Of start [] now
+tells_none Of start now same = inl (record { sound = All-nil (IsSound Of); same = same })
+
+-- what a step says of the failures
+record Counts (Of : Refusal → Type 0) (old : ℕ) (reply : Result Answer Refusal) (new : ℕ) : Type 0 where
+  sound : IsSound Of reply → new ≡ old
+  fault : IsFaultReply Of reply → old < new
+
+counts : (Of : Refusal → Type 0) {D : Type 0} (failures : D → ℕ) (old new : D) (reply : Result Answer Refusal)
+    → IfErr reply (λ why. ¬ Of why → new ≡ old) → OnOk reply (failures new ≡ failures old)
+    → IfErr reply (λ why. Of why → failures old < failures new)
+    → Counts Of (failures old) reply (failures new)
+counts Of failures old new (Ok answer) refused no_failure cause =
+    record { sound = λ h. no_failure; fault = λ h. absurd h }
+counts Of failures old new (Err why) refused no_failure cause =
+    record { sound = λ h. ap failures (refused h); fault = cause }
+
+pub by_device : (why : Refusal) → IsByDevice why ⊎ (¬ IsByDevice why)
+by_device LogFault = inl tt
+by_device (CommitUnsure lsn) = inl tt
+by_device other = inr (λ h. h)
+
+pub by_store : (why : Refusal) → IsByStore why ⊎ (¬ IsByStore why)
+by_store StoreFault = inl tt
+by_store other = inr (λ h. h)
+
+fault_or_sound : (Of : Refusal → Type 0) → ((why : Refusal) → Of why ⊎ (¬ Of why)) → (reply : Result Answer Refusal)
+    → IsFaultReply Of reply ⊎ IsSound Of reply
+fault_or_sound Of decides (Ok answer) = inr (λ h. h)
+fault_or_sound Of decides (Err why) = decides why
+
+any_more : (Of : Refusal → Type 0) (replies : List (Result Answer Refusal)) (reply : Result Answer Refusal)
+    → Any (IsFaultReply Of) replies → Any (IsFaultReply Of) (replies ++ reply ∷ [])
+any_more Of replies reply (k, x, lt, is, bad) =
+    let there = Contains-append_left replies (reply ∷ []) x (k, lt, is) in (there.0, x, there.1, there.2, bad)
+
+tells_next : (Of : Refusal → Type 0) (start old new : ℕ) (replies : List (Result Answer Refusal))
+    (reply : Result Answer Refusal) → IsFaultReply Of reply ⊎ IsSound Of reply → Tells Of start replies old
+    → Counts Of old reply new → Tells Of start (replies ++ reply ∷ []) new
+tells_next Of start old new replies reply (inr sound) (inl so_far) one = inl (record {
+  sound = All-push (IsSound Of) replies reply so_far.sound sound;
+  same = one.sound sound ∙ so_far.same;
+})
+tells_next Of start old new replies reply (inl bad) (inl so_far) one = inr (record {
+  fault = Any-push (IsFaultReply Of) replies reply bad;
+  more = omega (arith, one.fault bad, so_far.same);
+})
+tells_next Of start old new replies reply (inr sound) (inr so_far) one = inr (record {
+  fault = any_more Of replies reply so_far.fault;
+  more = omega (arith, one.sound sound, so_far.more);
+})
+tells_next Of start old new replies reply (inl bad) (inr so_far) one = inr (record {
+  fault = any_more Of replies reply so_far.fault;
+  more = omega (arith, one.fault bad, so_far.more);
+})
+
+pub tells_push : (Of : Refusal → Type 0) → ((why : Refusal) → Of why ⊎ (¬ Of why)) → {D : Type 0} (failures : D → ℕ)
+    (start : ℕ) (old new : D) (replies : List (Result Answer Refusal))
+    (reply : Result Answer Refusal) → Tells Of start replies (failures old)
+    → IfErr reply (λ why. ¬ Of why → new ≡ old) → OnOk reply (failures new ≡ failures old)
+    → IfErr reply (λ why. Of why → failures old < failures new)
+    → Tells Of start (replies ++ reply ∷ []) (failures new)
+tells_push Of decides failures start old new replies reply tells refused no_failure cause =
+    tells_next Of start (failures old) (failures new) replies reply (fault_or_sound Of decides reply) tells
+    (counts Of failures old new reply refused no_failure cause)
+
+not_both : (Of : Refusal → Type 0) (replies : List (Result Answer Refusal)) → All (IsSound Of) replies
+    → Any (IsFaultReply Of) replies → ⊥
+not_both Of replies sound (k, x, lt, is, bad) = subst (IsSound Of) is (sound k x lt) bad
+
+pub same_if_sound : (Of : Refusal → Type 0) (start now : ℕ) (replies : List (Result Answer Refusal))
+    → Tells Of start replies now → All (λ reply. ¬ IsFaultReply Of reply) replies → now ≡ start
+same_if_sound Of start now replies (inl none) sound = none.same
+same_if_sound Of start now replies (inr some) sound = absurd (not_both Of replies sound some.fault)
+
+pub more_if_fault : (Of : Refusal → Type 0) (start now : ℕ) (replies : List (Result Answer Refusal))
+    → Tells Of start replies now → Any (IsFaultReply Of) replies → start < now
+more_if_fault Of start now replies (inl none) fault = absurd (not_both Of replies none.sound fault)
+more_if_fault Of start now replies (inr some) fault = some.more

@@ -1,0 +1,117 @@
+-- What the pool says of the engine's state.
+use Rattle.std.proofs.Common.{◌≡◌, ℕ, ◌<◌, ◌≤◌, Bool, true, false, List, [], ◌∷◌, zero, suc, length, replicate, set, map, refl, sym, ap, ◌∙◌, max}
+use Rattle.std.specs.Prelude.{Option, Some, None, is_none, is_some}
+use Rattle.std.proofs.lemmas.Bool.{le-leb, lt-leb}
+use Rattle.std.proofs.lemmas.List.{get_or-map, map-set, set-get_or}
+use Rattle.page_core.specs.declared.page.Page.{Page}
+use Rattle.buffer_pool.specs.Pool.{IsPoolOf, PoolView, new_pool, state_at, unwritten, with_state, write_begun, write_ended}
+use Rattle.buffer_pool.specs.Pool.{writing_of, written_of}
+use Rattle.log_records.specs.Coverage.{rec_lsn}
+use Rattle.log_store.specs.WrittenLog.{WrittenLog, end_up_to}
+use Rattle.aries_core.specs.declared.event.Event.TheVariants as event
+use Rattle.aries_core.specs.declared.refusal.Refusal.TheVariants.{NoWrite, NotDirty, PageOut, WriteBegun}
+use Rattle.aries_core.specs.EngineState.{EngineState, begun_write, ended_write, engine_view, forced_through, image_of}
+use Rattle.aries_core.specs.EngineState.{new_state, rec_lsn_of, with_stored}
+use Rattle.page_core.specs.Volume.{formatted_pages}
+use Rattle.aries_core.specs.Refusal.{refusal}
+
+-- ---- refusals
+
+pub begin_out : (s : EngineState) (p : ℕ) → s.pages ≤ p → refusal s (event.WriteBegin p) ≡ Some PageOut
+begin_out s p past = rw (le-leb s.pages p past) refl
+
+pub begin_begun : (s : EngineState) (p : ℕ) → p < s.pages → is_some (image_of s p) ≡ true
+    → refusal s (event.WriteBegin p) ≡ Some WriteBegun
+begin_begun s p within begun = rw (lt-leb s.pages p within, begun) refl
+
+pub begin_clean : (s : EngineState) (p : ℕ) → p < s.pages → is_some (image_of s p) ≡ false
+    → is_none (rec_lsn_of s p) ≡ true → refusal s (event.WriteBegin p) ≡ Some NotDirty
+begin_clean s p within idle clean = rw (lt-leb s.pages p within, idle, clean) refl
+
+pub begin_may : (s : EngineState) (p : ℕ) → p < s.pages → is_some (image_of s p) ≡ false
+    → is_none (rec_lsn_of s p) ≡ false → refusal s (event.WriteBegin p) ≡ None
+begin_may s p within idle dirty = rw (lt-leb s.pages p within, idle, dirty) refl
+
+none_by_some : {X : Type 0} (o : Option X) (b : Bool) → is_some o ≡ b → is_none o ≡ (elim b as (λ (b : Bool). Bool) [ true ↦ false | false ↦ true ])
+none_by_some None b e = ap (λ (b : Bool). elim b as (λ (b : Bool). Bool) [ true ↦ false | false ↦ true ]) e
+none_by_some (Some x) b e = ap (λ (b : Bool). elim b as (λ (b : Bool). Bool) [ true ↦ false | false ↦ true ]) e
+
+pub end_out : (s : EngineState) (p : ℕ) → s.pages ≤ p → refusal s (event.WriteEnd p) ≡ Some PageOut
+end_out s p past = rw (le-leb s.pages p past) refl
+
+pub end_idle : (s : EngineState) (p : ℕ) → p < s.pages → is_some (image_of s p) ≡ false
+    → refusal s (event.WriteEnd p) ≡ Some NoWrite
+end_idle s p within idle = rw (lt-leb s.pages p within, none_by_some (image_of s p) false idle) refl
+
+pub end_may : (s : EngineState) (p : ℕ) → p < s.pages → is_some (image_of s p) ≡ true
+    → refusal s (event.WriteEnd p) ≡ None
+end_may s p within begun = rw (lt-leb s.pages p within, none_by_some (image_of s p) true begun) refl
+
+-- ---- a page
+
+pub image_at : {S D : Type 0} (stored : S → List Page) (it : WrittenLog D) (pool : PoolView S) (p : ℕ)
+    → p < length pool.states → image_of (engine_view stored it pool).state p ≡ (state_at pool p).writing
+image_at stored it pool p within = get_or-map (λ s. s.writing) pool.states p unwritten None within
+
+pub rec_lsn_at : {S D : Type 0} (stored : S → List Page) (it : WrittenLog D) (pool : PoolView S) (p : ℕ)
+    → IsPoolOf stored it.log pool → p < length pool.states
+    → rec_lsn_of (engine_view stored it pool).state p ≡ (state_at pool p).rec_lsn
+rec_lsn_at stored it pool p is within =
+    ap (rec_lsn it.log.records p) (get_or-map (λ s. s.written) pool.states p unwritten 0 within)
+    ∙ sym (is.states p unwritten within).dirty
+
+-- ---- what stands after a call
+
+pub begun_is : {S D : Type 0} (stored : S → List Page) (old new : WrittenLog D) (pool : PoolView S) (p : ℕ) (q : Page)
+    → p < length pool.states → new.log ≡ old.log
+    → new.forced_end ≡ max old.forced_end (end_up_to old.log q.lsn)
+    → (engine_view stored new (with_state pool p (write_begun (state_at pool p) q))).state
+    ≡ begun_write (forced_through (engine_view stored old pool).state q.lsn) p q
+begun_is stored old new pool p q within same forced =
+    let begun = write_begun (state_at pool p) q in
+    let written : written_of (set pool.states p begun) ≡ written_of pool.states =
+    map-set (λ s. s.written) pool.states p begun
+    ∙ ap (set (written_of pool.states) p) (sym (get_or-map (λ s. s.written) pool.states p unwritten 0 within))
+    ∙ set-get_or (written_of pool.states) p 0 in
+    let writing : writing_of (set pool.states p begun) ≡ set (writing_of pool.states) p (Some q) =
+    map-set (λ s. s.writing) pool.states p begun in
+    rw (same, forced, written, writing) refl
+
+pub ended_is : {S D : Type 0} (stored : S → List Page) (it : WrittenLog D) (pool after : PoolView S) (p : ℕ) (q : Page)
+    → stored after.store ≡ set (stored pool.store) p q
+    → after.states ≡ set pool.states p (write_ended (state_at pool p) q.lsn)
+    → (engine_view stored it after).state ≡ ended_write (engine_view stored it pool).state p q
+ended_is stored it pool after p q store states =
+    let ended = write_ended (state_at pool p) q.lsn in
+    let written : written_of after.states ≡ set (written_of pool.states) p q.lsn =
+    ap written_of states ∙ map-set (λ s. s.written) pool.states p ended in
+    let writing : writing_of after.states ≡ set (writing_of pool.states) p None =
+    ap writing_of states ∙ map-set (λ s. s.writing) pool.states p ended in
+    rw (store, written, writing) refl
+
+pub repeated_is : {S D : Type 0} (stored : S → List Page) (it : WrittenLog D) (pool after : PoolView S) (p : ℕ)
+    (q : Page) → stored after.store ≡ set (stored pool.store) p q → after.states ≡ pool.states
+    → (engine_view stored it after).state ≡ with_stored (engine_view stored it pool).state p q
+repeated_is stored it pool after p q store states = rw (store, states) refl
+
+pub kept_is : {S D : Type 0} (stored : S → List Page) (it : WrittenLog D) (pool after : PoolView S)
+    → stored after.store ≡ stored pool.store → after.states ≡ pool.states
+    → (engine_view stored it after).state ≡ (engine_view stored it pool).state
+kept_is stored it pool after store states = rw (store, states) refl
+
+-- ---- a new engine
+
+map-replicate : {X Y : Type 0} (f : X → Y) (n : ℕ) (x : X) → map f (replicate n x) ≡ replicate n (f x)
+map-replicate f zero x = refl
+map-replicate f (suc n) x = ap (λ ys. f x ∷ ys) (map-replicate f n x)
+
+pub new_is : {S D : Type 0} (stored : S → List Page) (it : WrittenLog D) (pool : PoolView S) (store : S) (n : ℕ)
+    → it.log ≡ record { pages = n; records = [] } → it.forced_end ≡ 64 → pool ≡ new_pool store n
+    → stored store ≡ formatted_pages n → (engine_view stored it pool).state ≡ new_state n
+new_is {S = S} stored it pool store n log forced is formatted =
+    let written : written_of pool.states ≡ replicate n 0 =
+    ap (λ (v : PoolView S). written_of v.states) is ∙ map-replicate (λ s. s.written) n unwritten in
+    let writing : writing_of pool.states ≡ replicate n None =
+    ap (λ (v : PoolView S). writing_of v.states) is ∙ map-replicate (λ s. s.writing) n unwritten in
+    let pages : stored pool.store ≡ formatted_pages n = ap (λ (v : PoolView S). stored v.store) is ∙ formatted in
+    rw (log, forced, written, writing, pages) refl

@@ -1,0 +1,32 @@
+use Rattle.std.proofs.Common.{List, sym, ap, subst, arith}
+use Rattle.log_records.specs.declared.record.Record.{Record}
+use Rattle.log_records.specs.Log.{Log}
+use Rattle.log_history.proofs.Histories.{linked_none}
+use Rattle.buffer_pool.specs.Pool.{IsPoolOf}
+use Rattle.txn_table.specs.TxnTable.{IsTableOf}
+use Rattle.aries_core.specs.EngineState.{IsFit}
+use Rattle.aries_core.proofs.Fit.{new_is_fit}
+use Rattle.aries_core.proofs.PoolStates.{new_is}
+use Rattle.aries_core.proofs.engine.Engine.new.Goals as goal
+
+pub invariant_of-result : goal.invariant_of-result
+invariant_of-result g c =
+    let n = c.args.setup.pages in
+    let stored = g.S.PageStore.stored in
+    let state = new_is stored c.in-Ok-new.log c.in-Ok.pool c.args.store n c.in-Ok-new.ensures.empty
+    c.in-Ok-new.ensures.forced_end (c.in-Ok.ensures.new n c.requires.formatted) c.requires.formatted in
+    record {
+      fit = subst IsFit (sym state) (new_is_fit n c.requires.pages);
+      table_of_log =
+          subst (λ (rs : List Record). IsTableOf rs c.new-in-Ok-new.result)
+          (sym (ap (λ (l : Log). l.records) c.in-Ok-new.ensures.empty))
+          (record { linked = linked_none; few = omega arith; made = c.new-in-Ok-new.ensures });
+      pool_of_log =
+          subst (λ (l : Log). IsPoolOf stored l c.in-Ok.pool) (sym c.in-Ok-new.ensures.empty)
+          (c.in-Ok.ensures.empty n c.requires.formatted);
+    }
+
+pub returns-in-Ok-new-clause-empty : goal.returns-in-Ok-new-clause-empty
+returns-in-Ok-new-clause-empty g c =
+    new_is g.S.PageStore.stored c.in-Ok-new.log c.in-Ok.pool c.args.store c.args.setup.pages c.in-Ok-new.ensures.empty
+    c.in-Ok-new.ensures.forced_end (c.in-Ok.ensures.new c.args.setup.pages c.requires.formatted) c.requires.formatted

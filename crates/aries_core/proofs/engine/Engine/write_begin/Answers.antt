@@ -1,0 +1,54 @@
+use Rattle.std.proofs.Common.{◌≡◌, ℕ, ◌<◌, length, max, sym, ap, subst, ◌∙◌, arith}
+use Rattle.std.specs.Prelude.{None, Result, Ok, Err, OnOk, is_err, false}
+use Rattle.page_core.specs.declared.page.Page.{Page}
+use Rattle.buffer_pool.specs.Pool.{state_at, with_state, write_begun}
+use Rattle.log_store.specs.WrittenLog.{end_up_to}
+use Rattle.aries_core.specs.declared.event.Answer.TheVariants as answer
+use Rattle.aries_core.specs.declared.event.Event.TheVariants as event
+use Rattle.aries_core.specs.EngineState.{EngineView, engine_view, log_of}
+use Rattle.aries_core.specs.Refusal.{refusal}
+use Rattle.aries_core.specs.Step.{Step}
+use Rattle.aries_core.proofs.Refusals.{write_begin_passes}
+use Rattle.aries_core.proofs.WriteCalls.{Called, begun}
+use Rattle.aries_core.proofs.engine.Engine.write_begin.Given as given
+use Rattle.aries_core.proofs.engine.Engine.write_begin.Goals as goal
+
+-- what an answer that is no `Err` says
+said : {T E : Type 0} (r : Result T E) (P : Type 0) → is_err r ≡ false → OnOk r P → P
+said (Ok x) P ok h = h
+said (Err e) P ok h = cc
+
+call : (g : given.Over) (c : goal.After-write_begin g)
+    → Called g.S.PageStore.stored c.self.inside.log c.force_to.new.self c.self.inside.txns c.self.inside.pool
+    c.write_begin.new.self (event.WriteBegin c.args.page) (Ok (answer.Writing c.write_begin.result))
+call g c =
+    let it = c.self.inside in
+    let stored = g.S.PageStore.stored in
+    let p = c.args.page in
+    let q = c.in-Ok.image in
+    let s = (engine_view stored it.log it.pool).state in
+    let none : refusal s (event.WriteBegin p) ≡ None =
+    subst (λ (v : EngineView g.row.S.Denot g.row.D.Denot). refusal v.state (event.WriteBegin p) ≡ None)
+    (sym c.self.view_is) c.in_ok-find_dirty.ensures.dirty in
+    let count = c.self.invariant.pool_of_log.pages in
+    let below = (write_begin_passes s p none).within in
+    let within : p < length it.pool.states = omega arith in
+    let forced = said c.force_to.result _ (sym c.is_err.ensures.value ∙ c.if-is_err.false) c.force_to.ensures.forced in
+    let number = c.in-Ok.ensures.numbered in
+    begun stored it.log c.force_to.new.self it.txns it.pool c.write_begin.new.self p c.write_begin.result q
+    c.self.invariant none within (c.in-Ok.ensures.image (log_of s) c.self.invariant.pool_of_log)
+    c.write_begin.ensures.lsn c.force_to.ensures.same
+    (forced ∙ ap (λ (x : Page). max it.log.forced_end (end_up_to it.log.log x.lsn)) c.page.ensures)
+    (subst (λ (n : ℕ). c.write_begin.new.self ≡ with_state it.pool n (write_begun (state_at it.pool n) q)) number
+    c.write_begin.ensures.begun)
+    (c.write_begin.ensures.kept (log_of s) c.self.invariant.pool_of_log)
+
+pub invariant_of-self-2 : goal.invariant_of-self-2
+invariant_of-self-2 g c = (call g c).kept
+
+pub returns-clause-step : goal.returns-clause-step
+returns-clause-step g c =
+    subst (λ (v : EngineView g.row.S.Denot g.row.D.Denot). Step v.state (event.WriteBegin c.args.page)
+    (Ok (answer.Writing c.write_begin.result))
+    (engine_view g.S.PageStore.stored c.force_to.new.self c.write_begin.new.self).state)
+    c.self.view_is (call g c).step

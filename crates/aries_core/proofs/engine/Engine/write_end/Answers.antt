@@ -1,0 +1,52 @@
+use Rattle.std.proofs.Common.{◌≡◌, ◌<◌, length, sym, subst, arith}
+use Rattle.std.specs.Prelude.{None, Result}
+use Rattle.page_core.specs.declared.numbers.Lsn.{Lsn}
+use Rattle.aries_core.specs.declared.event.Answer.TheVariants as answer
+use Rattle.aries_core.specs.declared.event.Event.TheVariants as event
+use Rattle.aries_core.specs.declared.refusal.Refusal.{Refusal}
+use Rattle.aries_core.specs.EngineState.{EngineView, engine_view, log_of}
+use Rattle.aries_core.specs.Refusal.{refusal}
+use Rattle.aries_core.specs.Step.{Step, reply_of}
+use Rattle.aries_core.proofs.Refusals.{write_end_passes}
+use Rattle.aries_core.proofs.WriteCalls.{Called, ended, repeated}
+use Rattle.aries_core.proofs.engine.Engine.write_end.Goals.{in-Ok, in-Err}
+use Rattle.aries_core.proofs.engine.Engine.write_end.Given as given
+use Rattle.aries_core.proofs.engine.Engine.write_end.Goals as goal
+
+call : (g : given.Over) (c : goal.Joined-write_end g)
+    → Called g.S.PageStore.stored c.self.inside.log c.self.inside.log c.self.inside.txns c.self.inside.pool
+    c.write_end.new.self (event.WriteEnd c.args.page) (reply_of (λ lsn. answer.Written lsn) c.match-write_end.result)
+call g c =
+    let it = c.self.inside in
+    let stored = g.S.PageStore.stored in
+    let p = c.args.page in
+    let s = (engine_view stored it.log it.pool).state in
+    let none : refusal s (event.WriteEnd p) ≡ None =
+    subst (λ (v : EngineView g.row.S.Denot g.row.D.Denot). refusal v.state (event.WriteEnd p) ≡ None)
+    (sym c.self.view_is) c.in_ok-find_writing.ensures.writing in
+    let count = c.self.invariant.pool_of_log.pages in
+    let below = (write_end_passes s p none).within in
+    let within : p < length it.pool.states = omega arith in
+    let of_log = c.write_end.ensures.kept (log_of s) c.self.invariant.pool_of_log in
+    elim c.match-write_end.branch [
+      | in-Ok w ↦
+          subst (λ (r : Result Lsn Refusal). Called stored it.log it.log it.txns it.pool c.write_end.new.self
+          (event.WriteEnd p) (reply_of (λ lsn. answer.Written lsn) r)) (sym w.result-is)
+          (ended stored it.log it.txns it.pool c.write_end.new.self p w.in-Ok.lsn c.self.invariant none within
+          w.in-Ok.ensures.lsn w.in-Ok.ensures.stored w.in-Ok.ensures.ended of_log)
+      | in-Err w ↦
+          subst (λ (r : Result Lsn Refusal). Called stored it.log it.log it.txns it.pool c.write_end.new.self
+          (event.WriteEnd p) (reply_of (λ lsn. answer.Written lsn) r)) (sym w.result-is)
+          (repeated stored it.log it.txns it.pool c.write_end.new.self p c.self.invariant none within
+          w.in-Err.ensures.either w.in-Err.ensures.goes_on of_log)
+    ]
+
+pub invariant_of-self : goal.invariant_of-self
+invariant_of-self g c = (call g c).kept
+
+pub returns-clause-step : goal.returns-clause-step
+returns-clause-step g c =
+    subst (λ (v : EngineView g.row.S.Denot g.row.D.Denot). Step v.state (event.WriteEnd c.args.page)
+    (reply_of (λ lsn. answer.Written lsn) c.match-write_end.result)
+    (engine_view g.S.PageStore.stored c.self.inside.log c.write_end.new.self).state)
+    c.self.view_is (call g c).step

@@ -1,0 +1,52 @@
+use Rattle.std.proofs.Common.{◌≡◌, ◌<◌, ◌+◌, length, [], ◌∷◌, ◌++◌, arith, take, take_all, subst, sym, ap, ◌∙◌}
+use Rattle.std.proofs.lemmas.List.{take_more}
+use Rattle.aries_core.specs.declared.event.Event.{Event}
+use Rattle.aries_core.specs.EngineState.{IsFit, EngineView, new_state}
+use Rattle.aries_core.specs.Step.{IsByDevice, IsByStore}
+use Rattle.aries_core.proofs.Calls.{work_of_run}
+use Rattle.aries_core.proofs.PageLaws.{written_of_run}
+use Rattle.aries_core.proofs.Plays.{by_device, by_store, run_push, tells_push}
+use Rattle.aries_core.proofs.played.play.Goals as goal
+
+pub loop-event-preserved : goal.loop-event-preserved
+loop-event-preserved g c =
+    let so_far = c.loop-event.invariant in
+    let i = c.loop-event.event-index in
+    let events = c.args.events.now in
+    let event = c.event-item.result in
+    let items = rw c.unwrap.ensures at c.push.ensures.items in
+    let count = rw c.unwrap.ensures at c.push.ensures.len in
+    let within : i < length events = omega arith in
+    let next : take (i + 1) events ≡ take i events ++ event ∷ [] =
+    take_more events i event within ∙ ap (λ (e : Event). take i events ++ e ∷ []) (sym c.event-item.is) in
+    let start = new_state c.args.setup.pages in
+    record {
+      count = omega (arith, count, so_far.count);
+      room = omega (arith, so_far.room, c.push.ensures.capacity);
+      run = rw (next, items) (run_push start (take i events) c.loop-event.replies.items c.loop-event.engine.state event
+          c.apply.result c.apply.new.self.state so_far.run c.apply.ensures.step);
+      tells = rw items (tells_push IsByDevice by_device g.D.LogDevice.failures (g.D.LogDevice.failures c.args.device)
+          c.loop-event.engine.device c.apply.new.self.device c.loop-event.replies.items c.apply.result so_far.tells
+          c.apply.ensures.refused c.apply.ensures.no_failure c.apply.ensures.cause);
+      store_tells = rw items (tells_push IsByStore by_store g.S.PageStore.failures (g.S.PageStore.failures c.args.store)
+          c.loop-event.engine.store c.apply.new.self.store c.loop-event.replies.items c.apply.result so_far.store_tells
+          c.apply.ensures.store_refused c.apply.ensures.no_store_failure c.apply.ensures.store_cause);
+    }
+
+pub returns-clause-work : goal.returns-clause-work
+returns-clause-work g c =
+    let so_far = c.loop-event.invariant in
+    let all : take c.loop-event.event-index c.args.events.now ≡ c.args.events.now = take_all _ _ (omega arith) in
+    work_of_run (new_state c.args.setup.pages) c.args.events.now c.loop-event.replies.items c.loop-event.engine.state
+    (rw all at so_far.run)
+
+pub returns-clause-fit : goal.returns-clause-fit
+returns-clause-fit g c =
+    subst (λ (v : EngineView g.row.S.Denot g.row.D.Denot). IsFit v.state) c.engine.view_is c.engine.invariant.fit
+
+pub returns-clause-written : goal.returns-clause-written
+returns-clause-written g c =
+    let so_far = c.loop-event.invariant in
+    let all : take c.loop-event.event-index c.args.events.now ≡ c.args.events.now = take_all _ _ (omega arith) in
+    written_of_run (new_state c.args.setup.pages) c.args.events.now c.loop-event.replies.items
+    c.loop-event.engine.state (rw all at so_far.run)

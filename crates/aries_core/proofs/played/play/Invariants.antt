@@ -1,0 +1,18 @@
+use Rattle.std.proofs.Common.{◌≡◌, ◌≤◌, length, take, vec_len}
+use Rattle.std.specs.Vec.{vec_capacity}
+use Rattle.aries_core.specs.EngineState.{new_state}
+use Rattle.aries_core.specs.Run.{Run}
+use Rattle.aries_core.specs.Step.{IsByDevice, IsByStore}
+use Rattle.aries_core.proofs.Plays.{Tells}
+use Rattle.aries_core.proofs.played.play.Given as goal
+
+abbrev pub invariant-loop-event : goal.invariant-loop-event
+invariant-loop-event g l = record {
+  count : vec_len l.replies ≡ l.event-index;
+  room : length l.events ≤ vec_capacity l.replies;
+  run : Run (new_state l.fn.setup.pages) (take l.event-index l.events) l.replies.items l.engine.state;
+  tells : Tells IsByDevice (g.D.LogDevice.failures l.fn.device) l.replies.items
+      (g.D.LogDevice.failures l.engine.device);
+  store_tells : Tells IsByStore (g.S.PageStore.failures l.fn.store) l.replies.items
+      (g.S.PageStore.failures l.engine.store);
+}

@@ -1,0 +1,82 @@
+//! Plays a list of calls.
+
+ghost use Rattle.std.specs.Prelude.{◌≡◌, ◌<◌, ◌≤◌, All, Any, IfOk, IfErr};
+ghost use Rattle.log_records.specs.Log.{IsPageCount};
+ghost use Rattle.log_history.specs.Work.{work};
+ghost use Rattle.aries_core.specs.Accepted.{accepted};
+ghost use Rattle.aries_core.specs.EngineState.{IsFit, new_state};
+ghost use Rattle.aries_core.specs.Run.{Run};
+ghost use Rattle.aries_core.specs.Step.{IsByDevice, IsByStore, IsFaultReply};
+ghost use Rattle.aries_core.specs.Written.{written_by};
+ghost use Rattle.page_core.specs.Volume.{formatted_pages};
+
+use crate::engine::Engine;
+use crate::event::{Event, Reply};
+use crate::setup::{PlayFault, Setup};
+use log_store::LogDevice;
+use page_store::PageStore;
+use std::alloc::Global;
+
+/// What came of a list of events.
+#[derive(Drop)]
+pub struct Played<S: PageStore, D: LogDevice> {
+    /// A reply for each event, in their order.
+    pub replies: Vec<Reply>,
+    /// The engine after the last event.
+    pub engine: Engine<S, D>,
+}
+
+/// Makes an engine, and does what the events say, in their order. A refused event is a reply too,
+/// and the next one is played.
+///
+/// A fault comes before the first event, of want of memory for the replies or for the engine, or
+/// of the log's device at the header. Store and device are dropped then.
+pub fn play<S: PageStore + Drop, D: LogDevice + Drop>(
+    alloc: Global,
+    setup: Setup,
+    store: S,
+    device: D,
+    events: &[Event],
+) -> Result<Played<S, D>, PlayFault>
+    requires pages { IsPageCount setup.pages }
+    requires frames { setup.pages ≤ setup.frames }
+    requires formatted { S.stored store ≡ formatted_pages setup.pages }
+
+    ensures run { IfOk result (λ it.
+        Run (new_state setup.pages) events.now it.replies.items it.engine.state) }
+    ensures work { IfOk result (λ it.
+        work it.engine.state.log ≡ accepted events.now it.replies.items) }
+    ensures written { IfOk result (λ it.
+        it.engine.state.written ≡ written_by setup.pages events.now it.replies.items) }
+    ensures fit { IfOk result (λ it. IsFit it.engine.state) }
+
+    // A reply tells of a fault of the device just where there was one.
+    ensures no_failure { IfOk result (λ it.
+        All (λ reply. ¬ IsFaultReply IsByDevice reply) it.replies.items
+        → D.failures it.engine.device ≡ D.failures device) }
+    ensures failure { IfOk result (λ it. Any (IsFaultReply IsByDevice) it.replies.items
+        → D.failures device < D.failures it.engine.device) }
+
+    // And of the store.
+    ensures no_store_failure { IfOk result (λ it.
+        All (λ reply. ¬ IsFaultReply IsByStore reply) it.replies.items
+        → S.failures it.engine.store ≡ S.failures store) }
+    ensures store_failure { IfOk result (λ it. Any (IsFaultReply IsByStore) it.replies.items
+        → S.failures store < S.failures it.engine.store) }
+
+    ensures cause { IfErr result (λ why. why ≡ PlayFault.LogFault
+        → (left : D) × (D.failures device < D.failures left)) }
+{
+    let mut replies = match Vec::with_capacity(alloc, events.len()) {
+        Ok(replies) => replies,
+        Err(_) => return Err(PlayFault::OutOfMemory),
+    };
+    let mut engine = Engine::new(alloc, setup, store, device)?;
+    for event in events {
+        // There is room for each reply, so this takes no memory.
+        replies.push(engine.apply(*event)).unwrap();
+    }
+    // What an engine keeps holds of it now, and is seen where it is read.
+    let _ = &engine.log;
+    Ok(Played { replies, engine })
+}

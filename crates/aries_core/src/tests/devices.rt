@@ -1,0 +1,170 @@
+//! What is on a log's device, where one of its calls fails.
+
+use super::{
+    abort, add, began, call_row, commit, ended, forced, logged, play_row, read, set, setup_of,
+    undid, undo, value,
+};
+use crate::{Engine, Event, PlayFault, Refusal, Reply, play};
+use log_store::{FaultyDevice, MemDevice, read_log};
+use page_core::Lsn;
+use page_store::MemStore;
+use std::alloc::Global;
+use std::process::Abort;
+use std::test::Fail;
+
+fn unsure(lsn: u64) -> Reply {
+    Err(Refusal::CommitUnsure(Lsn(lsn)))
+}
+
+/// Asserts that the device has the forced records, and nothing more.
+fn assert_forced(
+    rt: &impl Abort,
+    alloc: Global,
+    engine: &Engine<MemStore, FaultyDevice>,
+) -> Result<(), Fail> {
+    let mut bytes = engine.log.device().bytes();
+    assert_eq!(rt; bytes.len() as u64, engine.log.forced_end().0);
+    let read = read_log(alloc, &mut bytes)?;
+    let count = read.records().len();
+    let records = engine.log.records();
+    assert!(rt; count <= records.len());
+    assert_eq!(rt; read.records(), &records[..count]);
+    Ok(())
+}
+
+/// Asserts the replies of a row where the `k`-th call of the device fails at the event with this
+/// index, and what is on the device all the while. The first call stores the header, and each
+/// further one a record, so the record that this one was to store is the first that is not forced.
+fn assert_row(
+    rt: &impl Abort,
+    alloc: Global,
+    row: &[(Event, Reply)],
+    k: u64,
+    place: usize,
+) -> Result<(), Fail> {
+    let device = FaultyDevice::new(MemDevice::new(alloc, row.len())?, k);
+    let mut engine = Engine::new(alloc, setup_of(1), MemStore::new(alloc, 1)?, device)?;
+    for (index, &(event, reply)) in row.iter().enumerate() {
+        assert_eq!(rt;
+            engine.apply(event),
+            reply,
+            "{event:?} where call {k} fails"
+        );
+        assert_forced(rt, alloc, &engine)?;
+        if index == place {
+            assert_eq!(rt; engine.log.forced_end().0 / 64 + 1, k);
+        }
+    }
+    let device = FaultyDevice::new(MemDevice::new(alloc, row.len())?, k);
+    let played = play_row(rt, alloc, 1, MemStore::new(alloc, 1)?, device, row)?;
+    assert_forced(rt, alloc, &played)
+}
+
+/// One transaction commits, and another one is rolled back.
+fn one_after_another(committed: Reply, all_forced: Reply) -> [(Event, Reply); 11] {
+    [
+        (Event::Begin, began(1, 64)),
+        (set(1, 0, 0, 5), logged(128)),
+        (commit(1), committed),
+        (commit(1), Err(Refusal::NoTxn)),
+        (read(0, 0), value(5)),
+        (Event::Begin, began(2, 256)),
+        (add(2, 0, 0, 3), logged(320)),
+        (abort(2), logged(384)),
+        (undo(2), undid(448)),
+        (undo(2), ended(512)),
+        (Event::Force, all_forced),
+    ]
+}
+
+#[test]
+fn each_call_of_the_device_fails(rt: HostRuntime) -> Result<(), Fail> {
+    for k in 2..5 {
+        let row = one_after_another(unsure(192), forced(576));
+        assert_row(&rt, rt.alloc(), &row, k, 2)?;
+    }
+    for k in 5..10 {
+        let row = one_after_another(logged(192), Err(Refusal::LogFault));
+        assert_row(&rt, rt.alloc(), &row, k, 10)?;
+    }
+    Ok(())
+}
+
+/// Two transactions commit, of which one began before the other and commits after it.
+fn one_beside_another(begun: Reply, second: Reply, first: Reply) -> [(Event, Reply); 9] {
+    [
+        (Event::Begin, began(1, 64)),
+        (Event::Begin, began(2, 128)),
+        (Event::Force, begun),
+        (add(1, 0, 0, 5), logged(192)),
+        (add(2, 0, 0, 3), logged(256)),
+        (commit(2), second),
+        (set(1, 0, 1, 9), logged(384)),
+        (commit(1), first),
+        (Event::Force, forced(512)),
+    ]
+}
+
+#[test]
+fn each_call_fails_beside_another_transaction(rt: HostRuntime) -> Result<(), Fail> {
+    for k in 2..4 {
+        let row = one_beside_another(Err(Refusal::LogFault), logged(320), logged(448));
+        assert_row(&rt, rt.alloc(), &row, k, 2)?;
+    }
+    for k in 4..7 {
+        let row = one_beside_another(forced(192), unsure(320), logged(448));
+        assert_row(&rt, rt.alloc(), &row, k, 5)?;
+    }
+    for k in 7..9 {
+        let row = one_beside_another(forced(192), logged(320), unsure(448));
+        assert_row(&rt, rt.alloc(), &row, k, 7)?;
+    }
+    Ok(())
+}
+
+#[test]
+fn the_log_is_not_forced(rt: HostRuntime) -> Result<(), Fail> {
+    let alloc = rt.alloc();
+    let row = [
+        (Event::Begin, began(1, 64)),
+        (Event::Force, forced(128)),
+        (add(1, 0, 0, 1), logged(128)),
+        (Event::Force, Err(Refusal::LogFault)),
+    ];
+    let _ = call_row(
+        &rt,
+        alloc,
+        1,
+        MemStore::new(alloc, 1)?,
+        MemDevice::new(alloc, 1)?,
+        &row,
+    )?;
+    let _ = play_row(
+        &rt,
+        alloc,
+        1,
+        MemStore::new(alloc, 1)?,
+        MemDevice::new(alloc, 1)?,
+        &row,
+    )?;
+    Ok(())
+}
+
+#[test]
+fn the_header_is_not_stored(rt: HostRuntime) -> Result<(), Fail> {
+    let alloc = rt.alloc();
+    let device = FaultyDevice::new(MemDevice::new(alloc, 1)?, 1);
+    let fault = Engine::new(alloc, setup_of(1), MemStore::new(alloc, 1)?, device).err();
+    assert_eq!(rt; fault, Some(PlayFault::LogFault));
+    let device = FaultyDevice::new(MemDevice::new(alloc, 1)?, 1);
+    let fault = play(
+        alloc,
+        setup_of(1),
+        MemStore::new(alloc, 1)?,
+        device,
+        &[Event::Begin],
+    )
+    .err();
+    assert_eq!(rt; fault, Some(PlayFault::LogFault));
+    Ok(())
+}

@@ -1,0 +1,2 @@
+pub mod PageStates
+pub mod Pool

@@ -1,0 +1,74 @@
+-- What the records so far make says whether the next one may follow.
+use Rattle.std.proofs.Common.{◌≡◌, ℕ, ◌<◌, ◌∷◌, [], List, get_or, map, sym, ap, subst, ◌∙◌, arith}
+use Rattle.std.specs.Prelude.{slice_index}
+use Rattle.std.proofs.lemmas.List.FromFn.{get_or-map-range_with_len}
+use Rattle.page_core.specs.declared.page.Page.{Page}
+use Rattle.page_core.specs.Change.{Replaces}
+use Rattle.page_core.specs.Page.{formatted}
+use Rattle.log_records.specs.declared.record.Record.{Record}
+use Rattle.log_records.specs.declared.record.Record.TheVariants.{Begin, Update, Comp, Commit, Abort, End}
+use Rattle.log_history.specs.Checked.{NamesNumber}
+use Rattle.log_history.specs.History.{IsMadeOf, Made, MayComeNext, NamesNumberOn, followed, number_on}
+use Rattle.log_records.specs.Image.{image, redo_all, with_record}
+use Rattle.log_history.specs.Linked.{IsLinked, MayFollow, number_in}
+use Rattle.log_records.specs.Log.{IsWithin, Log, with_next}
+use Rattle.log_history.specs.Table.{MayNote, Table, noted}
+use Rattle.log_history.proofs.Checks.{may_note, names_number}
+use Rattle.log_history.proofs.Checks.{may_follow as table_allows}
+use Rattle.log_records.proofs.Images.{redo_all-append}
+use Rattle.log_history.proofs.Steps.{table_of_push}
+
+-- the number in a slot of a log's volume
+pub number_of_volume : (rs : List Record) (n page slot : ℕ) (d : Page) → page < n
+    → slice_index (get_or (redo_all rs n) page d).slots slot ≡ number_in rs page slot
+number_of_volume rs n page slot d lt =
+    ap (λ (p : Page). slice_index p.slots slot)
+    (get_or-map-range_with_len (image rs) 0 n page page d lt (omega arith))
+
+-- the number in a slot of the pages is that of the log
+number_made : (log : Log) (made : Made) → IsMadeOf log made → (page slot : ℕ) → page < log.pages
+    → number_on made.pages page slot ≡ number_in log.records page slot
+number_made log made of page slot lt =
+    ap (λ (pages : List Page). number_on pages page slot) of.pages
+    ∙ number_of_volume log.records log.pages page slot (formatted page) lt
+
+names : (log : Log) (made : Made) (r : Record) → IsMadeOf log made → IsWithin log.pages r
+    → NamesNumberOn made.pages r → NamesNumber log.records r
+names log made (Update lsn txn prev page slot change) of within on =
+    subst (Replaces change) (number_made log made of page slot within) on
+names log made (Begin lsn txn) of within on = tt
+names log made (Comp lsn txn prev undo_next page slot change) of within on = tt
+names log made (Commit lsn txn prev) of within on = tt
+names log made (Abort lsn txn prev) of within on = tt
+names log made (End lsn txn prev) of within on = tt
+
+names_on : (log : Log) (made : Made) (r : Record) → IsMadeOf log made → IsWithin log.pages r
+    → NamesNumber log.records r → NamesNumberOn made.pages r
+names_on log made (Update lsn txn prev page slot change) of within named =
+    subst (Replaces change) (sym (number_made log made of page slot within)) named
+names_on log made (Begin lsn txn) of within named = tt
+names_on log made (Comp lsn txn prev undo_next page slot change) of within named = tt
+names_on log made (Commit lsn txn prev) of within named = tt
+names_on log made (Abort lsn txn prev) of within named = tt
+names_on log made (End lsn txn prev) of within named = tt
+
+pub may_follow : (log : Log) (made : Made) (r : Record) → IsMadeOf log made → IsWithin log.pages r
+    → MayComeNext made r → MayFollow log.records r
+may_follow log made r of within may =
+    table_allows log.records r (subst (λ (t : Table). MayNote t r) of.table may.may_note)
+    (names log made r of within may.replaces)
+
+pub may_come : (log : Log) (made : Made) (r : Record) → IsMadeOf log made → IsWithin log.pages r
+    → MayFollow log.records r → MayComeNext made r
+may_come log made r of within may = record {
+  may_note = subst (λ (t : Table). MayNote t r) (sym of.table) (may_note log.records r may);
+  replaces = names_on log made r of within (names_number log.records r may);
+}
+
+pub made_next : (log : Log) (made new : Made) (r : Record) → IsLinked log.records → IsMadeOf log made
+    → MayFollow log.records r → new ≡ followed made r → IsMadeOf (with_next log (r ∷ [])) new
+made_next log made new r linked of may e = record {
+  table = ap (λ (m : Made). m.table) e ∙ ap (λ (t : Table). noted t r) of.table ∙ sym (table_of_push log.records r linked may);
+  pages = ap (λ (m : Made). m.pages) e ∙ ap (map (λ page. with_record page r)) of.pages
+      ∙ redo_all-append log.records (r ∷ []) log.pages;
+}

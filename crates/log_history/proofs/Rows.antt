@@ -1,0 +1,153 @@
+-- The definitions on worked logs: what they compute to.
+use Rattle.std.proofs.Common.{◌≡◌, zero, suc, ◌-◌, ◌^◌, List, [], ◌∷◌, ◌++◌, take, map, refl, arith, lit<}
+use Rattle.std.specs.Prelude.{Some, None}
+use Rattle.page_core.specs.declared.change.Change.TheVariants.{Set, Add}
+use Rattle.page_core.specs.declared.change.ChangeKind.TheVariants as kind
+use Rattle.page_core.specs.Page.{formatted}
+use Rattle.log_history.specs.declared.pending_change.PendingChange.{PendingChange}
+use Rattle.log_records.specs.declared.record.Record.{Record}
+use Rattle.log_records.specs.declared.record.Record.TheVariants.{Begin, Update, Comp, Commit, Abort, End}
+use Rattle.log_history.specs.Transactions.{begun, holder, open_in, owed, pending}
+use Rattle.log_history.specs.Linked.{IsLinked, number_in}
+use Rattle.log_history.specs.Committed.{committed}
+use Rattle.log_history.specs.Work.{AbortCall, AddCall, BeginCall, CommitCall, SetCall, UndoCall, work}
+
+-- ---- a transaction that commits
+
+abbrev committing : List Record
+committing =
+    Begin 64 1
+    ∷ Update 128 1 64 0 3 (Set 0 7)
+    ∷ Update 192 1 128 0 3 (Add 5)
+    ∷ Commit 256 1 192
+    ∷ []
+
+none_open : open_in committing ≡ []
+none_open = refl
+
+one_begun : begun committing ≡ 1 ∷ []
+one_begun = refl
+
+twelve_committed : committed committing 0 3 ≡ 12
+twelve_committed = refl
+
+others_stay_zero : committed committing 0 4 ≡ 0
+others_stay_zero = refl
+
+calls_of_commit : work committing ≡ BeginCall 1 ∷ SetCall 1 0 3 7 ∷ AddCall 1 0 3 5 ∷ CommitCall 1 ∷ []
+calls_of_commit = refl
+
+pub committing_is_linked : IsLinked committing
+unfolding formatted
+committing_is_linked zero d lt = record { next = refl; room = lit< tt }
+committing_is_linked (suc zero) d lt = record {
+  active = record { goes_on = record { still_open = refl; chained = refl }; active = refl };
+  free = refl;
+  replaces = refl;
+}
+committing_is_linked (suc (suc zero)) d lt = record {
+  active = record { goes_on = record { still_open = refl; chained = refl }; active = refl };
+  free = refl;
+  replaces = tt;
+}
+committing_is_linked (suc (suc (suc zero))) d lt =
+    record { goes_on = record { still_open = refl; chained = refl }; active = refl }
+committing_is_linked (suc (suc (suc (suc i)))) d lt = absurd (omega arith)
+
+-- ---- a transaction that aborts and takes its changes back
+
+abbrev aborting : List Record
+aborting =
+    Begin 64 1
+    ∷ Update 128 1 64 0 0 (Set 0 5)
+    ∷ Update 192 1 128 0 0 (Add 3)
+    ∷ Abort 256 1 192
+    ∷ Comp 320 1 256 128 0 0 (Add (2 ^ 64 - 3))
+    ∷ Comp 384 1 320 64 0 0 (Set 0 0)
+    ∷ End 448 1 384
+    ∷ []
+
+abbrev the_set : PendingChange
+the_set = record { lsn = 128; prev = 64; page = 0; slot = 0; change = Set 0 5 }
+
+abbrev the_add : PendingChange
+the_add = record { lsn = 192; prev = 128; page = 0; slot = 0; change = Add 3 }
+
+prefixes : List (List Record)
+prefixes = map (λ n. take n aborting) (1 ∷ 2 ∷ 3 ∷ 4 ∷ 5 ∷ 6 ∷ 7 ∷ [])
+
+pending_after_each : map (λ rs. pending rs 1) prefixes
+    ≡ [] ∷ (the_set ∷ []) ∷ (the_set ∷ the_add ∷ []) ∷ (the_set ∷ the_add ∷ []) ∷ (the_set ∷ []) ∷ [] ∷ [] ∷ []
+unfolding prefixes
+pending_after_each = refl
+
+owed_after_each : map owed prefixes ≡ 2 ∷ 3 ∷ 4 ∷ 3 ∷ 2 ∷ 1 ∷ 0 ∷ []
+unfolding prefixes
+owed_after_each = refl
+
+slot_after_each : map (λ rs. number_in rs 0 0) prefixes ≡ 0 ∷ 5 ∷ 8 ∷ 8 ∷ 5 ∷ 0 ∷ 0 ∷ []
+unfolding prefixes formatted
+slot_after_each = refl
+
+nothing_committed : map (λ rs. committed rs 0 0) prefixes ≡ 0 ∷ 0 ∷ 0 ∷ 0 ∷ 0 ∷ 0 ∷ 0 ∷ []
+unfolding prefixes
+nothing_committed = refl
+
+open_after_each : map open_in prefixes ≡ (1 ∷ []) ∷ (1 ∷ []) ∷ (1 ∷ []) ∷ (1 ∷ []) ∷ (1 ∷ []) ∷ (1 ∷ []) ∷ [] ∷ []
+unfolding prefixes
+open_after_each = refl
+
+calls_of_abort : work aborting
+    ≡ BeginCall 1 ∷ SetCall 1 0 0 5 ∷ AddCall 1 0 0 3 ∷ AbortCall 1 ∷ UndoCall 1 ∷ UndoCall 1 ∷ UndoCall 1 ∷ []
+calls_of_abort = refl
+
+pub aborting_is_linked : IsLinked aborting
+unfolding formatted
+aborting_is_linked zero d lt = record { next = refl; room = lit< tt }
+aborting_is_linked (suc zero) d lt = record {
+  active = record { goes_on = record { still_open = refl; chained = refl }; active = refl };
+  free = refl;
+  replaces = refl;
+}
+aborting_is_linked (suc (suc zero)) d lt = record {
+  active = record { goes_on = record { still_open = refl; chained = refl }; active = refl };
+  free = refl;
+  replaces = tt;
+}
+aborting_is_linked (suc (suc (suc zero))) d lt =
+    record { goes_on = record { still_open = refl; chained = refl }; active = refl }
+aborting_is_linked (suc (suc (suc (suc zero)))) d lt = (
+  record { still_open = refl; chained = refl },
+  record { next = refl; same_page = refl; same_slot = refl; undoes = refl },
+)
+aborting_is_linked (suc (suc (suc (suc (suc zero))))) d lt = (
+  record { still_open = refl; chained = refl },
+  record { next = refl; same_page = refl; same_slot = refl; undoes = refl },
+)
+aborting_is_linked (suc (suc (suc (suc (suc (suc zero)))))) d lt = (record { still_open = refl; chained = refl }, refl)
+aborting_is_linked (suc (suc (suc (suc (suc (suc (suc i))))))) d lt = absurd (omega arith)
+
+-- ---- two transactions on one slot
+
+-- the first has added to it
+abbrev added_by_one : List Record
+added_by_one = Begin 64 1 ∷ Begin 128 2 ∷ Update 192 1 64 0 0 (Add 3) ∷ []
+
+-- then both have
+abbrev added_by_both : List Record
+added_by_both = added_by_one ++ Update 256 2 128 0 0 (Add 4) ∷ []
+
+first_keeps_out_a_set : holder added_by_one 0 0 kind.Set 2 ≡ Some 1
+first_keeps_out_a_set = refl
+
+not_an_add : holder added_by_one 0 0 kind.Add 2 ≡ None
+not_an_add = refl
+
+not_itself : holder added_by_one 0 0 kind.Set 1 ≡ None
+not_itself = refl
+
+not_another_slot : holder added_by_one 0 1 kind.Set 2 ≡ None
+not_another_slot = refl
+
+second_keeps_out_a_set : holder added_by_both 0 0 kind.Set 1 ≡ Some 2
+second_keeps_out_a_set = refl

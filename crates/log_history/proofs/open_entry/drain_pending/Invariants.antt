@@ -1,0 +1,12 @@
+use Rattle.std.proofs.Common.{vec_len}
+use Rattle.log_history.specs.OpenEntry.{IsHeld, KeepsOtherSeats}
+use Rattle.log_history.proofs.open_entry.drain_pending.Given as goal
+
+abbrev pub invariant-loop-pending : goal.invariant-loop-pending
+invariant-loop-pending l = record {
+  held : IsHeld l.claims l.seat l.pending.items;
+  others : KeepsOtherSeats l.seat l.initial.claims l.claims;
+}
+
+abbrev pub decreases-loop-pending : goal.decreases-loop-pending
+decreases-loop-pending l = vec_len l.pending

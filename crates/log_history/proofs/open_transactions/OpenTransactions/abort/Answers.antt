@@ -1,0 +1,27 @@
+use Rattle.std.proofs.Common.{◌∙◌, ap, sym}
+use Rattle.log_history.specs.Table.{Table, entry_after, with_entry}
+use Rattle.log_records.specs.declared.record.Record.TheVariants.{Abort}
+use Rattle.log_history.proofs.Tracked.{IsAt, never, placed, tracks-alone, view-put}
+use Rattle.log_history.proofs.open_transactions.OpenTransactions.abort.Goals as goal
+
+pub invariant_of-self : goal.invariant_of-self
+invariant_of-self c =
+    let at : IsAt c.self.inside.entries.items c.in-Some.place c.args.txn c.index_mut-entry.result.now
+    = placed c.args.txn c.self.inside.entries.items c.deref.result.now c.in-Some.place c.index_mut-entry.result.now
+    c.deref.ensures.value c.in-Some.ensures c.index_mut-entry.ensures.value in
+    tracks-alone at c.self.invariant c.abort.new.self (ap (λ v. v.txn) c.abort.ensures.entry) c.abort.ensures.same.0
+    c.abort.ensures.same.1
+
+pub returns-in-Some : goal.returns-in-Some
+returns-in-Some c = λ prev.
+    let at : IsAt c.self.inside.entries.items c.in-Some.place c.args.txn c.index_mut-entry.result.now
+    = placed c.args.txn c.self.inside.entries.items c.deref.result.now c.in-Some.place c.index_mut-entry.result.now
+    c.deref.ensures.value c.in-Some.ensures c.index_mut-entry.ensures.value in
+    ap (λ es. let v : Table = record { begun = c.self.inside.begun; entries = es } in v)
+    (sym (view-put at c.self.invariant (λ v. entry_after v
+    (Abort c.args.lsn c.args.txn prev)) c.abort.new.self c.abort.ensures.entry))
+    ∙ ap (λ (v : Table). with_entry v c.args.txn (Abort c.args.lsn c.args.txn prev)) c.self.view_is
+
+pub returns-in-None : goal.returns-in-None
+returns-in-None c = absurd (never c.self.inside.begun c.args.txn c.self.inside.entries.items c.deref.result.now c.args.self.now c.self.view_is
+    c.requires c.deref.ensures.value c.in-None.ensures)

@@ -1,0 +1,8 @@
+use Rattle.std.proofs.Common.{subst, sym}
+use Rattle.log_history.specs.OpenTransactions.{Tracks}
+use Rattle.log_history.proofs.Tracked.{tracks-nil}
+use Rattle.log_history.proofs.open_transactions.OpenTransactions.new.Goals as goal
+
+pub invariant_of-result : goal.invariant_of-result
+invariant_of-result c =
+    subst (λ xs. Tracks 0 c.new-2.result xs) (sym c.new.ensures.items) (tracks-nil c.new-2.result c.new-2.ensures)

@@ -1,0 +1,36 @@
+-- What the committed transactions of a log leave.
+use Rattle.std.specs.Prelude.{ℕ, ◌==◌, ◌&&◌, List, [], ◌∷◌, ◌++◌, if◌then◌else◌}
+use Rattle.page_core.specs.Change.{changed}
+use Rattle.log_history.specs.declared.pending_change.PendingChange.{PendingChange}
+use Rattle.log_records.specs.declared.record.Record.{Record}
+use Rattle.log_records.specs.declared.record.Record.TheVariants.{Commit}
+use Rattle.log_history.specs.Transactions.{pending}
+
+-- the number of each slot of each page
+abbrev pub Values : Type 0
+Values = ℕ → ℕ → ℕ
+
+abbrev pub zeros : Values
+zeros page slot = 0
+
+-- the numbers after these changes, one after another
+abbrev pub with_changes : Values → List PendingChange → Values
+with_changes values [] = values
+with_changes values (p ∷ ps) = with_changes
+    (λ page slot. if (page == p.page) && (slot == p.slot) then changed p.change
+    (values page slot) else values page slot)
+    ps
+
+-- a Commit makes the changes that are pending for its transaction there, as one block
+abbrev pub with_commit : List Record → Values → Record → Values
+with_commit before values (Commit lsn txn prev) = with_changes values (pending before txn)
+with_commit before values other = values
+
+abbrev pub committed_from : List Record → Values → List Record → Values
+committed_from before values [] = values
+committed_from before values (r ∷ rs) =
+    committed_from (before ++ r ∷ []) (with_commit before values r) rs
+
+-- from zeros, the changes of each Commit of the log, in order
+abbrev pub committed : List Record → Values
+committed rs = committed_from [] zeros rs

@@ -1,0 +1,42 @@
+-- What the records of a log make: the table of its open transactions, and its pages.
+use Rattle.std.specs.Prelude.{ℕ, ◌≡◌, List, map, slice_index, slice_index_or}
+use Rattle.page_core.specs.declared.page.Page.{Page}
+use Rattle.page_core.specs.Change.{Replaces}
+use Rattle.page_core.specs.Page.{formatted}
+use Rattle.log_records.specs.declared.record.Record.{Record}
+use Rattle.log_records.specs.declared.record.Record.TheVariants.{Update}
+use Rattle.log_records.specs.Image.{redo_all, with_record}
+use Rattle.log_records.specs.Log.{Log}
+use Rattle.log_history.specs.Table.{MayNote, Table, noted, table_of}
+
+pub record Made : Type 0 where
+  pub table : Table
+  pub pages : List Page
+
+-- it is what this log makes
+pub record IsMadeOf (log : Log) (made : Made) : Type 0 where
+  pub table : made.table ≡ table_of log.records
+  pub pages : made.pages ≡ redo_all log.records log.pages
+
+-- the number in a slot of these pages
+abbrev pub number_on : List Page → ℕ → ℕ → ℕ
+number_on pages page slot = slice_index (slice_index_or pages page (formatted page)).slots slot
+
+-- an Update that replaces a number names the one that is there
+abbrev pub NamesNumberOn : List Page → Record → Type 0
+NamesNumberOn pages (Update lsn txn prev page slot change) =
+    Replaces change (number_on pages page slot)
+NamesNumberOn pages other = Unit {0}
+
+-- the record may come next, as far as the transactions and the pages say
+pub record MayComeNext (made : Made) (r : Record) : Type 0 where
+  pub may_note : MayNote made.table r
+  pub replaces : NamesNumberOn made.pages r
+
+-- what stands after it
+abbrev pub followed : Made → Record → Made
+followed made r = record {
+  table = noted made.table r;
+  pages =
+      map (λ page. with_record page r) made.pages;
+}

@@ -1,0 +1,88 @@
+-- An open transaction as the table stores it.
+use Rattle.std.specs.Prelude.{ℕ, ◌≡◌, ◌≢◌, ◌<◌, ◌==◌, Bool, true, false, List, [], ◌∷◌, ◌++◌, map}
+use Rattle.std.specs.Prelude.{if◌then◌else◌}
+use Rattle.std.specs.List.{list_any}
+use Rattle.page_core.specs.declared.change.ChangeKind.TheVariants as kind
+use Rattle.page_core.specs.Change.{kind_of}
+use Rattle.log_history.specs.declared.claims.Claims.{Claims}
+use Rattle.log_history.specs.declared.claims.Hold.{Hold}
+use Rattle.log_history.specs.declared.open_entry.OpenEntry.{OpenEntry}
+use Rattle.log_history.specs.declared.open_entry.Pending.{Pending}
+use Rattle.log_history.specs.declared.pending_change.PendingChange.{PendingChange}
+use Rattle.log_history.specs.declared.seat_set.TheConstants.{SEATS}
+use Rattle.log_history.specs.Claims.{IsFreeFor, IsHeldByOther, claim_at, hold_at, no_hold}
+use Rattle.log_history.specs.Table.{Entry}
+use Rattle.log_history.specs.Transactions.{keeps_out}
+
+abbrev pub changes_of : List Pending → List PendingChange
+changes_of ps = map (λ p. p.change) ps
+
+abbrev pub entry_view : OpenEntry → Entry
+entry_view e = record {
+  txn = e.txn;
+  first = e.first;
+  last = e.last;
+  rolling = e.rolling;
+  aborted = e.aborted;
+  pending = changes_of e.pending.items;
+}
+
+-- what these pending changes keep out of a slot
+unfoldable pub hold_by : List PendingChange → ℕ → ℕ → Hold
+hold_by changes page slot = record {
+  against_sets = list_any (keeps_out page slot kind.Set) changes;
+  against_adds = list_any (keeps_out page slot kind.Add) changes;
+}
+
+-- each says what those below it keep out of its slot
+abbrev pub AreStacked : List PendingChange → List Pending → Type 0
+AreStacked below [] = Unit {0}
+AreStacked below (p ∷ ps) =
+    (p.before ≡ hold_by below p.change.page p.change.slot) × AreStacked (below ++ p.change ∷ []) ps
+
+-- the claims say of this seat what these pending changes keep out
+pub record IsHeld (claims : Claims) (seat : ℕ) (ps : List Pending) : Type 0 where
+  pub stacked : AreStacked [] ps
+  pub held : (page slot : ℕ) → hold_at claims page slot seat ≡ hold_by (changes_of ps) page slot
+
+-- the claims say the same of all other seats
+abbrev pub KeepsOtherSeats : ℕ → Claims → Claims → Type 0
+KeepsOtherSeats seat before after =
+    (page slot other : ℕ) → other < SEATS → other ≢ seat
+    → hold_at after page slot other ≡ hold_at before page slot other
+
+-- a change becomes the last pending one, unless another transaction keeps it out
+abbrev pub Pushes : Claims → List Pending → List Pending → ℕ → PendingChange → Bool → Type 0
+Pushes before old new seat c true =
+    IsFreeFor (claim_at before c.page c.slot) (kind_of c.change) seat
+    × (changes_of new ≡ changes_of old ++ c ∷ [])
+Pushes before old new seat c false =
+    IsHeldByOther (claim_at before c.page c.slot) (kind_of c.change) seat × (new ≡ old)
+
+-- the same of an entry
+abbrev pub Updates : Claims → OpenEntry → OpenEntry → PendingChange → Bool → Type 0
+Updates before old new c true =
+    IsFreeFor (claim_at before c.page c.slot) (kind_of c.change) old.seat
+    × (entry_view new ≡ record (entry_view old) {
+      last = c.lsn;
+      pending = changes_of old.pending.items ++ c ∷ [];
+    })
+Updates before old new c false =
+    IsHeldByOther (claim_at before c.page c.slot) (kind_of c.change) old.seat
+    × (entry_view new ≡ entry_view old)
+
+-- an entry changes, and the claims of its seat with it
+pub record KeepsSeat (old new : OpenEntry) (before after : Claims) : Type 0 where
+  pub txn : new.txn ≡ old.txn
+  pub seat : new.seat ≡ old.seat
+  pub held : IsHeld after new.seat new.pending.items
+  pub others : KeepsOtherSeats old.seat before after
+
+-- ---- all of them
+
+-- what the transaction of a seat keeps out of a slot
+abbrev pub hold_among : List OpenEntry → ℕ → ℕ → ℕ → Hold
+hold_among [] page slot seat = no_hold
+hold_among (e ∷ es) page slot seat =
+    if e.seat == seat then hold_by (changes_of e.pending.items) page slot
+    else hold_among es page slot seat

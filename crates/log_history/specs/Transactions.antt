@@ -1,0 +1,134 @@
+-- The transactions of a log, read from its beginning.
+use Rattle.std.specs.Prelude.{ℕ, ◌+◌, ◌-◌, ◌==◌, Bool, true, false, ◌&&◌, not, List, [], ◌∷◌}
+use Rattle.std.specs.Prelude.{◌++◌, length, map, filter, take, Option, Some, None, slice_get}
+use Rattle.std.specs.Prelude.{if◌then◌else◌, min}
+use Rattle.std.specs.List.{filter_map, list_any, sum_by}
+use Rattle.std.specs.Option.{option_map_or}
+use Rattle.page_core.specs.declared.change.ChangeKind.{ChangeKind}
+use Rattle.page_core.specs.declared.change.ChangeKind.TheVariants as kind
+use Rattle.page_core.specs.Change.{kind_of}
+use Rattle.log_history.specs.declared.pending_change.PendingChange.{PendingChange}
+use Rattle.log_records.specs.Least.{least}
+use Rattle.log_records.specs.declared.record.Record.{Record}
+use Rattle.log_records.specs.declared.record.Record.TheVariants.{Begin, Update, Comp, Commit, Abort}
+use Rattle.log_records.specs.declared.record.Record.TheVariants.{End}
+use Rattle.log_records.specs.Record.{own_lsn}
+
+-- the transaction of a record
+abbrev pub txn_of : Record → ℕ
+txn_of (Begin lsn txn) = txn
+txn_of (Update lsn txn prev page slot change) = txn
+txn_of (Comp lsn txn prev undo_next page slot change) = txn
+txn_of (Commit lsn txn prev) = txn
+txn_of (Abort lsn txn prev) = txn
+txn_of (End lsn txn prev) = txn
+
+-- the transaction that a record begins
+abbrev pub begun_by : Record → Option ℕ
+begun_by (Begin lsn txn) = Some txn
+begun_by other = None
+
+-- a record ends its transaction: it commits, or all is taken back
+abbrev pub is_last : Record → Bool
+is_last (Commit lsn txn prev) = true
+is_last (End lsn txn prev) = true
+is_last other = false
+
+-- a record says that its transaction takes its changes back
+abbrev pub is_abort : Record → Bool
+is_abort (Abort lsn txn prev) = true
+is_abort other = false
+
+-- a record shows that its transaction takes its changes back
+abbrev pub is_rollback : Record → Bool
+is_rollback (Abort lsn txn prev) = true
+is_rollback (Comp lsn txn prev undo_next page slot change) = true
+is_rollback other = false
+
+-- the records of a transaction
+abbrev pub records_of : List Record → ℕ → List Record
+records_of rs t = filter (λ r. txn_of r == t) rs
+
+-- the transactions that began, in their order
+abbrev pub begun : List Record → List ℕ
+begun rs = filter_map begun_by rs
+
+-- the open ones: those that began, and have neither committed nor ended
+abbrev pub is_open : List Record → ℕ → Bool
+is_open rs t = list_any (λ b. b == t) (begun rs) && not (list_any is_last (records_of rs t))
+
+abbrev pub open_in : List Record → List ℕ
+open_in rs = filter (is_open rs) (begun rs)
+
+-- a transaction that aborted, and one that is rolling back
+abbrev pub has_aborted : List Record → ℕ → Bool
+has_aborted rs t = list_any is_abort (records_of rs t)
+
+abbrev pub is_rolling : List Record → ℕ → Bool
+is_rolling rs t = list_any is_rollback (records_of rs t)
+
+-- the last of a list, or what stands in for it
+abbrev pub last_or : {X : Type 0} → X → List X → X
+last_or d [] = d
+last_or d (x ∷ xs) = last_or x xs
+
+-- the LSN of a transaction's first record, its Begin; 0 where it has none
+abbrev pub first_lsn : List Record → ℕ → ℕ
+first_lsn rs t = option_map_or own_lsn (slice_get (records_of rs t) 0) 0
+
+-- the LSN of a transaction's last record; 0 where it has none
+abbrev pub last_lsn : List Record → ℕ → ℕ
+last_lsn rs t = last_or 0 (map own_lsn (records_of rs t))
+
+-- ---- pending changes
+
+abbrev pub without_last : {X : Type 0} → List X → List X
+without_last xs = take (length xs - 1) xs
+
+abbrev pub last_of : {X : Type 0} → List X → Option X
+last_of xs = slice_get xs (length xs - 1)
+
+-- the changes that are pending after one more record of the transaction: an Update adds one at the
+-- end, and a Comp takes the last one away
+abbrev pub with_pending : List PendingChange → Record → List PendingChange
+with_pending changes (Update lsn txn prev page slot change) =
+    changes ++ record { lsn = lsn; prev = prev; page = page; slot = slot; change = change } ∷ []
+with_pending changes (Comp lsn txn prev undo_next page slot change) = without_last changes
+with_pending changes other = changes
+
+abbrev pub pending_from : List PendingChange → List Record → List PendingChange
+pending_from changes [] = changes
+pending_from changes (r ∷ rs) = pending_from (with_pending changes r) rs
+
+-- a transaction's changes that are not compensated yet, the oldest first
+abbrev pub pending : List Record → ℕ → List PendingChange
+pending rs t = pending_from [] (records_of rs t)
+
+-- ---- who holds a slot
+
+abbrev pub is_add : ChangeKind → Bool
+is_add kind.Add = true
+is_add kind.Set = false
+
+-- a pending change keeps another transaction's change of this kind from its slot: only two Adds may
+-- stand there
+abbrev pub keeps_out : ℕ → ℕ → ChangeKind → PendingChange → Bool
+keeps_out page slot kind p =
+    (p.page == page) && (p.slot == slot) && not (is_add kind && is_add (kind_of p.change))
+
+-- the least other open transaction that holds the slot against a change of this kind by transaction
+-- t
+abbrev pub holder : List Record → ℕ → ℕ → ChangeKind → ℕ → Option ℕ
+holder rs page slot kind t =
+    least (filter (λ o. not (o == t) && list_any (keeps_out page slot kind) (pending rs o))
+    (open_in rs))
+
+-- ---- room
+
+-- the records that an open transaction may still need: one for each pending change, its Abort, and
+-- its last one
+abbrev pub owed_by : List Record → ℕ → ℕ
+owed_by rs t = length (pending rs t) + (if has_aborted rs t then 1 else 2)
+
+abbrev pub owed : List Record → ℕ
+owed rs = sum_by (owed_by rs) (open_in rs)

@@ -1,0 +1,297 @@
+//! Which open transactions keep others from a slot, by their seats.
+
+ghost use Rattle.std.specs.Prelude.{ℕ, ◌≡◌, ◌≢◌, ◌<◌, ◌==◌, IfOk, IsTrue, OnErr};
+ghost use Rattle.std.specs.Prelude.{if◌then◌else◌};
+ghost use Rattle.log_history.specs.declared.seat_set.SeatSet.{SeatSet};
+ghost use Rattle.log_history.specs.Claims.{IsWeaker, KeepsHolds, SetsHold, Takes, claim_at, claim_of};
+ghost use Rattle.log_history.specs.Claims.{hold_at, hold_in, hold_with, no_claim, no_hold};
+ghost use Rattle.log_history.specs.Claims.{seats_against};
+ghost use Rattle.log_history.specs.Mark.{HasSeat};
+ghost use Rattle.log_history.specs.Marks.{holder_at};
+
+use crate::adders::Adders;
+use crate::mark::Holder;
+use crate::marks::Marks;
+use crate::seat_set::{SEATS, SeatSet};
+use page_core::{ChangeKind, PageNo, SlotNo};
+use std::alloc::{AllocError, Global};
+
+/// From which changes of a slot a transaction keeps the others.
+#[derive(Clone, Copy, Debug, PartialEq, Eq)]
+pub struct Hold {
+    pub against_sets: bool,
+    pub against_adds: bool,
+}
+
+impl Hold {
+    /// A transaction that has no pending change on the slot.
+    pub fn new() -> Hold
+        ensures { result ≡ no_hold }
+    {
+        Hold {
+            against_sets: false,
+            against_adds: false,
+        }
+    }
+
+    /// A transaction with pending changes of this kind on the slot; where it is `Set`, with Adds
+    /// beside, too.
+    pub fn by(kind: ChangeKind) -> Hold
+        ensures { result ≡ hold_with no_hold kind }
+    {
+        Hold {
+            against_sets: true,
+            against_adds: kind == ChangeKind::Set,
+        }
+    }
+}
+
+/// The seats of the transactions that keep others from a slot.
+#[derive(Clone, Copy, Debug, PartialEq, Eq)]
+pub struct Claim {
+    against_sets: SeatSet,
+    against_adds: SeatSet,
+}
+
+impl Claim {
+    /// What a holder keeps out, where these are the seats of the slot's adders.
+    fn of(holder: Holder, adders: SeatSet) -> Claim
+        requires { HasSeat holder }
+        ensures { result ≡ claim_of holder adders }
+    {
+        let nobody = SeatSet::new();
+        match holder {
+            Holder::Nobody => Claim {
+                against_sets: nobody,
+                against_adds: nobody,
+            },
+            Holder::One { seat, kind } => {
+                let one = SeatSet::only(seat);
+                let against_adds = match kind {
+                    ChangeKind::Add => nobody,
+                    ChangeKind::Set => one,
+                };
+                Claim {
+                    against_sets: one,
+                    against_adds,
+                }
+            }
+            Holder::Adders => Claim {
+                against_sets: adders,
+                against_adds: nobody,
+            },
+        }
+    }
+
+    /// The seats that keep changes of this kind out.
+    pub fn against(self, kind: ChangeKind) -> SeatSet
+        ensures { result ≡ seats_against self kind }
+    {
+        match kind {
+            ChangeKind::Set => self.against_sets,
+            ChangeKind::Add => self.against_adds,
+        }
+    }
+}
+
+/// The claims on all slots. Nearly always the mark of a slot says all: nobody holds it, or one
+/// transaction. Only where several add to a slot, their seats are kept beside it. Either way it is
+/// found by its place, so no log makes a look-up longer.
+#[derive(Drop)]
+pub struct Claims {
+    marks: Marks,
+    adders: Adders,
+}
+
+impl Claims {
+    /// No claims.
+    pub fn new(alloc: Global) -> Claims
+        ensures { (page slot : ℕ) → claim_at result page slot ≡ no_claim }
+    {
+        Claims {
+            marks: Marks::new(alloc),
+            adders: Adders::new(alloc),
+        }
+    }
+
+    /// The claim on a slot.
+    pub fn claim(&self, page: PageNo, slot: SlotNo) -> Claim
+        ensures { result ≡ claim_at self.now page slot }
+    {
+        Claim::of(self.marks.holder(page, slot), self.adders.seats(page, slot))
+    }
+
+    /// Takes a slot for one more pending change of the transaction of this seat, and answers what
+    /// the transaction kept out before; None where another one keeps the change out. Where there is
+    /// no memory for it, nothing changes; so it is on a slot that no page has.
+    pub fn take(
+        &mut self,
+        page: PageNo,
+        slot: SlotNo,
+        seat: u8,
+        kind: ChangeKind,
+    ) -> Result<Option<Hold>, AllocError>
+        requires { seat < SEATS }
+        ensures ok { IfOk result (Takes self.old self.new page slot seat kind) }
+        ensures err { OnErr result (KeepsHolds self.old self.new) }
+    {
+        match self.marks.holder(page, slot) {
+            Holder::Nobody => {
+                self.marks.put(page, slot, Holder::One { seat, kind })?;
+                Ok(Some(Hold::new()))
+            }
+            Holder::One {
+                seat: holder,
+                kind: held,
+            } => {
+                if holder == seat {
+                    self.keep(page, slot, seat, held, kind)
+                } else {
+                    self.share(page, slot, seat, holder, held, kind)
+                }
+            }
+            Holder::Adders => self.join(page, slot, seat, kind),
+        }
+    }
+
+    /// Takes a slot that the transaction holds by itself.
+    fn keep(
+        &mut self,
+        page: PageNo,
+        slot: SlotNo,
+        seat: u8,
+        held: ChangeKind,
+        kind: ChangeKind,
+    ) -> Result<Option<Hold>, AllocError>
+        requires seat { seat < SEATS }
+        requires held { holder_at self.old.marks page slot ≡ Holder.One seat held }
+        ensures ok { IfOk result (Takes self.old self.new page slot seat kind) }
+        ensures err { OnErr result (KeepsHolds self.old self.new) }
+    {
+        let kind = stronger(held, kind);
+        self.marks.put(page, slot, Holder::One { seat, kind })?;
+        Ok(Some(Hold::by(held)))
+    }
+
+    /// Takes a slot that another transaction holds by itself: the two may only add to it.
+    fn share(
+        &mut self,
+        page: PageNo,
+        slot: SlotNo,
+        seat: u8,
+        holder: u8,
+        held: ChangeKind,
+        kind: ChangeKind,
+    ) -> Result<Option<Hold>, AllocError>
+        requires seat { seat < SEATS }
+        requires holder { holder < SEATS }
+        requires other { holder ≢ seat }
+        requires held { holder_at self.old.marks page slot ≡ Holder.One holder held }
+        ensures ok { IfOk result (Takes self.old self.new page slot seat kind) }
+        ensures err { OnErr result (KeepsHolds self.old self.new) }
+    {
+        match (held, kind) {
+            (ChangeKind::Add, ChangeKind::Add) => {
+                let both = SeatSet::only(holder).with(seat, true);
+                self.adders.put(page, slot, both)?;
+                self.marks.put(page, slot, Holder::Adders)?;
+                Ok(Some(Hold::new()))
+            }
+            _ => Ok(None),
+        }
+    }
+
+    /// Takes a slot that others may add to.
+    fn join(
+        &mut self,
+        page: PageNo,
+        slot: SlotNo,
+        seat: u8,
+        kind: ChangeKind,
+    ) -> Result<Option<Hold>, AllocError>
+        requires seat { seat < SEATS }
+        requires held { holder_at self.old.marks page slot ≡ Holder.Adders }
+        ensures ok { IfOk result (Takes self.old self.new page slot seat kind) }
+        ensures err { OnErr result (KeepsHolds self.old self.new) }
+    {
+        let adders = self.adders.seats(page, slot);
+        let before = Hold {
+            against_sets: adders.contains(seat),
+            against_adds: false,
+        };
+        match kind {
+            ChangeKind::Add => {
+                self.adders.put(page, slot, adders.with(seat, true))?;
+                Ok(Some(before))
+            }
+            ChangeKind::Set => {
+                if !adders.with(seat, false).is_empty() {
+                    return Ok(None);
+                }
+                self.marks.put(page, slot, Holder::One { seat, kind })?;
+                Ok(Some(before))
+            }
+        }
+    }
+
+    /// The transaction of this seat has one pending change less on a slot, and keeps out again what
+    /// it kept out before that change.
+    pub fn release(&mut self, page: PageNo, slot: SlotNo, seat: u8, before: Hold)
+        requires seat { seat < SEATS }
+        requires weaker { IsWeaker before (hold_at self.old page slot seat) }
+        ensures { SetsHold self.old self.new page slot seat before }
+    {
+        match self.marks.holder(page, slot) {
+            Holder::Adders => self.leave(page, slot, seat, before),
+            _ => {
+                let _ = self.marks.put(page, slot, holder_by(seat, before));
+            }
+        }
+    }
+
+    /// The same of a slot that others may add to.
+    fn leave(&mut self, page: PageNo, slot: SlotNo, seat: u8, before: Hold)
+        requires seat { seat < SEATS }
+        requires held { holder_at self.old.marks page slot ≡ Holder.Adders }
+        requires weaker { IsWeaker before (hold_at self.old page slot seat) }
+        ensures { SetsHold self.old self.new page slot seat before }
+    {
+        if !before.against_sets {
+            let adders = self.adders.seats(page, slot).with(seat, false);
+            let _ = self.adders.put(page, slot, adders);
+        }
+    }
+}
+
+/// What changes of these two kinds together come to.
+fn stronger(held: ChangeKind, kind: ChangeKind) -> ChangeKind
+    ensures { hold_with no_hold result ≡ hold_with (hold_with no_hold held) kind }
+{
+    match (held, kind) {
+        (ChangeKind::Add, ChangeKind::Add) => ChangeKind::Add,
+        _ => ChangeKind::Set,
+    }
+}
+
+/// Who holds a slot of which this transaction alone keeps something out, namely this.
+fn holder_by(seat: u8, hold: Hold) -> Holder
+    requires seat { seat < SEATS }
+    requires sets { IsTrue hold.against_adds → IsTrue hold.against_sets }
+    ensures seat { HasSeat result }
+    ensures hold { (seats : SeatSet) (other : ℕ) → other < SEATS
+        → hold_in (claim_of result seats) other ≡ (if other == seat then hold else no_hold) }
+{
+    if hold.against_adds {
+        Holder::One {
+            seat,
+            kind: ChangeKind::Set,
+        }
+    } else if hold.against_sets {
+        Holder::One {
+            seat,
+            kind: ChangeKind::Add,
+        }
+    } else {
+        Holder::Nobody
+    }
+}

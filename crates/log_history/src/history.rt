@@ -1,0 +1,89 @@
+//! A log that is read is replayed: at each place the records so far have made open transactions and
+//! pages, and these decide whether the next record may follow.
+
+ghost use Rattle.std.specs.Prelude.{◌↔◌, length, IsTrue};
+ghost use Rattle.log_records.specs.Log.{IsWithin};
+ghost use Rattle.log_records.specs.Record.{IsRecord};
+ghost use Rattle.log_history.specs.History.{NamesNumberOn};
+
+use crate::open_transactions::OpenTransactions;
+use log_records::{Record, redo_on_its_page};
+use page_core::{Change, Page, formatted_pages};
+use std::alloc::{AllocError, Global};
+use std::marker::Model;
+
+/// What the records of a log make: its open transactions, and its pages with the changes of all
+/// records (ARIES, sections 3 and 6.2).
+#[derive(Drop)]
+pub struct History {
+    txns: OpenTransactions,
+    pages: Vec<Page>,
+}
+
+impl Model for History {
+    ghost use Rattle.log_history.specs.History.{Made};
+    ghost use Rattle.log_records.specs.Image.{AreNumbered};
+
+    ghost Value = { Made };
+
+    ghost view = { λ history. record { table = history.txns; pages = history.pages.items } };
+
+    ghost invariant = { λ history. AreNumbered history.pages.items };
+}
+
+impl History {
+    ghost use Rattle.std.specs.Prelude.{◌≡◌, [], length, IfOk, IsTrue, OnErr};
+    ghost use Rattle.log_history.specs.History.{IsMadeOf, MayComeNext, followed};
+    ghost use Rattle.log_records.specs.Log.{IsWithin};
+    ghost use Rattle.log_records.specs.Record.{IsRecord};
+
+    /// What the empty log of so many pages makes: no transaction, and formatted pages.
+    pub fn start(alloc: Global, pages: u32) -> Result<History, AllocError>
+        ensures { IfOk result (IsMadeOf (record { pages = pages; records = [] })) }
+    {
+        Ok(History {
+            txns: OpenTransactions::new(alloc),
+            pages: formatted_pages(alloc, pages)?,
+        })
+    }
+
+    /// The pages, in order of their numbers, with the changes of all records so far.
+    pub fn pages(&self) -> &[Page]
+        ensures { result.now ≡ self.now.pages }
+    {
+        &self.pages
+    }
+
+    /// Takes the next record if it may come next, and answers whether it may.
+    pub fn follow(&mut self, next: &Record) -> Result<bool, AllocError>
+        requires valid { IsRecord next.now }
+        requires within { IsWithin (length self.old.pages) next.now }
+        ensures taken { IfOk result (λ may. IsTrue may
+            → MayComeNext self.old next.now × (self.new ≡ followed self.old next.now)) }
+        ensures refused { IfOk result (λ may. MayComeNext self.old next.now → IsTrue may) }
+    {
+        if !self.txns.may_note(next) || !names_number_on(&self.pages, next) {
+            return Ok(false);
+        }
+        self.txns.note(next)?;
+        redo_on_its_page(&mut self.pages, next);
+        Ok(true)
+    }
+}
+
+/// Whether a record that replaces a number names the one that is there.
+fn names_number_on(pages: &[Page], next: &Record) -> bool
+    requires valid { IsRecord next.now }
+    requires within { IsWithin (length pages.now) next.now }
+    ensures { IsTrue result ↔ NamesNumberOn pages.now next.now }
+{
+    match *next {
+        Record::Update {
+            page,
+            slot,
+            change: Change::Set { before, .. },
+            ..
+        } => pages[page.0 as usize].slots[slot.0 as usize] == before,
+        _ => true,
+    }
+}

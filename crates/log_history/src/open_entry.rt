@@ -1,0 +1,216 @@
+//! One open transaction: its numbers, and its pending changes as a stack.
+
+ghost use Rattle.std.specs.Prelude.{◌≡◌, ◌<◌, ◌↔◌, [], IfOk, IsTrue, OnErr, false};
+ghost use Rattle.log_history.specs.Linked.{Compensates};
+ghost use Rattle.log_history.specs.OpenEntry.{IsHeld, KeepsOtherSeats, Pushes, changes_of};
+ghost use Rattle.log_history.specs.Transactions.{without_last};
+
+use crate::claims::{Claims, Hold};
+use crate::pending_change::PendingChange;
+use crate::seat_set::SEATS;
+use crate::txn_state::TxnState;
+use page_core::{Change, Lsn, PageNo, SlotNo, TxnNo, undo_of};
+use std::alloc::{AllocError, Global};
+
+/// A pending change, and what its transaction kept out of the slot before it.
+#[derive(Clone, Copy)]
+pub struct Pending {
+    pub change: PendingChange,
+    pub before: Hold,
+}
+
+/// An open transaction.
+#[derive(Drop)]
+pub struct OpenEntry {
+    pub txn: TxnNo,
+    /// Its place in the sets of seats, as long as it is open.
+    pub seat: u8,
+    pub first: Lsn,
+    pub last: Lsn,
+    pub rolling: bool,
+    pub aborted: bool,
+    /// The oldest first.
+    pub pending: Vec<Pending>,
+}
+
+/// Adds a pending change and takes its slot, unless another transaction keeps it out. Answers
+/// whether it did. An `Err` changes nothing.
+fn push_pending(
+    pending: &mut Vec<Pending>,
+    claims: &mut Claims,
+    seat: u8,
+    change: PendingChange,
+) -> Result<bool, AllocError>
+    requires seat { seat < SEATS }
+    requires held { IsHeld claims.old seat pending.old.items }
+    ensures ok { IfOk result (Pushes claims.old pending.old.items pending.new.items seat change) }
+    ensures err { OnErr result (pending.new.items ≡ pending.old.items) }
+    ensures held { IsHeld claims.new seat pending.new.items }
+    ensures others { KeepsOtherSeats seat claims.old claims.new }
+{
+    // With room for it, the push cannot fail.
+    pending.reserve(1)?;
+    let kind = change.change.kind();
+    let Some(before) = claims.take(change.page, change.slot, seat, kind)? else {
+        return Ok(false);
+    };
+    let _ = pending.push(Pending { change, before });
+    Ok(true)
+}
+
+/// Takes the last pending change away, and what it kept out.
+fn pop_pending(pending: &mut Vec<Pending>, claims: &mut Claims, seat: u8)
+    requires seat { seat < SEATS }
+    requires held { IsHeld claims.old seat pending.old.items }
+    ensures changes { changes_of pending.new.items ≡ without_last (changes_of pending.old.items) }
+    ensures held { IsHeld claims.new seat pending.new.items }
+    ensures others { KeepsOtherSeats seat claims.old claims.new }
+{
+    if let Some(last) = pending.pop() {
+        let change = last.change;
+        claims.release(change.page, change.slot, seat, last.before);
+    }
+}
+
+/// Takes all pending changes away, and what they kept out.
+fn drain_pending(pending: &mut Vec<Pending>, claims: &mut Claims, seat: u8)
+    requires seat { seat < SEATS }
+    requires held { IsHeld claims.old seat pending.old.items }
+    ensures changes { pending.new.items ≡ [] }
+    ensures held { IsHeld claims.new seat pending.new.items }
+    ensures others { KeepsOtherSeats seat claims.old claims.new }
+{
+    while !pending.is_empty() {
+        pop_pending(pending, claims, seat);
+    }
+}
+
+impl OpenEntry {
+    ghost use Rattle.std.specs.Prelude.{min, true};
+    ghost use Rattle.log_history.specs.OpenEntry.{KeepsSeat, Updates, entry_view};
+    ghost use Rattle.log_history.specs.TxnState.{state_of};
+    ghost use Rattle.log_history.specs.Table.{owed_by_entry};
+    ghost use Rattle.log_history.specs.Transactions.{last_of};
+
+    /// The transaction makes a change, unless another one keeps it out: its Update has this
+    /// change's LSN. Answers whether it did. An `Err` changes nothing.
+    pub fn update(&mut self, claims: &mut Claims, change: PendingChange) -> Result<bool, AllocError>
+        requires seat { self.old.seat < SEATS }
+        requires held { IsHeld claims.old self.old.seat self.old.pending.items }
+        ensures ok { IfOk result (Updates claims.old self.old self.new change) }
+        ensures err { OnErr result (entry_view self.new ≡ entry_view self.old) }
+        ensures kept { KeepsSeat self.old self.new claims.old claims.new }
+    {
+        let lsn = change.lsn;
+        let may = push_pending(&mut self.pending, claims, self.seat, change)?;
+        if may {
+            self.last = lsn;
+        }
+        Ok(may)
+    }
+
+    /// The transaction takes its last pending change back, by a compensation record of this LSN.
+    pub fn compensate(&mut self, claims: &mut Claims, lsn: Lsn)
+        requires seat { self.old.seat < SEATS }
+        requires held { IsHeld claims.old self.old.seat self.old.pending.items }
+        ensures entry { entry_view self.new ≡ record (entry_view self.old) {
+          last = lsn;
+          rolling = true;
+          pending = without_last (entry_view self.old).pending;
+        } }
+        ensures kept { KeepsSeat self.old self.new claims.old claims.new }
+    {
+        pop_pending(&mut self.pending, claims, self.seat);
+        self.last = lsn;
+        self.rolling = true;
+    }
+
+    /// The transaction begins to roll back, by an Abort of this LSN.
+    pub fn abort(&mut self, lsn: Lsn)
+        ensures entry { entry_view self.new ≡ record (entry_view self.old) {
+          last = lsn;
+          rolling = true;
+          aborted = true;
+        } }
+        ensures same { (self.new.seat ≡ self.old.seat)
+            × (self.new.pending.items ≡ self.old.pending.items) }
+    {
+        self.last = lsn;
+        self.rolling = true;
+        self.aborted = true;
+    }
+
+    /// Its numbers.
+    pub fn state(&self) -> TxnState
+        ensures { result ≡ state_of (entry_view self.now) }
+    {
+        TxnState {
+            txn: self.txn,
+            first: self.first,
+            last: self.last,
+            rolling: self.rolling,
+            aborted: self.aborted,
+            pending: self.pending.len(),
+        }
+    }
+
+    /// How many records it may still need: one for each pending change, its Abort, and its last.
+    pub fn owed(&self) -> u64
+        ensures { result ≡ min (owed_by_entry (entry_view self.now)) u64.MAX }
+    {
+        let last = if self.aborted { 1 } else { 2 };
+        (self.pending.len() as u64).saturating_add(last)
+    }
+
+    /// Its last pending change, if it has one.
+    pub fn last_pending(&self) -> Option<PendingChange>
+        ensures { result ≡ last_of (entry_view self.now).pending }
+    {
+        self.pending.last().map(|pending| pending.change)
+    }
+
+    /// The transaction keeps nothing out any more.
+    pub fn release(&mut self, claims: &mut Claims)
+        requires seat { self.old.seat < SEATS }
+        requires held { IsHeld claims.old self.old.seat self.old.pending.items }
+        ensures changes { self.new.pending.items ≡ [] }
+        ensures kept { KeepsSeat self.old self.new claims.old claims.new }
+    {
+        drain_pending(&mut self.pending, claims, self.seat);
+    }
+}
+
+/// An open transaction with only its Begin.
+pub fn begun_entry(alloc: Global, txn: TxnNo, seat: u8, lsn: Lsn) -> OpenEntry
+    ensures txn { result.txn ≡ txn }
+    ensures seat { result.seat ≡ seat }
+    ensures lsn { (result.first ≡ lsn) × (result.last ≡ lsn) }
+    ensures rolling { (result.rolling ≡ false) × (result.aborted ≡ false) }
+    ensures pending { result.pending.items ≡ [] }
+{
+    OpenEntry {
+        txn,
+        seat,
+        first: lsn,
+        last: lsn,
+        rolling: false,
+        aborted: false,
+        pending: Vec::new(alloc),
+    }
+}
+
+/// The change, with this UndoNxt, takes the pending change back.
+pub fn compensates(
+    undo_next: Lsn,
+    page: PageNo,
+    slot: SlotNo,
+    change: Change,
+    last: &PendingChange,
+) -> bool
+    ensures { IsTrue result ↔ Compensates undo_next page slot change last.now }
+{
+    undo_next == last.prev
+        && page == last.page
+        && slot == last.slot
+        && change == undo_of(&last.change)
+}

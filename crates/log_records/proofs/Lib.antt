@@ -1,0 +1,6 @@
+pub mod Changes
+pub mod Coverage
+pub mod Images
+pub mod Logs
+pub mod Records
+pub mod Stored

@@ -1,0 +1,80 @@
+-- The bytes of a log: its header, and its records one after another.
+use Rattle.std.proofs.Common.{◌≡◌, ℕ, ◌+◌, ◌-◌, ◌*◌, ◌<◌, ◌≤◌, ◌++◌, List, length, get_or, take, drop, refl}
+use Rattle.std.proofs.Common.{sym, ap, ◌∙◌, arith}
+use Rattle.std.specs.Prelude.{slice_range}
+use Rattle.std.specs.Int.{w32, to_le_bytes, from_le_bytes}
+use Rattle.std.specs.List.{flat_map}
+use Rattle.std.proofs.lemmas.List.{take_at, drop_at, take-append-le, drop-append-le, length-drop, take-take, drop-take}
+use Rattle.std.proofs.lemmas.List.{drop-drop, length-append, same_lists}
+use Rattle.std.proofs.lemmas.Nat.{from_le_bytes-to_le_bytes_4}
+use Rattle.page_core.proofs.Pieces.{length-pieces, take-drop-pieces}
+use Rattle.log_records.specs.declared.record.Record.{Record}
+use Rattle.log_records.specs.Record.{record_bytes}
+use Rattle.log_records.specs.Log.{Log, SpellsLog, header_bytes, lsn_of, pages_in}
+use Rattle.log_records.proofs.Records.{record_length, same_record}
+
+-- a part of what was given is a part of the input
+pub range_in : (given rest : List ℕ) (a b : ℕ) → a ≤ b → b ≤ length given
+    → slice_range (given ++ rest) a b ≡ slice_range given a b
+range_in given rest a b le long =
+    ap (take (b - a)) (drop-append-le a given rest (omega arith))
+    ∙ take-append-le (b - a) (drop a given) rest (omega (arith, length-drop a given))
+
+-- ---- the header
+
+pub length-header_bytes : (pages : ℕ) → length (header_bytes pages) ≡ 64
+unfolding header_bytes
+length-header_bytes pages = refl
+
+pub pages_at : (pages : ℕ) → slice_range (header_bytes pages) 8 12 ≡ to_le_bytes w32 pages
+unfolding header_bytes
+pages_at pages = refl
+
+-- the page count stands within the header
+pub in_header : (bytes : List ℕ) → slice_range (take 64 bytes) 8 12 ≡ slice_range bytes 8 12
+in_header bytes = ap (take 4) (drop-take 8 56 bytes) ∙ take-take 4 56 (drop 8 bytes) (omega arith)
+
+pub pages_in-header : (pages : ℕ) (bytes : List ℕ) → pages ≤ 65536 → take 64 bytes ≡ header_bytes pages
+    → pages_in bytes ≡ pages
+pages_in-header pages bytes few e =
+    ap (from_le_bytes w32) (sym (in_header bytes) ∙ ap (λ (bs : List ℕ). slice_range bs 8 12) e ∙ pages_at pages)
+    ∙ from_le_bytes-to_le_bytes_4 pages (omega arith)
+
+-- ---- what a log's spelling has
+
+pub length-log : (log : Log) (bytes : List ℕ) → SpellsLog log bytes → length bytes ≡ 64 * (length log.records + 1)
+length-log log bytes spells =
+    ap length spells.spelled ∙ length-append (header_bytes log.pages) (flat_map record_bytes log.records)
+    ∙ omega (arith, length-header_bytes log.pages, length-pieces record_bytes 64 record_length log.records)
+
+pub header_of_log : (log : Log) (bytes : List ℕ) → SpellsLog log bytes → take 64 bytes ≡ header_bytes log.pages
+header_of_log log bytes spells =
+    ap (take 64) spells.spelled ∙ take_at (header_bytes log.pages) (flat_map record_bytes log.records) 64
+    (length-header_bytes log.pages)
+
+pub record_of_log : (log : Log) (bytes : List ℕ) → SpellsLog log bytes → (i : ℕ) (d : Record) → i < length log.records
+    → slice_range bytes (lsn_of i) (lsn_of i + 64) ≡ record_bytes (get_or log.records i d)
+record_of_log log bytes spells i d lt =
+    let wide : lsn_of i + 64 - lsn_of i ≡ 64 = omega arith in
+    let place : lsn_of i ≡ 64 + 64 * i = omega arith in
+    let behind : drop 64 bytes ≡ flat_map record_bytes log.records =
+    ap (drop 64) spells.spelled ∙ drop_at (header_bytes log.pages) (flat_map record_bytes log.records) 64
+    (length-header_bytes log.pages) in
+    ap (λ k. take k (drop (lsn_of i) bytes)) wide ∙ ap (λ k. take 64 (drop k bytes)) place
+    ∙ ap (take 64) (sym (drop-drop (64 * i) 64 bytes) ∙ ap (drop (64 * i)) behind)
+    ∙ take-drop-pieces record_bytes 64 record_length log.records i d lt
+
+-- two logs with the same bytes are one
+pub same_log : (a b : Log) (bytes : List ℕ) → SpellsLog a bytes → SpellsLog b bytes → a ≡ b
+same_log a b bytes a_spells b_spells =
+    let pages : a.pages ≡ b.pages =
+    sym (pages_in-header a.pages bytes a_spells.valid.pages.most (header_of_log a bytes a_spells))
+    ∙ pages_in-header b.pages bytes b_spells.valid.pages.most (header_of_log b bytes b_spells) in
+    let counts : length a.records ≡ length b.records =
+    omega (arith, length-log a bytes a_spells, length-log b bytes b_spells) in
+    let records : a.records ≡ b.records = same_lists a.records b.records counts (λ k d lt.
+    let lt' : k < length b.records = omega arith in
+    same_record (get_or a.records k d) (get_or b.records k d) (a_spells.valid.records k d lt).valid
+    (b_spells.valid.records k d lt').valid
+    (sym (record_of_log a bytes a_spells k d lt) ∙ record_of_log b bytes b_spells k d lt')) in
+    rw (pages, records) refl

@@ -1,0 +1,6 @@
+pub mod Coverage
+pub mod Fields
+pub mod Image
+pub mod Least
+pub mod Log
+pub mod Record

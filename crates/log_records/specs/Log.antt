@@ -1,0 +1,70 @@
+-- A whole log, and its bytes.
+use Rattle.std.specs.Prelude.{ℕ, ◌≡◌, ◌+◌, ◌-◌, ◌*◌, ◌<◌, ◌≤◌, List, length, ◌++◌, slice_index_or}
+use Rattle.std.specs.Prelude.{take, replicate, codes, slice_range, IfSome}
+use Rattle.std.specs.List.{flat_map}
+use Rattle.std.specs.Int.{w32, to_le_bytes, from_le_bytes}
+use Rattle.log_records.specs.declared.record.Record.{Record}
+use Rattle.page_core.specs.declared.numbers.TheConstants.{LSN_STEP}
+use Rattle.page_core.specs.declared.page.TheConstants.{MAX_PAGES}
+use Rattle.log_records.specs.declared.limits.TheConstants.{HEADER_BYTES, MAX_RECORDS}
+use Rattle.log_records.specs.Record.{IsRecord, change_of, own_lsn, record_bytes}
+
+-- the page count of the volume, and the records, the oldest first
+pub record Log : Type 0 where
+  pub pages : ℕ
+  pub records : List Record
+
+-- the log with these records behind its own
+abbrev pub with_next : Log → List Record → Log
+with_next log rs = record log { records = log.records ++ rs }
+
+-- where the record at an index stands: behind the header and the records before it, 64 bytes each
+abbrev pub lsn_of : ℕ → ℕ
+lsn_of i = LSN_STEP * (i + 1)
+
+-- a record changes no page past the page count
+abbrev pub IsWithin : ℕ → Record → Type 0
+IsWithin pages r = IfSome (change_of r) (λ c. c.page < pages)
+
+-- and so do all of these
+abbrev pub AreWithin : ℕ → List Record → Type 0
+AreWithin pages rs = (i : ℕ) (d : Record) → i < length rs → IsWithin pages (slice_index_or rs i d)
+
+-- a record of a log of so many pages that stands at this LSN
+pub record StandsAt (pages at : ℕ) (r : Record) : Type 0 where
+  pub lsn : own_lsn r ≡ at
+  pub valid : IsRecord r
+  pub within : IsWithin pages r
+
+pub record IsPageCount (pages : ℕ) : Type 0 where
+  pub least : 1 ≤ pages
+  pub most : pages ≤ MAX_PAGES
+
+-- a log that has a spelling
+pub record IsLog (log : Log) : Type 0 where
+  pub pages : IsPageCount log.pages
+  pub count : length log.records ≤ MAX_RECORDS
+  pub records : (i : ℕ) (d : Record) → i < length log.records
+      → StandsAt log.pages (lsn_of i) (slice_index_or log.records i d)
+
+-- the 64 bytes in front of the records
+unfoldable pub header_bytes : ℕ → List ℕ
+header_bytes pages = codes "AIMGLOG1" ++ to_le_bytes w32 pages ++ replicate (HEADER_BYTES - 12) 0
+
+-- the page count that a header has
+abbrev pub pages_in : List ℕ → ℕ
+pages_in bytes = from_le_bytes w32 (slice_range bytes 8 12)
+
+abbrev pub log_bytes : Log → List ℕ
+log_bytes log = header_bytes log.pages ++ flat_map record_bytes log.records
+
+-- the bytes are the one spelling of the log
+pub record SpellsLog (log : Log) (bytes : List ℕ) : Type 0 where
+  pub valid : IsLog log
+  pub spelled : bytes ≡ log_bytes log
+
+-- the bytes begin with the header of a log of so many pages
+pub record HasHeader (pages : ℕ) (bytes : List ℕ) : Type 0 where
+  pub count : IsPageCount pages
+  pub long : HEADER_BYTES ≤ length bytes
+  pub spelled : take HEADER_BYTES bytes ≡ header_bytes pages

@@ -1,0 +1,87 @@
+-- The records that a log may have, and their bytes.
+use Rattle.std.specs.Prelude.{ℕ, ◌≡◌, ◌<◌, ◌≤◌, ◌^◌, ◌%◌, List, Option, Some, None}
+use Rattle.page_core.specs.declared.change.Change.{Change}
+use Rattle.page_core.specs.declared.change.Change.TheVariants.{Set, Add}
+use Rattle.page_core.specs.declared.numbers.TheConstants.{LSN_STEP}
+use Rattle.page_core.specs.declared.page.TheConstants.{MAX_PAGES, SLOTS}
+use Rattle.log_records.specs.declared.limits.TheConstants.{HEADER_BYTES}
+use Rattle.log_records.specs.declared.page_change.PageChange.{PageChange}
+use Rattle.log_records.specs.declared.record.Record.{Record}
+use Rattle.log_records.specs.declared.record.Record.TheVariants.{Begin, Update, Comp, Commit, Abort}
+use Rattle.log_records.specs.declared.record.Record.TheVariants.{End}
+use Rattle.log_records.specs.Fields.{fields_of, fields_bytes}
+
+-- the number of a transaction
+pub record IsTxn (txn : ℕ) : Type 0 where
+  pub first : 1 ≤ txn
+  pub fits : txn < 2 ^ 32
+
+-- the offset of a record
+pub record IsLsn (lsn : ℕ) : Type 0 where
+  pub aligned : lsn % LSN_STEP ≡ 0
+  pub past_header : HEADER_BYTES ≤ lsn
+  pub fits : lsn < 2 ^ 64
+
+-- the LSN of a record before the one at `at`
+pub record IsBefore (at lsn : ℕ) : Type 0 where
+  pub place : IsLsn lsn
+  pub earlier : lsn < at
+
+-- the numbers of a change
+abbrev pub IsChange : Change → Type 0
+IsChange (Set before after) = (before < 2 ^ 64) × (after < 2 ^ 64)
+IsChange (Add amount) = amount < 2 ^ 64
+
+-- it does not say what it replaces, since it is never undone
+abbrev pub HasNoBefore : Change → Type 0
+HasNoBefore (Set before after) = before ≡ 0
+HasNoBefore (Add amount) = Unit {0}
+
+-- a change of a slot that a volume may have
+pub record IsPageChange (c : PageChange) : Type 0 where
+  pub page : c.page < MAX_PAGES
+  pub slot : c.slot < SLOTS
+  pub change : IsChange c.change
+
+-- the record's own LSN
+abbrev pub own_lsn : Record → ℕ
+own_lsn (Begin lsn txn) = lsn
+own_lsn (Update lsn txn prev page slot change) = lsn
+own_lsn (Comp lsn txn prev undo_next page slot change) = lsn
+own_lsn (Commit lsn txn prev) = lsn
+own_lsn (Abort lsn txn prev) = lsn
+own_lsn (End lsn txn prev) = lsn
+
+-- the change that redo makes of a record, if it makes one
+abbrev pub change_of : Record → Option PageChange
+change_of (Begin lsn txn) = None
+change_of (Update lsn txn prev page slot change) =
+    Some (record { page = page; slot = slot; change = change })
+change_of (Comp lsn txn prev undo_next page slot change) =
+    Some (record { page = page; slot = slot; change = change })
+change_of (Commit lsn txn prev) = None
+change_of (Abort lsn txn prev) = None
+change_of (End lsn txn prev) = None
+
+-- a record that a log may have: only such a record has a spelling
+abbrev pub IsRecord : Record → Type 0
+IsRecord (Begin lsn txn) = IsLsn lsn × IsTxn txn
+IsRecord (Update lsn txn prev page slot change) =
+    IsLsn lsn × IsTxn txn × IsBefore lsn prev
+    × IsPageChange (record { page = page; slot = slot; change = change })
+IsRecord (Comp lsn txn prev undo_next page slot change) =
+    IsLsn lsn × IsTxn txn × IsBefore lsn prev
+    × IsPageChange (record { page = page; slot = slot; change = change })
+    × IsBefore lsn undo_next × HasNoBefore change
+IsRecord (Commit lsn txn prev) = IsLsn lsn × IsTxn txn × IsBefore lsn prev
+IsRecord (Abort lsn txn prev) = IsLsn lsn × IsTxn txn × IsBefore lsn prev
+IsRecord (End lsn txn prev) = IsLsn lsn × IsTxn txn × IsBefore lsn prev
+
+-- the 64 bytes of a record
+abbrev pub record_bytes : Record → List ℕ
+record_bytes r = fields_bytes (fields_of r)
+
+-- the bytes are the one spelling of the record
+pub record SpellsRecord (r : Record) (bytes : List ℕ) : Type 0 where
+  pub valid : IsRecord r
+  pub spelled : bytes ≡ record_bytes r

@@ -1,0 +1,188 @@
+//! The numbers that the bytes of a record spell.
+
+ghost use Rattle.std.specs.Prelude.{◌≡◌};
+
+use crate::limits::RECORD_BYTES;
+use crate::record::Record;
+use page_core::field::{u16_at, u32_at, u64_at};
+use page_core::{Change, Lsn, TxnNo};
+
+/// The numbers of a record in the order of its bytes. A field that a kind does not have is 0. Where
+/// a byte is followed by bytes that are always 0, the byte and these are one number.
+#[derive(Clone, Copy, PartialEq, Eq)]
+pub struct Fields {
+    pub kind: u32,
+    pub txn: u32,
+    pub prev: u64,
+    pub undo_next: u64,
+    pub page: u32,
+    pub slot: u16,
+    pub change: u16,
+    pub before: u64,
+    pub after: u64,
+    pub spare: u64,
+    pub lsn: u64,
+}
+
+/// The kind of a Begin, as the record's first byte has it.
+pub const BEGIN: u32 = 1;
+
+/// The kind of an Update.
+pub const UPDATE: u32 = 2;
+
+/// The kind of a Comp.
+pub const COMP: u32 = 3;
+
+/// The kind of a Commit.
+pub const COMMIT: u32 = 4;
+
+/// The kind of an Abort.
+pub const ABORT: u32 = 5;
+
+/// The kind of an End.
+pub const END: u32 = 6;
+
+/// The kind of a change that is a Set.
+pub const SET: u16 = 1;
+
+/// The kind of a change that is an Add.
+pub const ADD: u16 = 2;
+
+const NO_FIELDS: Fields = Fields {
+    kind: 0,
+    txn: 0,
+    prev: 0,
+    undo_next: 0,
+    page: 0,
+    slot: 0,
+    change: 0,
+    before: 0,
+    after: 0,
+    spare: 0,
+    lsn: 0,
+};
+
+impl Fields {
+    ghost use Rattle.log_records.specs.Fields.{AreInRange, fields_bytes, fields_of};
+    ghost use Rattle.log_records.specs.Fields.{fields_of_change, fields_of_step};
+    ghost use Rattle.log_records.specs.declared.fields.Fields.{Fields};
+
+    /// The numbers that these bytes spell.
+    pub fn read(bytes: &[u8; RECORD_BYTES]) -> Fields
+        ensures found { bytes.now ≡ fields_bytes result }
+        ensures only { (fields : Fields) → AreInRange fields → bytes.now ≡ fields_bytes fields
+            → result ≡ fields }
+    {
+        Fields {
+            kind: u32_at(bytes, 0),
+            txn: u32_at(bytes, 4),
+            prev: u64_at(bytes, 8),
+            undo_next: u64_at(bytes, 16),
+            page: u32_at(bytes, 24),
+            slot: u16_at(bytes, 28),
+            change: u16_at(bytes, 30),
+            before: u64_at(bytes, 32),
+            after: u64_at(bytes, 40),
+            spare: u64_at(bytes, 48),
+            lsn: u64_at(bytes, 56),
+        }
+    }
+
+    /// The bytes that spell these numbers.
+    pub fn write(&self) -> [u8; RECORD_BYTES]
+        ensures { result ≡ fields_bytes self.now }
+    {
+        let mut bytes = [0; RECORD_BYTES];
+        bytes[..4].copy_from_slice(&self.kind.to_le_bytes());
+        bytes[4..8].copy_from_slice(&self.txn.to_le_bytes());
+        bytes[8..16].copy_from_slice(&self.prev.to_le_bytes());
+        bytes[16..24].copy_from_slice(&self.undo_next.to_le_bytes());
+        bytes[24..28].copy_from_slice(&self.page.to_le_bytes());
+        bytes[28..30].copy_from_slice(&self.slot.to_le_bytes());
+        bytes[30..32].copy_from_slice(&self.change.to_le_bytes());
+        bytes[32..40].copy_from_slice(&self.before.to_le_bytes());
+        bytes[40..48].copy_from_slice(&self.after.to_le_bytes());
+        bytes[48..56].copy_from_slice(&self.spare.to_le_bytes());
+        bytes[56..].copy_from_slice(&self.lsn.to_le_bytes());
+        bytes
+    }
+
+    /// The numbers of a record.
+    pub fn of(record: &Record) -> Fields
+        ensures { result ≡ fields_of «record».now }
+    {
+        let lsn = record.lsn().0;
+        match *record {
+            Record::Begin { txn, .. } => Fields::of_step(BEGIN, txn, Lsn(0), lsn),
+            Record::Update {
+                txn,
+                prev,
+                page,
+                slot,
+                change,
+                ..
+            } => Fields {
+                kind: UPDATE,
+                txn: txn.0,
+                prev: prev.0,
+                page: page.0,
+                slot: slot.0,
+                lsn,
+                ..Fields::of_change(&change)
+            },
+            Record::Comp {
+                txn,
+                prev,
+                undo_next,
+                page,
+                slot,
+                change,
+                ..
+            } => Fields {
+                kind: COMP,
+                txn: txn.0,
+                prev: prev.0,
+                undo_next: undo_next.0,
+                page: page.0,
+                slot: slot.0,
+                lsn,
+                ..Fields::of_change(&change)
+            },
+            Record::Commit { txn, prev, .. } => Fields::of_step(COMMIT, txn, prev, lsn),
+            Record::Abort { txn, prev, .. } => Fields::of_step(ABORT, txn, prev, lsn),
+            Record::End { txn, prev, .. } => Fields::of_step(END, txn, prev, lsn),
+        }
+    }
+
+    /// The numbers of a record that only says what its transaction does next.
+    fn of_step(kind: u32, txn: TxnNo, prev: Lsn, lsn: u64) -> Fields
+        ensures { result ≡ fields_of_step kind txn prev lsn }
+    {
+        Fields {
+            kind,
+            txn: txn.0,
+            prev: prev.0,
+            lsn,
+            ..NO_FIELDS
+        }
+    }
+
+    /// The numbers of a change alone.
+    fn of_change(change: &Change) -> Fields
+        ensures { result ≡ fields_of_change change.now }
+    {
+        match *change {
+            Change::Set { before, after } => Fields {
+                change: SET,
+                before,
+                after,
+                ..NO_FIELDS
+            },
+            Change::Add { amount } => Fields {
+                change: ADD,
+                after: amount,
+                ..NO_FIELDS
+            },
+        }
+    }
+}

@@ -1,0 +1,28 @@
+//! The records of a log and their bytes, a log's spelling, and what its records make of pages.
+#![tactic(auto)]
+
+mod codec;
+mod coverage_laws;
+mod dirty_page;
+mod fields;
+mod header;
+mod laws;
+mod limits;
+mod page_change;
+mod place;
+mod record;
+mod volume;
+
+pub use codec::{decode, encode};
+pub use coverage_laws::{
+    a_stored_page_covers_its_rec_lsn, an_image_names_its_records, covering_goes_down,
+    covering_outlasts_new_records, redo_of_a_covering_page_is_its_image,
+};
+pub use dirty_page::{DirtyPage, DirtyPages};
+pub use header::{encode_header, page_count};
+pub use laws::{logs_are_spelled_apart, records_are_spelled_apart};
+pub use limits::{HEADER_BYTES, MAX_LOG_BYTES, MAX_OPEN, MAX_RECORDS, RECORD_BYTES};
+pub use page_change::PageChange;
+pub use place::record_at;
+pub use record::Record;
+pub use volume::redo_on_its_page;

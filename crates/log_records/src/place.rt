@@ -1,0 +1,36 @@
+//! The place of a record in a log: its own LSN is the offset at which it stands, and the page that
+//! it changes is one of the volume.
+
+ghost use Rattle.std.specs.Prelude.{◌≡◌, ◌↔◌, length, IfSome, Some, IsTrue};
+ghost use Rattle.log_records.specs.declared.record.Record.{Record};
+ghost use Rattle.log_records.specs.Record.{record_bytes};
+ghost use Rattle.log_records.specs.Log.{IsWithin, StandsAt};
+
+use crate::codec::decode;
+use crate::limits::RECORD_BYTES;
+use crate::record::Record;
+use page_core::Lsn;
+
+/// The record that these bytes are at this LSN of a log of so many pages, if they are one.
+pub fn record_at(bytes: &[u8], at: Lsn, pages: u32) -> Option<Record>
+    requires { length bytes.now ≡ RECORD_BYTES }
+    ensures found { IfSome result (λ r. StandsAt pages at r × (bytes.now ≡ record_bytes r)) }
+    ensures only { (r : Record) → StandsAt pages at r → bytes.now ≡ record_bytes r
+        → result ≡ Some r }
+{
+    let record = decode(bytes.as_array().unwrap(), at)?;
+    if is_within(pages, &record) {
+        Some(record)
+    } else {
+        None
+    }
+}
+
+fn is_within(pages: u32, entry: &Record) -> bool
+    ensures { IsTrue result ↔ IsWithin pages entry.now }
+{
+    match entry.change() {
+        Some(change) => change.page.0 < pages,
+        None => true,
+    }
+}

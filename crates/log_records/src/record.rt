@@ -1,0 +1,110 @@
+//! A record of the log says one thing that a transaction did.
+
+use crate::page_change::PageChange;
+use page_core::{Change, Lsn, Page, PageNo, SlotNo, TxnNo};
+
+/// A record of the log (ARIES, section 4.1). `lsn` is its own LSN, and `prev` its PrevLSN: the LSN
+/// of the same transaction's record before it.
+#[derive(Clone, Copy, Debug, PartialEq, Eq)]
+pub enum Record {
+    /// A transaction begins.
+    Begin {
+        lsn: Lsn,
+        txn: TxnNo,
+    },
+    /// A transaction changes a slot.
+    Update {
+        lsn: Lsn,
+        txn: TxnNo,
+        prev: Lsn,
+        page: PageNo,
+        slot: SlotNo,
+        change: Change,
+    },
+    /// A compensation record: a transaction takes back its last pending change. `undo_next` is its
+    /// UndoNxt, the PrevLSN of the Update that it compensates. It is never undone, so a Set in it
+    /// has 0 as its `before`.
+    Comp {
+        lsn: Lsn,
+        txn: TxnNo,
+        prev: Lsn,
+        undo_next: Lsn,
+        page: PageNo,
+        slot: SlotNo,
+        change: Change,
+    },
+    /// A transaction ends, and its changes are to last.
+    Commit {
+        lsn: Lsn,
+        txn: TxnNo,
+        prev: Lsn,
+    },
+    /// A transaction begins to take its changes back.
+    Abort {
+        lsn: Lsn,
+        txn: TxnNo,
+        prev: Lsn,
+    },
+    /// A transaction ends whose changes are all taken back.
+    End {
+        lsn: Lsn,
+        txn: TxnNo,
+        prev: Lsn,
+    },
+}
+
+impl Record {
+    ghost use Rattle.std.specs.Prelude.{◌≡◌};
+    ghost use Rattle.log_records.specs.Image.{with_record};
+    ghost use Rattle.log_records.specs.Record.{change_of, own_lsn};
+
+    /// The record's own LSN.
+    pub fn lsn(&self) -> Lsn
+        ensures { result ≡ own_lsn self.now }
+    {
+        match *self {
+            Record::Begin { lsn, .. }
+            | Record::Update { lsn, .. }
+            | Record::Comp { lsn, .. }
+            | Record::Commit { lsn, .. }
+            | Record::Abort { lsn, .. }
+            | Record::End { lsn, .. } => lsn,
+        }
+    }
+
+    /// The change that redo makes of the record, if it makes one.
+    pub fn change(&self) -> Option<PageChange>
+        ensures { result ≡ change_of self.now }
+    {
+        match *self {
+            Record::Update {
+                page,
+                slot,
+                change,
+                ..
+            }
+            | Record::Comp {
+                page,
+                slot,
+                change,
+                ..
+            } => Some(PageChange { page, slot, change }),
+            Record::Begin { .. }
+            | Record::Commit { .. }
+            | Record::Abort { .. }
+            | Record::End { .. } => None,
+        }
+    }
+
+    /// Redo: makes the record's change on the page, if it makes one of this page. The LSN that the
+    /// page has is not looked at.
+    pub fn redo_on(&self, page: &mut Page)
+        ensures { page.new ≡ with_record page.old self.now }
+    {
+        if let Some(change) = self.change() {
+            if change.page == page.number {
+                page.apply(self.lsn(), change.slot, &change.change);
+            }
+        }
+    }
+}

@@ -1,0 +1,20 @@
+//! The pages of a volume, in order of their numbers.
+
+ghost use Rattle.std.specs.Prelude.{◌≡◌, length, map};
+ghost use Rattle.log_records.specs.Image.{AreNumbered, with_record};
+ghost use Rattle.log_records.specs.Log.{IsWithin};
+
+use crate::record::Record;
+use page_core::Page;
+
+/// Makes the change of a record, if it makes one, on the page that it names. Every other page
+/// stays.
+pub fn redo_on_its_page(pages: &mut [Page], next: &Record)
+    requires within { IsWithin (length pages.old) next.now }
+    requires numbered { AreNumbered pages.old }
+    ensures { pages.new ≡ map (λ page. with_record page next.now) pages.old }
+{
+    if let Some(change) = next.change() {
+        next.redo_on(&mut pages[change.page.0 as usize]);
+    }
+}

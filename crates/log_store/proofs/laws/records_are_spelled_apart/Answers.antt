@@ -1,5 +1,0 @@
-use Rattle.log_store.proofs.Records.{records_apart}
-use Rattle.log_store.proofs.laws.records_are_spelled_apart.Goals as goal
-
-pub returns : goal.returns
-returns c = records_apart

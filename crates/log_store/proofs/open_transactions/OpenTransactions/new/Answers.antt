@@ -1,8 +1,0 @@
-use Rattle.std.proofs.Common.{subst, sym}
-use Rattle.log_store.specs.OpenTransactions.{Tracks}
-use Rattle.log_store.proofs.Tracked.{tracks-nil}
-use Rattle.log_store.proofs.open_transactions.OpenTransactions.new.Goals as goal
-
-pub invariant_of-result : goal.invariant_of-result
-invariant_of-result c =
-    subst (λ xs. Tracks 0 c.new-2.result xs) (sym c.new.ensures.items) (tracks-nil c.new-2.result c.new-2.ensures)

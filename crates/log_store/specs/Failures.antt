@@ -1,7 +1,0 @@
--- How often a device has failed.
-use Rattle.std.specs.Prelude.{ℕ, ◌+◌}
-use Rattle.log_store.specs.declared.failures.Failures.{Failures, None, After'}
-
-abbrev pub failure_count : Failures → ℕ
-failure_count None = 0
-failure_count (After' marker before) = failure_count before + 1

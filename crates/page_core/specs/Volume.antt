@@ -1,0 +1,13 @@
+-- The pages of a volume, in a list.
+use Rattle.std.specs.Prelude.{ℕ, ◌≡◌, ◌<◌, List, length, map, slice_index_or}
+use Rattle.std.specs.List.{range_with_len}
+use Rattle.page_core.specs.declared.page.Page.{Page}
+use Rattle.page_core.specs.Page.{formatted}
+
+-- the pages of a new volume, so many
+abbrev pub formatted_pages : ℕ → List Page
+formatted_pages count = map formatted (range_with_len 0 count)
+
+-- the pages stand in order of their numbers, which count from 0
+abbrev pub AreNumbered : List Page → Type 0
+AreNumbered pages = (k : ℕ) (d : Page) → k < length pages → (slice_index_or pages k d).number ≡ k

@@ -1,0 +1,34 @@
+//! A count of failures that contracts alone see.
+
+use std::fmt;
+use std::snapshot::Snapshot;
+
+/// How often something has failed. It has the count before the last failure for contracts alone, so
+/// it takes one byte, and the count has no last value.
+#[derive(Drop)]
+pub enum Failures {
+    None,
+    After(Snapshot<Failures>),
+}
+
+impl Failures {
+    ghost use Rattle.std.specs.Prelude.{◌≡◌, ◌+◌};
+    ghost use Rattle.page_core.specs.Failures.{failure_count};
+
+    /// Counts one failure more.
+    pub fn add_one(&mut self)
+        ensures { failure_count self.new ≡ failure_count self.old + 1 }
+    {
+        let before = Snapshot::of(self);
+        *self = Failures::After(before);
+    }
+}
+
+impl fmt::Debug for Failures {
+    fn fmt<W: fmt::Write>(&self, f: &mut fmt::Formatter<W>) -> fmt::Result {
+        match self {
+            Failures::None => write!(f, "None"),
+            Failures::After(_) => write!(f, "After(..)"),
+        }
+    }
+}

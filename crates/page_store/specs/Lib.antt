@@ -1,0 +1,2 @@
+pub mod FaultyStore
+pub mod Store

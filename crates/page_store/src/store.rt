@@ -1,0 +1,70 @@
+//! What the pages of a volume are stored on: nonvolatile storage, in the words of ARIES.
+
+ghost use Rattle.std.specs.Prelude.{ℕ, ◌≡◌, ◌<◌, List, length, slice_get, slice_set, Some};
+ghost use Rattle.std.specs.Prelude.{IfOk, OnOk, OnErr};
+ghost use Rattle.page_core.specs.declared.page.Page.{Page};
+ghost use Rattle.page_core.specs.Volume.{AreNumbered};
+ghost use Rattle.page_store.specs.Store.{StoresOrKeeps};
+
+use page_core::{Page, PageNo};
+use std::error::Error;
+use std::fmt;
+
+/// A store of the pages of a volume. Each page is read and written as a whole.
+pub trait PageStore {
+    /// The stored pages.
+    ghost stored: { Self → List Page };
+
+    /// How often the store has failed: a number that contracts alone see. It has no last value.
+    ghost failures: { Self → ℕ };
+
+    /// How many pages are stored. No read and no write changes that.
+    fn pages(&self) -> u32
+        ensures count { result ≡ length (stored self.now) }
+        ensures numbered { AreNumbered (stored self.now) };
+
+    /// The stored page of this number.
+    ///
+    /// An `Err` comes where the store fails, and of nothing else. Each stored page stays even then.
+    fn read(&mut self, number: PageNo) -> Result<Page, StoreFault>
+        requires { number < length (stored self.old) }
+
+        ensures found { IfOk result (λ page. slice_get (stored self.old) number ≡ Some page) }
+        ensures numbered { IfOk result (λ page. page.number ≡ number) }
+        ensures same { stored self.new ≡ stored self.old }
+
+        ensures no_failure { OnOk result (failures self.new ≡ failures self.old) }
+        ensures failure { OnErr result (failures self.old < failures self.new) };
+
+    /// Stores a page in the place of the one of its number.
+    ///
+    /// An `Err` comes where the store fails, and of nothing else. Then either page may be stored,
+    /// the old one or this one, and a read tells which. Every other page stays.
+    fn write(&mut self, number: PageNo, page: &Page) -> Result<(), StoreFault>
+        requires there { number < length (stored self.old) }
+        requires numbered { page.now.number ≡ number }
+
+        ensures stored { OnOk result
+            (stored self.new ≡ slice_set (stored self.old) number page.now) }
+        ensures either { OnErr result
+            (StoresOrKeeps (stored self.old) number page.now (stored self.new)) }
+
+        ensures no_failure { OnOk result (failures self.new ≡ failures self.old) }
+        ensures failure { OnErr result (failures self.old < failures self.new) };
+}
+
+/// The store failed. `PageStore` says of each call what is stored then.
+#[derive(Clone, Copy, Debug, PartialEq, Eq)]
+pub struct StoreFault;
+
+impl fmt::Display for StoreFault {
+    ghost use Rattle.std.specs.Prelude.{Some, codes};
+
+    ghost output = { λ _. Some (codes "the page store failed") };
+
+    fn fmt<W: fmt::Write>(&self, f: &mut fmt::Formatter<W>) -> fmt::Result {
+        write!(f, "the page store failed")
+    }
+}
+
+impl Error for StoreFault {}

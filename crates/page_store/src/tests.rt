@@ -1,0 +1,200 @@
+//! What no clause says: that each call succeeds, and that a caller can use any store by its trait.
+
+ghost use Rattle.std.specs.Prelude.{◌≡◌, ◌<◌, length, slice_get, slice_set, Some};
+ghost use Rattle.std.specs.Prelude.{IfOk, OnOk, OnErr};
+ghost use Rattle.page_store.specs.Store.{StoresOrKeeps};
+
+use crate::{FaultyStore, MemStore, PageStore, StoreFault};
+use page_core::{Lsn, MAX_PAGES, Page, PageNo, SLOTS};
+use std::process::Abort;
+use std::test::Fail;
+
+/// Page `number`, with a number in slot 0.
+fn page_with(number: u32, value: u64) -> Page
+    ensures { result.number ≡ number }
+{
+    let mut slots = [0; SLOTS];
+    slots[0] = value;
+    Page {
+        number: PageNo(number),
+        lsn: Lsn(64),
+        slots,
+    }
+}
+
+/// Puts a page in the place of the one of its number, and gives the old one back.
+fn swap_in<S: PageStore>(store: &mut S, page: &Page) -> Result<Page, StoreFault>
+    requires { page.now.number < length (S.stored store.old) }
+
+    ensures found { IfOk result
+        (λ before. slice_get (S.stored store.old) page.now.number ≡ Some before) }
+    ensures stored { OnOk result
+        (S.stored store.new ≡ slice_set (S.stored store.old) page.now.number page.now) }
+    ensures either { OnErr result
+        (StoresOrKeeps (S.stored store.old) page.now.number page.now (S.stored store.new)) }
+    ensures count { length (S.stored store.new) ≡ length (S.stored store.old) }
+
+    ensures no_failure { OnOk result (S.failures store.new ≡ S.failures store.old) }
+    ensures failure { OnErr result (S.failures store.old < S.failures store.new) }
+{
+    let before = store.read(page.number)?;
+    store.write(page.number, page)?;
+    Ok(before)
+}
+
+/// A call of a store: a write of a page with a number in slot 0, or a read of it.
+#[derive(Clone, Copy, Debug)]
+enum Call {
+    Write(u32, u64),
+    Read(u32),
+}
+
+/// Makes a call, and tells the number that is then known to be in slot 0 of its page.
+fn make_call<S: PageStore>(rt: &impl Abort, store: &mut S, call: Call) -> Result<u64, StoreFault> {
+    match call {
+        Call::Write(number, value) => {
+            assert!(rt; number < store.pages());
+            store.write(PageNo(number), &page_with(number, value))?;
+            Ok(value)
+        }
+        Call::Read(number) => {
+            assert!(rt; number < store.pages());
+            let page = store.read(PageNo(number))?;
+            assert_eq!(rt; page.number, PageNo(number));
+            Ok(page.slots[0])
+        }
+    }
+}
+
+const SCRIPT: [Call; 8] = [
+    Call::Read(0),
+    Call::Write(1, 5),
+    Call::Read(1),
+    Call::Write(0, 6),
+    Call::Write(1, 7),
+    Call::Read(0),
+    Call::Read(1),
+    Call::Write(0, 8),
+];
+
+/// Makes the calls of the script on a store of two formatted pages, of which the `k`-th one fails.
+fn assert_follows<S: PageStore>(rt: &impl Abort, store: &mut S, k: usize) {
+    let mut numbers = [0, 0];
+    for (index, call) in SCRIPT.iter().enumerate() {
+        let done = make_call(rt, store, *call);
+        if index + 1 == k {
+            assert_eq!(rt; done, Err(StoreFault), "{call:?}, call {k} fails");
+            continue;
+        }
+        let want = match *call {
+            Call::Write(0, value) => {
+                numbers[0] = value;
+                value
+            }
+            Call::Write(_, value) => {
+                numbers[1] = value;
+                value
+            }
+            Call::Read(0) => numbers[0],
+            Call::Read(_) => numbers[1],
+        };
+        assert_eq!(rt; done, Ok(want), "{call:?}, call {k} fails");
+    }
+}
+
+#[test]
+fn a_store_in_memory_never_fails(rt: HostRuntime) -> Result<(), Fail> {
+    let mut store = MemStore::new(rt.alloc(), 2)?;
+    let formatted = [Page::formatted(PageNo(0)), Page::formatted(PageNo(1))];
+    assert_eq!(rt; store.stored(), formatted.as_slice());
+    assert_follows(&rt, &mut store, 0);
+    let written = [page_with(0, 8), page_with(1, 7)];
+    assert_eq!(rt; store.stored(), written.as_slice());
+    Ok(())
+}
+
+#[test]
+fn one_call_fails(rt: HostRuntime) -> Result<(), Fail> {
+    let alloc = rt.alloc();
+    for k in 0..=SCRIPT.len() {
+        let mut store = FaultyStore::new(alloc, MemStore::new(alloc, 2)?, k as u64)?;
+        assert_eq!(rt; store.pages(), 2);
+        assert_follows(&rt, &mut store, k);
+        let last = if k == SCRIPT.len() { 6 } else { 8 };
+        assert_eq!(rt;
+            make_call(&rt, &mut store, Call::Read(0)),
+            Ok(last),
+            "call {k} failed"
+        );
+    }
+    Ok(())
+}
+
+#[test]
+fn a_damaged_page_is_read_once_it_is_written(rt: HostRuntime) -> Result<(), Fail> {
+    let alloc = rt.alloc();
+    let mut store = FaultyStore::new(alloc, MemStore::new(alloc, 2)?, 3)?;
+    store.damage(PageNo(1));
+    for (call, want) in [
+        (Call::Read(1), Err(StoreFault)),
+        (Call::Read(0), Ok(0)),
+        // The third call, which fails, and so mends nothing.
+        (Call::Write(1, 5), Err(StoreFault)),
+        (Call::Read(1), Err(StoreFault)),
+        (Call::Write(0, 6), Ok(6)),
+        (Call::Read(1), Err(StoreFault)),
+        (Call::Write(1, 7), Ok(7)),
+        (Call::Read(1), Ok(7)),
+    ] {
+        assert_eq!(rt; make_call(&rt, &mut store, call), want, "{call:?}");
+    }
+    let written = [page_with(0, 6), page_with(1, 7)];
+    assert_eq!(rt; store.stored(), written.as_slice());
+    Ok(())
+}
+
+#[test]
+fn a_page_is_swapped_in(rt: HostRuntime) -> Result<(), Fail> {
+    let alloc = rt.alloc();
+    let mut store = MemStore::new(alloc, 3)?;
+    let page = page_with(2, 9);
+    assert_eq!(rt; swap_in(&mut store, &page), Ok(Page::formatted(PageNo(2))));
+    assert_eq!(rt; swap_in(&mut store, &page), Ok(page_with(2, 9)));
+    for k in [1, 2] {
+        let mut store = FaultyStore::new(alloc, MemStore::new(alloc, 3)?, k)?;
+        assert_eq!(rt;
+            swap_in(&mut store, &page),
+            Err(StoreFault),
+            "call {k} fails"
+        );
+        assert_eq!(rt;
+            make_call(&rt, &mut store, Call::Read(2)),
+            Ok(0),
+            "call {k} failed"
+        );
+    }
+    Ok(())
+}
+
+#[test]
+fn the_last_page_of_the_largest_store_is_there(rt: HostRuntime) -> Result<(), Fail> {
+    let mut store = MemStore::new(rt.alloc(), MAX_PAGES)?;
+    assert_eq!(rt; store.pages(), 65_536);
+    for (call, want) in [
+        (Call::Read(65_535), 0),
+        (Call::Write(65_535, 1), 1),
+        (Call::Read(65_535), 1),
+        (Call::Read(65_534), 0),
+    ] {
+        assert_eq!(rt; make_call(&rt, &mut store, call), Ok(want), "{call:?}");
+    }
+    Ok(())
+}
+
+#[test]
+fn a_fault_has_a_text(rt: HostRuntime) -> Result<(), Fail> {
+    let fault = StoreFault;
+    let printed = format!(in rt.alloc(); "{fault}")?;
+    assert_eq!(rt; printed.as_str(), "the page store failed");
+    Ok(())
+}
