@@ -28,7 +28,6 @@ has_seat-only seat other = elim (cases_eq other seat) [
   | inr apart ↦ ap (λ n. eqb n 1) (bit_at-pow_other seat other apart) ∙ sym (ne_eqb other seat apart)
 ]
 
-
 -- what one holder keeps out, seat by seat
 pub hold_one : (seat : ℕ) (k : ChangeKind) (seats : SeatSet) (other : ℕ)
     → hold_in (claim_of (One seat k) seats) other ≡ cond (eqb other seat) (hold_with no_hold k) no_hold
@@ -325,7 +324,7 @@ releases before after page slot seat hold held now is not_adders weaker says mar
     of_seat holder k some = elim (cases_eq seat holder) [
       | inl e ↦ sym e
       | inr apart ↦ absurd (false≢true (sym (ap (λ (h : Hold). h.against_sets) (hold_one holder k there seat
-        ∙ ap (λ b. cond b (hold_with no_hold k) no_hold) (ne_eqb seat holder apart))) ∙ some))
+          ∙ ap (λ b. cond b (hold_with no_hold k) no_hold) (ne_eqb seat holder apart))) ∙ some))
     ]
 
     others : (h : Holder) → h ≡ holder_at before.marks page slot → (h ≡ Adders → ⊥) → (other : ℕ)

@@ -8,6 +8,7 @@ pub mod Linked
 pub mod Mark
 pub mod Marks
 pub mod OpenEntry
+pub mod OpenList
 pub mod OpenTransactions
 pub mod SeatSet
 pub mod Table

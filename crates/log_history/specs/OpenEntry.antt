@@ -27,6 +27,16 @@ entry_view e = record {
   pending = changes_of e.pending.items;
 }
 
+-- an entry with only its Begin
+pub record IsBegun (e : OpenEntry) (txn seat lsn : ℕ) : Type 0 where
+  pub txn_is : e.txn ≡ txn
+  pub seat_is : e.seat ≡ seat
+  pub first_is : e.first ≡ lsn
+  pub last_is : e.last ≡ lsn
+  pub active : e.rolling ≡ false
+  pub not_aborted : e.aborted ≡ false
+  pub none_pending : e.pending.items ≡ []
+
 -- what these pending changes keep out of a slot
 unfoldable pub hold_by : List PendingChange → ℕ → ℕ → Hold
 hold_by changes page slot = record {

@@ -1,5 +1,5 @@
 -- Sets of seats.
-use Rattle.std.specs.Prelude.{ℕ, ◌≡◌, ◌<◌, ◌^◌, ◌==◌, Bool, true}
+use Rattle.std.specs.Prelude.{ℕ, ◌≡◌, ◌<◌, ◌^◌, ◌==◌, Bool, true, false}
 use Rattle.std.specs.Int.{bit_at}
 use Rattle.log_history.specs.declared.seat_set.SeatSet.{SeatSet}
 use Rattle.log_history.specs.declared.seat_set.TheConstants.{SEATS}
@@ -19,3 +19,9 @@ pub record HasSome (set : SeatSet) : Type 0 where
   pub seat : ℕ
   pub within : seat < SEATS
   pub there : has_seat set seat ≡ true
+
+-- the set lacks a seat
+pub record LacksOne (set : SeatSet) : Type 0 where
+  pub seat : ℕ
+  pub within : seat < SEATS
+  pub lacks : has_seat set seat ≡ false

@@ -37,7 +37,8 @@ impl History {
     ghost use Rattle.log_records.specs.Log.{IsWithin};
     ghost use Rattle.log_records.specs.Record.{IsRecord};
 
-    /// What the empty log of so many pages makes: no transaction, and formatted pages.
+    /// What the empty log of so many pages makes: no transaction, and formatted pages. An `Err`
+    /// comes where memory for the pages is refused.
     pub fn start(alloc: Global, pages: u32) -> Result<History, AllocError>
         ensures { IfOk result (IsMadeOf (record { pages = pages; records = [] })) }
     {
@@ -54,18 +55,21 @@ impl History {
         &self.pages
     }
 
-    /// Takes the next record if it may come next, and answers whether it may.
+    /// Takes the next record if it may come next, and answers whether it may. Where it may not,
+    /// nothing changes. An `Err` comes where room for the transaction table is refused, and changes
+    /// nothing either.
     pub fn follow(&mut self, next: &Record) -> Result<bool, AllocError>
         requires valid { IsRecord next.now }
         requires within { IsWithin (length self.old.pages) next.now }
         ensures taken { IfOk result (λ may. IsTrue may
             → MayComeNext self.old next.now × (self.new ≡ followed self.old next.now)) }
         ensures refused { IfOk result (λ may. MayComeNext self.old next.now → IsTrue may) }
+        ensures same { IfOk result (λ may. ¬ IsTrue may → self.new ≡ self.old) }
+        ensures err { OnErr result (self.new ≡ self.old) }
     {
-        if !self.txns.may_note(next) || !names_number_on(&self.pages, next) {
+        if !names_number_on(&self.pages, next) || !self.txns.note_if_may(next)? {
             return Ok(false);
         }
-        self.txns.note(next)?;
         redo_on_its_page(&mut self.pages, next);
         Ok(true)
     }

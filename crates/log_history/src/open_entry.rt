@@ -1,8 +1,9 @@
 //! One open transaction: its numbers, and its pending changes as a stack.
 
-ghost use Rattle.std.specs.Prelude.{◌≡◌, ◌<◌, ◌↔◌, [], IfOk, IsTrue, OnErr, false};
+ghost use Rattle.std.specs.Prelude.{◌≡◌, ◌<◌, ◌↔◌, [], IfOk, IsSomeAnd, IsTrue, OnErr};
 ghost use Rattle.log_history.specs.Linked.{Compensates};
-ghost use Rattle.log_history.specs.OpenEntry.{IsHeld, KeepsOtherSeats, Pushes, changes_of};
+ghost use Rattle.log_history.specs.OpenEntry.{IsBegun, IsHeld, KeepsOtherSeats, Pushes};
+ghost use Rattle.log_history.specs.OpenEntry.{changes_of};
 ghost use Rattle.log_history.specs.Transactions.{without_last};
 
 use crate::claims::{Claims, Hold};
@@ -87,10 +88,23 @@ fn drain_pending(pending: &mut Vec<Pending>, claims: &mut Claims, seat: u8)
 
 impl OpenEntry {
     ghost use Rattle.std.specs.Prelude.{min, true};
-    ghost use Rattle.log_history.specs.OpenEntry.{KeepsSeat, Updates, entry_view};
+    ghost use Rattle.log_history.specs.OpenEntry.{IsBegun, KeepsSeat, Updates, entry_view};
     ghost use Rattle.log_history.specs.TxnState.{state_of};
-    ghost use Rattle.log_history.specs.Table.{owed_by_entry};
+    ghost use Rattle.log_history.specs.Table.{IsActiveEntry, IsChained, owed_by_entry};
     ghost use Rattle.log_history.specs.Transactions.{last_of};
+
+    /// A transaction begins on this seat, where another one sat.
+    pub fn begin(&mut self, txn: TxnNo, seat: u8, lsn: Lsn)
+        ensures { IsBegun self.new txn seat lsn }
+    {
+        self.txn = txn;
+        self.seat = seat;
+        self.first = lsn;
+        self.last = lsn;
+        self.rolling = false;
+        self.aborted = false;
+        self.pending.clear();
+    }
 
     /// The transaction makes a change, unless another one keeps it out: its Update has this
     /// change's LSN. Answers whether it did. An `Err` changes nothing.
@@ -140,6 +154,41 @@ impl OpenEntry {
         self.aborted = true;
     }
 
+    /// It does not roll back, and this is the LSN of its last record.
+    pub fn is_active(&self, prev: Lsn) -> bool
+        ensures { IsTrue result ↔ IsActiveEntry prev (entry_view self.now) }
+    {
+        self.last == prev && !self.rolling
+    }
+
+    /// This is the LSN of its last record, and the change takes its last pending change back.
+    pub fn may_compensate(
+        &self,
+        prev: Lsn,
+        undo_next: Lsn,
+        page: PageNo,
+        slot: SlotNo,
+        change: Change,
+    ) -> bool
+        ensures { IsTrue result ↔ (IsChained prev (entry_view self.now)
+            × IsSomeAnd (last_of (entry_view self.now).pending)
+            (Compensates undo_next page slot change)) }
+    {
+        self.last == prev
+            && match self.last_pending() {
+                Some(last) => compensates(undo_next, page, slot, change, &last),
+                None => false,
+            }
+    }
+
+    /// This is the LSN of its last record, and all its changes are taken back.
+    pub fn may_end(&self, prev: Lsn) -> bool
+        ensures { IsTrue result ↔ (IsChained prev (entry_view self.now)
+            × ((entry_view self.now).pending ≡ [])) }
+    {
+        self.last == prev && self.pending.is_empty()
+    }
+
     /// Its numbers.
     pub fn state(&self) -> TxnState
         ensures { result ≡ state_of (entry_view self.now) }
@@ -182,11 +231,7 @@ impl OpenEntry {
 
 /// An open transaction with only its Begin.
 pub fn begun_entry(alloc: Global, txn: TxnNo, seat: u8, lsn: Lsn) -> OpenEntry
-    ensures txn { result.txn ≡ txn }
-    ensures seat { result.seat ≡ seat }
-    ensures lsn { (result.first ≡ lsn) × (result.last ≡ lsn) }
-    ensures rolling { (result.rolling ≡ false) × (result.aborted ≡ false) }
-    ensures pending { result.pending.items ≡ [] }
+    ensures { IsBegun result txn seat lsn }
 {
     OpenEntry {
         txn,

@@ -1,7 +1,8 @@
 //! Sets of seats: each open transaction has a seat, and no two have the same.
 
-ghost use Rattle.std.specs.Prelude.{ℕ, ◌≡◌, ◌<◌, ◌==◌, ◌↔◌, IsFalse, IsTrue, if◌then◌else◌};
-ghost use Rattle.log_history.specs.SeatSet.{HasSome, has_seat, no_seats, only};
+ghost use Rattle.std.specs.Prelude.{ℕ, ◌≡◌, ◌<◌, ◌==◌, ◌↔◌, false, true, IsFalse, IsTrue};
+ghost use Rattle.std.specs.Prelude.{if◌then◌else◌};
+ghost use Rattle.log_history.specs.SeatSet.{HasSome, LacksOne, has_seat, no_seats, only};
 
 /// How many seats there are: one for each transaction that may be open.
 pub const SEATS: u8 = 64;
@@ -34,6 +35,16 @@ impl SeatSet {
         ensures some { IsFalse result → HasSome self }
     {
         self.bits == 0
+    }
+
+    /// The lowest seat that the set lacks, if it lacks one.
+    pub fn first_absent(self) -> u8
+        requires { LacksOne self }
+        ensures within { result < SEATS }
+        ensures absent { has_seat self result ≡ false }
+        ensures below { (other : ℕ) → other < result → has_seat self other ≡ true }
+    {
+        self.bits.trailing_ones() as u8
     }
 
     /// The seat is in the set.
