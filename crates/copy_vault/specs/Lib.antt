@@ -1,0 +1,4 @@
+pub mod Copy
+pub mod Reading
+pub mod Slots
+pub mod Vault

@@ -1,0 +1,20 @@
+-- How the decisions of a copy are held.
+use Rattle.std.specs.Prelude.{ℕ, ◌≡◌, ◌^◌, ◌<◌, List, length, map}
+use Rattle.copy_vault.specs.declared.slots.Slot.{Slot}
+use Rattle.copy_vault.specs.declared.slots.Slot.TheVariants.{Undecided, Taken, Kept}
+use Rattle.copy_vault.specs.Copy.{PageDecision, undecided, taken, kept, taken_count}
+
+-- what a slot says of its page
+abbrev pub decision_in : Slot → PageDecision
+decision_in Undecided = undecided
+decision_in (Taken place) = taken place.value
+decision_in Kept = kept
+
+-- what the slots say of each page
+abbrev pub decisions_in : List Slot → List PageDecision
+decisions_in slots = map decision_in slots
+
+-- there are no more pages than page numbers fit, and so many of them were taken
+pub record IsCounted (pages : List PageDecision) (taken : ℕ) : Type 0 where
+  pub few : length pages < 2 ^ 32
+  pub counted : taken ≡ taken_count pages

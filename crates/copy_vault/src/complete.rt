@@ -1,0 +1,106 @@
+//! An image copy that is complete.
+
+ghost use Rattle.std.specs.Prelude.{◌≡◌, length};
+ghost use Rattle.copy_vault.specs.Copy.{IsComplete, taken_count};
+
+use crate::copy_id::{CopyId, CopyKind};
+use crate::slots::Slots;
+use page_core::Lsn;
+use std::marker::Model;
+
+/// An image copy that is complete: of each page it is decided whether the copy has it.
+#[derive(Drop)]
+pub struct CompleteCopy {
+    id: CopyId,
+    kind: CopyKind,
+    begin: Lsn,
+    redo: Lsn,
+    slots: Slots,
+}
+
+impl Model for CompleteCopy {
+    ghost use Rattle.copy_vault.specs.Copy.{CopyView, IsComplete};
+
+    ghost Value = { CopyView };
+
+    ghost view = { λ it. record {
+      id = it.id;
+      kind = it.kind;
+      begin = it.begin;
+      redo = it.redo;
+      pages = it.slots;
+    } };
+
+    ghost invariant = { λ it. IsComplete it.kind it.slots };
+}
+
+impl CompleteCopy {
+    /// A copy of which each page is decided.
+    pub(crate) fn new(
+        id: CopyId,
+        kind: CopyKind,
+        begin: Lsn,
+        redo: Lsn,
+        slots: Slots,
+    ) -> CompleteCopy
+        requires { IsComplete kind slots }
+        ensures { result ≡ record {
+          id = id;
+          kind = kind;
+          begin = begin;
+          redo = redo;
+          pages = slots;
+        } }
+    {
+        CompleteCopy {
+            id,
+            kind,
+            begin,
+            redo,
+            slots,
+        }
+    }
+
+    /// Its id.
+    pub fn id(&self) -> CopyId
+        ensures { result ≡ self.now.id }
+    {
+        self.id
+    }
+
+    /// What it is of.
+    pub fn kind(&self) -> CopyKind
+        ensures { result ≡ self.now.kind }
+    {
+        self.kind
+    }
+
+    /// The begin LSN of the checkpoint that was noted when the copy began.
+    pub fn begin(&self) -> Lsn
+        ensures { result ≡ self.now.begin }
+    {
+        self.begin
+    }
+
+    /// The LSN from which on the log is redone over the copy.
+    pub fn redo(&self) -> Lsn
+        ensures { result ≡ self.now.redo }
+    {
+        self.redo
+    }
+
+    /// How many pages the volume has. Of each of them it is decided whether the copy has it.
+    pub fn pages(&self) -> u32
+        ensures count { result ≡ length self.now.pages }
+        ensures complete { IsComplete self.now.kind self.now.pages }
+    {
+        self.slots.count()
+    }
+
+    /// How many pages the copy has.
+    pub fn taken(&self) -> u32
+        ensures { result ≡ taken_count self.now.pages }
+    {
+        self.slots.taken()
+    }
+}

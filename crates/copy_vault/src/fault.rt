@@ -1,0 +1,42 @@
+//! Why a vault refuses a call.
+
+ghost use Rattle.std.specs.Prelude.{◌≡◌};
+ghost use Rattle.copy_vault.specs.declared.fault.CopyFault.TheVariants.{OutOfMemory};
+
+use page_core::PageNo;
+use std::alloc::{AllocError, AllocFailed};
+use std::error::Error;
+use std::fmt;
+
+/// Why a vault refuses a call. A refusal changes nothing.
+#[derive(Clone, Copy, Debug, PartialEq, Eq)]
+pub enum CopyFault {
+    /// Memory ran out.
+    OutOfMemory,
+    /// No copy has this id, or it was dropped.
+    NoCopy,
+    /// The copy is complete.
+    CopyNotOpen,
+    /// The copy is still being read.
+    CopyNotComplete,
+    /// Nothing is decided of this page, the least such one.
+    PagesLeft(PageNo),
+    /// All 1,024 ids were given, dropped copies counted.
+    TooManyCopies,
+}
+
+impl From<AllocError> for CopyFault {
+    ghost from_gives = { λ _ e. e ≡ OutOfMemory };
+
+    fn from(_error: AllocError) -> CopyFault {
+        CopyFault::OutOfMemory
+    }
+}
+
+impl<T: Drop> From<AllocFailed<T>> for CopyFault {
+    ghost from_gives = { λ _ e. e ≡ OutOfMemory };
+
+    fn from(_error: AllocFailed<T>) -> CopyFault {
+        CopyFault::OutOfMemory
+    }
+}

@@ -1,0 +1,91 @@
+//! What a copy has decided of each of its pages.
+
+ghost use Rattle.std.specs.Prelude.{◌≡◌, ◌<◌, ◌^◌, ◌↔◌, length, replicate, slice_set};
+ghost use Rattle.std.specs.Prelude.{IfOk, IsTrue};
+ghost use Rattle.copy_vault.specs.Copy.{PageDecision, undecided, taken, kept, decision_at};
+ghost use Rattle.copy_vault.specs.Copy.{taken_count};
+
+use page_core::{Page, PageNo};
+use std::alloc::{AllocError, Global};
+use std::marker::Model;
+
+/// What is decided of a page, and the page where it was taken.
+#[derive(Drop)]
+pub enum Slot {
+    Undecided,
+    Taken(Box<Page>),
+    Kept,
+}
+
+/// What is decided of each page of a copy. Slot `p` is that of page `p`.
+#[derive(Drop)]
+pub struct Slots {
+    slots: Vec<Slot>,
+    taken: u32,
+}
+
+impl Model for Slots {
+    ghost use Rattle.std.specs.Prelude.{List};
+    ghost use Rattle.copy_vault.specs.Copy.{PageDecision};
+    ghost use Rattle.copy_vault.specs.Slots.{IsCounted, decisions_in};
+
+    ghost Value = { List PageDecision };
+
+    ghost view = { λ it. decisions_in it.slots.items };
+
+    ghost invariant = { λ it. IsCounted (decisions_in it.slots.items) it.taken };
+}
+
+impl Slots {
+    /// Slots of so many pages, of which nothing is decided.
+    pub fn new(alloc: Global, count: u32) -> Result<Slots, AllocError>
+        ensures { IfOk result (λ slots. slots ≡ replicate count undecided) }
+    {
+        let mut slots = Vec::with_capacity(alloc, count as usize)?;
+        for _ in 0..count {
+            slots.push(Slot::Undecided)?;
+        }
+        Ok(Slots { slots, taken: 0 })
+    }
+
+    /// How many pages there are.
+    pub fn count(&self) -> u32
+        ensures { result ≡ length self.now }
+    {
+        self.slots.len() as u32
+    }
+
+    /// How many pages were taken.
+    pub fn taken(&self) -> u32
+        ensures { result ≡ taken_count self.now }
+    {
+        self.taken
+    }
+
+    /// Whether nothing is decided of this page.
+    pub fn is_undecided(&self, number: PageNo) -> bool
+        requires { number < length self.now }
+        ensures { IsTrue result ↔ (decision_at self.now number ≡ undecided) }
+    {
+        matches!(self.slots[number.0 as usize], Slot::Undecided)
+    }
+
+    /// Takes a page.
+    pub fn take(&mut self, number: PageNo, place: Box<Page>)
+        requires there { number < length self.old }
+        requires undecided { decision_at self.old number ≡ undecided }
+        ensures { self.new ≡ slice_set self.old number (taken place.value) }
+    {
+        self.slots[number.0 as usize] = Slot::Taken(place);
+        self.taken += 1;
+    }
+
+    /// Keeps what the parent has of a page.
+    pub fn keep(&mut self, number: PageNo)
+        requires there { number < length self.old }
+        requires undecided { decision_at self.old number ≡ undecided }
+        ensures { self.new ≡ slice_set self.old number kept }
+    {
+        self.slots[number.0 as usize] = Slot::Kept;
+    }
+}

@@ -1,0 +1,270 @@
+//! The vault, which keeps the image copies of a volume.
+
+ghost use Rattle.std.specs.Prelude.{◌≡◌, ◌+◌, ◌<◌, [], length, IfOk, IfErr, OnOk, OnErr};
+ghost use Rattle.std.specs.Prelude.{IfSome, Some, None};
+ghost use Rattle.std.specs.Option.{option_map, option_map_or};
+ghost use Rattle.copy_vault.specs.Copy.{CopyView, undecided, decision_at};
+ghost use Rattle.copy_vault.specs.Reading.{ReadingView};
+ghost use Rattle.copy_vault.specs.Vault.{CopyState, HasRoom, OpenRefuses, answer_in, complete_of};
+ghost use Rattle.copy_vault.specs.Vault.{decided, drop_refusal, dropped, open_refusal, opened};
+ghost use Rattle.copy_vault.specs.Vault.{reading, reading_of, seal_refusal, sealed, sealed_in};
+ghost use Rattle.copy_vault.specs.Vault.{HasParent, since_of, state_in, state_of, taken_in, without};
+ghost use Rattle.copy_vault.specs.declared.copy_id.CopyKind.TheVariants.{Full};
+ghost use Rattle.copy_vault.specs.declared.vault.Entry.TheVariants as entry;
+
+use crate::complete::CompleteCopy;
+use crate::copy_id::{CopyId, CopyKind, Decision, MAX_COPIES};
+use crate::fault::CopyFault;
+use crate::reading::{CopyStart, ReadingCopy};
+use page_core::{Lsn, Page, PageNo};
+use std::alloc::{AllocError, Global};
+use std::marker::Model;
+use std::mem;
+
+/// What a vault keeps of a copy.
+#[derive(Drop)]
+pub enum Entry {
+    Reading(ReadingCopy),
+    Complete(CompleteCopy),
+    Dropped,
+}
+
+impl Entry {
+    /// Makes the copy complete, and answers how many pages it has.
+    fn seal(&mut self) -> Result<u32, CopyFault>
+        ensures ok { OnOk result (seal_refusal (state_in self.old) ≡ None) }
+        ensures sealed { OnOk result (state_in self.new ≡ sealed_in (state_in self.old)) }
+        ensures count { IfOk result (λ taken. taken ≡ taken_in (state_in self.old)) }
+        ensures err { IfErr result (λ fault. seal_refusal (state_in self.old) ≡ Some fault) }
+        ensures same { OnErr result (self.new ≡ self.old) }
+    {
+        match mem::replace(self, Entry::Dropped) {
+            Entry::Dropped => Err(CopyFault::NoCopy),
+            Entry::Complete(copy) => {
+                *self = Entry::Complete(copy);
+                Err(CopyFault::CopyNotOpen)
+            }
+            Entry::Reading(copy) => match copy.seal() {
+                Ok(copy) => {
+                    let taken = copy.taken();
+                    *self = Entry::Complete(copy);
+                    Ok(taken)
+                }
+                Err(copy) => {
+                    let Some(page) = copy.undecided() else {
+                        unreachable!()
+                    };
+                    *self = Entry::Reading(copy);
+                    Err(CopyFault::PagesLeft(page))
+                }
+            },
+        }
+    }
+
+    /// Drops the copy.
+    fn drop_open(&mut self) -> Result<(), CopyFault>
+        ensures ok { OnOk result (drop_refusal (state_in self.old) ≡ None) }
+        ensures dropped { OnOk result (self.new ≡ entry.Dropped) }
+        ensures err { IfErr result (λ fault. drop_refusal (state_in self.old) ≡ Some fault) }
+        ensures same { OnErr result (self.new ≡ self.old) }
+    {
+        match self {
+            Entry::Dropped => Err(CopyFault::NoCopy),
+            Entry::Complete(_) => Err(CopyFault::CopyNotOpen),
+            Entry::Reading(_) => {
+                *self = Entry::Dropped;
+                Ok(())
+            }
+        }
+    }
+}
+
+/// The image copies of a volume, by their ids.
+#[derive(Drop)]
+pub struct Vault {
+    entries: Vec<Entry>,
+}
+
+impl Model for Vault {
+    ghost use Rattle.copy_vault.specs.Vault.{IsVault, VaultView, vault_view};
+
+    ghost Value = { VaultView };
+
+    ghost view = { λ it. vault_view it.entries.items };
+
+    ghost invariant = { λ it. IsVault it.entries.items };
+}
+
+impl Vault {
+    /// A vault without copies. This takes no memory.
+    pub fn new(alloc: Global) -> Vault
+        ensures { result.copies ≡ [] }
+    {
+        Vault {
+            entries: Vec::new(alloc),
+        }
+    }
+
+    /// Begins a full copy of so many pages, and answers its id: one more than the last one. It
+    /// notes a checkpoint by its begin LSN and redo point. Refusals in order: `TooManyCopies`,
+    /// `OutOfMemory`.
+    pub fn open_full(
+        &mut self,
+        alloc: Global,
+        pages: u32,
+        begin: Lsn,
+        redo: Lsn,
+    ) -> Result<CopyId, CopyFault>
+        ensures id { IfOk result (λ id. id ≡ length self.old.copies + 1) }
+        ensures opened { OnOk result
+            (self.new.copies ≡ opened self.old.copies Full pages begin redo) }
+        ensures ok { OnOk result (open_refusal self.old.copies ≡ None) }
+        ensures err { IfErr result (OpenRefuses (open_refusal self.old.copies)) }
+        ensures same { OnErr result (self.new ≡ self.old) }
+    {
+        self.open(alloc, CopyKind::Full, Lsn(0), pages, begin, redo)
+    }
+
+    /// Begins a copy of this kind.
+    fn open(
+        &mut self,
+        alloc: Global,
+        kind: CopyKind,
+        since: Lsn,
+        pages: u32,
+        begin: Lsn,
+        redo: Lsn,
+    ) -> Result<CopyId, CopyFault>
+        requires parent { HasParent self.old.copies (length self.old.copies + 1) kind }
+        requires since { since ≡ since_of self.old.copies kind }
+        ensures id { IfOk result (λ id. id ≡ length self.old.copies + 1) }
+        ensures opened { OnOk result
+            (self.new.copies ≡ opened self.old.copies kind pages begin redo) }
+        ensures ok { OnOk result (open_refusal self.old.copies ≡ None) }
+        ensures err { IfErr result (OpenRefuses (open_refusal self.old.copies)) }
+        ensures same { OnErr result (self.new ≡ self.old) }
+    {
+        let count = self.entries.len() as u32;
+        if count >= MAX_COPIES {
+            return Err(CopyFault::TooManyCopies);
+        }
+        let id = CopyId(count + 1);
+        let start = CopyStart {
+            id,
+            kind,
+            since,
+            begin,
+            redo,
+        };
+        self.entries
+            .push(Entry::Reading(ReadingCopy::new(alloc, start, pages)?))?;
+        Ok(id)
+    }
+
+    /// The copy of this id, if it is being read.
+    pub fn reading(&self, id: CopyId) -> Option<&ReadingCopy>
+        ensures { option_map (λ it. it.now.copy) result ≡ reading_of (state_of self.now.copies id) }
+    {
+        match self.entry(id) {
+            Some(Entry::Reading(copy)) => Some(copy),
+            _ => None,
+        }
+    }
+
+    /// The copy of this id, if it is complete.
+    pub fn complete(&self, id: CopyId) -> Option<&CompleteCopy>
+        ensures { option_map (λ copy. copy.now) result ≡ complete_of (state_of self.now.copies id) }
+    {
+        match self.entry(id) {
+            Some(Entry::Complete(copy)) => Some(copy),
+            _ => None,
+        }
+    }
+
+    /// What is kept of the copy of this id.
+    fn entry(&self, id: CopyId) -> Option<&Entry>
+        ensures { option_map_or (λ it. state_in it.now) result dropped
+            ≡ state_of self.now.copies id }
+    {
+        if id.0 == 0 {
+            return None;
+        }
+        self.entries.get(id.0 as usize - 1)
+    }
+
+    /// Makes room for one page that a copy takes. The room stays until the next call that changes
+    /// the vault.
+    pub fn make_room(&mut self, alloc: Global, id: CopyId) -> Result<(), AllocError>
+        requires { (copy : CopyView) × (state_of self.old.copies id ≡ reading copy) }
+        ensures room { OnOk result (HasRoom self.new id) }
+        ensures copies { self.new.copies ≡ self.old.copies }
+    {
+        let Entry::Reading(copy) = &mut self.entries[id.0 as usize - 1] else {
+            unreachable!()
+        };
+        copy.make_room(alloc)
+    }
+
+    /// Decides of a page as it was stored: a full copy takes it, an incremental one where its LSN
+    /// is at least the redo point of the copy's parent. This takes no memory.
+    pub fn decide(&mut self, id: CopyId, number: PageNo, page: &Page) -> Decision
+        requires reading { (copy : CopyView) × (state_of self.old.copies id ≡ reading copy)
+            × (number < length copy.pages) × (decision_at copy.pages number ≡ undecided) }
+        requires numbered { page.now.number ≡ number }
+        requires room { HasRoom self.old id }
+        ensures answer { result
+            ≡ answer_in self.old.copies (state_of self.old.copies id) page.now }
+        ensures decided { self.new.copies ≡ decided self.old.copies id number page.now }
+    {
+        let Entry::Reading(copy) = &mut self.entries[id.0 as usize - 1] else {
+            unreachable!()
+        };
+        copy.decide(number, page)
+    }
+
+    /// Makes a copy complete, and answers how many pages it has. Refusals in order: `NoCopy`,
+    /// `CopyNotOpen`, `PagesLeft`. This takes no memory.
+    pub fn seal(&mut self, id: CopyId) -> Result<u32, CopyFault>
+        ensures count { IfOk result (λ taken. taken ≡ taken_in (state_of self.old.copies id)) }
+        ensures sealed { OnOk result (self.new.copies ≡ sealed self.old.copies id) }
+        ensures ok { OnOk result (seal_refusal (state_of self.old.copies id) ≡ None) }
+        ensures err { IfErr result (λ fault.
+            seal_refusal (state_of self.old.copies id) ≡ Some fault) }
+        ensures same { OnErr result (self.new ≡ self.old) }
+    {
+        let Some(index) = self.index_of(id) else {
+            return Err(CopyFault::NoCopy);
+        };
+        let entry = &mut self.entries[index];
+        entry.seal()
+    }
+
+    /// Drops a copy that is being read. Its id is not given again. Refusals in order: `NoCopy`,
+    /// `CopyNotOpen`. This takes no memory.
+    pub fn drop_open(&mut self, id: CopyId) -> Result<(), CopyFault>
+        ensures dropped { OnOk result (self.new.copies ≡ without self.old.copies id) }
+        ensures ok { OnOk result (drop_refusal (state_of self.old.copies id) ≡ None) }
+        ensures err { IfErr result (λ fault.
+            drop_refusal (state_of self.old.copies id) ≡ Some fault) }
+        ensures same { OnErr result (self.new ≡ self.old) }
+    {
+        let Some(index) = self.index_of(id) else {
+            return Err(CopyFault::NoCopy);
+        };
+        let entry = &mut self.entries[index];
+        entry.drop_open()
+    }
+
+    /// Where the copy of this id stands, if the id was given.
+    fn index_of(&self, id: CopyId) -> Option<usize>
+        ensures found { IfSome result (λ index.
+            (index < length self.now.copies) × (id ≡ index + 1)) }
+        ensures none { result ≡ None → state_of self.now.copies id ≡ dropped }
+    {
+        if id.0 == 0 || id.0 as usize > self.entries.len() {
+            None
+        } else {
+            Some(id.0 as usize - 1)
+        }
+    }
+}
