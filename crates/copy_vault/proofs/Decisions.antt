@@ -1,0 +1,97 @@
+-- What is decided of the pages of a copy, and how many were taken.
+use Rattle.std.proofs.Common.{◌≡◌, ℕ, ◌+◌, ◌*◌, ◌^◌, ◌<◌, ◌≤◌, List, [], ◌∷◌, length, get_or, replicate, map, refl, sym, ap}
+use Rattle.std.proofs.Common.{◌∙◌, subst, arith, suc, zero, true, false, Bool, lit≤, ltb, cond}
+use Rattle.std.specs.Prelude.{Option, Some, None, slice_set}
+use Rattle.std.specs.List.{sum_by, flat_map, position_or_len, position, All}
+use Rattle.std.proofs.Math.ListN.{set}
+use Rattle.std.proofs.lemmas.List.{length-set, get_or-set_same, get_or-set_other, get_or-replicate, length-replicate}
+use Rattle.std.proofs.lemmas.List.Concat.{length-flat_map}
+use Rattle.std.proofs.lemmas.List.Sums.{sum_by-set, sum_by-cons, position_or_len_is}
+use Rattle.std.proofs.lemmas.List.Folds.{sum_by-replicate}
+use Rattle.page_core.specs.declared.page.Page.{Page}
+use Rattle.std.proofs.lemmas.Bool.{lt-ltb, le-ltb}
+use Rattle.copy_vault.specs.Copy.{PageDecision, undecided, taken, kept, page_of, taken_pages, taken_count, decision_at}
+use Rattle.copy_vault.specs.Copy.{AreDecidedBelow, AreInPlace, KeepsOfParent, IsComplete, is_undecided, least_undecided}
+use Rattle.copy_vault.specs.Slots.{IsCounted}
+
+-- how many pages a decision adds
+abbrev weight : PageDecision → ℕ
+weight d = length (page_of d)
+
+weight_le : (d : PageDecision) → weight d ≤ 1
+weight_le undecided = lit≤ tt
+weight_le (taken page) = lit≤ tt
+weight_le kept = lit≤ tt
+
+pub count_is : (pages : List PageDecision) → taken_count pages ≡ sum_by weight pages
+count_is pages = length-flat_map page_of pages
+
+sum_within : (pages : List PageDecision) → sum_by weight pages ≤ length pages
+sum_within [] = lit≤ tt
+sum_within (d ∷ ds) = omega (arith, sum_by-cons weight d ds, weight_le d, sum_within ds)
+
+-- no more pages are taken than there are
+pub count_within : (pages : List PageDecision) → taken_count pages ≤ length pages
+count_within pages = omega (arith, count_is pages, sum_within pages)
+
+pub count_none : (n : ℕ) → taken_count (replicate n undecided) ≡ 0
+count_none n = count_is (replicate n undecided) ∙ sum_by-replicate weight n undecided ∙ omega arith
+
+-- one decision more
+pub count_set : (pages : List PageDecision) (p : ℕ) (d : PageDecision) → p < length pages
+    → decision_at pages p ≡ undecided
+    → taken_count (slice_set pages p d) ≡ taken_count pages + length (page_of d)
+count_set pages p d lt none =
+    let before : weight (get_or pages p undecided) ≡ 0 = ap weight none in
+    omega (
+      arith,
+      count_is (slice_set pages p d),
+      count_is pages,
+      sum_by-set weight pages p d undecided lt,
+      before,
+    )
+
+pub counted_set : (pages : List PageDecision) (count p : ℕ) (d : PageDecision) → IsCounted pages count
+    → p < length pages → decision_at pages p ≡ undecided
+    → IsCounted (slice_set pages p d) (count + length (page_of d))
+counted_set pages count p d counted lt none = record {
+  few = omega (arith, counted.few, length-set pages p d);
+  counted = omega (arith, counted.counted, count_set pages p d lt none);
+}
+
+-- with one page more there are still no more than page numbers
+pub count_fits : (pages : List PageDecision) (count p : ℕ) (page : Page) → IsCounted pages count
+    → p < length pages → decision_at pages p ≡ undecided → count + 1 < 2 ^ 32
+count_fits pages count p page counted lt none =
+    let after = counted_set pages count p (taken page) counted lt none in
+    omega (arith, after.few, after.counted, count_within (slice_set pages p (taken page)))
+
+pub map-replicate : {X Y : Type 0} (f : X → Y) (n : ℕ) (x : X) → map f (replicate n x) ≡ replicate n (f x)
+map-replicate f zero x = refl
+map-replicate f (suc n) x = ap (λ ys. f x ∷ ys) (map-replicate f n x)
+
+-- ---- the least page of which nothing is decided
+
+is_decided : (d : PageDecision) → (¬ (d ≡ undecided)) → is_undecided d ≡ false
+is_decided undecided some = absurd (some refl)
+is_decided (taken page) some = refl
+is_decided kept some = refl
+
+first_is : (pages : List PageDecision) (n : ℕ) → n ≤ length pages → AreDecidedBelow n pages
+    → (n < length pages → decision_at pages n ≡ undecided) → position_or_len is_undecided pages ≡ n
+first_is pages n within before at =
+    position_or_len_is is_undecided pages n undecided within (λ k lt. is_decided (decision_at pages k) (before k lt))
+    (λ lt. ap is_undecided (at lt))
+
+pub least_is : (pages : List PageDecision) (n : ℕ) → n < length pages → AreDecidedBelow n pages
+    → decision_at pages n ≡ undecided → least_undecided pages ≡ Some n
+least_is pages n lt before at =
+    let first : position_or_len is_undecided pages ≡ n = first_is pages n (omega arith) before (λ _. at) in
+    ap (λ k. cond (ltb k (length pages)) (Some k) None) first
+    ∙ ap (λ b. cond b (Some n) None) (lt-ltb n (length pages) lt)
+
+pub none_left : (pages : List PageDecision) → AreDecidedBelow (length pages) pages → least_undecided pages ≡ None
+none_left pages all =
+    let n = length pages in
+    let first : position_or_len is_undecided pages ≡ n = first_is pages n (omega arith) all (λ lt. absurd (omega arith)) in
+    ap (λ k. cond (ltb k n) (Some k) None) first ∙ ap (λ b. cond b (Some n) None) (le-ltb n n (omega arith))
