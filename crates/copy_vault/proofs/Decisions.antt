@@ -1,17 +1,17 @@
 -- What is decided of the pages of a copy, and how many were taken.
-use Rattle.std.proofs.Common.{◌≡◌, ℕ, ◌+◌, ◌*◌, ◌^◌, ◌<◌, ◌≤◌, List, [], ◌∷◌, length, get_or, replicate, map, refl, sym, ap}
-use Rattle.std.proofs.Common.{◌∙◌, subst, arith, suc, zero, true, false, Bool, lit≤, ltb, cond}
-use Rattle.std.specs.Prelude.{Option, Some, None, slice_set}
-use Rattle.std.specs.List.{sum_by, flat_map, position_or_len, position, All}
+use Rattle.std.proofs.Common.{◌≡◌, ℕ, ◌+◌, ◌^◌, ◌<◌, ◌≤◌, List, [], ◌∷◌, length, get_or, replicate, map, refl, ap}
+use Rattle.std.proofs.Common.{◌∙◌, arith, suc, zero, false, lit≤, ltb, cond}
+use Rattle.std.specs.Prelude.{Some, None, slice_set}
+use Rattle.std.specs.List.{sum_by, position_or_len}
 use Rattle.std.proofs.Math.ListN.{set}
-use Rattle.std.proofs.lemmas.List.{length-set, get_or-set_same, get_or-set_other, get_or-replicate, length-replicate}
+use Rattle.std.proofs.lemmas.List.{length-set}
 use Rattle.std.proofs.lemmas.List.Concat.{length-flat_map}
 use Rattle.std.proofs.lemmas.List.Sums.{sum_by-set, sum_by-cons, position_or_len_is}
 use Rattle.std.proofs.lemmas.List.Folds.{sum_by-replicate}
 use Rattle.page_core.specs.declared.page.Page.{Page}
 use Rattle.std.proofs.lemmas.Bool.{lt-ltb, le-ltb}
-use Rattle.copy_vault.specs.Copy.{PageDecision, undecided, taken, kept, page_of, taken_pages, taken_count, decision_at}
-use Rattle.copy_vault.specs.Copy.{AreDecidedBelow, AreInPlace, KeepsOfParent, IsComplete, is_undecided, least_undecided}
+use Rattle.copy_vault.specs.Copy.{PageDecision, undecided, taken, kept, page_of, taken_count, decision_at}
+use Rattle.copy_vault.specs.Copy.{AreDecidedBelow, is_undecided, least_undecided}
 use Rattle.copy_vault.specs.Slots.{IsCounted}
 
 -- how many pages a decision adds

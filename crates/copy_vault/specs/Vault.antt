@@ -13,9 +13,8 @@ use Rattle.copy_vault.specs.declared.fault.CopyFault.TheVariants.{OutOfMemory, N
 use Rattle.copy_vault.specs.declared.fault.CopyFault.TheVariants.{PagesLeft, TooManyCopies}
 use Rattle.copy_vault.specs.declared.vault.Entry.{Entry}
 use Rattle.copy_vault.specs.declared.vault.Entry.TheVariants as entry
-use Rattle.copy_vault.specs.Copy.{CopyView, PageDecision, new_copy, with_decision, decided_by}
-use Rattle.copy_vault.specs.Copy.{answer_of, least_undecided, taken_count, IsComplete}
-use Rattle.copy_vault.specs.Reading.{ReadingView}
+use Rattle.copy_vault.specs.Copy.{CopyView, new_copy, with_decision, decided_by}
+use Rattle.copy_vault.specs.Copy.{answer_of, least_undecided, taken_count}
 
 -- a copy is being read, or is complete, or was dropped while it was read
 pub data CopyState : Type 0 where
@@ -146,11 +145,16 @@ room_in entry.Dropped = false
 abbrev pub vault_view : List Entry → VaultView
 vault_view entries = record { copies = map state_in entries; rooms = map room_in entries }
 
--- an incremental copy has a complete copy of a lesser id as its parent
+-- the copy of this id is complete, and was there before the other one
+pub record IsParent (copies : List CopyState) (parent id : ℕ) : Type 0 where
+  pub before : parent < id
+  pub copy : CopyView
+  pub is_complete : state_of copies parent ≡ complete copy
+
+-- an incremental copy has a parent
 abbrev pub HasParent : List CopyState → ℕ → CopyKind → Type 0
 HasParent copies id Full = Unit {0}
-HasParent copies id (Inc parent) =
-    (parent < id) × (copy : CopyView) × (state_of copies parent ≡ complete copy)
+HasParent copies id (Inc parent) = IsParent copies parent id
 
 -- a copy has this id, and its parent
 pub record IsOfId (copies : List CopyState) (id : ℕ) (copy : CopyView) : Type 0 where

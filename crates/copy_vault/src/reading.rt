@@ -64,7 +64,11 @@ pub struct CopyStart {
 
 impl ReadingCopy {
     /// A copy of so many pages, of which nothing is decided.
-    pub(crate) fn new(alloc: Global, start: CopyStart, pages: u32) -> Result<ReadingCopy, AllocError>
+    pub(crate) fn new(
+        alloc: Global,
+        start: CopyStart,
+        pages: u32,
+    ) -> Result<ReadingCopy, AllocError>
         requires { start.kind ≡ Full → start.since ≡ 0 }
         ensures { IfOk result (λ it. it ≡ record {
           copy = new_copy start.id start.kind pages start.begin start.redo;
@@ -154,9 +158,7 @@ impl ReadingCopy {
         if self.next < self.slots.count() {
             return Err(self);
         }
-        Ok(CompleteCopy::new(
-            self.id, self.kind, self.begin, self.redo, self.slots,
-        ))
+        Ok(CompleteCopy::new(self.id, self.kind, self.begin, self.redo, self.slots))
     }
 }
 

@@ -186,10 +186,8 @@ impl Vault {
         ensures { option_map_or (λ it. state_in it.now) result dropped
             ≡ state_of self.now.copies id }
     {
-        if id.0 == 0 {
-            return None;
-        }
-        self.entries.get(id.0 as usize - 1)
+        let index = self.index_of(id)?;
+        Some(&self.entries[index])
     }
 
     /// Makes room for one page that a copy takes. The room stays until the next call that changes

@@ -1,6 +1,5 @@
-use Rattle.std.proofs.Common.{◌≡◌, ◌<◌, ◌^◌, List, replicate, length, sym, subst, ap, ◌∙◌, arith}
+use Rattle.std.proofs.Common.{◌≡◌, ◌<◌, ◌^◌, List, replicate, sym, subst, ap, ◌∙◌, arith}
 use Rattle.std.proofs.lemmas.List.{length-replicate}
-use Rattle.copy_vault.specs.declared.slots.Slot.{Slot}
 use Rattle.copy_vault.specs.declared.slots.Slot.TheVariants.{Undecided}
 use Rattle.copy_vault.specs.Copy.{PageDecision, undecided}
 use Rattle.copy_vault.specs.Slots.{IsCounted, decision_in, decisions_in}
