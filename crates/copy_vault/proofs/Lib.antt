@@ -1,2 +1,3 @@
 pub mod Decisions
+pub mod Headers
 pub mod Vaults

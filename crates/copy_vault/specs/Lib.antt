@@ -1,3 +1,5 @@
+pub mod Archive
+pub mod ArchiveFault
 pub mod Copy
 pub mod Reading
 pub mod Slots

@@ -469,8 +469,7 @@ pub rec_is_change : (rs : List Record) (p written rec : ℕ) → rec_lsn rs p wr
     → Contains (changes_on rs p) rec × (written < rec)
 rec_is_change rs p written rec e =
     let all = changes_on rs p in
-    let above = nat_lt written in
-    (
+    let above = nat_lt written in (
       least-has (Contains all) (filter above all) rec e (All-filter above (Contains all) all (All-contains_itself all)),
       ltb-true written rec (least-has (λ n. above n ≡ true) (filter above all) rec e (filter_passes above all)),
     )

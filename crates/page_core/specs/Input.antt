@@ -1,8 +1,8 @@
 -- What came of asking a reader for more bytes.
 use Rattle.std.specs.Prelude.{ℕ, ◌+◌, ◌≤◌, List, length, take, ◌++◌, Option}
 use Rattle.std.specs.Io.KnownBytes.{Consumes, IsAtEnd}
-use Rattle.log_store.specs.declared.scan.Turn.{Turn}
-use Rattle.log_store.specs.declared.scan.Turn.TheVariants.{More, End, Failed}
+use Rattle.page_core.specs.declared.input.Turn.{Turn}
+use Rattle.page_core.specs.declared.input.Turn.TheVariants.{More, End, Failed}
 
 -- from wherever the reader gave these bytes and what fills the buffer, it has now given so many
 -- more

@@ -1,14 +1,14 @@
-use Rattle.std.proofs.Common.{◌+◌, ◌-◌, ◌*◌, ◌/◌, ◌<◌, length, take, drop, sym, ◌∙◌, arith}
+use Rattle.std.proofs.Common.{◌+◌, ◌-◌, ◌<◌, length, take, drop, sym, ◌∙◌, arith}
 use Rattle.std.proofs.lemmas.List.{same_lists, length-take, length-drop, get_or-take, get_or-drop, get_or_default}
-use Rattle.log_store.proofs.scan.keep_rest.Goals as goal
+use Rattle.page_core.proofs.input.keep_from.Goals as goal
 
 pub returns-clause-rest : goal.returns-clause-rest
 returns-clause-rest c =
     let n = c.args.filled in
-    let w = 64 * (n / 64) in
+    let w = c.args.from in
     let old = c.args.buffer.now in
     let new = c.loop-i.buffer in
-    let fits = c.requires in
+    let fits = c.requires.filled in
     same_lists (take (n - w) new) (drop w (take n old))
     (omega (arith, length-take (n - w) new, length-drop w (take n old), length-take n old))
     (λ k d lt.

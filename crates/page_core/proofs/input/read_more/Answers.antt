@@ -5,7 +5,7 @@ use Rattle.std.proofs.lemmas.List.{append_assoc, drop_at, take-append-le, length
 use Rattle.std.proofs.lemmas.Slice.{take-put_mid_below}
 use borrow.Rule.Slice.PartMut.{put_mid, post_of}
 use Rattle.page_core.proofs.Pieces.{grow}
-use Rattle.log_store.proofs.scan.read_more.Goals as goal
+use Rattle.page_core.proofs.input.read_more.Goals as goal
 
 -- what fills the buffer after a read behind what filled it before
 fills : (buffer read : List ℕ) (filled n : ℕ) → filled ≤ length buffer → n ≤ length read

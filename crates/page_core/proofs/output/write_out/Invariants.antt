@@ -1,6 +1,6 @@
 use Rattle.std.proofs.Common.{◌≤◌, ◌+◌, ◌-◌, ◌*◌, take, length}
 use Rattle.std.specs.Io.KnownBytes.{Appends}
-use Rattle.imgcopy.proofs.stream.write_out.Given as goal
+use Rattle.page_core.proofs.output.write_out.Given as goal
 
 abbrev pub invariant-loop-done : goal.invariant-loop-done
 invariant-loop-done g l = record {
