@@ -1,3 +1,2 @@
 pub mod Decisions
-pub mod Headers
 pub mod Vaults

@@ -1,5 +1,3 @@
-pub mod Archive
-pub mod ArchiveFault
 pub mod Copy
 pub mod Reading
 pub mod Slots
