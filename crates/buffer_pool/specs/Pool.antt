@@ -1,0 +1,89 @@
+-- A pool of pages that are changed as their log grows, and written to a store meanwhile.
+use Rattle.std.specs.Prelude.{ℕ, ◌≡◌, ◌<◌, List, [], length, map, replicate, Option, None, Some, IfSome}
+use Rattle.std.specs.Prelude.{slice_index_or, slice_set}
+use Rattle.std.specs.List.{All}
+use Rattle.std.specs.Option.{option_and_then}
+use Rattle.page_core.specs.declared.page.Page.{Page}
+use Rattle.page_core.specs.Volume.{formatted_pages}
+use Rattle.log_store.specs.Image.{image}
+use Rattle.log_store.specs.Log.{IsLog, Log, lsn_of}
+use Rattle.coverage.specs.Coverage.{AreStored, rec_lsn}
+
+-- what a pool knows of a page beside its content: the LSN of its last write, its RecLSN where it is
+-- dirty, and, while it is being written, the image and the LSN of the first change since
+pub record PageState : Type 0 where
+  pub written : ℕ
+  pub rec_lsn : Option ℕ
+  pub writing : Option Page
+  pub since : Option ℕ
+
+-- the store, the resident pages in the order in which they were fetched, and the state of each page
+-- of the volume
+pub record PoolView (S : Type 0) : Type 0 where
+  pub store : S
+  pub resident : List Page
+  pub states : List PageState
+
+-- ---- the parts of a pool
+
+-- the state of a page that was neither changed nor written
+abbrev pub unwritten : PageState
+unwritten = record { written = 0; rec_lsn = None; writing = None; since = None }
+
+abbrev pub state_at : {S : Type 0} → PoolView S → ℕ → PageState
+state_at pool number = slice_index_or pool.states number unwritten
+
+-- the LSN of each page's last write
+abbrev pub written_of : List PageState → List ℕ
+written_of states = map (λ (s : PageState). s.written) states
+
+-- of each page the image of a write in progress
+abbrev pub writing_of : List PageState → List (Option Page)
+writing_of states = map (λ (s : PageState). s.writing) states
+
+-- ---- a pool and its log
+
+-- the state of a page is what the log and its last write make it
+pub record IsStateOf (log : Log) (number : ℕ) (state : PageState) : Type 0 where
+  pub written : state.written < lsn_of (length log.records)
+  pub image : IfSome state.writing (λ q. q.lsn < lsn_of (length log.records))
+  pub since : state.since ≡ option_and_then (λ q. rec_lsn log.records number q.lsn) state.writing
+  pub dirty : state.rec_lsn ≡ rec_lsn log.records number state.written
+
+-- the pool is that of this log
+pub record IsPoolOf {S : Type 0} (stored_in : S → List Page) (log : Log)
+    (pool : PoolView S) : Type 0 where
+  pub valid : IsLog log
+  pub pages : log.pages ≡ length pool.states
+  pub resident : All (λ page. page ≡ image log.records page.number) pool.resident
+  pub states : (p : ℕ) (d : PageState) → p < length pool.states
+      → IsStateOf log p (slice_index_or pool.states p d)
+  pub stored : AreStored log.records (stored_in pool.store) (written_of pool.states)
+      (writing_of pool.states)
+
+-- ---- what changes
+
+-- a new pool of so many pages: all are resident, as they are formatted
+abbrev pub new_pool : {S : Type 0} → S → ℕ → PoolView S
+new_pool store pages = record {
+  store = store;
+  resident = formatted_pages pages;
+  states = replicate pages unwritten;
+}
+
+-- a write of a page has begun: this is its image, and no change came since
+abbrev pub write_begun : {S : Type 0} → PoolView S → Page → PoolView S
+write_begun pool q = record pool {
+  states = slice_set pool.states q.number
+      (record (state_at pool q.number) { writing = Some q; since = None });
+}
+
+-- a write of a page has ended, and this image is stored: the page is as dirty as the changes since
+-- make it
+abbrev pub write_ended : PageState → Page → PageState
+write_ended state q = record {
+  written = q.lsn;
+  rec_lsn = state.since;
+  writing = None;
+  since = None;
+}

@@ -1,0 +1,8 @@
+//! The pages of a volume in memory, which of them are dirty, and their writes to a store.
+#![tactic(auto)]
+
+mod page_image;
+mod pool;
+
+pub use page_image::PageImage;
+pub use pool::Pool;

@@ -1,0 +1,301 @@
+//! The buffer pool.
+
+ghost use Rattle.std.specs.Prelude.{ℕ, ◌≡◌, ◌<◌, List, [], ◌∷◌, length, map, replicate};
+ghost use Rattle.std.specs.Prelude.{None, Some, IfSome, IsNone, IsSome, MatchOption, is_some};
+ghost use Rattle.std.specs.Prelude.{slice_get, slice_set, IfOk, OnOk, OnErr};
+ghost use Rattle.std.specs.List.{Contains};
+ghost use Rattle.std.specs.Option.{unwrap_or};
+ghost use Rattle.page_core.specs.declared.page.Page.{Page};
+ghost use Rattle.page_core.specs.Volume.{AreNumbered, formatted_pages};
+ghost use Rattle.log_store.specs.Image.{image};
+ghost use Rattle.log_store.specs.Log.{IsLog, IsPageCount, Log};
+ghost use Rattle.log_store.specs.Scan.{with_next};
+ghost use Rattle.coverage.specs.Coverage.{dirty, entries_of, next_dirty};
+ghost use Rattle.page_store.specs.Store.{StoresOrKeeps};
+ghost use Rattle.buffer_pool.specs.Frames.{AreClean, IsFirstDirty};
+ghost use Rattle.buffer_pool.specs.Pool.{IsPoolOf, new_pool, state_at, write_begun, write_ended};
+ghost use Rattle.buffer_pool.specs.Pool.{writing_of, written_of};
+
+use crate::page_image::PageImage;
+use coverage::{DirtyPage, DirtyPages};
+use log_store::Record;
+use page_core::{Lsn, Page, PageNo, formatted_pages};
+use page_store::{PageStore, StoreFault};
+use std::alloc::{AllocError, Global};
+use std::marker::Model;
+
+/// The pages of a volume in memory, over a store. It knows which pages are dirty, and which are
+/// being written.
+#[derive(Drop)]
+pub struct Pool<S: PageStore> {
+    store: S,
+    /// The pages as they are now, in order of their numbers.
+    frames: Vec<Page>,
+    /// Of each page the LSN of its last write.
+    last_writes: Vec<Lsn>,
+    /// Of each page its RecLSN, if it is dirty.
+    rec_lsns: Vec<Option<Lsn>>,
+    /// Of each page the image that is being written.
+    images: Vec<Option<PageImage>>,
+    /// Of each page the first change since that image.
+    first_changes: Vec<Option<Lsn>>,
+}
+
+impl<S: PageStore> Model for Pool<S> {
+    ghost use Rattle.buffer_pool.specs.Pool.{PoolView};
+    ghost use Rattle.buffer_pool.specs.Frames.{AreFrames, states_of};
+
+    ghost Value = { PoolView S };
+
+    ghost view = { λ it. record {
+      store = it.store;
+      resident = it.frames.items;
+      states = states_of it.last_writes.items it.rec_lsns.items it.images.items
+          it.first_changes.items;
+    } };
+
+    ghost invariant = { λ it. AreFrames (S.stored it.store) it.frames.items it.last_writes.items
+        it.rec_lsns.items it.images.items it.first_changes.items };
+}
+
+impl<S: PageStore + Drop> Pool<S> {
+    /// A pool of all pages of a store, each formatted and clean. It calls nothing of the store but
+    /// its count. `AllocError` comes where memory is refused. The store is dropped then.
+    pub fn new(alloc: Global, store: S) -> Result<Pool<S>, AllocError>
+        requires { (n : ℕ) × (IsPageCount n × (S.stored store ≡ formatted_pages n)) }
+
+        ensures new { IfOk result (λ pool. (n : ℕ) → S.stored store ≡ formatted_pages n
+            → pool ≡ new_pool store n) }
+        ensures empty { IfOk result (λ pool. (n : ℕ) → S.stored store ≡ formatted_pages n
+            → IsPoolOf S.stored (record { pages = n; records = [] }) pool) }
+    {
+        let count = store.pages();
+        let frames = formatted_pages(alloc, count)?;
+        let last_writes = vec![in alloc; Lsn(0); count as usize]?;
+        let rec_lsns = vec![in alloc; None; count as usize]?;
+        let images = no_images(alloc, count)?;
+        let first_changes = vec![in alloc; None; count as usize]?;
+        Ok(Pool {
+            store,
+            frames,
+            last_writes,
+            rec_lsns,
+            images,
+            first_changes,
+        })
+    }
+}
+
+impl<S: PageStore> Pool<S> {
+    /// How many pages the volume has.
+    pub fn pages(&self) -> u32
+        ensures states { result ≡ length self.now.states }
+        ensures stored { result ≡ length (S.stored self.now.store) }
+        ensures numbered { AreNumbered (S.stored self.now.store) }
+    {
+        self.frames.len() as u32
+    }
+
+    /// The page as it is now, with each change so far.
+    pub fn current(&self, number: PageNo) -> &Page
+        requires { number < length self.now.states }
+
+        ensures resident { Contains self.now.resident result.now }
+        ensures numbered { result.now.number ≡ number }
+        ensures image { (log : Log) → IsPoolOf S.stored log self.now
+            → result.now ≡ image log.records number }
+    {
+        &self.frames[number.0 as usize]
+    }
+
+    /// The page as the store has it.
+    ///
+    /// An `Err` comes where the store fails, and of nothing else. Each stored page stays even then.
+    pub fn stored(&mut self, number: PageNo) -> Result<Page, StoreFault>
+        requires { number < length self.old.states }
+
+        ensures found { IfOk result
+            (λ page. slice_get (S.stored self.old.store) number ≡ Some page) }
+        ensures numbered { IfOk result (λ page. page.number ≡ number) }
+        ensures same { S.stored self.new.store ≡ S.stored self.old.store }
+        ensures rest { self.new ≡ record self.old { store = self.new.store } }
+        ensures kept { (log : Log) → IsPoolOf S.stored log self.old
+            → IsPoolOf S.stored log self.new }
+
+        ensures no_failure { OnOk result
+            (S.failures self.new.store ≡ S.failures self.old.store) }
+        ensures failure { OnErr result (S.failures self.old.store < S.failures self.new.store) }
+    {
+        self.store.read(number)
+    }
+
+    /// Makes the change of the log's next record, if it makes one, on its page, which is dirty
+    /// then. It takes no memory and does not call the store.
+    pub fn change(&mut self, next: &Record)
+        requires { (log : Log) × (IsPoolOf S.stored log self.old
+            × IsLog (with_next log (next.now ∷ []))) }
+
+        ensures kept { (log : Log) → IsPoolOf S.stored log self.old
+            → IsLog (with_next log (next.now ∷ []))
+            → IsPoolOf S.stored (with_next log (next.now ∷ [])) self.new }
+        ensures store { self.new.store ≡ self.old.store }
+        ensures numbers { map (λ page. page.number) self.new.resident
+            ≡ map (λ page. page.number) self.old.resident }
+        ensures written { written_of self.new.states ≡ written_of self.old.states }
+        ensures writing { writing_of self.new.states ≡ writing_of self.old.states }
+    {
+        if let Some(change) = next.change() {
+            let index = change.page.0 as usize;
+            next.redo_on(&mut self.frames[index]);
+            note_first(&mut self.rec_lsns[index], next.lsn());
+            if self.images[index].is_some() {
+                note_first(&mut self.first_changes[index], next.lsn());
+            }
+        }
+    }
+
+    /// The RecLSN of a page, if it is dirty: the LSN of the first change that its stored page may
+    /// lack.
+    pub fn rec_lsn(&self, number: PageNo) -> Option<Lsn>
+        requires { number < length self.now.states }
+        ensures { result ≡ (state_at self.now number).rec_lsn }
+    {
+        self.rec_lsns[number.0 as usize]
+    }
+
+    /// Whether a write of a page is in progress.
+    pub fn is_writing(&self, number: PageNo) -> bool
+        requires { number < length self.now.states }
+        ensures { result ≡ is_some (state_at self.now number).writing }
+    {
+        self.images[number.0 as usize].is_some()
+    }
+
+    /// The image of a page for a write of it: the page as it is now. It is all the memory that a
+    /// write takes. `AllocError` comes where it is refused.
+    pub fn image_of(&self, number: PageNo) -> Result<PageImage, AllocError>
+        requires { number < length self.now.states }
+
+        ensures resident { IfOk result (λ image. Contains self.now.resident image) }
+        ensures numbered { IfOk result (λ image. image.number ≡ number) }
+        ensures image { IfOk result (λ it. (log : Log) → IsPoolOf S.stored log self.now
+            → it ≡ image log.records number) }
+    {
+        PageImage::of(*self.frames.allocator(), &self.frames[number.0 as usize])
+    }
+
+    /// Begins a write of the page that this is the image of, and answers the image's LSN. The
+    /// image is kept until the write has ended. It takes no memory and does not call the store.
+    pub fn write_begin(&mut self, image: PageImage) -> Lsn
+        requires within { image.number < length self.old.states }
+        requires current { Contains self.old.resident image }
+        requires idle { IsNone (state_at self.old image.number).writing }
+
+        ensures lsn { result ≡ image.lsn }
+        ensures begun { self.new ≡ write_begun self.old image }
+        ensures kept { (log : Log) → IsPoolOf S.stored log self.old
+            → IsPoolOf S.stored log self.new }
+    {
+        let index = image.page().number.0 as usize;
+        let lsn = image.page().lsn;
+        self.images[index] = Some(image);
+        self.first_changes[index] = None;
+        lsn
+    }
+
+    /// Ends a write of a page: stores the image, and answers its LSN. The page stays dirty where it
+    /// was changed since the image, and its RecLSN is the first such change. It takes no memory.
+    ///
+    /// An `Err` comes where the store fails, and of nothing else. The write is still in progress
+    /// then, and may be ended again; the stored page is the old one or the image, and the page is
+    /// as dirty as before.
+    pub fn write_end(&mut self, number: PageNo) -> Result<Lsn, StoreFault>
+        requires within { number < length self.old.states }
+        requires begun { IsSome (state_at self.old number).writing }
+
+        ensures lsn { IfOk result (λ lsn. IfSome (state_at self.old number).writing
+            (λ q. lsn ≡ q.lsn)) }
+        ensures stored { OnOk result (IfSome (state_at self.old number).writing
+            (λ q. S.stored self.new.store ≡ slice_set (S.stored self.old.store) number q)) }
+        ensures ended { OnOk result (IfSome (state_at self.old number).writing
+            (λ q. self.new ≡ record self.old {
+              store = self.new.store;
+              states = slice_set self.old.states number (write_ended (state_at self.old number) q);
+            })) }
+
+        ensures either { OnErr result (IfSome (state_at self.old number).writing
+            (λ q. StoresOrKeeps (S.stored self.old.store) number q (S.stored self.new.store))) }
+        ensures goes_on { OnErr result (self.new ≡ record self.old { store = self.new.store }) }
+
+        ensures kept { (log : Log) → IsPoolOf S.stored log self.old
+            → IsPoolOf S.stored log self.new }
+        ensures no_failure { OnOk result
+            (S.failures self.new.store ≡ S.failures self.old.store) }
+        ensures failure { OnErr result (S.failures self.old.store < S.failures self.new.store) }
+    {
+        let index = number.0 as usize;
+        let Some(image) = &self.images[index] else {
+            unreachable!();
+        };
+        let lsn = image.page().lsn;
+        self.store.write(number, image.page())?;
+        self.images[index] = None;
+        self.last_writes[index] = lsn;
+        self.rec_lsns[index] = self.first_changes[index];
+        self.first_changes[index] = None;
+        Ok(lsn)
+    }
+
+    /// The next dirty pages from a page number on, in order of their numbers: as many as there are,
+    /// and at most three. `None` comes where none is left.
+    pub fn dirty_from(&self, cursor: PageNo) -> Option<DirtyPages>
+        ensures { (log : Log) → IsPoolOf S.stored log self.now
+            → let next = next_dirty (dirty log.records (written_of self.now.states)) cursor in
+            MatchOption result (next ≡ []) (λ some. entries_of some ≡ next) }
+    {
+        let first = next_of(&self.rec_lsns, cursor.0)?;
+        let Some(second) = next_of(&self.rec_lsns, first.page + 1) else {
+            return Some(DirtyPages::One(first));
+        };
+        let Some(third) = next_of(&self.rec_lsns, second.page + 1) else {
+            return Some(DirtyPages::Two(first, second));
+        };
+        Some(DirtyPages::Three(first, second, third))
+    }
+}
+
+/// No image of so many pages.
+fn no_images(alloc: Global, count: u32) -> Result<Vec<Option<PageImage>>, AllocError>
+    ensures { IfOk result (λ images. images.items ≡ replicate count None) }
+{
+    let mut images = Vec::with_capacity(alloc, count as usize)?;
+    for _ in 0..count {
+        images.push(None)?;
+    }
+    Ok(images)
+}
+
+/// Notes the LSN of a change, if none was noted before.
+fn note_first(first: &mut Option<Lsn>, lsn: Lsn)
+    ensures { first.new ≡ Some (unwrap_or first.old lsn) }
+{
+    if first.is_none() {
+        *first = Some(lsn);
+    }
+}
+
+/// The first dirty page from a number on.
+fn next_of(rec_lsns: &[Option<Lsn>], from: u32) -> Option<DirtyPage>
+    ensures { MatchOption result (AreClean rec_lsns.now from (length rec_lsns.now))
+        (IsFirstDirty rec_lsns.now from) }
+{
+    for page in from..rec_lsns.len() as u32 {
+        if let Some(rec_lsn) = rec_lsns[page as usize] {
+            return Some(DirtyPage {
+                page,
+                rec_lsn: rec_lsn.0,
+            });
+        }
+    }
+    None
+}
