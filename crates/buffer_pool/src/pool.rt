@@ -18,7 +18,7 @@ ghost use Rattle.buffer_pool.specs.Pool.{writing_of, written_of};
 
 use crate::page_image::PageImage;
 use coverage::{DirtyPage, DirtyPages};
-use log_store::Record;
+use log_store::{Record, redo_on_its_page};
 use page_core::{Lsn, Page, PageNo, formatted_pages};
 use page_store::{PageStore, StoreFault};
 use std::alloc::{AllocError, Global};
@@ -144,9 +144,9 @@ impl<S: PageStore> Pool<S> {
         ensures written { written_of self.new.states ≡ written_of self.old.states }
         ensures writing { writing_of self.new.states ≡ writing_of self.old.states }
     {
+        redo_on_its_page(&mut self.frames, next);
         if let Some(change) = next.change() {
             let index = change.page.0 as usize;
-            next.redo_on(&mut self.frames[index]);
             note_first(&mut self.rec_lsns[index], next.lsn());
             if self.images[index].is_some() {
                 note_first(&mut self.first_changes[index], next.lsn());
