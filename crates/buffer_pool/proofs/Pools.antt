@@ -1,0 +1,206 @@
+-- A pool of a log, while the log grows and writes go on.
+use Rattle.std.proofs.Common.{◌≡◌, ◌≢◌, ℕ, zero, suc, ◌+◌, ◌<◌, ◌≤◌, List, [], ◌∷◌, ◌++◌, length, get_or, set, map}
+use Rattle.std.proofs.Common.{refl, sym, ap, subst, ◌∙◌, arith, inl, inr, replicate}
+use Rattle.std.specs.Prelude.{Option, Some, None, IfSome}
+use Rattle.std.specs.List.{All}
+use Rattle.std.proofs.lemmas.Bool.{cases_eq}
+use Rattle.std.proofs.lemmas.List.{get_or-map, get_or-replicate, get_or-set_other, get_or-set_same, length-map}
+use Rattle.std.proofs.lemmas.List.{length-replicate, length-set, map-set, set-get_or}
+use Rattle.std.proofs.lemmas.List.Elements.{All-map, All-weaker}
+use Rattle.std.proofs.lemmas.List.FromFn.{get_or-map-range_with_len, length-map-range_with_len}
+use Rattle.page_core.specs.declared.page.Page.{Page}
+use Rattle.page_core.specs.Page.{formatted}
+use Rattle.page_core.specs.Volume.{formatted_pages}
+use Rattle.log_store.specs.declared.record.Record.{Record}
+use Rattle.log_store.specs.Image.{image, with_record}
+use Rattle.log_store.specs.Log.{IsLog, IsPageCount, Log, lsn_of}
+use Rattle.log_store.specs.Scan.{with_next}
+use Rattle.log_store.proofs.Images.{image_from-append, number-image, number-with_record}
+use Rattle.page_store.specs.Store.{StoresOrKeeps}
+use Rattle.coverage.specs.Coverage.{AreStored, IsPast, IsStored, IsWriting}
+use Rattle.coverage.proofs.Stored.{past_is_older, past_now, stored_begun, stored_ended, stored_failed, stored_later}
+use Rattle.buffer_pool.specs.Pool.{IsPoolOf, IsStateOf, PageState, PoolView, new_pool, state_at, unwritten, write_begun}
+use Rattle.buffer_pool.specs.Pool.{write_ended, writing_of, written_of}
+use Rattle.buffer_pool.proofs.States.{state_begun, state_ended, state_new}
+
+-- what holds of a state that is replaced, and of the others, holds of all
+pub states_set : (P : ℕ → PageState → Type 0) (states : List PageState) (n : ℕ) (s : PageState) → P n s
+    → ((p : ℕ) (d : PageState) → p < length states → p ≢ n → P p (get_or states p d)) → n < length states
+    → (p : ℕ) (d : PageState) → p < length (set states n s) → P p (get_or (set states n s) p d)
+states_set P states n s here others there p d lt =
+    let below : p < length states = omega (arith, length-set states n s) in
+    elim (cases_eq p n) [
+      | inl same ↦
+          let at : get_or (set states n s) p d ≡ s =
+          ap (λ (k : ℕ). get_or (set states n s) k d) same ∙ get_or-set_same states n s d there in
+          rw at (subst (λ (k : ℕ). P k s) (sym same) here)
+      | inr other ↦ rw (get_or-set_other states n p s d other) (others p d below other)
+    ]
+
+-- a column that a new state leaves
+column_same : {X : Type 0} (part : PageState → X) (states : List PageState) (n : ℕ) (s : PageState)
+    → n < length states → part s ≡ part (get_or states n unwritten)
+    → map part (set states n s) ≡ map part states
+column_same part states n s there same =
+    map-set part states n s
+    ∙ ap (set (map part states) n) (same ∙ sym (get_or-map part states n unwritten (part s) there))
+    ∙ set-get_or (map part states) n (part s)
+
+at_column : (states : List PageState) (n : ℕ) → n < length states
+    → get_or (writing_of states) n None ≡ (get_or states n unwritten).writing
+at_column states n there = get_or-map (λ (s : PageState). s.writing) states n unwritten None there
+
+-- ---- the pages as they are now
+
+pub images_later : (rs : List Record) (next : Record) (pages : List Page)
+    → All (λ page. page ≡ image rs page.number) pages
+    → All (λ page. page ≡ image (rs ++ next ∷ []) page.number) (map (λ page. with_record page next) pages)
+images_later rs next pages now =
+    All-map (λ page. page ≡ image (rs ++ next ∷ []) page.number) (λ page. with_record page next) pages
+    (All-weaker (λ page. page ≡ image rs page.number)
+    (λ page. with_record page next ≡ image (rs ++ next ∷ []) (with_record page next).number)
+    (λ page is.
+    ap (λ (q : Page). with_record q next) is
+    ∙ sym (image_from-append (formatted page.number) rs (next ∷ []))
+    ∙ ap (image (rs ++ next ∷ [])) (sym (number-with_record page next)))
+    pages now)
+
+-- ---- the store alone is another, with the same pages
+
+pub pool_kept : {S : Type 0} (stored_in : S → List Page) (log : Log) (pool : PoolView S) (store : S)
+    → stored_in store ≡ stored_in pool.store → IsPoolOf stored_in log pool
+    → IsPoolOf stored_in log (record pool { store = store })
+pool_kept stored_in log pool store same is = record {
+  valid = is.valid;
+  pages = is.pages;
+  resident = is.resident;
+  states = is.states;
+  stored =
+      subst (λ (pages : List Page). AreStored log.records pages (written_of pool.states) (writing_of pool.states))
+      (sym same) is.stored;
+}
+
+-- ---- a write begins
+
+pub pool_begun : {S : Type 0} (stored_in : S → List Page) (log : Log) (pool : PoolView S) (q : Page)
+    → q.number < length pool.states → q ≡ image log.records q.number → length (stored_in pool.store) ≡ length pool.states
+    → IsPoolOf stored_in log pool → IsPoolOf stored_in log (write_begun pool q)
+pool_begun stored_in log pool q there now count is =
+    let n = q.number in
+    let states = pool.states in
+    let old = state_at pool n in
+    let new : PageState = record old { writing = Some q; since = None } in
+    let past : IsPast log.records n q = subst (IsPast log.records n) (sym now) (past_now log.records n) in
+    let long : n < length (writing_of states) = omega (arith, length-map states (λ (s : PageState). s.writing)) in
+    let stored : n < length (stored_in pool.store) = omega arith in
+    let begun = stored_begun log.records (stored_in pool.store) (written_of states) (writing_of states) n q is.stored
+    long (λ d. record {
+      past = past;
+      newer = subst (λ (x : Page). (get_or (stored_in pool.store) n d).lsn ≤ x.lsn) (sym now)
+          (past_is_older log n (get_or (stored_in pool.store) n d) is.valid (is.stored.pages n d stored).past);
+    }) in
+    record {
+      valid = is.valid;
+      pages = is.pages ∙ sym (length-set states n new);
+      resident = is.resident;
+      states = states_set (IsStateOf log) states n new
+          (state_begun log n old q is.valid now (is.states n unwritten there))
+          (λ p d lt other. is.states p d lt) there;
+      stored = rw (column_same (λ (s : PageState). s.written) states n new there refl, map-set (λ (s : PageState). s.writing) states n new) begun;
+    }
+
+-- ---- a write ends
+
+pub pool_ended : {S : Type 0} (stored_in : S → List Page) (log : Log) (pool : PoolView S) (store : S) (n : ℕ) (q : Page)
+    → n < length pool.states → (state_at pool n).writing ≡ Some q
+    → length (stored_in pool.store) ≡ length pool.states → stored_in store ≡ set (stored_in pool.store) n q
+    → IsPoolOf stored_in log pool
+    → IsPoolOf stored_in log
+      (record pool { store = store; states = set pool.states n (write_ended (state_at pool n) q) })
+pool_ended stored_in log pool store n q there here count stores is =
+    let states = pool.states in
+    let old = state_at pool n in
+    let new : PageState = write_ended old q in
+    let long : n < length (writing_of states) = omega (arith, length-map states (λ (s : PageState). s.writing)) in
+    let known : n < length (written_of states) = omega (arith, length-map states (λ (s : PageState). s.written)) in
+    let stored : n < length (stored_in pool.store) = omega arith in
+    let ended = stored_ended log.records (stored_in pool.store) (written_of states) (writing_of states) n q is.stored
+    stored known long (at_column states n there ∙ here) in
+    record {
+      valid = is.valid;
+      pages = is.pages ∙ sym (length-set states n new);
+      resident = is.resident;
+      states = states_set (IsStateOf log) states n new (state_ended log n old q here (is.states n unwritten there))
+          (λ p d lt other. is.states p d lt) there;
+      stored = rw (stores, map-set (λ (s : PageState). s.written) states n new, map-set (λ (s : PageState). s.writing) states n new) ended;
+    }
+
+-- ---- a write fails
+
+pub pool_failed : {S : Type 0} (stored_in : S → List Page) (log : Log) (pool : PoolView S) (store : S) (n : ℕ)
+    (q : Page) → n < length pool.states → (state_at pool n).writing ≡ Some q
+    → length (stored_in pool.store) ≡ length pool.states
+    → StoresOrKeeps (stored_in pool.store) n q (stored_in store) → IsPoolOf stored_in log pool
+    → IsPoolOf stored_in log (record pool { store = store })
+pool_failed stored_in log pool store n q there here count either is = elim either [
+  | inl stores ↦
+      let states = pool.states in
+      let stored : n < length (stored_in pool.store) = omega arith in
+      let failed = stored_failed log.records (stored_in pool.store) (written_of states) (writing_of states) n q
+      is.stored stored (at_column states n there ∙ here) in
+      record {
+        valid = is.valid;
+        pages = is.pages;
+        resident = is.resident;
+        states = is.states;
+        stored = rw stores failed;
+      }
+  | inr keeps ↦ pool_kept stored_in log pool store keeps is
+]
+
+-- ---- a new pool
+
+stored_new : (n : ℕ) → AreStored [] (formatted_pages n) (replicate n 0) (replicate n None)
+stored_new n = record {
+  pages = λ p d lt.
+      let below : p < n = omega (arith, length-map-range_with_len formatted 0 n) in
+      let here : get_or (formatted_pages n) p d ≡ formatted p =
+      get_or-map-range_with_len formatted 0 n p p d below (omega arith) in
+      let zeros : List ℕ = replicate n 0 in
+      let none : get_or zeros p 0 ≡ 0 = get_or-replicate n p 0 0 below in
+      rw (here, none)
+      (record { past = record { count = 0; within = omega arith; made = refl }; reached = omega arith });
+  images = λ p d lt.
+      let below : p < n = omega (arith, length-map-range_with_len formatted 0 n) in
+      let images : List (Option Page) = replicate n None in
+      let none : get_or images p None ≡ None = get_or-replicate n p None None below in
+      rw none tt;
+}
+
+map-replicate : {X Y : Type 0} (f : X → Y) (n : ℕ) (x : X) → map f (replicate n x) ≡ replicate n (f x)
+map-replicate {Y = Y} f zero x = refl
+map-replicate {Y = Y} f (suc n) x = ap (λ (ys : List Y). f x ∷ ys) (map-replicate f n x)
+
+formatted_now : (n : ℕ) → All (λ page. page ≡ image [] page.number) (formatted_pages n)
+formatted_now n = λ p d lt.
+    let below : p < n = omega (arith, length-map-range_with_len formatted 0 n) in
+    let here : get_or (formatted_pages n) p d ≡ formatted p =
+    get_or-map-range_with_len formatted 0 n p p d below (omega arith) in
+    rw here (ap formatted (sym (number-image [] p)))
+
+pub pool_new : {S : Type 0} (stored_in : S → List Page) (store : S) (n : ℕ) → IsPageCount n
+    → stored_in store ≡ formatted_pages n
+    → IsPoolOf stored_in (record { pages = n; records = [] }) (new_pool store n)
+pool_new stored_in store n count holds = record {
+  valid = record {
+    pages = count;
+    count = omega arith;
+    records = λ i d lt. absurd (omega arith);
+  };
+  pages = sym (length-replicate n unwritten);
+  resident = formatted_now n;
+  states = λ p d lt.
+      let below : p < n = omega (arith, length-replicate n unwritten) in
+      rw (get_or-replicate n p unwritten d below) (state_new n p);
+  stored = rw (holds, map-replicate (λ (s : PageState). s.written) n unwritten, map-replicate (λ (s : PageState). s.writing) n unwritten) (stored_new n);
+}
