@@ -19,8 +19,8 @@ use Rattle.log_store.proofs.Images.{image_from-append, number-image, number-with
 use Rattle.page_store.specs.Store.{StoresOrKeeps}
 use Rattle.coverage.specs.Coverage.{AreStored, IsPast, IsStored, IsWriting}
 use Rattle.coverage.proofs.Stored.{past_is_older, past_now, stored_begun, stored_ended, stored_failed, stored_later}
-use Rattle.buffer_pool.specs.Pool.{IsPoolOf, IsStateOf, PageState, PoolView, new_pool, state_at, unwritten, write_begun}
-use Rattle.buffer_pool.specs.Pool.{write_ended, writing_of, written_of}
+use Rattle.buffer_pool.specs.Pool.{IsPoolOf, IsStateOf, PageState, PoolView, new_pool, state_at, unwritten, with_state}
+use Rattle.buffer_pool.specs.Pool.{write_begun, write_ended, writing_of, written_of}
 use Rattle.buffer_pool.proofs.States.{state_begun, state_ended, state_new}
 
 -- what holds of a state that is replaced, and of the others, holds of all
@@ -84,12 +84,12 @@ pool_kept stored_in log pool store same is = record {
 
 pub pool_begun : {S : Type 0} (stored_in : S → List Page) (log : Log) (pool : PoolView S) (q : Page)
     → q.number < length pool.states → q ≡ image log.records q.number → length (stored_in pool.store) ≡ length pool.states
-    → IsPoolOf stored_in log pool → IsPoolOf stored_in log (write_begun pool q)
+    → IsPoolOf stored_in log pool → IsPoolOf stored_in log (with_state pool q.number (write_begun (state_at pool q.number) q))
 pool_begun stored_in log pool q there now count is =
     let n = q.number in
     let states = pool.states in
     let old = state_at pool n in
-    let new : PageState = record old { writing = Some q; since = None } in
+    let new : PageState = write_begun old q in
     let past : IsPast log.records n q = subst (IsPast log.records n) (sym now) (past_now log.records n) in
     let long : n < length (writing_of states) = omega (arith, length-map states (λ (s : PageState). s.writing)) in
     let stored : n < length (stored_in pool.store) = omega arith in
@@ -116,11 +116,11 @@ pub pool_ended : {S : Type 0} (stored_in : S → List Page) (log : Log) (pool : 
     → length (stored_in pool.store) ≡ length pool.states → stored_in store ≡ set (stored_in pool.store) n q
     → IsPoolOf stored_in log pool
     → IsPoolOf stored_in log
-      (record pool { store = store; states = set pool.states n (write_ended (state_at pool n) q) })
+    (record (with_state pool n (write_ended (state_at pool n) q.lsn)) { store = store })
 pool_ended stored_in log pool store n q there here count stores is =
     let states = pool.states in
     let old = state_at pool n in
-    let new : PageState = write_ended old q in
+    let new : PageState = write_ended old q.lsn in
     let long : n < length (writing_of states) = omega (arith, length-map states (λ (s : PageState). s.writing)) in
     let known : n < length (written_of states) = omega (arith, length-map states (λ (s : PageState). s.written)) in
     let stored : n < length (stored_in pool.store) = omega arith in

@@ -1,7 +1,7 @@
 -- The state of a page, while its log grows and writes of it go on.
 use Rattle.std.proofs.Common.{◌≡◌, ℕ, ◌+◌, ◌*◌, ◌<◌, ◌≤◌, Bool, true, false, cond, List, [], ◌∷◌, ◌++◌, length, take}
 use Rattle.std.proofs.Common.{refl, sym, ap, subst, ◌∙◌, arith}
-use Rattle.std.specs.Prelude.{Option, Some, None, IfSome, is_some, if◌then◌else◌}
+use Rattle.std.specs.Prelude.{Option, Some, None, IfSome, is_some}
 use Rattle.std.specs.Option.{option_and_then, unwrap_or}
 use Rattle.std.proofs.lemmas.List.{length_push, take_all}
 use Rattle.page_core.specs.declared.page.Page.{Page}
@@ -14,7 +14,7 @@ use Rattle.log_store.specs.Scan.{with_next}
 use Rattle.log_store.proofs.Images.{lsn-image}
 use Rattle.coverage.specs.Coverage.{changes, rec_lsn}
 use Rattle.coverage.proofs.Coverage.{image_is_clean, rec_later}
-use Rattle.buffer_pool.specs.Pool.{IsStateOf, PageState, unwritten, write_ended}
+use Rattle.buffer_pool.specs.Pool.{IsStateOf, PageState, changed, unwritten, write_begun, write_ended}
 
 -- an LSN below the log's end stays so
 below_later : (log : Log) (next : Record) (lsn : ℕ) → lsn < lsn_of (length log.records)
@@ -54,13 +54,6 @@ state_same log next p s valid own other is = record {
 
 -- ---- a record more that changes the page
 
--- the state of the page after a change at this LSN: it is dirty, and a write in progress has missed the change
-abbrev pub changed : ℕ → PageState → PageState
-changed lsn s = record s {
-  rec_lsn = Some (unwrap_or s.rec_lsn lsn);
-  since = if is_some s.writing then Some (unwrap_or s.since lsn) else s.since;
-}
-
 rec_noted : (log : Log) (next : Record) (p lsn : ℕ) → IsLog log → own_lsn next ≡ lsn_of (length log.records)
     → changes p next ≡ true → lsn < lsn_of (length log.records)
     → Some (unwrap_or (rec_lsn log.records p lsn) (own_lsn next)) ≡ rec_lsn (log.records ++ next ∷ []) p lsn
@@ -71,7 +64,7 @@ rec_noted log next p lsn valid own here low =
 
 pub state_changed : (log : Log) (next : Record) (p : ℕ) (s : PageState) → IsLog log
     → own_lsn next ≡ lsn_of (length log.records) → changes p next ≡ true → IsStateOf log p s
-    → IsStateOf (with_next log (next ∷ [])) p (changed (own_lsn next) s)
+    → IsStateOf (with_next log (next ∷ [])) p (changed s (own_lsn next))
 state_changed log next p s valid own here is = record {
   written = below_later log next s.written is.written;
   image = image_later log next s.writing is.image;
@@ -101,9 +94,9 @@ image_below log p valid =
     omega arith
 
 pub state_begun : (log : Log) (p : ℕ) (s : PageState) (q : Page) → IsLog log → q ≡ image log.records p
-    → IsStateOf log p s → IsStateOf log p (record s { writing = Some q; since = None })
+    → IsStateOf log p s → IsStateOf log p (write_begun s q)
 state_begun log p s q valid now is =
-    subst (λ (x : Page). IsStateOf log p (record s { writing = Some x; since = None })) (sym now)
+    subst (λ (x : Page). IsStateOf log p (write_begun s x)) (sym now)
     (record {
       written = is.written;
       image = image_below log p valid;
@@ -112,7 +105,7 @@ state_begun log p s q valid now is =
     })
 
 pub state_ended : (log : Log) (p : ℕ) (s : PageState) (q : Page) → s.writing ≡ Some q → IsStateOf log p s
-    → IsStateOf log p (write_ended s q)
+    → IsStateOf log p (write_ended s q.lsn)
 state_ended log p s q here is = record {
   written =
       subst (λ (o : Option Page). IfSome o (λ x. x.lsn < lsn_of (length log.records))) here is.image;

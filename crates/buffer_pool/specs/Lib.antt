@@ -1,2 +1,2 @@
-pub mod Frames
+pub mod PageStates
 pub mod Pool

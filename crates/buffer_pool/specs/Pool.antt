@@ -1,10 +1,11 @@
 -- A pool of pages that are changed as their log grows, and written to a store meanwhile.
-use Rattle.std.specs.Prelude.{ℕ, ◌≡◌, ◌<◌, List, [], length, map, replicate, Option, None, Some, IfSome}
-use Rattle.std.specs.Prelude.{slice_index_or, slice_set}
+use Rattle.std.specs.Prelude.{ℕ, ◌≡◌, ◌<◌, ◌≤◌, List, [], length, map, replicate, slice_index_or}
+use Rattle.std.specs.Prelude.{slice_set, Option, None, Some, IfSome, is_some, if◌then◌else◌}
 use Rattle.std.specs.List.{All}
-use Rattle.std.specs.Option.{option_and_then}
+use Rattle.std.specs.Option.{option_and_then, unwrap_or}
 use Rattle.page_core.specs.declared.page.Page.{Page}
-use Rattle.page_core.specs.Volume.{formatted_pages}
+use Rattle.page_core.specs.declared.page.TheConstants.{MAX_PAGES}
+use Rattle.page_core.specs.Volume.{AreNumbered, formatted_pages}
 use Rattle.log_store.specs.Image.{image}
 use Rattle.log_store.specs.Log.{IsLog, Log, lsn_of}
 use Rattle.coverage.specs.Coverage.{AreStored, rec_lsn}
@@ -30,8 +31,12 @@ pub record PoolView (S : Type 0) : Type 0 where
 abbrev pub unwritten : PageState
 unwritten = record { written = 0; rec_lsn = None; writing = None; since = None }
 
+-- the state of the page of this number
+abbrev pub state_in : List PageState → ℕ → PageState
+state_in states number = slice_index_or states number unwritten
+
 abbrev pub state_at : {S : Type 0} → PoolView S → ℕ → PageState
-state_at pool number = slice_index_or pool.states number unwritten
+state_at pool number = state_in pool.states number
 
 -- the LSN of each page's last write
 abbrev pub written_of : List PageState → List ℕ
@@ -63,6 +68,29 @@ pub record IsPoolOf {S : Type 0} (stored_in : S → List Page) (log : Log)
 
 -- ---- what changes
 
+-- the page has changed by the record at this LSN: it is dirty, and a write in progress lacks it
+abbrev pub changed : PageState → ℕ → PageState
+changed state lsn = record state {
+  rec_lsn = Some (unwrap_or state.rec_lsn lsn);
+  since = if is_some state.writing then Some (unwrap_or state.since lsn) else state.since;
+}
+
+-- a write of the page has begun: this is its image, and no change came since
+abbrev pub write_begun : PageState → Page → PageState
+write_begun state q = record state { writing = Some q; since = None }
+
+-- a write of the page has ended, whose image has this LSN: the page is as dirty as the changes since
+-- the image make it
+abbrev pub write_ended : PageState → ℕ → PageState
+write_ended state lsn = record {
+  written = lsn;
+  rec_lsn = state.since;
+  writing = None;
+  since = None;
+}
+
+-- ---- calls of a pool
+
 -- a new pool of so many pages: all are resident, as they are formatted
 abbrev pub new_pool : {S : Type 0} → S → ℕ → PoolView S
 new_pool store pages = record {
@@ -71,19 +99,16 @@ new_pool store pages = record {
   states = replicate pages unwritten;
 }
 
--- a write of a page has begun: this is its image, and no change came since
-abbrev pub write_begun : {S : Type 0} → PoolView S → Page → PoolView S
-write_begun pool q = record pool {
-  states = slice_set pool.states q.number
-      (record (state_at pool q.number) { writing = Some q; since = None });
-}
+-- the state of one page is another
+abbrev pub with_state : {S : Type 0} → PoolView S → ℕ → PageState → PoolView S
+with_state pool number state = record pool { states = slice_set pool.states number state }
 
--- a write of a page has ended, and this image is stored: the page is as dirty as the changes since
--- make it
-abbrev pub write_ended : PageState → Page → PageState
-write_ended state q = record {
-  written = q.lsn;
-  rec_lsn = state.since;
-  writing = None;
-  since = None;
-}
+-- ---- the invariant
+
+-- each page is stored and has a frame and a state, and they stand in order of their numbers
+pub record IsWhole (stored frames : List Page) (states : List PageState) : Type 0 where
+  pub few : length states ≤ MAX_PAGES
+  pub stored_count : length stored ≡ length states
+  pub stored_numbers : AreNumbered stored
+  pub frame_count : length frames ≡ length states
+  pub frame_numbers : AreNumbered frames

@@ -2,6 +2,7 @@
 #![tactic(auto)]
 
 mod page_image;
+mod page_states;
 mod pool;
 
 pub use page_image::PageImage;

@@ -4,7 +4,6 @@ ghost use Rattle.std.specs.Prelude.{ℕ, ◌≡◌, ◌<◌, List, [], ◌∷◌
 ghost use Rattle.std.specs.Prelude.{None, Some, IfSome, IsNone, IsSome, MatchOption, is_some};
 ghost use Rattle.std.specs.Prelude.{slice_get, slice_set, IfOk, OnOk, OnErr};
 ghost use Rattle.std.specs.List.{Contains};
-ghost use Rattle.std.specs.Option.{unwrap_or};
 ghost use Rattle.page_core.specs.declared.page.Page.{Page};
 ghost use Rattle.page_core.specs.Volume.{AreNumbered, formatted_pages};
 ghost use Rattle.log_store.specs.Image.{image};
@@ -12,12 +11,12 @@ ghost use Rattle.log_store.specs.Log.{IsLog, IsPageCount, Log};
 ghost use Rattle.log_store.specs.Scan.{with_next};
 ghost use Rattle.coverage.specs.Coverage.{dirty, entries_of, next_dirty};
 ghost use Rattle.page_store.specs.Store.{StoresOrKeeps};
-ghost use Rattle.buffer_pool.specs.Frames.{AreClean, IsFirstDirty};
-ghost use Rattle.buffer_pool.specs.Pool.{IsPoolOf, new_pool, state_at, write_begun, write_ended};
-ghost use Rattle.buffer_pool.specs.Pool.{writing_of, written_of};
+ghost use Rattle.buffer_pool.specs.Pool.{IsPoolOf, new_pool, state_at, with_state, write_begun};
+ghost use Rattle.buffer_pool.specs.Pool.{write_ended, writing_of, written_of};
 
 use crate::page_image::PageImage;
-use coverage::{DirtyPage, DirtyPages};
+use crate::page_states::PageStates;
+use coverage::DirtyPages;
 use log_store::{Record, redo_on_its_page};
 use page_core::{Lsn, Page, PageNo, formatted_pages};
 use page_store::{PageStore, StoreFault};
@@ -31,31 +30,21 @@ pub struct Pool<S: PageStore> {
     store: S,
     /// The pages as they are now, in order of their numbers.
     frames: Vec<Page>,
-    /// Of each page the LSN of its last write.
-    last_writes: Vec<Lsn>,
-    /// Of each page its RecLSN, if it is dirty.
-    rec_lsns: Vec<Option<Lsn>>,
-    /// Of each page the image that is being written.
-    images: Vec<Option<PageImage>>,
-    /// Of each page the first change since that image.
-    first_changes: Vec<Option<Lsn>>,
+    states: PageStates,
 }
 
 impl<S: PageStore> Model for Pool<S> {
-    ghost use Rattle.buffer_pool.specs.Pool.{PoolView};
-    ghost use Rattle.buffer_pool.specs.Frames.{AreFrames, states_of};
+    ghost use Rattle.buffer_pool.specs.Pool.{IsWhole, PoolView};
 
     ghost Value = { PoolView S };
 
     ghost view = { λ it. record {
       store = it.store;
       resident = it.frames.items;
-      states = states_of it.last_writes.items it.rec_lsns.items it.images.items
-          it.first_changes.items;
+      states = it.states;
     } };
 
-    ghost invariant = { λ it. AreFrames (S.stored it.store) it.frames.items it.last_writes.items
-        it.rec_lsns.items it.images.items it.first_changes.items };
+    ghost invariant = { λ it. IsWhole (S.stored it.store) it.frames.items it.states };
 }
 
 impl<S: PageStore + Drop> Pool<S> {
@@ -71,17 +60,11 @@ impl<S: PageStore + Drop> Pool<S> {
     {
         let count = store.pages();
         let frames = formatted_pages(alloc, count)?;
-        let last_writes = vec![in alloc; Lsn(0); count as usize]?;
-        let rec_lsns = vec![in alloc; None; count as usize]?;
-        let images = no_images(alloc, count)?;
-        let first_changes = vec![in alloc; None; count as usize]?;
+        let states = PageStates::new(alloc, count)?;
         Ok(Pool {
             store,
             frames,
-            last_writes,
-            rec_lsns,
-            images,
-            first_changes,
+            states,
         })
     }
 }
@@ -146,11 +129,7 @@ impl<S: PageStore> Pool<S> {
     {
         redo_on_its_page(&mut self.frames, next);
         if let Some(change) = next.change() {
-            let index = change.page.0 as usize;
-            note_first(&mut self.rec_lsns[index], next.lsn());
-            if self.images[index].is_some() {
-                note_first(&mut self.first_changes[index], next.lsn());
-            }
+            self.states.change(change.page, next.lsn());
         }
     }
 
@@ -160,7 +139,7 @@ impl<S: PageStore> Pool<S> {
         requires { number < length self.now.states }
         ensures { result ≡ (state_at self.now number).rec_lsn }
     {
-        self.rec_lsns[number.0 as usize]
+        self.states.rec_lsn(number)
     }
 
     /// Whether a write of a page is in progress.
@@ -168,7 +147,7 @@ impl<S: PageStore> Pool<S> {
         requires { number < length self.now.states }
         ensures { result ≡ is_some (state_at self.now number).writing }
     {
-        self.images[number.0 as usize].is_some()
+        self.states.image(number).is_some()
     }
 
     /// The image of a page for a write of it: the page as it is now. It is all the memory that a
@@ -192,14 +171,13 @@ impl<S: PageStore> Pool<S> {
         requires idle { IsNone (state_at self.old image.number).writing }
 
         ensures lsn { result ≡ image.lsn }
-        ensures begun { self.new ≡ write_begun self.old image }
+        ensures begun { self.new ≡ with_state self.old image.number
+            (write_begun (state_at self.old image.number) image) }
         ensures kept { (log : Log) → IsPoolOf S.stored log self.old
             → IsPoolOf S.stored log self.new }
     {
-        let index = image.page().number.0 as usize;
         let lsn = image.page().lsn;
-        self.images[index] = Some(image);
-        self.first_changes[index] = None;
+        self.states.begin_write(image);
         lsn
     }
 
@@ -218,10 +196,8 @@ impl<S: PageStore> Pool<S> {
         ensures stored { OnOk result (IfSome (state_at self.old number).writing
             (λ q. S.stored self.new.store ≡ slice_set (S.stored self.old.store) number q)) }
         ensures ended { OnOk result (IfSome (state_at self.old number).writing
-            (λ q. self.new ≡ record self.old {
-              store = self.new.store;
-              states = slice_set self.old.states number (write_ended (state_at self.old number) q);
-            })) }
+            (λ q. self.new ≡ record (with_state self.old number
+            (write_ended (state_at self.old number) q.lsn)) { store = self.new.store })) }
 
         ensures either { OnErr result (IfSome (state_at self.old number).writing
             (λ q. StoresOrKeeps (S.stored self.old.store) number q (S.stored self.new.store))) }
@@ -233,16 +209,12 @@ impl<S: PageStore> Pool<S> {
             (S.failures self.new.store ≡ S.failures self.old.store) }
         ensures failure { OnErr result (S.failures self.old.store < S.failures self.new.store) }
     {
-        let index = number.0 as usize;
-        let Some(image) = &self.images[index] else {
+        let Some(image) = self.states.image(number) else {
             unreachable!();
         };
         let lsn = image.page().lsn;
         self.store.write(number, image.page())?;
-        self.images[index] = None;
-        self.last_writes[index] = lsn;
-        self.rec_lsns[index] = self.first_changes[index];
-        self.first_changes[index] = None;
+        self.states.end_write(number, lsn);
         Ok(lsn)
     }
 
@@ -253,49 +225,6 @@ impl<S: PageStore> Pool<S> {
             → let next = next_dirty (dirty log.records (written_of self.now.states)) cursor in
             MatchOption result (next ≡ []) (λ some. entries_of some ≡ next) }
     {
-        let first = next_of(&self.rec_lsns, cursor.0)?;
-        let Some(second) = next_of(&self.rec_lsns, first.page + 1) else {
-            return Some(DirtyPages::One(first));
-        };
-        let Some(third) = next_of(&self.rec_lsns, second.page + 1) else {
-            return Some(DirtyPages::Two(first, second));
-        };
-        Some(DirtyPages::Three(first, second, third))
+        self.states.dirty_from(cursor)
     }
-}
-
-/// No image of so many pages.
-fn no_images(alloc: Global, count: u32) -> Result<Vec<Option<PageImage>>, AllocError>
-    ensures { IfOk result (λ images. images.items ≡ replicate count None) }
-{
-    let mut images = Vec::with_capacity(alloc, count as usize)?;
-    for _ in 0..count {
-        images.push(None)?;
-    }
-    Ok(images)
-}
-
-/// Notes the LSN of a change, if none was noted before.
-fn note_first(first: &mut Option<Lsn>, lsn: Lsn)
-    ensures { first.new ≡ Some (unwrap_or first.old lsn) }
-{
-    if first.is_none() {
-        *first = Some(lsn);
-    }
-}
-
-/// The first dirty page from a number on.
-fn next_of(rec_lsns: &[Option<Lsn>], from: u32) -> Option<DirtyPage>
-    ensures { MatchOption result (AreClean rec_lsns.now from (length rec_lsns.now))
-        (IsFirstDirty rec_lsns.now from) }
-{
-    for page in from..rec_lsns.len() as u32 {
-        if let Some(rec_lsn) = rec_lsns[page as usize] {
-            return Some(DirtyPage {
-                page,
-                rec_lsn: rec_lsn.0,
-            });
-        }
-    }
-    None
 }
