@@ -1,3 +1,4 @@
 pub mod Columns
+pub mod Dirty
 pub mod Pools
 pub mod States

@@ -135,8 +135,9 @@ impl PageStates {
 
     /// The first dirty page from a number on.
     fn next_dirty(&self, from: u32) -> Option<DirtyPage>
-        ensures { MatchOption result (AreClean self.now from (length self.now))
+        ensures first { MatchOption result (AreClean self.now from (length self.now))
             (IsFirstDirty self.now from) }
+        ensures fits { IfSome result (λ e. e.page < u32.MAX) }
     {
         for page in from..self.count() {
             if let Some(rec_lsn) = self.rec_lsn(PageNo(page)) {
