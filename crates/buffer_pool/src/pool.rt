@@ -212,8 +212,9 @@ impl<S: PageStore> Pool<S> {
         let Some(image) = self.states.image(number) else {
             unreachable!();
         };
-        let lsn = image.page().lsn;
-        self.store.write(number, image.page())?;
+        let page = image.page();
+        let lsn = page.lsn;
+        self.store.write(number, page)?;
         self.states.end_write(number, lsn);
         Ok(lsn)
     }

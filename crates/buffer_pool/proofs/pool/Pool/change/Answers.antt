@@ -1,0 +1,1 @@
+use Rattle.buffer_pool.proofs.pool.Pool.change.Goals as goal
