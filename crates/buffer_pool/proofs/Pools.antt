@@ -1,27 +1,31 @@
 -- A pool of a log, while the log grows and writes go on.
 use Rattle.std.proofs.Common.{◌≡◌, ◌≢◌, ℕ, zero, suc, ◌+◌, ◌<◌, ◌≤◌, List, [], ◌∷◌, ◌++◌, length, get_or, set, map}
 use Rattle.std.proofs.Common.{refl, sym, ap, subst, ◌∙◌, arith, inl, inr, replicate}
-use Rattle.std.specs.Prelude.{Option, Some, None, IfSome}
+use Rattle.std.specs.Prelude.{Option, Some, None, IfSome, ◌==◌, Bool, false, Vec}
 use Rattle.std.specs.List.{All}
-use Rattle.std.proofs.lemmas.Bool.{cases_eq}
+use Rattle.std.specs.Option.{option_map_or}
+use Rattle.std.specs.Vec.{with_items}
+use Rattle.std.proofs.lemmas.Bool.{cases_eq, eq-eqb, ne_eqb}
 use Rattle.std.proofs.lemmas.List.{get_or-map, get_or-replicate, get_or-set_other, get_or-set_same, length-map}
-use Rattle.std.proofs.lemmas.List.{length-replicate, length-set, map-set, set-get_or}
+use Rattle.std.proofs.lemmas.List.{get_or_push, length-replicate, length-set, length_push, map-set, set-get_or, with_items_is}
 use Rattle.std.proofs.lemmas.List.Elements.{All-map, All-weaker}
 use Rattle.std.proofs.lemmas.List.FromFn.{get_or-map-range_with_len, length-map-range_with_len}
 use Rattle.page_core.specs.declared.page.Page.{Page}
 use Rattle.page_core.specs.Page.{formatted}
-use Rattle.page_core.specs.Volume.{formatted_pages}
+use Rattle.page_core.specs.Volume.{AreNumbered, formatted_pages}
 use Rattle.log_store.specs.declared.record.Record.{Record}
+use Rattle.log_store.specs.declared.page_change.PageChange.{PageChange}
 use Rattle.log_store.specs.Image.{image, with_record}
-use Rattle.log_store.specs.Log.{IsLog, IsPageCount, Log, lsn_of}
+use Rattle.log_store.specs.Log.{IsLog, IsPageCount, IsWithin, Log, lsn_of}
+use Rattle.log_store.specs.Record.{change_of, own_lsn}
 use Rattle.log_store.specs.Scan.{with_next}
 use Rattle.log_store.proofs.Images.{image_from-append, number-image, number-with_record}
 use Rattle.page_store.specs.Store.{StoresOrKeeps}
 use Rattle.coverage.specs.Coverage.{AreStored, IsPast, IsStored, IsWriting}
 use Rattle.coverage.proofs.Stored.{past_is_older, past_now, stored_begun, stored_ended, stored_failed, stored_later}
-use Rattle.buffer_pool.specs.Pool.{IsPoolOf, IsStateOf, PageState, PoolView, new_pool, state_at, unwritten, with_state}
+use Rattle.buffer_pool.specs.Pool.{IsPoolOf, IsStateOf, IsWhole, PageState, PoolView, changed, new_pool, state_at, state_in, unwritten, with_state}
 use Rattle.buffer_pool.specs.Pool.{write_begun, write_ended, writing_of, written_of}
-use Rattle.buffer_pool.proofs.States.{state_begun, state_ended, state_new}
+use Rattle.buffer_pool.proofs.States.{state_begun, state_changed, state_ended, state_new, state_same}
 
 -- what holds of a state that is replaced, and of the others, holds of all
 pub states_set : (P : ℕ → PageState → Type 0) (states : List PageState) (n : ℕ) (s : PageState) → P n s
@@ -64,6 +68,122 @@ images_later rs next pages now =
     ∙ sym (image_from-append (formatted page.number) rs (next ∷ []))
     ∙ ap (image (rs ++ next ∷ [])) (sym (number-with_record page next)))
     pages now)
+
+-- the record stands behind the log
+own_is : (log : Log) (next : Record) → IsLog (with_next log (next ∷ [])) → own_lsn next ≡ lsn_of (length log.records)
+own_is log next valid =
+    let rs = log.records in
+    let there : length rs < length (rs ++ next ∷ []) = omega (arith, length_push rs next) in
+    ap own_lsn (sym (get_or_push rs next next (length rs) refl)) ∙ (valid.records (length rs) next there).lsn
+
+-- and the pool has the page that it changes
+pub page_is_there : {S : Type 0} (stored_in : S → List Page) (log : Log) (next : Record) (pool : PoolView S)
+    (c : PageChange) → change_of next ≡ Some c → IsLog (with_next log (next ∷ [])) → IsPoolOf stored_in log pool
+    → c.page < length pool.states
+page_is_there stored_in log next pool c some valid is =
+    let rs = log.records in
+    let there : length rs < length (rs ++ next ∷ []) = omega (arith, length_push rs next) in
+    let within : IsWithin log.pages next =
+    subst (IsWithin log.pages) (get_or_push rs next next (length rs) refl) (valid.records (length rs) next there).within in
+    let below : c.page < log.pages = subst (λ (o : Option PageChange). IfSome o (λ x. x.page < log.pages)) some within in
+    omega (arith, is.pages)
+
+-- what a pool is after a record more, if each state is
+later : {S : Type 0} (stored_in : S → List Page) (log : Log) (next : Record) (pool : PoolView S) (states : List PageState)
+    → IsLog (with_next log (next ∷ [])) → IsPoolOf stored_in log pool → length states ≡ length pool.states
+    → written_of states ≡ written_of pool.states → writing_of states ≡ writing_of pool.states
+    → ((p : ℕ) (d : PageState) → p < length states → IsStateOf (with_next log (next ∷ [])) p (get_or states p d))
+    → IsPoolOf stored_in (with_next log (next ∷ []))
+      (record pool { resident = map (λ page. with_record page next) pool.resident; states = states })
+later stored_in log next pool states valid is count written writing each = record {
+  valid = valid;
+  pages = is.pages ∙ sym count;
+  resident = images_later log.records next pool.resident is.resident;
+  states = each;
+  stored = rw (written, writing) (stored_later log.records (next ∷ []) (stored_in pool.store) (written_of pool.states) (writing_of pool.states) is.stored);
+}
+
+-- a record that changes no page
+pub pool_same : {S : Type 0} (stored_in : S → List Page) (log : Log) (next : Record) (pool : PoolView S)
+    → change_of next ≡ None → IsLog (with_next log (next ∷ [])) → IsPoolOf stored_in log pool
+    → IsPoolOf stored_in (with_next log (next ∷ []))
+      (record pool { resident = map (λ page. with_record page next) pool.resident })
+pool_same stored_in log next pool none valid is =
+    later stored_in log next pool pool.states valid is refl refl refl (λ p d lt.
+    state_same log next p (get_or pool.states p d) is.valid (own_is log next valid)
+    (ap (λ (o : Option PageChange). option_map_or (λ c. c.page == p) o false) none)
+    (is.states p d lt))
+
+-- one that changes a page
+pub pool_changed : {S : Type 0} (stored_in : S → List Page) (log : Log) (next : Record) (pool : PoolView S)
+    (c : PageChange) → change_of next ≡ Some c → IsLog (with_next log (next ∷ [])) → IsPoolOf stored_in log pool
+    → IsPoolOf stored_in (with_next log (next ∷ [])) (record pool {
+      resident = map (λ page. with_record page next) pool.resident;
+      states = set pool.states c.page (changed (state_in pool.states c.page) (own_lsn next));
+    })
+pool_changed stored_in log next pool c some valid is =
+    let there = page_is_there stored_in log next pool c some valid is in
+    let states = pool.states in
+    let n = c.page in
+    let old = state_in states n in
+    let new : PageState = changed old (own_lsn next) in
+    let own = own_is log next valid in
+    later stored_in log next pool (set states n new) valid is (length-set states n new)
+    (column_same (λ (s : PageState). s.written) states n new there refl)
+    (column_same (λ (s : PageState). s.writing) states n new there refl)
+    (states_set (IsStateOf (with_next log (next ∷ []))) states n new
+    (state_changed log next n old is.valid own
+    (ap (λ (o : Option PageChange). option_map_or (λ x. x.page == n) o false) some ∙ eq-eqb n n refl)
+    (is.states n unwritten there))
+    (λ p d lt other.
+    state_same log next p (get_or states p d) is.valid own
+    (ap (λ (o : Option PageChange). option_map_or (λ x. x.page == p) o false) some
+    ∙ ne_eqb n p (λ same. other (sym same)))
+    (is.states p d lt)) there)
+
+-- the columns that a change leaves
+pub written_changed : (states : List PageState) (n lsn : ℕ) → n < length states
+    → written_of (set states n (changed (state_in states n) lsn)) ≡ written_of states
+written_changed states n lsn there =
+    column_same (λ (s : PageState). s.written) states n (changed (state_in states n) lsn) there refl
+
+pub writing_changed : (states : List PageState) (n lsn : ℕ) → n < length states
+    → writing_of (set states n (changed (state_in states n) lsn)) ≡ writing_of states
+writing_changed states n lsn there =
+    column_same (λ (s : PageState). s.writing) states n (changed (state_in states n) lsn) there refl
+
+-- the pages keep their numbers
+pub numbers_later : (pages : List Page) (next : Record)
+    → map (λ page. page.number) (map (λ page. with_record page next) pages) ≡ map (λ page. page.number) pages
+numbers_later [] next = refl
+numbers_later (page ∷ pages) next = rw (number-with_record page next, numbers_later pages next) refl
+
+-- the pages that the code has after it
+pub frames_later : {Z : Type 0} (frames : Vec Page Z) (now pages : List Page) (next : Record) → now ≡ frames.items
+    → pages ≡ map (λ page. with_record page next) now
+    → (with_items frames pages).items ≡ map (λ page. with_record page next) frames.items
+frames_later frames now pages next is e =
+    let step = λ (page : Page). with_record page next in
+    let same : pages ≡ map step frames.items = e ∙ ap (map step) is in
+    let count : length pages ≡ length frames.items = ap length same ∙ length-map frames.items step in
+    with_items_is frames pages (omega (arith, frames.ok.0)) ∙ same
+
+pub whole_later : (stored frames frames' : List Page) (states states' : List PageState) (next : Record)
+    → IsWhole stored frames states → frames' ≡ map (λ page. with_record page next) frames
+    → length states' ≡ length states → IsWhole stored frames' states'
+whole_later stored frames frames' states states' next is e count =
+    let step = λ (page : Page). with_record page next in
+    let long : length frames' ≡ length frames = ap length e ∙ length-map frames step in
+    record {
+      few = omega (arith, is.few);
+      stored_count = is.stored_count ∙ sym count;
+      stored_numbers = is.stored_numbers;
+      frame_count = long ∙ is.frame_count ∙ sym count;
+      frame_numbers = subst AreNumbered (sym e) (λ k d lt.
+          let below : k < length frames = omega (arith, length-map frames step) in
+          ap (λ (page : Page). page.number) (get_or-map step frames k d d below)
+          ∙ number-with_record (get_or frames k d) next ∙ is.frame_numbers k d below);
+    }
 
 -- ---- the store alone is another, with the same pages
 
