@@ -1,8 +1,7 @@
 -- The states of the pages, and the columns of the table that they are kept in.
-use Rattle.std.proofs.Common.{◌≡◌, ◌≢◌, ℕ, ◌+◌, ◌<◌, ◌≤◌, List, length, get_or, set, map, refl, sym, ap, subst, ◌∙◌, arith}
+use Rattle.std.proofs.Common.{◌≡◌, ℕ, ◌<◌, List, length, get_or, set, map, refl, sym, ap, ◌∙◌, arith}
 use Rattle.std.proofs.Common.{inl, inr, replicate}
 use Rattle.std.specs.Prelude.{Option, Some, None, is_some, if◌then◌else◌}
-use Rattle.std.specs.List.{range_with_len}
 use Rattle.std.specs.Option.{unwrap_or}
 use Rattle.std.proofs.lemmas.Bool.{cases_eq}
 use Rattle.std.proofs.lemmas.List.{get_or-map, get_or-set_other, get_or-set_same, get_or_read, get_or-replicate, length-map, length-replicate}
@@ -156,7 +155,7 @@ module _ (written : List ℕ) (rec_lsns : List (Option ℕ)) (images : List (Opt
   pub is_changed : (m lsn : ℕ) (x : Option ℕ) (firsts' : List (Option ℕ)) → m ≡ n
       → x ≡ Some (unwrap_or (get_or rec_lsns n None) lsn)
       → firsts' ≡ set firsts n (if is_some (get_or images n None) then Some (unwrap_or (get_or firsts n None) lsn)
-        else get_or firsts n None)
+      else get_or firsts n None)
       → states_of written (set rec_lsns m x) images firsts' ≡ set states n (changed (state_in states n) lsn)
   unfolding old
   is_changed m lsn x firsts' same first since =
@@ -200,7 +199,7 @@ is_new count written rec_lsns images firsts e_written e_rec_lsns e_images e_firs
     let known : p < length written = omega arith in
     get_or-states_of written rec_lsns images firsts p d known
     ∙ rw (e_written, e_rec_lsns, e_images, e_firsts)
-      (empty_row p below)
+    (empty_row p below)
     ∙ sym (get_or-replicate count p unwritten d below))
   where
     empty_row : (p : ℕ) → p < count

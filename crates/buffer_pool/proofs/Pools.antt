@@ -1,7 +1,7 @@
 -- A pool of a log, while the log grows and writes go on.
-use Rattle.std.proofs.Common.{◌≡◌, ◌≢◌, ℕ, zero, suc, ◌+◌, ◌<◌, ◌≤◌, List, [], ◌∷◌, ◌++◌, length, get_or, set, map}
+use Rattle.std.proofs.Common.{◌≡◌, ◌≢◌, ℕ, zero, suc, ◌<◌, ◌≤◌, List, [], ◌∷◌, ◌++◌, length, get_or, set, map}
 use Rattle.std.proofs.Common.{refl, sym, ap, subst, ◌∙◌, arith, inl, inr, replicate}
-use Rattle.std.specs.Prelude.{Option, Some, None, IfSome, ◌==◌, Bool, false, Vec}
+use Rattle.std.specs.Prelude.{Option, Some, None, IfSome, ◌==◌, false, Vec}
 use Rattle.std.specs.List.{All}
 use Rattle.std.specs.Option.{option_map_or}
 use Rattle.std.specs.Vec.{with_items}
@@ -21,7 +21,7 @@ use Rattle.log_store.specs.Record.{change_of, own_lsn}
 use Rattle.log_store.specs.Scan.{with_next}
 use Rattle.log_store.proofs.Images.{image_from-append, number-image, number-with_record}
 use Rattle.page_store.specs.Store.{StoresOrKeeps}
-use Rattle.coverage.specs.Coverage.{AreStored, IsPast, IsStored, IsWriting}
+use Rattle.coverage.specs.Coverage.{AreStored, IsPast}
 use Rattle.coverage.proofs.Stored.{past_is_older, past_now, stored_begun, stored_ended, stored_failed, stored_later}
 use Rattle.buffer_pool.specs.Pool.{IsPoolOf, IsStateOf, IsWhole, PageState, PoolView, changed, new_pool, state_at, state_in, unwritten, with_state}
 use Rattle.buffer_pool.specs.Pool.{write_begun, write_ended, writing_of, written_of}
@@ -94,7 +94,7 @@ later : {S : Type 0} (stored_in : S → List Page) (log : Log) (next : Record) (
     → written_of states ≡ written_of pool.states → writing_of states ≡ writing_of pool.states
     → ((p : ℕ) (d : PageState) → p < length states → IsStateOf (with_next log (next ∷ [])) p (get_or states p d))
     → IsPoolOf stored_in (with_next log (next ∷ []))
-      (record pool { resident = map (λ page. with_record page next) pool.resident; states = states })
+    (record pool { resident = map (λ page. with_record page next) pool.resident; states = states })
 later stored_in log next pool states valid is count written writing each = record {
   valid = valid;
   pages = is.pages ∙ sym count;
@@ -107,7 +107,7 @@ later stored_in log next pool states valid is count written writing each = recor
 pub pool_same : {S : Type 0} (stored_in : S → List Page) (log : Log) (next : Record) (pool : PoolView S)
     → change_of next ≡ None → IsLog (with_next log (next ∷ [])) → IsPoolOf stored_in log pool
     → IsPoolOf stored_in (with_next log (next ∷ []))
-      (record pool { resident = map (λ page. with_record page next) pool.resident })
+    (record pool { resident = map (λ page. with_record page next) pool.resident })
 pool_same stored_in log next pool none valid is =
     later stored_in log next pool pool.states valid is refl refl refl (λ p d lt.
     state_same log next p (get_or pool.states p d) is.valid (own_is log next valid)
@@ -141,16 +141,20 @@ pool_changed stored_in log next pool c some valid is =
     ∙ ne_eqb n p (λ same. other (sym same)))
     (is.states p d lt)) there)
 
--- the columns that a change leaves
-pub written_changed : (states : List PageState) (n lsn : ℕ) → n < length states
-    → written_of (set states n (changed (state_in states n) lsn)) ≡ written_of states
-written_changed states n lsn there =
-    column_same (λ (s : PageState). s.written) states n (changed (state_in states n) lsn) there refl
+pub changed_at : (before after : List PageState) (n lsn own : ℕ) → after ≡ set before n (changed (state_in before n) lsn)
+    → lsn ≡ own → after ≡ set before n (changed (state_in before n) own)
+changed_at before after n lsn own e same = e ∙ ap (λ (k : ℕ). set before n (changed (state_in before n) k)) same
 
-pub writing_changed : (states : List PageState) (n lsn : ℕ) → n < length states
-    → writing_of (set states n (changed (state_in states n) lsn)) ≡ writing_of states
-writing_changed states n lsn there =
-    column_same (λ (s : PageState). s.writing) states n (changed (state_in states n) lsn) there refl
+-- the columns that a change leaves
+pub written_changed : (before after : List PageState) (n lsn : ℕ) → after ≡ set before n (changed (state_in before n) lsn)
+    → n < length before → written_of after ≡ written_of before
+written_changed before after n lsn e there =
+    ap written_of e ∙ column_same (λ (s : PageState). s.written) before n (changed (state_in before n) lsn) there refl
+
+pub writing_changed : (before after : List PageState) (n lsn : ℕ) → after ≡ set before n (changed (state_in before n) lsn)
+    → n < length before → writing_of after ≡ writing_of before
+writing_changed before after n lsn e there =
+    ap writing_of e ∙ column_same (λ (s : PageState). s.writing) before n (changed (state_in before n) lsn) there refl
 
 -- the pages keep their numbers
 pub numbers_later : (pages : List Page) (next : Record)
@@ -324,3 +328,13 @@ pool_new stored_in store n count holds = record {
       rw (get_or-replicate n p unwritten d below) (state_new n p);
   stored = rw (holds, map-replicate (λ (s : PageState). s.written) n unwritten, map-replicate (λ (s : PageState). s.writing) n unwritten) (stored_new n);
 }
+
+-- ---- what is stored
+
+-- a stored page is not older than its last write
+pub reached : {S : Type 0} (stored_in : S → List Page) (log : Log) (pool : PoolView S) (n : ℕ) (d : Page)
+    → IsPoolOf stored_in log pool → n < length pool.states → n < length (stored_in pool.store)
+    → (state_at pool n).written ≤ (get_or (stored_in pool.store) n d).lsn
+reached stored_in log pool n d is there stored =
+    subst (λ (w : ℕ). w ≤ (get_or (stored_in pool.store) n d).lsn)
+    (get_or-map (λ (s : PageState). s.written) pool.states n unwritten 0 there) (is.stored.pages n d stored).reached

@@ -1,5 +1,5 @@
 -- A pool of pages that are changed as their log grows, and written to a store meanwhile.
-use Rattle.std.specs.Prelude.{ℕ, ◌≡◌, ◌<◌, ◌≤◌, List, [], length, map, replicate, slice_index_or}
+use Rattle.std.specs.Prelude.{ℕ, ◌≡◌, ◌<◌, ◌≤◌, List, length, map, replicate, slice_index_or}
 use Rattle.std.specs.Prelude.{slice_set, Option, None, Some, IfSome, is_some, if◌then◌else◌}
 use Rattle.std.specs.List.{All}
 use Rattle.std.specs.Option.{option_and_then, unwrap_or}

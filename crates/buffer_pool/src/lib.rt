@@ -1,9 +1,11 @@
 //! The pages of a volume in memory, which of them are dirty, and their writes to a store.
 #![tactic(auto)]
 
+mod laws;
 mod page_image;
 mod page_states;
 mod pool;
 
+pub use laws::stored_pages_cover_their_rec_lsns;
 pub use page_image::PageImage;
 pub use pool::Pool;

@@ -1,4 +1,4 @@
-use Rattle.std.proofs.Common.{◌≡◌, ◌∙◌, Bool, true, false, cond, get_or, set, ap, sym, refl, arith, ℕ}
+use Rattle.std.proofs.Common.{◌≡◌, ◌∙◌, Bool, true, false, cond, get_or, set, ap, sym, arith, ℕ}
 use Rattle.std.specs.Prelude.{Option, Some, None, is_some}
 use Rattle.std.specs.Option.{unwrap_or}
 use Rattle.buffer_pool.proofs.Columns.{is_changed, kept, places, put_at, read_at}

@@ -1,5 +1,5 @@
-use Rattle.std.proofs.Common.{◌≡◌, [], ◌+◌, length, sym, subst}
-use Rattle.std.specs.Prelude.{Option, MatchOption, None}
+use Rattle.std.proofs.Common.{◌≡◌, [], sym, subst}
+use Rattle.std.specs.Prelude.{Option, MatchOption}
 use Rattle.coverage.specs.Coverage.{entries_of, next_dirty}
 use Rattle.coverage.specs.declared.dirty_page.DirtyPages.{DirtyPages}
 use Rattle.buffer_pool.specs.PageStates.{dirty_in}

@@ -1,11 +1,11 @@
-use Rattle.std.proofs.Common.{◌≡◌, ◌∙◌, List, [], length, replicate, ap, subst, sym, refl, arith}
+use Rattle.std.proofs.Common.{◌≡◌, ◌∙◌, List, [], length, replicate, ap, subst, sym, arith}
 use Rattle.std.proofs.lemmas.List.{length-replicate}
 use Rattle.std.proofs.lemmas.List.FromFn.{length-map-range_with_len}
 use Rattle.page_core.specs.Page.{formatted}
 use Rattle.page_core.specs.declared.page.Page.{Page}
 use Rattle.page_core.specs.Volume.{formatted_pages}
 use Rattle.log_store.specs.Log.{IsPageCount}
-use Rattle.buffer_pool.specs.Pool.{IsPoolOf, PageState, PoolView, new_pool, unwritten}
+use Rattle.buffer_pool.specs.Pool.{IsPoolOf, PageState, unwritten}
 use Rattle.buffer_pool.proofs.Pools.{pool_new}
 use Rattle.buffer_pool.proofs.pool.Pool.new.Goals as goal
 

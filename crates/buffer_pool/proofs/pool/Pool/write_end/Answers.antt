@@ -1,8 +1,6 @@
-use Rattle.std.proofs.Common.{◌≡◌, ◌∙◌, ◌<◌, List, length, set, ap, subst, sym, arith}
+use Rattle.std.proofs.Common.{◌≡◌, ◌∙◌, ◌<◌, List, length, ap, subst, sym, arith}
 use Rattle.std.specs.Prelude.{Some}
-use Rattle.page_core.specs.declared.page.Page.{Page}
-use Rattle.page_store.specs.Store.{StoresOrKeeps}
-use Rattle.buffer_pool.specs.Pool.{IsPoolOf, PageState, PoolView, state_in, write_ended}
+use Rattle.buffer_pool.specs.Pool.{IsPoolOf, PageState, PoolView, state_in}
 use Rattle.buffer_pool.proofs.Pools.{pool_ended, pool_failed}
 use Rattle.buffer_pool.proofs.pool.Pool.write_end.Goals as goal
 
