@@ -9,3 +9,6 @@ mod pool;
 pub use laws::stored_pages_cover_their_rec_lsns;
 pub use page_image::PageImage;
 pub use pool::Pool;
+
+#[cfg(test)]
+mod tests;
