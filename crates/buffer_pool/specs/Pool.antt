@@ -35,6 +35,7 @@ unwritten = record { written = 0; rec_lsn = None; writing = None; since = None }
 abbrev pub state_in : List PageState → ℕ → PageState
 state_in states number = slice_index_or states number unwritten
 
+-- and of a pool
 abbrev pub state_at : {S : Type 0} → PoolView S → ℕ → PageState
 state_at pool number = state_in pool.states number
 
@@ -79,8 +80,8 @@ changed state lsn = record state {
 abbrev pub write_begun : PageState → Page → PageState
 write_begun state q = record state { writing = Some q; since = None }
 
--- a write of the page has ended, whose image has this LSN: the page is as dirty as the changes since
--- the image make it
+-- a write of the page has ended, whose image has this LSN: the page is as dirty as the changes
+-- since the image make it
 abbrev pub write_ended : PageState → ℕ → PageState
 write_ended state lsn = record {
   written = lsn;

@@ -1,7 +1,7 @@
 //! What is known of each page beside its content.
 
-ghost use Rattle.std.specs.Prelude.{ℕ, ◌≡◌, ◌<◌, ◌≤◌, [], length, replicate, slice_set, IfOk};
-ghost use Rattle.std.specs.Prelude.{None, Some, IfSome, IsSome, MatchOption};
+ghost use Rattle.std.specs.Prelude.{◌≡◌, ◌<◌, ◌≤◌, [], length, replicate, slice_set, IfOk};
+ghost use Rattle.std.specs.Prelude.{None, Some, IfSome, MatchOption};
 ghost use Rattle.std.specs.Option.{option_copied, unwrap_or};
 ghost use Rattle.coverage.specs.Coverage.{entries_of, next_dirty};
 ghost use Rattle.buffer_pool.specs.PageStates.{AreClean, IsFirstDirty, dirty_in};
@@ -108,7 +108,8 @@ impl PageStates {
     /// A write of a page has ended: its image, which has this LSN, is stored.
     pub(crate) fn end_write(&mut self, number: PageNo, lsn: Lsn)
         requires { number < length self.old }
-        ensures { self.new ≡ slice_set self.old number (write_ended (state_in self.old number) lsn) }
+        ensures { self.new ≡ slice_set self.old number
+            (write_ended (state_in self.old number) lsn) }
     {
         let index = number.0 as usize;
         self.last_writes[index] = lsn;

@@ -1,10 +1,9 @@
 //! The buffer pool.
 
-ghost use Rattle.std.specs.Prelude.{ℕ, ◌≡◌, ◌<◌, List, [], ◌∷◌, length, map, replicate};
-ghost use Rattle.std.specs.Prelude.{None, Some, IfSome, IsNone, IsSome, MatchOption, is_some};
-ghost use Rattle.std.specs.Prelude.{slice_get, slice_set, IfOk, OnOk, OnErr};
+ghost use Rattle.std.specs.Prelude.{ℕ, ◌≡◌, ◌<◌, [], ◌∷◌, length, map, slice_get, slice_set};
+ghost use Rattle.std.specs.Prelude.{Some, IfSome, IsNone, IsSome, MatchOption, is_some};
+ghost use Rattle.std.specs.Prelude.{IfOk, OnOk, OnErr};
 ghost use Rattle.std.specs.List.{Contains};
-ghost use Rattle.page_core.specs.declared.page.Page.{Page};
 ghost use Rattle.page_core.specs.Volume.{AreNumbered, formatted_pages};
 ghost use Rattle.log_store.specs.Image.{image};
 ghost use Rattle.log_store.specs.Log.{IsLog, IsPageCount, Log};

@@ -176,7 +176,7 @@ all_redone f p rs page number all =
 
 -- ---- the page has each change among the records that it is made of, and none behind them
 
-lsn_rises : (log : Log) → IsLog log → (p k : ℕ) → k < length log.records
+pub lsn_rises : (log : Log) → IsLog log → (p k : ℕ) → k < length log.records
     → (image (take k log.records) p).lsn ≤ (image (take (k + 1) log.records) p).lsn
 lsn_rises log valid p k lt = by_change (changes p (get_or log.records k (Begin 0 0))) refl
   where

@@ -49,8 +49,8 @@ returns-then-is_some c =
     (c.note_first.ensures ∙ ap (λ (o : Option ℕ). Some (unwrap_or o lsn))
     (read_at s.rec_lsns.items m n c.index_mut.result.now None c.index_mut.ensures.value at.in_rec_lsns
     c.number.view_is))
-    (put_at s.first_changes.items m n now (cond (is_some (get_or s.images.items n None)) (Some (unwrap_or since lsn)) since)
-    c.number.view_is
+    (put_at s.first_changes.items m n now
+    (cond (is_some (get_or s.images.items n None)) (Some (unwrap_or since lsn)) since) c.number.view_is
     (c.note_first-then-is_some.ensures ∙ ap (λ (o : Option ℕ). Some (unwrap_or o lsn))
     (read_at s.first_changes.items m n c.index_mut-then-is_some.result.now None c.index_mut-then-is_some.ensures.value
     at.in_firsts c.number.view_is)
@@ -75,5 +75,6 @@ returns-else-is_some c =
     (c.note_first.ensures ∙ ap (λ (o : Option ℕ). Some (unwrap_or o lsn))
     (read_at s.rec_lsns.items m n c.index_mut.result.now None c.index_mut.ensures.value at.in_rec_lsns
     c.number.view_is))
-    (kept s.first_changes.items n (cond (is_some (get_or s.images.items n None)) (Some (unwrap_or since lsn)) since) None
+    (kept s.first_changes.items n
+    (cond (is_some (get_or s.images.items n None)) (Some (unwrap_or since lsn)) since) None
     (ap (λ (b : Bool). cond b (Some (unwrap_or since lsn)) since) test))
