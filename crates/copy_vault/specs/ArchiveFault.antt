@@ -19,8 +19,8 @@ pub record SpellsHeader (bytes : List ℕ) : Type 0 where
   pub spelled : bytes ≡ header_bytes header
 
 -- the bytes are this header with these pages, which may follow it first, and then the rest
-pub record Begins (bytes : List ℕ) (h : ArchiveHeader) (pages : List Page) (rest : List ℕ) : Type 0
-where
+pub record Begins (bytes : List ℕ) (h : ArchiveHeader) (pages : List Page)
+    (rest : List ℕ) : Type 0 where
   pub front : IsFront h pages
   pub spelled : bytes ≡ front_bytes h pages ++ rest
 

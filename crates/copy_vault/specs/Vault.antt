@@ -114,6 +114,12 @@ reading_of (reading copy) = Some copy
 reading_of (complete copy) = None
 reading_of dropped = None
 
+-- what is decided of each page, where the copy is being read
+abbrev pub pages_read : CopyState → List PageDecision
+pages_read (reading copy) = copy.pages
+pages_read (complete copy) = []
+pages_read dropped = []
+
 -- the copy, where it is complete
 abbrev pub complete_of : CopyState → Option CopyView
 complete_of (reading copy) = None

@@ -4,6 +4,8 @@ ghost use Rattle.std.specs.Prelude.{◌≡◌};
 ghost use Rattle.copy_vault.specs.declared.archive_fault.ArchiveFault.TheVariants.{OutOfMemory};
 
 use std::alloc::{AllocError, AllocFailed};
+use std::error::Error;
+use std::fmt;
 
 /// Why an archive could not be read: the first fault of its bytes, or what kept them from being
 /// read.
@@ -20,6 +22,26 @@ pub enum ArchiveFault {
     ReadFault,
 }
 
+impl fmt::Display for ArchiveFault {
+    ghost use Rattle.std.specs.Prelude.{Some};
+    ghost use Rattle.copy_vault.specs.FaultText.{text_of};
+
+    ghost output = { λ fault. Some (text_of fault) };
+
+    fn fmt<W: fmt::Write>(&self, f: &mut fmt::Formatter<W>) -> fmt::Result {
+        match self {
+            ArchiveFault::OutOfMemory => write!(f, "out of memory"),
+            ArchiveFault::BadArchive(at) => write!(f, "the archive is misspelt at {at}"),
+            ArchiveFault::CountDiffers => {
+                write!(f, "the archive has not as many pages as it says")
+            }
+            ArchiveFault::ReadFault => write!(f, "the archive could not be read"),
+        }
+    }
+}
+
+impl Error for ArchiveFault {}
+
 impl From<AllocError> for ArchiveFault {
     ghost from_gives = { λ _ e. e ≡ OutOfMemory };
 
@@ -35,3 +57,31 @@ impl<T: Drop> From<AllocFailed<T>> for ArchiveFault {
         ArchiveFault::OutOfMemory
     }
 }
+
+/// Why an archive could not be written.
+#[derive(Clone, Copy, Debug, PartialEq, Eq)]
+pub enum ArchiveWriteFault {
+    /// Memory ran out. Nothing was written.
+    OutOfMemory,
+    /// The writer failed, took nothing, or was interrupted 17 times in a row. So many bytes went
+    /// out, the first ones of the archive.
+    WriteFault(u64),
+}
+
+impl fmt::Display for ArchiveWriteFault {
+    ghost use Rattle.std.specs.Prelude.{Some};
+    ghost use Rattle.copy_vault.specs.FaultText.{text_of_write};
+
+    ghost output = { λ fault. Some (text_of_write fault) };
+
+    fn fmt<W: fmt::Write>(&self, f: &mut fmt::Formatter<W>) -> fmt::Result {
+        match self {
+            ArchiveWriteFault::OutOfMemory => write!(f, "out of memory"),
+            ArchiveWriteFault::WriteFault(done) => {
+                write!(f, "the archive could not be written past {done} bytes")
+            }
+        }
+    }
+}
+
+impl Error for ArchiveWriteFault {}

@@ -8,13 +8,20 @@ mod copy_id;
 mod fault;
 mod header;
 mod header_codec;
+mod read;
 mod reading;
 mod slots;
 mod vault;
+mod write;
 
-pub use archive_fault::ArchiveFault;
+pub use archive_fault::{ArchiveFault, ArchiveWriteFault};
 pub use complete::CompleteCopy;
 pub use copy_id::{CopyId, CopyKind, Decision, MAX_COPIES};
 pub use fault::CopyFault;
+pub use read::read_archive;
 pub use reading::ReadingCopy;
 pub use vault::Vault;
+pub use write::write_archive;
+
+#[cfg(test)]
+mod tests;

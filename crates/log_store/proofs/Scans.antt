@@ -2,8 +2,8 @@
 use Rattle.std.proofs.Common.{◌≡◌, ℕ, ◌+◌, ◌-◌, ◌*◌, ◌<◌, ◌≤◌, List, [], ◌∷◌, ◌++◌, length, get_or, take, drop, refl}
 use Rattle.std.proofs.Common.{sym, ap, subst, ◌∙◌, arith, below_more, inl, inr}
 use Rattle.std.specs.Prelude.{slice_range}
-use Rattle.std.specs.Prelude.{Option, Some, None, IfSome, Result, Ok, Err, IfErr, OnOk}
-use Rattle.std.specs.Io.KnownBytes.{Consumes, IsAtEnd}
+use Rattle.std.specs.Prelude.{Option}
+use Rattle.std.specs.Io.KnownBytes.{Consumes}
 use Rattle.std.proofs.lemmas.Bool.{cases_lt}
 use Rattle.std.proofs.lemmas.List.{append_assoc, append-nil, nil_from_length, take-append-le, take_at, drop_at}
 use Rattle.std.proofs.lemmas.List.{length-append, length_push, get_or_append_left, get_or_push, flat_map_more}
@@ -21,7 +21,7 @@ use Rattle.log_store.specs.Scan.{HasRead, HasTaken}
 use Rattle.log_records.proofs.Logs.{range_in, length-log, header_of_log, record_of_log}
 use Rattle.log_store.proofs.Faults.{AreFirst, whole_records, first_chain, first_record, first_too_long, first_torn}
 use Rattle.log_records.proofs.Records.{record_length}
-use Rattle.log_store.proofs.Inputs.{refuses_all, none_held, none_in_read, of_input}
+use Rattle.log_store.proofs.Inputs.{refuses_all, none_held, none_in_read}
 
 -- ---- what a log's bytes have, however they go on
 
@@ -260,26 +260,7 @@ pub regrouped : (header read pending rest : List ℕ) (P : List ℕ → Type 0) 
     → P (header ++ ((read ++ pending) ++ rest))
 regrouped header read pending rest P h = subst P (regroup header read pending rest) h
 
-pub if_err : {T E : Type 0} (r : Result T E) (P Q : E → Type 0) → ((e : E) → P e → Q e) → IfErr r P → IfErr r Q
-if_err (Ok x) P Q step h = tt
-if_err (Err e) P Q step h = step e h
-
-pub on_ok : {T E : Type 0} (r : Result T E) (P Q : Type 0) → (P → Q) → OnOk r P → OnOk r Q
-on_ok (Ok x) P Q step h = step h
-on_ok (Err e) P Q step h = tt
-
 -- ---- the header and what follows it
-
-pub of_rest : (old mid : Option (List ℕ)) (given : List ℕ) (P : List ℕ → Type 0) → Consumes old mid given
-    → IfSome mid (λ rest. P (given ++ rest)) → IfSome old P
-of_rest None mid given P taken h = tt
-of_rest (Some input) None given P taken h = absurd taken
-of_rest (Some input) (Some rest) given P taken h = subst P (sym taken) h
-
-pub of_all : (old new : Option (List ℕ)) (given : List ℕ) (P : List ℕ → Type 0) → Consumes old new given → IsAtEnd new
-    → P given → IfSome old P
-of_all old new given P taken end h = of_input old new given P taken
-    (λ rest none. subst P (sym (append-nil given) ∙ ap (λ (r : List ℕ). given ++ r) (sym (none end))) h)
 
 pub gave_more : (old mid new : Option (List ℕ)) (header : List ℕ) (fault : LogReadFault) → Consumes old mid header
     → GaveNoFault header mid new fault → GaveNoFault [] old new fault

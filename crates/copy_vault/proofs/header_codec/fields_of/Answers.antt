@@ -1,9 +1,7 @@
-use Rattle.std.proofs.Common.{◌≡◌, ◌∙◌, refl, sym, ap, List, ℕ, Some, None}
+use Rattle.std.proofs.Common.{◌≡◌, ◌∙◌, refl, sym, ap, List, ℕ}
 use Rattle.std.specs.Prelude.{slice_range}
 use Rattle.std.proofs.lemmas.Option.{none-some, same_Some}
-use Rattle.copy_vault.specs.declared.header.ArchiveHeader.{ArchiveHeader}
-use Rattle.copy_vault.specs.declared.copy_id.CopyKind.{CopyKind}
-use Rattle.copy_vault.specs.Archive.{IsHeader, header_bytes, kind_number, parent_of}
+use Rattle.copy_vault.specs.Archive.{header_bytes, kind_number, parent_of}
 use Rattle.copy_vault.proofs.Headers.{fit, pages_at, id_at, kind_at, parent_at, begin_at, redo_at, taken_at}
 use Rattle.copy_vault.proofs.header_codec.fields_of.Goals as goal
 

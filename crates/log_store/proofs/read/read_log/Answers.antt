@@ -3,7 +3,8 @@ use Rattle.std.proofs.lemmas.Result.{err_from_is_err_and}
 use Rattle.log_records.specs.Log.{SpellsLog}
 use Rattle.log_store.specs.Fault.{Refuses}
 use Rattle.log_records.proofs.Logs.{same_log}
-use Rattle.log_store.proofs.Inputs.{at_some, only_outside}
+use Rattle.page_core.proofs.Inputs.{at_some}
+use Rattle.log_store.proofs.Inputs.{only_outside}
 use Rattle.log_store.proofs.read.read_log.Goals as goal
 
 -- what is read of the spelling of a log is that log

@@ -3,7 +3,8 @@ use Rattle.std.specs.Io.KnownBytes.{Consumes}
 use Rattle.std.proofs.lemmas.List.{length-take, take_all}
 use Rattle.log_store.specs.declared.fault.LogReadFault.TheVariants.{BadHeader}
 use Rattle.log_store.specs.Fault.{Refuses}
-use Rattle.log_store.proofs.Inputs.{of_input, refuses_short, none_in_short}
+use Rattle.page_core.proofs.Inputs.{of_input}
+use Rattle.log_store.proofs.Inputs.{refuses_short, none_in_short}
 use Rattle.log_store.proofs.scan.read_header.Goals as goal
 
 pub returns-in-End-clause-first : goal.returns-in-End-clause-first

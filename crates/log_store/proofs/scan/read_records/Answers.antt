@@ -9,8 +9,8 @@ use Rattle.log_store.specs.declared.fault.LogReadFault.TheVariants.{Torn, TooLon
 use Rattle.log_records.specs.Log.{header_bytes, lsn_of}
 use Rattle.log_store.specs.Fault.{Refuses}
 use Rattle.log_store.specs.Scan.{HasTaken}
-use Rattle.log_store.proofs.Inputs.{of_input}
-use Rattle.log_store.proofs.Scans.{refuses_torn, none_in_failed, refuses_past_last, regrouped, if_err, on_ok}
+use Rattle.page_core.proofs.Inputs.{of_input, if_err, on_ok}
+use Rattle.log_store.proofs.Scans.{refuses_torn, none_in_failed, refuses_past_last, regrouped}
 use Rattle.log_store.proofs.scan.read_records.Goals as goal
 use Rattle.log_store.proofs.scan.read_records.Goals.{else-count-ge-MAX_RECORDS-via-then-count-ge-MAX_RECORDS+else-filled-gt0}
 use Rattle.log_store.proofs.scan.read_records.Goals.{else-count-ge-MAX_RECORDS-via-else-count-ge-MAX_RECORDS}

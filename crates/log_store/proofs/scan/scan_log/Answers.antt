@@ -7,8 +7,9 @@ use Rattle.log_store.specs.declared.fault.LogReadFault.TheVariants.{BadHeader}
 use Rattle.log_records.specs.Log.{SpellsLog, header_bytes}
 use Rattle.log_store.specs.Fault.{Refuses, IsHeader}
 use Rattle.log_store.proofs.Faults.{first_header}
-use Rattle.log_store.proofs.Inputs.{of_input, goes_on_header}
-use Rattle.log_store.proofs.Scans.{of_rest, of_all, gave_more}
+use Rattle.page_core.proofs.Inputs.{of_input, of_rest, of_all}
+use Rattle.log_store.proofs.Inputs.{goes_on_header}
+use Rattle.log_store.proofs.Scans.{gave_more}
 use Rattle.log_store.proofs.scan.scan_log.Goals as goal
 
 pub returns-in_default-clause-first : goal.returns-in_default-clause-first

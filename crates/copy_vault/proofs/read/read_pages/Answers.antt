@@ -1,0 +1,106 @@
+use Rattle.std.proofs.Common.{◌≡◌, ℕ, ◌+◌, ◌-◌, ◌*◌, ◌/◌, ◌<◌, ◌++◌, List, [], length, take, drop, sym, ap, subst, ◌∙◌}
+use Rattle.std.proofs.Common.{arith, inl, inr}
+use Rattle.std.specs.Io.KnownBytes.{Consumes}
+use Rattle.std.proofs.lemmas.List.{append_assoc, append-nil, nil_from_length, length-take, length-drop, length-append}
+use Rattle.std.proofs.lemmas.List.{take-append-drop}
+use Rattle.std.proofs.lemmas.Result.{err_from_is_err_and}
+use Rattle.page_core.proofs.Inputs.{of_input, if_err, on_ok}
+use Rattle.copy_vault.specs.declared.archive_fault.ArchiveFault.TheVariants.{CountDiffers}
+use Rattle.copy_vault.specs.Copy.{taken_count, taken_pages}
+use Rattle.copy_vault.specs.Archive.{header_bytes}
+use Rattle.copy_vault.specs.ArchiveFault.{HasMore, Refuses}
+use Rattle.copy_vault.specs.ArchiveRead.{EndsWrongly, given_for}
+use Rattle.copy_vault.proofs.Parts.{has_more}
+use Rattle.copy_vault.proofs.ArchiveReads.{refuses_end, refuses_input, none_in_failed}
+use Rattle.copy_vault.proofs.read.read_pages.Goals as goal
+
+pub returns-in-End-clause-first : goal.returns-in-End-clause-first
+returns-in-End-clause-first g c =
+    let h = c.args.header.now in
+    let header = header_bytes h in
+    let inv = c.loop.invariant in
+    let read = inv.found.0 in
+    let pending = take c.loop.filled c.loop.buffer in
+    let room = c.requires.room in
+    let short = inv.short in
+    let wide : length pending ≡ c.loop.filled = omega (arith, length-take c.loop.filled c.loop.buffer) in
+    if_err c.at_end.result _ _ (λ fault wrong.
+    of_input _ _ (read ++ pending) (λ rest. Refuses (header ++ rest) fault) (c.in-End.ensures.1 _ read inv.found.1.1)
+    (λ rest end.
+    refuses_input (given_for h c.loop.slots) header read pending rest fault inv.found.1.0
+    (subst (λ (bs : List ℕ). Refuses (given_for h c.loop.slots ++ bs) fault)
+    (sym (ap (λ (bs : List ℕ). pending ++ bs) (end c.in-End.ensures.0) ∙ append-nil pending))
+    (refuses_end h c.loop.slots pending fault inv.so_far.part.front (omega (arith, wide))
+    (λ all. omega (arith, wide, inv.last all))
+    (subst (λ (n : ℕ). EndsWrongly (taken_count c.loop.slots) h.taken n fault) (sym wide) wrong)))))
+    c.at_end.ensures.err
+
+pub returns-in-End-clause-found : goal.returns-in-End-clause-found
+returns-in-End-clause-found g c =
+    let inv = c.loop.invariant in
+    let read = inv.found.0 in
+    let pending = take c.loop.filled c.loop.buffer in
+    on_ok c.at_end.result _ _ (λ none.
+    let nothing : pending ≡ [] = nil_from_length pending
+    (omega (arith, length-take c.loop.filled c.loop.buffer, none)) in
+    let all : read ++ pending ≡ read = ap (λ (bs : List ℕ). read ++ bs) nothing ∙ append-nil read in (
+      read,
+      (
+        subst (Consumes _ _) all (c.in-End.ensures.1 _ read inv.found.1.1),
+        inv.found.1.0,
+      ),
+    )) c.at_end.ensures.ok
+
+pub returns-in-Failed-clause-unread : goal.returns-in-Failed-clause-unread
+returns-in-Failed-clause-unread g c =
+    let h = c.args.header.now in
+    let inv = c.loop.invariant in
+    let read = inv.found.0 in
+    let pending = take c.loop.filled c.loop.buffer in
+    let short = inv.short in
+    let wide : length pending ≡ c.loop.filled =
+    let room = c.requires.room in omega (arith, length-take c.loop.filled c.loop.buffer) in (
+      read ++ pending,
+      (
+        c.in-Failed.ensures _ read inv.found.1.1,
+        none_in_failed h c.loop.slots (header_bytes h) read pending inv.found.1.0 inv.so_far.part.front
+            (omega (arith, wide)) (λ all. omega (arith, wide, inv.last all)),
+      ),
+    )
+
+pub returns-in_err-take_pages-clause-first : goal.returns-in_err-take_pages-clause-first
+returns-in_err-take_pages-clause-first g c =
+    let p = err_from_is_err_and c.from_residual.result c.from_residual.ensures.1 in
+    let h = c.args.header.now in
+    let inv = c.loop.invariant in
+    let read = inv.found.0 in
+    let bytes = take (c.loop.filled + c.in-More.more) c.read_more.new.buffer in
+    let fault = c.in_err-take_pages.field-0.0 in
+    rw (p.1, p.2)
+    (of_input _ _ (read ++ bytes) (λ rest. Refuses (header_bytes h ++ rest) fault)
+    (c.in-More.ensures.1 _ read inv.found.1.1)
+    (λ rest end. refuses_input (given_for h c.loop.slots) (header_bytes h) read bytes rest fault inv.found.1.0
+    (c.in_err-take_pages.ensures.first rest)))
+
+pub returns-then-slots-header-clause-first : goal.returns-then-slots-header-clause-first
+returns-then-slots-header-clause-first g c = ?
+
+pub loop-preserved : goal.loop-preserved
+loop-preserved g c = ?
+
+pub returns-clause-unread : goal.returns-clause-unread
+returns-clause-unread g c =
+    let h = c.args.header.now in
+    let inv = c.loop.invariant in
+    let read = inv.found.0 in
+    let pending = take c.loop.filled c.loop.buffer in
+    let short = inv.short in
+    let wide : length pending ≡ c.loop.filled =
+    let room = c.requires.room in omega (arith, length-take c.loop.filled c.loop.buffer) in (
+      read ++ pending,
+      (
+        inv.found.1.1,
+        none_in_failed h c.loop.slots (header_bytes h) read pending inv.found.1.0 inv.so_far.part.front
+            (omega (arith, wide)) (λ all. omega (arith, wide, inv.last all)),
+      ),
+    )
