@@ -3,6 +3,7 @@
 #![tactic(auto)]
 
 mod archive_fault;
+mod archive_laws;
 mod complete;
 mod copy_id;
 mod fault;
@@ -15,6 +16,7 @@ mod vault;
 mod write;
 
 pub use archive_fault::{ArchiveFault, ArchiveWriteFault};
+pub use archive_laws::copies_are_spelled_apart;
 pub use complete::CompleteCopy;
 pub use copy_id::{CopyId, CopyKind, Decision, MAX_COPIES};
 pub use fault::CopyFault;

@@ -151,7 +151,8 @@ fn read_pages<R: Read>(
             Turn::End => return at_end(slots, header, filled),
             Turn::Failed => return Err(ArchiveFault::ReadFault),
         }
-        take_pages(alloc, slots, header, &buffer[..filled])?;
+        let bytes = &buffer[..filled];
+        take_pages(alloc, slots, header, bytes)?;
         filled = keep_from(buffer, PAGE_BYTES * (filled / PAGE_BYTES), filled);
         if slots.taken() >= header.taken && filled > 0 {
             return Err(ArchiveFault::CountDiffers);
@@ -176,23 +177,12 @@ fn at_end(slots: &Slots, header: &ArchiveHeader, filled: usize) -> Result<(), Ar
     Ok(())
 }
 
-/// Reads an archive to the input's end.
-///
-/// It stops at the first fault, since nothing behind it can come before it. Where the reader stands
-/// then is not said. An interrupted read is made again. `ReadFault` comes where the reader fails
-/// otherwise, and where it was asked 134,217,728 times without coming to its end. `OutOfMemory`
-/// comes where room for the copy or for what is read is refused.
-pub fn read_archive<R: Read>(alloc: Global, reader: &mut R) -> Result<CompleteCopy, ArchiveFault>
-    // What is read is spelled so, and nothing follows it.
+/// Reads an archive to the input's end, and makes the copy that it spells.
+fn read_copy<R: Read>(alloc: Global, reader: &mut R) -> Result<CompleteCopy, ArchiveFault>
     ensures found { IfOk result (λ copy. IfSome (R.remaining reader.old) (SpellsCopy copy)) }
     ensures end { OnOk result (IsAtEnd (R.remaining reader.new)) }
-    // What is spelled so is read, unless memory runs out or the reader fails.
-    ensures only { (copy : CopyView) (input : List ℕ) → R.remaining reader.old ≡ Some input
-        → SpellsCopy copy input → MatchResult result (λ read. read ≡ copy) IsOutside }
-    // The fault is the first one.
     ensures first { IfErr result (λ fault. IfSome (R.remaining reader.old)
         (λ input. Refuses input fault)) }
-    // Where the reader failed, what it gave until then holds none.
     ensures unread { IfErr result (GaveNoFault [] (R.remaining reader.old)
         (R.remaining reader.new)) }
 {
@@ -219,4 +209,28 @@ pub fn read_archive<R: Read>(alloc: Global, reader: &mut R) -> Result<CompleteCo
         header.redo,
         slots,
     ))
+}
+
+/// Reads an archive to the input's end.
+///
+/// It stops at the first fault, since nothing behind it can come before it. Where the reader stands
+/// then is not said. An interrupted read is made again. `ReadFault` comes where the reader fails
+/// otherwise, and where it was asked 134,217,728 times without coming to its end. `OutOfMemory`
+/// comes where room for the copy or for what is read is refused.
+pub fn read_archive<R: Read>(alloc: Global, reader: &mut R) -> Result<CompleteCopy, ArchiveFault>
+    // What is read is spelled so, and nothing follows it.
+    ensures found { IfOk result (λ copy. IfSome (R.remaining reader.old) (SpellsCopy copy)) }
+    ensures end { OnOk result (IsAtEnd (R.remaining reader.new)) }
+    // What is spelled so is read, unless memory runs out or the reader fails.
+    ensures only { (copy : CopyView) (input : List ℕ) → R.remaining reader.old ≡ Some input
+        → SpellsCopy copy input → MatchResult result (λ read. read ≡ copy) IsOutside }
+    // The fault is the first one.
+    ensures first { IfErr result (λ fault. IfSome (R.remaining reader.old)
+        (λ input. Refuses input fault)) }
+    // Where the reader failed, what it gave until then holds none.
+    ensures unread { IfErr result (GaveNoFault [] (R.remaining reader.old)
+        (R.remaining reader.new)) }
+{
+    let copy = read_copy(alloc, reader)?;
+    Ok(copy)
 }
