@@ -1,0 +1,68 @@
+-- What a page lacks of a log that a crash left.
+use Rattle.std.proofs.Common.{◌≡◌, ℕ, ◌+◌, ◌*◌, ◌/◌, ◌<◌, ◌≤◌, List, ◌∷◌, length, get_or, take, sym, ap, subst, ◌∙◌, arith, min}
+use Rattle.std.specs.Prelude.{Some, true, IfSome}
+use Rattle.std.specs.List.{All}
+use Rattle.std.proofs.lemmas.List.{get_or-take, length-take, take-take}
+use Rattle.std.proofs.lemmas.List.Elements.{All-take}
+use Rattle.page_core.specs.declared.page.Page.{Page}
+use Rattle.log_records.specs.declared.record.Record.{Record}
+use Rattle.log_records.specs.Coverage.{Covers, IsPast, changes, changes_on, resume, up_to}
+use Rattle.log_records.specs.Image.{image}
+use Rattle.log_records.specs.Log.{IsLog, Log, lsn_of}
+use Rattle.log_records.specs.Record.{own_lsn}
+use Rattle.log_records.proofs.Coverage.{at_each, of_each, past_is_named, resume_covering}
+use Rattle.copy_vault.specs.Copy.{CopyView}
+use Rattle.copy_vault.specs.Vault.{CopyState, complete, state_of}
+use Rattle.copy_coverage.specs.Copied.{AreCopied, IsCovered, StandsOn, content, copy_in}
+use Rattle.copy_coverage.specs.Kept.{IsKeptOf}
+
+-- a part of a log is one too
+pub prefix_is_log : (log : Log) (n : ℕ) → IsLog log → n ≤ length log.records
+    → IsLog (record log { records = take n log.records })
+prefix_is_log log n valid le = record {
+  pages = valid.pages;
+  count = omega (arith, valid.count, length-take n log.records);
+  records = λ i d lt.
+      let below : i < n = omega (arith, length-take n log.records) in
+      rw (get_or-take n log.records i d below) (valid.records i d (omega arith));
+}
+
+steps_below : (lsn k : ℕ) → lsn < 64 * (k + 1) → lsn / 64 ≤ k
+steps_below lsn k lt = omega arith
+
+pub covers_kept : (log : Log) (n p : ℕ) (page : Page) (bound : ℕ) → IsLog log → n ≤ length log.records
+    → Covers log.records p page bound → page.lsn < lsn_of n → Covers (take n log.records) p page bound
+covers_kept log n p page bound valid le covers lt =
+    let rs = log.records in
+    let m = page.lsn / 64 in
+    let below : m ≤ n = steps_below page.lsn n lt in
+    record {
+      past = record {
+        count = m;
+        within = omega (arith, length-take n rs);
+        made = past_is_named log p page valid covers.past ∙ ap (λ (xs : List Record). image xs p) (sym (take-take m n rs below));
+      };
+      reached = of_each (λ lsn. lsn < bound → lsn ≤ page.lsn) p (take n rs)
+          (All-take (λ r. changes p r ≡ true → own_lsn r < bound → own_lsn r ≤ page.lsn) n rs
+          (at_each (λ lsn. lsn < bound → lsn ≤ page.lsn) p rs covers.reached));
+    }
+
+pub restored : (log : Log) (f : ℕ) (kept : Log) (p redo : ℕ) (page : Page) → IsLog log → IsKeptOf log f kept
+    → IsCovered log.records f redo p page → resume page kept.records redo ≡ image kept.records p
+restored log f kept p redo page valid is covered =
+    let low = covered.stable in
+    let high = is.forced in
+    let part = record log { records = take is.count log.records } in
+    subst (λ (k : Log). resume page k.records redo ≡ image k.records p) (sym is.made)
+    (resume_covering part p page redo (prefix_is_log log is.count valid is.within)
+    (covers_kept log is.count p page redo valid is.within covered.covers (omega arith)))
+
+pub restored_of_chain : (log : Log) (f : ℕ) (stored : List Page) (copies : List CopyState) (kept : Log) (id : ℕ)
+    (copy : CopyView) (older : List CopyView) (p : ℕ) (page : Page) → IsLog log
+    → AreCopied log.records f stored copies → IsKeptOf log f kept → state_of copies id ≡ complete copy
+    → StandsOn copies copy.kind older → content (copy ∷ older) p ≡ Some page
+    → resume page kept.records copy.redo ≡ image kept.records p
+restored_of_chain log f stored copies kept id copy older p page valid are is state on has =
+    restored log f kept p copy.redo page valid is
+    (subst (λ o. IfSome o (IsCovered log.records f copy.redo p)) has
+    (are.covered id copy older (ap copy_in state) on p))

@@ -1,0 +1,59 @@
+-- What the image copies of a volume have of its log, and what a chain of them has.
+use Rattle.std.specs.Prelude.{ℕ, ◌≡◌, ◌<◌, ◌≤◌, List, [], ◌∷◌, length, slice_index_or}
+use Rattle.std.specs.Prelude.{Option, Some, None, IfSome}
+use Rattle.page_core.specs.declared.page.Page.{Page}
+use Rattle.log_records.specs.declared.record.Record.{Record}
+use Rattle.log_records.specs.Coverage.{Covers}
+use Rattle.copy_vault.specs.declared.copy_id.CopyKind.{CopyKind}
+use Rattle.copy_vault.specs.declared.copy_id.CopyKind.TheVariants.{Full, Inc}
+use Rattle.copy_vault.specs.Copy.{CopyView, PageDecision, undecided, taken, kept, decision_at}
+use Rattle.copy_vault.specs.Vault.{CopyState, HasParent, reading, complete, dropped, state_of}
+
+-- what a copy has of a page, where those before it have `older`
+abbrev pub decided_over : Option Page → PageDecision → Option Page
+decided_over older undecided = None
+decided_over older (taken page) = Some page
+decided_over older kept = older
+
+-- the page as the last copy of a chain that took it has it; the chain has its last copy first
+abbrev pub content : List CopyView → ℕ → Option Page
+content [] p = None
+content (copy ∷ older) p = decided_over (content older p) (decision_at copy.pages p)
+
+-- the copies that one of this kind stands on: its parent, the parent of that one, and so on
+abbrev pub StandsOn : List CopyState → CopyKind → List CopyView → Type 0
+StandsOn copies Full older = older ≡ []
+StandsOn copies (Inc parent) [] = ⊥
+StandsOn copies (Inc parent) (copy ∷ older) =
+    (state_of copies parent ≡ complete copy) × StandsOn copies copy.kind older
+
+-- a copy that is there, complete or not
+abbrev pub copy_in : CopyState → Option CopyView
+copy_in (reading copy) = Some copy
+copy_in (complete copy) = Some copy
+copy_in dropped = None
+
+-- a page of a copy lacks nothing below its redo point, and shows no change that is not forced
+pub record IsCovered (rs : List Record) (forced_end redo number : ℕ) (page : Page) : Type 0 where
+  pub covers : Covers rs number page redo
+  pub stable : page.lsn < forced_end
+
+-- a copy of the whole volume, whose redo point is forced; its parent was there before it
+pub record IsCopyOf (pages forced_end : ℕ) (copies : List CopyState) (id : ℕ)
+    (copy : CopyView) : Type 0 where
+  pub whole : length copy.pages ≡ pages
+  pub early : copy.redo ≤ forced_end
+  pub parent : HasParent copies id copy.kind
+
+-- the copies of a volume, beside its log and its stored pages: while a copy is being read, each
+-- stored page lacks nothing below its redo point; and so does each page that a copy has, by itself
+-- or by those that it stands on
+pub record AreCopied (rs : List Record) (forced_end : ℕ) (stored : List Page)
+    (copies : List CopyState) : Type 0 where
+  pub each : (id : ℕ) (copy : CopyView) → copy_in (state_of copies id) ≡ Some copy
+      → IsCopyOf (length stored) forced_end copies id copy
+  pub read : (id : ℕ) (copy : CopyView) → state_of copies id ≡ reading copy
+      → (p : ℕ) (d : Page) → p < length stored → Covers rs p (slice_index_or stored p d) copy.redo
+  pub covered : (id : ℕ) (copy : CopyView) (older : List CopyView)
+      → copy_in (state_of copies id) ≡ Some copy → StandsOn copies copy.kind older
+      → (p : ℕ) → IfSome (content (copy ∷ older) p) (IsCovered rs forced_end copy.redo p)

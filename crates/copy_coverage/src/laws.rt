@@ -1,0 +1,79 @@
+//! Laws of copies, for those who read the contracts.
+
+ghost use Rattle.std.specs.Prelude.{ℕ, Some, ◌≡◌, ◌+◌, ◌≤◌, ◌<◌, ◌++◌, ◌∷◌, [], List, length, slice_set};
+ghost use Rattle.std.specs.Prelude.{slice_index_or};
+ghost use Rattle.page_core.specs.declared.page.Page.{Page};
+ghost use Rattle.log_records.specs.declared.record.Record.{Record};
+ghost use Rattle.log_records.specs.Coverage.{Covers, IsPast};
+ghost use Rattle.log_records.specs.Record.{own_lsn};
+ghost use Rattle.copy_vault.specs.declared.copy_id.CopyKind.{CopyKind};
+ghost use Rattle.copy_vault.specs.Copy.{CopyView};
+ghost use Rattle.copy_vault.specs.Vault.{CopyState, HasParent, decided, opened, reading, sealed};
+ghost use Rattle.copy_vault.specs.Vault.{state_of, without};
+ghost use Rattle.log_records.specs.Coverage.{resume};
+ghost use Rattle.log_records.specs.Image.{image};
+ghost use Rattle.log_records.specs.Log.{IsLog, Log};
+ghost use Rattle.copy_vault.specs.Vault.{complete};
+ghost use Rattle.copy_coverage.specs.Copied.{AreCopied, StandsOn, content};
+ghost use Rattle.copy_coverage.specs.Kept.{IsKeptOf};
+
+/// Copies lack nothing below their redo points while the log grows, and more of it is forced.
+pub fn copies_outlast_new_records()
+    ensures logged { (rs : List Record) (next : Record) (forced_end : ℕ) (stored : List Page)
+        (copies : List CopyState) → forced_end ≤ own_lsn next
+        → AreCopied rs forced_end stored copies
+        → AreCopied (rs ++ next ∷ []) forced_end stored copies }
+    ensures forced { (rs : List Record) (low high : ℕ) (stored : List Page)
+        (copies : List CopyState) → low ≤ high
+        → AreCopied rs low stored copies → AreCopied rs high stored copies }
+{}
+
+/// Nor do they while a stored page is replaced by a newer one of the log's past.
+pub fn copies_outlast_page_writes()
+    ensures { (rs : List Record) (forced_end : ℕ) (stored : List Page) (copies : List CopyState)
+        (p : ℕ) (image : Page) → AreCopied rs forced_end stored copies → p < length stored
+        → IsPast rs p image → ((d : Page) → (slice_index_or stored p d).lsn ≤ image.lsn)
+        → AreCopied rs forced_end (slice_set stored p image) copies }
+{}
+
+/// A copy may begin with a redo point below which every stored page lacks nothing.
+pub fn a_copy_begins()
+    ensures { (rs : List Record) (forced_end : ℕ) (stored : List Page) (copies : List CopyState)
+        (kind : CopyKind) (begin redo : ℕ) → AreCopied rs forced_end stored copies
+        → HasParent copies (length copies + 1) kind → redo ≤ forced_end
+        → ((p : ℕ) (d : Page) → p < length stored → Covers rs p (slice_index_or stored p d) redo)
+        → AreCopied rs forced_end stored (opened copies kind (length stored) begin redo) }
+{}
+
+/// It takes a stored page, or keeps what its parent has where the stored LSN is below the parent's
+/// redo point. Either way it lacks nothing of that page below its own redo point.
+pub fn a_copy_decides()
+    ensures { (rs : List Record) (forced_end : ℕ) (stored : List Page) (copies : List CopyState)
+        (id p : ℕ) (copy : CopyView) (page : Page) → AreCopied rs forced_end stored copies
+        → state_of copies id ≡ reading copy → p < length stored
+        → page ≡ slice_index_or stored p page → page.lsn < forced_end
+        → AreCopied rs forced_end stored (decided copies id p page) }
+{}
+
+/// A copy that is sealed or dropped leaves each other one as it is.
+pub fn a_copy_ends()
+    ensures sealed { (rs : List Record) (forced_end : ℕ) (stored : List Page)
+        (copies : List CopyState) (id : ℕ) (copy : CopyView)
+        → AreCopied rs forced_end stored copies → state_of copies id ≡ reading copy
+        → AreCopied rs forced_end stored (sealed copies id) }
+    ensures dropped { (rs : List Record) (forced_end : ℕ) (stored : List Page)
+        (copies : List CopyState) (id : ℕ) (copy : CopyView)
+        → AreCopied rs forced_end stored copies → state_of copies id ≡ reading copy
+        → AreCopied rs forced_end stored (without copies id) }
+{}
+
+/// Redo of any log that a crash may leave, from a complete copy's redo point on, makes each page of
+/// its chain what redo of that whole log over formatted pages makes of it.
+pub fn a_chain_restores()
+    ensures { (log kept : Log) (forced_end : ℕ) (stored : List Page) (copies : List CopyState)
+        (id : ℕ) (copy : CopyView) (older : List CopyView) (p : ℕ) (page : Page) → IsLog log
+        → AreCopied log.records forced_end stored copies → IsKeptOf log forced_end kept
+        → state_of copies id ≡ complete copy → StandsOn copies copy.kind older
+        → content (copy ∷ older) p ≡ Some page
+        → resume page kept.records copy.redo ≡ image kept.records p }
+{}
