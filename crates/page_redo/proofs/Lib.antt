@@ -1,3 +1,4 @@
 pub mod Redone
 pub mod Valid
+pub mod Volumes
 pub mod Covering

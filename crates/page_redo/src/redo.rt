@@ -21,7 +21,8 @@ pub fn redo_page(page: &mut Page, records: &[Record])
     }
 }
 
-fn is_above(lsn: Lsn, record: &Record) -> bool
+/// The record is above an LSN.
+pub(crate) fn is_above(lsn: Lsn, record: &Record) -> bool
     ensures { result ≡ is_above lsn «record».now }
 {
     lsn < record.lsn()
