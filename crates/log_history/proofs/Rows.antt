@@ -230,8 +230,8 @@ no_rec_lsn_of_a_begin : MayFollow to_begin (found_pages 64) → ⊥
 no_rec_lsn_of_a_begin may = at may.1.0
   where
     at : Contains {X = ℕ} (128 ∷ []) 64 → ⊥
-    at (zero, found) = let is = found.1 in absurd (omega (arith, is))
-    at (suc k, found) = let lt = found.0 in absurd (omega (arith, lt))
+    at (zero, lt, is) = absurd (omega (arith, is))
+    at (suc k, lt, is) = absurd (omega (arith, lt))
 
 -- an active transaction is not rolling back
 not_rolling_back : MayFollow to_pages (found_txn Rolling) → ⊥

@@ -3,7 +3,7 @@
 ghost use Rattle.std.specs.Prelude.{◌≡◌, ◌↔◌, ◌<◌, ◌/◌, ◌-◌, [], min, Some, None, IfSome, IsTrue, OnOk};
 ghost use Rattle.std.specs.Prelude.{slice_get};
 ghost use Rattle.std.specs.List.{AllByRecursion, fold};
-ghost use Rattle.log_history.specs.CheckpointTable.{AreChanges, last_page_of};
+ghost use Rattle.log_history.specs.CheckpointTable.{AreChanges, last_page_of, page_of};
 ghost use Rattle.log_records.specs.DirtyPage.{entries_of};
 
 use crate::open_transactions::OpenTransactions;
@@ -55,6 +55,8 @@ impl Checkpoints {
     ghost use Rattle.log_history.specs.CheckpointTable.{MayAddPages, MayAddTxn};
     ghost use Rattle.log_history.specs.CheckpointTable.{MayClose, MayNoteCheckpoint};
     ghost use Rattle.log_history.specs.CheckpointTable.{add_pages, noted_checkpoint};
+    ghost use Rattle.log_history.specs.Transactions.{without_last};
+    ghost use Rattle.std.specs.Prelude.{OnErr};
     ghost use Rattle.std.specs.Option.{option_map};
 
     /// Before the first record: no checkpoint is open.
@@ -129,15 +131,13 @@ impl Checkpoints {
         }
     }
 
-    /// Takes the record as the next one.
+    /// Takes the record as the next one. An `Err` comes where memory is refused, and changes nothing.
     pub fn note(&mut self, next: &Record) -> Result<(), AllocError>
         ensures ok { OnOk result (self.new ≡ noted_checkpoint self.old next.now) }
+        ensures err { OnErr result (self.new ≡ self.old) }
     {
-        let page = match next.change() {
-            Some(change) => change.page.0,
-            None => NO_PAGE,
-        };
-        self.changed.push(page)?;
+        self.txns.reserve(1)?;
+        self.changed.push(page_of(next))?;
         match *next {
             Record::BeginChkpt { lsn } => {
                 self.txns.clear();
@@ -146,22 +146,34 @@ impl Checkpoints {
                     last_page: None,
                     redo: lsn.0,
                 });
-                Ok(())
             }
-            Record::ChkptPages { pages, .. } => {
-                self.add_pages(&pages);
-                Ok(())
-            }
+            Record::ChkptPages { pages, .. } => self.add_pages(&pages),
             Record::ChkptTxns { txn, .. } => {
-                self.txns.push(txn.0)?;
-                Ok(())
+                if self.txns.push(txn.0).is_err() {
+                    unreachable!();
+                }
             }
-            Record::EndChkpt { .. } => {
-                self.current = None;
-                Ok(())
-            }
-            _ => Ok(()),
+            Record::EndChkpt { .. } => self.current = None,
+            _ => {}
         }
+        Ok(())
+    }
+
+    /// Takes back the last record that was noted, which is a transaction's.
+    pub fn take_back(&mut self)
+        ensures { self.new ≡ record self.old { changed = without_last self.old.changed } }
+    {
+        let _ = self.changed.pop();
+    }
+}
+
+/// The page that a record changes.
+fn page_of(next: &Record) -> u32
+    ensures { result ≡ page_of next.now }
+{
+    match next.change() {
+        Some(change) => change.page.0,
+        None => NO_PAGE,
     }
 }
 

@@ -63,8 +63,8 @@ impl History {
     }
 
     /// Takes the next record if it may come next, and answers whether it may. Where it may not,
-    /// nothing changes. An `Err` comes where room for the transaction table is refused, and changes
-    /// nothing either.
+    /// nothing changes. An `Err` comes where room for the tables is refused, and changes nothing
+    /// either.
     pub fn follow(&mut self, next: &Record) -> Result<bool, AllocError>
         requires valid { IsRecord next.now }
         requires within { IsWithin (length self.old.pages) next.now }
@@ -80,8 +80,11 @@ impl History {
         {
             return Ok(false);
         }
-        self.txns.note(next)?;
         self.checkpoints.note(next)?;
+        if let Err(error) = self.txns.note(next) {
+            self.checkpoints.take_back();
+            return Err(error);
+        }
         redo_on_its_page(&mut self.pages, next);
         Ok(true)
     }

@@ -1,6 +1,5 @@
 -- Which changes of a log a page has that was kept elsewhere meanwhile.
 use Rattle.std.specs.Prelude.{ℕ, ◌≡◌, ◌<◌, ◌≤◌, ◌==◌, ◌/◌, nat_le, nat_lt, Bool, false, ◌&&◌, List}
-use Rattle.std.specs.Prelude.{[], ◌∷◌}
 use Rattle.std.specs.Prelude.{length, map, filter, take, Option, None, IfSome, slice_index}
 use Rattle.std.specs.Prelude.{slice_index_or}
 use Rattle.std.specs.List.{All, filter_map, range_with_len}
