@@ -1,5 +1,5 @@
 #!/usr/bin/env python3
-"""Spoils logs in some 12,000 ways, and compares what a program answers to each with the definitions.
+"""Spoils logs in some 22,000 ways, and compares what a program answers to each with the definitions.
 
 usage: faults.py PROGRAM
 
@@ -83,7 +83,7 @@ def small_logs():
     """Each small log with its name."""
     for logs in (spoiled_logs.changed_bytes, spoiled_logs.cut_logs, spoiled_logs.fields_at_bounds,
                  spoiled_logs.chained_fields, spoiled_logs.moved_records, spoiled_logs.compensations,
-                 spoiled_logs.two_faults, spoiled_logs.drawn_logs):
+                 spoiled_logs.two_faults, spoiled_logs.drawn_logs, spoiled_logs.checkpoints):
         yield from logs()
     for name, log, marked in spoiled_logs.scenarios():
         if answer(log)[2].decode() != (f"E35 BadChain {marked}\n" if marked else ""):

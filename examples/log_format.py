@@ -8,6 +8,9 @@ import struct
 from collections import Counter, defaultdict
 from typing import NamedTuple
 
+import log_checkpoints
+from log_checkpoints import Checkpoints
+
 MAGIC = b"AIMGLOG1"
 HEADER_SIZE = 64
 RECORD_SIZE = 64
@@ -97,7 +100,7 @@ class Volume:
         self.slots = [[0] * SLOTS for _ in range(pages)]
 
     def redo(self, record):
-        if KINDS[record.kind].has_change:
+        if record.kind in KINDS and KINDS[record.kind].has_change:
             slots, slot = self.slots[record.change.page], record.change.slot
             slots[slot] = record.change.changed(slots[slot])
             self.lsns[record.change.page] = record.lsn
@@ -110,8 +113,8 @@ class Volume:
 class Transaction:
     """An open transaction. Its pending changes are its Updates that no Comp has taken back, the oldest first."""
 
-    def __init__(self):
-        self.last_lsn = 0
+    def __init__(self, first_lsn):
+        self.first_lsn = self.last_lsn = first_lsn
         self.is_rolling = False
         self.pending = []
 
@@ -126,9 +129,12 @@ class History:
         self.open = {}  # each open transaction by its number
         self.claims = defaultdict(Counter)  # by slot: of which transactions and kinds changes are pending there
         self.volume = Volume(pages)
+        self.checkpoints = Checkpoints()
 
     def fault(self, record):
         """Why this record, which is spelt right, may not come next, in words, or None."""
+        if record.kind in log_checkpoints.NAMES:
+            return self.checkpoints.fault(record, self.open)
         if record.kind == BEGIN:
             return self.fault_of_begin(record)
         number, transaction = record.transaction, self.open.get(record.transaction)
@@ -176,9 +182,13 @@ class History:
 
     def take(self, record):
         """Adds the next record, which has no fault."""
+        self.end += RECORD_SIZE
+        if record.kind in log_checkpoints.NAMES:
+            self.checkpoints.take(record)
+            return
         if record.kind == BEGIN:
             self.begun += 1
-            self.open[record.transaction] = Transaction()
+            self.open[record.transaction] = Transaction(record.lsn)
         transaction = self.open[record.transaction]
         transaction.last_lsn = record.lsn
         if record.kind == UPDATE:
@@ -191,7 +201,8 @@ class History:
                 self.release(update)
         transaction.is_rolling |= record.kind in (COMP, ABORT)
         self.volume.redo(record)
-        self.end += RECORD_SIZE
+        if KINDS[record.kind].has_change:
+            self.checkpoints.changed[record.lsn] = record.change.page
 
     def claims_of(self, update):
         return self.claims[update.change.page, update.change.slot]
@@ -218,6 +229,8 @@ def page_count(header):
 
 
 def decode_record(data):
+    if data[0] in log_checkpoints.NAMES:
+        return log_checkpoints.decode(data)
     (kind, spare, transaction, previous, undo_next, page, slot, change, more_spare, before, number, most_spare,
      lsn) = RECORD.unpack(data)
     return Record(kind, transaction, previous, Change(page, slot, change, before, number), undo_next, lsn,
@@ -246,6 +259,8 @@ def fault_of_header(data):
 
 def fault_of_record(record, at, pages):
     """What is wrong with a record that stands at this offset of a log of so many pages, in words, or None."""
+    if record.kind in log_checkpoints.NAMES:
+        return log_checkpoints.fault_of_spelling(record, at, pages)
     if record.kind not in KINDS:
         return f"the kind {record.kind} is unknown"
     if record.spare != NO_SPARE:

@@ -10,6 +10,8 @@ import random
 import sys
 from pathlib import Path
 
+from log_checkpoints import (ACTIVE, BEGIN_CHKPT, CHKPT_PAGES, CHKPT_TXNS, END_CHKPT, ROLLING,
+                             CheckpointRecord)
 from log_format import (ABORT, ADD, BEGIN, COMMIT, COMP, END, NO_CHANGE, RECORD_SIZE, SET, SLOTS, UPDATE, Change,
                         Record, Volume, encode_header, lsn_of)
 
@@ -60,6 +62,13 @@ class Log:
         record = Record(kind, transaction, previous, change, undo_next, lsn_of(len(self.records)))
         self.records.append(record)
         earlier.append(record)
+
+    def checkpoint(self, record):
+        """Appends a record of a checkpoint with its own LSN, and that of the last BeginChkpt."""
+        lsn = lsn_of(len(self.records))
+        begins = [earlier.lsn for earlier in self.records if earlier.kind == BEGIN_CHKPT]
+        begin = 0 if record.kind == BEGIN_CHKPT else begins[-1]
+        self.records.append(record._replace(begin=begin, lsn=lsn))
 
     def encode(self):
         return encode_header(self.pages) + b"".join(record.encode() for record in self.records)
@@ -151,6 +160,33 @@ def rollback():
     return log
 
 
+def checkpoint():
+    """A checkpoint with four dirty pages, one without any, and one that is open, beside transactions."""
+    log = Log(pages=4)
+    log.begin(1)
+    for page in range(4):
+        log.update(1, Change(page, slot=0, kind=SET, before=0, number=1))
+    log.begin(2)
+    log.checkpoint(CheckpointRecord(BEGIN_CHKPT))
+    log.checkpoint(CheckpointRecord(CHKPT_PAGES, entries=((0, 128), (1, 192), (2, 256))))
+    log.update(2, Change(page=3, slot=1, kind=ADD, before=0, number=5))
+    log.abort(1)
+    log.checkpoint(CheckpointRecord(CHKPT_PAGES, entries=((3, 320),)))
+    log.begin(3)
+    log.compensate(1)
+    log.checkpoint(CheckpointRecord(CHKPT_TXNS, transaction=1, state=ROLLING, last=832, undo_next=256))
+    log.checkpoint(CheckpointRecord(CHKPT_TXNS, transaction=2, state=ACTIVE, last=576, undo_next=576))
+    log.checkpoint(CheckpointRecord(END_CHKPT, redo_point=128))
+    log.checkpoint(CheckpointRecord(BEGIN_CHKPT))
+    log.commit(2)
+    log.checkpoint(CheckpointRecord(CHKPT_TXNS, transaction=1, state=ROLLING, last=832, undo_next=256))
+    log.checkpoint(CheckpointRecord(CHKPT_TXNS, transaction=3, state=ACTIVE, last=768, undo_next=768))
+    log.checkpoint(CheckpointRecord(END_CHKPT, redo_point=1088))
+    log.checkpoint(CheckpointRecord(BEGIN_CHKPT))
+    log.commit(3)
+    return log
+
+
 def bad_chain():
     """The log of four records whose last one names another record of its transaction, and its fault line."""
     log = four_records()
@@ -165,7 +201,8 @@ def torn():
 
 
 def main(folder):
-    for name, log in [("four_records", four_records()), ("interleaved", interleaved()), ("rollback", rollback())]:
+    for name, log in [("four_records", four_records()), ("interleaved", interleaved()), ("rollback", rollback()),
+                      ("checkpoint", checkpoint())]:
         (folder / f"{name}.log").write_bytes(log.encode())
         (folder / f"{name}.volume").write_bytes(volume_of(log))
     for name, (log, fault) in [("torn", torn()), ("bad_chain", bad_chain())]:

@@ -10,6 +10,7 @@ Ends with status 1 if the log has a fault.
 import signal
 import sys
 
+import log_checkpoints
 from log_format import (ADD, HEADER_SIZE, KINDS, LONGEST_LOG, RECORD_SIZE, History, decode_record, fault_of_header,
                         fault_of_record, page_count)
 
@@ -48,6 +49,8 @@ def read_record(data, at, pages, history):
 
 
 def describe(record):
+    if record.kind in log_checkpoints.NAMES:
+        return describe_checkpoint(record)
     kind = KINDS[record.kind]
     parts = [f"txn {record.transaction}", kind.name]
     if kind.has_change:
@@ -55,6 +58,17 @@ def describe(record):
     chain = [f"prev {record.previous}"] if kind.has_previous else []
     chain += [f"undo next {record.undo_next}"] if kind.has_undo_next else []
     parts += [f"({', '.join(chain)})"] if chain else []
+    return "  ".join(parts)
+
+
+def describe_checkpoint(record):
+    parts = [log_checkpoints.NAMES[record.kind]]
+    parts += [f"page {page} from {rec_lsn}" for page, rec_lsn in record.entries]
+    if record.transaction:
+        parts += [f"txn {record.transaction} {log_checkpoints.STATES[record.state]}",
+                  f"(last {record.last}, undo next {record.undo_next})"]
+    parts += [f"redo from {record.redo_point}"] if record.redo_point else []
+    parts += [f"(begin {record.begin})"] if record.begin else []
     return "  ".join(parts)
 
 

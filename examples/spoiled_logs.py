@@ -6,10 +6,11 @@ Each function gives pairs of words that say what is done, and the bytes of a log
 import re
 from collections import Counter, defaultdict
 
+import log_checkpoints
 from log_format import (ABORT, ADD, BEGIN, COMMIT, COMP, END, HEADER_SIZE, KINDS, LONGEST_LOG, MOST_OPEN, MOST_PAGES,
                         MOST_RECORDS, NO_CHANGE, RECORD_SIZE, SET, UPDATE, Change, History, Record, encode_header,
                         lsn_of)
-from make import Draw, rollback
+from make import Draw, checkpoint, rollback
 
 PAGES = 2
 SLOTS_OF_STEPS = {"a": (0, 0), "b": (0, 61), "c": (1, 0)}
@@ -355,6 +356,40 @@ def drawn_step(draw, begun):
     transaction = max(1, begun - draw.below(4))
     word = draw.one_of(["set", "add", "add", "comp", "comp", "commit", "abort", "end"])
     return f"{word}{transaction}{draw.one_of('aaabc') if word in ('set', 'add') else ''}"
+
+
+def checkpoints():
+    """A log with checkpoints: its bytes turned, its fields set to what other records have, and its records moved."""
+    made = checkpoint()
+    records, pages, log = made.records, made.pages, made.encode()
+    for at in range(HEADER_SIZE, len(log)):
+        for turn in (0x01, 0x02, 0x03, 0x40, 0x80, 0xc0):
+            yield f"checkpoint: byte {at} turned by {turn}", turned(log, at, turn)
+    for index, record in enumerate(records):
+        if record.kind in log_checkpoints.NAMES:
+            for fields in other_fields(record):
+                yield (f"checkpoint: record {index} with {fields}",
+                       log_of([*records[:index], record._replace(**fields), *records[index + 1:]], pages))
+        front, here, behind = records[:index], records[index:index + 1], records[index + 1:]
+        moves = {"left out": front + behind, "twice": front + here + here + behind,
+                 "after the next": front + behind[:1] + here + behind[1:], "the last": front + here}
+        for move, moved in moves.items():
+            yield f"checkpoint: record {index} {move}", log_of(moved, pages)
+
+
+def other_fields(record):
+    for field in ("begin", "last", "undo_next", "redo_point"):
+        for lsn in range(0, record.lsn + 1, RECORD_SIZE):
+            yield {field: lsn}
+    for transaction in range(5):
+        yield {"transaction": transaction}
+    for state in range(4):
+        yield {"state": state}
+    for rec_lsn in range(0, record.lsn + 1, RECORD_SIZE):
+        for index, (page, _) in enumerate(record.entries):
+            yield {"entries": (*record.entries[:index], (page, rec_lsn), *record.entries[index + 1:])}
+    for entries in (((3, 320),), ((0, 128), (3, 320)), ((3, 320), (0, 128)), ((0, 128), (0, 128)), ((4, 320),)):
+        yield {"entries": entries}
 
 
 def scenarios():

@@ -31,6 +31,8 @@ pub struct Seat(u8);
 
 #[derive(Default)]
 struct Transaction {
+    number: u32,
+    first_lsn: u64,
     last_lsn: u64,
     is_rolling: bool,
     pending: Vec<Pending>,
@@ -40,6 +42,7 @@ struct Transaction {
 struct Pending {
     /// The change that takes it back.
     undo: Change,
+    lsn: u32,
     previous: u32,
     held: Held,
 }
@@ -78,6 +81,8 @@ impl Chains {
         self.free_seats &= self.free_seats - 1;
         self.seats.push(seat);
         let opened = &mut self.open[usize::from(seat)];
+        opened.number = transaction;
+        opened.first_lsn = lsn;
         opened.last_lsn = lsn;
         opened.is_rolling = false;
         Some(())
@@ -113,6 +118,7 @@ impl Chains {
         let open = &mut self.open[usize::from(seat.0)];
         open.pending.push(Pending {
             undo: Change { number, ..*change },
+            lsn: open.last_lsn as u32,
             previous: previous as u32,
             held,
         });
@@ -157,6 +163,23 @@ impl Chains {
         }
         self.close(transaction, seat);
         Some(())
+    }
+
+    /// Whether the open transaction rolls back, the LSN of its last record, and its UndoNxtLSN.
+    pub fn now(&self, transaction: u32) -> Option<(bool, u64, u64)> {
+        let seat = *self.seats.get(transaction as usize - 1)?;
+        let open = self.open.get(usize::from(seat))?;
+        let pending = open.pending.last();
+        let undo_next = pending.map_or(open.first_lsn, |pending| u64::from(pending.lsn));
+        Some((open.is_rolling, open.last_lsn, undo_next))
+    }
+
+    /// The open transactions that began before an LSN.
+    pub fn began_before(&self, lsn: u64) -> impl Iterator<Item = u32> + '_ {
+        let seats = (0..MOST_OPEN).filter(|seat| self.free_seats >> seat & 1 == 0);
+        let open = seats.map(|seat| &self.open[seat]);
+        open.filter(move |open| open.first_lsn < lsn)
+            .map(|open| open.number)
     }
 
     fn close(&mut self, transaction: u32, seat: Seat) {

@@ -1,6 +1,7 @@
 //! The format of logs and volumes, and which record may follow which, for the programs of the benchmark.
 
 pub mod chains;
+pub mod checkpoints;
 mod claims;
 
 pub const MAGIC: &[u8; 8] = b"AIMGLOG1";
@@ -19,6 +20,10 @@ pub const COMP: u32 = 3;
 pub const COMMIT: u32 = 4;
 pub const ABORT: u32 = 5;
 pub const END: u32 = 6;
+pub const BEGIN_CHKPT: u32 = 7;
+pub const CHKPT_PAGES: u32 = 8;
+pub const CHKPT_TXNS: u32 = 9;
+pub const END_CHKPT: u32 = 10;
 
 /// The kinds of changes, each with the zero behind it.
 pub const SET: u16 = 1;

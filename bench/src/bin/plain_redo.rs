@@ -2,9 +2,10 @@
 //! plain Rust. It is the measure that imgcopy is held to.
 
 use bench::chains::{Chains, Change, ChangeKind};
+use bench::checkpoints::{self, Checkpoints};
 use bench::{
-    ABORT, ADD, BEGIN, COMMIT, COMP, END, FIRST_SLOT, HEADER_SIZE, LONGEST_LOG, MAGIC, MOST_PAGES,
-    PAGE_FORMAT, PAGE_SIZE, RECORD_SIZE, SET, SLOTS, UPDATE,
+    ABORT, ADD, BEGIN, BEGIN_CHKPT, COMMIT, COMP, END, FIRST_SLOT, HEADER_SIZE, LONGEST_LOG, MAGIC,
+    MOST_PAGES, PAGE_FORMAT, PAGE_SIZE, RECORD_SIZE, SET, SLOTS, UPDATE,
 };
 use std::fmt;
 use std::io::{self, ErrorKind, Read, Write};
@@ -117,6 +118,7 @@ struct Redo {
     page_count: u32,
     volume: Vec<Page>,
     chains: Chains,
+    checkpoints: Checkpoints,
 }
 
 impl Redo {
@@ -126,6 +128,7 @@ impl Redo {
             page_count,
             volume: formatted_volume(page_count),
             chains: Chains::new(page_count as usize),
+            checkpoints: Checkpoints::default(),
         }
     }
 
@@ -159,9 +162,24 @@ impl Redo {
         if bytes.len() < RECORD_SIZE {
             return Err(Fault::Torn(self.lsn));
         }
+        if u32::from(bytes[0]) >= BEGIN_CHKPT {
+            return self.take_checkpoint(bytes);
+        }
         let record =
             read_record(bytes, self.lsn, self.page_count).ok_or(Fault::BadRecord(self.lsn))?;
         self.take(&record).ok_or(Fault::BadChain(self.lsn))?;
+        self.lsn += RECORD_SIZE;
+        Ok(())
+    }
+
+    #[inline(never)]
+    fn take_checkpoint(&mut self, bytes: &[u8]) -> Result<(), Fault> {
+        let lsn = self.lsn as u64;
+        let record =
+            checkpoints::read(bytes, lsn, self.page_count).ok_or(Fault::BadRecord(self.lsn))?;
+        self.checkpoints
+            .take(&record, lsn, &self.chains)
+            .ok_or(Fault::BadChain(self.lsn))?;
         self.lsn += RECORD_SIZE;
         Ok(())
     }
@@ -170,6 +188,10 @@ impl Redo {
     #[inline]
     fn take(&mut self, record: &Record) -> Option<()> {
         let (transaction, previous, lsn) = (record.transaction, record.previous, self.lsn as u64);
+        self.checkpoints.note(match &record.step {
+            Step::Update { change, .. } | Step::Comp { change, .. } => Some(change.page),
+            _ => None,
+        });
         if let Step::Begin = record.step {
             return self.chains.begin(transaction, lsn);
         }

@@ -6,7 +6,7 @@ use Rattle.std.proofs.lemmas.List.Elements.{All-filter, All-get_or, All-head, Al
 use Rattle.std.proofs.lemmas.Option.{get_or_from_slice_get, slice_get_within}
 use Rattle.log_history.specs.declared.pending_change.PendingChange.{PendingChange}
 use Rattle.log_records.specs.declared.record.Record.{Record}
-use Rattle.log_records.specs.declared.record.Record.TheVariants.{Begin, Update, Comp, Commit, Abort, End}
+use Rattle.log_records.specs.declared.record.Record.TheVariants.{Begin, Update, Comp, Commit, Abort, End, BeginChkpt, ChkptPages, ChkptTxns, EndChkpt}
 use Rattle.log_records.specs.Log.{IsLog, IsWithin, Log, lsn_of}
 use Rattle.log_records.specs.Record.{IsBefore, IsPageChange, IsRecord, own_lsn}
 use Rattle.log_history.specs.Transactions.{last_of, pending, pending_from, records_of, txn_of, with_pending}
@@ -28,6 +28,10 @@ All-with_pending Q changes (Begin lsn txn) all new = all
 All-with_pending Q changes (Commit lsn txn prev) all new = all
 All-with_pending Q changes (Abort lsn txn prev) all new = all
 All-with_pending Q changes (End lsn txn prev) all new = all
+All-with_pending Q changes (BeginChkpt lsn) all new = all
+All-with_pending Q changes (ChkptPages lsn begin entries) all new = all
+All-with_pending Q changes (ChkptTxns lsn begin txn state last undo) all new = all
+All-with_pending Q changes (EndChkpt lsn begin redo) all new = all
 
 All-pending_from : (Q : PendingChange → Type 0) (changes : List PendingChange) (rs : List Record) → All Q changes
     → All (λ r. IfSome (noted r) Q) rs → All Q (pending_from changes rs)
@@ -90,6 +94,10 @@ is_noted pages at (Comp lsn txn prev undo_next page slot change) stands = tt
 is_noted pages at (Commit lsn txn prev) stands = tt
 is_noted pages at (Abort lsn txn prev) stands = tt
 is_noted pages at (End lsn txn prev) stands = tt
+is_noted pages at (BeginChkpt lsn) stands = tt
+is_noted pages at (ChkptPages lsn begin entries) stands = tt
+is_noted pages at (ChkptTxns lsn begin txn state last undo) stands = tt
+is_noted pages at (EndChkpt lsn begin redo) stands = tt
 
 pub all_pending : (log : Log) (t : ℕ) → IsLog log
     → All (IsPending log.pages (lsn_of (length log.records))) (pending log.records t)

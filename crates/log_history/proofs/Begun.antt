@@ -1,24 +1,22 @@
 -- The numbers of the transactions of a linked log.
-use Rattle.std.proofs.Common.{◌≡◌, ℕ, zero, suc, ◌+◌, ◌<◌, ◌≤◌, ◌⊎◌, true, false, not, eqb, List, [], ◌∷◌, ◌++◌, length, All, sym, refl, ap, subst, ◌∙◌, inl, inr, arith, eq-eqb, eqb-true, true≢false}
+use Rattle.std.proofs.Common.{◌≡◌, ℕ, zero, suc, ◌+◌, ◌<◌, ◌≤◌, ◌⊎◌, true, false, ◌&&◌, not, eqb, List, [], ◌∷◌, ◌++◌, length, sym, refl, ap, subst, ◌∙◌, inl, inr, arith, eq-eqb, eqb-true, true≢false}
 use Rattle.std.specs.Prelude.{Some, None}
 use Rattle.std.specs.List.{list_any, range_with_len}
 use Rattle.std.specs.List.Sorted.{IsStrictlyIncreasing}
 use Rattle.std.specs.Option.{option_to_list}
-use Rattle.std.proofs.lemmas.Bool.{and_parts, or_right, cases_Bool, cases_eq, or_cases, or_left}
+use Rattle.std.proofs.lemmas.Bool.{and_parts, or_right, cases_Bool, cases_eq, or_cases}
 use Rattle.std.proofs.lemmas.List.{map-id, length_push}
-use Rattle.std.proofs.lemmas.List.Elements.{All-nil, All-push, All-weaker}
-use Rattle.std.proofs.lemmas.List.Folds.{list_any-append}
 use Rattle.std.proofs.lemmas.List.FromFn.{get_or-range_with_len, length-range_with_len, map-range_with_len_more}
 use Rattle.std.proofs.lemmas.List.Kept.{IsStrictlyIncreasing-filter}
 use Rattle.log_records.specs.declared.record.Record.{Record}
-use Rattle.log_records.specs.declared.record.Record.TheVariants.{Begin, Update, Comp, Commit, Abort, End}
+use Rattle.log_records.specs.declared.record.Record.TheVariants.{Begin, Update, Comp, Commit, Abort, End, BeginChkpt, ChkptPages, ChkptTxns, EndChkpt}
 use Rattle.log_history.specs.Transactions.{begun, begun_by, is_last, is_open, open_in, records_of, txn_of}
 use Rattle.log_history.specs.Linked.{IsLinked, MayFollow}
 use Rattle.log_history.proofs.Histories.{along_linked}
 use Rattle.log_history.proofs.Filters.{filter_some}
 use Rattle.log_history.proofs.Pushes.{begun_push, begun_push_none, has_begun, has_begun_push_begin, has_begun_push_none, has_begun_push_other, records_of_push_other}
 
--- ---- a record that may follow begins the next transaction, or is one of an open transaction
+-- ---- a record that may follow begins the next transaction, or is one of an open transaction, or of none
 
 abbrev pub BeginsNext : List Record → Record → Type 0
 BeginsNext rs r = (begun_by r ≡ Some (txn_of r)) × (txn_of r ≡ length (begun rs) + 1)
@@ -26,13 +24,22 @@ BeginsNext rs r = (begun_by r ≡ Some (txn_of r)) × (txn_of r ≡ length (begu
 abbrev pub GoesOnOpen : List Record → Record → Type 0
 GoesOnOpen rs r = (begun_by r ≡ None) × (is_open rs (txn_of r) ≡ true)
 
-pub begins_or_goes_on : (rs : List Record) (r : Record) → MayFollow rs r → BeginsNext rs r ⊎ GoesOnOpen rs r
+-- a record of a checkpoint
+abbrev pub IsAside : Record → Type 0
+IsAside r = (begun_by r ≡ None) × (txn_of r ≡ 0)
+
+pub begins_or_goes_on : (rs : List Record) (r : Record) → MayFollow rs r
+    → BeginsNext rs r ⊎ (GoesOnOpen rs r ⊎ IsAside r)
 begins_or_goes_on rs (Begin lsn t) may = inl (refl, may.next)
-begins_or_goes_on rs (Update lsn t prev page slot change) may = inr (refl, may.active.goes_on.still_open)
-begins_or_goes_on rs (Comp lsn t prev undo_next page slot change) may = inr (refl, may.0.still_open)
-begins_or_goes_on rs (Commit lsn t prev) may = inr (refl, may.goes_on.still_open)
-begins_or_goes_on rs (Abort lsn t prev) may = inr (refl, may.goes_on.still_open)
-begins_or_goes_on rs (End lsn t prev) may = inr (refl, may.0.still_open)
+begins_or_goes_on rs (Update lsn t prev page slot change) may = inr (inl (refl, may.active.goes_on.still_open))
+begins_or_goes_on rs (Comp lsn t prev undo_next page slot change) may = inr (inl (refl, may.0.still_open))
+begins_or_goes_on rs (Commit lsn t prev) may = inr (inl (refl, may.goes_on.still_open))
+begins_or_goes_on rs (Abort lsn t prev) may = inr (inl (refl, may.goes_on.still_open))
+begins_or_goes_on rs (End lsn t prev) may = inr (inl (refl, may.0.still_open))
+begins_or_goes_on rs (BeginChkpt lsn) may = inr (inr (refl, refl))
+begins_or_goes_on rs (ChkptPages lsn begin pages) may = inr (inr (refl, refl))
+begins_or_goes_on rs (ChkptTxns lsn begin t state last undo) may = inr (inr (refl, refl))
+begins_or_goes_on rs (EndChkpt lsn begin redo) may = inr (inr (refl, refl))
 
 pub begins_its : (r : Record) (u : ℕ) → begun_by r ≡ Some u → txn_of r ≡ u
 begins_its (Begin lsn t) u begins = cc
@@ -60,7 +67,8 @@ begun_is = along_linked (λ rs. CountsUp (begun rs)) refl more
       | inl new ↦
           let pushed = begun_push rs r ∙ ap (λ o. begun rs ++ option_to_list o) new.0 in
           subst CountsUp (sym pushed) (CountsUp_push (begun rs) (txn_of r) new.1 up)
-      | inr on ↦ subst CountsUp (sym (begun_push_none rs r on.0)) up
+      | inr (inl on) ↦ subst CountsUp (sym (begun_push_none rs r on.0)) up
+      | inr (inr aside) ↦ subst CountsUp (sym (begun_push_none rs r aside.0)) up
     ]
 
 pub begun-IsStrictlyIncreasing : (rs : List Record) → IsLinked rs → IsStrictlyIncreasing (begun rs)
@@ -111,26 +119,42 @@ open_has_begun rs t still = (and_parts (has_begun rs t) (not (list_any is_last (
 
 -- ---- a transaction has records exactly if it began
 
+-- 0 is no transaction
+pub zero_not_begun : (rs : List Record) → IsLinked rs → has_begun rs 0 ≡ false
+zero_not_begun rs linked =
+    elim (cases_Bool (has_begun rs 0)) [
+      | inl began ↦ let within = begun_bounds rs linked 0 began in absurd (omega arith)
+      | inr new ↦ new
+    ]
+
+pub zero_not_open : (rs : List Record) → IsLinked rs → is_open rs 0 ≡ false
+zero_not_open rs linked = ap (λ b. b && not (list_any is_last (records_of rs 0))) (zero_not_begun rs linked)
+
 -- with a record that may follow, its transaction has begun
-begun_now : (rs : List Record) (r : Record) → MayFollow rs r → has_begun (rs ++ r ∷ []) (txn_of r) ≡ true
-begun_now rs r may =
+begun_now : (rs : List Record) (r : Record) → MayFollow rs r → 1 ≤ txn_of r
+    → has_begun (rs ++ r ∷ []) (txn_of r) ≡ true
+begun_now rs r may some =
     let t = txn_of r in
     elim (begins_or_goes_on rs r may) [
       | inl new ↦
           has_begun_push_begin rs r t t new.0 ∙ or_right (has_begun rs t) (eqb t t) (eq-eqb t t refl)
-      | inr on ↦ has_begun_push_none rs r t on.0 ∙ open_has_begun rs t on.1
+      | inr (inl on) ↦ has_begun_push_none rs r t on.0 ∙ open_has_begun rs t on.1
+      | inr (inr aside) ↦ let zero = aside.1 in absurd (omega (arith, zero, some))
     ]
 
-pub none_before_begin : (rs : List Record) → IsLinked rs → (t : ℕ) → has_begun rs t ≡ false → records_of rs t ≡ []
-none_before_begin = along_linked (λ rs. (t : ℕ) → has_begun rs t ≡ false → records_of rs t ≡ []) (λ t new. refl) more
+pub none_before_begin : (rs : List Record) → IsLinked rs → (t : ℕ) → 1 ≤ t → has_begun rs t ≡ false
+    → records_of rs t ≡ []
+none_before_begin = along_linked (λ rs. (t : ℕ) → 1 ≤ t → has_begun rs t ≡ false → records_of rs t ≡ [])
+    (λ t some new. refl) more
   where
     more : (rs : List Record) (r : Record) → IsLinked rs → MayFollow rs r
-        → ((t : ℕ) → has_begun rs t ≡ false → records_of rs t ≡ [])
-        → (t : ℕ) → has_begun (rs ++ r ∷ []) t ≡ false → records_of (rs ++ r ∷ []) t ≡ []
-    more rs r linked may before t new = elim (cases_eq (txn_of r) t) [
+        → ((t : ℕ) → 1 ≤ t → has_begun rs t ≡ false → records_of rs t ≡ [])
+        → (t : ℕ) → 1 ≤ t → has_begun (rs ++ r ∷ []) t ≡ false → records_of (rs ++ r ∷ []) t ≡ []
+    more rs r linked may before t some new = elim (cases_eq (txn_of r) t) [
       | inl same ↦
-          absurd (true≢false (sym (subst (λ n. has_begun (rs ++ r ∷ []) n ≡ true) same (begun_now rs r may)) ∙ new))
-      | inr other ↦ records_of_push_other rs r t other ∙ before t (sym (has_begun_push_other rs r t other) ∙ new)
+          let its = begun_now rs r may (subst (λ n. 1 ≤ n) (sym same) some) in
+          absurd (true≢false (sym (subst (λ n. has_begun (rs ++ r ∷ []) n ≡ true) same its) ∙ new))
+      | inr other ↦ records_of_push_other rs r t other ∙ before t some (sym (has_begun_push_other rs r t other) ∙ new)
     ]
 
 pub some_from_begin : (rs : List Record) (t : ℕ) → has_begun rs t ≡ true → 0 < length (records_of rs t)
@@ -139,32 +163,3 @@ some_from_begin rs t began =
   where
     its : (r : Record) (u : ℕ) → begun_by r ≡ Some u → eqb u t ≡ true → eqb (txn_of r) t ≡ true
     its r u begins is = ap (λ n. eqb n t) (begins_its r u begins) ∙ is
-
--- so the ones past the count have none
-pub none_past_begun : (rs : List Record) → IsLinked rs → (t : ℕ) → length (begun rs) < t → records_of rs t ≡ []
-none_past_begun rs linked t past = none_before_begin rs linked t (next_is_new rs linked t past)
-
-has_begun_kept : (rs : List Record) (r : Record) (t : ℕ) → has_begun rs t ≡ true → has_begun (rs ++ r ∷ []) t ≡ true
-has_begun_kept rs r t began =
-    let next = option_to_list (begun_by r) in
-    let is = λ (b : ℕ). eqb b t in
-    ap (list_any is) (begun_push rs r) ∙ list_any-append is (begun rs) next
-    ∙ or_left (has_begun rs t) (list_any is next) began
-
-records_have_begun : (rs : List Record) → IsLinked rs → All (λ r. has_begun rs (txn_of r) ≡ true) rs
-records_have_begun = along_linked (λ rs. All (λ r. has_begun rs (txn_of r) ≡ true) rs) (All-nil _) more
-  where
-    more : (rs : List Record) (r : Record) → IsLinked rs → MayFollow rs r
-        → All (λ x. has_begun rs (txn_of x) ≡ true) rs
-        → All (λ x. has_begun (rs ++ r ∷ []) (txn_of x) ≡ true) (rs ++ r ∷ [])
-    more rs r linked may before =
-        let Now : Record → Type 0 = λ x. has_begun (rs ++ r ∷ []) (txn_of x) ≡ true in
-        let kept = λ (x : Record). has_begun_kept rs r (txn_of x) in
-        All-push Now rs r (All-weaker (λ x. has_begun rs (txn_of x) ≡ true) Now kept rs before) (begun_now rs r may)
-
--- each record is one of a transaction that began
-pub records_bounds : (rs : List Record) → IsLinked rs → All (λ r. (1 ≤ txn_of r) × (txn_of r ≤ length (begun rs))) rs
-records_bounds rs linked =
-    let Began : Record → Type 0 = λ x. has_begun rs (txn_of x) ≡ true in
-    let bounds = λ (r : Record). begun_bounds rs linked (txn_of r) in
-    All-weaker Began (λ r. (1 ≤ txn_of r) × (txn_of r ≤ length (begun rs))) bounds rs (records_have_begun rs linked)

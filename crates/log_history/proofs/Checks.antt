@@ -11,12 +11,12 @@ use Rattle.page_core.specs.declared.change.ChangeKind.{ChangeKind}
 use Rattle.page_core.specs.Change.{kind_of}
 use Rattle.log_records.specs.declared.limits.TheConstants.{MAX_OPEN}
 use Rattle.log_records.specs.declared.record.Record.{Record}
-use Rattle.log_records.specs.declared.record.Record.TheVariants.{Begin, Update, Comp, Commit, Abort, End}
+use Rattle.log_records.specs.declared.record.Record.TheVariants.{Begin, Update, Comp, Commit, Abort, End, BeginChkpt, ChkptPages, ChkptTxns, EndChkpt}
 use Rattle.log_history.specs.Transactions.{begun, holder, is_open, keeps_out, last_of, open_in, owed}
 use Rattle.log_records.specs.Least.{least}
 use Rattle.log_history.specs.Linked.{Compensates, IsActive, MayFollow}
-use Rattle.log_history.specs.Table.{Entry, IsActiveEntry, IsChained, MayNote, entry_in, entry_of, holder_in, owed_by_entry, owed_in, table_of}
-use Rattle.log_history.specs.Checked.{NamesNumber}
+use Rattle.log_history.specs.Table.{Entry, IsActiveEntry, IsChained, IsEntryNow, MayNote, entry_in, entry_of, holder_in, owed_by_entry, owed_in, table_of}
+use Rattle.log_history.specs.Checked.{GoesWithCheckpoint, NamesNumber}
 use Rattle.log_history.proofs.Filters.{filter-map, find-filter, find-map}
 use Rattle.log_history.proofs.Pushes.{has_begun, has_ended}
 
@@ -96,25 +96,57 @@ may_note rs (Comp lsn t prev undo_next page slot change) may =
 may_note rs (Commit lsn t prev) may = has_active rs t prev may
 may_note rs (Abort lsn t prev) may = has_active rs t prev may
 may_note rs (End lsn t prev) may = has_entry rs t (IsUndone prev) may.0.still_open (may.0.chained, may.1)
+may_note rs (ChkptTxns lsn begin t state last undo) may =
+    let now = may.1 in
+    has_entry rs t (IsEntryNow state last undo) now.still_open record {
+      same_state = now.same_state;
+      same_last = now.same_last;
+      same_undo = now.same_undo;
+    }
+may_note rs (BeginChkpt lsn) may = tt
+may_note rs (ChkptPages lsn begin pages) may = tt
+may_note rs (EndChkpt lsn begin redo) may = tt
+
+pub goes_with_checkpoint : (rs : List Record) (r : Record) → MayFollow rs r → GoesWithCheckpoint rs r
+goes_with_checkpoint rs (BeginChkpt lsn) may = may
+goes_with_checkpoint rs (ChkptPages lsn begin pages) may = may
+goes_with_checkpoint rs (ChkptTxns lsn begin t state last undo) may = may.0
+goes_with_checkpoint rs (EndChkpt lsn begin redo) may = may
+goes_with_checkpoint rs other may = tt
 
 pub names_number : (rs : List Record) (r : Record) → MayFollow rs r → NamesNumber rs r
 names_number rs (Update lsn t prev page slot change) may = may.replaces
 names_number rs r may = tt
 
-pub may_follow : (rs : List Record) (r : Record) → MayNote (table_of rs) r → NamesNumber rs r → MayFollow rs r
-may_follow rs (Begin lsn t) may names =
+pub may_follow : (rs : List Record) (r : Record) → MayNote (table_of rs) r → NamesNumber rs r
+    → GoesWithCheckpoint rs r → MayFollow rs r
+may_follow rs (Begin lsn t) may names goes =
     let same_count = length-map (open_in rs) (entry_of rs) in
     record { next = may.0; room = subst (λ n. n < MAX_OPEN) same_count may.1 }
-may_follow rs (Update lsn t prev page slot change) may names = record {
+may_follow rs (Update lsn t prev page slot change) may names goes = record {
   active = from_active rs t prev may.0;
   free = sym (holder_in-table_of rs page slot (kind_of change) t) ∙ may.1;
   replaces = names;
 }
-may_follow rs (Comp lsn t prev undo_next page slot change) may names =
+may_follow rs (Comp lsn t prev undo_next page slot change) may names goes =
     let here = from_entry rs t (Undoes prev undo_next page slot change) may in
     (record { still_open = here.0; chained = here.1.0 }, here.1.1)
-may_follow rs (Commit lsn t prev) may names = from_active rs t prev may
-may_follow rs (Abort lsn t prev) may names = from_active rs t prev may
-may_follow rs (End lsn t prev) may names =
+may_follow rs (Commit lsn t prev) may names goes = from_active rs t prev may
+may_follow rs (Abort lsn t prev) may names goes = from_active rs t prev may
+may_follow rs (End lsn t prev) may names goes =
     let here = from_entry rs t (IsUndone prev) may in
     (record { still_open = here.0; chained = here.1.0 }, here.1.1)
+may_follow rs (BeginChkpt lsn) may names goes = goes
+may_follow rs (ChkptPages lsn begin pages) may names goes = goes
+may_follow rs (ChkptTxns lsn begin t state last undo) may names goes =
+    let here = from_entry rs t (IsEntryNow state last undo) may in
+    let now = here.1 in (
+      goes,
+      record {
+        still_open = here.0;
+        same_state = now.same_state;
+        same_last = now.same_last;
+        same_undo = now.same_undo;
+      },
+    )
+may_follow rs (EndChkpt lsn begin redo) may names goes = goes

@@ -1,19 +1,22 @@
 -- What the records so far make says whether the next one may follow.
-use Rattle.std.proofs.Common.{◌≡◌, ℕ, ◌<◌, ◌∷◌, [], List, get_or, map, sym, ap, subst, ◌∙◌, arith}
+use Rattle.std.proofs.Common.{◌≡◌, ℕ, ◌<◌, ◌∷◌, [], List, get_or, map, sym, ap, subst, subst₂, ◌∙◌, ◌↔◌, arith}
 use Rattle.std.specs.Prelude.{slice_index}
 use Rattle.std.proofs.lemmas.List.FromFn.{get_or-map-range_with_len}
 use Rattle.page_core.specs.declared.page.Page.{Page}
 use Rattle.page_core.specs.Change.{Replaces}
 use Rattle.page_core.specs.Page.{formatted}
 use Rattle.log_records.specs.declared.record.Record.{Record}
-use Rattle.log_records.specs.declared.record.Record.TheVariants.{Begin, Update, Comp, Commit, Abort, End}
-use Rattle.log_history.specs.Checked.{NamesNumber}
+use Rattle.log_records.specs.declared.record.Record.TheVariants.{Begin, Update, Comp, Commit, Abort, End, BeginChkpt, ChkptPages, ChkptTxns, EndChkpt}
+use Rattle.log_history.specs.Checked.{GoesWithCheckpoint, NamesNumber}
 use Rattle.log_history.specs.History.{IsMadeOf, Made, MayComeNext, NamesNumberOn, followed, number_on}
 use Rattle.log_records.specs.Image.{image, redo_all, with_record}
 use Rattle.log_history.specs.Linked.{IsLinked, MayFollow, number_in}
-use Rattle.log_records.specs.Log.{IsWithin, Log, with_next}
+use Rattle.log_records.specs.Log.{IsLog, IsWithin, Log, with_next}
 use Rattle.log_history.specs.Table.{MayNote, Table, noted}
-use Rattle.log_history.proofs.Checks.{may_note, names_number}
+use Rattle.log_history.proofs.Checks.{goes_with_checkpoint, may_note, names_number}
+use Rattle.log_history.proofs.CheckpointTables.{checkpoint_table_of_push, goes_as_noted}
+use Rattle.log_history.specs.CheckpointTable.{CheckpointTable, MayNoteCheckpoint, noted_checkpoint}
+use Rattle.log_records.specs.Record.{IsRecord}
 use Rattle.log_history.proofs.Checks.{may_follow as table_allows}
 use Rattle.log_records.proofs.Images.{redo_all-append}
 use Rattle.log_history.proofs.Steps.{table_of_push}
@@ -41,6 +44,10 @@ names log made (Comp lsn txn prev undo_next page slot change) of within on = tt
 names log made (Commit lsn txn prev) of within on = tt
 names log made (Abort lsn txn prev) of within on = tt
 names log made (End lsn txn prev) of within on = tt
+names log made (BeginChkpt lsn) of within on = tt
+names log made (ChkptPages lsn begin pages) of within on = tt
+names log made (ChkptTxns lsn begin txn state last undo) of within on = tt
+names log made (EndChkpt lsn begin redo) of within on = tt
 
 names_on : (log : Log) (made : Made) (r : Record) → IsMadeOf log made → IsWithin log.pages r
     → NamesNumber log.records r → NamesNumberOn made.pages r
@@ -51,17 +58,29 @@ names_on log made (Comp lsn txn prev undo_next page slot change) of within named
 names_on log made (Commit lsn txn prev) of within named = tt
 names_on log made (Abort lsn txn prev) of within named = tt
 names_on log made (End lsn txn prev) of within named = tt
+names_on log made (BeginChkpt lsn) of within named = tt
+names_on log made (ChkptPages lsn begin pages) of within named = tt
+names_on log made (ChkptTxns lsn begin txn state last undo) of within named = tt
+names_on log made (EndChkpt lsn begin redo) of within named = tt
 
-pub may_follow : (log : Log) (made : Made) (r : Record) → IsMadeOf log made → IsWithin log.pages r
-    → MayComeNext made r → MayFollow log.records r
-may_follow log made r of within may =
+-- what the tables say of checkpoints is what the log says
+goes : (log : Log) (made : Made) (r : Record) → IsMadeOf log made → IsLog log → IsRecord r
+    → GoesWithCheckpoint log.records r ↔ MayNoteCheckpoint made.table made.checkpoints r
+goes log made r of valid is =
+    subst₂ (λ (t : Table) (c : CheckpointTable). GoesWithCheckpoint log.records r ↔ MayNoteCheckpoint t c r)
+    (sym of.table) (sym of.checkpoints) (goes_as_noted log r valid is)
+
+pub may_follow : (log : Log) (made : Made) (r : Record) → IsMadeOf log made → IsLog log → IsRecord r
+    → IsWithin log.pages r → MayComeNext made r → MayFollow log.records r
+may_follow log made r of valid is within may =
     table_allows log.records r (subst (λ (t : Table). MayNote t r) of.table may.may_note)
-    (names log made r of within may.replaces)
+    (names log made r of within may.replaces) ((goes log made r of valid is).1 may.may_note_checkpoint)
 
-pub may_come : (log : Log) (made : Made) (r : Record) → IsMadeOf log made → IsWithin log.pages r
-    → MayFollow log.records r → MayComeNext made r
-may_come log made r of within may = record {
+pub may_come : (log : Log) (made : Made) (r : Record) → IsMadeOf log made → IsLog log → IsRecord r
+    → IsWithin log.pages r → MayFollow log.records r → MayComeNext made r
+may_come log made r of valid is within may = record {
   may_note = subst (λ (t : Table). MayNote t r) (sym of.table) (may_note log.records r may);
+  may_note_checkpoint = (goes log made r of valid is).0 (goes_with_checkpoint log.records r may);
   replaces = names_on log made r of within (names_number log.records r may);
 }
 
@@ -69,6 +88,8 @@ pub made_next : (log : Log) (made new : Made) (r : Record) → IsLinked log.reco
     → MayFollow log.records r → new ≡ followed made r → IsMadeOf (with_next log (r ∷ [])) new
 made_next log made new r linked of may e = record {
   table = ap (λ (m : Made). m.table) e ∙ ap (λ (t : Table). noted t r) of.table ∙ sym (table_of_push log.records r linked may);
+  checkpoints = ap (λ (m : Made). m.checkpoints) e ∙ ap (λ (t : CheckpointTable). noted_checkpoint t r) of.checkpoints
+      ∙ sym (checkpoint_table_of_push log.records r);
   pages = ap (λ (m : Made). m.pages) e ∙ ap (map (λ page. with_record page r)) of.pages
       ∙ redo_all-append log.records (r ∷ []) log.pages;
 }

@@ -1,5 +1,6 @@
 pub mod Begun
 pub mod Chains
+pub mod CheckpointTables
 pub mod Checks
 pub mod Filters
 pub mod Firsts

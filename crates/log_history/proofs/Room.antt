@@ -11,12 +11,12 @@ use Rattle.std.proofs.Math.Bool.{and_comm, or-false}
 use Rattle.page_core.specs.declared.change.Change.{Change}
 use Rattle.log_history.specs.declared.pending_change.PendingChange.{PendingChange}
 use Rattle.log_records.specs.declared.record.Record.{Record}
-use Rattle.log_records.specs.declared.record.Record.TheVariants.{Begin, Update, Comp, Commit, Abort, End}
+use Rattle.log_records.specs.declared.record.Record.TheVariants.{Begin, Update, Comp, Commit, Abort, End, BeginChkpt, ChkptPages, ChkptTxns, EndChkpt}
 use Rattle.log_history.specs.Transactions.{begun, begun_by, has_aborted, is_abort, is_last, is_open, is_rollback, last_of, open_in, owed, owed_by, pending, pending_from, records_of, txn_of, with_pending, without_last}
 use Rattle.log_history.specs.Linked.{IsLinked, MayFollow}
 use Rattle.log_history.proofs.Filters.{filter-filter, map_agree_but}
 use Rattle.log_history.proofs.Pushes.{has_aborted_push, has_begun, open_in_push_begin, open_in_push_last, open_in_push_same, pending_push, records_of_push_other, records_of_push_own}
-use Rattle.log_history.proofs.Begun.{begun_bounds, begun_is, next_is_new, none_before_begin, open_has_begun}
+use Rattle.log_history.proofs.Begun.{begun_bounds, begun_is, next_is_new, none_before_begin, open_has_begun, zero_not_open}
 use Rattle.log_history.proofs.Steps.{not_among}
 
 -- ---- an open transaction stands once among the open ones
@@ -156,7 +156,8 @@ no_abort (x ∷ xs) none =
     not_abort (Abort lsn t prev) other = other
     not_abort r other = refl
 
--- ---- records and what is owed: a Begin needs room for three, an Update for two, and no other record needs any
+-- ---- records and what is owed: a Begin needs room for three, an Update for two, a checkpoint's record for itself,
+-- and no other record needs any
 
 -- the records that stand in a log, and those that its open transactions may still need
 abbrev pub claimed : List Record → ℕ
@@ -167,7 +168,7 @@ pub claimed_begin : (rs : List Record) (lsn t : ℕ) → IsLinked rs → MayFoll
 claimed_begin rs lsn t linked may =
     let next = may.next in
     let new = next_is_new rs linked t (omega arith) in
-    let more = owed_push_begin rs lsn t new (none_before_begin rs linked t new) in
+    let more = owed_push_begin rs lsn t new (none_before_begin rs linked t (omega arith) new) in
     omega (arith, more, length_push rs (Begin lsn t))
 
 pub claimed_update : (rs : List Record) (lsn t prev page slot : ℕ) (change : Change)
@@ -218,10 +219,25 @@ claimed_end rs lsn t prev linked may =
     let step = owed_push_last rs r linked refl refl may.0.still_open in
     omega (arith, step, one (has_aborted rs t), length_push rs r)
 
+-- a record of no transaction
+claimed_aside : (rs : List Record) (r : Record) → IsLinked rs → begun_by r ≡ None → is_last r ≡ false → txn_of r ≡ 0
+    → claimed (rs ++ r ∷ []) ≡ claimed rs + 1
+claimed_aside rs r linked none more no_txn =
+    let after = owed_by (rs ++ r ∷ []) in
+    let others = λ (o : ℕ) (apart : o ≢ 0). owed_by_push_other rs r o (λ same. apart (same ∙ no_txn)) in
+    let away = not_among (is_open rs) 0 (zero_not_open rs linked) (begun rs) in
+    let same = ap (sum_by after) (open_in_push_same rs r none more)
+    ∙ sum_agree_but 0 after (owed_by rs) others (open_in rs) away in
+    omega (arith, same, length_push rs r)
+
 -- the room that a record needs
 abbrev pub needs : Record → ℕ
 needs (Begin lsn t) = 3
 needs (Update lsn t prev page slot change) = 2
+needs (BeginChkpt lsn) = 1
+needs (ChkptPages lsn begin pages) = 1
+needs (ChkptTxns lsn begin t state last undo) = 1
+needs (EndChkpt lsn begin redo) = 1
 needs other = 0
 
 pub claimed_push : (rs : List Record) (r : Record) → IsLinked rs → MayFollow rs r
@@ -234,3 +250,10 @@ claimed_push rs (Comp lsn t prev undo_next page slot change) linked may =
 claimed_push rs (Commit lsn t prev) linked may = omega (arith, claimed_commit rs lsn t prev linked may)
 claimed_push rs (Abort lsn t prev) linked may = omega (arith, claimed_abort rs lsn t prev linked may)
 claimed_push rs (End lsn t prev) linked may = omega (arith, claimed_end rs lsn t prev linked may)
+claimed_push rs (BeginChkpt lsn) linked may = le_of_eq (claimed_aside rs (BeginChkpt lsn) linked refl refl refl)
+claimed_push rs (ChkptPages lsn begin pages) linked may =
+    le_of_eq (claimed_aside rs (ChkptPages lsn begin pages) linked refl refl refl)
+claimed_push rs (ChkptTxns lsn begin t state last undo) linked may =
+    le_of_eq (claimed_aside rs (ChkptTxns lsn begin t state last undo) linked refl refl refl)
+claimed_push rs (EndChkpt lsn begin redo) linked may =
+    le_of_eq (claimed_aside rs (EndChkpt lsn begin redo) linked refl refl refl)

@@ -1,14 +1,20 @@
 -- The definitions on worked logs: what they compute to.
-use Rattle.std.proofs.Common.{◌≡◌, zero, suc, ◌-◌, ◌^◌, List, [], ◌∷◌, ◌++◌, take, map, refl, arith, lit<}
-use Rattle.std.specs.Prelude.{Some, None}
+use Rattle.std.proofs.Common.{◌≡◌, zero, suc, ◌-◌, ◌^◌, List, [], ◌∷◌, ◌++◌, take, map, refl, arith, ℕ, lit<, lit≤}
+use Rattle.std.specs.Prelude.{Some, None, Contains}
 use Rattle.page_core.specs.declared.change.Change.TheVariants.{Set, Add}
 use Rattle.page_core.specs.declared.change.ChangeKind.TheVariants as kind
 use Rattle.page_core.specs.Page.{formatted}
 use Rattle.log_history.specs.declared.pending_change.PendingChange.{PendingChange}
 use Rattle.log_records.specs.declared.record.Record.{Record}
-use Rattle.log_records.specs.declared.record.Record.TheVariants.{Begin, Update, Comp, Commit, Abort, End}
+use Rattle.log_records.specs.declared.record.Record.TheVariants.{Begin, Update, Comp, Commit, Abort, End, BeginChkpt, ChkptPages, ChkptTxns, EndChkpt}
+use Rattle.log_records.specs.declared.dirty_page.DirtyPages.{DirtyPages}
+use Rattle.log_records.specs.declared.dirty_page.DirtyPages.TheVariants.{One}
+use Rattle.log_records.specs.declared.txn_phase.TxnPhase.{TxnPhase}
+use Rattle.log_records.specs.declared.txn_phase.TxnPhase.TheVariants.{Active, Rolling}
+use Rattle.log_history.specs.Checkpoint.{open_checkpoint, redo_point}
+use Rattle.std.specs.Option.{option_map}
 use Rattle.log_history.specs.Transactions.{begun, holder, open_in, owed, pending}
-use Rattle.log_history.specs.Linked.{IsLinked, number_in}
+use Rattle.log_history.specs.Linked.{HasOldTxns, IsLinked, MayFollow, number_in}
 use Rattle.log_history.specs.Committed.{committed}
 use Rattle.log_history.specs.Work.{AbortCall, AddCall, BeginCall, CommitCall, SetCall, UndoCall, work}
 
@@ -151,3 +157,86 @@ not_another_slot = refl
 
 second_keeps_out_a_set : holder added_by_both 0 0 kind.Set 1 ≡ Some 2
 second_keeps_out_a_set = refl
+
+-- ---- a checkpoint beside an open transaction
+
+abbrev one_dirty : ℕ → DirtyPages
+one_dirty rec_lsn = One (record { page = 0; rec_lsn = rec_lsn })
+
+abbrev found_pages : ℕ → Record
+found_pages rec_lsn = ChkptPages 256 192 (one_dirty rec_lsn)
+
+abbrev found_txn : TxnPhase → Record
+found_txn state = ChkptTxns 320 192 1 state 128 128
+
+abbrev ended_at : ℕ → Record
+ended_at redo = EndChkpt 384 192 redo
+
+-- the log up to its BeginChkpt, its ChkptPages and its ChkptTxns
+abbrev to_begin : List Record
+to_begin = Begin 64 1 ∷ Update 128 1 64 0 0 (Set 0 5) ∷ BeginChkpt 192 ∷ []
+
+abbrev to_pages : List Record
+to_pages = to_begin ++ found_pages 128 ∷ []
+
+abbrev to_txns : List Record
+to_txns = to_pages ++ found_txn Active ∷ []
+
+abbrev checkpointing : List Record
+checkpointing = to_txns ++ ended_at 128 ∷ Commit 448 1 128 ∷ []
+
+open_after_its_pages : open_checkpoint to_pages
+    ≡ Some (record { begin = 192; pages = record { page = 0; rec_lsn = 128 } ∷ []; txns = [] })
+open_after_its_pages = refl
+
+redo_begins_at_the_change : option_map redo_point (open_checkpoint to_txns) ≡ Some 128
+redo_begins_at_the_change = refl
+
+closed_in_the_end : open_checkpoint checkpointing ≡ None
+closed_in_the_end = refl
+
+no_calls_of_it : work checkpointing ≡ BeginCall 1 ∷ SetCall 1 0 0 5 ∷ CommitCall 1 ∷ []
+no_calls_of_it = refl
+
+pub checkpointing_is_linked : IsLinked checkpointing
+unfolding formatted
+checkpointing_is_linked zero d lt = record { next = refl; room = lit< tt }
+checkpointing_is_linked (suc zero) d lt = record {
+  active = record { goes_on = record { still_open = refl; chained = refl }; active = refl };
+  free = refl;
+  replaces = refl;
+}
+checkpointing_is_linked (suc (suc zero)) d lt = refl
+checkpointing_is_linked (suc (suc (suc zero))) d lt =
+    (record { same = refl; early = refl; above = tt }, ((0, lit≤ tt, refl), tt))
+checkpointing_is_linked (suc (suc (suc (suc zero)))) d lt = (
+  record { same = refl; above = tt },
+  record { still_open = refl; same_state = refl; same_last = refl; same_undo = refl },
+)
+checkpointing_is_linked (suc (suc (suc (suc (suc zero))))) d lt = (
+  record { same = refl; least = refl },
+  each,
+)
+  where
+    each : HasOldTxns to_txns (record { begin = 192; pages = record { page = 0; rec_lsn = 128 } ∷ []; txns = 1 ∷ [] })
+    each zero d lt old = (0, lit≤ tt, refl)
+    each (suc k) d lt old = absurd (omega arith)
+checkpointing_is_linked (suc (suc (suc (suc (suc (suc zero)))))) d lt =
+    record { goes_on = record { still_open = refl; chained = refl }; active = refl }
+checkpointing_is_linked (suc (suc (suc (suc (suc (suc (suc i))))))) d lt = absurd (omega arith)
+
+-- the LSN of a Begin is no RecLSN
+no_rec_lsn_of_a_begin : MayFollow to_begin (found_pages 64) → ⊥
+no_rec_lsn_of_a_begin may = at may.1.0
+  where
+    at : Contains {X = ℕ} (128 ∷ []) 64 → ⊥
+    at (zero, lt, is) = absurd (omega (arith, is))
+    at (suc k, lt, is) = absurd (omega (arith, lt))
+
+-- an active transaction is not rolling back
+not_rolling_back : MayFollow to_pages (found_txn Rolling) → ⊥
+not_rolling_back may = let state = may.1.same_state in cc
+
+-- the redo point is not past the least RecLSN
+no_later_redo_point : MayFollow to_txns (ended_at 192) → ⊥
+no_later_redo_point may = let least = may.0.least in absurd (omega (arith, least))

@@ -13,6 +13,7 @@ use Rattle.log_records.specs.Record.{IsChange}
 use Rattle.log_history.specs.Transactions.{begun, begun_by, is_last, is_open, open_in, pending_from, records_of, txn_of}
 use Rattle.log_history.specs.Linked.{IsLinked, number_in}
 use Rattle.log_history.specs.Committed.{committed}
+use Rattle.log_history.proofs.Begun.{zero_not_open}
 use Rattle.log_history.proofs.Pushes.{has_begun, is_open_push_other, is_open_push_own, open_in_push_begin, open_in_push_last, open_in_push_same}
 use Rattle.log_history.proofs.Steps.{not_among}
 use Rattle.log_history.proofs.Room.{open_once}
@@ -199,4 +200,26 @@ module _ (rs : List Record) (page slot : ℕ) (linked : IsLinked rs) (valid : Al
         apart = apart_push rs (Begin lsn t) page slot known.apart (λ u other still_u still_t.
             subst (All (AddsWith (mine u))) (sym (own_begun lsn t none)) (All-nil (AddsWith (mine u))));
         leads = subst (Explain (rs ++ Begin lsn t ∷ []) page slot) (same_changes lsn t new none) leads;
+      }
+
+  -- a record of no transaction
+  pub accounts_aside : (r : Record) → begun_by r ≡ None → is_last r ≡ false → txn_of r ≡ 0
+      → committed (rs ++ r ∷ []) page slot ≡ committed rs page slot
+      → number_in (rs ++ r ∷ []) page slot ≡ number_in rs page slot
+      → Accounts (rs ++ r ∷ []) page slot
+  accounts_aside r none more no_txn same_committed same_number =
+      let t = txn_of r in
+      let now = own (rs ++ r ∷ []) page slot in
+      let closed : is_open rs t ≡ false = ap (is_open rs) no_txn ∙ zero_not_open rs linked in
+      let still_closed = is_open_push_own rs r t none refl ∙ ap (λ b. b && not (is_last r)) closed in
+      let unchanged = λ (o : ℕ) (other : o ≢ t). own_push_other rs r page slot o (λ same. other (sym same)) in
+      let away = not_among (is_open rs) t closed (begun rs) in
+      let same = sym (ap (flat_map now) (open_in_push_same rs r none more)
+      ∙ flat_map_agree_but t now mine unchanged (open_in rs) away) in
+      let leads = subst₂ (Leads (flat_map mine (open_in rs))) (sym same_committed) (sym same_number) known.leads in
+      record {
+        fits = subst (λ n. n < 2 ^ 64) (sym same_committed) known.fits;
+        apart = apart_push rs r page slot known.apart (λ u other still_u still_t.
+            absurd (true≢false (sym still_t ∙ still_closed)));
+        leads = subst (Explain (rs ++ r ∷ []) page slot) same leads;
       }

@@ -10,14 +10,14 @@ use Rattle.std.proofs.Math.Path.{fun_ext}
 use Rattle.std.proofs.lemmas.Simd.{map-map}
 use Rattle.std.proofs.Math.Bool.{or-false, or-true}
 use Rattle.log_records.specs.declared.record.Record.{Record}
-use Rattle.log_records.specs.declared.record.Record.TheVariants.{Begin, Update, Comp, Commit, Abort, End}
-use Rattle.log_records.specs.Record.{own_lsn}
+use Rattle.log_records.specs.declared.record.Record.TheVariants.{Begin, Update, Comp, Commit, Abort, End, BeginChkpt, ChkptPages, ChkptTxns, EndChkpt}
+use Rattle.log_records.specs.Record.{IsOfTransaction, own_lsn}
 use Rattle.log_history.specs.Transactions.{begun, begun_by, first_lsn, has_aborted, is_abort, is_last, is_open, is_rollback, is_rolling, last_or, open_in, pending, pending_from, records_of, txn_of, with_pending}
 use Rattle.log_history.specs.Linked.{IsLinked, MayFollow}
 use Rattle.log_history.specs.Table.{Entry, entry_after, entry_of, noted, table_of, with_entry, without_entry}
 use Rattle.log_history.proofs.Filters.{filter-map, map_agree_but}
 use Rattle.log_history.proofs.Pushes.{begun_push, begun_push_none, first_lsn_push, has_aborted_push, has_begun, is_rolling_push, last_lsn_push, open_in_push_begin, open_in_push_last, open_in_push_same, pending_push, records_of_push_other, records_of_push_own}
-use Rattle.log_history.proofs.Begun.{next_is_new, none_before_begin, open_has_begun, some_from_begin}
+use Rattle.log_history.proofs.Begun.{next_is_new, none_before_begin, open_has_begun, some_from_begin, zero_not_open}
 
 -- ---- one entry
 
@@ -58,10 +58,10 @@ entry_of_push_own rs r t same some = λ i. record {
   pending = pending_push rs r t same i;
 }
 
-grown_is_after : (rs : List Record) (r : Record) (t : ℕ) → begun_by r ≡ None → is_last r ≡ false
+grown_is_after : (rs : List Record) (r : Record) (t : ℕ) → IsOfTransaction r → begun_by r ≡ None → is_last r ≡ false
     → grown rs r t ≡ entry_after (entry_of rs t) r
-grown_is_after rs (Begin lsn u) t none more = cc
-grown_is_after rs (Update lsn u prev page slot change) t none more = λ i. record {
+grown_is_after rs (Begin lsn u) t of none more = cc
+grown_is_after rs (Update lsn u prev page slot change) t of none more = λ i. record {
   txn = t;
   first = first_lsn rs t;
   last = lsn;
@@ -69,7 +69,7 @@ grown_is_after rs (Update lsn u prev page slot change) t none more = λ i. recor
   aborted = or-false (has_aborted rs t) i;
   pending = with_pending (pending rs t) (Update lsn u prev page slot change);
 }
-grown_is_after rs (Comp lsn u prev undo_next page slot change) t none more = λ i. record {
+grown_is_after rs (Comp lsn u prev undo_next page slot change) t of none more = λ i. record {
   txn = t;
   first = first_lsn rs t;
   last = lsn;
@@ -77,8 +77,8 @@ grown_is_after rs (Comp lsn u prev undo_next page slot change) t none more = λ 
   aborted = or-false (has_aborted rs t) i;
   pending = with_pending (pending rs t) (Comp lsn u prev undo_next page slot change);
 }
-grown_is_after rs (Commit lsn u prev) t none more = cc
-grown_is_after rs (Abort lsn u prev) t none more = λ i. record {
+grown_is_after rs (Commit lsn u prev) t of none more = cc
+grown_is_after rs (Abort lsn u prev) t of none more = λ i. record {
   txn = t;
   first = first_lsn rs t;
   last = lsn;
@@ -86,17 +86,21 @@ grown_is_after rs (Abort lsn u prev) t none more = λ i. record {
   aborted = or-true (has_aborted rs t) i;
   pending = pending rs t;
 }
-grown_is_after rs (End lsn u prev) t none more = cc
+grown_is_after rs (End lsn u prev) t of none more = cc
+grown_is_after rs (BeginChkpt lsn) t of none more = absurd of
+grown_is_after rs (ChkptPages lsn begin pages) t of none more = absurd of
+grown_is_after rs (ChkptTxns lsn begin u state last undo) t of none more = absurd of
+grown_is_after rs (EndChkpt lsn begin redo) t of none more = absurd of
 
-entry_of_push : (rs : List Record) (r : Record) → begun_by r ≡ None → is_last r ≡ false
+entry_of_push : (rs : List Record) (r : Record) → IsOfTransaction r → begun_by r ≡ None → is_last r ≡ false
     → 0 < length (records_of rs (txn_of r)) → (t : ℕ)
     → entry_of (rs ++ r ∷ []) t ≡ cond (eqb t (txn_of r)) (entry_after (entry_of rs t) r) (entry_of rs t)
-entry_of_push rs r none more some t =
+entry_of_push rs r of none more some t =
     let own = entry_after (entry_of rs t) r in
     elim (cases_eq t (txn_of r)) [
       | inl same ↦
           let some_of_t : 0 < length (records_of rs t) = rw same some in
-          entry_of_push_own rs r t (sym same) some_of_t ∙ grown_is_after rs r t none more
+          entry_of_push_own rs r t (sym same) some_of_t ∙ grown_is_after rs r t of none more
           ∙ sym (ap (λ b. cond b own (entry_of rs t)) (eq-eqb t (txn_of r) same))
       | inr other ↦
           entry_of_push_other rs r t (λ same. other (sym same))
@@ -133,15 +137,16 @@ begin_noted rs lsn t new none = λ i. record { begun = count i; entries = entrie
         ∙ ap₂ (λ es e. es ++ e ∷ []) same (ap (entry_from t) alone)
 
 -- a record that goes into an entry
-kept_noted : (rs : List Record) (r : Record) → begun_by r ≡ None → is_last r ≡ false → is_open rs (txn_of r) ≡ true
+kept_noted : (rs : List Record) (r : Record) → IsOfTransaction r → begun_by r ≡ None → is_last r ≡ false
+    → is_open rs (txn_of r) ≡ true
     → table_of (rs ++ r ∷ []) ≡ with_entry (table_of rs) (txn_of r) r
-kept_noted rs r none more still = λ i. record { begun = ap length (begun_push_none rs r none) i; entries = entries i }
+kept_noted rs r of none more still = λ i. record { begun = ap length (begun_push_none rs r none) i; entries = entries i }
   where
     entries : map (entry_of (rs ++ r ∷ [])) (open_in (rs ++ r ∷ []))
         ≡ map (λ e. cond (eqb e.txn (txn_of r)) (entry_after e r) e) (map (entry_of rs) (open_in rs))
     entries =
         let some = some_from_begin rs (txn_of r) (open_has_begun rs (txn_of r) still) in
-        let each = fun_ext (entry_of_push rs r none more some) in
+        let each = fun_ext (entry_of_push rs r of none more some) in
         ap (map (entry_of (rs ++ r ∷ []))) (open_in_push_same rs r none more) ∙ ap (λ f. map f (open_in rs)) each
         ∙ sym (map-map (λ e. cond (eqb e.txn (txn_of r)) (entry_after e r) e) (entry_of rs) (open_in rs))
 
@@ -163,17 +168,40 @@ last_noted rs r none last = λ i. record { begun = ap length (begun_push_none rs
         ap (map after) (open_in_push_last rs r none last) ∙ map_agree_but u after (entry_of rs) others rest away
         ∙ sym (filter-map (entry_of rs) (λ e. not (eqb e.txn u)) (open_in rs))
 
+-- a record of no transaction
+aside_noted : (rs : List Record) (r : Record) → IsLinked rs → begun_by r ≡ None → is_last r ≡ false → txn_of r ≡ 0
+    → table_of (rs ++ r ∷ []) ≡ table_of rs
+aside_noted rs r linked none more no_txn = λ i. record {
+  begun = ap length (begun_push_none rs r none) i;
+  entries = entries i;
+}
+  where
+    others : (o : ℕ) → o ≢ 0 → entry_of (rs ++ r ∷ []) o ≡ entry_of rs o
+    others o apart = entry_of_push_other rs r o (λ same. apart (sym same ∙ no_txn))
+
+    entries : map (entry_of (rs ++ r ∷ [])) (open_in (rs ++ r ∷ [])) ≡ map (entry_of rs) (open_in rs)
+    entries =
+        let away = not_among (is_open rs) 0 (zero_not_open rs linked) (begun rs) in
+        ap (map (entry_of (rs ++ r ∷ []))) (open_in_push_same rs r none more)
+        ∙ map_agree_but 0 (entry_of (rs ++ r ∷ [])) (entry_of rs) others (open_in rs) away
+
 -- the table of a linked log is kept record by record
 pub table_of_push : (rs : List Record) (r : Record) → IsLinked rs → MayFollow rs r
     → table_of (rs ++ r ∷ []) ≡ noted (table_of rs) r
 table_of_push rs (Begin lsn t) linked may =
     let next = may.next in
     let new = next_is_new rs linked t (omega arith) in
-    begin_noted rs lsn t new (none_before_begin rs linked t new)
+    begin_noted rs lsn t new (none_before_begin rs linked t (omega arith) new)
 table_of_push rs (Update lsn t prev page slot change) linked may =
-    kept_noted rs (Update lsn t prev page slot change) refl refl may.active.goes_on.still_open
+    kept_noted rs (Update lsn t prev page slot change) tt refl refl may.active.goes_on.still_open
 table_of_push rs (Comp lsn t prev undo_next page slot change) linked may =
-    kept_noted rs (Comp lsn t prev undo_next page slot change) refl refl may.0.still_open
+    kept_noted rs (Comp lsn t prev undo_next page slot change) tt refl refl may.0.still_open
 table_of_push rs (Commit lsn t prev) linked may = last_noted rs (Commit lsn t prev) refl refl
-table_of_push rs (Abort lsn t prev) linked may = kept_noted rs (Abort lsn t prev) refl refl may.goes_on.still_open
+table_of_push rs (Abort lsn t prev) linked may = kept_noted rs (Abort lsn t prev) tt refl refl may.goes_on.still_open
 table_of_push rs (End lsn t prev) linked may = last_noted rs (End lsn t prev) refl refl
+table_of_push rs (BeginChkpt lsn) linked may = aside_noted rs (BeginChkpt lsn) linked refl refl refl
+table_of_push rs (ChkptPages lsn begin pages) linked may =
+    aside_noted rs (ChkptPages lsn begin pages) linked refl refl refl
+table_of_push rs (ChkptTxns lsn begin t state last undo) linked may =
+    aside_noted rs (ChkptTxns lsn begin t state last undo) linked refl refl refl
+table_of_push rs (EndChkpt lsn begin redo) linked may = aside_noted rs (EndChkpt lsn begin redo) linked refl refl refl

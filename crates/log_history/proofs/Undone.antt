@@ -13,9 +13,9 @@ use Rattle.std.proofs.lemmas.List.FromFn.{fill_by_all}
 use Rattle.page_core.specs.Change.{Replaces, changed, kind_of, undo_of}
 use Rattle.log_history.specs.declared.pending_change.PendingChange.{PendingChange}
 use Rattle.log_records.specs.declared.record.Record.{Record}
-use Rattle.log_records.specs.declared.record.Record.TheVariants.{Begin, Update, Comp, Commit, Abort, End}
+use Rattle.log_records.specs.declared.record.Record.TheVariants.{Begin, Update, Comp, Commit, Abort, End, BeginChkpt, ChkptPages, ChkptTxns, EndChkpt}
 use Rattle.log_records.specs.Record.{IsChange, IsRecord, change_of}
-use Rattle.log_history.specs.Transactions.{is_open, keeps_out, open_in, pending, without_last}
+use Rattle.log_history.specs.Transactions.{begun_by, is_last, txn_of, is_open, keeps_out, open_in, pending, without_last}
 use Rattle.log_records.specs.Image.{image}
 use Rattle.log_records.specs.Log.{IsLog, Log}
 use Rattle.log_history.specs.Linked.{Compensates, IsLinked, MayFollow, number_in}
@@ -26,7 +26,7 @@ use Rattle.log_history.proofs.Chains.{AddsWith, leads_to, Apart, Leads, changed_
 use Rattle.log_history.proofs.Slots.{slots_of_image, after_change, apart_from_free, changes_on, changes_on-append, committed_push, is_on, number_in_push, with_changes_on}
 use Rattle.log_history.proofs.Fronts.{all_front}
 use Rattle.log_history.proofs.Owned.{HasChange, free_of, last_change, own, own_push, own_valid}
-use Rattle.log_history.proofs.Settled.{Accounts, Explain, accounts_begun, accounts_ended, accounts_kept}
+use Rattle.log_history.proofs.Settled.{accounts_aside, Accounts, Explain, accounts_begun, accounts_ended, accounts_kept}
 
 -- ---- each kind of record
 
@@ -178,12 +178,18 @@ module _ (rs : List Record) (page slot : ℕ) (linked : IsLinked rs) (valid : Al
       let made = now_committed rs r page slot ∙ ap (λ ps. changed_by (changes_on page slot ps) from) (sym may.1) in
       accounts_ended rs page slot linked valid known r refl refl may.0.still_open made (same_number r refl)
 
+  accounts_of_none : (r : Record) → begun_by r ≡ None → is_last r ≡ false → txn_of r ≡ 0 → change_of r ≡ None
+      → with_commit rs (committed rs) r page slot ≡ committed rs page slot → Accounts (rs ++ r ∷ []) page slot
+  accounts_of_none r none more no_txn changes commits =
+      accounts_aside rs page slot linked valid known r none more no_txn (now_committed rs r page slot ∙ commits)
+      (same_number r changes)
+
   accounts_push : (r : Record) → MayFollow rs r → Accounts (rs ++ r ∷ []) page slot
   accounts_push (Begin lsn t) may =
       let r = Begin lsn t in
       let next = may.next in
       let new = next_is_new rs linked t (omega arith) in
-      let none = none_before_begin rs linked t new in
+      let none = none_before_begin rs linked t (omega arith) new in
       let same_committed = now_committed rs r page slot in
       accounts_begun rs page slot linked valid known lsn t new none same_committed (same_number r refl)
   accounts_push (Update lsn t prev on_page on_slot change) may = accounts_update lsn t prev on_page on_slot change may
@@ -192,6 +198,11 @@ module _ (rs : List Record) (page slot : ℕ) (linked : IsLinked rs) (valid : Al
   accounts_push (Commit lsn t prev) may = accounts_commit lsn t prev may
   accounts_push (Abort lsn t prev) may = accounts_abort lsn t prev may
   accounts_push (End lsn t prev) may = accounts_end lsn t prev may
+  accounts_push (BeginChkpt lsn) may = accounts_of_none (BeginChkpt lsn) refl refl refl refl refl
+  accounts_push (ChkptPages lsn begin pages) may = accounts_of_none (ChkptPages lsn begin pages) refl refl refl refl refl
+  accounts_push (ChkptTxns lsn begin t state last undo) may =
+      accounts_of_none (ChkptTxns lsn begin t state last undo) refl refl refl refl refl
+  accounts_push (EndChkpt lsn begin redo) may = accounts_of_none (EndChkpt lsn begin redo) refl refl refl refl refl
 
 -- ---- each slot of a linked log
 

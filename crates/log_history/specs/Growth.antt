@@ -11,3 +11,4 @@ MayGrow (Comp lsn txn prev undo_next page slot change) = ⊥
 MayGrow (Commit lsn txn prev) = ⊥
 MayGrow (Abort lsn txn prev) = ⊥
 MayGrow (End lsn txn prev) = ⊥
+MayGrow of_checkpoint = ⊥

@@ -1,4 +1,5 @@
--- What the records of a log make: the table of its open transactions, and its pages.
+-- What the records of a log make: the tables of its open transactions and of its checkpoints, and
+-- its pages.
 use Rattle.std.specs.Prelude.{ℕ, ◌≡◌, List, map, slice_index, slice_index_or}
 use Rattle.page_core.specs.declared.page.Page.{Page}
 use Rattle.page_core.specs.Change.{Replaces}
@@ -7,15 +8,19 @@ use Rattle.log_records.specs.declared.record.Record.{Record}
 use Rattle.log_records.specs.declared.record.Record.TheVariants.{Update}
 use Rattle.log_records.specs.Image.{redo_all, with_record}
 use Rattle.log_records.specs.Log.{Log}
+use Rattle.log_history.specs.CheckpointTable.{CheckpointTable, MayNoteCheckpoint}
+use Rattle.log_history.specs.CheckpointTable.{checkpoint_table_of, noted_checkpoint}
 use Rattle.log_history.specs.Table.{MayNote, Table, noted, table_of}
 
 pub record Made : Type 0 where
   pub table : Table
+  pub checkpoints : CheckpointTable
   pub pages : List Page
 
 -- it is what this log makes
 pub record IsMadeOf (log : Log) (made : Made) : Type 0 where
   pub table : made.table ≡ table_of log.records
+  pub checkpoints : made.checkpoints ≡ checkpoint_table_of log.records
   pub pages : made.pages ≡ redo_all log.records log.pages
 
 -- the number in a slot of these pages
@@ -28,15 +33,17 @@ NamesNumberOn pages (Update lsn txn prev page slot change) =
     Replaces change (number_on pages page slot)
 NamesNumberOn pages other = Unit {0}
 
--- the record may come next, as far as the transactions and the pages say
+-- the record may come next, as far as the transactions, the checkpoints and the pages say
 pub record MayComeNext (made : Made) (r : Record) : Type 0 where
   pub may_note : MayNote made.table r
+  pub may_note_checkpoint : MayNoteCheckpoint made.table made.checkpoints r
   pub replaces : NamesNumberOn made.pages r
 
 -- what stands after it
 abbrev pub followed : Made → Record → Made
 followed made r = record {
   table = noted made.table r;
+  checkpoints = noted_checkpoint made.checkpoints r;
   pages =
       map (λ page. with_record page r) made.pages;
 }

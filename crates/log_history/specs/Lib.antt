@@ -1,4 +1,6 @@
 pub mod Checked
+pub mod Checkpoint
+pub mod CheckpointTable
 pub mod Claims
 pub mod Committed
 pub mod Growth

@@ -8,7 +8,10 @@ use Rattle.log_records.specs.declared.limits.TheConstants.{MAX_OPEN}
 use Rattle.log_history.specs.declared.pending_change.PendingChange.{PendingChange}
 use Rattle.log_records.specs.declared.record.Record.{Record}
 use Rattle.log_records.specs.declared.record.Record.TheVariants.{Begin, Update, Comp, Commit, Abort}
-use Rattle.log_records.specs.declared.record.Record.TheVariants.{End}
+use Rattle.log_records.specs.declared.record.Record.TheVariants.{End, ChkptTxns}
+use Rattle.log_records.specs.declared.txn_phase.TxnPhase.{TxnPhase}
+use Rattle.log_records.specs.declared.txn_phase.TxnPhase.TheVariants.{Active, Rolling}
+use Rattle.std.specs.Option.{option_map_or}
 use Rattle.log_history.specs.Linked.{Compensates}
 use Rattle.log_history.specs.Transactions.{begun, first_lsn, has_aborted, is_rolling, keeps_out}
 use Rattle.log_history.specs.Transactions.{last_lsn, last_of, open_in, pending, with_pending}
@@ -73,8 +76,14 @@ pub record IsActiveEntry (prev : ℕ) (e : Entry) : Type 0 where
   pub chained : prev ≡ e.last
   pub active : e.rolling ≡ false
 
+-- the entry's transaction has this state, last record and UndoNxt
+pub record IsEntryNow (state : TxnPhase) (last undo : ℕ) (e : Entry) : Type 0 where
+  pub same_state : state ≡ (if e.rolling then Rolling else Active)
+  pub same_last : last ≡ e.last
+  pub same_undo : undo ≡ option_map_or (λ p. p.lsn) (last_of e.pending) e.first
+
 -- the record may come next, as far as the transactions say; whether a Set names the number that is
--- there, they do not
+-- there, and what the open checkpoint has, they do not
 abbrev pub MayNote : Table → Record → Type 0
 MayNote table (Begin lsn txn) = (txn ≡ table.begun + 1) × (length table.entries < MAX_OPEN)
 MayNote table (Update lsn txn prev page slot change) =
@@ -87,6 +96,9 @@ MayNote table (Commit lsn txn prev) = IsSomeAnd (entry_in table txn) (IsActiveEn
 MayNote table (Abort lsn txn prev) = IsSomeAnd (entry_in table txn) (IsActiveEntry prev)
 MayNote table (End lsn txn prev) = IsSomeAnd (entry_in table txn)
     (λ e. IsChained prev e × (e.pending ≡ []))
+MayNote table (ChkptTxns lsn begin txn state last undo) =
+    IsSomeAnd (entry_in table txn) (IsEntryNow state last undo)
+MayNote table of_checkpoint = Unit {0}
 
 -- ---- the table after one more record
 
@@ -133,3 +145,4 @@ noted table (Comp lsn txn prev undo_next page slot change) =
 noted table (Commit lsn txn prev) = without_entry table txn
 noted table (Abort lsn txn prev) = with_entry table txn (Abort lsn txn prev)
 noted table (End lsn txn prev) = without_entry table txn
+noted table of_checkpoint = table

@@ -1,7 +1,7 @@
 -- The transactions of a log, read from its beginning.
 use Rattle.std.specs.Prelude.{ℕ, ◌+◌, ◌-◌, ◌==◌, Bool, true, false, ◌&&◌, not, List, [], ◌∷◌}
 use Rattle.std.specs.Prelude.{◌++◌, length, map, filter, take, Option, Some, None, slice_get}
-use Rattle.std.specs.Prelude.{if◌then◌else◌, min}
+use Rattle.std.specs.Prelude.{if◌then◌else◌}
 use Rattle.std.specs.List.{filter_map, list_any, sum_by}
 use Rattle.std.specs.Option.{option_map_or}
 use Rattle.page_core.specs.declared.change.ChangeKind.{ChangeKind}
@@ -12,9 +12,11 @@ use Rattle.log_records.specs.Least.{least}
 use Rattle.log_records.specs.declared.record.Record.{Record}
 use Rattle.log_records.specs.declared.record.Record.TheVariants.{Begin, Update, Comp, Commit, Abort}
 use Rattle.log_records.specs.declared.record.Record.TheVariants.{End}
+use Rattle.log_records.specs.declared.txn_phase.TxnPhase.{TxnPhase}
+use Rattle.log_records.specs.declared.txn_phase.TxnPhase.TheVariants.{Active, Rolling}
 use Rattle.log_records.specs.Record.{own_lsn}
 
--- the transaction of a record
+-- the transaction of a record; 0, which is no transaction, of a checkpoint's record
 abbrev pub txn_of : Record → ℕ
 txn_of (Begin lsn txn) = txn
 txn_of (Update lsn txn prev page slot change) = txn
@@ -22,6 +24,7 @@ txn_of (Comp lsn txn prev undo_next page slot change) = txn
 txn_of (Commit lsn txn prev) = txn
 txn_of (Abort lsn txn prev) = txn
 txn_of (End lsn txn prev) = txn
+txn_of of_checkpoint = 0
 
 -- the transaction that a record begins
 abbrev pub begun_by : Record → Option ℕ
@@ -103,6 +106,15 @@ pending_from changes (r ∷ rs) = pending_from (with_pending changes r) rs
 -- a transaction's changes that are not compensated yet, the oldest first
 abbrev pub pending : List Record → ℕ → List PendingChange
 pending rs t = pending_from [] (records_of rs t)
+
+-- what an open transaction is doing
+abbrev pub phase : List Record → ℕ → TxnPhase
+phase rs t = if is_rolling rs t then Rolling else Active
+
+-- what a rollback of the transaction would compensate first: the LSN of its last pending Update, or
+-- of its Begin where nothing is pending
+abbrev pub undo_next : List Record → ℕ → ℕ
+undo_next rs t = option_map_or (λ p. p.lsn) (last_of (pending rs t)) (first_lsn rs t)
 
 -- ---- who holds a slot
 

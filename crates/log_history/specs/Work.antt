@@ -1,5 +1,5 @@
 -- The log read back as the calls that wrote it.
-use Rattle.std.specs.Prelude.{ℕ, List, Option, Some}
+use Rattle.std.specs.Prelude.{ℕ, List, Option, Some, None}
 use Rattle.std.specs.List.{filter_map}
 use Rattle.page_core.specs.declared.change.Change.{Change}
 use Rattle.page_core.specs.declared.change.Change.TheVariants.{Set, Add}
@@ -21,7 +21,8 @@ abbrev pub change_call : ℕ → ℕ → ℕ → Change → Call
 change_call txn page slot (Set before after) = SetCall txn page slot after
 change_call txn page slot (Add amount) = AddCall txn page slot amount
 
--- the call that a record shows; a Comp and an End are steps of an undo
+-- the call that a record shows; a Comp and an End are steps of an undo, and a checkpoint's record
+-- shows none
 abbrev pub call_of : Record → Option Call
 call_of (Begin lsn txn) = Some (BeginCall txn)
 call_of (Update lsn txn prev page slot change) = Some (change_call txn page slot change)
@@ -29,6 +30,7 @@ call_of (Comp lsn txn prev undo_next page slot change) = Some (UndoCall txn)
 call_of (Commit lsn txn prev) = Some (CommitCall txn)
 call_of (Abort lsn txn prev) = Some (AbortCall txn)
 call_of (End lsn txn prev) = Some (UndoCall txn)
+call_of of_checkpoint = None
 
 -- the calls that the log shows, in order
 abbrev pub work : List Record → List Call

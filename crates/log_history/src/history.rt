@@ -1,22 +1,24 @@
-//! A log that is read is replayed: at each place the records so far have made open transactions and
-//! pages, and these decide whether the next record may follow.
+//! A log that is read is replayed: at each place the records so far have made open transactions, checkpoints
+//! and pages, and these decide whether the next record may follow.
 
 ghost use Rattle.std.specs.Prelude.{◌↔◌, length, IsTrue};
 ghost use Rattle.log_records.specs.Log.{IsWithin};
 ghost use Rattle.log_records.specs.Record.{IsRecord};
 ghost use Rattle.log_history.specs.History.{NamesNumberOn};
 
+use crate::checkpoints::Checkpoints;
 use crate::open_transactions::OpenTransactions;
 use log_records::{Record, redo_on_its_page};
 use page_core::{Change, Page, formatted_pages};
 use std::alloc::{AllocError, Global};
 use std::marker::Model;
 
-/// What the records of a log make: its open transactions, and its pages with the changes of all
-/// records (ARIES, sections 3 and 6.2).
+/// What the records of a log make: its open transactions, its checkpoints, and its pages with the
+/// changes of all records (ARIES, sections 3, 5.4 and 6.2).
 #[derive(Drop)]
 pub struct History {
     txns: OpenTransactions,
+    checkpoints: Checkpoints,
     pages: Vec<Page>,
 }
 
@@ -26,7 +28,11 @@ impl Model for History {
 
     ghost Value = { Made };
 
-    ghost view = { λ history. record { table = history.txns; pages = history.pages.items } };
+    ghost view = { λ history. record {
+      table = history.txns;
+      checkpoints = history.checkpoints;
+      pages = history.pages.items;
+    } };
 
     ghost invariant = { λ history. AreNumbered history.pages.items };
 }
@@ -44,6 +50,7 @@ impl History {
     {
         Ok(History {
             txns: OpenTransactions::new(alloc),
+            checkpoints: Checkpoints::new(alloc),
             pages: formatted_pages(alloc, pages)?,
         })
     }
@@ -56,8 +63,8 @@ impl History {
     }
 
     /// Takes the next record if it may come next, and answers whether it may. Where it may not,
-    /// nothing changes. An `Err` comes where room for the transaction table is refused, and changes
-    /// nothing either.
+    /// nothing changes. An `Err` comes where room for the tables is refused, and changes nothing
+    /// either.
     pub fn follow(&mut self, next: &Record) -> Result<bool, AllocError>
         requires valid { IsRecord next.now }
         requires within { IsWithin (length self.old.pages) next.now }
@@ -67,10 +74,17 @@ impl History {
         ensures same { IfOk result (λ may. ¬ IsTrue may → self.new ≡ self.old) }
         ensures err { OnErr result (self.new ≡ self.old) }
     {
-        if !self.txns.may_note(next) || !names_number_on(&self.pages, next) {
+        if !self.txns.may_note(next)
+            || !self.checkpoints.may_note(&self.txns, next)
+            || !names_number_on(&self.pages, next)
+        {
             return Ok(false);
         }
-        self.txns.note(next)?;
+        self.checkpoints.note(next)?;
+        if let Err(error) = self.txns.note(next) {
+            self.checkpoints.take_back();
+            return Err(error);
+        }
         redo_on_its_page(&mut self.pages, next);
         Ok(true)
     }

@@ -12,7 +12,10 @@ ghost use Rattle.log_records.specs.Log.{IsLog, Log};
 ghost use Rattle.log_history.specs.Table.{MayNote, entry_in, entry_of, holder_in, noted, owed_in};
 ghost use Rattle.log_history.specs.Table.{table_of};
 ghost use Rattle.log_history.specs.Transactions.{holder, is_open, open_in, owed, pending};
-ghost use Rattle.log_history.specs.Checked.{NamesNumber};
+ghost use Rattle.log_records.specs.Record.{IsRecord};
+ghost use Rattle.log_history.specs.Checked.{GoesWithCheckpoint, NamesNumber};
+ghost use Rattle.log_history.specs.CheckpointTable.{MayNoteCheckpoint, checkpoint_table_of};
+ghost use Rattle.log_history.specs.CheckpointTable.{noted_checkpoint};
 ghost use Rattle.log_history.specs.Work.{call_of, work};
 
 /// Each prefix of a linked log is linked.
@@ -34,10 +37,23 @@ pub fn tables_are_kept_record_by_record()
         → table_of (rs ++ r ∷ []) ≡ noted (table_of rs) r }
 {}
 
-/// The table of a log says which record may follow it, but for the number that a Set replaces.
+/// The table of a log says which record may follow it, but for the number that a Set replaces, and
+/// for what the open checkpoint has.
 pub fn tables_say_what_may_follow()
+    ensures { (rs : List Record) (r : Record) → MayFollow rs r
+        ↔ (MayNote (table_of rs) r × NamesNumber rs r × GoesWithCheckpoint rs r) }
+{}
+
+/// The table of a log's checkpoints, with a record noted, is that of the log with the record.
+pub fn checkpoint_tables_are_kept_record_by_record()
     ensures { (rs : List Record) (r : Record)
-        → MayFollow rs r ↔ (MayNote (table_of rs) r × NamesNumber rs r) }
+        → checkpoint_table_of (rs ++ r ∷ []) ≡ noted_checkpoint (checkpoint_table_of rs) r }
+{}
+
+/// The table of a log's checkpoints says which record goes with the open checkpoint.
+pub fn checkpoint_tables_say_what_goes()
+    ensures { (log : Log) (r : Record) → IsLog log → IsRecord r → GoesWithCheckpoint log.records r
+        ↔ MayNoteCheckpoint (table_of log.records) (checkpoint_table_of log.records) r }
 {}
 
 /// The table of a log has an entry for each open transaction, and knows who holds a slot and what

@@ -1,6 +1,7 @@
 //! The transactions of a log, and the chain that their records make: which record may follow.
 #![tactic(auto)]
 
+mod checkpoints;
 mod claims;
 mod history;
 mod history_laws;
@@ -11,8 +12,10 @@ mod pending_change;
 mod seat_set;
 mod txn_state;
 
+pub use checkpoints::Checkpoints;
 pub use history::History;
 pub use history_laws::{
+    checkpoint_tables_are_kept_record_by_record, checkpoint_tables_say_what_goes,
     linked_logs_grow_by_what_may_follow, numbers_are_committed_under_pending_changes,
     prefixes_of_linked_logs_are_linked, tables_are_kept_record_by_record, tables_say_what_logs_say,
     tables_say_what_may_follow, work_grows_call_by_call,

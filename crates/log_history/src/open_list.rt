@@ -1,6 +1,7 @@
 //! The open transactions in the order of their numbers.
 
-ghost use Rattle.std.specs.Prelude.{ℕ, ◌≡◌, ◌<◌, ◌==◌, ◌&&◌, not, false, length, min, nat_le};
+ghost use Rattle.std.specs.Prelude.{ℕ, ◌≡◌, ◌<◌, ◌==◌, ◌&&◌, ◌↔◌, not, false, length, min, nat_le};
+ghost use Rattle.std.specs.Prelude.{Contains, IsTrue};
 ghost use Rattle.std.specs.List.{All, find, list_any, position, sum_by};
 ghost use Rattle.std.specs.Option.{option_map};
 ghost use Rattle.log_history.specs.Claims.{has_seat};
@@ -10,7 +11,7 @@ ghost use Rattle.log_records.specs.declared.limits.TheConstants.{MAX_OPEN};
 
 use crate::open_entry::OpenEntry;
 use crate::seat_set::{SEATS, SeatSet};
-use page_core::TxnNo;
+use page_core::{Lsn, TxnNo};
 
 /// Where a transaction stands.
 pub fn place_of(entries: &[OpenEntry], txn: TxnNo) -> Option<usize>
@@ -89,4 +90,29 @@ pub fn owed_by(entries: &[OpenEntry]) -> u64
         owed = owed.saturating_add(entry.owed());
     }
     owed
+}
+
+/// Each of them that began before an LSN is among these transactions.
+pub fn are_among(entries: &[OpenEntry], lsn: Lsn, txns: &[u32]) -> bool
+    ensures { IsTrue result ↔ All (λ e. e.first < lsn → Contains txns.now e.txn) entries.now }
+{
+    for entry in entries {
+        if !is_listed(entry, lsn, txns) {
+            return false;
+        }
+    }
+    true
+}
+
+/// It began at or behind an LSN, or is among these transactions.
+fn is_listed(entry: &OpenEntry, lsn: Lsn, txns: &[u32]) -> bool
+    ensures { IsTrue result ↔ (entry.now.first < lsn → Contains txns.now entry.now.txn) }
+{
+    entry.first >= lsn || is_among(entry.txn.0, txns)
+}
+
+fn is_among(txn: u32, txns: &[u32]) -> bool
+    ensures { IsTrue result ↔ Contains txns.now txn }
+{
+    txns.contains(&txn)
 }

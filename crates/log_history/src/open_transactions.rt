@@ -6,6 +6,8 @@ ghost use Rattle.std.specs.Option.{option_and_then, option_map};
 ghost use Rattle.log_history.specs.Growth.{MayGrow};
 ghost use Rattle.page_core.specs.declared.change.Change.{Change};
 ghost use Rattle.log_history.specs.Linked.{Compensates};
+ghost use Rattle.log_history.specs.CheckpointTable.{HasOldEntries};
+ghost use Rattle.log_history.specs.Table.{IsEntryNow};
 ghost use Rattle.log_history.specs.Table.{IsActiveEntry, IsChained, MayNote, entry_in, holder_in};
 ghost use Rattle.log_history.specs.Table.{noted, owed_in, with_entry, without_entry};
 ghost use Rattle.log_history.specs.Transactions.{last_of};
@@ -13,10 +15,10 @@ ghost use Rattle.log_records.specs.declared.record.Record.TheVariants.{Begin, Up
 
 use crate::claims::Claims;
 use crate::open_entry::{OpenEntry, begun_entry, compensates};
-use crate::open_list::{first_other, free_seat, owed_by, place_from, place_of};
+use crate::open_list::{are_among, first_other, free_seat, owed_by, place_from, place_of};
 use crate::pending_change::PendingChange;
 use crate::txn_state::TxnState;
-use log_records::{MAX_OPEN, Record};
+use log_records::{MAX_OPEN, Record, TxnPhase};
 use page_core::{Change, ChangeKind, Lsn, PageNo, SlotNo, TxnNo};
 use std::alloc::{AllocError, Global};
 use std::marker::Model;
@@ -123,7 +125,7 @@ impl OpenTransactions {
     }
 
     /// The record may come next, as far as the transactions say (ARIES, section 3). Whether a Set
-    /// names the number that is in its slot, they do not say.
+    /// names the number that is in its slot, and what the open checkpoint has, they do not say.
     pub fn may_note(&self, next: &Record) -> bool
         ensures { IsTrue result ↔ MayNote self.now next.now }
     {
@@ -157,6 +159,14 @@ impl OpenTransactions {
                 Some(state) => state.last == prev && state.pending == 0,
                 None => false,
             },
+            Record::ChkptTxns {
+                txn,
+                state,
+                last,
+                undo_next,
+                ..
+            } => self.is_now(txn, state, last, undo_next),
+            Record::BeginChkpt { .. } | Record::ChkptPages { .. } | Record::EndChkpt { .. } => true,
         }
     }
 
@@ -168,6 +178,30 @@ impl OpenTransactions {
             Some(state) => state.last == prev && !state.rolling,
             None => false,
         }
+    }
+
+    /// The transaction is open, and these are its state, the LSN of its last record, and its
+    /// UndoNxt.
+    fn is_now(&self, txn: TxnNo, phase: TxnPhase, last: Lsn, undo_next: Lsn) -> bool
+        ensures { IsTrue result ↔ IsSomeAnd (entry_in self.now txn)
+            (IsEntryNow phase last undo_next) }
+    {
+        match self.state(txn) {
+            Some(state) => state.phase() == phase
+                && state.last == last
+                && match self.last_pending(txn) {
+                    Some(change) => change.lsn == undo_next,
+                    None => state.first == undo_next,
+                },
+            None => false,
+        }
+    }
+
+    /// Each open transaction that began before an LSN is among these.
+    pub fn began_before_are_among(&self, lsn: Lsn, txns: &[u32]) -> bool
+        ensures { IsTrue result ↔ HasOldEntries self.now lsn txns.now }
+    {
+        are_among(&self.entries, lsn, txns)
     }
 
     /// The change takes the transaction's last pending change back.
@@ -233,6 +267,10 @@ impl OpenTransactions {
                 self.close(txn);
                 Ok(())
             }
+            Record::BeginChkpt { .. }
+            | Record::ChkptPages { .. }
+            | Record::ChkptTxns { .. }
+            | Record::EndChkpt { .. } => Ok(()),
         }
     }
 

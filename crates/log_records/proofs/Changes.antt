@@ -5,7 +5,8 @@ use Rattle.page_core.specs.declared.change.Change.{Change}
 use Rattle.page_core.specs.declared.change.Change.TheVariants.{Set, Add}
 use Rattle.page_core.specs.Change.{changed}
 use Rattle.log_records.specs.declared.record.Record.{Record}
-use Rattle.log_records.specs.declared.record.Record.TheVariants.{Begin, Update, Comp, Commit, Abort, End}
+use Rattle.log_records.specs.declared.record.Record.TheVariants.{Begin, Update, Comp, Commit, Abort, End, BeginChkpt, ChkptPages, ChkptTxns, EndChkpt}
+use Rattle.log_records.specs.Log.{IsWithin}
 use Rattle.log_records.specs.Record.{IsChange, IsLsn, IsPageChange, IsRecord, change_of, own_lsn}
 
 pub changed_fits : (change : Change) (number : ℕ) → IsChange change → changed change number < 2 ^ 64
@@ -20,3 +21,20 @@ valid_change (Comp lsn txn prev undo_next page slot change) valid = (valid.0, va
 valid_change (Commit lsn txn prev) valid = (valid.0, tt)
 valid_change (Abort lsn txn prev) valid = (valid.0, tt)
 valid_change (End lsn txn prev) valid = (valid.0, tt)
+valid_change (BeginChkpt lsn) valid = (valid, tt)
+valid_change (ChkptPages lsn begin pages) valid = (valid.0, tt)
+valid_change (ChkptTxns lsn begin txn state last undo_next) valid = (valid.0, tt)
+valid_change (EndChkpt lsn begin redo) valid = (valid.0, tt)
+
+-- what a record changes is within what it names
+pub change_within : (pages : ℕ) (r : Record) → IsWithin pages r → IfSome (change_of r) (λ c. c.page < pages)
+change_within pages (Begin lsn txn) within = tt
+change_within pages (Update lsn txn prev page slot change) within = within
+change_within pages (Comp lsn txn prev undo_next page slot change) within = within
+change_within pages (Commit lsn txn prev) within = tt
+change_within pages (Abort lsn txn prev) within = tt
+change_within pages (End lsn txn prev) within = tt
+change_within pages (BeginChkpt lsn) within = tt
+change_within pages (ChkptPages lsn begin entries) within = tt
+change_within pages (ChkptTxns lsn begin txn state last undo_next) within = tt
+change_within pages (EndChkpt lsn begin redo) within = tt

@@ -1,4 +1,5 @@
 pub mod Changes
+pub mod Ckpts
 pub mod Coverage
 pub mod Images
 pub mod Logs

@@ -1,6 +1,5 @@
 -- Which changes of a log a page has that was kept elsewhere meanwhile.
 use Rattle.std.specs.Prelude.{ℕ, ◌≡◌, ◌<◌, ◌≤◌, ◌==◌, ◌/◌, nat_le, nat_lt, Bool, false, ◌&&◌, List}
-use Rattle.std.specs.Prelude.{[], ◌∷◌}
 use Rattle.std.specs.Prelude.{length, map, filter, take, Option, None, IfSome, slice_index}
 use Rattle.std.specs.Prelude.{slice_index_or}
 use Rattle.std.specs.List.{All, filter_map, range_with_len}
@@ -8,8 +7,7 @@ use Rattle.std.specs.Option.{option_map, option_map_or}
 use Rattle.page_core.specs.declared.numbers.TheConstants.{LSN_STEP}
 use Rattle.page_core.specs.declared.page.Page.{Page}
 use Rattle.log_records.specs.declared.dirty_page.DirtyPage.{DirtyPage}
-use Rattle.log_records.specs.declared.dirty_page.DirtyPages.{DirtyPages}
-use Rattle.log_records.specs.declared.dirty_page.DirtyPages.TheVariants.{One, Two, Three}
+pub use Rattle.log_records.specs.DirtyPage.{entries_of}
 use Rattle.log_records.specs.declared.record.Record.{Record}
 use Rattle.log_records.specs.Image.{image, image_from}
 use Rattle.log_records.specs.Record.{change_of, own_lsn}
@@ -77,12 +75,6 @@ dirty rs written = filter_map
     (λ p. option_map (λ lsn. record { page = p; rec_lsn = lsn })
     (rec_lsn rs p (slice_index written p)))
     (range_with_len 0 (length written))
-
--- the entries of one to three dirty pages
-abbrev pub entries_of : DirtyPages → List DirtyPage
-entries_of (One a) = a ∷ []
-entries_of (Two a b) = a ∷ b ∷ []
-entries_of (Three a b c) = a ∷ b ∷ c ∷ []
 
 -- the next dirty pages of a table, from a page number on: at most three
 abbrev pub next_dirty : List DirtyPage → ℕ → List DirtyPage

@@ -5,7 +5,8 @@ use Rattle.page_core.specs.declared.change.Change.{Change}
 use Rattle.page_core.specs.declared.change.Change.TheVariants.{Set, Add}
 use Rattle.log_records.specs.declared.record.Record.{Record}
 use Rattle.log_records.specs.declared.record.Record.TheVariants.{Begin, Update, Comp, Commit, Abort}
-use Rattle.log_records.specs.declared.record.Record.TheVariants.{End}
+use Rattle.log_records.specs.declared.record.Record.TheVariants.{End, BeginChkpt, ChkptPages}
+use Rattle.log_records.specs.declared.record.Record.TheVariants.{ChkptTxns, EndChkpt}
 use Rattle.log_records.specs.declared.fields.Fields.{Fields}
 use Rattle.log_records.specs.declared.fields.TheConstants.{ABORT, ADD, BEGIN, COMMIT, COMP, END}
 use Rattle.log_records.specs.declared.fields.TheConstants.{SET, UPDATE}
@@ -65,7 +66,8 @@ fields_of_step kind txn prev lsn = record no_fields {
       lsn;
 }
 
--- the numbers of a record; what a kind does not have is 0
+-- the numbers of a transaction's record; what a kind does not have is 0. A checkpoint's record has
+-- none of them
 abbrev pub fields_of : Record → Fields
 fields_of (Begin lsn txn) = fields_of_step BEGIN txn 0 lsn
 fields_of (Update lsn txn prev page slot change) = record (fields_of_change change) {
@@ -88,3 +90,7 @@ fields_of (Comp lsn txn prev undo_next page slot change) = record (fields_of_cha
 fields_of (Commit lsn txn prev) = fields_of_step COMMIT txn prev lsn
 fields_of (Abort lsn txn prev) = fields_of_step ABORT txn prev lsn
 fields_of (End lsn txn prev) = fields_of_step END txn prev lsn
+fields_of (BeginChkpt lsn) = no_fields
+fields_of (ChkptPages lsn begin pages) = no_fields
+fields_of (ChkptTxns lsn begin txn state last undo_next) = no_fields
+fields_of (EndChkpt lsn begin redo) = no_fields

@@ -1,4 +1,6 @@
+pub mod CkptBytes
 pub mod Coverage
+pub mod DirtyPage
 pub mod Fields
 pub mod Image
 pub mod Least

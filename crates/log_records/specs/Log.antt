@@ -1,9 +1,11 @@
 -- A whole log, and its bytes.
 use Rattle.std.specs.Prelude.{ℕ, ◌≡◌, ◌+◌, ◌-◌, ◌*◌, ◌<◌, ◌≤◌, List, length, ◌++◌, slice_index_or}
 use Rattle.std.specs.Prelude.{take, replicate, codes, slice_range, IfSome}
-use Rattle.std.specs.List.{flat_map}
+use Rattle.std.specs.List.{AllByRecursion, flat_map}
 use Rattle.std.specs.Int.{w32, to_le_bytes, from_le_bytes}
 use Rattle.log_records.specs.declared.record.Record.{Record}
+use Rattle.log_records.specs.declared.record.Record.TheVariants.{ChkptPages}
+use Rattle.log_records.specs.DirtyPage.{entries_of}
 use Rattle.page_core.specs.declared.numbers.TheConstants.{LSN_STEP}
 use Rattle.page_core.specs.declared.page.TheConstants.{MAX_PAGES}
 use Rattle.log_records.specs.declared.limits.TheConstants.{HEADER_BYTES, MAX_RECORDS}
@@ -22,8 +24,10 @@ with_next log rs = record log { records = log.records ++ rs }
 abbrev pub lsn_of : ℕ → ℕ
 lsn_of i = LSN_STEP * (i + 1)
 
--- a record changes no page past the page count
+-- a record names no page past the page count
 abbrev pub IsWithin : ℕ → Record → Type 0
+IsWithin pages (ChkptPages lsn begin entries) =
+    AllByRecursion (λ e. e.page < pages) (entries_of entries)
 IsWithin pages r = IfSome (change_of r) (λ c. c.page < pages)
 
 -- and so do all of these

@@ -8,7 +8,14 @@ use Rattle.log_records.specs.declared.limits.TheConstants.{HEADER_BYTES}
 use Rattle.log_records.specs.declared.page_change.PageChange.{PageChange}
 use Rattle.log_records.specs.declared.record.Record.{Record}
 use Rattle.log_records.specs.declared.record.Record.TheVariants.{Begin, Update, Comp, Commit, Abort}
-use Rattle.log_records.specs.declared.record.Record.TheVariants.{End}
+use Rattle.log_records.specs.declared.record.Record.TheVariants.{End, BeginChkpt, ChkptPages}
+use Rattle.log_records.specs.declared.record.Record.TheVariants.{ChkptTxns, EndChkpt}
+use Rattle.log_records.specs.declared.dirty_page.DirtyPage.{DirtyPage}
+use Rattle.log_records.specs.declared.dirty_page.DirtyPages.{DirtyPages}
+use Rattle.log_records.specs.declared.dirty_page.DirtyPages.TheVariants.{One, Two, Three}
+use Rattle.log_records.specs.declared.fields.TheConstants.{BEGIN_CHKPT, CHKPT_PAGES, CHKPT_TXNS}
+use Rattle.log_records.specs.declared.fields.TheConstants.{END_CHKPT}
+use Rattle.log_records.specs.CkptBytes.{ckpt_bytes, code_of, no_body, pages_body, redo_body, txn_body}
 use Rattle.log_records.specs.Fields.{fields_of, fields_bytes}
 
 -- the number of a transaction
@@ -43,6 +50,18 @@ pub record IsPageChange (c : PageChange) : Type 0 where
   pub slot : c.slot < SLOTS
   pub change : IsChange c.change
 
+-- a dirty page that the record at `at` may name
+pub record IsDirtyPage (at : ℕ) (e : DirtyPage) : Type 0 where
+  pub page : e.page < MAX_PAGES
+  pub rec_lsn : IsBefore at e.rec_lsn
+
+-- the dirty pages of the record at `at`: their numbers rise
+abbrev pub AreDirtyPages : ℕ → DirtyPages → Type 0
+AreDirtyPages at (One a) = IsDirtyPage at a
+AreDirtyPages at (Two a b) = IsDirtyPage at a × IsDirtyPage at b × (a.page < b.page)
+AreDirtyPages at (Three a b c) =
+    IsDirtyPage at a × IsDirtyPage at b × IsDirtyPage at c × (a.page < b.page) × (b.page < c.page)
+
 -- the record's own LSN
 abbrev pub own_lsn : Record → ℕ
 own_lsn (Begin lsn txn) = lsn
@@ -51,6 +70,26 @@ own_lsn (Comp lsn txn prev undo_next page slot change) = lsn
 own_lsn (Commit lsn txn prev) = lsn
 own_lsn (Abort lsn txn prev) = lsn
 own_lsn (End lsn txn prev) = lsn
+own_lsn (BeginChkpt lsn) = lsn
+own_lsn (ChkptPages lsn begin pages) = lsn
+own_lsn (ChkptTxns lsn begin txn state last undo_next) = lsn
+own_lsn (EndChkpt lsn begin redo) = lsn
+
+-- a record of a checkpoint
+abbrev pub IsOfCheckpoint : Record → Type 0
+IsOfCheckpoint (BeginChkpt lsn) = Unit {0}
+IsOfCheckpoint (ChkptPages lsn begin pages) = Unit {0}
+IsOfCheckpoint (ChkptTxns lsn begin txn state last undo_next) = Unit {0}
+IsOfCheckpoint (EndChkpt lsn begin redo) = Unit {0}
+IsOfCheckpoint other = ⊥
+
+-- a record of a transaction
+abbrev pub IsOfTransaction : Record → Type 0
+IsOfTransaction (BeginChkpt lsn) = ⊥
+IsOfTransaction (ChkptPages lsn begin pages) = ⊥
+IsOfTransaction (ChkptTxns lsn begin txn state last undo_next) = ⊥
+IsOfTransaction (EndChkpt lsn begin redo) = ⊥
+IsOfTransaction other = Unit {0}
 
 -- the change that redo makes of a record, if it makes one
 abbrev pub change_of : Record → Option PageChange
@@ -62,6 +101,10 @@ change_of (Comp lsn txn prev undo_next page slot change) =
 change_of (Commit lsn txn prev) = None
 change_of (Abort lsn txn prev) = None
 change_of (End lsn txn prev) = None
+change_of (BeginChkpt lsn) = None
+change_of (ChkptPages lsn begin pages) = None
+change_of (ChkptTxns lsn begin txn state last undo_next) = None
+change_of (EndChkpt lsn begin redo) = None
 
 -- a record that a log may have: only such a record has a spelling
 abbrev pub IsRecord : Record → Type 0
@@ -76,10 +119,20 @@ IsRecord (Comp lsn txn prev undo_next page slot change) =
 IsRecord (Commit lsn txn prev) = IsLsn lsn × IsTxn txn × IsBefore lsn prev
 IsRecord (Abort lsn txn prev) = IsLsn lsn × IsTxn txn × IsBefore lsn prev
 IsRecord (End lsn txn prev) = IsLsn lsn × IsTxn txn × IsBefore lsn prev
+IsRecord (BeginChkpt lsn) = IsLsn lsn
+IsRecord (ChkptPages lsn begin pages) = IsLsn lsn × IsBefore lsn begin × AreDirtyPages lsn pages
+IsRecord (ChkptTxns lsn begin txn state last undo_next) =
+    IsLsn lsn × IsBefore lsn begin × IsTxn txn × IsBefore lsn last × IsBefore lsn undo_next
+IsRecord (EndChkpt lsn begin redo) = IsLsn lsn × IsBefore lsn begin × IsBefore lsn redo
 
 -- the 64 bytes of a record
 abbrev pub record_bytes : Record → List ℕ
-record_bytes r = fields_bytes (fields_of r)
+record_bytes (BeginChkpt lsn) = ckpt_bytes BEGIN_CHKPT 0 no_body lsn
+record_bytes (ChkptPages lsn begin pages) = ckpt_bytes CHKPT_PAGES begin (pages_body pages) lsn
+record_bytes (ChkptTxns lsn begin txn state last undo_next) =
+    ckpt_bytes CHKPT_TXNS begin (txn_body txn (code_of state) last undo_next) lsn
+record_bytes (EndChkpt lsn begin redo) = ckpt_bytes END_CHKPT begin (redo_body redo) lsn
+record_bytes of_transaction = fields_bytes (fields_of of_transaction)
 
 -- the bytes are the one spelling of the record
 pub record SpellsRecord (r : Record) (bytes : List ℕ) : Type 0 where

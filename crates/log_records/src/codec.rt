@@ -6,20 +6,40 @@ ghost use Rattle.page_core.specs.declared.change.Change.TheVariants.{Add, Set};
 ghost use Rattle.log_records.specs.declared.record.Record.TheVariants.{Comp, Update};
 ghost use Rattle.log_records.specs.Fields.{fields_of};
 ghost use Rattle.log_records.specs.Record.{HasNoBefore, IsBefore, IsLsn, IsPageChange, IsRecord};
-ghost use Rattle.log_records.specs.Record.{IsTxn};
+ghost use Rattle.log_records.specs.Record.{AreDirtyPages, IsDirtyPage, IsOfCheckpoint};
+ghost use Rattle.log_records.specs.Record.{IsOfTransaction, IsTxn};
 ghost use Rattle.log_records.specs.Record.{SpellsRecord, own_lsn, record_bytes};
 
-use crate::fields::{ABORT, ADD, BEGIN, COMMIT, COMP, END, Fields, SET, UPDATE};
+use crate::ckpt_codec::{begin_bytes, code, end_bytes, pages_bytes, pages_in, phase_of, txn_bytes};
+use crate::dirty_page::{DirtyPage, DirtyPages};
+use crate::fields::{
+    ABORT, ADD, BEGIN, BEGIN_CHKPT, CHKPT_PAGES, CHKPT_TXNS, COMMIT, COMP, END, END_CHKPT, Fields,
+    SET, UPDATE,
+};
 use crate::limits::{HEADER_BYTES, RECORD_BYTES};
 use crate::page_change::PageChange;
 use crate::record::Record;
+use page_core::field::{u32_at, u64_at};
 use page_core::{Change, LSN_STEP, Lsn, MAX_PAGES, PageNo, SLOTS, SlotNo, TxnNo};
 
 /// The bytes of a record.
 pub fn encode(record: &Record) -> [u8; RECORD_BYTES]
     ensures { result ≡ record_bytes «record».now }
 {
-    Fields::of(record).write()
+    match *record {
+        Record::BeginChkpt { lsn } => begin_bytes(lsn.0),
+        Record::ChkptPages { lsn, begin, pages } => pages_bytes(begin.0, &pages, lsn.0),
+        Record::ChkptTxns {
+            lsn,
+            begin,
+            txn,
+            state,
+            last,
+            undo_next,
+        } => txn_bytes(begin.0, txn.0, code(state), last.0, undo_next.0, lsn.0),
+        Record::EndChkpt { lsn, begin, redo } => end_bytes(begin.0, redo.0, lsn.0),
+        _ => Fields::of(record).write(),
+    }
 }
 
 /// The record that these bytes spell at this LSN, if they do.
@@ -28,17 +48,73 @@ pub fn decode(bytes: &[u8; RECORD_BYTES], at: Lsn) -> Option<Record>
     ensures only { (r : Record) → own_lsn r ≡ at → SpellsRecord r bytes.now → result ≡ Some r }
 {
     let fields = Fields::read(bytes);
-    if fields.lsn == at.0 {
-        record_of(&fields)
+    if fields.lsn != at.0 {
+        return None;
+    }
+    match record_of(&fields) {
+        Some(record) => Some(record),
+        None => checkpoint_record_of(bytes, at),
+    }
+}
+
+/// The record of a checkpoint that these bytes spell at this LSN, if they do.
+fn checkpoint_record_of(bytes: &[u8; RECORD_BYTES], at: Lsn) -> Option<Record>
+    ensures found { IfSome result (λ r. (own_lsn r ≡ at) × SpellsRecord r bytes.now) }
+    ensures only { (r : Record) → IsOfCheckpoint r → own_lsn r ≡ at → SpellsRecord r bytes.now
+        → result ≡ Some r }
+{
+    let begin = Lsn(u64_at(bytes, 8));
+    match u32_at(bytes, 0) {
+        BEGIN_CHKPT => if_written(Record::BeginChkpt { lsn: at }, bytes),
+        CHKPT_PAGES => if_written(
+            Record::ChkptPages {
+                lsn: at,
+                begin,
+                pages: pages_in(bytes),
+            },
+            bytes,
+        ),
+        CHKPT_TXNS => if_written(
+            Record::ChkptTxns {
+                lsn: at,
+                begin,
+                txn: TxnNo(u32_at(bytes, 20)),
+                state: phase_of(u32_at(bytes, 24)),
+                last: Lsn(u64_at(bytes, 28)),
+                undo_next: Lsn(u64_at(bytes, 36)),
+            },
+            bytes,
+        ),
+        END_CHKPT => if_written(
+            Record::EndChkpt {
+                lsn: at,
+                begin,
+                redo: Lsn(u64_at(bytes, 24)),
+            },
+            bytes,
+        ),
+        _ => None,
+    }
+}
+
+/// The record, if a log may have it and these are its bytes.
+fn if_written(record: Record, bytes: &[u8; RECORD_BYTES]) -> Option<Record>
+    ensures found { IfSome result (λ r. (own_lsn r ≡ own_lsn «record») × SpellsRecord r bytes.now) }
+    ensures only { SpellsRecord «record» bytes.now → result ≡ Some «record» }
+{
+    if is_record(&record) && encode(&record) == *bytes {
+        Some(record)
     } else {
         None
     }
 }
 
-/// The record that has these numbers, if one does.
+/// The record of a transaction that has these numbers, if one does.
 fn record_of(fields: &Fields) -> Option<Record>
-    ensures found { IfSome result (λ r. IsRecord r × (fields_of r ≡ fields.now)) }
-    ensures only { (r : Record) → IsRecord r → fields_of r ≡ fields.now → result ≡ Some r }
+    ensures found { IfSome result (λ r. IsOfTransaction r × IsRecord r
+        × (fields_of r ≡ fields.now)) }
+    ensures only { (r : Record) → IsOfTransaction r → IsRecord r → fields_of r ≡ fields.now
+        → result ≡ Some r }
 {
     let lsn = Lsn(fields.lsn);
     let txn = TxnNo(fields.txn);
@@ -157,7 +233,50 @@ fn is_record(record: &Record) -> bool
         Record::Commit { lsn, txn, prev }
         | Record::Abort { lsn, txn, prev }
         | Record::End { lsn, txn, prev } => is_lsn(lsn) && is_txn(txn) && is_before(lsn, prev),
+        Record::BeginChkpt { lsn } => is_lsn(lsn),
+        Record::ChkptPages { lsn, begin, pages } => {
+            is_lsn(lsn) && is_before(lsn, begin) && are_dirty_pages(lsn, &pages)
+        }
+        Record::ChkptTxns {
+            lsn,
+            begin,
+            txn,
+            state: _,
+            last,
+            undo_next,
+        } => {
+            is_lsn(lsn)
+                && is_before(lsn, begin)
+                && is_txn(txn)
+                && is_before(lsn, last)
+                && is_before(lsn, undo_next)
+        }
+        Record::EndChkpt { lsn, begin, redo } => {
+            is_lsn(lsn) && is_before(lsn, begin) && is_before(lsn, redo)
+        }
     }
+}
+
+fn are_dirty_pages(at: Lsn, pages: &DirtyPages) -> bool
+    ensures { IsTrue result ↔ AreDirtyPages at pages.now }
+{
+    match *pages {
+        DirtyPages::One(a) => is_dirty_page(at, a),
+        DirtyPages::Two(a, b) => { is_dirty_page(at, a) && is_dirty_page(at, b) && a.page < b.page }
+        DirtyPages::Three(a, b, c) => {
+            is_dirty_page(at, a)
+                && is_dirty_page(at, b)
+                && is_dirty_page(at, c)
+                && a.page < b.page
+                && b.page < c.page
+        }
+    }
+}
+
+fn is_dirty_page(at: Lsn, entry: DirtyPage) -> bool
+    ensures { IsTrue result ↔ IsDirtyPage at entry }
+{
+    entry.page < MAX_PAGES && is_before(at, Lsn(entry.rec_lsn))
 }
 
 fn has_no_before(change: &Change) -> bool

@@ -16,3 +16,20 @@ pub enum DirtyPages {
     Two(DirtyPage, DirtyPage),
     Three(DirtyPage, DirtyPage, DirtyPage),
 }
+
+impl DirtyPages {
+    ghost use Rattle.std.specs.Prelude.{◌<◌, ◌↔◌, IsTrue};
+    ghost use Rattle.std.specs.List.{AllByRecursion};
+    ghost use Rattle.log_records.specs.DirtyPage.{entries_of};
+
+    /// Each of them is a page of a volume of so many.
+    pub fn are_within(&self, pages: u32) -> bool
+        ensures { IsTrue result ↔ AllByRecursion (λ e. e.page < pages) (entries_of self.now) }
+    {
+        match *self {
+            DirtyPages::One(a) => a.page < pages,
+            DirtyPages::Two(a, b) => a.page < pages && b.page < pages,
+            DirtyPages::Three(a, b, c) => a.page < pages && b.page < pages && c.page < pages,
+        }
+    }
+}

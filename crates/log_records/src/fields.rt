@@ -1,4 +1,4 @@
-//! The numbers that the bytes of a record spell.
+//! The numbers that the bytes of a transaction's record spell.
 
 ghost use Rattle.std.specs.Prelude.{◌≡◌};
 
@@ -7,9 +7,10 @@ use crate::record::Record;
 use page_core::field::{u16_at, u32_at, u64_at};
 use page_core::{Change, Lsn, TxnNo};
 
-/// The numbers of a record in the order of its bytes. A field that a kind does not have is 0. Where
-/// a byte is followed by bytes that are always 0, the byte and these are one number.
-#[derive(Clone, Copy, PartialEq, Eq)]
+/// The numbers of a transaction's record in the order of its bytes. A field that a kind does not
+/// have is 0. Where a byte is followed by bytes that are always 0, the byte and these are one
+/// number.
+#[derive(Clone, Copy, Debug, PartialEq, Eq)]
 pub struct Fields {
     pub kind: u32,
     pub txn: u32,
@@ -41,6 +42,18 @@ pub const ABORT: u32 = 5;
 
 /// The kind of an End.
 pub const END: u32 = 6;
+
+/// The kind of a BeginChkpt.
+pub const BEGIN_CHKPT: u32 = 7;
+
+/// The kind of a ChkptPages.
+pub const CHKPT_PAGES: u32 = 8;
+
+/// The kind of a ChkptTxns.
+pub const CHKPT_TXNS: u32 = 9;
+
+/// The kind of an EndChkpt.
+pub const END_CHKPT: u32 = 10;
 
 /// The kind of a change that is a Set.
 pub const SET: u16 = 1;
@@ -107,7 +120,7 @@ impl Fields {
         bytes
     }
 
-    /// The numbers of a record.
+    /// The numbers of a transaction's record; a checkpoint's record has none of them.
     pub fn of(record: &Record) -> Fields
         ensures { result ≡ fields_of «record».now }
     {
@@ -151,6 +164,10 @@ impl Fields {
             Record::Commit { txn, prev, .. } => Fields::of_step(COMMIT, txn, prev, lsn),
             Record::Abort { txn, prev, .. } => Fields::of_step(ABORT, txn, prev, lsn),
             Record::End { txn, prev, .. } => Fields::of_step(END, txn, prev, lsn),
+            Record::BeginChkpt { .. }
+            | Record::ChkptPages { .. }
+            | Record::ChkptTxns { .. }
+            | Record::EndChkpt { .. } => NO_FIELDS,
         }
     }
 

@@ -1,6 +1,7 @@
 //! The records of a log and their bytes, a log's spelling, and what its records make of pages.
 #![tactic(auto)]
 
+mod ckpt_codec;
 mod codec;
 mod coverage_laws;
 mod dirty_page;
@@ -11,6 +12,7 @@ mod limits;
 mod page_change;
 mod place;
 mod record;
+mod txn_phase;
 mod volume;
 
 pub use codec::{decode, encode};
@@ -25,4 +27,5 @@ pub use limits::{HEADER_BYTES, MAX_LOG_BYTES, MAX_OPEN, MAX_RECORDS, RECORD_BYTE
 pub use page_change::PageChange;
 pub use place::record_at;
 pub use record::Record;
+pub use txn_phase::TxnPhase;
 pub use volume::redo_on_its_page;

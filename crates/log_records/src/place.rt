@@ -1,5 +1,5 @@
-//! The place of a record in a log: its own LSN is the offset at which it stands, and the page that
-//! it changes is one of the volume.
+//! The place of a record in a log: its own LSN is the offset at which it stands, and the pages that
+//! it names are of the volume.
 
 ghost use Rattle.std.specs.Prelude.{◌≡◌, ◌↔◌, length, IfSome, Some, IsTrue};
 ghost use Rattle.log_records.specs.declared.record.Record.{Record};
@@ -29,8 +29,11 @@ pub fn record_at(bytes: &[u8], at: Lsn, pages: u32) -> Option<Record>
 fn is_within(pages: u32, entry: &Record) -> bool
     ensures { IsTrue result ↔ IsWithin pages entry.now }
 {
-    match entry.change() {
-        Some(change) => change.page.0 < pages,
-        None => true,
+    match *entry {
+        Record::ChkptPages { pages: entries, .. } => entries.are_within(pages),
+        _ => match entry.change() {
+            Some(change) => change.page.0 < pages,
+            None => true,
+        },
     }
 }

@@ -1,6 +1,8 @@
-//! A record of the log says one thing that a transaction did.
+//! A record of the log says one thing that a transaction did, or one that a checkpoint found.
 
+use crate::dirty_page::DirtyPages;
 use crate::page_change::PageChange;
+use crate::txn_phase::TxnPhase;
 use page_core::{Change, Lsn, Page, PageNo, SlotNo, TxnNo};
 
 /// A record of the log (ARIES, section 4.1). `lsn` is its own LSN, and `prev` its PrevLSN: the LSN
@@ -51,6 +53,32 @@ pub enum Record {
         txn: TxnNo,
         prev: Lsn,
     },
+    /// A checkpoint begins (ARIES, section 5.4).
+    BeginChkpt {
+        lsn: Lsn,
+    },
+    /// Dirty pages that a checkpoint found. `begin` is the LSN of its BeginChkpt, here and below.
+    ChkptPages {
+        lsn: Lsn,
+        begin: Lsn,
+        pages: DirtyPages,
+    },
+    /// An open transaction that a checkpoint found: the LSN of its last record, and its UndoNxt,
+    /// which is the LSN of its last pending Update, or of its Begin where nothing is pending.
+    ChkptTxns {
+        lsn: Lsn,
+        begin: Lsn,
+        txn: TxnNo,
+        state: TxnPhase,
+        last: Lsn,
+        undo_next: Lsn,
+    },
+    /// A checkpoint is complete. From `redo` on redo has to read the log.
+    EndChkpt {
+        lsn: Lsn,
+        begin: Lsn,
+        redo: Lsn,
+    },
 }
 
 impl Record {
@@ -68,7 +96,11 @@ impl Record {
             | Record::Comp { lsn, .. }
             | Record::Commit { lsn, .. }
             | Record::Abort { lsn, .. }
-            | Record::End { lsn, .. } => lsn,
+            | Record::End { lsn, .. }
+            | Record::BeginChkpt { lsn }
+            | Record::ChkptPages { lsn, .. }
+            | Record::ChkptTxns { lsn, .. }
+            | Record::EndChkpt { lsn, .. } => lsn,
         }
     }
 
@@ -92,7 +124,11 @@ impl Record {
             Record::Begin { .. }
             | Record::Commit { .. }
             | Record::Abort { .. }
-            | Record::End { .. } => None,
+            | Record::End { .. }
+            | Record::BeginChkpt { .. }
+            | Record::ChkptPages { .. }
+            | Record::ChkptTxns { .. }
+            | Record::EndChkpt { .. } => None,
         }
     }
 

@@ -1,5 +1,6 @@
 pub mod Devices
 pub mod Faults
 pub mod Inputs
+pub mod Masters
 pub mod Scans
 pub mod WrittenLogs

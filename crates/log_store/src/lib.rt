@@ -1,4 +1,4 @@
-//! The reading of a whole log, and a log that is written.
+//! The reading of a whole log, a log that is written, and the master record.
 #![tactic(auto)]
 
 mod device;
@@ -7,6 +7,7 @@ mod faulty_device;
 mod laws;
 mod log;
 mod log_image;
+mod master;
 mod mem_device;
 mod read;
 mod scan;
@@ -18,11 +19,14 @@ pub use faulty_device::FaultyDevice;
 pub use laws::spelled_logs_have_no_fault;
 pub use log::Log;
 pub use log_image::LogImage;
+pub use master::{MASTER_BYTES, Master, decode_master, encode_master, masters_are_spelled_apart};
 pub use mem_device::MemDevice;
 pub use read::read_log;
 pub use scan::{Scan, scan_log};
 pub use sink::RecordSink;
 
+#[cfg(test)]
+mod checkpoint_tests;
 #[cfg(test)]
 mod open_tests;
 #[cfg(test)]

@@ -72,7 +72,7 @@ fn other_bytes_are_refused(rt: HostRuntime) {
     }
 }
 
-/// A compensation record, and a kind that is not read yet.
+/// A compensation record, and a kind that there is not.
 #[test]
 fn a_compensation_record_has_its_bytes(rt: HostRuntime) {
     let bytes = bytes_of(&[
@@ -99,7 +99,7 @@ fn a_compensation_record_has_its_bytes(rt: HostRuntime) {
     assert_eq!(rt; decode(&bytes, Lsn(640)), Some(comp));
     assert_eq!(rt; encode(&comp), bytes);
     let mut later = bytes;
-    later[0] = 7;
+    later[0] = 11;
     assert_eq!(rt; decode(&later, Lsn(640)), None);
 }
 

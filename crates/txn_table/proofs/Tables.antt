@@ -3,7 +3,7 @@ use Rattle.std.proofs.Common.{◌≡◌, ℕ, ◌≤◌, ◌∷◌, [], Bool, tr
 use Rattle.std.specs.Prelude.{Option, Some, None, if◌then◌else◌, IfSome, filter, nat_le}
 use Rattle.std.specs.Option.{option_and_then, option_map, option_map_or}
 use Rattle.log_records.specs.declared.record.Record.{Record}
-use Rattle.log_records.specs.declared.record.Record.TheVariants.{Begin, Update, Comp, Commit, Abort, End}
+use Rattle.log_records.specs.declared.record.Record.TheVariants.{Begin, Update, Comp, Commit, Abort, End, BeginChkpt, ChkptPages, ChkptTxns, EndChkpt}
 use Rattle.log_history.specs.Table.{Entry, Table, entry_in, entry_of, table_of}
 use Rattle.log_history.specs.Transactions.{begun, is_open, last_of, pending, open_in}
 use Rattle.log_history.specs.TxnState.{state_of, next_in}
@@ -26,6 +26,10 @@ begun_few (Comp lsn txn prev undo_next page slot change ∷ rs) = let few = begu
 begun_few (Commit lsn txn prev ∷ rs) = let few = begun_few rs in omega arith
 begun_few (Abort lsn txn prev ∷ rs) = let few = begun_few rs in omega arith
 begun_few (End lsn txn prev ∷ rs) = let few = begun_few rs in omega arith
+begun_few (BeginChkpt lsn ∷ rs) = let few = begun_few rs in omega arith
+begun_few (ChkptPages lsn begin pages ∷ rs) = let few = begun_few rs in omega arith
+begun_few (ChkptTxns lsn begin txn state last undo ∷ rs) = let few = begun_few rs in omega arith
+begun_few (EndChkpt lsn begin redo ∷ rs) = let few = begun_few rs in omega arith
 
 pub state_is : (rs : List Record) (table : Table) (t : ℕ) → IsTableOf rs table
     → option_map state_of (entry_in table t) ≡ (if is_open rs t then Some (state_of (entry_of rs t)) else None)

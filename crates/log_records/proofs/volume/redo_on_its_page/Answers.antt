@@ -3,6 +3,7 @@ use Rattle.std.specs.Prelude.{Option, Some, IfSome}
 use Rattle.log_records.specs.declared.page_change.PageChange.{PageChange}
 use Rattle.log_records.specs.Record.{change_of}
 use Rattle.log_records.specs.Image.{with_record}
+use Rattle.log_records.proofs.Changes.{change_within}
 use Rattle.log_records.proofs.Images.{none_changed, one_changed}
 use Rattle.log_records.proofs.volume.redo_on_its_page.Goals as goal
 
@@ -15,7 +16,7 @@ returns-in-Some c =
     let number : c.change-in-Some.inside.0.0.0 ≡ change.page =
     ap (λ (x : PageChange). x.page) c.change-in-Some.view_is in
     let within : change.page < length pages =
-    subst (λ (o : Option PageChange). IfSome o (λ x. x.page < length pages)) here c.requires.within in
+    subst (λ (o : Option PageChange). IfSome o (λ x. x.page < length pages)) here (change_within (length pages) r c.requires.within) in
     ap (λ (n : ℕ). set pages n c.redo_on.new.page) number
     ∙ ap (set pages change.page) (c.redo_on.ensures
     ∙ ap (λ (n : ℕ). with_record (get_or pages n c.index-pages-change.result) r) number)

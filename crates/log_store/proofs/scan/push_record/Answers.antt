@@ -42,7 +42,8 @@ returns-then-not-branch-clause-first c = λ log given rest read.
     (omega arith)
     c.in-Some.ensures.found.0 c.in-Some.ensures.found.1
     (λ may. let yes = c.in_ok-follow.ensures.refused
-    (may_come (with_next log c.args.records.now.items) made r read.made_of within may) in
+    (may_come (with_next log c.args.records.now.items) made r read.made_of read.spells.valid c.in-Some.ensures.found.0.valid
+    within may) in
     absurd (search rules))
 
 pub returns-clause-ok : goal.returns-clause-ok
@@ -55,7 +56,7 @@ returns-clause-ok c = λ log given read.
     let within : IsWithin log.pages r = subst (λ (n : ℕ). IsWithin n r)
     (sym read.pages_are) c.in-Some.ensures.found.0.within in
     let taken = c.in_ok-follow.ensures.taken (search rules) in
-    let may = may_follow so_far old r read.made_of within taken.0 in
+    let may = may_follow so_far old r read.made_of read.spells.valid c.in-Some.ensures.found.0.valid within taken.0 in
     subst (λ (all : List Record). HasRead log all new c.args.pages (c.args.count + 1) (given ++ c.args.bytes.now))
     (sym c.in_ok-push.ensures.items)
     (read_next log rs r old new c.args.pages c.args.count given c.args.bytes.now read (omega arith)
