@@ -4,6 +4,7 @@ use Rattle.std.specs.Prelude.{Option, Some, None, IfSome}
 use Rattle.page_core.specs.declared.page.Page.{Page}
 use Rattle.log_records.specs.declared.record.Record.{Record}
 use Rattle.log_records.specs.Coverage.{Covers}
+use Rattle.log_records.specs.Log.{Log}
 use Rattle.copy_vault.specs.declared.copy_id.CopyKind.{CopyKind}
 use Rattle.copy_vault.specs.declared.copy_id.CopyKind.TheVariants.{Full, Inc}
 use Rattle.copy_vault.specs.Copy.{CopyView, PageDecision, undecided, taken, kept, decision_at}
@@ -57,3 +58,12 @@ pub record AreCopied (rs : List Record) (forced_end : ℕ) (stored : List Page)
   pub covered : (id : ℕ) (copy : CopyView) (older : List CopyView)
       → copy_in (state_of copies id) ≡ Some copy → StandsOn copies copy.kind older
       → (p : ℕ) → IfSome (content (copy ∷ older) p) (IsCovered rs forced_end copy.redo p)
+
+-- of a log and what of it is forced: each complete copy is of the whole volume, and no page that it
+-- has, by itself or by those that it stands on, lacks a change below its redo point
+pub record AreRestorable (log : Log) (forced_end : ℕ) (copies : List CopyState) : Type 0 where
+  pub whole : (id : ℕ) (copy : CopyView) → state_of copies id ≡ complete copy
+      → length copy.pages ≡ log.pages
+  pub covered : (id : ℕ) (copy : CopyView) (older : List CopyView)
+      → state_of copies id ≡ complete copy → StandsOn copies copy.kind older
+      → (p : ℕ) → IfSome (content (copy ∷ older) p) (IsCovered log.records forced_end copy.redo p)

@@ -1,4 +1,12 @@
-//! What the image copies of a volume have of its log, while all of it goes on.
+//! What the image copies of a volume have of its log, while all of it goes on, and what an engine
+//! leaves.
 #![tactic(auto)]
 
 mod laws;
+mod retired;
+
+pub use laws::{
+    a_chain_restores, a_copy_begins, a_copy_decides, a_copy_ends, copies_outlast_new_records,
+    copies_outlast_page_writes,
+};
+pub use retired::Retired;

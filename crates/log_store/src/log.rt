@@ -8,6 +8,7 @@ ghost use Rattle.log_records.specs.Log.{IsLog, IsPageCount, StandsAt, lsn_of, wi
 ghost use Rattle.log_store.specs.WrittenLog.{EndsAtRecord, HasRecordAt, IsWritten, end_up_to};
 
 use crate::device::{DeviceFault, LogDevice};
+use crate::log_image::LogImage;
 use log_records::{MAX_RECORDS, RECORD_BYTES, Record, encode, encode_header};
 use page_core::Lsn;
 use std::alloc::{AllocError, Global};
@@ -190,19 +191,19 @@ impl<D: LogDevice> Log<D> {
         &self.device
     }
 
-    /// The records and the device, of a log that is not written any more.
-    pub fn into_parts(self) -> (Vec<Record>, D)
-        ensures records { result.0.items ≡ self.log.records }
+    /// The log as a value, with all of its records, and the device. It is not written any more.
+    pub fn into_parts(self) -> (LogImage, D)
+        ensures log { result.0 ≡ self.log }
         ensures device { result.1 ≡ self.device }
         ensures kept { IsWritten D.bytes self }
     {
         let Log {
-            pages: _,
+            pages,
             records,
             forced: _,
             device,
         } = self;
-        (records, device)
+        (LogImage::of(pages, records), device)
     }
 
     /// Forces the first record that is not forced.

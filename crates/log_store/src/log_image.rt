@@ -1,6 +1,6 @@
 //! A log that was read whole, as a value.
 
-ghost use Rattle.std.specs.Prelude.{◌≡◌};
+ghost use Rattle.std.specs.Prelude.{◌≡◌, take};
 ghost use Rattle.log_records.specs.Log.{IsLog};
 
 use crate::sink::RecordSink;
@@ -27,6 +27,14 @@ impl Model for LogImage {
 }
 
 impl LogImage {
+    /// A log of these records.
+    pub(crate) fn of(pages: u32, records: Vec<Record>) -> LogImage
+        requires { IsLog (record { pages = pages; records = records.items }) }
+        ensures { result ≡ record { pages = pages; records = records.items } }
+    {
+        LogImage { pages, records }
+    }
+
     /// How many pages the volume of this log has.
     pub fn pages(&self) -> u32
         ensures pages { result ≡ self.now.pages }
@@ -41,6 +49,13 @@ impl LogImage {
         ensures valid { IsLog self.now }
     {
         &self.records
+    }
+
+    /// Leaves out the records behind the first `count`, if there are so many.
+    pub fn keep_first(&mut self, count: usize)
+        ensures { self.new ≡ record self.old { records = take count self.old.records } }
+    {
+        self.records.truncate(count);
     }
 }
 

@@ -99,7 +99,7 @@ fn forced_records_are_read(rt: HostRuntime) -> Result<(), Fail> {
     let done = log.force();
     assert_eq!(rt; (done, log.forced_end()), (Ok(()), Lsn(256)));
     let (kept, device) = log.into_parts();
-    assert_eq!(rt; kept.as_slice(), records().as_slice());
+    assert_eq!(rt; kept.records(), records().as_slice());
     assert!(rt; has_records(alloc, device.bytes(), Lsn(256), 3));
     Ok(())
 }
