@@ -1,2 +1,7 @@
+pub mod ArchiveReads
 pub mod Decisions
+pub mod Fronts
+pub mod Headers
+pub mod Parts
 pub mod Vaults
+pub mod Writes

@@ -1,4 +1,9 @@
+pub mod Archive
+pub mod ArchiveFault
+pub mod ArchiveRead
+pub mod ArchiveWrite
 pub mod Copy
+pub mod FaultText
 pub mod Reading
 pub mod Slots
 pub mod Vault
