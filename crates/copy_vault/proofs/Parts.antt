@@ -86,7 +86,7 @@ read_push h pages page part left valid place below =
     record {
       part = record {
         front = subst (IsFront h) (sym more) (front_push h (taken_pages pages) page part.front left valid
-        (omega (arith, part.next, place)) below);
+            (omega (arith, part.next, place)) below);
         decided = decided_push pages (taken page) part.decided (taken_is_decided page);
         in_place = in_place_push pages (taken page) part.in_place
             (λ other e. ap (λ (p : Page). p.number) (sym (same_taken page other e)) ∙ place);

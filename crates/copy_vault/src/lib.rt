@@ -26,4 +26,6 @@ pub use vault::Vault;
 pub use write::write_archive;
 
 #[cfg(test)]
+mod archive_tests;
+#[cfg(test)]
 mod tests;

@@ -202,13 +202,7 @@ fn read_copy<R: Read>(alloc: Global, reader: &mut R) -> Result<CompleteCopy, Arc
         &mut buffer,
     )?;
     keep_up_to(&mut slots, &header, header.pages)?;
-    Ok(CompleteCopy::new(
-        header.id,
-        header.kind,
-        header.begin,
-        header.redo,
-        slots,
-    ))
+    Ok(CompleteCopy::new(header.id, header.kind, header.begin, header.redo, slots))
 }
 
 /// Reads an archive to the input's end.
