@@ -1,4 +1,5 @@
 pub mod ArchiveReads
+pub mod Chains
 pub mod Decisions
 pub mod Fronts
 pub mod Headers

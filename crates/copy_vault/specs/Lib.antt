@@ -2,6 +2,7 @@ pub mod Archive
 pub mod ArchiveFault
 pub mod ArchiveRead
 pub mod ArchiveWrite
+pub mod Chain
 pub mod Copy
 pub mod FaultText
 pub mod Reading

@@ -73,7 +73,8 @@ impl CompleteCopy {
 
     /// What it is of.
     pub fn kind(&self) -> CopyKind
-        ensures { result ≡ self.now.kind }
+        ensures kind { result ≡ self.now.kind }
+        ensures complete { IsComplete self.now.kind self.now.pages }
     {
         self.kind
     }

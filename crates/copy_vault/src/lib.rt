@@ -4,6 +4,7 @@
 
 mod archive_fault;
 mod archive_laws;
+mod chain;
 mod complete;
 mod copy_id;
 mod fault;
@@ -17,6 +18,7 @@ mod write;
 
 pub use archive_fault::{ArchiveFault, ArchiveWriteFault};
 pub use archive_laws::copies_are_spelled_apart;
+pub use chain::Chain;
 pub use complete::CompleteCopy;
 pub use copy_id::{CopyId, CopyKind, Decision, MAX_COPIES};
 pub use fault::CopyFault;
