@@ -1,4 +1,10 @@
+pub mod Archive
+pub mod ArchiveFault
+pub mod ArchiveRead
+pub mod ArchiveWrite
+pub mod Chain
 pub mod Copy
+pub mod FaultText
 pub mod Reading
 pub mod Slots
 pub mod Vault

@@ -1,5 +1,7 @@
 -- How the decisions of a copy are held.
-use Rattle.std.specs.Prelude.{ℕ, ◌≡◌, ◌^◌, ◌<◌, List, length, map}
+use Rattle.std.specs.Prelude.{ℕ, ◌≡◌, ◌^◌, ◌<◌, List, [], ◌∷◌, length, map, Option, Some, None}
+use Rattle.std.specs.Borrow.{Bor}
+use Rattle.page_core.specs.declared.page.Page.{Page}
 use Rattle.copy_vault.specs.declared.slots.Slot.{Slot}
 use Rattle.copy_vault.specs.declared.slots.Slot.TheVariants.{Undecided, Taken, Kept}
 use Rattle.copy_vault.specs.Copy.{PageDecision, undecided, taken, kept, taken_count}
@@ -18,3 +20,8 @@ decisions_in slots = map decision_in slots
 pub record IsCounted (pages : List PageDecision) (taken : ℕ) : Type 0 where
   pub few : length pages < 2 ^ 32
   pub counted : taken ≡ taken_count pages
+
+-- the page that is lent, if there is one
+abbrev pub page_list : Option (Bor Page) → List Page
+page_list None = []
+page_list (Some page) = page.now ∷ []

@@ -2,14 +2,14 @@
 use Rattle.std.specs.Prelude.{ℕ, ◌≡◌, ◌+◌, ◌-◌, ◌<◌, ◌≤◌, ◌⊎◌, Bool, true, false, List, [], ◌∷◌, ◌++◌, length}
 use Rattle.std.specs.Prelude.{map, zero, suc}
 use Rattle.std.specs.Prelude.{slice_index_or, slice_set, Option, Some, None, nat_lt, if◌then◌else◌}
-use Rattle.std.specs.Option.{option_map}
+use Rattle.std.specs.Option.{option_map, option_or}
 use Rattle.page_core.specs.declared.page.Page.{Page}
 use Rattle.copy_vault.specs.declared.copy_id.CopyKind.{CopyKind}
 use Rattle.copy_vault.specs.declared.copy_id.CopyKind.TheVariants.{Full, Inc}
 use Rattle.copy_vault.specs.declared.copy_id.Decision.{Decision}
 use Rattle.copy_vault.specs.declared.copy_id.TheConstants.{MAX_COPIES}
 use Rattle.copy_vault.specs.declared.fault.CopyFault.{CopyFault}
-use Rattle.copy_vault.specs.declared.fault.CopyFault.TheVariants.{OutOfMemory, NoCopy, CopyNotOpen}
+use Rattle.copy_vault.specs.declared.fault.CopyFault.TheVariants.{OutOfMemory, NoCopy, CopyNotOpen, CopyNotComplete}
 use Rattle.copy_vault.specs.declared.fault.CopyFault.TheVariants.{PagesLeft, TooManyCopies}
 use Rattle.copy_vault.specs.declared.vault.Entry.{Entry}
 use Rattle.copy_vault.specs.declared.vault.Entry.TheVariants as entry
@@ -88,6 +88,17 @@ without copies id = with_state copies id dropped
 abbrev pub open_refusal : List CopyState → Option CopyFault
 open_refusal copies = if nat_lt (length copies) MAX_COPIES then None else Some TooManyCopies
 
+-- a copy is asked for as a complete one
+abbrev pub complete_refusal : CopyState → Option CopyFault
+complete_refusal (reading copy) = Some CopyNotComplete
+complete_refusal (complete copy) = None
+complete_refusal dropped = Some NoCopy
+
+-- an incremental copy is refused where its parent is not complete, and then as any copy
+abbrev pub inc_refusal : List CopyState → ℕ → Option CopyFault
+inc_refusal copies parent =
+    option_or (complete_refusal (state_of copies parent)) (open_refusal copies)
+
 -- a call that takes memory is refused for this, or is not and memory ran out
 abbrev pub OpenRefuses : Option CopyFault → CopyFault → Type 0
 OpenRefuses refusal fault = (refusal ≡ Some fault) ⊎ ((refusal ≡ None) × (fault ≡ OutOfMemory))
@@ -107,6 +118,12 @@ abbrev pub taken_in : CopyState → ℕ
 taken_in (reading copy) = taken_count copy.pages
 taken_in (complete copy) = taken_count copy.pages
 taken_in dropped = 0
+
+-- how many pages the volume of the copy has
+abbrev pub pages_in : CopyState → ℕ
+pages_in (reading copy) = length copy.pages
+pages_in (complete copy) = length copy.pages
+pages_in dropped = 0
 
 -- the copy, where it is being read
 abbrev pub reading_of : CopyState → Option CopyView
@@ -145,21 +162,22 @@ room_in entry.Dropped = false
 abbrev pub vault_view : List Entry → VaultView
 vault_view entries = record { copies = map state_in entries; rooms = map room_in entries }
 
--- the copy of this id is complete, and was there before the other one
-pub record IsParent (copies : List CopyState) (parent id : ℕ) : Type 0 where
+-- the copy of this id is complete, was there before the other one, and is of as many pages
+pub record IsParent (copies : List CopyState) (parent id pages : ℕ) : Type 0 where
   pub before : parent < id
   pub copy : CopyView
   pub is_complete : state_of copies parent ≡ complete copy
+  pub same_count : length copy.pages ≡ pages
 
--- an incremental copy has a parent
-abbrev pub HasParent : List CopyState → ℕ → CopyKind → Type 0
-HasParent copies id Full = Unit {0}
-HasParent copies id (Inc parent) = IsParent copies parent id
+-- an incremental copy of so many pages has a parent
+abbrev pub HasParent : List CopyState → ℕ → ℕ → CopyKind → Type 0
+HasParent copies id pages Full = Unit {0}
+HasParent copies id pages (Inc parent) = IsParent copies parent id pages
 
 -- a copy has this id, and its parent
 pub record IsOfId (copies : List CopyState) (id : ℕ) (copy : CopyView) : Type 0 where
   pub id_is : copy.id ≡ id
-  pub parent : HasParent copies id copy.kind
+  pub parent : HasParent copies id (length copy.pages) copy.kind
 
 -- what is kept of the copy of this id: it knows from where on it takes pages
 abbrev pub IsKept : List CopyState → ℕ → Entry → Type 0

@@ -1,11 +1,14 @@
 //! An image copy that is complete.
 
-ghost use Rattle.std.specs.Prelude.{◌≡◌, length};
-ghost use Rattle.copy_vault.specs.Copy.{IsComplete, taken_count};
+ghost use Rattle.std.specs.Prelude.{◌≡◌, ◌<◌, length};
+ghost use Rattle.copy_vault.specs.Archive.{header_of};
+ghost use Rattle.copy_vault.specs.Copy.{IsComplete, decision_at, page_of, taken_count};
+ghost use Rattle.copy_vault.specs.Slots.{page_list};
 
 use crate::copy_id::{CopyId, CopyKind};
+use crate::header::ArchiveHeader;
 use crate::slots::Slots;
-use page_core::Lsn;
+use page_core::{Lsn, Page, PageNo};
 use std::marker::Model;
 
 /// An image copy that is complete: of each page it is decided whether the copy has it.
@@ -70,7 +73,8 @@ impl CompleteCopy {
 
     /// What it is of.
     pub fn kind(&self) -> CopyKind
-        ensures { result ≡ self.now.kind }
+        ensures kind { result ≡ self.now.kind }
+        ensures complete { IsComplete self.now.kind self.now.pages }
     {
         self.kind
     }
@@ -102,5 +106,34 @@ impl CompleteCopy {
         ensures { result ≡ taken_count self.now.pages }
     {
         self.slots.taken()
+    }
+
+    /// The page of this number, if the copy has it.
+    pub fn page(&self, number: PageNo) -> Option<&Page>
+        requires { number < length self.now.pages }
+        ensures { page_list result ≡ page_of (decision_at self.now.pages number) }
+    {
+        self.slots.page(number)
+    }
+
+    /// The header of its archive.
+    pub(crate) fn header(&self) -> ArchiveHeader
+        ensures { result ≡ header_of self.now }
+    {
+        ArchiveHeader {
+            pages: self.slots.count(),
+            id: self.id,
+            kind: self.kind,
+            begin: self.begin,
+            redo: self.redo,
+            taken: self.slots.taken(),
+        }
+    }
+
+    /// What is decided of each page.
+    pub(crate) fn slots(&self) -> &Slots
+        ensures { result.now ≡ self.now.pages }
+    {
+        &self.slots
     }
 }

@@ -25,6 +25,29 @@ pub enum CopyFault {
     TooManyCopies,
 }
 
+impl fmt::Display for CopyFault {
+    ghost use Rattle.std.specs.Prelude.{Some};
+    ghost use Rattle.copy_vault.specs.FaultText.{text_of_copy};
+
+    ghost output = { λ fault. Some (text_of_copy fault) };
+
+    fn fmt<W: fmt::Write>(&self, f: &mut fmt::Formatter<W>) -> fmt::Result {
+        match self {
+            CopyFault::OutOfMemory => write!(f, "out of memory"),
+            CopyFault::NoCopy => write!(f, "no copy has this id"),
+            CopyFault::CopyNotOpen => write!(f, "the copy is complete"),
+            CopyFault::CopyNotComplete => write!(f, "the copy is still being read"),
+            CopyFault::PagesLeft(page) => {
+                let page = page.0;
+                write!(f, "page {page} is not decided")
+            }
+            CopyFault::TooManyCopies => write!(f, "every id was given"),
+        }
+    }
+}
+
+impl Error for CopyFault {}
+
 impl From<AllocError> for CopyFault {
     ghost from_gives = { λ _ e. e ≡ OutOfMemory };
 

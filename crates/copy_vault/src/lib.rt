@@ -2,18 +2,32 @@
 //! keeps them, and their archives.
 #![tactic(auto)]
 
+mod archive_fault;
+mod archive_laws;
+mod chain;
 mod complete;
 mod copy_id;
 mod fault;
+mod header;
+mod header_codec;
+mod read;
 mod reading;
 mod slots;
 mod vault;
+mod write;
 
+pub use archive_fault::{ArchiveFault, ArchiveWriteFault};
+pub use archive_laws::copies_are_spelled_apart;
+pub use chain::Chain;
 pub use complete::CompleteCopy;
 pub use copy_id::{CopyId, CopyKind, Decision, MAX_COPIES};
 pub use fault::CopyFault;
+pub use read::read_archive;
 pub use reading::ReadingCopy;
 pub use vault::Vault;
+pub use write::write_archive;
 
+#[cfg(test)]
+mod archive_tests;
 #[cfg(test)]
 mod tests;

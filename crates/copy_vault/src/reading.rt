@@ -88,6 +88,13 @@ impl ReadingCopy {
         })
     }
 
+    /// How many pages the volume has.
+    pub fn pages(&self) -> u32
+        ensures { result ≡ length self.now.copy.pages }
+    {
+        self.slots.count()
+    }
+
     /// The least page of which nothing is decided yet.
     pub fn undecided(&self) -> Option<PageNo>
         ensures { result ≡ least_undecided self.now.copy.pages }

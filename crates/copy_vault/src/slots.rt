@@ -1,9 +1,10 @@
 //! What a copy has decided of each of its pages.
 
 ghost use Rattle.std.specs.Prelude.{◌≡◌, ◌<◌, ◌^◌, ◌↔◌, length, replicate, slice_set};
-ghost use Rattle.std.specs.Prelude.{IfOk, IsTrue};
+ghost use Rattle.std.specs.Prelude.{◌+◌, ◌++◌, ◌∷◌, [], IfOk, IsTrue, OnOk};
 ghost use Rattle.copy_vault.specs.Copy.{PageDecision, undecided, taken, kept, decision_at};
-ghost use Rattle.copy_vault.specs.Copy.{taken_count};
+ghost use Rattle.copy_vault.specs.Copy.{page_of, taken_count};
+ghost use Rattle.copy_vault.specs.Slots.{page_list};
 
 use page_core::{Page, PageNo};
 use std::alloc::{AllocError, Global};
@@ -46,6 +47,46 @@ impl Slots {
             slots.push(Slot::Undecided)?;
         }
         Ok(Slots { slots, taken: 0 })
+    }
+
+    /// No slots yet, with room for so many.
+    pub fn with_room(alloc: Global, count: u32) -> Result<Slots, AllocError>
+        ensures { IfOk result (λ slots. slots ≡ []) }
+    {
+        Ok(Slots {
+            slots: Vec::with_capacity(alloc, count as usize)?,
+            taken: 0,
+        })
+    }
+
+    /// Keeps what the parent has of the next page.
+    pub fn push_kept(&mut self) -> Result<(), AllocError>
+        requires { length self.old + 1 < 2 ^ 32 }
+        ensures { OnOk result (self.new ≡ self.old ++ kept ∷ []) }
+    {
+        self.slots.push(Slot::Kept)?;
+        Ok(())
+    }
+
+    /// Takes the next page.
+    pub fn push_taken(&mut self, place: Box<Page>) -> Result<(), AllocError>
+        requires { length self.old + 1 < 2 ^ 32 }
+        ensures { OnOk result (self.new ≡ self.old ++ taken place.value ∷ []) }
+    {
+        self.slots.push(Slot::Taken(place))?;
+        self.taken += 1;
+        Ok(())
+    }
+
+    /// The page, if it was taken.
+    pub fn page(&self, number: PageNo) -> Option<&Page>
+        requires { number < length self.now }
+        ensures { page_list result ≡ page_of (decision_at self.now number) }
+    {
+        match &self.slots[number.0 as usize] {
+            Slot::Taken(page) => Some(page),
+            _ => None,
+        }
     }
 
     /// How many pages there are.

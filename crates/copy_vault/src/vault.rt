@@ -3,15 +3,18 @@
 ghost use Rattle.std.specs.Prelude.{◌≡◌, ◌+◌, ◌<◌, [], length, IfOk, IfErr, OnOk, OnErr};
 ghost use Rattle.std.specs.Prelude.{IfSome, Some, None};
 ghost use Rattle.std.specs.Option.{option_map, option_map_or};
+ghost use Rattle.copy_vault.specs.Chain.{IsChainOf};
 ghost use Rattle.copy_vault.specs.Copy.{CopyView, undecided, decision_at};
 ghost use Rattle.copy_vault.specs.Reading.{ReadingView};
-ghost use Rattle.copy_vault.specs.Vault.{CopyState, HasRoom, OpenRefuses, answer_in, complete_of};
+ghost use Rattle.copy_vault.specs.Vault.{CopyState, HasRoom, OpenRefuses, answer_in, complete};
+ghost use Rattle.copy_vault.specs.Vault.{complete_of, complete_refusal, inc_refusal, pages_in};
 ghost use Rattle.copy_vault.specs.Vault.{decided, drop_refusal, dropped, open_refusal, opened};
 ghost use Rattle.copy_vault.specs.Vault.{reading, reading_of, seal_refusal, sealed, sealed_in};
-ghost use Rattle.copy_vault.specs.Vault.{HasParent, since_of, state_in, state_of, taken_in, without};
-ghost use Rattle.copy_vault.specs.declared.copy_id.CopyKind.TheVariants.{Full};
+ghost use Rattle.copy_vault.specs.Vault.{HasParent, IsKept, IsOfId, since_of, state_in, state_of, taken_in, without};
+ghost use Rattle.copy_vault.specs.declared.copy_id.CopyKind.TheVariants.{Full, Inc};
 ghost use Rattle.copy_vault.specs.declared.vault.Entry.TheVariants as entry;
 
+use crate::chain::Chain;
 use crate::complete::CompleteCopy;
 use crate::copy_id::{CopyId, CopyKind, Decision, MAX_COPIES};
 use crate::fault::CopyFault;
@@ -125,6 +128,30 @@ impl Vault {
         self.open(alloc, CopyKind::Full, Lsn(0), pages, begin, redo)
     }
 
+    /// Begins an incremental copy of the volume that the copy of this id is of, which is its parent,
+    /// and answers its id: one more than the last one. It notes a checkpoint by its begin LSN and
+    /// redo point. Refusals in order: `NoCopy` and `CopyNotComplete` of the parent,
+    /// `TooManyCopies`, `OutOfMemory`.
+    pub fn open_inc(
+        &mut self,
+        alloc: Global,
+        parent: CopyId,
+        begin: Lsn,
+        redo: Lsn,
+    ) -> Result<CopyId, CopyFault>
+        ensures id { IfOk result (λ id. id ≡ length self.old.copies + 1) }
+        ensures opened { OnOk result (self.new.copies ≡ opened self.old.copies (Inc parent)
+            (pages_in (state_of self.old.copies parent)) begin redo) }
+        ensures ok { OnOk result (inc_refusal self.old.copies parent ≡ None) }
+        ensures err { IfErr result (OpenRefuses (inc_refusal self.old.copies parent)) }
+        ensures same { OnErr result (self.new ≡ self.old) }
+    {
+        let copy = self.complete_copy(parent)?;
+        let since = copy.redo();
+        let pages = copy.pages();
+        self.open(alloc, CopyKind::Inc(parent), since, pages, begin, redo)
+    }
+
     /// Begins a copy of this kind.
     fn open(
         &mut self,
@@ -135,7 +162,7 @@ impl Vault {
         begin: Lsn,
         redo: Lsn,
     ) -> Result<CopyId, CopyFault>
-        requires parent { HasParent self.old.copies (length self.old.copies + 1) kind }
+        requires parent { HasParent self.old.copies (length self.old.copies + 1) pages kind }
         requires since { since ≡ since_of self.old.copies kind }
         ensures id { IfOk result (λ id. id ≡ length self.old.copies + 1) }
         ensures opened { OnOk result
@@ -181,10 +208,44 @@ impl Vault {
         }
     }
 
+    /// The chain that ends with a complete copy: the copies that are its parent, the parent of that
+    /// one and so on, and itself. Refusals in order: `NoCopy`, `CopyNotComplete`, `OutOfMemory`.
+    pub fn chain(&self, alloc: Global, id: CopyId) -> Result<Chain<'_>, CopyFault>
+        ensures found { IfOk result (IsChainOf self.now.copies id) }
+        ensures ok { OnOk result (complete_refusal (state_of self.now.copies id) ≡ None) }
+        ensures err { IfErr result
+            (OpenRefuses (complete_refusal (state_of self.now.copies id))) }
+    {
+        let mut members = Vec::new(alloc);
+        let mut copy = self.complete_copy(id)?;
+        while let CopyKind::Inc(parent) = copy.kind() {
+            members.push(copy)?;
+            copy = self.complete_copy(parent)?;
+        }
+        members.push(copy)?;
+        members.reverse();
+        Ok(Chain::new(members))
+    }
+
+    /// The copy of this id, which has to be complete.
+    fn complete_copy(&self, id: CopyId) -> Result<&CompleteCopy, CopyFault>
+        ensures ok { IfOk result (λ copy. state_of self.now.copies id ≡ complete copy.now) }
+        ensures kept { IfOk result (λ copy. IsOfId self.now.copies id copy.now) }
+        ensures err { IfErr result (λ fault.
+            complete_refusal (state_of self.now.copies id) ≡ Some fault) }
+    {
+        match self.entry(id) {
+            Some(Entry::Complete(copy)) => Ok(copy),
+            Some(Entry::Reading(_)) => Err(CopyFault::CopyNotComplete),
+            _ => Err(CopyFault::NoCopy),
+        }
+    }
+
     /// What is kept of the copy of this id.
     fn entry(&self, id: CopyId) -> Option<&Entry>
-        ensures { option_map_or (λ it. state_in it.now) result dropped
+        ensures state { option_map_or (λ it. state_in it.now) result dropped
             ≡ state_of self.now.copies id }
+        ensures kept { IfSome result (λ it. IsKept self.now.copies id it.now) }
     {
         let index = self.index_of(id)?;
         Some(&self.entries[index])

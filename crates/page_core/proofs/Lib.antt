@@ -1,4 +1,5 @@
 pub mod Pieces
 pub mod EightBytes
+pub mod Inputs
 pub mod PageBytes
 pub mod Volumes

@@ -4,7 +4,7 @@ use Rattle.std.specs.Prelude.{get_or, refl, slice_range}
 use Rattle.std.specs.List.{flat_map}
 use Rattle.std.proofs.Common.{sym, ap, ◌∙◌, arith}
 use Rattle.std.proofs.lemmas.List.{length-append, length-drop, take_at, drop_at, drop-drop, take-append-drop}
-use Rattle.std.proofs.lemmas.List.{nil_from_length, drop-take, take-take}
+use Rattle.std.proofs.lemmas.List.{nil_from_length, drop-take, take-take, take-append-le}
 
 -- each piece has this length
 pub record HaveLength {X A : Type 0} (piece : X → List A) (k : ℕ) : Type 0 where
@@ -56,3 +56,12 @@ grow xs front field b c le e d =
     let second : drop b (take c xs) ≡ take (c - b) (drop b xs) = ap (λ n. drop b (take n xs)) (sym total)
     ∙ drop-take b (c - b) xs in
     rw (e, d, ← second, ← take-take b c xs le) split
+
+-- a front of the middle of three lists
+pub into : {X : Type 0} (a b c : List X) (m n : ℕ) → m ≡ length a → n ≤ length b → a ++ take n b ≡ take (m + n) (a ++ (b ++ c))
+into a b c m n start fits =
+    let xs = a ++ (b ++ c) in
+    let wide : m + n - m ≡ n = omega arith in
+    grow xs a (take n b) m (m + n) (omega arith) (sym (take_at a (b ++ c) m (sym start)))
+    (sym (ap (λ k. take k (drop m xs)) wide ∙ ap (take n) (drop_at a (b ++ c) m (sym start))
+    ∙ take-append-le n b c fits))

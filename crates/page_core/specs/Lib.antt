@@ -1,4 +1,5 @@
 pub mod Change
 pub mod Failures
+pub mod Input
 pub mod Page
 pub mod Volume

@@ -5,7 +5,9 @@ mod buffer;
 mod change;
 mod failures;
 pub mod field;
+mod input;
 mod numbers;
+mod output;
 mod page;
 #[cfg(test)]
 mod tests;
@@ -14,7 +16,9 @@ mod volume;
 pub use buffer::zeros;
 pub use change::{Change, ChangeKind, undo_of};
 pub use failures::Failures;
+pub use input::{MAX_TURNS, Turn, keep_from, read_more};
 pub use numbers::{LSN_STEP, Lsn, PageNo, SlotNo, TxnNo};
+pub use output::write_out;
 pub use page::{
     BadPage, MAX_PAGES, PAGE_BYTES, Page, SLOTS, pages_are_spelled_apart, volumes_are_spelled_apart,
 };

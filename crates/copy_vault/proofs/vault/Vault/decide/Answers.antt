@@ -1,4 +1,5 @@
 use Rattle.std.proofs.Common.{◌≡◌, ◌<◌, ◌-◌, List, length, map, ap, sym, subst, ◌∙◌}
+use Rattle.std.proofs.lemmas.List.{length-set}
 use Rattle.copy_vault.specs.Copy.{CopyView, decision_at, undecided}
 use Rattle.copy_vault.specs.Vault.{CopyState, VaultView, answer_in, decided, state_in, reading}
 use Rattle.copy_vault.proofs.Vaults.{entry_read, vault_read, answer_here, decided_here, same_copy}
@@ -34,7 +35,9 @@ invariant_of-self c =
     let made = c.decide.ensures in
     vault_read entries (c.id.inside.0 - 1) c.in-Reading.copy c.decide.new.self c.self.invariant there.0.there
     (there.1 ∙ c.in-Reading.is) (ap (λ (copy : CopyView). copy.id) made.copy)
-    (ap (λ (copy : CopyView). copy.kind) made.copy) made.since
+    (ap (λ (copy : CopyView). copy.kind) made.copy)
+    (ap (λ (copy : CopyView). length copy.pages) made.copy ∙ length-set c.in-Reading.copy.copy.pages c.args.number _)
+    made.since
 
 pub returns-clause-answer : goal.returns-clause-answer
 returns-clause-answer c =

@@ -1,0 +1,207 @@
+-- Chains of copies, and the pages that they have.
+use Rattle.std.proofs.Common.{◌≡◌, ℕ, ◌+◌, ◌-◌, ◌<◌, List, [], ◌∷◌, ◌++◌, length, get_or, take, drop, reverse, refl, sym, ap}
+use Rattle.std.proofs.Common.{◌∙◌, subst, arith, suc, zero}
+use Rattle.std.specs.Prelude.{Some, None}
+use Rattle.std.specs.Borrow.{Bor}
+use Rattle.std.specs.List.{AllByRecursion}
+use Rattle.std.proofs.Math.ListN.{get_or-map}
+use Rattle.std.proofs.lemmas.List.{at_drop_more, map-append, reverse-append, take-append-drop}
+use Rattle.std.proofs.lemmas.List.Concat.{flat_map-append}
+use Rattle.page_core.specs.declared.page.Page.{Page}
+use Rattle.page_core.specs.Page.{formatted}
+use Rattle.copy_vault.specs.declared.fault.CopyFault.{CopyFault}
+use Rattle.copy_vault.specs.declared.copy_id.CopyKind.{CopyKind}
+use Rattle.copy_vault.specs.declared.copy_id.CopyKind.TheVariants.{Full, Inc}
+use Rattle.copy_vault.specs.Copy.{CopyView, IsComplete, PageDecision, undecided, taken, kept, decision_at, page_of}
+use Rattle.copy_vault.specs.Vault.{CopyState, HasParent, IsOfId, IsParent, complete, complete_refusal, state_of}
+use Rattle.copy_vault.specs.Chain.{Follow, IsChain, IsChainOf, IsNext, content, last_of, last_redo, lent, page_count, takings}
+
+-- ---- references to copies
+
+pub at_ref : {T : Type 0} (refs : List (Bor T)) (k : ℕ) (r : Bor T) → r ≡ get_or refs k r
+    → get_or (lent refs) k r.now ≡ r.now
+at_ref {T} refs k r is = get_or-map (λ (b : Bor T). b.now) refs k r ∙ ap (λ (b : Bor T). b.now) (sym is)
+
+pub lent_push : {T : Type 0} (refs : List (Bor T)) (r : Bor T) → lent (refs ++ r ∷ []) ≡ lent refs ++ r.now ∷ []
+lent_push {T} refs r = map-append (λ (b : Bor T). b.now) refs (r ∷ [])
+
+lent_reverse : {T : Type 0} (refs : List (Bor T)) → lent (reverse refs) ≡ reverse (lent refs)
+lent_reverse [] = refl
+lent_reverse (r ∷ refs) =
+    ap lent (reverse-append (r ∷ []) refs) ∙ lent_push (reverse refs) r
+    ∙ ap (λ xs. xs ++ r.now ∷ []) (lent_reverse refs) ∙ sym (reverse-append (r.now ∷ []) (lent refs))
+
+-- the last one first
+pub reversed : {T : Type 0} (refs : List (Bor T)) (r : Bor T)
+    → lent (reverse (refs ++ r ∷ [])) ≡ r.now ∷ reverse (lent refs)
+reversed refs r =
+    lent_reverse (refs ++ r ∷ []) ∙ ap reverse (lent_push refs r) ∙ reverse-append (lent refs) (r.now ∷ [])
+
+pub lent_back : {T : Type 0} (refs : List (Bor T)) (r : Bor T)
+    → reverse (lent (refs ++ r ∷ [])) ≡ r.now ∷ reverse (lent refs)
+lent_back refs r = ap reverse (lent_push refs r) ∙ reverse-append (lent refs) (r.now ∷ [])
+
+-- ---- the redo point
+
+pub last_redo_at : (members : List CopyView) (d : CopyView) → 0 < length members
+    → (get_or members (length members - 1) d).redo ≡ last_redo members
+last_redo_at [] d some = absurd (omega arith)
+last_redo_at (copy ∷ []) d some = refl
+last_redo_at (copy ∷ next ∷ more) d some =
+    let back : length (copy ∷ next ∷ more) - 1 ≡ suc (length (next ∷ more) - 1) = omega arith in
+    ap (λ n. (get_or (copy ∷ next ∷ more) n d).redo) back ∙ last_redo_at (next ∷ more) d (omega arith)
+
+-- ---- members of a chain
+
+follow_count : (copy : CopyView) (more : List CopyView) (k : ℕ) (d : CopyView) → Follow copy more → k < length more
+    → length (get_or more k d).pages ≡ length copy.pages
+follow_count copy [] k d linked lt = absurd (omega arith)
+follow_count copy (next ∷ more) zero d linked lt = linked.0.same_count
+follow_count copy (next ∷ more) (suc k) d linked lt =
+    follow_count next more k d linked.1 (omega arith) ∙ linked.0.same_count
+
+count_in : (first : CopyView) (more : List CopyView) (k : ℕ) (d : CopyView) → Follow first more
+    → k < length (first ∷ more) → length (get_or (first ∷ more) k d).pages ≡ length first.pages
+count_in first more zero d linked lt = refl
+count_in first more (suc k) d linked lt = follow_count first more k d linked (omega arith)
+
+-- each is of the same volume
+pub count_at : (members : List CopyView) (k : ℕ) (d : CopyView) → IsChain members → k < length members
+    → length (get_or members k d).pages ≡ page_count members
+count_at members k d chain lt =
+    ap (λ (ms : List CopyView). length (get_or ms k d).pages) chain.is
+    ∙ count_in chain.first chain.more k d chain.linked (omega (arith, ap length chain.is))
+    ∙ sym (ap page_count chain.is)
+
+pub some_members : (members : List CopyView) → IsChain members → 0 < length members
+some_members members chain = omega (arith, ap length chain.is)
+
+-- ---- the content of a page
+
+takings_more : (members : List CopyView) (k p : ℕ) (d : CopyView) → k < length members
+    → takings (drop k members) p ≡ page_of (decision_at (get_or members k d).pages p) ++ takings (drop (k + 1) members) p
+takings_more members k p d lt = at_drop_more (λ (ms : List CopyView). takings ms p) members k d lt
+
+pub none_later : (members : List CopyView) (k p : ℕ) (d : CopyView) → k < length members
+    → page_of (decision_at (get_or members k d).pages p) ≡ [] → takings (drop (k + 1) members) p ≡ []
+    → takings (drop k members) p ≡ []
+none_later members k p d lt none later =
+    takings_more members k p d lt ∙ ap (λ (ps : List Page). ps ++ takings (drop (k + 1) members) p) none ∙ later
+
+last_of_push : (page last : Page) (pages : List Page) → last_of page (pages ++ last ∷ []) ≡ last
+last_of_push page last [] = refl
+last_of_push page last (next ∷ pages) = last_of_push next last pages
+
+-- the last copy that took the page has it
+pub content_at : (members : List CopyView) (k p : ℕ) (d : CopyView) (page : Page) → k < length members
+    → takings (drop (k + 1) members) p ≡ [] → page_of (decision_at (get_or members k d).pages p) ≡ page ∷ []
+    → content members p ≡ page
+content_at members k p d page lt later here =
+    let piece : CopyView → List Page = λ copy. page_of (decision_at copy.pages p) in
+    let is : takings members p ≡ takings (take k members) p ++ page ∷ [] =
+    ap (λ (ms : List CopyView). takings ms p) (sym (take-append-drop k members))
+    ∙ flat_map-append piece (take k members) (drop k members)
+    ∙ ap (λ (ps : List Page). takings (take k members) p ++ ps)
+    (takings_more members k p d lt ∙ ap (λ (ps : List Page). ps ++ takings (drop (k + 1) members) p) here
+    ∙ ap (λ (ps : List Page). page ∷ ps) later) in
+    ap (last_of (formatted p)) is ∙ last_of_push (formatted p) page (takings (take k members) p)
+
+-- a full copy took the page
+has_page : (d : PageDecision) → (¬ (d ≡ undecided)) → (¬ (d ≡ kept)) → (more : List Page)
+    → ¬ (page_of d ++ more ≡ [])
+has_page undecided some here more e = some refl
+has_page (taken page) some here more e = cc
+has_page kept some here more e = here refl
+
+-- some copy of a chain took it
+pub some_took : (members : List CopyView) (p : ℕ) → IsChain members → p < page_count members
+    → ¬ (takings members p ≡ [])
+some_took members p chain lt none =
+    let first = chain.first in
+    let all = subst (AllByRecursion (λ (copy : CopyView). IsComplete copy.kind copy.pages)) chain.is chain.complete in
+    let here = all.0 in
+    let below : p < length first.pages = omega (arith, ap page_count chain.is) in
+    has_page (decision_at first.pages p) (here.decided p below) (here.keeps chain.full p) (takings chain.more p)
+    (ap (λ (ms : List CopyView). takings ms p) (sym chain.is) ∙ none)
+
+-- ---- a chain that is gone back
+
+-- what was seen of the chain from its last copy back to this one
+pub record IsTail (copies : List CopyState) (id : ℕ) (copy : CopyView) (later : List CopyView) : Type 0 where
+  pub of_chain : IsChainOf copies id (copy ∷ later)
+  pub linked : Follow copy later
+  pub complete : AllByRecursion (λ copy. IsComplete copy.kind copy.pages) later
+
+pub tail_start : (copies : List CopyState) (id : ℕ) (copy : CopyView) → state_of copies id ≡ complete copy
+    → copy.id ≡ id → IsTail copies id copy []
+tail_start copies id copy is same = record {
+  of_chain = record {
+    before = [];
+    last = copy;
+    is = refl;
+    of_id = is;
+    of_vault = (ap (state_of copies) same ∙ is, tt);
+  };
+  linked = tt;
+  complete = tt;
+}
+
+pub tail_more : (copies : List CopyState) (id : ℕ) (parent copy : CopyView) (later : List CopyView)
+    → IsTail copies id copy later → IsComplete copy.kind copy.pages → IsNext parent copy
+    → state_of copies parent.id ≡ complete parent → IsTail copies id parent (copy ∷ later)
+tail_more copies id parent copy later tail whole next is =
+    let all = tail.of_chain in
+    record {
+      of_chain = record {
+        before = parent ∷ all.before;
+        last = all.last;
+        is = ap (λ (ms : List CopyView). parent ∷ ms) all.is;
+        of_id = all.of_id;
+        of_vault = (is, all.of_vault);
+      };
+      linked = (next, tail.linked);
+      complete = (whole, tail.complete);
+    }
+
+-- at a full copy the chain is whole
+pub tail_whole : (copies : List CopyState) (id : ℕ) (copy : CopyView) (later : List CopyView)
+    → IsTail copies id copy later → IsComplete copy.kind copy.pages → copy.kind ≡ Full → IsChain (copy ∷ later)
+tail_whole copies id copy later tail whole full = record {
+  first = copy;
+  more = later;
+  is = refl;
+  full = full;
+  linked = tail.linked;
+  complete = (whole, tail.complete);
+}
+
+-- ---- a copy and its parent
+
+pub known_here : (copies : List CopyState) (id : ℕ) (copy : CopyView) → IsOfId copies id copy → IsOfId copies copy.id copy
+known_here copies id copy known = subst (λ n. IsOfId copies n copy) (sym known.id_is) known
+
+pub parent_of : (copies : List CopyState) (copy : CopyView) (parent : ℕ) → IsOfId copies copy.id copy
+    → copy.kind ≡ Inc parent → IsParent copies parent copy.id (length copy.pages)
+parent_of copies copy parent known is = subst (HasParent copies copy.id (length copy.pages)) is known.parent
+
+pub is_there : (copies : List CopyState) (parent id pages : ℕ) (fault : CopyFault) → IsParent copies parent id pages
+    → ¬ (complete_refusal (state_of copies parent) ≡ Some fault)
+is_there copies parent id pages fault is refused =
+    let none : None ≡ Some fault = ap complete_refusal (sym is.is_complete) ∙ refused in cc
+
+pub next_of_parent : (copies : List CopyState) (parent id : ℕ) (other copy : CopyView)
+    → IsParent copies parent id (length copy.pages) → state_of copies parent ≡ complete other → other.id ≡ parent
+    → copy.kind ≡ Inc parent → IsNext other copy
+next_of_parent copies parent id other copy is there same kind =
+    let one : is.copy ≡ other = same_complete (sym is.is_complete ∙ there) in
+    record {
+      parent = kind ∙ ap Inc (sym same);
+      same_count = sym is.same_count ∙ ap (λ (k : CopyView). length k.pages) one;
+    }
+  where
+    same_complete : {a b : CopyView} → complete a ≡ complete b → a ≡ b
+    same_complete e = cc
+
+pub is_full : (kind : CopyKind) → ((parent : ℕ) → ¬ (kind ≡ Inc parent)) → kind ≡ Full
+is_full Full none = refl
+is_full (Inc parent) none = absurd (none parent refl)

@@ -1,0 +1,186 @@
+//! The bytes of archives, and which fault those have that are cut or spoiled.
+
+use crate::{
+    ArchiveFault, ArchiveWriteFault, CompleteCopy, CopyId, CopyKind, Vault, read_archive,
+    write_archive,
+};
+use page_core::{Lsn, PAGE_BYTES, Page, PageNo};
+use std::alloc::Global;
+use std::io;
+use std::io::{ErrorKind, Read};
+use std::test::Fail;
+
+// The parts of archives in groups of eight bytes, in hexadecimal. `0` is eight zero bytes.
+const OF_ONE_PAGE: &str =
+    "41494d4741524331 0100000001000000 0100000000000000 c000000000000000 8000000000000000 \
+     0100000000000000 0 0";
+
+const OF_TWO_PAGES: &str =
+    "41494d4741524331 0200000001000000 0100000000000000 4000000000000000 4000000000000000 \
+     0200000000000000 0 0";
+
+const OF_A_KEPT_PAGE: &str =
+    "41494d4741524331 0100000003000000 0200000002000000 8001000000000000 8001000000000000 0 0 0";
+
+/// An archive with this header, and so many formatted pages behind it.
+fn archive_with(alloc: Global, header: &str, pages: u32) -> Result<Vec<u8>, Fail> {
+    let mut bytes = Vec::new(alloc);
+    for group in header.split_whitespace() {
+        bytes.extend_from_slice(&u64::from_str_radix(group, 16)?.to_be_bytes())?;
+    }
+    for number in 0..pages {
+        bytes.extend_from_slice(&number.to_le_bytes())?;
+        bytes.extend_from_slice(&1u32.to_le_bytes())?;
+        bytes.extend_from_slice(&[0; PAGE_BYTES - 8])?;
+    }
+    Ok(bytes)
+}
+
+fn written(alloc: Global, copy: &CompleteCopy) -> Result<Vec<u8>, Fail> {
+    let mut bytes = Vec::new(alloc);
+    write_archive(alloc, copy, &mut bytes)?;
+    Ok(bytes)
+}
+
+fn fault_of(alloc: Global, bytes: &[u8]) -> Option<ArchiveFault> {
+    let mut input = bytes;
+    read_archive(alloc, &mut input).err()
+}
+
+#[test]
+fn a_sealed_copy_has_its_archive(rt: HostRuntime) -> Result<(), Fail> {
+    let alloc = rt.alloc();
+    let mut vault = Vault::new(alloc);
+    let id = vault.open_full(alloc, 1, Lsn(192), Lsn(128))?;
+    vault.make_room(alloc, id)?;
+    vault.decide(id, PageNo(0), &Page::formatted(PageNo(0)));
+    assert_eq!(rt; vault.seal(id), Ok(1));
+    let Some(copy) = vault.complete(id) else {
+        return Err(Fail::new("the copy is not complete"));
+    };
+    assert_eq!(rt; written(alloc, copy)?, archive_with(alloc, OF_ONE_PAGE, 1)?);
+    Ok(())
+}
+
+#[test]
+fn an_archive_is_read_and_written_again(rt: HostRuntime) -> Result<(), Fail> {
+    let alloc = rt.alloc();
+    for (header, pages, id, kind, begin, redo) in [
+        (
+            OF_ONE_PAGE,
+            1,
+            CopyId(1),
+            CopyKind::Full,
+            Lsn(192),
+            Lsn(128),
+        ),
+        (OF_TWO_PAGES, 2, CopyId(1), CopyKind::Full, Lsn(64), Lsn(64)),
+        (
+            OF_A_KEPT_PAGE,
+            0,
+            CopyId(3),
+            CopyKind::Inc(CopyId(2)),
+            Lsn(384),
+            Lsn(384),
+        ),
+    ] {
+        let archive = archive_with(alloc, header, pages)?;
+        let copy = read_archive(alloc, &mut archive.as_slice())?;
+        assert_eq!(rt;
+            (copy.id(), copy.begin(), copy.redo(), copy.taken()),
+            (id, begin, redo, pages)
+        );
+        assert_eq!(rt; copy.kind(), kind);
+        assert_eq!(rt; written(alloc, &copy)?, archive);
+    }
+    Ok(())
+}
+
+#[test]
+fn a_cut_archive_is_refused(rt: HostRuntime) -> Result<(), Fail> {
+    let alloc = rt.alloc();
+    let archive = archive_with(alloc, OF_TWO_PAGES, 2)?;
+    for count in 0..archive.len() {
+        let wanted = match count {
+            0..64 => ArchiveFault::BadArchive(0),
+            64 | 576 => ArchiveFault::CountDiffers,
+            65..576 => ArchiveFault::BadArchive(64),
+            _ => ArchiveFault::BadArchive(576),
+        };
+        assert_eq!(rt;
+            fault_of(alloc, &archive[..count]),
+            Some(wanted),
+            "cut to {count}"
+        );
+    }
+    Ok(())
+}
+
+#[test]
+fn a_spoiled_archive_is_refused(rt: HostRuntime) -> Result<(), Fail> {
+    let alloc = rt.alloc();
+    for (at, byte, wanted) in [
+        // The text in front, a spare byte, a parent of a full copy, a redo point past the begin.
+        (0, 0x42, ArchiveFault::BadArchive(0)),
+        (63, 1, ArchiveFault::BadArchive(0)),
+        (20, 1, ArchiveFault::BadArchive(0)),
+        (32, 0x80, ArchiveFault::BadArchive(0)),
+        // The format of page 0, and a second page that is no other, or past the volume.
+        (68, 2, ArchiveFault::BadArchive(64)),
+        (576, 0, ArchiveFault::BadArchive(576)),
+        (576, 2, ArchiveFault::BadArchive(576)),
+    ] {
+        let mut archive = archive_with(alloc, OF_TWO_PAGES, 2)?;
+        if let Some(place) = archive.get_mut(at) {
+            *place = byte;
+        }
+        assert_eq!(rt; fault_of(alloc, &archive), Some(wanted), "{byte} at {at}");
+    }
+    let mut longer = archive_with(alloc, OF_TWO_PAGES, 2)?;
+    longer.push(0)?;
+    assert_eq!(rt; fault_of(alloc, &longer), Some(ArchiveFault::CountDiffers));
+    Ok(())
+}
+
+/// Gives these bytes, one at a call, and then fails.
+#[derive(Drop)]
+struct Breaks<'a> {
+    left: &'a [u8],
+}
+
+impl Read for Breaks<'_> {
+    fn read(&mut self, buf: &mut [u8]) -> io::Result<usize> {
+        let Some((first, rest)) = self.left.split_first() else {
+            return Err(ErrorKind::Other.into());
+        };
+        let Some(place) = buf.first_mut() else {
+            return Ok(0);
+        };
+        *place = *first;
+        self.left = rest;
+        Ok(1)
+    }
+}
+
+#[test]
+fn a_failure_is_told_as_what_it_is(rt: HostRuntime) -> Result<(), Fail> {
+    let alloc = rt.alloc();
+    let archive = archive_with(alloc, OF_TWO_PAGES, 2)?;
+    for given in [0, 64, 600, 1_088] {
+        let mut reader = Breaks {
+            left: archive.get(..given).unwrap_or(&[]),
+        };
+        let outcome = read_archive(alloc, &mut reader);
+        assert_eq!(rt;
+            outcome.err(),
+            Some(ArchiveFault::ReadFault),
+            "{given} bytes"
+        );
+    }
+    let copy = read_archive(alloc, &mut archive.as_slice())?;
+    let mut room = [0; 600];
+    let outcome = write_archive(alloc, &copy, &mut room.as_mut_slice());
+    assert_eq!(rt; outcome, Err(ArchiveWriteFault::WriteFault(600)));
+    assert_eq!(rt; archive.get(..600), Some(room.as_slice()));
+    Ok(())
+}
