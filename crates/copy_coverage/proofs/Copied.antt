@@ -21,7 +21,7 @@ use Rattle.copy_vault.specs.Copy.{CopyView, answer_of, decided_by, decision_at, 
 use Rattle.copy_vault.specs.Vault.{CopyState, HasParent, complete, decided, decided_in, dropped, opened, reading, redo_of}
 use Rattle.copy_vault.specs.Vault.{sealed, sealed_in, since_of, state_of, with_state, without}
 use Rattle.copy_vault.proofs.Vaults.{GoesOn, goes_on_push, goes_on_set}
-use Rattle.copy_coverage.specs.Copied.{AreCopied, IsCopyOf, IsCovered, StandsOn, content, copy_in, decided_over}
+use Rattle.copy_coverage.specs.Copied.{AreCopied, IsCopyOf, IsCovered, StandsOn, page_in, copy_in, decided_over, page_in}
 
 -- ---- the log goes on
 
@@ -45,7 +45,7 @@ copied_later rs next f stored copies high are = record {
       covers_later rs next p (get_or stored p d) copy.redo (omega arith) (are.read id copy is p d lt);
   covered = λ id copy older is on p.
       let early = (are.each id copy is).early in
-      if_some (IsCovered rs f copy.redo p) (IsCovered (rs ++ next ∷ []) f copy.redo p) (content (copy ∷ older) p)
+      if_some (IsCovered rs f copy.redo p) (IsCovered (rs ++ next ∷ []) f copy.redo p) (page_in (copy ∷ older) p)
       (λ page. covered_later rs next f copy.redo p page (omega arith)) (are.covered id copy older is on p);
 }
 
@@ -58,7 +58,7 @@ copied_forced rs f g stored copies le are = record {
       record { whole = here.whole; early = omega arith; parent = here.parent };
   read = are.read;
   covered = λ id copy older is on p.
-      if_some (IsCovered rs f copy.redo p) (IsCovered rs g copy.redo p) (content (copy ∷ older) p)
+      if_some (IsCovered rs f copy.redo p) (IsCovered rs g copy.redo p) (page_in (copy ∷ older) p)
       (λ page h. let low = h.stable in record { covers = h.covers; stable = omega arith })
       (are.covered id copy older is on p);
 }
@@ -79,7 +79,7 @@ pub copied_stored : (rs : List Record) (f : ℕ) (stored : List Page) (copies : 
 copied_stored rs f stored copies n image are there past newer = record {
   each = λ id copy is.
       let here = are.each id copy is in
-      record { whole = here.whole ∙ sym (length-set stored n image); early = here.early; parent = here.parent };
+      subst (λ (n : ℕ). IsCopyOf n f copies id copy) (sym (length-set stored n image)) here;
   read = λ id copy is p d lt.
       let below : p < length stored = omega (arith, length-set stored n image) in
       elim (cases_eq p n) [
@@ -110,32 +110,33 @@ pub record MayStand (rs : List Record) (forced_end : ℕ) (stored : List Page) (
       → Covers rs p (get_or stored p d) copy.redo
   pub covered : (copy : CopyView) (older : List CopyView) → copy_in state ≡ Some copy
       → StandsOn copies copy.kind older
-      → (p : ℕ) → IfSome (content (copy ∷ older) p) (IsCovered rs forced_end copy.redo p)
+      → (p : ℕ) → IfSome (page_in (copy ∷ older) p) (IsCovered rs forced_end copy.redo p)
 
-parent_on : (old new : List CopyState) (id : ℕ) (kind : CopyKind) → GoesOn old new → HasParent old id kind
-    → HasParent new id kind
-parent_on old new id Full on h = tt
-parent_on old new id (Inc parent) on h = record {
+parent_on : (old new : List CopyState) (id pages : ℕ) (kind : CopyKind) → GoesOn old new
+    → HasParent old id pages kind → HasParent new id pages kind
+parent_on old new id pages Full on h = tt
+parent_on old new id pages (Inc parent) on h = record {
   before = h.before;
   copy = h.copy;
   is_complete = on.stays parent h.copy h.is_complete;
+  same_count = h.same_count;
 }
 
 complete_same : (a b : CopyView) → complete a ≡ complete b → a ≡ b
 complete_same a b e = cc
 
 -- what a copy stands on now, it stood on before
-stood_on : (old new : List CopyState) → GoesOn old new
-    → ((id : ℕ) (copy : CopyView) → copy_in (state_of old id) ≡ Some copy → HasParent old id copy.kind)
-    → (id : ℕ) (kind : CopyKind) (older : List CopyView) → HasParent old id kind → StandsOn new kind older
+stood_on : (old new : List CopyState) (pages : ℕ) → GoesOn old new
+    → ((id : ℕ) (copy : CopyView) → copy_in (state_of old id) ≡ Some copy → HasParent old id pages copy.kind)
+    → (id : ℕ) (kind : CopyKind) (older : List CopyView) → HasParent old id pages kind → StandsOn new kind older
     → StandsOn old kind older
-stood_on old new on each id Full older h is = is
-stood_on old new on each id (Inc parent) [] h is = is
-stood_on old new on each id (Inc parent) (copy ∷ older) h is =
+stood_on old new pages on each id Full older h is = is
+stood_on old new pages on each id (Inc parent) [] h is = is
+stood_on old new pages on each id (Inc parent) (copy ∷ older) h is =
     let same : h.copy ≡ copy = complete_same h.copy copy (sym (on.stays parent h.copy h.is_complete) ∙ is.0) in
     let was : state_of old parent ≡ complete copy = h.is_complete ∙ ap complete same in (
       was,
-      stood_on old new on each parent copy.kind older (each parent copy (ap copy_in was)) is.1,
+      stood_on old new pages on each parent copy.kind older (each parent copy (ap copy_in was)) is.1,
     )
 
 pub copied_changed : (rs : List Record) (f : ℕ) (stored : List Page) (old new : List CopyState) (id : ℕ)
@@ -149,11 +150,12 @@ copied_changed rs f stored old new id state changed are stands = record {
         record {
           whole = here.whole;
           early = here.early;
-          parent = subst (λ (k : ℕ). HasParent new k copy.kind) (sym same) (parent_on old new id copy.kind changed.on here.parent);
+          parent = subst (λ (k : ℕ). HasParent new k (length stored) copy.kind) (sym same)
+              (parent_on old new id (length stored) copy.kind changed.on here.parent);
         }
     | inr other ↦
         let here = are.each j copy (ap copy_in (sym (changed.others j other)) ∙ is) in
-        record { whole = here.whole; early = here.early; parent = parent_on old new j copy.kind changed.on here.parent }
+        record { whole = here.whole; early = here.early; parent = parent_on old new j (length stored) copy.kind changed.on here.parent }
   ];
   read = λ j copy is p d lt. elim (cases_eq j id) [
     | inl same ↦ stands.read copy (sym changed.here ∙ ap (state_of new) (sym same) ∙ is) p d lt
@@ -163,11 +165,11 @@ copied_changed rs f stored old new id state changed are stands = record {
     | inl same ↦
         let now : copy_in state ≡ Some copy = ap copy_in (sym changed.here ∙ ap (state_of new) (sym same)) ∙ is in
         stands.covered copy older now
-        (stood_on old new changed.on (λ i c h. (are.each i c h).parent) id copy.kind older (stands.each copy now).parent on) p
+        (stood_on old new (length stored) changed.on (λ i c h. (are.each i c h).parent) id copy.kind older (stands.each copy now).parent on) p
     | inr other ↦
         let was : copy_in (state_of old j) ≡ Some copy = ap copy_in (sym (changed.others j other)) ∙ is in
         are.covered j copy older was
-        (stood_on old new changed.on (λ i c h. (are.each i c h).parent) j copy.kind older (are.each j copy was).parent on) p
+        (stood_on old new (length stored) changed.on (λ i c h. (are.each i c h).parent) j copy.kind older (are.each j copy was).parent on) p
   ];
 }
 
@@ -206,7 +208,7 @@ some_same : (a b : CopyView) → Some a ≡ Some b → a ≡ b
 some_same a b e = cc
 
 pub copied_opened : (rs : List Record) (f : ℕ) (stored : List Page) (copies : List CopyState) (kind : CopyKind)
-    (begin redo : ℕ) → AreCopied rs f stored copies → HasParent copies (length copies + 1) kind → redo ≤ f
+    (begin redo : ℕ) → AreCopied rs f stored copies → HasParent copies (length copies + 1) (length stored) kind → redo ≤ f
     → ((p : ℕ) (d : Page) → p < length stored → Covers rs p (get_or stored p d) redo)
     → AreCopied rs f stored (opened copies kind (length stored) begin redo)
 copied_opened rs f stored copies kind begin redo are parent early covers =
@@ -218,7 +220,7 @@ copied_opened rs f stored copies kind begin redo are parent early covers =
       read = λ copy is p d lt. subst (λ (c : CopyView). Covers rs p (get_or stored p d) c.redo) (reading_same new copy is)
           (covers p d lt);
       covered = λ copy older is on p.
-          subst (λ (c : CopyView). IfSome (content (c ∷ older) p) (IsCovered rs f c.redo p)) (some_same new copy is)
+          subst (λ (c : CopyView). IfSome (page_in (c ∷ older) p) (IsCovered rs f c.redo p)) (some_same new copy is)
           (rw (none_decided (length stored) p) tt);
     })
   where
@@ -273,7 +275,7 @@ kept_covers rs f p since redo stored page covers low is = record {
 kept_from : (rs : List Record) (f p : ℕ) (stored : List Page) (copies : List CopyState) (redo : ℕ) (page : Page)
     (kind : CopyKind) (older : List CopyView) → AreCopied rs f stored copies → Covers rs p page redo
     → StandsOn copies kind older → nat_lt page.lsn (since_of copies kind) ≡ true
-    → IfSome (content older p) (IsCovered rs f redo p)
+    → IfSome (page_in older p) (IsCovered rs f redo p)
 kept_from rs f p stored copies redo page Full older are covers on low = absurd (no_less page.lsn low)
   where
     no_less : (n : ℕ) → ¬ (nat_lt n 0 ≡ true)
@@ -282,7 +284,7 @@ kept_from rs f p stored copies redo page (Inc parent) [] are covers on low = abs
 kept_from rs f p stored copies redo page (Inc parent) (copy ∷ older) are covers on low =
     let since : since_of copies (Inc parent) ≡ copy.redo = ap redo_of on.0 in
     let below : page.lsn < copy.redo = ltb-true page.lsn copy.redo (ap (nat_lt page.lsn) (sym since) ∙ low) in
-    if_some (IsCovered rs f copy.redo p) (IsCovered rs f redo p) (content (copy ∷ older) p)
+    if_some (IsCovered rs f copy.redo p) (IsCovered rs f redo p) (page_in (copy ∷ older) p)
     (λ q. kept_covers rs f p copy.redo redo page q covers below)
     (are.covered parent copy older (ap copy_in on.0) on.1 p)
 
@@ -310,7 +312,7 @@ copied_decided rs f stored copies id p copy page are is lt same stable =
       read = λ c e q d below. subst (λ (c : CopyView). Covers rs q (get_or stored q d) c.redo) (reading_same next c e)
           (are.read id copy is q d below);
       covered = λ c older e. subst (λ (c : CopyView). StandsOn copies c.kind older
-          → (q : ℕ) → IfSome (content (c ∷ older) q) (IsCovered rs f c.redo q)) (some_same next c e)
+          → (q : ℕ) → IfSome (page_in (c ∷ older) q) (IsCovered rs f c.redo q)) (some_same next c e)
           (λ on q. elim (cases_eq q p) [
             | inl here ↦
                 let at : decision_at next.pages q ≡ decision =
@@ -324,7 +326,7 @@ copied_decided rs f stored copies id p copy page are is lt same stable =
   where
     by_answer : (older : List CopyView) → Covers rs p page copy.redo → StandsOn copies copy.kind older
         → (b : Bool) → nat_lt page.lsn (since_of copies copy.kind) ≡ b
-        → IfSome (decided_over (content older p) (decided_by (cond b Kept Taken) page)) (IsCovered rs f copy.redo p)
+        → IfSome (decided_over (page_in older p) (decided_by (cond b Kept Taken) page)) (IsCovered rs f copy.redo p)
     by_answer older covers on true e = kept_from rs f p stored copies copy.redo page copy.kind older are covers on e
     by_answer older covers on false e = record { covers = covers; stable = stable }
 

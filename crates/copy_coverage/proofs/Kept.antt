@@ -13,7 +13,7 @@ use Rattle.log_records.specs.Record.{own_lsn}
 use Rattle.log_records.proofs.Coverage.{at_each, of_each, past_is_named, resume_covering}
 use Rattle.copy_vault.specs.Copy.{CopyView}
 use Rattle.copy_vault.specs.Vault.{CopyState, complete, state_of}
-use Rattle.copy_coverage.specs.Copied.{AreCopied, IsCovered, StandsOn, content, copy_in}
+use Rattle.copy_coverage.specs.Copied.{AreCopied, IsCovered, StandsOn, page_in, copy_in}
 use Rattle.copy_coverage.specs.Kept.{IsKeptOf}
 
 -- a part of a log is one too
@@ -60,7 +60,7 @@ restored log f kept p redo page valid is covered =
 pub restored_of_chain : (log : Log) (f : ℕ) (stored : List Page) (copies : List CopyState) (kept : Log) (id : ℕ)
     (copy : CopyView) (older : List CopyView) (p : ℕ) (page : Page) → IsLog log
     → AreCopied log.records f stored copies → IsKeptOf log f kept → state_of copies id ≡ complete copy
-    → StandsOn copies copy.kind older → content (copy ∷ older) p ≡ Some page
+    → StandsOn copies copy.kind older → page_in (copy ∷ older) p ≡ Some page
     → resume page kept.records copy.redo ≡ image kept.records p
 restored_of_chain log f stored copies kept id copy older p page valid are is state on has =
     restored log f kept p copy.redo page valid is

@@ -17,9 +17,9 @@ decided_over older (taken page) = Some page
 decided_over older kept = older
 
 -- the page as the last copy of a chain that took it has it; the chain has its last copy first
-abbrev pub content : List CopyView → ℕ → Option Page
-content [] p = None
-content (copy ∷ older) p = decided_over (content older p) (decision_at copy.pages p)
+abbrev pub page_in : List CopyView → ℕ → Option Page
+page_in [] p = None
+page_in (copy ∷ older) p = decided_over (page_in older p) (decision_at copy.pages p)
 
 -- the copies that one of this kind stands on: its parent, the parent of that one, and so on
 abbrev pub StandsOn : List CopyState → CopyKind → List CopyView → Type 0
@@ -44,7 +44,7 @@ pub record IsCopyOf (pages forced_end : ℕ) (copies : List CopyState) (id : ℕ
     (copy : CopyView) : Type 0 where
   pub whole : length copy.pages ≡ pages
   pub early : copy.redo ≤ forced_end
-  pub parent : HasParent copies id copy.kind
+  pub parent : HasParent copies id pages copy.kind
 
 -- the copies of a volume, beside its log and its stored pages: while a copy is being read, each
 -- stored page lacks nothing below its redo point; and so does each page that a copy has, by itself
@@ -57,7 +57,7 @@ pub record AreCopied (rs : List Record) (forced_end : ℕ) (stored : List Page)
       → (p : ℕ) (d : Page) → p < length stored → Covers rs p (slice_index_or stored p d) copy.redo
   pub covered : (id : ℕ) (copy : CopyView) (older : List CopyView)
       → copy_in (state_of copies id) ≡ Some copy → StandsOn copies copy.kind older
-      → (p : ℕ) → IfSome (content (copy ∷ older) p) (IsCovered rs forced_end copy.redo p)
+      → (p : ℕ) → IfSome (page_in (copy ∷ older) p) (IsCovered rs forced_end copy.redo p)
 
 -- of a log and what of it is forced: each complete copy is of the whole volume, and no page that it
 -- has, by itself or by those that it stands on, lacks a change below its redo point
@@ -66,4 +66,4 @@ pub record AreRestorable (log : Log) (forced_end : ℕ) (copies : List CopyState
       → length copy.pages ≡ log.pages
   pub covered : (id : ℕ) (copy : CopyView) (older : List CopyView)
       → state_of copies id ≡ complete copy → StandsOn copies copy.kind older
-      → (p : ℕ) → IfSome (content (copy ∷ older) p) (IsCovered log.records forced_end copy.redo p)
+      → (p : ℕ) → IfSome (page_in (copy ∷ older) p) (IsCovered log.records forced_end copy.redo p)

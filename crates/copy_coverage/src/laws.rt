@@ -14,7 +14,7 @@ ghost use Rattle.log_records.specs.Coverage.{resume};
 ghost use Rattle.log_records.specs.Image.{image};
 ghost use Rattle.log_records.specs.Log.{IsLog, Log};
 ghost use Rattle.copy_vault.specs.Vault.{complete};
-ghost use Rattle.copy_coverage.specs.Copied.{AreCopied, StandsOn, content};
+ghost use Rattle.copy_coverage.specs.Copied.{AreCopied, StandsOn, page_in};
 ghost use Rattle.copy_coverage.specs.Kept.{IsKeptOf};
 
 /// Copies lack nothing below their redo points while the log grows, and more of it is forced.
@@ -40,7 +40,8 @@ pub fn copies_outlast_page_writes()
 pub fn a_copy_begins()
     ensures { (rs : List Record) (forced_end : ℕ) (stored : List Page) (copies : List CopyState)
         (kind : CopyKind) (begin redo : ℕ) → AreCopied rs forced_end stored copies
-        → HasParent copies (length copies + 1) kind → redo ≤ forced_end
+        → HasParent copies (length copies + 1) (length stored) kind
+        → redo ≤ forced_end
         → ((p : ℕ) (d : Page) → p < length stored → Covers rs p (slice_index_or stored p d) redo)
         → AreCopied rs forced_end stored (opened copies kind (length stored) begin redo) }
 {}
@@ -74,6 +75,6 @@ pub fn a_chain_restores()
         (id : ℕ) (copy : CopyView) (older : List CopyView) (p : ℕ) (page : Page) → IsLog log
         → AreCopied log.records forced_end stored copies → IsKeptOf log forced_end kept
         → state_of copies id ≡ complete copy → StandsOn copies copy.kind older
-        → content (copy ∷ older) p ≡ Some page
+        → page_in (copy ∷ older) p ≡ Some page
         → resume page kept.records copy.redo ≡ image kept.records p }
 {}

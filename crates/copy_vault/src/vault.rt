@@ -3,7 +3,7 @@
 ghost use Rattle.std.specs.Prelude.{◌≡◌, ◌+◌, ◌<◌, [], length, IfOk, IfErr, OnOk, OnErr};
 ghost use Rattle.std.specs.Prelude.{IfSome, Some, None};
 ghost use Rattle.std.specs.Option.{option_map, option_map_or};
-ghost use Rattle.copy_vault.specs.Chain.{IsChainOf};
+ghost use Rattle.copy_vault.specs.Chain.{IsChain, IsChainOf};
 ghost use Rattle.copy_vault.specs.Copy.{CopyView, undecided, decision_at};
 ghost use Rattle.copy_vault.specs.Reading.{ReadingView};
 ghost use Rattle.copy_vault.specs.Vault.{CopyState, HasRoom, OpenRefuses, answer_in, complete};
@@ -211,6 +211,7 @@ impl Vault {
     /// The chain that ends with a complete copy: the copies that are its parent, the parent of that
     /// one and so on, and itself. Refusals in order: `NoCopy`, `CopyNotComplete`, `OutOfMemory`.
     pub fn chain(&self, alloc: Global, id: CopyId) -> Result<Chain<'_>, CopyFault>
+        ensures chain { IfOk result IsChain }
         ensures found { IfOk result (IsChainOf self.now.copies id) }
         ensures ok { OnOk result (complete_refusal (state_of self.now.copies id) ≡ None) }
         ensures err { IfErr result
