@@ -1,0 +1,4 @@
+pub mod Committed
+pub mod Examples
+pub mod Lost
+pub mod Rising
