@@ -1,4 +1,5 @@
 pub mod Committed
 pub mod Examples
 pub mod Lost
+pub mod Phases
 pub mod Rising
