@@ -3,3 +3,4 @@ pub mod Examples
 pub mod Lost
 pub mod Phases
 pub mod Rising
+pub mod Valid

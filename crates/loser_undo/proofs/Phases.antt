@@ -35,7 +35,7 @@ comp_follows rs l still last = (
   rw last (record { next = refl; same_page = refl; same_slot = refl; undoes = refl }),
 )
 
-last_of_push : (ps : List PendingChange) (p : PendingChange) → last_of (ps ++ p ∷ []) ≡ Some p
+pub last_of_push : (ps : List PendingChange) (p : PendingChange) → last_of (ps ++ p ∷ []) ≡ Some p
 last_of_push ps p =
     let i = length (ps ++ p ∷ []) - 1 in
     let long = length_push ps p in
@@ -173,8 +173,8 @@ no_length (p ∷ ps) none = absurd (omega (arith, none))
 
 module _ (P : List Record → Type 0)
     (ends : (rs : List Record) (t : ℕ) → IsLinked rs → MayFollow rs (end_of rs t) → P rs → P (with_end rs t))
-    (comps : (rs : List Record) (l : LostChange) → IsLinked rs → MayFollow rs (comp_of rs l) → P rs
-    → P (with_comp rs l)) where
+    (comps : (rs : List Record) (l : LostChange) → IsLinked rs → MayFollow rs (comp_of rs l)
+    → last_of (pending rs l.txn) ≡ Some l.change → P rs → P (with_comp rs l)) where
   one_undone : (rs : List Record) (ks : List LostChange) (l : LostChange) → Undoing P rs (ks ++ l ∷ [])
       → Undoing P (without_lost rs l) ks
   unfolding without_lost
@@ -195,14 +195,17 @@ module _ (P : List Record → Type 0)
       before : pending rs t ≡ changes_of t ks ++ l.change ∷ []
       before = u.pendings t still ∙ changes_of_own t ks l refl
 
+      last : last_of (pending rs t) ≡ Some l.change
+      last = ap last_of before ∙ last_of_push (changes_of t ks) l.change
+
       may : MayFollow rs r
-      may = comp_follows rs l still (ap last_of before ∙ last_of_push (changes_of t ks) l.change)
+      may = comp_follows rs l still last
 
       linked : IsLinked mid
       linked = linked_push rs r u.linked may
 
       has : P mid
-      has = comps rs l u.linked may u.has
+      has = comps rs l u.linked may last u.has
 
       same_open : (o : ℕ) → is_open mid o ≡ is_open rs o
       same_open o = is_open_push rs r refl false refl o ∙ kept (is_open rs o) (eqb o t)
@@ -246,12 +249,12 @@ module _ (P : List Record → Type 0)
       by true none =
           let empty : length (pending mid t) ≡ 0 = eqb-true (length (pending mid t)) 0 none in
           let gone : pending mid t ≡ [] = no_length (pending mid t) empty in
-          let last = end_follows mid t (same_open t ∙ still) gone in
+          let ended = end_follows mid t (same_open t ∙ still) gone in
           let r2 = end_of mid t in
           let absent = none_of t ks (sym (ap length now) ∙ empty) in
           record {
-            linked = linked_push mid r2 linked last;
-            has = ends mid t linked last has;
+            linked = linked_push mid r2 linked ended;
+            has = ends mid t linked ended has;
             pendings = λ o live.
                 let other = other_from_open mid t o live in
                 let open_mid = sym (is_open_push_other mid r2 o other) ∙ live in
@@ -378,7 +381,8 @@ undoing_begins P ends log valid linked has =
 
 pub all_undone : (P : List Record → Type 0)
     → ((rs : List Record) (t : ℕ) → IsLinked rs → MayFollow rs (end_of rs t) → P rs → P (with_end rs t))
-    → ((rs : List Record) (l : LostChange) → IsLinked rs → MayFollow rs (comp_of rs l) → P rs → P (with_comp rs l))
+    → ((rs : List Record) (l : LostChange) → IsLinked rs → MayFollow rs (comp_of rs l)
+    → last_of (pending rs l.txn) ≡ Some l.change → P rs → P (with_comp rs l))
     → (log : Log) → IsLog log → IsLinked log.records → P log.records → Undoing P (after_undo log.records) []
 unfolding after_undo
 all_undone P ends comps log valid linked has =
