@@ -1,5 +1,6 @@
 pub mod Committed
 pub mod Examples
+pub mod Falling
 pub mod Lost
 pub mod Phases
 pub mod Rising

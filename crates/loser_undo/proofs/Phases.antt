@@ -123,13 +123,13 @@ pub record Undoing (P : List Record → Type 0) (rs : List Record) (ks : List Lo
   pub some : (t : ℕ) → is_open rs t ≡ true → 0 < length (changes_of t ks)
   pub opened : AllByRecursion (λ k. is_open rs k.txn ≡ true) ks
 
-changes_of_own : (t : ℕ) (ks : List LostChange) (l : LostChange) → l.txn ≡ t
+pub changes_of_own : (t : ℕ) (ks : List LostChange) (l : LostChange) → l.txn ≡ t
     → changes_of t (ks ++ l ∷ []) ≡ changes_of t ks ++ l.change ∷ []
 changes_of_own t ks l same =
     ap (map (λ (k : LostChange). k.change)) (filter_push_in (of_txn t) ks l (eq-eqb l.txn t same))
     ∙ map_push (λ (k : LostChange). k.change) (filter (of_txn t) ks) l
 
-changes_of_other : (t : ℕ) (ks : List LostChange) (l : LostChange) → l.txn ≢ t
+pub changes_of_other : (t : ℕ) (ks : List LostChange) (l : LostChange) → l.txn ≢ t
     → changes_of t (ks ++ l ∷ []) ≡ changes_of t ks
 changes_of_other t ks l other =
     ap (map (λ (k : LostChange). k.change)) (filter_push_out (of_txn t) ks l (ne_eqb l.txn t other))
@@ -328,7 +328,7 @@ rising_spent rs linked =
     (IsStrictlyIncreasing-filter (is_undone rs) (open_in rs) (open_in-IsStrictlyIncreasing rs linked))
 
 -- a lost change is one of an open transaction with something pending
-lost_open : (rs : List Record) (t lsn : ℕ) → is_lost rs t lsn ≡ true
+pub lost_open : (rs : List Record) (t lsn : ℕ) → is_lost rs t lsn ≡ true
     → (is_open rs t ≡ true) × (is_undone rs t ≡ false)
 lost_open rs t lsn lost =
     let parts = and_parts (is_open rs t) (list_any (λ p. eqb p.lsn lsn) (pending rs t)) lost in
