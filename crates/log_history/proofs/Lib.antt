@@ -1,3 +1,4 @@
+pub mod AtEnd
 pub mod Begun
 pub mod Chains
 pub mod CheckpointTables

@@ -1,0 +1,7 @@
+pub mod Committed
+pub mod Examples
+pub mod Falling
+pub mod Lost
+pub mod Phases
+pub mod Rising
+pub mod Valid

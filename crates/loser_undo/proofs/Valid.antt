@@ -1,0 +1,201 @@
+-- The log after undo: its changes are valid, it fits where records plus owed ones do, and it begins with the log.
+use Rattle.std.proofs.Common.{◌≡◌, ℕ, ◌+◌, ◌^◌, ◌<◌, ◌≤◌, Bool, true, false, cond, List, [], ◌∷◌, ◌++◌, length, map, take, sym, refl, ap, subst, ◌∙◌, arith, append_assoc, append-nil}
+use Rattle.std.specs.Prelude.{Some, IfSome}
+use Rattle.std.specs.List.{All, fold, range_with_len}
+use Rattle.std.proofs.lemmas.List.{length_push, take_at}
+use Rattle.std.proofs.lemmas.List.Elements.{All-push, All-weaker}
+use Rattle.page_core.specs.declared.change.Change.{Change}
+use Rattle.page_core.specs.declared.change.Change.TheVariants.{Set, Add}
+use Rattle.page_core.specs.declared.page.TheConstants.{SLOTS}
+use Rattle.page_core.specs.Change.{undo_of}
+use Rattle.log_records.specs.declared.limits.TheConstants.{MAX_RECORDS}
+use Rattle.log_records.specs.declared.record.Record.{Record}
+use Rattle.log_records.specs.declared.record.Record.TheVariants.{Begin, Update, Comp, Commit, Abort, End, BeginChkpt, ChkptPages, ChkptTxns, EndChkpt}
+use Rattle.log_records.specs.Image.{image}
+use Rattle.log_records.specs.Log.{IsLog, Log, StandsAt, lsn_of, with_next}
+use Rattle.log_records.specs.Record.{HasNoBefore, IsBefore, IsChange, IsLsn, IsTxn}
+use Rattle.log_history.specs.declared.pending_change.PendingChange.{PendingChange}
+use Rattle.log_history.specs.Committed.{committed}
+use Rattle.log_history.specs.Linked.{IsLinked, MayFollow, number_in}
+use Rattle.log_history.specs.Transactions.{is_open, last_lsn, last_of, open_in, owed, pending}
+use Rattle.log_history.proofs.AtEnd.{All-last_of, All-pending, last_lsn_is_before, last_pending, lsn_is_lsn, noted, open_is_txn, valid_next}
+use Rattle.log_history.proofs.Owned.{HasChange}
+use Rattle.log_history.proofs.Room.{claimed, claimed_push}
+use Rattle.log_history.proofs.Undone.{changes_of_log, number_is_committed, slots_are_committed}
+use Rattle.loser_undo.specs.Undo.{LostChange, after_undo, comp_of, end_of, is_undone, lost_changes, spent, with_comp, with_end, without_lost}
+use Rattle.loser_undo.proofs.Committed.{committed_stays}
+use Rattle.loser_undo.proofs.Phases.{Undoing, all_undone, none_open}
+
+-- ---- what undoes a valid change is valid
+
+undo_fits : (change : Change) → IsChange change → IsChange (undo_of change)
+undo_fits (Set before after) fits = (omega arith, fits.0)
+undo_fits (Add amount) fits = omega arith
+
+undo_has_no_before : (change : Change) → HasNoBefore (undo_of change)
+undo_has_no_before (Set before after) = refl
+undo_has_no_before (Add amount) = tt
+
+-- ---- all changes stay valid
+
+change_noted : (r : Record) → HasChange r → IfSome (noted r) (λ p. IsChange p.change)
+change_noted (Update lsn txn prev page slot change) has = has
+change_noted r has = tt
+
+changes_with_end : (rs : List Record) (t : ℕ) → IsLinked rs → MayFollow rs (end_of rs t) → All HasChange rs
+    → All HasChange (with_end rs t)
+changes_with_end rs t linked may has = All-push HasChange rs (end_of rs t) has tt
+
+changes_with_comp : (rs : List Record) (l : LostChange) → IsLinked rs → MayFollow rs (comp_of rs l)
+    → last_of (pending rs l.txn) ≡ Some l.change → All HasChange rs → All HasChange (with_comp rs l)
+changes_with_comp rs l linked may last has =
+    let Q : PendingChange → Type 0 = λ p. IsChange p.change in
+    let each = All-weaker HasChange (λ r. IfSome (noted r) Q) change_noted rs has in
+    let here = All-last_of Q (pending rs l.txn) l.change (All-pending Q rs l.txn each) last in
+    All-push HasChange rs (comp_of rs l) has (undo_fits l.change.change here)
+
+undone_changes : (log : Log) → IsLog log → IsLinked log.records
+    → Undoing (All HasChange) (after_undo log.records) []
+undone_changes log valid linked =
+    all_undone (All HasChange) changes_with_end changes_with_comp log valid linked (changes_of_log log valid)
+
+-- ---- the laws
+
+pub undo_is_linked : (log : Log) → IsLog log → IsLinked log.records → IsLinked (after_undo log.records)
+undo_is_linked log valid linked = (undone_changes log valid linked).linked
+
+pub undo_closes : (log : Log) → IsLog log → IsLinked log.records → open_in (after_undo log.records) ≡ []
+undo_closes log valid linked =
+    none_open (All HasChange) (after_undo log.records) (undone_changes log valid linked)
+
+pub undone_number : (log : Log) (page slot : ℕ) → IsLog log → IsLinked log.records → slot < SLOTS
+    → number_in (after_undo log.records) page slot ≡ committed log.records page slot
+undone_number log page slot valid linked within =
+    let u = undone_changes log valid linked in
+    let closed = undo_closes log valid linked in
+    number_is_committed (after_undo log.records) page slot within u.linked u.has closed
+    ∙ ap (λ (values : ℕ → ℕ → ℕ). values page slot) (committed_stays log.records)
+
+pub undone_page : (log : Log) (page : ℕ) → IsLog log → IsLinked log.records
+    → (image (after_undo log.records) page).slots ≡ map (committed log.records page) (range_with_len 0 SLOTS)
+undone_page log page valid linked =
+    let u = undone_changes log valid linked in
+    let closed = undo_closes log valid linked in
+    slots_are_committed (after_undo log.records) page u.linked u.has closed
+    ∙ ap (λ (values : ℕ → ℕ → ℕ). map (values page) (range_with_len 0 SLOTS)) (committed_stays log.records)
+
+-- ---- room
+
+-- the parts of a record of an open transaction at the log's end
+abbrev OpenParts : List Record → ℕ → Type 0
+OpenParts rs t = IsLsn (lsn_of (length rs)) × IsTxn t × IsBefore (lsn_of (length rs)) (last_lsn rs t)
+
+open_parts : (log : Log) (t : ℕ) → IsLog log → IsLinked log.records → is_open log.records t ≡ true
+    → OpenParts log.records t
+open_parts log t valid linked still = (
+  lsn_is_lsn (length log.records) valid.count,
+  open_is_txn log.records t linked valid.count still,
+  last_lsn_is_before log t valid still,
+)
+
+abbrev log_of : ℕ → List Record → Log
+log_of pages rs = record { pages = pages; records = rs }
+
+-- it is valid, and has room for what it owes
+record HasRoom (pages : ℕ) (rs : List Record) : Type 0 where
+  valid : IsLog (log_of pages rs)
+  room : claimed rs ≤ MAX_RECORDS
+
+grows : (pages : ℕ) (rs : List Record) (r : Record) → HasRoom pages rs
+    → claimed (rs ++ r ∷ []) ≤ claimed rs → StandsAt pages (lsn_of (length rs)) r → HasRoom pages (rs ++ r ∷ [])
+grows pages rs r has no_more stands =
+    let room = has.room in
+    record {
+      valid = valid_next (log_of pages rs) r has.valid (omega (arith, room, no_more, length_push rs r)) stands;
+      room = omega (arith, room, no_more);
+    }
+
+room_with_end : (pages : ℕ) (rs : List Record) (t : ℕ) → IsLinked rs → MayFollow rs (end_of rs t) → HasRoom pages rs
+    → HasRoom pages (with_end rs t)
+room_with_end pages rs t linked may has =
+    let parts = open_parts (log_of pages rs) t has.valid linked may.0.still_open in
+    grows pages rs (end_of rs t) has (omega (arith, claimed_push rs (end_of rs t) linked may))
+    (record { lsn = refl; valid = (parts.0, parts.1, parts.2); within = tt })
+
+room_with_comp : (pages : ℕ) (rs : List Record) (l : LostChange) → IsLinked rs → MayFollow rs (comp_of rs l)
+    → last_of (pending rs l.txn) ≡ Some l.change → HasRoom pages rs → HasRoom pages (with_comp rs l)
+room_with_comp pages rs l linked may last has =
+    let parts = open_parts (log_of pages rs) l.txn has.valid linked may.0.still_open in
+    let change = last_pending (log_of pages rs) l.txn l.change has.valid last in
+    let fits = change.fits in
+    grows pages rs (comp_of rs l) has (omega (arith, claimed_push rs (comp_of rs l) linked may))
+    (record {
+      lsn = refl;
+      valid = (
+        parts.0,
+        parts.1,
+        parts.2,
+        record { page = fits.page; slot = fits.slot; change = undo_fits l.change.change fits.change },
+        change.prev,
+        undo_has_no_before l.change.change,
+      );
+      within = change.within;
+    })
+
+pub undone_fits : (log : Log) → IsLog log → IsLinked log.records → length log.records + owed log.records ≤ MAX_RECORDS
+    → IsLog (record log { records = after_undo log.records })
+undone_fits log valid linked room =
+    (all_undone (HasRoom log.pages) (room_with_end log.pages) (room_with_comp log.pages) log valid linked
+    (record { valid = valid; room = room })).has.valid
+
+-- ---- how many records undo appends
+
+abbrev Bounded : ℕ → List Record → Type 0
+Bounded most rs = claimed rs ≤ most
+
+pub undone_length : (log : Log) → IsLog log → IsLinked log.records
+    → length (after_undo log.records) ≤ length log.records + owed log.records
+undone_length log valid linked =
+    let most = claimed log.records in
+    let within = (all_undone (Bounded most)
+    (λ rs t linked may has. omega (arith, has, claimed_push rs (end_of rs t) linked may))
+    (λ rs l linked may last has. omega (arith, has, claimed_push rs (comp_of rs l) linked may))
+    log valid linked (omega arith)).has in
+    omega (arith, within)
+
+-- ---- the log comes first
+
+record Begins (rs whole : List Record) : Type 0 where
+  behind : List Record
+  is : whole ≡ rs ++ behind
+
+begins_push : (rs whole : List Record) (r : Record) → Begins rs whole → Begins rs (whole ++ r ∷ [])
+begins_push rs whole r begins = record {
+  behind = begins.behind ++ r ∷ [];
+  is = ap (λ xs. xs ++ r ∷ []) begins.is ∙ append_assoc rs begins.behind (r ∷ []);
+}
+
+begins_without : (rs whole : List Record) (l : LostChange) → Begins rs whole → Begins rs (without_lost whole l)
+unfolding without_lost
+begins_without rs whole l begins = by (is_undone (with_comp whole l) l.txn)
+  where
+    after : Begins rs (with_comp whole l)
+    after = begins_push rs whole (comp_of whole l) begins
+
+    by : (b : Bool) → Begins rs (cond b (with_end (with_comp whole l) l.txn) (with_comp whole l))
+    by true = begins_push rs (with_comp whole l) (end_of (with_comp whole l) l.txn) after
+    by false = after
+
+over : {X : Type 0} (rs : List Record) (f : List Record → X → List Record)
+    → ((whole : List Record) (x : X) → Begins rs whole → Begins rs (f whole x)) → (whole : List Record) (xs : List X)
+    → Begins rs whole → Begins rs (fold f whole xs)
+over rs f more whole [] begins = begins
+over rs f more whole (x ∷ xs) begins = over rs f more (f whole x) xs (more whole x begins)
+
+pub log_comes_first : (rs : List Record) → take (length rs) (after_undo rs) ≡ rs
+unfolding after_undo
+log_comes_first rs =
+    let none : Begins rs rs = record { behind = []; is = sym (append-nil rs) } in
+    let ends = over rs with_end (λ whole t begins. begins_push rs whole (end_of whole t) begins) rs (spent rs) none in
+    let all = over rs without_lost (begins_without rs) (fold with_end rs (spent rs)) (lost_changes rs) ends in
+    ap (take (length rs)) all.is ∙ take_at rs all.behind (length rs) refl

@@ -1,0 +1,70 @@
+-- Undo of the losers: the transactions that are open at the end of a log.
+use Rattle.std.specs.Prelude.{ℕ, ◌==◌, Bool, ◌&&◌, List, [], ◌∷◌, ◌++◌, length, filter, reverse}
+use Rattle.std.specs.Prelude.{Option, Some, None, if◌then◌else◌}
+use Rattle.std.specs.List.{filter_map, fold, list_any}
+use Rattle.page_core.specs.Change.{undo_of}
+use Rattle.log_records.specs.declared.record.Record.{Record}
+use Rattle.log_records.specs.declared.record.Record.TheVariants.{Update, Comp, End}
+use Rattle.log_records.specs.Log.{Log, lsn_of}
+use Rattle.log_history.specs.declared.pending_change.PendingChange.{PendingChange}
+use Rattle.log_history.specs.Transactions.{is_open, last_lsn, open_in, pending}
+
+-- ---- what undo finds
+
+-- a change that undo takes back, and its transaction
+pub record LostChange : Type 0 where
+  pub txn : ℕ
+  pub change : PendingChange
+
+-- the Update with this LSN is one of an open transaction, and its change is pending
+abbrev pub is_lost : List Record → ℕ → ℕ → Bool
+is_lost rs txn lsn = is_open rs txn && list_any (λ p. p.lsn == lsn) (pending rs txn)
+
+-- the lost change of a record, if it has one
+abbrev pub lost_by : List Record → Record → Option LostChange
+lost_by rs (Update lsn txn prev page slot change) = if is_lost rs txn lsn then Some (record {
+  txn = txn;
+  change = record { lsn = lsn; prev = prev; page = page; slot = slot; change = change };
+}) else None
+lost_by rs other = None
+
+-- the pending changes of all open transactions, the last first: LSNs rise along a log, so theirs
+-- fall
+abbrev pub lost_changes : List Record → List LostChange
+lost_changes rs = reverse (filter_map (lost_by rs) rs)
+
+-- nothing is pending for the transaction
+abbrev pub is_undone : List Record → ℕ → Bool
+is_undone rs txn = length (pending rs txn) == 0
+
+-- the open transactions with nothing pending, in order of their numbers
+abbrev pub spent : List Record → List ℕ
+spent rs = filter (is_undone rs) (open_in rs)
+
+-- ---- what undo appends
+
+-- the End of a transaction
+abbrev pub end_of : List Record → ℕ → Record
+end_of rs txn = End (lsn_of (length rs)) txn (last_lsn rs txn)
+
+-- the compensation of a change
+abbrev pub comp_of : List Record → LostChange → Record
+comp_of rs lost = let p = lost.change in
+    Comp (lsn_of (length rs)) lost.txn (last_lsn rs lost.txn) p.prev p.page p.slot (undo_of p.change)
+
+abbrev pub with_end : List Record → ℕ → List Record
+with_end rs txn = rs ++ end_of rs txn ∷ []
+
+abbrev pub with_comp : List Record → LostChange → List Record
+with_comp rs lost = rs ++ comp_of rs lost ∷ []
+
+-- with the compensation of a change, followed at once by its transaction's End where nothing of it
+-- is left
+unfoldable pub without_lost : List Record → LostChange → List Record
+without_lost rs lost = let after = with_comp rs lost in
+    if is_undone after lost.txn then with_end after lost.txn else after
+
+-- the log after undo: an End for each open transaction with nothing pending, and then the
+-- compensation of each pending change
+unfoldable pub after_undo : List Record → List Record
+after_undo rs = fold without_lost (fold with_end rs (spent rs)) (lost_changes rs)
