@@ -1,5 +1,5 @@
 -- The chain of a vault's copy, and what a crash leaves of its log.
-use Rattle.std.proofs.Common.{◌≡◌, ℕ, zero, suc, ◌<◌, List, [], ◌∷◌, ◌++◌, length, refl, sym, ap, subst, ◌∙◌, arith}
+use Rattle.std.proofs.Common.{◌≡◌, ℕ, ◌<◌, List, [], ◌∷◌, ◌++◌, length, refl, sym, ap, subst, ◌∙◌, arith}
 use Rattle.std.specs.Prelude.{Option, Some, None, IfSome}
 use Rattle.std.specs.List.{AllByRecursion}
 use Rattle.page_core.specs.declared.page.Page.{Page}
@@ -7,8 +7,8 @@ use Rattle.page_core.specs.Page.{formatted}
 use Rattle.log_records.specs.Coverage.{resume}
 use Rattle.log_records.specs.Image.{image}
 use Rattle.log_records.specs.Log.{IsLog, Log}
-use Rattle.copy_vault.specs.declared.copy_id.CopyKind.TheVariants.{Full, Inc}
-use Rattle.copy_vault.specs.Chain.{Follow, IsChain, IsChainOf, IsNext, content, last_of, last_redo, takings}
+use Rattle.copy_vault.specs.declared.copy_id.CopyKind.TheVariants.{Full}
+use Rattle.copy_vault.specs.Chain.{Follow, IsChain, IsChainOf, content, last_of, last_redo, takings}
 use Rattle.copy_vault.specs.Copy.{CopyView, IsComplete, PageDecision, decision_at, kept, page_of, taken, undecided}
 use Rattle.copy_vault.specs.Vault.{CopyState, complete, state_of}
 use Rattle.copy_coverage.specs.Copied.{AreRestorable, IsCovered, StandsOn, decided_over, page_in}

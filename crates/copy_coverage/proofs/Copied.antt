@@ -2,7 +2,6 @@
 use Rattle.std.proofs.Common.{◌≡◌, ℕ, zero, suc, ◌+◌, ◌-◌, ◌<◌, ◌≤◌, List, [], ◌∷◌, ◌++◌, length, get_or, set, refl, sym, ap}
 use Rattle.std.proofs.Common.{subst, ◌∙◌, arith, cond, inl, inr, replicate}
 use Rattle.std.specs.Prelude.{Option, Some, None, IfSome, Bool, true, false, nat_lt}
-use Rattle.std.specs.List.{All}
 use Rattle.std.proofs.lemmas.Bool.{cases_eq}
 use Rattle.std.proofs.Math.ListN.{get_or-eq_default}
 use Rattle.std.proofs.lemmas.Bool.{cases_lt, ltb-true}
@@ -12,8 +11,9 @@ use Rattle.std.proofs.lemmas.List.Elements.{All-weaker}
 use Rattle.page_core.specs.declared.page.Page.{Page}
 use Rattle.log_records.specs.declared.record.Record.{Record}
 use Rattle.log_records.specs.Coverage.{Covers, IsPast, changes_on}
+use Rattle.log_records.specs.Log.{Log}
 use Rattle.log_records.specs.Record.{own_lsn}
-use Rattle.log_records.proofs.Coverage.{covers_later, covers_lower}
+use Rattle.log_records.proofs.Coverage.{covers_later}
 use Rattle.copy_vault.specs.declared.copy_id.CopyKind.{CopyKind}
 use Rattle.copy_vault.specs.declared.copy_id.CopyKind.TheVariants.{Full, Inc}
 use Rattle.copy_vault.specs.declared.copy_id.Decision.TheVariants.{Taken, Kept}
@@ -21,7 +21,7 @@ use Rattle.copy_vault.specs.Copy.{CopyView, answer_of, decided_by, decision_at, 
 use Rattle.copy_vault.specs.Vault.{CopyState, HasParent, complete, decided, decided_in, dropped, opened, reading, redo_of}
 use Rattle.copy_vault.specs.Vault.{sealed, sealed_in, since_of, state_of, with_state, without}
 use Rattle.copy_vault.proofs.Vaults.{GoesOn, goes_on_push, goes_on_set}
-use Rattle.copy_coverage.specs.Copied.{AreCopied, IsCopyOf, IsCovered, StandsOn, page_in, copy_in, decided_over, page_in}
+use Rattle.copy_coverage.specs.Copied.{AreCopied, AreRestorable, IsCopyOf, IsCovered, StandsOn, page_in, copy_in, decided_over, page_in}
 
 -- ---- the log goes on
 
@@ -362,3 +362,12 @@ copied_dropped rs f stored copies id copy are is =
       read = λ c e p d lt. absurd (dropped_not_reading c e);
       covered = λ c older e on p. absurd (none_some c e);
     })
+
+-- ---- what may be restored
+
+pub restorable : (log : Log) (f : ℕ) (stored : List Page) (copies : List CopyState) → length stored ≡ log.pages
+    → AreCopied log.records f stored copies → AreRestorable log f copies
+restorable log f stored copies count are = record {
+  whole = λ id copy is. (are.each id copy (ap copy_in is)).whole ∙ count;
+  covered = λ id copy older is on p. are.covered id copy older (ap copy_in is) on p;
+}

@@ -1,19 +1,16 @@
 -- What a page lacks of a log that a crash left.
-use Rattle.std.proofs.Common.{◌≡◌, ℕ, ◌+◌, ◌*◌, ◌/◌, ◌<◌, ◌≤◌, List, ◌∷◌, length, get_or, take, sym, ap, subst, ◌∙◌, arith, min}
-use Rattle.std.specs.Prelude.{Some, true, IfSome}
-use Rattle.std.specs.List.{All}
+use Rattle.std.proofs.Common.{◌≡◌, ℕ, ◌+◌, ◌*◌, ◌/◌, ◌<◌, ◌≤◌, List, length, take, sym, ap, subst, ◌∙◌, arith}
+use Rattle.std.specs.Prelude.{true}
 use Rattle.std.proofs.lemmas.List.{get_or-take, length-take, take-take}
 use Rattle.std.proofs.lemmas.List.Elements.{All-take}
 use Rattle.page_core.specs.declared.page.Page.{Page}
 use Rattle.log_records.specs.declared.record.Record.{Record}
-use Rattle.log_records.specs.Coverage.{Covers, IsPast, changes, changes_on, resume, up_to}
+use Rattle.log_records.specs.Coverage.{Covers, changes, resume}
 use Rattle.log_records.specs.Image.{image}
 use Rattle.log_records.specs.Log.{IsLog, Log, lsn_of}
 use Rattle.log_records.specs.Record.{own_lsn}
 use Rattle.log_records.proofs.Coverage.{at_each, of_each, past_is_named, resume_covering}
-use Rattle.copy_vault.specs.Copy.{CopyView}
-use Rattle.copy_vault.specs.Vault.{CopyState, complete, state_of}
-use Rattle.copy_coverage.specs.Copied.{AreCopied, IsCovered, StandsOn, page_in, copy_in}
+use Rattle.copy_coverage.specs.Copied.{IsCovered}
 use Rattle.copy_coverage.specs.Kept.{IsKeptOf}
 
 -- a part of a log is one too
@@ -56,13 +53,3 @@ restored log f kept p redo page valid is covered =
     subst (λ (k : Log). resume page k.records redo ≡ image k.records p) (sym is.made)
     (resume_covering part p page redo (prefix_is_log log is.count valid is.within)
     (covers_kept log is.count p page redo valid is.within covered.covers (omega arith)))
-
-pub restored_of_chain : (log : Log) (f : ℕ) (stored : List Page) (copies : List CopyState) (kept : Log) (id : ℕ)
-    (copy : CopyView) (older : List CopyView) (p : ℕ) (page : Page) → IsLog log
-    → AreCopied log.records f stored copies → IsKeptOf log f kept → state_of copies id ≡ complete copy
-    → StandsOn copies copy.kind older → page_in (copy ∷ older) p ≡ Some page
-    → resume page kept.records copy.redo ≡ image kept.records p
-restored_of_chain log f stored copies kept id copy older p page valid are is state on has =
-    restored log f kept p copy.redo page valid is
-    (subst (λ o. IfSome o (IsCovered log.records f copy.redo p)) has
-    (are.covered id copy older (ap copy_in state) on p))

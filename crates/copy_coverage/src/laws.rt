@@ -1,6 +1,6 @@
 //! Laws of copies, for those who read the contracts.
 
-ghost use Rattle.std.specs.Prelude.{ℕ, Some, ◌≡◌, ◌+◌, ◌≤◌, ◌<◌, ◌++◌, ◌∷◌, [], List, length, slice_set};
+ghost use Rattle.std.specs.Prelude.{ℕ, ◌≡◌, ◌+◌, ◌≤◌, ◌<◌, ◌++◌, ◌∷◌, [], List, length, slice_set};
 ghost use Rattle.std.specs.Prelude.{slice_index_or};
 ghost use Rattle.page_core.specs.declared.page.Page.{Page};
 ghost use Rattle.log_records.specs.declared.record.Record.{Record};
@@ -13,8 +13,8 @@ ghost use Rattle.copy_vault.specs.Vault.{state_of, without};
 ghost use Rattle.log_records.specs.Coverage.{resume};
 ghost use Rattle.log_records.specs.Image.{image};
 ghost use Rattle.log_records.specs.Log.{IsLog, Log};
-ghost use Rattle.copy_vault.specs.Vault.{complete};
-ghost use Rattle.copy_coverage.specs.Copied.{AreCopied, StandsOn, page_in};
+ghost use Rattle.copy_vault.specs.Chain.{IsChain, IsChainOf, content, last_redo};
+ghost use Rattle.copy_coverage.specs.Copied.{AreCopied, AreRestorable};
 ghost use Rattle.copy_coverage.specs.Kept.{IsKeptOf};
 
 /// Copies lack nothing below their redo points while the log grows, and more of it is forced.
@@ -68,13 +68,19 @@ pub fn a_copy_ends()
         → AreCopied rs forced_end stored (without copies id) }
 {}
 
-/// Redo of any log that a crash may leave, from a complete copy's redo point on, makes each page of
-/// its chain what redo of that whole log over formatted pages makes of it.
+/// While an engine goes on, what it has of copies is what may be restored of them.
+pub fn copies_may_be_restored()
+    ensures { (log : Log) (forced_end : ℕ) (stored : List Page) (copies : List CopyState)
+        → length stored ≡ log.pages → AreCopied log.records forced_end stored copies
+        → AreRestorable log forced_end copies }
+{}
+
+/// Redo of any log that a crash may leave, from the last copy's redo point on, makes each page of a
+/// chain what redo of that whole log over formatted pages makes of it.
 pub fn a_chain_restores()
-    ensures { (log kept : Log) (forced_end : ℕ) (stored : List Page) (copies : List CopyState)
-        (id : ℕ) (copy : CopyView) (older : List CopyView) (p : ℕ) (page : Page) → IsLog log
-        → AreCopied log.records forced_end stored copies → IsKeptOf log forced_end kept
-        → state_of copies id ≡ complete copy → StandsOn copies copy.kind older
-        → page_in (copy ∷ older) p ≡ Some page
-        → resume page kept.records copy.redo ≡ image kept.records p }
+    ensures { (log kept : Log) (forced_end : ℕ) (copies : List CopyState) (id : ℕ)
+        (members : List CopyView) (p : ℕ) → IsLog log → AreRestorable log forced_end copies
+        → IsKeptOf log forced_end kept → IsChain members → IsChainOf copies id members
+        → p < log.pages
+        → resume (content members p) kept.records (last_redo members) ≡ image kept.records p }
 {}

@@ -1,6 +1,6 @@
-use Rattle.copy_coverage.proofs.Kept.{restored_of_chain}
+use Rattle.copy_coverage.proofs.Chains.{restored_of_members}
 use Rattle.copy_coverage.proofs.laws.a_chain_restores.Goals as goal
 
 pub returns : goal.returns
-returns c = λ log kept f stored copies id copy older p page valid are is state on has.
-    restored_of_chain log f stored copies kept id copy older p page valid are is state on has
+returns c = λ log kept f copies id members p valid are crash chain of_id lt.
+    restored_of_members log f copies kept id members p valid are crash chain of_id lt
