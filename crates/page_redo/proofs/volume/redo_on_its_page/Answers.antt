@@ -4,6 +4,7 @@ use Rattle.log_records.specs.declared.page_change.PageChange.{PageChange}
 use Rattle.log_records.specs.Record.{change_of}
 use Rattle.log_records.specs.Image.{with_record}
 use Rattle.page_redo.specs.Redo.{is_above, redone_by}
+use Rattle.log_records.proofs.Changes.{change_within}
 use Rattle.page_redo.proofs.Volumes.{none_redone, one_redone}
 use Rattle.page_redo.proofs.volume.redo_on_its_page.Goals as goal
 
@@ -16,7 +17,7 @@ returns-then-is_above c =
     let number : c.change-in-Some.inside.0.0.0 ≡ change.page =
     ap (λ (x : PageChange). x.page) c.change-in-Some.view_is in
     let within : change.page < length pages =
-    subst (λ (o : Option PageChange). IfSome o (λ x. x.page < length pages)) here c.requires.within in
+    subst (λ (o : Option PageChange). IfSome o (λ x. x.page < length pages)) here (change_within (length pages) r c.requires.within) in
     let old = get_or pages c.change-in-Some.inside.0.0.0 c.index-pages-change.result in
     let test : true ≡ is_above old.lsn r = sym c.if-is_above.true ∙ c.is_above.ensures in
     ap (set pages c.change-in-Some.inside.0.0.0) (c.redo_on.ensures
@@ -33,7 +34,7 @@ returns-else-is_above c =
     let number : c.change-in-Some.inside.0.0.0 ≡ change.page =
     ap (λ (x : PageChange). x.page) c.change-in-Some.view_is in
     let within : change.page < length pages =
-    subst (λ (o : Option PageChange). IfSome o (λ x. x.page < length pages)) here c.requires.within in
+    subst (λ (o : Option PageChange). IfSome o (λ x. x.page < length pages)) here (change_within (length pages) r c.requires.within) in
     let old = get_or pages c.change-in-Some.inside.0.0.0 c.index-pages-change.result in
     let test : false ≡ is_above old.lsn r = sym c.if-is_above.false ∙ c.is_above.ensures in
     ap (λ (b : Bool). set pages c.change-in-Some.inside.0.0.0 (cond b (with_record old r) old)) test

@@ -1,0 +1,192 @@
+-- What is loaded of a copy, and what redo makes of it.
+use Rattle.std.proofs.Common.{◌≡◌, ℕ, suc, ◌+◌, ◌-◌, ◌*◌, ◌/◌, ◌<◌, ◌≤◌, List, [], ◌∷◌, ◌++◌, length, get_or, map, take, refl, sym, ap, subst}
+use Rattle.std.proofs.Common.{◌∙◌, arith, inl, inr, min}
+use Rattle.std.specs.Prelude.{Option, Some, None, IfSome, nat_lt, true, false, Bool, if◌then◌else◌}
+use Rattle.std.specs.List.{AllByRecursion, filter, range_with_len}
+use Rattle.std.proofs.Math.Seq.{get_or-append_right, take-append-add}
+use Rattle.std.proofs.lemmas.Bool.{ltb-false}
+use Rattle.std.proofs.lemmas.List.{get_or-map, length-append, length-map, same_lists, take_min}
+use Rattle.std.proofs.lemmas.List.FromFn.{get_or-map-range_with_len, length-map-range_with_len}
+use Rattle.page_core.specs.declared.page.Page.{Page}
+use Rattle.page_core.specs.Volume.{AreNumbered}
+use Rattle.log_records.specs.declared.record.Record.{Record}
+use Rattle.log_records.specs.Coverage.{is_resumed, resume}
+use Rattle.log_records.specs.Image.{image, image_from, redo_all, with_record}
+use Rattle.log_records.specs.Log.{IsLog, Log, lsn_of}
+use Rattle.log_records.specs.Record.{own_lsn}
+use Rattle.log_records.specs.declared.record.Record.TheVariants.{EndChkpt}
+use Rattle.log_records.proofs.Images.{number-image, number-with_record}
+use Rattle.log_history.specs.Checkpoint.{IsCompleteCheckpoint}
+use Rattle.log_history.proofs.Histories.{linked-take}
+use Rattle.log_store.specs.declared.master.Master.{Master}
+use Rattle.copy_vault.specs.Chain.{IsChain, IsChainOf, content, contents, last_redo, page_count}
+use Rattle.copy_vault.specs.Copy.{CopyView}
+use Rattle.copy_vault.specs.Vault.{complete, state_of}
+use Rattle.copy_coverage.specs.Kept.{IsKeptOf}
+use Rattle.copy_coverage.specs.Retired.{IsMasterOf, IsRetired, RetiredView}
+use Rattle.copy_coverage.proofs.Chains.{restored_of_members}
+use Rattle.copy_coverage.proofs.Kept.{prefix_is_log}
+use Rattle.loser_undo.specs.Redone.{IsVolumeOf, NamesCheckpoint}
+use Rattle.media_restore.specs.declared.fault.LoadFault.{LoadFault}
+use Rattle.media_restore.specs.declared.fault.LoadFault.TheVariants.{CutTooShort}
+use Rattle.media_restore.specs.Load.{copy_refusal, cut_refusal, first_of, forced_count, kept_log, load_refusal}
+
+-- ---- redo leaves the pages' numbers
+
+number-image_from : (page : Page) (rs : List Record) → (image_from page rs).number ≡ page.number
+number-image_from page [] = refl
+number-image_from page (r ∷ rs) = number-image_from (with_record page r) rs ∙ number-with_record page r
+
+pub numbered_resumed : (pages : List Page) (rs : List Record) (from : ℕ) → AreNumbered pages
+    → AreNumbered (map (λ page. resume page rs from) pages)
+numbered_resumed pages rs from numbers = λ k d lt.
+    let below : k < length pages = omega (arith, length-map pages (λ page. resume page rs from)) in
+    let page = get_or pages k d in
+    ap (λ (q : Page). q.number) (get_or-map (λ page. resume page rs from) pages k d d below)
+    ∙ number-image_from page (filter (is_resumed from page.lsn) rs) ∙ numbers k d below
+
+-- ---- the kept log
+
+small_cut : (kept forced : ℕ) → (if nat_lt kept forced then Some (CutTooShort forced) else None) ≡ None → forced ≤ kept
+small_cut kept forced e = by_test (nat_lt kept forced) refl e
+  where
+    by_test : (b : Bool) → nat_lt kept forced ≡ b → (if b then Some (CutTooShort forced) else None) ≡ None → forced ≤ kept
+    by_test true is e = cc
+    by_test false is e = ltb-false kept forced is
+
+pub kept_of : (it : RetiredView) (cut : ℕ) → IsRetired it → cut_refusal it cut ≡ None
+    → IsKeptOf it.log it.forced_end (kept_log it.log cut)
+kept_of it cut retired fine =
+    let rs = it.log.records in
+    let end = retired.forced.2 in
+    let enough = small_cut (min cut (length rs)) (forced_count it) fine in
+    record {
+      count = min cut (length rs);
+      within = omega arith;
+      forced = omega arith;
+      made = ap (λ (xs : List Record). record it.log { records = xs }) (sym (take_min cut rs));
+    }
+
+complete_in : (log : Log) (n begin end : ℕ) → IsLog log → n ≤ length log.records
+    → IsCompleteCheckpoint log.records begin end → end < lsn_of n → IsCompleteCheckpoint (take n log.records) begin end
+complete_in log n begin end valid le is lt =
+    let rs = log.records in
+    let r = EndChkpt end begin is.redo in
+    let k = length is.before in
+    let long : length rs ≡ k + (1 + length is.behind) =
+    ap length is.ended ∙ length-append is.before (r ∷ is.behind) ∙ omega arith in
+    let here : get_or rs k r ≡ r = ap (λ (xs : List Record). get_or xs k r) is.ended ∙
+    (let zero : k - k ≡ 0 = omega arith in
+    get_or-append_right is.before (r ∷ is.behind) k r (omega arith)
+    ∙ ap (λ (i : ℕ). get_or (r ∷ is.behind) i r) zero) in
+    let own : end ≡ lsn_of k = sym (ap own_lsn here) ∙ (valid.records k r (omega arith)).lsn in
+    let room : n ≡ k + suc (n - k - 1) = omega arith in
+    record {
+      before = is.before;
+      behind = take (n - k - 1) is.behind;
+      redo = is.redo;
+      ended = ap (take n) is.ended ∙ ap (λ (i : ℕ). take i (is.before ++ r ∷ is.behind)) room
+          ∙ take-append-add is.before (r ∷ is.behind) (suc (n - k - 1));
+      begun = is.begun;
+    }
+
+pub master_of : (it : RetiredView) (cut : ℕ) (master : Option Master) → IsRetired it → it.master ≡ master
+    → IsKeptOf it.log it.forced_end (kept_log it.log cut)
+    → IfSome master (NamesCheckpoint (kept_log it.log cut).records)
+master_of it cut None retired is kept = tt
+master_of it cut (Some master) retired is kept =
+    let named = subst (λ (o : Option Master). IfSome o (IsMasterOf it.log.records it.forced_end)) is retired.master in
+    let below = named.forced in
+    let high = kept.forced in
+    subst (λ (log : Log). IsCompleteCheckpoint log.records master.begin master.end) (sym kept.made)
+    (complete_in it.log kept.count master.begin master.end retired.valid kept.within named.complete (omega arith))
+
+-- ---- the pages
+
+pub count_of : (it : RetiredView) (id : ℕ) (members : List CopyView) → IsRetired it → IsChain members
+    → IsChainOf it.copies id members → page_count members ≡ it.log.pages
+count_of it id members retired chain of_id =
+    let of_vault = subst (AllByRecursion (λ c. state_of it.copies c.id ≡ complete c)) chain.is of_id.of_vault in
+    ap page_count chain.is ∙ retired.copies.whole chain.first.id chain.first of_vault.0
+
+each_resumed : (it : RetiredView) (cut id : ℕ) (members : List CopyView) (p : ℕ) → IsRetired it → IsChain members
+    → IsChainOf it.copies id members → IsKeptOf it.log it.forced_end (kept_log it.log cut) → p < it.log.pages
+    → resume (content members p) (kept_log it.log cut).records (last_redo members)
+    ≡ image (kept_log it.log cut).records p
+each_resumed it cut id members p retired chain of_id kept lt =
+    restored_of_members it.log it.forced_end it.copies (kept_log it.log cut) id members p retired.valid retired.copies
+    kept chain of_id lt
+
+-- the number of a page of the chain
+content_number : (it : RetiredView) (cut id : ℕ) (members : List CopyView) (p : ℕ) → IsRetired it → IsChain members
+    → IsChainOf it.copies id members → IsKeptOf it.log it.forced_end (kept_log it.log cut) → p < it.log.pages
+    → (content members p).number ≡ p
+content_number it cut id members p retired chain of_id kept lt =
+    let rs = (kept_log it.log cut).records in
+    let page = content members p in
+    sym (number-image_from page (filter (is_resumed (last_redo members) page.lsn) rs))
+    ∙ ap (λ (q : Page). q.number) (each_resumed it cut id members p retired chain of_id kept lt) ∙ number-image rs p
+
+pub numbered_contents : (it : RetiredView) (cut id : ℕ) (members : List CopyView) → IsRetired it → IsChain members
+    → IsChainOf it.copies id members → IsKeptOf it.log it.forced_end (kept_log it.log cut)
+    → AreNumbered (contents members)
+numbered_contents it cut id members retired chain of_id kept = λ k d lt.
+    let count = count_of it id members retired chain of_id in
+    let below : k < page_count members = omega (arith, length-map-range_with_len (content members) 0 (page_count members)) in
+    ap (λ (q : Page). q.number) (get_or-map-range_with_len (content members) 0 (page_count members) k k d below (omega arith))
+    ∙ content_number it cut id members k retired chain of_id kept (omega arith)
+
+pub all_restored : (it : RetiredView) (cut id : ℕ) (members : List CopyView) → IsRetired it → IsChain members
+    → IsChainOf it.copies id members → IsKeptOf it.log it.forced_end (kept_log it.log cut)
+    → map (λ page. resume page (kept_log it.log cut).records (last_redo members)) (contents members)
+    ≡ redo_all (kept_log it.log cut).records it.log.pages
+all_restored it cut id members retired chain of_id kept =
+    let rs = (kept_log it.log cut).records in
+    let n = page_count members in
+    let f = λ (page : Page). resume page rs (last_redo members) in
+    let count = count_of it id members retired chain of_id in
+    let long = length-map-range_with_len (content members) 0 n in
+    same_lists (map f (contents members)) (redo_all rs it.log.pages)
+    (length-map (contents members) f ∙ long ∙ count ∙ sym (length-map-range_with_len (image rs) 0 it.log.pages))
+    (λ k d lt.
+    let below : k < n = omega (arith, length-map (contents members) f, long) in
+    get_or-map f (contents members) k d d (omega arith)
+    ∙ ap f (get_or-map-range_with_len (content members) 0 n k k d below (omega arith))
+    ∙ each_resumed it cut id members k retired chain of_id kept (omega arith)
+    ∙ sym (get_or-map-range_with_len (image rs) 0 it.log.pages k k d (omega arith) (omega arith)))
+
+-- ---- all of it
+
+pub loaded_volume : (it : RetiredView) (cut id : ℕ) (members : List CopyView) → IsRetired it → IsChain members
+    → IsChainOf it.copies id members → cut_refusal it cut ≡ None
+    → IsVolumeOf (kept_log it.log cut) it.master (contents members)
+loaded_volume it cut id members retired chain of_id fine =
+    let kept = kept_of it cut retired fine in record {
+      valid = subst IsLog (sym kept.made) (prefix_is_log it.log kept.count retired.valid kept.within);
+      linked = linked-take it.log.records retired.linked cut;
+      checkpoint = master_of it cut it.master retired refl kept;
+      counted = length-map-range_with_len (content members) 0 (page_count members)
+          ∙ count_of it id members retired chain of_id;
+      numbered = numbered_contents it cut id members retired chain of_id kept;
+    }
+
+first_none : (a b : Option LoadFault) → first_of a b ≡ None → (a ≡ None) × (b ≡ None)
+first_none None b e = (refl, e)
+first_none (Some fault) b e = cc
+
+pub cut_is_fine : (it : RetiredView) (id cut : ℕ) → load_refusal it id cut ≡ None → cut_refusal it cut ≡ None
+cut_is_fine it id cut e = (first_none (copy_refusal (state_of it.copies id)) (cut_refusal it cut) e).1
+
+pub copy_is_fine : (it : RetiredView) (id cut : ℕ) → load_refusal it id cut ≡ None
+    → copy_refusal (state_of it.copies id) ≡ None
+copy_is_fine it id cut e = (first_none (copy_refusal (state_of it.copies id)) (cut_refusal it cut) e).0
+
+pub volume_resumed : (log : Log) (master : Option Master) (pages : List Page) (from : ℕ)
+    → IsVolumeOf log master pages → IsVolumeOf log master (map (λ page. resume page log.records from) pages)
+volume_resumed log master pages from is = record {
+  valid = is.valid;
+  linked = is.linked;
+  checkpoint = is.checkpoint;
+  counted = length-map pages (λ page. resume page log.records from) ∙ is.counted;
+  numbered = numbered_resumed pages log.records from is.numbered;
+}

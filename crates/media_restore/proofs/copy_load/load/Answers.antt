@@ -1,0 +1,52 @@
+use Rattle.std.proofs.Common.{◌≡◌, ◌∙◌, ℕ, List, map, sym, ap, subst}
+use Rattle.std.specs.Prelude.{Option, None}
+use Rattle.page_core.specs.declared.page.Page.{Page}
+use Rattle.log_records.specs.Coverage.{resume}
+use Rattle.log_records.specs.Image.{redo_all}
+use Rattle.log_records.specs.Log.{Log}
+use Rattle.log_store.specs.declared.master.Master.{Master}
+use Rattle.copy_vault.specs.Chain.{IsChainOf, contents}
+use Rattle.copy_vault.specs.Vault.{CopyState}
+use Rattle.loser_undo.specs.Redone.{IsVolumeOf}
+use Rattle.media_restore.specs.Load.{LoadedView, kept_log}
+use Rattle.media_restore.proofs.Loads.{all_restored, cut_is_fine, kept_of, loaded_volume}
+use Rattle.media_restore.proofs.copy_load.load.Goals as goal
+
+pub new-requires : goal.new-requires
+new-requires c =
+    let it = c.args.retired in
+    let retired = c.refusal_of.ensures.kept in
+    let fine = cut_is_fine it c.args.copy c.args.cut (sym c.refusal_of.ensures.refusal ∙ c.in_default.is) in
+    let found = c.in-Ok.ensures.chain in
+    let members = found.0 in
+    let of_id : IsChainOf it.copies c.args.copy members =
+    subst (λ (copies : List CopyState). IsChainOf copies c.args.copy members) c.vault.ensures found.2 in
+    let log : c.keep_first.new.self ≡ kept_log it.log c.args.cut =
+    c.keep_first.ensures ∙ ap (λ (log : Log). kept_log log c.args.cut) c.into_log-log.ensures in
+    subst (λ (log : Log). IsVolumeOf log c.master-master.result c.in-Ok.loaded.0.items) (sym log)
+    (subst (λ (master : Option Master). IsVolumeOf (kept_log it.log c.args.cut) master c.in-Ok.loaded.0.items)
+    (sym c.master-master.ensures)
+    (subst (IsVolumeOf (kept_log it.log c.args.cut) it.master) (sym found.3)
+    (loaded_volume it c.args.cut c.args.copy members retired found.1 of_id fine)))
+
+pub returns-clause-restores : goal.returns-clause-restores
+returns-clause-restores c =
+    let it = c.args.retired in
+    let retired = c.refusal_of.ensures.kept in
+    let fine = cut_is_fine it c.args.copy c.args.cut (sym c.refusal_of.ensures.refusal ∙ c.in_default.is) in
+    let found = c.in-Ok.ensures.chain in
+    let members = found.0 in
+    let of_id : IsChainOf it.copies c.args.copy members =
+    subst (λ (copies : List CopyState). IsChainOf copies c.args.copy members) c.vault.ensures found.2 in
+    let log : c.keep_first.new.self ≡ kept_log it.log c.args.cut =
+    c.keep_first.ensures ∙ ap (λ (log : Log). kept_log log c.args.cut) c.into_log-log.ensures in
+    let pages = c.in-Ok.loaded.0.items in
+    let redo = c.in-Ok.loaded.1 in
+    subst (λ (it : LoadedView). map (λ page. resume page it.log.records it.redo) it.pages ≡ redo_all it.log.records it.log.pages)
+    (sym c.new.ensures)
+    (subst (λ (log : Log). map (λ page. resume page log.records redo) pages ≡ redo_all log.records log.pages) (sym log)
+    (subst (λ (ps : List Page). map (λ page. resume page (kept_log it.log c.args.cut).records redo) ps
+    ≡ redo_all (kept_log it.log c.args.cut).records it.log.pages) (sym found.3)
+    (subst (λ (from : ℕ). map (λ page. resume page (kept_log it.log c.args.cut).records from) (contents members)
+    ≡ redo_all (kept_log it.log c.args.cut).records it.log.pages) (sym found.4)
+    (all_restored it c.args.cut c.args.copy members retired found.1 of_id (kept_of it c.args.cut retired fine)))))

@@ -1,0 +1,53 @@
+-- What is loaded of a copy, and when that is refused.
+use Rattle.std.specs.Prelude.{ℕ, ◌≡◌, ◌+◌, ◌-◌, ◌*◌, ◌/◌, ◌⊎◌, List, length, take, Option, Some, None, IfSome, min}
+use Rattle.std.specs.Prelude.{nat_lt, if◌then◌else◌}
+use Rattle.page_core.specs.declared.numbers.TheConstants.{LSN_STEP}
+use Rattle.page_core.specs.declared.page.Page.{Page}
+use Rattle.page_core.specs.Volume.{AreNumbered}
+use Rattle.log_records.specs.Log.{Log}
+use Rattle.log_store.specs.declared.master.Master.{Master}
+use Rattle.copy_vault.specs.Vault.{CopyState, complete, dropped, reading, state_of}
+use Rattle.copy_coverage.specs.Retired.{RetiredView}
+use Rattle.media_restore.specs.declared.fault.LoadFault.{LoadFault}
+use Rattle.media_restore.specs.declared.fault.LoadFault.TheVariants.{NoCopy, CopyNotComplete}
+use Rattle.media_restore.specs.declared.fault.LoadFault.TheVariants.{CutTooShort, OutOfMemory}
+
+-- the log, its last complete checkpoint, the loaded pages, and where redo begins
+pub record LoadedView : Type 0 where
+  pub log : Log
+  pub master : Option Master
+  pub pages : List Page
+  pub redo : ℕ
+
+-- the log of which `cut` records are kept, or all
+abbrev pub kept_log : Log → ℕ → Log
+kept_log log cut = record log { records = take cut log.records }
+
+-- how many records were forced
+abbrev pub forced_count : RetiredView → ℕ
+forced_count it = it.forced_end / LSN_STEP - 1
+
+-- of a copy
+abbrev pub copy_refusal : CopyState → Option LoadFault
+copy_refusal (reading copy) = Some CopyNotComplete
+copy_refusal (complete copy) = None
+copy_refusal dropped = Some NoCopy
+
+-- of a cut, where the log has so many records
+abbrev pub cut_refusal : RetiredView → ℕ → Option LoadFault
+cut_refusal it cut =
+    if nat_lt (min cut (length it.log.records)) (forced_count it)
+    then Some (CutTooShort (forced_count it)) else None
+
+-- the first refusal that is there
+abbrev pub first_of : Option LoadFault → Option LoadFault → Option LoadFault
+first_of None next = next
+first_of (Some fault) next = Some fault
+
+-- the refusal that needs no memory
+abbrev pub load_refusal : RetiredView → ℕ → ℕ → Option LoadFault
+load_refusal it id cut = first_of (copy_refusal (state_of it.copies id)) (cut_refusal it cut)
+
+-- the load is refused for this, or is not and memory ran out
+abbrev pub LoadRefuses : Option LoadFault → LoadFault → Type 0
+LoadRefuses refusal fault = (refusal ≡ Some fault) ⊎ ((refusal ≡ None) × (fault ≡ OutOfMemory))

@@ -1,0 +1,113 @@
+//! The load of a copy.
+
+ghost use Rattle.std.specs.Prelude.{◌≡◌, ◌≤◌, length, map, min, take, IfOk, IfErr, OnOk, OnErr, None};
+ghost use Rattle.log_records.specs.Coverage.{resume};
+ghost use Rattle.log_records.specs.Image.{redo_all};
+ghost use Rattle.copy_vault.specs.Chain.{IsChain, IsChainOf, contents, last_redo};
+ghost use Rattle.copy_vault.specs.Copy.{CopyView};
+ghost use Rattle.copy_coverage.specs.Retired.{IsRetired};
+ghost use Rattle.media_restore.specs.Load.{LoadRefuses, copy_refusal, cut_refusal, forced_count};
+ghost use Rattle.media_restore.specs.Load.{kept_log, load_refusal};
+ghost use Rattle.copy_vault.specs.Vault.{state_of};
+ghost use Rattle.media_restore.specs.declared.fault.LoadFault.TheVariants.{OutOfMemory};
+ghost use Rattle.std.specs.Prelude.{List};
+
+use crate::fault::LoadFault;
+use crate::loaded::Loaded;
+use copy_coverage::Retired;
+use copy_vault::{Chain, CopyId, Vault};
+use page_core::{LSN_STEP, Lsn, Page, PageNo};
+use std::alloc::{AllocError, Global};
+
+/// Loads a complete copy with those that it stands on, and keeps the first `cut` records of the log,
+/// or all where there are fewer. Refusals in order: `NoCopy`, `CopyNotComplete`, `CutTooShort`,
+/// `OutOfMemory`; what was retired is given back then.
+pub fn load(
+    alloc: Global,
+    retired: Retired,
+    copy: CopyId,
+    cut: usize,
+) -> Result<Loaded, (Retired, LoadFault)>
+    ensures log { IfOk result (λ it. it.log ≡ kept_log retired.log cut) }
+    ensures master { IfOk result (λ it. it.master ≡ retired.master) }
+    ensures chain { IfOk result (λ it. (members : List CopyView) × IsChain members
+        × IsChainOf retired.copies copy members × (it.pages ≡ contents members)
+        × (it.redo ≡ last_redo members)) }
+    // Redo from the redo point on makes what redo of the whole kept log makes.
+    ensures restores { IfOk result (λ it.
+        map (λ page. resume page it.log.records it.redo) it.pages
+        ≡ redo_all it.log.records it.log.pages) }
+    ensures ok { OnOk result (load_refusal retired copy cut ≡ None) }
+    ensures err { IfErr result (λ e. LoadRefuses (load_refusal retired copy cut) e.1) }
+    ensures same { IfErr result (λ e. e.0 ≡ retired) }
+{
+    if let Some(fault) = refusal_of(&retired, copy, cut) {
+        return Err((retired, fault));
+    }
+    let (pages, redo) = match loaded_pages(alloc, retired.vault(), copy) {
+        Ok(loaded) => loaded,
+        Err(_) => return Err((retired, LoadFault::OutOfMemory)),
+    };
+    let master = retired.master();
+    let mut log = retired.into_log();
+    log.keep_first(cut);
+    Ok(Loaded::new(log, master, pages, redo))
+}
+
+/// The refusal that needs no memory, if there is one.
+fn refusal_of(retired: &Retired, copy: CopyId, cut: usize) -> Option<LoadFault>
+    ensures refusal { result ≡ load_refusal retired.now copy cut }
+    ensures kept { IsRetired retired.now }
+{
+    let log = retired.log();
+    if let Some(fault) = copy_refusal(retired.vault(), copy) {
+        return Some(fault);
+    }
+    let forced = (retired.forced_end().0 / LSN_STEP).saturating_sub(1);
+    let kept = cut.min(log.records().len());
+    if (kept as u64) < forced {
+        Some(LoadFault::CutTooShort(forced))
+    } else {
+        None
+    }
+}
+
+/// What is refused of the copy itself.
+fn copy_refusal(vault: &Vault, copy: CopyId) -> Option<LoadFault>
+    ensures { result ≡ copy_refusal (state_of vault.now.copies copy) }
+{
+    if vault.complete(copy).is_some() {
+        None
+    } else if vault.reading(copy).is_some() {
+        Some(LoadFault::CopyNotComplete)
+    } else {
+        Some(LoadFault::NoCopy)
+    }
+}
+
+/// The pages of the chain that ends with a complete copy, and the LSN from which on the log is to
+/// be redone over them.
+fn loaded_pages(alloc: Global, vault: &Vault, copy: CopyId) -> Result<(Vec<Page>, Lsn), LoadFault>
+    requires { copy_refusal (state_of vault.now.copies copy) ≡ None }
+    ensures chain { IfOk result (λ it. (members : List CopyView) × IsChain members
+        × IsChainOf vault.now.copies copy members × (it.0.items ≡ contents members)
+        × (it.1 ≡ last_redo members)) }
+    ensures err { IfErr result (λ fault. fault ≡ OutOfMemory) }
+{
+    let chain = vault
+        .chain(alloc, copy)
+        .map_err(|_| LoadFault::OutOfMemory)?;
+    Ok((copied_pages(alloc, &chain)?, chain.redo()))
+}
+
+/// The pages of a chain, in order of their numbers.
+fn copied_pages(alloc: Global, chain: &Chain<'_>) -> Result<Vec<Page>, AllocError>
+    ensures { IfOk result (λ pages. pages.items ≡ contents chain.now) }
+{
+    let count = chain.pages();
+    let mut pages = Vec::with_capacity(alloc, count as usize)?;
+    for number in 0..count {
+        pages.push(chain.content(PageNo(number)).copy())?;
+    }
+    Ok(pages)
+}
