@@ -85,4 +85,5 @@ not_past None begin redo P may = absurd may
 pub redo_not_past : (rs : List Record) (begin end redo : ℕ) → IsLinked rs → Contains rs (EndChkpt end begin redo)
     → redo ≤ begin
 redo_not_past rs begin end redo linked (i, lt, is) =
-    not_past (open_checkpoint (take i rs)) begin redo (HasOldTxns (take i rs)) (ended_in rs i begin end redo linked lt is)
+    not_past (open_checkpoint (take i rs)) begin redo (HasOldTxns (take i rs))
+    (ended_in rs i begin end redo linked lt is)
