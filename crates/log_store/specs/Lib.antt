@@ -3,5 +3,4 @@ pub mod Fault
 pub mod FaultyDevice
 pub mod MemDevice
 pub mod Scan
-pub mod Turn
 pub mod WrittenLog
