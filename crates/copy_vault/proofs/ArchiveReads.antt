@@ -28,7 +28,7 @@ use Rattle.copy_vault.proofs.Parts.{part_complete}
 
 -- ---- fewer bytes than a header
 
-begins_long : (bytes : List ℕ) (h : ArchiveHeader) (pages : List Page) (rest : List ℕ) → Begins bytes h pages rest
+pub begins_long : (bytes : List ℕ) (h : ArchiveHeader) (pages : List Page) (rest : List ℕ) → Begins bytes h pages rest
     → 64 ≤ length bytes
 begins_long bytes h pages rest begins =
     omega (

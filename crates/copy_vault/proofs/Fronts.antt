@@ -139,14 +139,14 @@ agree h pages pending k others rest front begins =
       );
     }
 
-header_there : (h : ArchiveHeader) (pages : List Page) (pending : List ℕ)
+pub header_there : (h : ArchiveHeader) (pages : List Page) (pending : List ℕ)
     → take 64 (front_bytes h pages ++ pending) ≡ header_bytes h
 header_there h pages pending =
     ap (take 64) (append_assoc (header_bytes h) (volume_bytes pages) pending)
     ∙ take_at (header_bytes h) (volume_bytes pages ++ pending) 64 (length-header_bytes h)
 
 -- the page at hand of the longer list may follow
-next_of : (h k : ArchiveHeader) (pages others : List Page) (pending rest : List ℕ) → IsFront h pages → h ≡ k
+pub next_of : (h k : ArchiveHeader) (pages others : List Page) (pending rest : List ℕ) → IsFront h pages → h ≡ k
     → (more : List Page) → pages ≡ others ++ more → rest ≡ volume_bytes more ++ pending → 0 < length more
     → HasNext k others rest
 next_of h k pages others pending rest front same [] is e some = absurd (omega arith)

@@ -3,6 +3,7 @@ pub mod Chains
 pub mod Decisions
 pub mod Fronts
 pub mod Headers
+pub mod OneFault
 pub mod Parts
 pub mod Vaults
 pub mod Writes

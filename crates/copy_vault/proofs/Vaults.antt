@@ -7,7 +7,7 @@ use Rattle.std.proofs.lemmas.Bool.{cases_lt}
 use Rattle.std.proofs.lemmas.List.{length-set, length-map, map-set, map-append, get_or-set_same, get_or-set_other}
 use Rattle.std.proofs.lemmas.List.{get_or_append_left, get_or_push, length_push}
 use Rattle.std.proofs.lemmas.List.{get_or_default, set-get_or}
-use Rattle.std.specs.Prelude.{Result, Ok, Err, OnOk, OnErr, None}
+use Rattle.std.specs.Prelude.{Result, Ok, Err, OnOk, OnErr, None, IsSome}
 use Rattle.page_core.specs.declared.page.Page.{Page}
 use Rattle.copy_vault.specs.declared.copy_id.Decision.{Decision}
 use Rattle.copy_vault.specs.declared.fault.CopyFault.{CopyFault}
@@ -15,11 +15,11 @@ use Rattle.copy_vault.specs.declared.copy_id.CopyKind.{CopyKind}
 use Rattle.copy_vault.specs.declared.copy_id.CopyKind.TheVariants.{Full, Inc}
 use Rattle.copy_vault.specs.declared.vault.Entry.{Entry}
 use Rattle.copy_vault.specs.declared.vault.Entry.TheVariants as entry
-use Rattle.copy_vault.specs.Copy.{CopyView, answer_of, decided_by, with_decision}
+use Rattle.copy_vault.specs.Copy.{CopyView, answer_of, decided_by, decision_at, undecided, with_decision}
 use Rattle.copy_vault.specs.Reading.{ReadingView}
 use Rattle.copy_vault.specs.Vault.{CopyState, reading, complete, dropped, state_of, since_of, redo_of}
 use Rattle.copy_vault.specs.Vault.{HasParent, IsOfId, IsKept, IsVault, state_in, with_state, answer_in, decided_in, decided}
-use Rattle.copy_vault.specs.Vault.{seal_refusal, drop_refusal, sealed_in, room_in}
+use Rattle.copy_vault.specs.Vault.{seal_refusal, drop_refusal, sealed_in, room_in, reading_of, pages_read}
 
 -- every copy that is complete stays as it is
 pub record GoesOn (old new : List CopyState) : Type 0 where
@@ -314,11 +314,6 @@ room_made entries k it lt room =
     ap (λ bs. get_or bs k false) (map-set room_in entries k (entry.Reading it))
     ∙ get_or-set_same (map room_in entries) k it.has_room false (omega (arith, length-map entries room_in)) ∙ room
 
--- what follows of an Ok
-pub on_ok : {T E : Type 0} (r : Result T E) (P Q : Type 0) → (P → Q) → OnOk r P → OnOk r Q
-on_ok (Ok x) P Q f h = f h
-on_ok (Err e) P Q f h = h
-
 pub is_reading : (e : Entry) (copy : CopyView) → state_in e ≡ reading copy
     → (it : ReadingView) × (e ≡ entry.Reading it)
 is_reading (entry.Reading it) copy is = (it, refl)
@@ -349,3 +344,16 @@ same_state entries k it new is copy_is =
 pub same_copy : (it : ReadingView) (e : Entry) (copy : CopyView) → e ≡ entry.Reading it → state_in e ≡ reading copy
     → it.copy ≡ copy
 same_copy it e copy is state = let same : reading it.copy ≡ reading copy = ap state_in (sym is) ∙ state in cc
+
+-- ---- what a caller says of a copy that is being read
+
+pub was_reading : (s : CopyState) → IsSome (reading_of s) → (copy : CopyView) × (s ≡ reading copy)
+was_reading (reading copy) some = (copy, refl)
+was_reading (complete copy) some = cc
+was_reading dropped some = cc
+
+pub was_undecided : (s : CopyState) (n : ℕ) → n < length (pages_read s) → decision_at (pages_read s) n ≡ undecided
+    → (copy : CopyView) × (s ≡ reading copy) × (n < length copy.pages) × (decision_at copy.pages n ≡ undecided)
+was_undecided (reading copy) n lt none = (copy, refl, lt, none)
+was_undecided (complete copy) n lt none = absurd (omega arith)
+was_undecided dropped n lt none = absurd (omega arith)

@@ -13,7 +13,7 @@ use Rattle.copy_vault.specs.declared.fault.CopyFault.TheVariants.{OutOfMemory, N
 use Rattle.copy_vault.specs.declared.fault.CopyFault.TheVariants.{PagesLeft, TooManyCopies}
 use Rattle.copy_vault.specs.declared.vault.Entry.{Entry}
 use Rattle.copy_vault.specs.declared.vault.Entry.TheVariants as entry
-use Rattle.copy_vault.specs.Copy.{CopyView, new_copy, with_decision, decided_by}
+use Rattle.copy_vault.specs.Copy.{CopyView, PageDecision, new_copy, with_decision, decided_by}
 use Rattle.copy_vault.specs.Copy.{answer_of, least_undecided, taken_count}
 
 -- a copy is being read, or is complete, or was dropped while it was read
@@ -130,6 +130,12 @@ abbrev pub reading_of : CopyState → Option CopyView
 reading_of (reading copy) = Some copy
 reading_of (complete copy) = None
 reading_of dropped = None
+
+-- what is decided of each page, where the copy is being read
+abbrev pub pages_read : CopyState → List PageDecision
+pages_read (reading copy) = copy.pages
+pages_read (complete copy) = []
+pages_read dropped = []
 
 -- the copy, where it is complete
 abbrev pub complete_of : CopyState → Option CopyView

@@ -1,8 +1,8 @@
 //! The bytes of archives, and which fault those have that are cut or spoiled.
 
 use crate::{
-    ArchiveFault, ArchiveWriteFault, CompleteCopy, CopyId, CopyKind, Vault, read_archive,
-    write_archive,
+    ArchiveFault, ArchiveWriteFault, CompleteCopy, CopyFault, CopyId, CopyKind, Decision, Vault,
+    read_archive, write_archive,
 };
 use page_core::{Lsn, PAGE_BYTES, Page, PageNo};
 use std::alloc::Global;
@@ -47,18 +47,66 @@ fn fault_of(alloc: Global, bytes: &[u8]) -> Option<ArchiveFault> {
     read_archive(alloc, &mut input).err()
 }
 
+/// Reads a stored page into a copy.
+fn take(alloc: Global, vault: &mut Vault, id: CopyId, page: &Page) -> Result<Decision, Fail> {
+    let number = page.number;
+    let is_left = match vault.reading(id) {
+        Some(copy) => number.0 < copy.pages() && copy.is_undecided(number),
+        None => false,
+    };
+    if !is_left {
+        return Err(Fail::new("the copy does not wait for this page"));
+    }
+    vault.make_room(alloc, id)?;
+    Ok(vault.decide(id, number, page))
+}
+
 #[test]
 fn a_sealed_copy_has_its_archive(rt: HostRuntime) -> Result<(), Fail> {
     let alloc = rt.alloc();
     let mut vault = Vault::new(alloc);
     let id = vault.open_full(alloc, 1, Lsn(192), Lsn(128))?;
-    vault.make_room(alloc, id)?;
-    vault.decide(id, PageNo(0), &Page::formatted(PageNo(0)));
+    let page = Page::formatted(PageNo(0));
+    assert_eq!(rt; take(alloc, &mut vault, id, &page)?, Decision::Taken);
     assert_eq!(rt; vault.seal(id), Ok(1));
     let Some(copy) = vault.complete(id) else {
         return Err(Fail::new("the copy is not complete"));
     };
     assert_eq!(rt; written(alloc, copy)?, archive_with(alloc, OF_ONE_PAGE, 1)?);
+    Ok(())
+}
+
+#[test]
+fn a_chain_has_each_page(rt: HostRuntime) -> Result<(), Fail> {
+    let alloc = rt.alloc();
+    let mut vault = Vault::new(alloc);
+    let first = vault.open_full(alloc, 2, Lsn(64), Lsn(64))?;
+    let refused = vault.open_inc(alloc, first, Lsn(384), Lsn(384));
+    assert_eq!(rt; refused, Err(CopyFault::CopyNotComplete));
+    let [zero, mut one] = [Page::formatted(PageNo(0)), Page::formatted(PageNo(1))];
+    take(alloc, &mut vault, first, &one)?;
+    take(alloc, &mut vault, first, &zero)?;
+    assert_eq!(rt; vault.seal(first), Ok(2));
+    let next = vault.open_inc(alloc, first, Lsn(384), Lsn(384))?;
+    one.lsn = Lsn(256);
+    assert_eq!(rt; take(alloc, &mut vault, next, &one)?, Decision::Taken);
+    assert_eq!(rt; take(alloc, &mut vault, next, &zero)?, Decision::Kept);
+    assert_eq!(rt;
+        vault.chain(alloc, next).err(),
+        Some(CopyFault::CopyNotComplete)
+    );
+    assert_eq!(rt; vault.seal(next), Ok(1));
+    assert_eq!(rt;
+        vault.chain(alloc, CopyId(3)).err(),
+        Some(CopyFault::NoCopy)
+    );
+    let chain = vault.chain(alloc, next)?;
+    assert_eq!(rt; (chain.pages(), chain.redo()), (2, Lsn(384)));
+    let mut lsns = Vec::new(alloc);
+    for page in chain.contents(alloc)? {
+        lsns.push(page.lsn)?;
+    }
+    assert_eq!(rt; lsns.as_slice(), [Lsn(0), Lsn(256)].as_slice());
     Ok(())
 }
 

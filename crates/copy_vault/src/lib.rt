@@ -17,7 +17,7 @@ mod vault;
 mod write;
 
 pub use archive_fault::{ArchiveFault, ArchiveWriteFault};
-pub use archive_laws::copies_are_spelled_apart;
+pub use archive_laws::{an_archive_has_no_fault, bytes_have_one_fault, copies_are_spelled_apart};
 pub use chain::Chain;
 pub use complete::CompleteCopy;
 pub use copy_id::{CopyId, CopyKind, Decision, MAX_COPIES};

@@ -1,15 +1,15 @@
 //! The vault, which keeps the image copies of a volume.
 
 ghost use Rattle.std.specs.Prelude.{◌≡◌, ◌+◌, ◌<◌, [], length, IfOk, IfErr, OnOk, OnErr};
-ghost use Rattle.std.specs.Prelude.{IfSome, Some, None};
+ghost use Rattle.std.specs.Prelude.{IfSome, IsSome, Some, None};
 ghost use Rattle.std.specs.Option.{option_map, option_map_or};
 ghost use Rattle.copy_vault.specs.Chain.{IsChain, IsChainOf};
-ghost use Rattle.copy_vault.specs.Copy.{CopyView, undecided, decision_at};
+ghost use Rattle.copy_vault.specs.Copy.{undecided, decision_at};
 ghost use Rattle.copy_vault.specs.Reading.{ReadingView};
 ghost use Rattle.copy_vault.specs.Vault.{CopyState, HasRoom, OpenRefuses, answer_in, complete};
 ghost use Rattle.copy_vault.specs.Vault.{complete_of, complete_refusal, inc_refusal, pages_in};
 ghost use Rattle.copy_vault.specs.Vault.{decided, drop_refusal, dropped, open_refusal, opened};
-ghost use Rattle.copy_vault.specs.Vault.{reading, reading_of, seal_refusal, sealed, sealed_in};
+ghost use Rattle.copy_vault.specs.Vault.{pages_read, reading_of, seal_refusal, sealed, sealed_in};
 ghost use Rattle.copy_vault.specs.Vault.{HasParent, IsKept, IsOfId, since_of, state_in, state_of, taken_in, without};
 ghost use Rattle.copy_vault.specs.declared.copy_id.CopyKind.TheVariants.{Full, Inc};
 ghost use Rattle.copy_vault.specs.declared.vault.Entry.TheVariants as entry;
@@ -255,7 +255,7 @@ impl Vault {
     /// Makes room for one page that a copy takes. The room stays until the next call that changes
     /// the vault.
     pub fn make_room(&mut self, alloc: Global, id: CopyId) -> Result<(), AllocError>
-        requires { (copy : CopyView) × (state_of self.old.copies id ≡ reading copy) }
+        requires { IsSome (reading_of (state_of self.old.copies id)) }
         ensures room { OnOk result (HasRoom self.new id) }
         ensures copies { self.new.copies ≡ self.old.copies }
     {
@@ -268,8 +268,8 @@ impl Vault {
     /// Decides of a page as it was stored: a full copy takes it, an incremental one where its LSN
     /// is at least the redo point of the copy's parent. This takes no memory.
     pub fn decide(&mut self, id: CopyId, number: PageNo, page: &Page) -> Decision
-        requires reading { (copy : CopyView) × (state_of self.old.copies id ≡ reading copy)
-            × (number < length copy.pages) × (decision_at copy.pages number ≡ undecided) }
+        requires there { number < length (pages_read (state_of self.old.copies id)) }
+        requires undecided { decision_at (pages_read (state_of self.old.copies id)) number ≡ undecided }
         requires numbered { page.now.number ≡ number }
         requires room { HasRoom self.old id }
         ensures answer { result

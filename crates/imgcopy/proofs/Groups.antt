@@ -1,6 +1,6 @@
 -- A volume that is written a group of pages after another.
-use Rattle.std.proofs.Common.{◌≡◌, ℕ, ◌+◌, ◌-◌, ◌≤◌, List, ◌++◌, length, take, drop, refl, sym, ap, ◌∙◌, arith}
-use Rattle.std.proofs.lemmas.List.{append_assoc, take-append-drop, take-append-le, take_at, drop_at}
+use Rattle.std.proofs.Common.{◌≡◌, ℕ, ◌+◌, ◌-◌, List, ◌++◌, take, drop, refl, sym, ap, ◌∙◌, arith}
+use Rattle.std.proofs.lemmas.List.{append_assoc, take-append-drop}
 use Rattle.std.proofs.lemmas.List.Concat.{flat_map-append}
 use Rattle.page_core.specs.declared.page.Page.{Page}
 use Rattle.page_core.specs.Page.{page_bytes, volume_bytes}
@@ -32,12 +32,3 @@ whole pages first count =
     ∙ ap (λ (bs : List ℕ). bs ++ volume_bytes (drop (first + count) pages)) (further pages first count)
     ∙ sym (flat_map-append page_bytes (take (first + count) pages) (drop (first + count) pages))
     ∙ ap volume_bytes (take-append-drop (first + count) pages)
-
--- a front of the middle of three lists
-pub into : (a b c : List ℕ) (m n : ℕ) → m ≡ length a → n ≤ length b → a ++ take n b ≡ take (m + n) (a ++ (b ++ c))
-into a b c m n start fits =
-    let xs = a ++ (b ++ c) in
-    let wide : m + n - m ≡ n = omega arith in
-    grow xs a (take n b) m (m + n) (omega arith) (sym (take_at a (b ++ c) m (sym start)))
-    (sym (ap (λ k. take k (drop m xs)) wide ∙ ap (take n) (drop_at a (b ++ c) m (sym start))
-    ∙ take-append-le n b c fits))

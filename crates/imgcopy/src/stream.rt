@@ -7,12 +7,9 @@ ghost use Rattle.imgcopy.specs.Stream.{WritesVolume, Leaves, FailedUnread};
 
 use crate::fault::Fault;
 use log_store::{Scan, scan_log};
-use page_core::{PAGE_BYTES, Page, zeros};
+use page_core::{PAGE_BYTES, Page, write_out, zeros};
 use std::alloc::Global;
-use std::io::{ErrorKind, Read, Write};
-
-/// How often in a row an interrupted write is tried again.
-const MAX_INTERRUPTIONS: u32 = 16;
+use std::io::{Read, Write};
 
 /// How many pages are written at once.
 const BUFFER_PAGES: usize = 512;
@@ -78,33 +75,6 @@ fn put_pages(buffer: &mut [u8], pages: &[Page]) -> usize
         page.write_to(&mut buffer[at..at + PAGE_BYTES]);
     }
     PAGE_BYTES * pages.len()
-}
-
-/// Writes all of the bytes. At `Err` so many of them went out.
-fn write_out<W: Write>(writer: &mut W, bytes: &[u8]) -> Result<(), u64>
-    ensures ok { OnOk result (Appends (W.contents writer.old) (W.contents writer.new) bytes.now) }
-    ensures within { IfErr result (λ done. done < length bytes.now) }
-    ensures err { IfErr result (λ done.
-        Appends (W.contents writer.old) (W.contents writer.new) (take done bytes.now)) }
-{
-    let mut done = 0;
-    let mut interruptions = 0;
-    while done < bytes.len() {
-        match writer.write(&bytes[done..]) {
-            Ok(0) => return Err(done as u64),
-            Ok(count) => {
-                done += count;
-                interruptions = 0;
-            }
-            Err(error) => {
-                if error.kind() != ErrorKind::Interrupted || interruptions >= MAX_INTERRUPTIONS {
-                    return Err(done as u64);
-                }
-                interruptions += 1;
-            }
-        }
-    }
-    Ok(())
 }
 
 #[cfg(test)]

@@ -2,10 +2,9 @@
 use Rattle.std.proofs.Common.{◌≡◌, ℕ, ◌+◌, ◌<◌, ◌≤◌, List, [], ◌++◌, length, take, sym, ap, subst, ◌∙◌}
 use Rattle.std.proofs.Common.{arith, inl, inr}
 use Rattle.std.proofs.lemmas.Bool.{cases_lt}
-use Rattle.std.specs.Prelude.{Option, Some, None, IfSome}
 use Rattle.std.specs.Int.{w32, from_le_bytes}
-use Rattle.std.specs.Io.KnownBytes.{Consumes, IsAtEnd}
 use Rattle.std.proofs.lemmas.List.{take-append-le, length-append, length-take, append-nil}
+pub use Rattle.page_core.proofs.Inputs.{at_some, of_input}
 use Rattle.log_store.specs.declared.fault.LogReadFault.{LogReadFault}
 use Rattle.log_store.specs.declared.fault.LogReadFault.TheVariants.{OutOfMemory, BadHeader, BadRecord, BadChain, Torn}
 use Rattle.log_store.specs.declared.fault.LogReadFault.TheVariants.{ReadFault, TooLong}
@@ -215,12 +214,6 @@ none_in_read log given spells linked fault held e = none_in_log log given spells
 
 -- ---- what a reader gave, and what it had
 
-pub of_input : (old new : Option (List ℕ)) (given : List ℕ) (P : List ℕ → Type 0) → Consumes old new given
-    → ((rest : List ℕ) → (IsAtEnd new → rest ≡ []) → P (given ++ rest)) → IfSome old P
-of_input None new given P taken h = tt
-of_input (Some input) None given P taken h = absurd taken
-of_input (Some input) (Some rest) given P taken h = subst P (sym taken) (h rest (λ none. none))
-
 pub only_outside : (log : Log) (input : List ℕ) → SpellsLog log input → IsLinked log.records → (fault : LogReadFault)
     → Refuses input fault → IsOutside fault
 only_outside log input spells linked OutOfMemory h = tt
@@ -230,9 +223,6 @@ only_outside log input spells linked (BadRecord at) h = none_in_log log input sp
 only_outside log input spells linked (BadChain at) h = none_in_log log input spells linked (BadChain at) h.there
 only_outside log input spells linked (Torn at) h = none_in_log log input spells linked (Torn at) h.there
 only_outside log input spells linked TooLong h = none_in_log log input spells linked TooLong h.there
-
-pub at_some : (old : Option (List ℕ)) (input : List ℕ) (P : List ℕ → Type 0) → old ≡ Some input → IfSome old P → P input
-at_some old input P e h = let Q : Option (List ℕ) → Type 0 = λ o. IfSome o P in subst Q e h
 
 -- ---- fewer bytes than a header
 

@@ -2,8 +2,9 @@
 use Rattle.std.proofs.Common.{◌≡◌, ℕ, ◌+◌, ◌-◌, ◌*◌, ◌<◌, ◌≤◌, List, [], ◌∷◌, ◌++◌, length, get_or, take, drop, refl}
 use Rattle.std.proofs.Common.{sym, ap, subst, ◌∙◌, arith, below_more, inl, inr}
 use Rattle.std.specs.Prelude.{slice_range}
-use Rattle.std.specs.Prelude.{Option, Some, None, IfSome, Result, Ok, Err, IfErr, OnOk}
-use Rattle.std.specs.Io.KnownBytes.{Consumes, IsAtEnd}
+use Rattle.std.specs.Prelude.{Option}
+use Rattle.std.specs.Io.KnownBytes.{Consumes}
+pub use Rattle.page_core.proofs.Inputs.{if_err, on_ok, of_rest, of_all}
 use Rattle.std.proofs.lemmas.Bool.{cases_lt}
 use Rattle.std.proofs.lemmas.List.{append_assoc, append-nil, nil_from_length, take-append-le, take_at, drop_at}
 use Rattle.std.proofs.lemmas.List.{length-append, length_push, get_or_append_left, get_or_push, flat_map_more}
@@ -260,26 +261,7 @@ pub regrouped : (header read pending rest : List ℕ) (P : List ℕ → Type 0) 
     → P (header ++ ((read ++ pending) ++ rest))
 regrouped header read pending rest P h = subst P (regroup header read pending rest) h
 
-pub if_err : {T E : Type 0} (r : Result T E) (P Q : E → Type 0) → ((e : E) → P e → Q e) → IfErr r P → IfErr r Q
-if_err (Ok x) P Q step h = tt
-if_err (Err e) P Q step h = step e h
-
-pub on_ok : {T E : Type 0} (r : Result T E) (P Q : Type 0) → (P → Q) → OnOk r P → OnOk r Q
-on_ok (Ok x) P Q step h = step h
-on_ok (Err e) P Q step h = tt
-
 -- ---- the header and what follows it
-
-pub of_rest : (old mid : Option (List ℕ)) (given : List ℕ) (P : List ℕ → Type 0) → Consumes old mid given
-    → IfSome mid (λ rest. P (given ++ rest)) → IfSome old P
-of_rest None mid given P taken h = tt
-of_rest (Some input) None given P taken h = absurd taken
-of_rest (Some input) (Some rest) given P taken h = subst P (sym taken) h
-
-pub of_all : (old new : Option (List ℕ)) (given : List ℕ) (P : List ℕ → Type 0) → Consumes old new given → IsAtEnd new
-    → P given → IfSome old P
-of_all old new given P taken end h = of_input old new given P taken
-    (λ rest none. subst P (sym (append-nil given) ∙ ap (λ (r : List ℕ). given ++ r) (sym (none end))) h)
 
 pub gave_more : (old mid new : Option (List ℕ)) (header : List ℕ) (fault : LogReadFault) → Consumes old mid header
     → GaveNoFault header mid new fault → GaveNoFault [] old new fault

@@ -4,5 +4,4 @@ pub mod FaultyDevice
 pub mod Master
 pub mod MemDevice
 pub mod Scan
-pub mod Turn
 pub mod WrittenLog

@@ -8,15 +8,14 @@ ghost use Rattle.log_history.specs.Linked.{IsLinked};
 ghost use Rattle.log_records.specs.Log.{IsLog, Log, SpellsLog, header_bytes};
 ghost use Rattle.log_store.specs.Fault.{Refuses, GaveNoFault, IsNoReadFault};
 ghost use Rattle.log_store.specs.Scan.{HasAll, HasRead, HasTaken};
-ghost use Rattle.log_store.specs.Turn.{Gives};
 
 use crate::fault::LogReadFault;
 use crate::sink::RecordSink;
 use log_history::History;
 use log_records::{HEADER_BYTES, MAX_RECORDS, RECORD_BYTES, Record, page_count, record_at};
-use page_core::{LSN_STEP, Lsn, zeros};
+use page_core::{LSN_STEP, Lsn, MAX_TURNS, Turn, keep_from, read_more, zeros};
 use std::alloc::Global;
-use std::io::{ErrorKind, Read};
+use std::io::Read;
 
 /// A log that was read: what a sink made of it, and what its records make.
 #[derive(Drop)]
@@ -24,9 +23,6 @@ pub struct Scan<S> {
     pub sink: S,
     pub history: History,
 }
-
-/// How often a reader is asked for more bytes, at most.
-const MAX_TURNS: u32 = 134_217_728;
 
 /// How many bytes it is asked for at once, at most.
 const BUFFER_BYTES: usize = 262_144;
@@ -116,34 +112,6 @@ fn read_header<R: Read>(reader: &mut R, header: &mut [u8]) -> Result<u32, LogRea
     Err(LogReadFault::ReadFault)
 }
 
-/// What came of asking a reader for more bytes.
-enum Turn {
-    /// So many more, and none where the read was interrupted.
-    More(usize),
-    /// There are no more.
-    End,
-    Failed,
-}
-
-/// Asks a reader for more bytes, behind those that fill the buffer.
-fn read_more<R: Read>(reader: &mut R, buffer: &mut [u8], filled: usize) -> Turn
-    requires { filled < length buffer.old }
-    ensures { Gives (R.remaining reader.old) (R.remaining reader.new) filled
-        buffer.old buffer.new result }
-{
-    match reader.read(&mut buffer[filled..]) {
-        Ok(0) => Turn::End,
-        Ok(count) => Turn::More(count),
-        Err(error) => {
-            if error.kind() == ErrorKind::Interrupted {
-                Turn::More(0)
-            } else {
-                Turn::Failed
-            }
-        }
-    }
-}
-
 /// Reads the records behind the header, to the input's end.
 fn read_records<R: Read, S: RecordSink>(
     reader: &mut R,
@@ -212,11 +180,7 @@ fn keep_rest(buffer: &mut [u8], filled: usize) -> usize
         ≡ drop (RECORD_BYTES * (filled / RECORD_BYTES)) (take filled buffer.old) }
     ensures count { result ≡ filled - RECORD_BYTES * (filled / RECORD_BYTES) }
 {
-    let whole = RECORD_BYTES * (filled / RECORD_BYTES);
-    for i in 0..filled - whole {
-        buffer[i] = buffer[whole + i];
-    }
-    filled - whole
+    keep_from(buffer, RECORD_BYTES * (filled / RECORD_BYTES), filled)
 }
 
 /// Reads a log to the input's end, and hands its records to a sink as they come. A record is handed

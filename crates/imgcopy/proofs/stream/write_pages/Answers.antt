@@ -3,7 +3,8 @@ use Rattle.std.specs.Io.KnownBytes.{Appends}
 use Rattle.std.proofs.KnownBytes.{Appends-trans}
 use Rattle.std.proofs.lemmas.List.{length-append, length-take, length-drop}
 use Rattle.page_core.specs.Page.{volume_bytes}
-use Rattle.imgcopy.proofs.Groups.{group, further, whole, into}
+use Rattle.page_core.proofs.Pieces.{into}
+use Rattle.imgcopy.proofs.Groups.{group, further, whole}
 use Rattle.imgcopy.proofs.stream.write_pages.Goals as goal
 
 pub returns-in-Err-clause-within : goal.returns-in-Err-clause-within

@@ -1,14 +1,15 @@
 use Rattle.std.proofs.Common.{◌≡◌, ◌<◌, ◌-◌, List, length, map, ap, sym, subst, ◌∙◌}
 use Rattle.std.proofs.lemmas.List.{length-set}
 use Rattle.copy_vault.specs.Copy.{CopyView, decision_at, undecided}
-use Rattle.copy_vault.specs.Vault.{CopyState, VaultView, answer_in, decided, state_in, reading}
-use Rattle.copy_vault.proofs.Vaults.{entry_read, vault_read, answer_here, decided_here, same_copy}
+use Rattle.copy_vault.specs.Vault.{CopyState, VaultView, answer_in, decided, state_in, state_of, reading}
+use Rattle.copy_vault.proofs.Vaults.{entry_read, vault_read, answer_here, decided_here, same_copy, was_undecided}
 use Rattle.copy_vault.proofs.vault.Vault.decide.Goals as goal
 
 pub decide-requires-clause-there : goal.decide-requires-clause-there
 decide-requires-clause-there c =
     let entries = c.self.inside.entries.items in
-    let h = c.requires.reading in
+    let h = was_undecided (state_of c.args.self.now.copies c.args.id) c.args.number c.requires.there
+    c.requires.undecided in
     let same : map state_in entries ≡ c.args.self.now.copies = ap (λ (v : VaultView). v.copies) c.self.view_is in
     let there = entry_read entries c.args.self.now.copies c.id.inside.0 c.args.id h.0 c.index_mut.result.now same
     c.id.view_is h.1 c.index_mut.ensures.value in
@@ -18,7 +19,8 @@ decide-requires-clause-there c =
 pub decide-requires-clause-undecided : goal.decide-requires-clause-undecided
 decide-requires-clause-undecided c =
     let entries = c.self.inside.entries.items in
-    let h = c.requires.reading in
+    let h = was_undecided (state_of c.args.self.now.copies c.args.id) c.args.number c.requires.there
+    c.requires.undecided in
     let same : map state_in entries ≡ c.args.self.now.copies = ap (λ (v : VaultView). v.copies) c.self.view_is in
     let there = entry_read entries c.args.self.now.copies c.id.inside.0 c.args.id h.0 c.index_mut.result.now same
     c.id.view_is h.1 c.index_mut.ensures.value in
@@ -28,7 +30,8 @@ decide-requires-clause-undecided c =
 pub invariant_of-self : goal.invariant_of-self
 invariant_of-self c =
     let entries = c.self.inside.entries.items in
-    let h = c.requires.reading in
+    let h = was_undecided (state_of c.args.self.now.copies c.args.id) c.args.number c.requires.there
+    c.requires.undecided in
     let same : map state_in entries ≡ c.args.self.now.copies = ap (λ (v : VaultView). v.copies) c.self.view_is in
     let there = entry_read entries c.args.self.now.copies c.id.inside.0 c.args.id h.0 c.index_mut.result.now same
     c.id.view_is h.1 c.index_mut.ensures.value in
@@ -42,7 +45,8 @@ invariant_of-self c =
 pub returns-clause-answer : goal.returns-clause-answer
 returns-clause-answer c =
     let entries = c.self.inside.entries.items in
-    let h = c.requires.reading in
+    let h = was_undecided (state_of c.args.self.now.copies c.args.id) c.args.number c.requires.there
+    c.requires.undecided in
     let same : map state_in entries ≡ c.args.self.now.copies = ap (λ (v : VaultView). v.copies) c.self.view_is in
     let there = entry_read entries c.args.self.now.copies c.id.inside.0 c.args.id h.0 c.index_mut.result.now same
     c.id.view_is h.1 c.index_mut.ensures.value in
@@ -56,7 +60,8 @@ returns-clause-answer c =
 pub returns-clause-decided : goal.returns-clause-decided
 returns-clause-decided c =
     let entries = c.self.inside.entries.items in
-    let h = c.requires.reading in
+    let h = was_undecided (state_of c.args.self.now.copies c.args.id) c.args.number c.requires.there
+    c.requires.undecided in
     let same : map state_in entries ≡ c.args.self.now.copies = ap (λ (v : VaultView). v.copies) c.self.view_is in
     let there = entry_read entries c.args.self.now.copies c.id.inside.0 c.args.id h.0 c.index_mut.result.now same
     c.id.view_is h.1 c.index_mut.ensures.value in
