@@ -8,7 +8,7 @@ pub index_mut-requires : goal.index_mut-requires
 index_mut-requires c =
     let s = c.self.inside in
     let at =
-    places s.last_writes.items s.rec_lsns.items s.images.items s.first_changes.items c.args.self.now
+    places s.last_writes.items s.rec_lsns s.images.items s.first_changes.items c.args.self.now
     c.number.inside.0 c.args.number c.self.view_is c.self.invariant c.requires c.number.view_is in
     omega (arith, s.rec_lsns.ok.0, at.in_rec_lsns)
 
@@ -16,7 +16,7 @@ pub index-requires : goal.index-requires
 index-requires c =
     let s = c.self.inside in
     let at =
-    places s.last_writes.items s.rec_lsns.items s.images.items s.first_changes.items c.args.self.now
+    places s.last_writes.items s.rec_lsns s.images.items s.first_changes.items c.args.self.now
     c.number.inside.0 c.args.number c.self.view_is c.self.invariant c.requires c.number.view_is in
     omega (arith, s.images.ok.0, at.in_images)
 
@@ -24,7 +24,7 @@ pub index_mut-requires-then-is_some : goal.index_mut-requires-then-is_some
 index_mut-requires-then-is_some c =
     let s = c.self.inside in
     let at =
-    places s.last_writes.items s.rec_lsns.items s.images.items s.first_changes.items c.args.self.now
+    places s.last_writes.items s.rec_lsns s.images.items s.first_changes.items c.args.self.now
     c.number.inside.0 c.args.number c.self.view_is c.self.invariant c.requires c.number.view_is in
     omega (arith, s.first_changes.ok.0, at.in_firsts)
 
@@ -37,17 +37,17 @@ returns-then-is_some c =
     let now = c.note_first-then-is_some.new.first in
     let since = get_or s.first_changes.items n None in
     let at =
-    places s.last_writes.items s.rec_lsns.items s.images.items s.first_changes.items c.args.self.now
+    places s.last_writes.items s.rec_lsns s.images.items s.first_changes.items c.args.self.now
     m n c.self.view_is c.self.invariant c.requires c.number.view_is in
     let test : is_some (get_or s.images.items n None) ≡ true =
     ap is_some (sym
     (read_at s.images.items m n c.index.result.now None c.index.ensures at.in_images c.number.view_is))
     ∙ sym c.is_some.ensures ∙ c.if-is_some.true in
-    is_changed s.last_writes.items s.rec_lsns.items s.images.items s.first_changes.items c.args.self.now n
+    is_changed s.last_writes.items s.rec_lsns s.images.items s.first_changes.items c.args.self.now n
     c.self.view_is c.requires c.self.invariant m lsn c.note_first.new.first (set s.first_changes.items m now)
     c.number.view_is
     (c.note_first.ensures ∙ ap (λ (o : Option ℕ). Some (unwrap_or o lsn))
-    (read_at s.rec_lsns.items m n c.index_mut.result.now None c.index_mut.ensures.value at.in_rec_lsns
+    (read_at s.rec_lsns m n c.index_mut.result.now None c.index_mut.ensures.value at.in_rec_lsns
     c.number.view_is))
     (put_at s.first_changes.items m n now (cond (is_some (get_or s.images.items n None)) (Some (unwrap_or since lsn)) since)
     c.number.view_is
@@ -64,16 +64,16 @@ returns-else-is_some c =
     let lsn = c.args.lsn in
     let since = get_or s.first_changes.items n None in
     let at =
-    places s.last_writes.items s.rec_lsns.items s.images.items s.first_changes.items c.args.self.now
+    places s.last_writes.items s.rec_lsns s.images.items s.first_changes.items c.args.self.now
     m n c.self.view_is c.self.invariant c.requires c.number.view_is in
     let test : is_some (get_or s.images.items n None) ≡ false =
     ap is_some (sym
     (read_at s.images.items m n c.index.result.now None c.index.ensures at.in_images c.number.view_is))
     ∙ sym c.is_some.ensures ∙ c.if-is_some.false in
-    is_changed s.last_writes.items s.rec_lsns.items s.images.items s.first_changes.items c.args.self.now n
+    is_changed s.last_writes.items s.rec_lsns s.images.items s.first_changes.items c.args.self.now n
     c.self.view_is c.requires c.self.invariant m lsn c.note_first.new.first s.first_changes.items c.number.view_is
     (c.note_first.ensures ∙ ap (λ (o : Option ℕ). Some (unwrap_or o lsn))
-    (read_at s.rec_lsns.items m n c.index_mut.result.now None c.index_mut.ensures.value at.in_rec_lsns
+    (read_at s.rec_lsns m n c.index_mut.result.now None c.index_mut.ensures.value at.in_rec_lsns
     c.number.view_is))
     (kept s.first_changes.items n (cond (is_some (get_or s.images.items n None)) (Some (unwrap_or since lsn)) since) None
     (ap (λ (b : Bool). cond b (Some (unwrap_or since lsn)) since) test))

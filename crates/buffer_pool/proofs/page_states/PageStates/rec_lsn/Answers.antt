@@ -8,7 +8,7 @@ pub index-requires : goal.index-requires
 index-requires c =
     let s = c.self.inside in
     let at =
-    places s.last_writes.items s.rec_lsns.items s.images.items s.first_changes.items c.args.self.now
+    places s.last_writes.items s.rec_lsns s.images.items s.first_changes.items c.args.self.now
     c.number.inside.0 c.args.number c.self.view_is c.self.invariant c.requires c.number.view_is in
     omega (arith, s.rec_lsns.ok.0, at.in_rec_lsns)
 
@@ -16,10 +16,10 @@ pub returns : goal.returns
 returns c =
     let s = c.self.inside in
     let at =
-    places s.last_writes.items s.rec_lsns.items s.images.items s.first_changes.items c.args.self.now
+    places s.last_writes.items s.rec_lsns s.images.items s.first_changes.items c.args.self.now
     c.number.inside.0 c.args.number c.self.view_is c.self.invariant c.requires c.number.view_is in
-    read_at s.rec_lsns.items c.number.inside.0 c.args.number c.index.result.now None c.index.ensures at.in_rec_lsns
+    read_at s.rec_lsns c.number.inside.0 c.args.number c.index.result.now None c.index.ensures at.in_rec_lsns
     c.number.view_is
     ∙ ap (λ (x : PageState). x.rec_lsn) (sym
-    (state_is s.last_writes.items s.rec_lsns.items s.images.items s.first_changes.items c.args.self.now c.args.number
+    (state_is s.last_writes.items s.rec_lsns s.images.items s.first_changes.items c.args.self.now c.args.number
     c.self.view_is c.requires))
