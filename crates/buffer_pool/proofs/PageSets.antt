@@ -54,9 +54,14 @@ summary_inserted old words n is there =
       met = λ w here. elim (cases_eq w (n / 64)) [
         | inl same ↦ (n, (sym same, get_or-set_same old n true false there))
         | inr other ↦
-            let found = is.met w (sym (get_or-set_other words (n / 64) w true false other) ∙ here) in
-            (found.0, (found.1.0, get_or-set_other old n found.0 true false
-            (λ e. other (sym found.1.0 ∙ ap (λ (j : ℕ). j / 64) e)) ∙ found.1.1))
+            let found = is.met w (sym (get_or-set_other words (n / 64) w true false other) ∙ here) in (
+              found.0,
+              (
+                found.1.0,
+                get_or-set_other old n found.0 true false
+                    (λ e. other (sym found.1.0 ∙ ap (λ (j : ℕ). j / 64) e)) ∙ found.1.1,
+              ),
+            )
       ];
     }
 
@@ -112,9 +117,14 @@ summary_removed old words n is there none =
             ∙ get_or-set_same words (n / 64) false false long in
             absurd (cc)
         | inr other ↦
-            let found = is.met w (sym (get_or-set_other words (n / 64) w false false other) ∙ here) in
-            (found.0, (found.1.0, get_or-set_other old n found.0 false false
-            (λ e. other (sym found.1.0 ∙ ap (λ (j : ℕ). j / 64) e)) ∙ found.1.1))
+            let found = is.met w (sym (get_or-set_other words (n / 64) w false false other) ∙ here) in (
+              found.0,
+              (
+                found.1.0,
+                get_or-set_other old n found.0 false false
+                    (λ e. other (sym found.1.0 ∙ ap (λ (j : ℕ). j / 64) e)) ∙ found.1.1,
+              ),
+            )
       ];
     }
 
@@ -210,52 +220,52 @@ summary_gone old words old' words' n None is there e e' none found =
 module _ (pages words groups pages' : List Bool) (n : ℕ) (r : Option ℕ) (is : AreLevels pages words groups)
     (there : n < length pages) (e_pages : pages' ≡ set pages n false)
     (first : MatchOption r (HasNone pages' (n / 64 * 64) (n / 64 * 64 / 64 * 64 + 64)) (IsFirstFrom pages' (n / 64 * 64)))
-    where
-  few' : length pages' ≤ MAX_PAGES
-  few' = let few = is.few in omega (arith, length-set pages n false, ap length e_pages)
+  where
+    few' : length pages' ≤ MAX_PAGES
+    few' = let few = is.few in omega (arith, length-set pages n false, ap length e_pages)
 
-  there' : n / 64 < length words
-  there' = word_below pages words n is.by_word there
+    there' : n / 64 < length words
+    there' = word_below pages words n is.by_word there
 
-  pub levels_kept : is_some r ≡ true → IfSome r (λ m. m / 64 ≡ n / 64 * 64 / 64) → AreLevels pages' words groups
-  levels_kept some within = record {
-    few = few';
-    fewer = is.fewer;
-    by_word = summary_left pages words pages' n r is.by_word there e_pages some first within;
-    by_group = is.by_group;
-    one_word = is.one_word;
-  }
-
-  module _ (words' : List Bool) (r' : Option ℕ) (none : is_some r ≡ false) (e_words : words' ≡ set words (n / 64) false)
-      (first' : MatchOption r' (HasNone words' (n / 64 / 64 * 64) (n / 64 / 64 * 64 / 64 * 64 + 64))
-      (IsFirstFrom words' (n / 64 / 64 * 64)))
-      where
-    by_word' : IsSummary pages' words'
-    by_word' = summary_gone pages words pages' words' n r is.by_word there e_pages e_words none first
-
-    fewer' : length words' ≤ MAX_PAGES
-    fewer' = let fewer = is.fewer in omega (arith, length-set words (n / 64) false, ap length e_words)
-
-    pub levels_word_less : is_some r' ≡ true → IfSome r' (λ m. m / 64 ≡ n / 64 / 64 * 64 / 64)
-        → AreLevels pages' words' groups
-    levels_word_less some within = record {
+    pub levels_kept : is_some r ≡ true → IfSome r (λ m. m / 64 ≡ n / 64 * 64 / 64) → AreLevels pages' words groups
+    levels_kept some within = record {
       few = few';
-      fewer = fewer';
-      by_word = by_word';
-      by_group = summary_left words groups words' (n / 64) r' is.by_group there' e_words some first' within;
+      fewer = is.fewer;
+      by_word = summary_left pages words pages' n r is.by_word there e_pages some first within;
+      by_group = is.by_group;
       one_word = is.one_word;
     }
 
-    pub levels_group_less : (groups' : List Bool) → is_some r' ≡ false → groups' ≡ set groups (n / 64 / 64) false
-        → AreLevels pages' words' groups'
-    levels_group_less groups' none' e_groups = record {
-      few = few';
-      fewer = fewer';
-      by_word = by_word';
-      by_group =
-          summary_gone words groups words' groups' (n / 64) r' is.by_group there' e_words e_groups none' first';
-      one_word = let one = is.one_word in omega (arith, length-set groups (n / 64 / 64) false, ap length e_groups);
-    }
+    module _ (words' : List Bool) (r' : Option ℕ) (none : is_some r ≡ false) (e_words : words' ≡ set words (n / 64) false)
+        (first' : MatchOption r' (HasNone words' (n / 64 / 64 * 64) (n / 64 / 64 * 64 / 64 * 64 + 64))
+        (IsFirstFrom words' (n / 64 / 64 * 64)))
+      where
+        by_word' : IsSummary pages' words'
+        by_word' = summary_gone pages words pages' words' n r is.by_word there e_pages e_words none first
+
+        fewer' : length words' ≤ MAX_PAGES
+        fewer' = let fewer = is.fewer in omega (arith, length-set words (n / 64) false, ap length e_words)
+
+        pub levels_word_less : is_some r' ≡ true → IfSome r' (λ m. m / 64 ≡ n / 64 / 64 * 64 / 64)
+            → AreLevels pages' words' groups
+        levels_word_less some within = record {
+          few = few';
+          fewer = fewer';
+          by_word = by_word';
+          by_group = summary_left words groups words' (n / 64) r' is.by_group there' e_words some first' within;
+          one_word = is.one_word;
+        }
+
+        pub levels_group_less : (groups' : List Bool) → is_some r' ≡ false → groups' ≡ set groups (n / 64 / 64) false
+            → AreLevels pages' words' groups'
+        levels_group_less groups' none' e_groups = record {
+          few = few';
+          fewer = fewer';
+          by_word = by_word';
+          by_group =
+              summary_gone words groups words' groups' (n / 64) r' is.by_group there' e_words e_groups none' first';
+          one_word = let one = is.one_word in omega (arith, length-set groups (n / 64 / 64) false, ap length e_groups);
+        }
 
 -- ---- the answer of a search
 

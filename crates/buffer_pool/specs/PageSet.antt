@@ -1,5 +1,5 @@
 -- Sets of numbers: of each number below a bound, whether it is a member.
-use Rattle.std.specs.Prelude.{ℕ, ◌≡◌, ◌+◌, ◌*◌, ◌/◌, ◌<◌, ◌≤◌, Bool, true, false, List, length}
+use Rattle.std.specs.Prelude.{ℕ, ◌≡◌, ◌*◌, ◌/◌, ◌<◌, ◌≤◌, Bool, true, false, List, length}
 use Rattle.std.specs.Prelude.{slice_index_or}
 use Rattle.page_core.specs.declared.page.TheConstants.{MAX_PAGES}
 

@@ -1,8 +1,7 @@
-use Rattle.std.proofs.Common.{◌≡◌, ◌∙◌, List, [], ap, subst, sym}
+use Rattle.std.proofs.Common.{◌≡◌, ◌∙◌, List, ap, subst, sym}
 use Rattle.std.specs.List.{All, Contains}
 use Rattle.log_records.specs.Coverage.{next_dirty}
 use Rattle.log_records.specs.declared.dirty_page.DirtyPage.{DirtyPage}
-use Rattle.buffer_pool.specs.PageStates.{dirty_in}
 use Rattle.buffer_pool.specs.Pool.{unwritten}
 use Rattle.buffer_pool.proofs.Dirty.{next_empty, next_named, next_passed, table_is}
 use Rattle.buffer_pool.proofs.laws.next_dirty_pages_pass_over_none.Goals as goal

@@ -1,5 +1,4 @@
 use Rattle.std.proofs.Common.{◌≡◌, ◌∙◌, ◌+◌, ◌*◌, ◌/◌, ◌%◌, ◌^◌, ◌<◌, ◌≤◌, ℕ, List, Bool, length, get_or, ap, sym, subst, arith}
-use Rattle.std.proofs.lemmas.List.{get_or_read}
 use Rattle.std.specs.Prelude.{Option, MatchOption}
 use Rattle.std.specs.Int.{trailing_zeros}
 use mir.Syntax.{w64}
