@@ -1,7 +1,7 @@
 //! Bits in a row.
 
-ghost use Rattle.std.specs.Prelude.{◌≡◌, ◌+◌, ◌*◌, ◌/◌, ◌<◌, ◌≤◌, length, replicate, slice_set, IfOk};
-ghost use Rattle.std.specs.Prelude.{true, false, IfSome, MatchOption};
+ghost use Rattle.std.specs.Prelude.{◌≡◌, ◌+◌, ◌*◌, ◌/◌, ◌<◌, length, replicate, slice_set};
+ghost use Rattle.std.specs.Prelude.{true, false, IfOk, IfSome, MatchOption};
 ghost use Rattle.buffer_pool.specs.PageSet.{HasNone, IsFirstFrom};
 
 use std::alloc::{AllocError, Global};

@@ -94,7 +94,8 @@ fn first_of(row: &BitRow, summary: &BitRow, from: u32) -> Option<u32>
     requires few { length row.now ≤ MAX_PAGES }
     requires summary { IsSummary row.now summary.now }
     requires one_word { length summary.now ≤ WORD }
-    ensures { MatchOption result (HasNone row.now from (length row.now)) (IsFirstFrom row.now from) }
+    ensures { MatchOption result (HasNone row.now from (length row.now))
+        (IsFirstFrom row.now from) }
 {
     if let Some(found) = row.first_in_word(from) {
         return Some(found);
