@@ -105,16 +105,19 @@ bits_set words n w v there is =
     in_word : (k : ℕ) (d : Bool) → k < length (bits_of words) → n < length (bits_of words) → k / 64 ≡ n / 64
         → cond (eqb (k % 64) (n % 64)) v (eqb (bit_at (get_or words (n / 64) 0) (k % 64)) 1)
         ≡ get_or (set (bits_of words) n v) k d
-    in_word k d below within same = elim (cases_eq (k % 64) (n % 64)) [
-      | inl equal ↦
-          let all : k ≡ n = omega arith in
-          ap (λ (t : Bool). cond t v (eqb (bit_at (get_or words (n / 64) 0) (k % 64)) 1)) (eq-eqb (k % 64) (n % 64) equal)
-          ∙ sym (ap (λ (j : ℕ). get_or (set (bits_of words) n v) j d) all ∙ get_or-set_same (bits_of words) n v d within)
-      | inr unequal ↦
-          ap (λ (t : Bool). cond t v (eqb (bit_at (get_or words (n / 64) 0) (k % 64)) 1)) (ne_eqb (k % 64) (n % 64) unequal)
-          ∙ ap (λ (j : ℕ). eqb (bit_at (get_or words j 0) (k % 64)) 1) (sym same)
-          ∙ kept k d below (λ e. unequal (ap (λ (j : ℕ). j % 64) e))
-    ]
+    in_word k d below within same =
+        let old = bit_at (get_or words (n / 64) 0) (k % 64) in
+        elim (cases_eq (k % 64) (n % 64)) [
+          | inl equal ↦
+              let all : k ≡ n = omega arith in
+              ap (λ (t : Bool). cond t v (eqb old 1)) (eq-eqb (k % 64) (n % 64) equal)
+              ∙ sym (ap (λ (j : ℕ). get_or (set (bits_of words) n v) j d) all
+              ∙ get_or-set_same (bits_of words) n v d within)
+          | inr unequal ↦
+              ap (λ (t : Bool). cond t v (eqb old 1)) (ne_eqb (k % 64) (n % 64) unequal)
+              ∙ ap (λ (j : ℕ). eqb (bit_at (get_or words j 0) (k % 64)) 1) (sym same)
+              ∙ kept k d below (λ e. unequal (ap (λ (j : ℕ). j % 64) e))
+        ]
 
     at : (k : ℕ) (d : Bool) → k < length (bits_of words) → n / 64 < length words → n < length (bits_of words)
         → bit (set words (n / 64) w) k ≡ get_or (set (bits_of words) n v) k d
@@ -144,6 +147,11 @@ bits_removed words n x there read =
     ∙ ap (λ (w : ℕ). cond (eqb i (n % 64)) false (eqb (bit_at w i) 1)) read)
 
 -- ---- the first bit of a word from a number on
+
+-- a word that was read of a slice of them all
+pub was_read : (words slice : List ℕ) (i x : ℕ) → slice ≡ words → ((d : ℕ) → x ≡ get_or slice i d)
+    → x ≡ get_or words i 0
+was_read words slice i x same read = read 0 ∙ ap (λ (xs : List ℕ). get_or xs i 0) same
 
 -- a bit of what is left of a word
 bit_at_shr : (w b k : ℕ) → bit_at (w / 2 ^ b) k ≡ bit_at w (b + k)

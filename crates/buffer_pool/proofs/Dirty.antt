@@ -6,7 +6,8 @@ use Rattle.std.specs.List.{All, Contains, cons_option, filter, filter_map, range
 use Rattle.std.specs.Option.{option_map}
 use Rattle.std.proofs.lemmas.Bool.{cases_eq, cases_lt, le-leb, leb-true, lt-leb}
 use Rattle.std.proofs.lemmas.List.{get_or-map, length-map, length-take}
-use Rattle.std.proofs.lemmas.List.Elements.{All-cons, All-contains, All-filter, All-nil, All-take, All-weaker, filter_passes}
+use Rattle.std.proofs.lemmas.List.Elements.{All-cons, All-contains, All-filter, All-nil}
+use Rattle.std.proofs.lemmas.List.Elements.{All-take, All-weaker, filter_passes}
 use Rattle.log_records.specs.Log.{Log}
 use Rattle.log_records.specs.Coverage.{dirty, next_dirty, rec_lsn}
 use Rattle.log_records.specs.declared.dirty_page.DirtyPage.{DirtyPage}
@@ -210,9 +211,11 @@ cons_more x xs y has = let lt = has.1 in (suc has.0, omega arith, has.2)
 kept_above : (from a lsn : ℕ) (rest : List DirtyPage) → from ≤ a
     → above from (cons_option (entry a (Some lsn)) rest) ≡ record { page = a; rec_lsn = lsn } ∷ above from rest
 kept_above from a lsn rest le =
-    ap (λ (b : Bool). cond b (record { page = a; rec_lsn = lsn } ∷ above from rest) (above from rest)) (le-leb from a le)
+    ap (λ (b : Bool). cond b (record { page = a; rec_lsn = lsn } ∷ above from rest) (above from rest))
+    (le-leb from a le)
 
-module _ (states : List PageState) (from p lsn : ℕ) (le : from ≤ p) (dirty : (state_in states p).rec_lsn ≡ Some lsn) where
+module _ (states : List PageState) (from p lsn : ℕ) (le : from ≤ p)
+    (dirty : (state_in states p).rec_lsn ≡ Some lsn) where
   mine : DirtyPage
   mine = record { page = p; rec_lsn = lsn }
 
@@ -238,7 +241,8 @@ module _ (states : List PageState) (from p lsn : ℕ) (le : from ≤ p) (dirty :
       behind None rest = rest
       behind (Some l) rest = elim (cases_lt a from) [
         | inl below ↦
-            subst (λ (es : List DirtyPage). Contains es mine) (sym (one_above from a (Some l) (entries states (a + 1) n) below))
+            subst (λ (es : List DirtyPage). Contains es mine)
+            (sym (one_above from a (Some l) (entries states (a + 1) n) below))
             rest
         | inr on ↦
             subst (λ (es : List DirtyPage). Contains es mine) (sym (kept_above from a l (entries states (a + 1) n) on))
@@ -269,8 +273,11 @@ module _ (states : List PageState) (from p lsn : ℕ) (le : from ≤ p) (dirty :
     passes a zero low = passes_none
     passes a (suc n) low = elim (cases_eq a p) [
       | inl same ↦
-          subst Passes (sym (first_here a (entries states (a + 1) n) same)) (passes_here (above from (entries states (a + 1) n)))
-      | inr other ↦ let lower : a < p = omega arith in behind (state_in states a).rec_lsn lower (passes (a + 1) n (omega arith))
+          subst Passes (sym (first_here a (entries states (a + 1) n) same))
+          (passes_here (above from (entries states (a + 1) n)))
+      | inr other ↦
+          let lower : a < p = omega arith in
+          behind (state_in states a).rec_lsn lower (passes (a + 1) n (omega arith))
     ]
       where
         behind : (o : Option ℕ) → a < p → Passes (above from (entries states (a + 1) n))
@@ -284,8 +291,8 @@ module _ (states : List PageState) (from p lsn : ℕ) (le : from ≤ p) (dirty :
         ]
 
 -- each of the next is dirty, and from the cursor on
-pub next_named : (states : List PageState) (cursor : ℕ) (e : DirtyPage) → Contains (next_dirty (dirty_in states) cursor) e
-    → IsEntryOf states cursor e
+pub next_named : (states : List PageState) (cursor : ℕ) (e : DirtyPage)
+    → Contains (next_dirty (dirty_in states) cursor) e → IsEntryOf states cursor e
 next_named states cursor e has =
     let all = all_entries states 0 (length states) in
     let test = λ (x : DirtyPage). nat_le cursor x.page in
@@ -294,8 +301,8 @@ next_named states cursor e has =
     (All-filter test (IsEntryIn states 0 (length states)) (dirty_in states) all)) has in
     let on : nat_le cursor e.page ≡ true =
     All-contains (λ x. nat_le cursor x.page ≡ true) (next_dirty (dirty_in states) cursor) e
-    (All-take (λ x. nat_le cursor x.page ≡ true) 3 (above cursor (dirty_in states)) (filter_passes test (dirty_in states)))
-    has in
+    (All-take (λ x. nat_le cursor x.page ≡ true) 3 (above cursor (dirty_in states))
+    (filter_passes test (dirty_in states))) has in
     let high = is.1.0 in
     record { later = leb-true cursor e.page on; within = omega arith; is_dirty = is.1.1 }
 

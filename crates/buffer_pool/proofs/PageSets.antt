@@ -219,7 +219,8 @@ summary_gone old words old' words' n None is there e e' none found =
 
 module _ (pages words groups pages' : List Bool) (n : ℕ) (r : Option ℕ) (is : AreLevels pages words groups)
     (there : n < length pages) (e_pages : pages' ≡ set pages n false)
-    (first : MatchOption r (HasNone pages' (n / 64 * 64) (n / 64 * 64 / 64 * 64 + 64)) (IsFirstFrom pages' (n / 64 * 64)))
+    (first : MatchOption r (HasNone pages' (n / 64 * 64) (n / 64 * 64 / 64 * 64 + 64))
+    (IsFirstFrom pages' (n / 64 * 64)))
   where
     few' : length pages' ≤ MAX_PAGES
     few' = let few = is.few in omega (arith, length-set pages n false, ap length e_pages)
@@ -236,7 +237,8 @@ module _ (pages words groups pages' : List Bool) (n : ℕ) (r : Option ℕ) (is 
       one_word = is.one_word;
     }
 
-    module _ (words' : List Bool) (r' : Option ℕ) (none : is_some r ≡ false) (e_words : words' ≡ set words (n / 64) false)
+    module _ (words' : List Bool) (r' : Option ℕ) (none : is_some r ≡ false)
+        (e_words : words' ≡ set words (n / 64) false)
         (first' : MatchOption r' (HasNone words' (n / 64 / 64 * 64) (n / 64 / 64 * 64 / 64 * 64 + 64))
         (IsFirstFrom words' (n / 64 / 64 * 64)))
       where

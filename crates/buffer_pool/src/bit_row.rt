@@ -40,8 +40,7 @@ impl BitRow {
         requires { number < length self.old }
         ensures { self.new ≡ slice_set self.old number true }
     {
-        let word = &mut self.words[(number / WORD) as usize];
-        *word = *word | 1 << (number % WORD);
+        self.words[(number / WORD) as usize] |= 1 << (number % WORD);
     }
 
     /// Clears a bit.
@@ -49,8 +48,7 @@ impl BitRow {
         requires { number < length self.old }
         ensures { self.new ≡ slice_set self.old number false }
     {
-        let word = &mut self.words[(number / WORD) as usize];
-        *word = *word & !(1 << (number % WORD));
+        self.words[(number / WORD) as usize] &= !(1 << (number % WORD));
     }
 
     /// The first bit from a number on that is set in that number's word.

@@ -45,8 +45,8 @@ returns-then-is_some c =
     is_changed s.last_writes.items s.rec_lsns s.images.items s.first_changes.items c.args.self.now n
     c.self.view_is c.requires c.self.invariant lsn c.note.new.self (set s.first_changes.items m now)
     c.note.ensures
-    (put_at s.first_changes.items m n now (cond (is_some (get_or s.images.items n None)) (Some (unwrap_or since lsn)) since)
-    c.number.view_is
+    (put_at s.first_changes.items m n now
+    (cond (is_some (get_or s.images.items n None)) (Some (unwrap_or since lsn)) since) c.number.view_is
     (c.note_first.ensures ∙ ap (λ (o : Option ℕ). Some (unwrap_or o lsn))
     (read_at s.first_changes.items m n c.index_mut.result.now None c.index_mut.ensures.value
     at.in_firsts c.number.view_is)
@@ -68,5 +68,6 @@ returns-else-is_some c =
     ∙ sym c.is_some.ensures ∙ c.if-is_some.false in
     is_changed s.last_writes.items s.rec_lsns s.images.items s.first_changes.items c.args.self.now n
     c.self.view_is c.requires c.self.invariant lsn c.note.new.self s.first_changes.items c.note.ensures
-    (kept s.first_changes.items n (cond (is_some (get_or s.images.items n None)) (Some (unwrap_or since lsn)) since) None
+    (kept s.first_changes.items n
+    (cond (is_some (get_or s.images.items n None)) (Some (unwrap_or since lsn)) since) None
     (ap (λ (b : Bool). cond b (Some (unwrap_or since lsn)) since) test))

@@ -48,8 +48,8 @@ returns c =
     let at =
     places s.last_writes.items s.rec_lsns s.images.items s.first_changes.items c.args.self.now
     c.number.inside.0 c.args.number c.self.view_is c.self.invariant c.requires c.number.view_is in
-    is_ended s.last_writes.items s.rec_lsns s.images.items s.first_changes.items c.args.self.now c.args.number c.self.view_is
-    c.requires c.self.invariant c.number.inside.0 c.args.lsn c.replace.new.self c.number.view_is
+    is_ended s.last_writes.items s.rec_lsns s.images.items s.first_changes.items c.args.self.now c.args.number
+    c.self.view_is c.requires c.self.invariant c.number.inside.0 c.args.lsn c.replace.new.self c.number.view_is
     (c.replace.ensures ∙ ap (set s.rec_lsns c.args.number)
     (read_at s.first_changes.items c.number.inside.0 c.args.number c.index.result.now None c.index.ensures at.in_firsts
     c.number.view_is))
