@@ -23,7 +23,8 @@ returns-then-rest-eq0-clause-first c =
     let words = c.self.inside.words.items in
     let from = c.args.from in
     let word = c.in_ok-word.field-0.now in
-    let read = was_read words c.deref.result.now (from / 64) word c.deref.ensures.value c.in_ok-word.ensures.lookup.3.1 in
+    let slice = c.deref.result.now in
+    let read = was_read words slice (from / 64) word c.deref.ensures.value c.in_ok-word.ensures.lookup.3.1 in
     subst (λ (xs : List Bool). HasNone xs from (from / 64 * 64 + 64)) c.self.view_is
     (none_in_word words from word read c.if-rest-eq0.true)
 
@@ -40,7 +41,8 @@ returns-clause-first c =
     let words = c.self.inside.words.items in
     let from = c.args.from in
     let word = c.in_ok-word.field-0.now in
-    let read = was_read words c.deref.result.now (from / 64) word c.deref.ensures.value c.in_ok-word.ensures.lookup.3.1 in
+    let slice = c.deref.result.now in
+    let read = was_read words slice (from / 64) word c.deref.ensures.value c.in_ok-word.ensures.lookup.3.1 in
     subst (λ (xs : List Bool). IsFirstFrom xs from (from + trailing_zeros w64 (word / 2 ^ (from % 64))))
     c.self.view_is (first_in_word words from word read (fits c) (omega arith))
 
