@@ -1,15 +1,17 @@
 -- The states of the pages, and the columns of the table that they are kept in.
 use Rattle.std.proofs.Common.{◌≡◌, ℕ, ◌<◌, List, length, get_or, set, map, refl, sym, ap, ◌∙◌, arith}
 use Rattle.std.proofs.Common.{inl, inr, replicate}
-use Rattle.std.specs.Prelude.{Option, Some, None, is_some, if◌then◌else◌}
+use Rattle.std.specs.Prelude.{Option, Some, None, MatchOption, is_some, if◌then◌else◌}
 use Rattle.std.specs.Option.{unwrap_or}
 use Rattle.std.proofs.lemmas.Bool.{cases_eq}
 use Rattle.std.proofs.lemmas.List.{get_or-map, get_or-set_other, get_or-set_same, get_or_read, get_or-replicate, length-map, length-replicate}
 use Rattle.std.proofs.lemmas.List.{length-set, same_lists, set-get_or}
 use Rattle.std.proofs.lemmas.List.FromFn.{get_or-map-range_with_len, length-map-range_with_len}
 use Rattle.page_core.specs.declared.page.Page.{Page}
-use Rattle.buffer_pool.specs.PageStates.{AreColumns, states_of}
+use Rattle.log_records.specs.declared.dirty_page.DirtyPage.{DirtyPage}
+use Rattle.buffer_pool.specs.PageStates.{AreClean, AreColumns, IsFirstDirty, states_of}
 use Rattle.buffer_pool.specs.Pool.{PageState, changed, state_in, unwritten, write_begun, write_ended}
+use Rattle.buffer_pool.specs.RecLsns.{HasNoneDirty, IsFirstEntry}
 
 -- a row of the table
 abbrev pub row : List ℕ → List (Option ℕ) → List (Option Page) → List (Option ℕ) → ℕ → PageState
@@ -152,16 +154,15 @@ module _ (written : List ℕ) (rec_lsns : List (Option ℕ)) (images : List (Opt
   unfolding old
   state = state_is written rec_lsns images firsts states n view there
 
-  pub is_changed : (m lsn : ℕ) (x : Option ℕ) (firsts' : List (Option ℕ)) → m ≡ n
-      → x ≡ Some (unwrap_or (get_or rec_lsns n None) lsn)
+  pub is_changed : (lsn : ℕ) (rec_lsns' firsts' : List (Option ℕ))
+      → rec_lsns' ≡ set rec_lsns n (Some (unwrap_or (get_or rec_lsns n None) lsn))
       → firsts' ≡ set firsts n (if is_some (get_or images n None) then Some (unwrap_or (get_or firsts n None) lsn)
       else get_or firsts n None)
-      → states_of written (set rec_lsns m x) images firsts' ≡ set states n (changed (state_in states n) lsn)
+      → states_of written rec_lsns' images firsts' ≡ set states n (changed (state_in states n) lsn)
   unfolding old
-  is_changed m lsn x firsts' same first since =
-      set_is written (set rec_lsns m x) images firsts' (changed old lsn) (kept written n (get_or written n 0) 0 refl)
-      (put_at rec_lsns m n x (Some (unwrap_or (get_or rec_lsns n None) lsn)) same first)
-      (kept images n (get_or images n None) None refl) since
+  is_changed lsn rec_lsns' firsts' first since =
+      set_is written rec_lsns' images firsts' (changed old lsn) (kept written n (get_or written n 0) 0 refl)
+      first (kept images n (get_or images n None) None refl) since
       ∙ ap (λ (s : PageState). set states n (changed s lsn)) (sym state)
 
   pub is_begun : (m : ℕ) (q : Page) → m ≡ n
@@ -174,15 +175,44 @@ module _ (written : List ℕ) (rec_lsns : List (Option ℕ)) (images : List (Opt
       (put_at images m n (Some q) (Some q) same refl) (put_at firsts m n None None same refl)
       ∙ ap (λ (s : PageState). set states n (write_begun s q)) (sym state)
 
-  pub is_ended : (m lsn : ℕ) (x : Option ℕ) → m ≡ n → x ≡ get_or firsts n None
-      → states_of (set written m lsn) (set rec_lsns m x) (set images m None) (set firsts m None)
+  pub is_ended : (m lsn : ℕ) (rec_lsns' : List (Option ℕ)) → m ≡ n → rec_lsns' ≡ set rec_lsns n (get_or firsts n None)
+      → states_of (set written m lsn) rec_lsns' (set images m None) (set firsts m None)
       ≡ set states n (write_ended (state_in states n) lsn)
   unfolding old
-  is_ended m lsn x same first =
-      set_is (set written m lsn) (set rec_lsns m x) (set images m None) (set firsts m None) (write_ended old lsn)
-      (put_at written m n lsn lsn same refl) (put_at rec_lsns m n x (get_or firsts n None) same first)
+  is_ended m lsn rec_lsns' same first =
+      set_is (set written m lsn) rec_lsns' (set images m None) (set firsts m None) (write_ended old lsn)
+      (put_at written m n lsn lsn same refl) first
       (put_at images m n None None same refl) (put_at firsts m n None None same refl)
       ∙ ap (λ (s : PageState). set states n (write_ended s lsn)) (sym state)
+
+-- ---- which of them are dirty
+
+-- no page, or the first, that the column of RecLSNs says
+pub first_is : (written : List ℕ) (rec_lsns : List (Option ℕ)) (images : List (Option Page)) (firsts : List (Option ℕ))
+    (states : List PageState) (from : ℕ) (r : Option DirtyPage) → states_of written rec_lsns images firsts ≡ states
+    → length rec_lsns ≡ length written
+    → MatchOption r (HasNoneDirty rec_lsns from (length rec_lsns)) (IsFirstEntry rec_lsns from)
+    → MatchOption r (AreClean states from (length states)) (IsFirstDirty states from)
+first_is written rec_lsns images firsts states from r view long first = of_column r first
+  where
+    count : length rec_lsns ≡ length states
+    count = long ∙ count_is written rec_lsns images firsts states view
+
+    at : (p : ℕ) → p < length states → (state_in states p).rec_lsn ≡ get_or rec_lsns p None
+    at p lt = ap (λ (s : PageState). s.rec_lsn) (state_is written rec_lsns images firsts states p view lt)
+
+    of_column : (r : Option DirtyPage)
+        → MatchOption r (HasNoneDirty rec_lsns from (length rec_lsns)) (IsFirstEntry rec_lsns from)
+        → MatchOption r (AreClean states from (length states)) (IsFirstDirty states from)
+    of_column None none = λ p le lt. at p lt ∙ none p le (omega (arith, count))
+    of_column (Some e) found =
+        let within = found.within in
+        record {
+          later = found.later;
+          within = omega (arith, count);
+          is_dirty = at e.page (omega (arith, count)) ∙ found.is_dirty;
+          first = λ p le lt. at p (omega (arith, count)) ∙ found.first p le lt;
+        }
 
 -- ---- the columns of a new table
 

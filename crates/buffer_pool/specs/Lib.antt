@@ -1,2 +1,5 @@
+pub mod BitRow
+pub mod PageSet
 pub mod PageStates
 pub mod Pool
+pub mod RecLsns

@@ -8,7 +8,8 @@ use Rattle.page_core.specs.declared.page.TheConstants.{MAX_PAGES}
 use Rattle.page_core.specs.Volume.{AreNumbered, formatted_pages}
 use Rattle.log_records.specs.Image.{image}
 use Rattle.log_records.specs.Log.{IsLog, Log, lsn_of}
-use Rattle.log_records.specs.Coverage.{AreStored, rec_lsn}
+use Rattle.log_records.specs.Coverage.{AreStored, dirty, next_dirty, rec_lsn}
+use Rattle.log_records.specs.declared.dirty_page.DirtyPage.{DirtyPage}
 
 -- what a pool knows of a page beside its content: the LSN of its last write, its RecLSN where it is
 -- dirty, and, while it is being written, the image and the LSN of the first change since
@@ -65,6 +66,16 @@ pub record IsPoolOf {S : Type 0} (stored_in : S → List Page) (log : Log)
       → IsStateOf log p (slice_index_or pool.states p d)
   pub stored : AreStored log.records (stored_in pool.store) (written_of pool.states)
       (writing_of pool.states)
+
+-- the next dirty pages from a number on: at most three
+abbrev pub next_in : {S : Type 0} → Log → PoolView S → ℕ → List DirtyPage
+next_in log pool cursor = next_dirty (dirty log.records (written_of pool.states)) cursor
+
+-- the entry is that of a dirty page from a number on
+pub record IsEntryOf (states : List PageState) (cursor : ℕ) (e : DirtyPage) : Type 0 where
+  pub later : cursor ≤ e.page
+  pub within : e.page < length states
+  pub is_dirty : (state_in states e.page).rec_lsn ≡ Some e.rec_lsn
 
 -- ---- what changes
 

@@ -1,11 +1,14 @@
 //! What the state of a page says of the page that is stored.
 
-ghost use Rattle.std.specs.Prelude.{ℕ, ◌≡◌, ◌<◌, length, slice_index_or, None, Some};
+ghost use Rattle.std.specs.Prelude.{ℕ, ◌≡◌, ◌≢◌, ◌<◌, ◌≤◌, [], length, slice_index_or, None};
+ghost use Rattle.std.specs.Prelude.{Some};
+ghost use Rattle.std.specs.List.{All, Contains};
 ghost use Rattle.log_records.specs.Coverage.{Covers};
 ghost use Rattle.log_records.specs.Image.{image};
 ghost use Rattle.log_records.specs.Log.{Log};
 ghost use Rattle.page_core.specs.declared.page.Page.{Page};
-ghost use Rattle.buffer_pool.specs.Pool.{IsPoolOf, PoolView, state_at};
+ghost use Rattle.log_records.specs.declared.dirty_page.DirtyPage.{DirtyPage};
+ghost use Rattle.buffer_pool.specs.Pool.{IsEntryOf, IsPoolOf, PoolView, next_in, state_at};
 
 use page_store::PageStore;
 
@@ -20,4 +23,22 @@ pub fn stored_pages_cover_their_rec_lsns<S: PageStore>()
         → IsPoolOf S.stored log pool → number < length pool.states
         → number < length (S.stored pool.store) → (state_at pool number).rec_lsn ≡ None
         → slice_index_or (S.stored pool.store) number d ≡ image log.records number }
+{}
+
+/// The next dirty pages of a pool from a number on pass over none. Each of them is dirty as its
+/// entry says; a page that is before one of them and that none of them names is clean; and where
+/// there are none, each page from that number on is clean.
+pub fn next_dirty_pages_pass_over_none<S: PageStore>()
+    ensures named { (log : Log) (pool : PoolView S) (cursor : ℕ) (e : DirtyPage)
+        → IsPoolOf S.stored log pool → Contains (next_in log pool cursor) e
+        → IsEntryOf pool.states cursor e }
+    ensures passed { (log : Log) (pool : PoolView S) (cursor number : ℕ) (e : DirtyPage)
+        → IsPoolOf S.stored log pool → Contains (next_in log pool cursor) e
+        → cursor ≤ number → number < e.page
+        → All (λ other. other.page ≢ number) (next_in log pool cursor)
+        → (state_at pool number).rec_lsn ≡ None }
+    ensures none { (log : Log) (pool : PoolView S) (cursor number : ℕ)
+        → IsPoolOf S.stored log pool → next_in log pool cursor ≡ []
+        → cursor ≤ number → number < length pool.states
+        → (state_at pool number).rec_lsn ≡ None }
 {}

@@ -1,12 +1,15 @@
 //! The pages of a volume in memory, which of them are dirty, and their writes to a store.
 #![tactic(auto)]
 
+mod bit_row;
 mod laws;
 mod page_image;
+mod page_set;
 mod page_states;
 mod pool;
+mod rec_lsns;
 
-pub use laws::stored_pages_cover_their_rec_lsns;
+pub use laws::{next_dirty_pages_pass_over_none, stored_pages_cover_their_rec_lsns};
 pub use page_image::PageImage;
 pub use pool::Pool;
 

@@ -8,19 +8,19 @@ ghost use Rattle.buffer_pool.specs.PageStates.{AreClean, IsFirstDirty, dirty_in}
 ghost use Rattle.buffer_pool.specs.Pool.{changed, state_in, unwritten, write_begun, write_ended};
 
 use crate::page_image::PageImage;
+use crate::rec_lsns::RecLsns;
 use log_records::{DirtyPage, DirtyPages};
 use page_core::{Lsn, MAX_PAGES, PageNo};
 use std::alloc::{AllocError, Global};
 use std::marker::Model;
 
-/// The state of each page, in columns, so that a search for dirty pages goes over their RecLSNs
-/// alone.
+/// The state of each page, in columns.
 #[derive(Drop)]
 pub(crate) struct PageStates {
     /// The LSN of the last write.
     last_writes: Vec<Lsn>,
     /// The RecLSN, if the page is dirty.
-    rec_lsns: Vec<Option<Lsn>>,
+    rec_lsns: RecLsns,
     /// The image that is being written.
     images: Vec<Option<PageImage>>,
     /// The first change since that image.
@@ -34,10 +34,10 @@ impl Model for PageStates {
 
     ghost Value = { List PageState };
 
-    ghost view = { λ it. states_of it.last_writes.items it.rec_lsns.items it.images.items
+    ghost view = { λ it. states_of it.last_writes.items it.rec_lsns it.images.items
         it.first_changes.items };
 
-    ghost invariant = { λ it. AreColumns it.last_writes.items it.rec_lsns.items it.images.items
+    ghost invariant = { λ it. AreColumns it.last_writes.items it.rec_lsns it.images.items
         it.first_changes.items };
 }
 
@@ -50,7 +50,7 @@ impl PageStates {
     {
         Ok(PageStates {
             last_writes: vec![in alloc; Lsn(0); count as usize]?,
-            rec_lsns: empty_column(alloc, count)?,
+            rec_lsns: RecLsns::new(alloc, count)?,
             images: empty_column(alloc, count)?,
             first_changes: empty_column(alloc, count)?,
         })
@@ -68,7 +68,7 @@ impl PageStates {
         requires { number < length self.now }
         ensures { result ≡ (state_in self.now number).rec_lsn }
     {
-        self.rec_lsns[number.0 as usize]
+        self.rec_lsns.of(number)
     }
 
     /// The image of a page that is being written, if it is.
@@ -87,7 +87,7 @@ impl PageStates {
         ensures { self.new ≡ slice_set self.old number (changed (state_in self.old number) lsn) }
     {
         let index = number.0 as usize;
-        note_first(&mut self.rec_lsns[index], lsn);
+        self.rec_lsns.note(number, lsn);
         if self.images[index].is_some() {
             note_first(&mut self.first_changes[index], lsn);
         }
@@ -113,7 +113,7 @@ impl PageStates {
     {
         let index = number.0 as usize;
         self.last_writes[index] = lsn;
-        self.rec_lsns[index] = self.first_changes[index];
+        self.rec_lsns.replace(number, self.first_changes[index]);
         self.images[index] = None;
         self.first_changes[index] = None;
     }
@@ -140,15 +140,7 @@ impl PageStates {
             (IsFirstDirty self.now from) }
         ensures fits { IfSome result (λ e. e.page < u32.MAX) }
     {
-        for page in from..self.count() {
-            if let Some(rec_lsn) = self.rec_lsn(PageNo(page)) {
-                return Some(DirtyPage {
-                    page,
-                    rec_lsn: rec_lsn.0,
-                });
-            }
-        }
-        None
+        self.rec_lsns.first_from(from)
     }
 }
 

@@ -5,12 +5,33 @@ ghost use Rattle.log_records.specs.Log.{IsPageCount};
 
 use crate::Pool;
 use log_records::{DirtyPage, DirtyPages, Record};
-use page_core::{Change, Lsn, Page, PageNo, SlotNo, TxnNo};
-use page_store::{FaultyStore, MemStore, PageStore, StoreFault};
-use std::alloc::Global;
+use page_core::{Change, Lsn, PageNo, SlotNo, TxnNo};
+use page_store::{FaultyStore, MemStore, PageStore};
+use std::alloc::{AllocError, Global};
 use std::marker::Model;
 use std::process::Abort;
-use std::test::Fail;
+
+/// A call, and what it is to answer.
+#[derive(Clone, Copy, Debug)]
+enum Row {
+    /// The next record sets slot 0 of a page to a number.
+    Set(u32, u64),
+    /// So does one of each page, in their order.
+    SetEach(u64),
+    /// The LSN of a page as it is now, and the number in its slot 0.
+    Current(u32, u64, u64),
+    /// The RecLSN of a page, and whether it is being written.
+    State(u32, Option<u64>, bool),
+    /// The LSN of the image.
+    WriteBegin(u32, u64),
+    /// The LSN of the image, or `None` at a fault.
+    WriteEnd(u32, Option<u64>),
+    /// The LSN of the stored page and the number in its slot 0, or `None` at a fault.
+    Stored(u32, Option<(u64, u64)>),
+    DirtyFrom(u32, Option<DirtyPages>),
+    /// How many calls it takes to go over all dirty pages, and how many these are.
+    Walk(u32, u32),
+}
 
 /// A pool that follows a log, and how many records the log has.
 #[derive(Drop)]
@@ -43,9 +64,8 @@ impl<S: PageStore> Play<S> {
         self.records = 1;
     }
 
-    /// The next record sets slot 0 of a page to a number.
     fn set(&mut self, rt: &impl Abort, page: u32, number: u64) {
-        assert!(rt; 1 <= self.records && self.records < 100 && page < self.pool.pages());
+        assert!(rt; 1 <= self.records && self.records < 1_000_000 && page < self.pool.pages());
         self.pool.change(&Record::Update {
             lsn: Lsn(64 * (self.records + 1)),
             txn: TxnNo(1),
@@ -60,42 +80,98 @@ impl<S: PageStore> Play<S> {
         self.records += 1;
     }
 
-    fn write_begin(&mut self, rt: &impl Abort, page: u32) -> Result<Lsn, Fail> {
-        assert!(rt; page < self.pool.pages() && !self.pool.is_writing(PageNo(page)));
-        let image = self.pool.image_of(PageNo(page))?;
-        Ok(self.pool.write_begin(image))
-    }
-
-    fn write_end(&mut self, rt: &impl Abort, page: u32) -> Result<Lsn, StoreFault> {
-        assert!(rt; page < self.pool.pages() && self.pool.is_writing(PageNo(page)));
-        self.pool.write_end(PageNo(page))
-    }
-
-    fn stored(&mut self, rt: &impl Abort, page: u32) -> Result<Page, StoreFault> {
-        assert!(rt; page < self.pool.pages());
-        self.pool.stored(PageNo(page))
-    }
-
-    fn rec_lsn(&self, rt: &impl Abort, page: u32) -> Option<Lsn> {
-        assert!(rt; page < self.pool.pages());
-        self.pool.rec_lsn(PageNo(page))
-    }
-
-    fn is_writing(&self, rt: &impl Abort, page: u32) -> bool {
-        assert!(rt; page < self.pool.pages());
-        self.pool.is_writing(PageNo(page))
-    }
-
-    /// The LSN of a page as it is now, and the number in its slot 0.
-    fn current(&self, rt: &impl Abort, page: u32) -> (Lsn, u64) {
+    fn current(&self, rt: &impl Abort, page: u32) -> (u64, u64) {
         assert!(rt; page < self.pool.pages());
         let now = self.pool.current(PageNo(page));
-        (now.lsn, now.slots[0])
+        (now.lsn.0, now.slots[0])
+    }
+
+    fn state(&self, rt: &impl Abort, page: u32) -> (Option<u64>, bool) {
+        assert!(rt; page < self.pool.pages());
+        let rec_lsn = self.pool.rec_lsn(PageNo(page));
+        (rec_lsn.map(|lsn| lsn.0), self.pool.is_writing(PageNo(page)))
+    }
+
+    fn write_begin(&mut self, rt: &impl Abort, page: u32) -> Result<u64, AllocError> {
+        assert!(rt; page < self.pool.pages() && !self.pool.is_writing(PageNo(page)));
+        let image = self.pool.image_of(PageNo(page))?;
+        Ok(self.pool.write_begin(image).0)
+    }
+
+    fn write_end(&mut self, rt: &impl Abort, page: u32) -> Option<u64> {
+        assert!(rt; page < self.pool.pages() && self.pool.is_writing(PageNo(page)));
+        match self.pool.write_end(PageNo(page)) {
+            Ok(lsn) => Some(lsn.0),
+            Err(_) => None,
+        }
+    }
+
+    fn stored(&mut self, rt: &impl Abort, page: u32) -> Option<(u64, u64)> {
+        assert!(rt; page < self.pool.pages());
+        match self.pool.stored(PageNo(page)) {
+            Ok(stored) => Some((stored.lsn.0, stored.slots[0])),
+            Err(_) => None,
+        }
+    }
+
+    fn walk(&self, rt: &impl Abort) -> (u32, u32) {
+        let (mut cursor, mut calls, mut pages) = (0, 0, 0);
+        for _ in 0..self.pool.pages() {
+            let Some(dirty) = self.pool.dirty_from(PageNo(cursor)) else {
+                break;
+            };
+            let (first, last, count) = match dirty {
+                DirtyPages::One(a) => (a.page, a.page, 1),
+                DirtyPages::Two(a, b) => (a.page, b.page, 2),
+                DirtyPages::Three(a, _, c) => (a.page, c.page, 3),
+            };
+            assert!(rt; cursor <= first && first <= last && last < self.pool.pages());
+            assert!(rt; calls < 100_000 && pages < 100_000);
+            cursor = last + 1;
+            calls += 1;
+            pages += count;
+        }
+        assert_eq!(rt; self.pool.dirty_from(PageNo(cursor)), None);
+        (calls, pages)
+    }
+
+    fn follow(&mut self, rt: &impl Abort, row: Row) -> Result<(), AllocError> {
+        match row {
+            Row::Set(page, number) => self.set(rt, page, number),
+            Row::SetEach(number) => {
+                for page in 0..self.pool.pages() {
+                    self.set(rt, page, number);
+                }
+            }
+            Row::Current(page, lsn, number) => {
+                assert_eq!(rt; self.current(rt, page), (lsn, number), "{row:?}");
+            }
+            Row::State(page, rec_lsn, is_writing) => {
+                assert_eq!(rt; self.state(rt, page), (rec_lsn, is_writing), "{row:?}");
+            }
+            Row::WriteBegin(page, lsn) => {
+                assert_eq!(rt; self.write_begin(rt, page)?, lsn, "{row:?}");
+            }
+            Row::WriteEnd(page, lsn) => {
+                assert_eq!(rt; self.write_end(rt, page), lsn, "{row:?}");
+            }
+            Row::Stored(page, stored) => {
+                assert_eq!(rt; self.stored(rt, page), stored, "{row:?}");
+            }
+            Row::DirtyFrom(cursor, dirty) => {
+                assert_eq!(rt; self.pool.dirty_from(PageNo(cursor)), dirty, "{row:?}");
+            }
+            Row::Walk(calls, pages) => {
+                assert_eq!(rt; self.walk(rt), (calls, pages), "{row:?}");
+            }
+        }
+        Ok(())
     }
 }
 
-/// A pool of so many pages, whose log has a Begin, and whose store fails at its `k`-th call.
-fn begun(rt: &impl Abort, alloc: Global, pages: u32, k: u64) -> Result<Play<FaultyStore>, Fail>
+/// Plays rows on a new pool of so many pages, whose log has a Begin, and whose store fails at its
+/// `k`-th call.
+fn run(rt: &impl Abort, alloc: Global, pages: u32, k: u64, rows: &[Row]) -> Result<(), AllocError>
     requires { IsPageCount pages }
 {
     let store = FaultyStore::new(alloc, MemStore::new(alloc, pages)?, k)?;
@@ -103,10 +179,11 @@ fn begun(rt: &impl Abort, alloc: Global, pages: u32, k: u64) -> Result<Play<Faul
         pool: Pool::new(alloc, store)?,
         records: 0,
     };
-    assert_eq!(rt; play.pool.pages(), pages);
-    assert_eq!(rt; play.pool.dirty_from(PageNo(0)), None);
     play.begin(rt);
-    Ok(play)
+    for &row in rows {
+        play.follow(rt, row)?;
+    }
+    Ok(())
 }
 
 fn entry(page: u32, rec_lsn: u64) -> DirtyPage {
@@ -114,102 +191,109 @@ fn entry(page: u32, rec_lsn: u64) -> DirtyPage {
 }
 
 #[test]
-fn a_page_is_written(rt: HostRuntime) -> Result<(), Fail> {
-    let mut play = begun(&rt, rt.alloc(), 2, 0)?;
-    assert_eq!(rt; play.current(&rt, 1), (Lsn(0), 0));
-    assert_eq!(rt; play.rec_lsn(&rt, 1), None);
-    play.set(&rt, 1, 5);
-    assert_eq!(rt; play.current(&rt, 1), (Lsn(128), 5));
-    assert_eq!(rt; play.rec_lsn(&rt, 1), Some(Lsn(128)));
-    assert_eq!(rt; play.stored(&rt, 1)?.lsn, Lsn(0));
-    assert_eq!(rt; play.write_begin(&rt, 1)?, Lsn(128));
-    assert!(rt; play.is_writing(&rt, 1) && !play.is_writing(&rt, 0));
-    assert_eq!(rt; play.write_end(&rt, 1)?, Lsn(128));
-    assert!(rt; !play.is_writing(&rt, 1));
-    assert_eq!(rt; play.rec_lsn(&rt, 1), None);
-    assert_eq!(rt; play.pool.dirty_from(PageNo(0)), None);
-    let stored = play.stored(&rt, 1)?;
-    assert_eq!(rt; stored.number, PageNo(1));
-    assert_eq!(rt; stored.lsn, Lsn(128));
-    assert_eq!(rt; stored.slots[0], 5);
-    Ok(())
+fn a_page_is_written(rt: HostRuntime) -> Result<(), AllocError> {
+    let rows = [
+        Row::State(1, None, false),
+        Row::Current(1, 0, 0),
+        Row::DirtyFrom(0, None),
+        Row::Set(1, 5),
+        Row::State(1, Some(128), false),
+        Row::Current(1, 128, 5),
+        Row::Stored(1, Some((0, 0))),
+        Row::WriteBegin(1, 128),
+        Row::State(0, None, false),
+        Row::State(1, Some(128), true),
+        Row::WriteEnd(1, Some(128)),
+        Row::State(1, None, false),
+        Row::DirtyFrom(0, None),
+        Row::Stored(1, Some((128, 5))),
+    ];
+    run(&rt, rt.alloc(), 2, 0, &rows)
 }
 
 #[test]
-fn a_page_changes_during_its_write(rt: HostRuntime) -> Result<(), Fail> {
-    let mut play = begun(&rt, rt.alloc(), 1, 0)?;
-    play.set(&rt, 0, 5);
-    assert_eq!(rt; play.write_begin(&rt, 0)?, Lsn(128));
-    play.set(&rt, 0, 6);
-    play.set(&rt, 0, 7);
-    assert_eq!(rt; play.rec_lsn(&rt, 0), Some(Lsn(128)));
-    assert_eq!(rt; play.write_end(&rt, 0)?, Lsn(128));
-    assert_eq!(rt;
-        play.pool.dirty_from(PageNo(0)),
-        Some(DirtyPages::One(entry(0, 192)))
-    );
-    assert_eq!(rt; play.stored(&rt, 0)?.slots[0], 5);
-    assert_eq!(rt; play.current(&rt, 0), (Lsn(256), 7));
-    Ok(())
+fn a_page_changes_during_its_write(rt: HostRuntime) -> Result<(), AllocError> {
+    let rows = [
+        Row::Set(0, 5),
+        Row::WriteBegin(0, 128),
+        Row::Set(0, 6),
+        Row::Set(0, 7),
+        Row::State(0, Some(128), true),
+        Row::WriteEnd(0, Some(128)),
+        Row::DirtyFrom(0, Some(DirtyPages::One(entry(0, 192)))),
+        Row::Stored(0, Some((128, 5))),
+        Row::Current(0, 256, 7),
+    ];
+    run(&rt, rt.alloc(), 1, 0, &rows)
 }
 
 #[test]
-fn dirty_pages_come_in_order(rt: HostRuntime) -> Result<(), Fail> {
-    let mut play = begun(&rt, rt.alloc(), 7, 0)?;
-    for page in [4, 0, 5, 2, 1, 4] {
-        play.set(&rt, page, 9);
-    }
+fn dirty_pages_come_in_order(rt: HostRuntime) -> Result<(), AllocError> {
     let three = DirtyPages::Three(entry(0, 192), entry(1, 384), entry(2, 320));
-    assert_eq!(rt; play.pool.dirty_from(PageNo(0)), Some(three));
     let two = DirtyPages::Two(entry(4, 128), entry(5, 256));
-    assert_eq!(rt; play.pool.dirty_from(PageNo(3)), Some(two));
-    assert_eq!(rt;
-        play.pool.dirty_from(PageNo(5)),
-        Some(DirtyPages::One(entry(5, 256)))
-    );
-    assert_eq!(rt; play.pool.dirty_from(PageNo(6)), None);
-    assert_eq!(rt; play.pool.dirty_from(PageNo(u32::MAX)), None);
-    Ok(())
+    let rows = [
+        Row::Set(4, 9),
+        Row::Set(0, 9),
+        Row::Set(5, 9),
+        Row::Set(2, 9),
+        Row::Set(1, 9),
+        Row::Set(4, 8),
+        Row::DirtyFrom(0, Some(three)),
+        Row::DirtyFrom(3, Some(two)),
+        Row::DirtyFrom(5, Some(DirtyPages::One(entry(5, 256)))),
+        Row::DirtyFrom(6, None),
+        Row::DirtyFrom(u32::MAX, None),
+    ];
+    run(&rt, rt.alloc(), 7, 0, &rows)
 }
 
 /// A write that the store fails at may be ended again.
 #[test]
-fn a_write_fails(rt: HostRuntime) -> Result<(), Fail> {
-    let mut play = begun(&rt, rt.alloc(), 1, 1)?;
-    play.set(&rt, 0, 5);
-    assert_eq!(rt; play.write_begin(&rt, 0)?, Lsn(128));
-    play.set(&rt, 0, 6);
-    assert_eq!(rt; play.write_end(&rt, 0), Err(StoreFault));
-    assert!(rt; play.is_writing(&rt, 0));
-    assert_eq!(rt; play.rec_lsn(&rt, 0), Some(Lsn(128)));
-    assert_eq!(rt; play.write_end(&rt, 0), Ok(Lsn(128)));
-    assert_eq!(rt; play.rec_lsn(&rt, 0), Some(Lsn(192)));
-    assert_eq!(rt; play.stored(&rt, 0)?.slots[0], 5);
-    Ok(())
+fn a_write_fails(rt: HostRuntime) -> Result<(), AllocError> {
+    let rows = [
+        Row::Set(0, 5),
+        Row::WriteBegin(0, 128),
+        Row::Set(0, 6),
+        Row::WriteEnd(0, None),
+        Row::State(0, Some(128), true),
+        Row::WriteEnd(0, Some(128)),
+        Row::State(0, Some(192), false),
+        Row::Stored(0, Some((128, 5))),
+    ];
+    run(&rt, rt.alloc(), 1, 1, &rows)
 }
 
 #[test]
-fn a_read_fails(rt: HostRuntime) -> Result<(), Fail> {
-    let mut play = begun(&rt, rt.alloc(), 1, 2)?;
-    play.set(&rt, 0, 5);
-    assert_eq!(rt; play.write_begin(&rt, 0)?, Lsn(128));
-    assert_eq!(rt; play.write_end(&rt, 0), Ok(Lsn(128)));
-    assert!(rt; play.stored(&rt, 0).is_err());
-    assert_eq!(rt; play.stored(&rt, 0)?.lsn, Lsn(128));
-    Ok(())
+fn a_read_fails(rt: HostRuntime) -> Result<(), AllocError> {
+    let rows = [
+        Row::Set(0, 5),
+        Row::WriteBegin(0, 128),
+        Row::WriteEnd(0, Some(128)),
+        Row::Stored(0, None),
+        Row::Stored(0, Some((128, 5))),
+    ];
+    run(&rt, rt.alloc(), 1, 2, &rows)
 }
 
+/// Of the largest pool no page is dirty, then the last, none again, then each, and then each but
+/// the first of a word.
 #[test]
-fn the_largest_pool_has_its_last_page(rt: HostRuntime) -> Result<(), Fail> {
-    let mut play = begun(&rt, rt.alloc(), 65_536, 0)?;
-    play.set(&rt, 65_535, 5);
-    assert_eq!(rt;
-        play.pool.dirty_from(PageNo(0)),
-        Some(DirtyPages::One(entry(65_535, 128)))
-    );
-    assert_eq!(rt; play.write_begin(&rt, 65_535)?, Lsn(128));
-    assert_eq!(rt; play.write_end(&rt, 65_535), Ok(Lsn(128)));
-    assert_eq!(rt; play.stored(&rt, 65_535)?.slots[0], 5);
-    assert_eq!(rt; play.pool.dirty_from(PageNo(0)), None);
-    Ok(())
+fn the_largest_pool_is_walked(rt: HostRuntime) -> Result<(), AllocError> {
+    let rows = [
+        Row::Walk(0, 0),
+        Row::Set(65_535, 5),
+        Row::DirtyFrom(0, Some(DirtyPages::One(entry(65_535, 128)))),
+        Row::Walk(1, 1),
+        Row::WriteBegin(65_535, 128),
+        Row::WriteEnd(65_535, Some(128)),
+        Row::Stored(65_535, Some((128, 5))),
+        Row::Walk(0, 0),
+        Row::SetEach(6),
+        Row::Walk(21_846, 65_536),
+        Row::WriteBegin(4_096, 262_336),
+        Row::WriteEnd(4_096, Some(262_336)),
+        Row::State(4_096, None, false),
+        Row::Walk(21_845, 65_535),
+    ];
+    run(&rt, rt.alloc(), 65_536, 0, &rows)
 }

@@ -6,5 +6,5 @@ pub returns : goal.returns
 returns c =
     let s = c.self.inside in
     let count =
-    count_is s.last_writes.items s.rec_lsns.items s.images.items s.first_changes.items c.args.self.now c.self.view_is in
+    count_is s.last_writes.items s.rec_lsns s.images.items s.first_changes.items c.args.self.now c.self.view_is in
     omega (arith, s.last_writes.ok.0)

@@ -11,7 +11,7 @@ pub index-requires : goal.index-requires
 index-requires c =
     let s = c.self.inside in
     let at =
-    places s.last_writes.items s.rec_lsns.items s.images.items s.first_changes.items c.args.self.now
+    places s.last_writes.items s.rec_lsns s.images.items s.first_changes.items c.args.self.now
     c.number.inside.0 c.args.number c.self.view_is c.self.invariant c.requires c.number.view_is in
     omega (arith, s.images.ok.0, at.in_images)
 
@@ -20,7 +20,7 @@ read : (c : goal.After-as_ref) → option_copied c.as_ref.result ≡ get_or c.se
 read c =
     let s = c.self.inside in
     let at =
-    places s.last_writes.items s.rec_lsns.items s.images.items s.first_changes.items c.args.self.now
+    places s.last_writes.items s.rec_lsns s.images.items s.first_changes.items c.args.self.now
     c.number.inside.0 c.args.number c.self.view_is c.self.invariant c.requires c.number.view_is in
     c.as_ref.ensures.value
     ∙ read_at s.images.items c.number.inside.0 c.args.number c.index.result.now None c.index.ensures at.in_images
@@ -30,7 +30,7 @@ pub returns-clause-image : goal.returns-clause-image
 returns-clause-image c =
     let s = c.self.inside in
     read c ∙ ap (λ (x : PageState). x.writing) (sym
-    (state_is s.last_writes.items s.rec_lsns.items s.images.items s.first_changes.items c.args.self.now c.args.number
+    (state_is s.last_writes.items s.rec_lsns s.images.items s.first_changes.items c.args.self.now c.args.number
     c.self.view_is c.requires))
 
 of_copied : (P : Page → Type 0) (o : Option (Bor Page)) (x : Option Page) → option_copied o ≡ x → IfSome x P
@@ -42,7 +42,7 @@ pub returns-clause-numbered : goal.returns-clause-numbered
 returns-clause-numbered c =
     let s = c.self.inside in
     let at =
-    places s.last_writes.items s.rec_lsns.items s.images.items s.first_changes.items c.args.self.now
+    places s.last_writes.items s.rec_lsns s.images.items s.first_changes.items c.args.self.now
     c.args.number c.args.number c.self.view_is c.self.invariant c.requires refl in
     of_copied (λ q. q.number ≡ c.args.number) c.as_ref.result (get_or s.images.items c.args.number None) (read c)
     (c.self.invariant.numbers c.args.number at.in_images)
