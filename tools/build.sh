@@ -1,7 +1,7 @@
 #!/usr/bin/env bash
-# usage: build.sh
-# Proves the program and the crates that it stands on, the lowest first, and puts the program at build/imgcopy. What rt
-# says goes to build/prove.log, whose end is shown where rt fails.
+# usage: build.sh [PROGRAM..]
+# Proves each program, imgcopy if none is named, and the crates that it stands on, the lowest first, and puts it into
+# build/. What rt says goes to build/prove.log, whose end is shown where rt fails.
 set -u
 cd "$(dirname "$0")/.." || exit 1
 log=build/prove.log
@@ -37,12 +37,16 @@ prove() {
 
 # rt proves a program before it runs it, and leaves it in out/.
 build_program() {
-    local input=$PWD/examples/four_records.log
-    (cd "crates/$1" && rt run -- redo < "$input") > /dev/null 2>> "$log"
+    local input=$PWD/examples/four_records.log words=()
+    [ ! -e "crates/$1/args" ] || mapfile -t words < "crates/$1/args"
+    (cd "crates/$1" && rt run -- "${words[@]}" < "$input") > /dev/null 2>> "$log"
 }
 
 mkdir -p build
 : > "$log"
-prove imgcopy
-cp -f crates/imgcopy/out/imgcopy build/imgcopy || exit 1
-echo "built build/imgcopy"
+[ $# -gt 0 ] || set -- imgcopy
+for program in "$@"; do
+    prove "$program"
+    cp -f "crates/$program/out/$program" "build/$program" || exit 1
+    echo "built build/$program"
+done

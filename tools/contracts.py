@@ -211,10 +211,13 @@ def place_of(before):
 
 def section(crate):
     found, exports = modules_of(crate)
+    rows = [row for module in found for row in rows_of(module, exports)]
+    if not rows:
+        return
     yield f"## {crate}\n"
     yield "| Item | What it is | Requires | Ensures |"
     yield "|---|---|---|---|"
-    for row in [row for module in found for row in rows_of(module, exports)]:
+    for row in rows:
         clause_cells = [", ".join(name if name == "-" else f"`{name}`" for name in names)
                         for names in (row.requires, row.ensures)]
         cells = [f"`{row.item}`", row.doc, *clause_cells]

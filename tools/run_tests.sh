@@ -8,10 +8,12 @@ set -u
 cd "$(dirname "$0")/.." || exit 1
 passed=0 failed=0 skipped=0
 
-# The gate leaves the program in out/. An older one is removed first, so that none but the gate's own is checked.
+# The gate leaves each program in out/. An older one is removed first, so that none but the gate's own is checked.
 run_gate() {
     program=crates/imgcopy/out/imgcopy
-    rm -f "$program"
+    log_reader=crates/log_reader/out/log_reader
+    engine_player=crates/engine_player/out/engine_player
+    rm -f "$program" "$log_reader" "$engine_player"
     PYTHONUNBUFFERED=1 rt ci 2>&1 | tee build/gate.log
     local status=${PIPESTATUS[0]} counts='^([0-9]+) passed, ([0-9]+) failed$'
     if [[ $(tail -n 1 build/gate.log) =~ $counts ]]; then
@@ -54,6 +56,12 @@ refuse_memory() {
     python3 "$@" "$library"
 }
 
+# The gate has built these programs. Else they are built here.
+library_memory() {
+    "$is_gate" || tools/build.sh log_reader engine_player || return
+    refuse_memory examples/library_memory.py "$log_reader" "$engine_player"
+}
+
 run_checks() {
     check contracts python3 -- python3 tools/contracts.py --check
     check documents python3 -- python3 tools/check_docs.py
@@ -61,9 +69,9 @@ run_checks() {
     check memory "$program" python3 rustc -- refuse_memory examples/memory.py "$program"
     check faults "$program" python3 -- python3 examples/faults.py "$program"
     if "$uses_rt"; then
-        check library_memory "$program" rt python3 rustc -- refuse_memory examples/library_memory.py
+        check library_memory "$program" rt python3 rustc -- library_memory
     else
-        skip library_memory "it has rt prove programs of its own"
+        skip library_memory "it has rt prove other programs"
     fi
 }
 
@@ -78,9 +86,11 @@ if [ $# -ne 1 ]; then
 fi
 mkdir -p build
 if [ "$1" = --gate ]; then
+    is_gate=true
     run_gate
 else
-    program=$1
+    is_gate=false
+    program=$1 log_reader=build/log_reader engine_player=build/engine_player
 fi
 run_checks
 counts="$passed passed, $failed failed"

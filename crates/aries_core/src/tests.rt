@@ -1,17 +1,16 @@
 //! Rows of calls with their replies, what a device has of them, and texts.
 
-ghost use Rattle.std.specs.Prelude.{◌≤◌, ◌≡◌};
-ghost use Rattle.page_core.specs.Volume.{formatted_pages};
+ghost use Rattle.std.specs.Prelude.{◌≡◌};
 ghost use Rattle.log_records.specs.Log.{IsPageCount};
 
 mod devices;
 mod rows;
 mod stores;
 
-use crate::{Answer, Engine, Event, PlayFault, Played, Refusal, Reply, Setup, play};
+use crate::{Answer, Engine, Event, PlayFault, Refusal, Reply, Setup, play};
 use log_store::LogDevice;
 use page_core::{Lsn, PageNo, SlotNo, TxnNo};
-use page_store::PageStore;
+use page_store::{MemStore, PageStore};
 use std::alloc::Global;
 use std::process::Abort;
 use std::test::Fail;
@@ -110,79 +109,101 @@ fn busy(txn: u32) -> Reply {
     Err(Refusal::SlotBusy(TxnNo(txn)))
 }
 
-/// Makes the calls of a row on a new engine, one by one, and asserts their replies.
-fn call_row<S: PageStore + Drop, D: LogDevice + Drop>(
-    rt: &impl Abort,
+/// A new engine over formatted pages in memory.
+fn engine_on<D: LogDevice + Drop>(
     alloc: Global,
     pages: u32,
-    store: S,
     device: D,
-    row: &[(Event, Reply)],
-) -> Result<Engine<S, D>, Fail>
-    requires pages { IsPageCount pages }
-    requires formatted { S.stored store ≡ formatted_pages pages }
+) -> Result<Engine<MemStore, D>, Fail>
+    requires { IsPageCount pages }
 {
-    let mut engine = Engine::new(alloc, setup_of(pages), store, device)?;
+    let store = MemStore::new(alloc, pages)?;
+    Ok(Engine::new(alloc, setup_of(pages), store, device)?)
+}
+
+/// Makes the calls of a row, one by one, and asserts their replies.
+fn call<S: PageStore, D: LogDevice>(
+    rt: &impl Abort,
+    engine: &mut Engine<S, D>,
+    row: &[(Event, Reply)],
+) {
     for &(event, reply) in row {
         assert_eq!(rt; engine.apply(event), reply, "{event:?}");
     }
-    Ok(engine)
 }
 
-/// Plays the events of a row as one list, and asserts their replies.
-fn play_row<S: PageStore + Drop, D: LogDevice + Drop>(
-    rt: &impl Abort,
-    alloc: Global,
-    pages: u32,
-    store: S,
-    device: D,
-    row: &[(Event, Reply)],
-) -> Result<Engine<S, D>, Fail>
-    requires pages { IsPageCount pages }
-    requires formatted { S.stored store ≡ formatted_pages pages }
-{
+/// The events of a row.
+fn events_of(alloc: Global, row: &[(Event, Reply)]) -> Result<Vec<Event>, Fail> {
     let mut events = Vec::with_capacity(alloc, row.len())?;
     for &(event, _) in row {
         events.push(event)?;
     }
-    let Played { replies, engine } = play(alloc, setup_of(pages), store, device, &events)?;
+    Ok(events)
+}
+
+/// Asserts that these are the replies of a row.
+fn assert_replies(rt: &impl Abort, replies: &[Reply], row: &[(Event, Reply)]) {
     assert_eq!(rt; replies.len(), row.len());
     for (given, &(event, reply)) in replies.iter().zip(row) {
         assert_eq!(rt; *given, reply, "{event:?}");
     }
-    Ok(engine)
+}
+
+/// Plays the events of a row as one list over formatted pages in memory, and asserts their replies.
+fn play_on<D: LogDevice + Drop>(
+    rt: &impl Abort,
+    alloc: Global,
+    pages: u32,
+    device: D,
+    row: &[(Event, Reply)],
+) -> Result<Engine<MemStore, D>, Fail>
+    requires { IsPageCount pages }
+{
+    let events = events_of(alloc, row)?;
+    let store = MemStore::new(alloc, pages)?;
+    let played = play(alloc, setup_of(pages), store, device, &events)?;
+    assert_replies(rt, &played.replies, row);
+    Ok(played.engine)
+}
+
+/// Asserts what a refusal's text is.
+fn assert_text(rt: &impl Abort, alloc: Global, refusal: Refusal, text: &str) -> Result<(), Fail> {
+    let printed = format!(in alloc; "{refusal}")?;
+    assert_eq!(rt; printed.as_str(), text);
+    Ok(())
 }
 
 #[test]
 fn refusals_have_texts(rt: HostRuntime) -> Result<(), Fail> {
-    let texts = [
-        (Refusal::OutOfMemory, "E1 OutOfMemory"),
-        (Refusal::NoTxn, "E2 NoTxn"),
-        (Refusal::PageOut, "E3 PageOut"),
-        (Refusal::SlotOut, "E4 SlotOut"),
-        (Refusal::SlotBusy(TxnNo(7)), "E5 SlotBusy 7"),
-        (Refusal::TxnRolling, "E6 TxnRolling"),
-        (Refusal::NotRolling, "E7 NotRolling"),
-        (Refusal::LogFull, "E8 LogFull"),
-        (Refusal::TooManyTxns, "E9 TooManyTxns"),
-        (Refusal::NotDirty, "E10 NotDirty"),
-        (Refusal::WriteBegun, "E11 WriteBegun"),
-        (Refusal::NoWrite, "E12 NoWrite"),
-        (Refusal::StoreFault, "E22 StoreFault"),
-        (Refusal::LogFault, "E23 LogFault"),
-        (Refusal::CommitUnsure(Lsn(192)), "E26 CommitUnsure 192"),
-    ];
-    for &(refusal, text) in &texts {
-        let printed = format!(in rt.alloc(); "{refusal}")?;
-        assert_eq!(rt; printed.as_str(), text);
-    }
-    let texts = [
-        (PlayFault::OutOfMemory, "E1 OutOfMemory"),
-        (PlayFault::LogFault, "E23 LogFault"),
-    ];
-    for &(fault, text) in &texts {
-        let printed = format!(in rt.alloc(); "{fault}")?;
-        assert_eq!(rt; printed.as_str(), text);
-    }
+    let alloc = rt.alloc();
+    assert_text(&rt, alloc, Refusal::OutOfMemory, "E1 OutOfMemory")?;
+    assert_text(&rt, alloc, Refusal::NoTxn, "E2 NoTxn")?;
+    assert_text(&rt, alloc, Refusal::PageOut, "E3 PageOut")?;
+    assert_text(&rt, alloc, Refusal::SlotOut, "E4 SlotOut")?;
+    assert_text(&rt, alloc, Refusal::SlotBusy(TxnNo(7)), "E5 SlotBusy 7")?;
+    assert_text(&rt, alloc, Refusal::TxnRolling, "E6 TxnRolling")?;
+    assert_text(&rt, alloc, Refusal::NotRolling, "E7 NotRolling")?;
+    assert_text(&rt, alloc, Refusal::LogFull, "E8 LogFull")
+}
+
+#[test]
+fn refusals_by_a_store_have_texts(rt: HostRuntime) -> Result<(), Fail> {
+    let alloc = rt.alloc();
+    assert_text(&rt, alloc, Refusal::TooManyTxns, "E9 TooManyTxns")?;
+    assert_text(&rt, alloc, Refusal::NotDirty, "E10 NotDirty")?;
+    assert_text(&rt, alloc, Refusal::WriteBegun, "E11 WriteBegun")?;
+    assert_text(&rt, alloc, Refusal::NoWrite, "E12 NoWrite")?;
+    assert_text(&rt, alloc, Refusal::StoreFault, "E22 StoreFault")?;
+    assert_text(&rt, alloc, Refusal::LogFault, "E23 LogFault")?;
+    let unsure = Refusal::CommitUnsure(Lsn(192));
+    assert_text(&rt, alloc, unsure, "E26 CommitUnsure 192")
+}
+
+#[test]
+fn faults_have_texts(rt: HostRuntime) -> Result<(), Fail> {
+    let printed = format!(in rt.alloc(); "{}", PlayFault::OutOfMemory)?;
+    assert_eq!(rt; printed.as_str(), "E1 OutOfMemory");
+    let printed = format!(in rt.alloc(); "{}", PlayFault::LogFault)?;
+    assert_eq!(rt; printed.as_str(), "E23 LogFault");
     Ok(())
 }

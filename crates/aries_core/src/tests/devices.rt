@@ -1,8 +1,8 @@
 //! What is on a log's device, where one of its calls fails.
 
 use super::{
-    abort, add, began, call_row, commit, ended, forced, logged, play_row, read, set, setup_of,
-    undid, undo, value,
+    abort, add, began, call, commit, ended, engine_on, forced, logged, play_on, read, set,
+    setup_of, undid, undo, value,
 };
 use crate::{Engine, Event, PlayFault, Refusal, Reply, play};
 use log_store::{FaultyDevice, MemDevice, read_log};
@@ -32,9 +32,42 @@ fn assert_forced(
     Ok(())
 }
 
-/// Asserts the replies of a row where the `k`-th call of the device fails at the event with this
-/// index, and what is on the device all the while. The first call stores the header, and each
-/// further one a record, so the record that this one was to store is the first that is not forced.
+/// A device with room for so many records, whose `k`-th call fails.
+fn failing_device(alloc: Global, records: usize, k: u64) -> Result<FaultyDevice, Fail> {
+    Ok(FaultyDevice::new(MemDevice::new(alloc, records)?, k))
+}
+
+/// Makes the calls of a row, and asserts their replies where the `k`-th call of the device fails
+/// at the event with this index, and what is on the device all the while. The first call stores the
+/// header, and each further one a record, so the record that this one was to store is the first
+/// that is not forced.
+fn call_each(
+    rt: &impl Abort,
+    alloc: Global,
+    engine: &mut Engine<MemStore, FaultyDevice>,
+    row: &[(Event, Reply)],
+    k: u64,
+    place: usize,
+) -> Result<(), Fail> {
+    for (index, &(event, reply)) in row.iter().enumerate() {
+        let given = engine.apply(event);
+        assert_eq!(rt; given, reply, "{event:?} where call {k} fails");
+        assert_forced(rt, alloc, engine)?;
+        if index == place {
+            assert_eq!(rt; engine.log.forced_end().0 / 64 + 1, k);
+        }
+    }
+    Ok(())
+}
+
+/// Plays the events of the row, and asserts the same of their replies and of the device.
+fn play_all(rt: &impl Abort, alloc: Global, row: &[(Event, Reply)], k: u64) -> Result<(), Fail> {
+    let device = failing_device(alloc, row.len(), k)?;
+    let engine = play_on(rt, alloc, 1, device, row)?;
+    assert_forced(rt, alloc, &engine)
+}
+
+/// Does both.
 fn assert_row(
     rt: &impl Abort,
     alloc: Global,
@@ -42,22 +75,10 @@ fn assert_row(
     k: u64,
     place: usize,
 ) -> Result<(), Fail> {
-    let device = FaultyDevice::new(MemDevice::new(alloc, row.len())?, k);
-    let mut engine = Engine::new(alloc, setup_of(1), MemStore::new(alloc, 1)?, device)?;
-    for (index, &(event, reply)) in row.iter().enumerate() {
-        assert_eq!(rt;
-            engine.apply(event),
-            reply,
-            "{event:?} where call {k} fails"
-        );
-        assert_forced(rt, alloc, &engine)?;
-        if index == place {
-            assert_eq!(rt; engine.log.forced_end().0 / 64 + 1, k);
-        }
-    }
-    let device = FaultyDevice::new(MemDevice::new(alloc, row.len())?, k);
-    let played = play_row(rt, alloc, 1, MemStore::new(alloc, 1)?, device, row)?;
-    assert_forced(rt, alloc, &played)
+    play_all(rt, alloc, row, k)?;
+    let device = failing_device(alloc, row.len(), k)?;
+    let mut engine = engine_on(alloc, 1, device)?;
+    call_each(rt, alloc, &mut engine, row, k, place)
 }
 
 /// One transaction commits, and another one is rolled back.
@@ -122,49 +143,44 @@ fn each_call_fails_beside_another_transaction(rt: HostRuntime) -> Result<(), Fai
     Ok(())
 }
 
-#[test]
-fn the_log_is_not_forced(rt: HostRuntime) -> Result<(), Fail> {
-    let alloc = rt.alloc();
-    let row = [
+/// The device has room for one record alone.
+fn one_record() -> [(Event, Reply); 4] {
+    [
         (Event::Begin, began(1, 64)),
         (Event::Force, forced(128)),
         (add(1, 0, 0, 1), logged(128)),
         (Event::Force, Err(Refusal::LogFault)),
-    ];
-    let _ = call_row(
-        &rt,
-        alloc,
-        1,
-        MemStore::new(alloc, 1)?,
-        MemDevice::new(alloc, 1)?,
-        &row,
-    )?;
-    let _ = play_row(
-        &rt,
-        alloc,
-        1,
-        MemStore::new(alloc, 1)?,
-        MemDevice::new(alloc, 1)?,
-        &row,
-    )?;
+    ]
+}
+
+#[test]
+fn the_log_is_not_forced(rt: HostRuntime) -> Result<(), Fail> {
+    let mut engine = engine_on(rt.alloc(), 1, MemDevice::new(rt.alloc(), 1)?)?;
+    call(&rt, &mut engine, &one_record());
+    Ok(())
+}
+
+#[test]
+fn the_log_is_not_forced_in_a_list(rt: HostRuntime) -> Result<(), Fail> {
+    let device = MemDevice::new(rt.alloc(), 1)?;
+    let _ = play_on(&rt, rt.alloc(), 1, device, &one_record())?;
     Ok(())
 }
 
 #[test]
 fn the_header_is_not_stored(rt: HostRuntime) -> Result<(), Fail> {
-    let alloc = rt.alloc();
-    let device = FaultyDevice::new(MemDevice::new(alloc, 1)?, 1);
-    let fault = Engine::new(alloc, setup_of(1), MemStore::new(alloc, 1)?, device).err();
+    let store = MemStore::new(rt.alloc(), 1)?;
+    let device = failing_device(rt.alloc(), 1, 1)?;
+    let fault = Engine::new(rt.alloc(), setup_of(1), store, device).err();
     assert_eq!(rt; fault, Some(PlayFault::LogFault));
-    let device = FaultyDevice::new(MemDevice::new(alloc, 1)?, 1);
-    let fault = play(
-        alloc,
-        setup_of(1),
-        MemStore::new(alloc, 1)?,
-        device,
-        &[Event::Begin],
-    )
-    .err();
+    Ok(())
+}
+
+#[test]
+fn the_header_is_not_stored_for_a_list(rt: HostRuntime) -> Result<(), Fail> {
+    let store = MemStore::new(rt.alloc(), 1)?;
+    let device = failing_device(rt.alloc(), 1, 1)?;
+    let fault = play(rt.alloc(), setup_of(1), store, device, &[Event::Begin]).err();
     assert_eq!(rt; fault, Some(PlayFault::LogFault));
     Ok(())
 }

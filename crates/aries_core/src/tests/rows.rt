@@ -3,10 +3,10 @@
 ghost use Rattle.log_records.specs.Log.{IsPageCount};
 
 use super::{
-    abort, add, began, busy, call_row, commit, ended, forced, logged, play_row, read, set, undid,
-    undo, value, write_begin, write_end, writing, written,
+    abort, add, began, busy, call, commit, ended, engine_on, forced, logged, play_on, read, set,
+    undid, undo, value, write_begin, write_end, writing, written,
 };
-use crate::{Event, Refusal, Reply};
+use crate::{Engine, Event, Refusal, Reply};
 use log_store::MemDevice;
 use page_store::MemStore;
 use std::alloc::Global;
@@ -27,7 +27,57 @@ const COMPENSATION: [u64; 8] = [
     0x8002_0000_0000_0000,
 ];
 
-/// Asserts the replies both ways, on devices that have room for a record for each event.
+/// An engine whose device has room for a record for each event of a row.
+fn engine_for(
+    alloc: Global,
+    pages: u32,
+    row: &[(Event, Reply)],
+) -> Result<Engine<MemStore, MemDevice>, Fail>
+    requires { IsPageCount pages }
+{
+    engine_on(alloc, pages, MemDevice::new(alloc, row.len())?)
+}
+
+/// The engine of a row that was played, and what its replies are is asserted.
+fn played(
+    rt: &impl Abort,
+    alloc: Global,
+    pages: u32,
+    row: &[(Event, Reply)],
+) -> Result<Engine<MemStore, MemDevice>, Fail>
+    requires { IsPageCount pages }
+{
+    play_on(rt, alloc, pages, MemDevice::new(alloc, row.len())?, row)
+}
+
+/// Asserts that two logs are the same, in memory and on their devices.
+fn assert_same(
+    rt: &impl Abort,
+    called: &Engine<MemStore, MemDevice>,
+    played: &Engine<MemStore, MemDevice>,
+) {
+    assert_eq!(rt; called.log_end(), played.log_end());
+    assert_eq!(rt; called.log.device().bytes(), played.log.device().bytes());
+}
+
+/// Makes the calls of a row, and asserts their replies, and that they gave the log of one that was
+/// played.
+fn assert_called(
+    rt: &impl Abort,
+    alloc: Global,
+    pages: u32,
+    row: &[(Event, Reply)],
+    played: &Engine<MemStore, MemDevice>,
+) -> Result<(), Fail>
+    requires { IsPageCount pages }
+{
+    let mut called = engine_for(alloc, pages, row)?;
+    call(rt, &mut called, row);
+    assert_same(rt, &called, played);
+    Ok(())
+}
+
+/// Asserts the replies both ways.
 fn assert_row(
     rt: &impl Abort,
     alloc: Global,
@@ -36,19 +86,8 @@ fn assert_row(
 ) -> Result<(), Fail>
     requires { IsPageCount pages }
 {
-    let (store, device) = (
-        MemStore::new(alloc, pages)?,
-        MemDevice::new(alloc, row.len())?,
-    );
-    let called = call_row(rt, alloc, pages, store, device, row)?;
-    let (store, device) = (
-        MemStore::new(alloc, pages)?,
-        MemDevice::new(alloc, row.len())?,
-    );
-    let played = play_row(rt, alloc, pages, store, device, row)?;
-    assert_eq!(rt; called.log_end(), played.log_end());
-    assert_eq!(rt; called.log.device().bytes(), played.log.device().bytes());
-    Ok(())
+    let played = played(rt, alloc, pages, row)?;
+    assert_called(rt, alloc, pages, row, &played)
 }
 
 #[test]
@@ -133,9 +172,8 @@ fn a_log_gets_full(rt: HostRuntime) -> Result<(), Fail> {
 }
 
 /// Another transaction's Add stands between, and stays.
-#[test]
-fn an_add_is_compensated(rt: HostRuntime) -> Result<(), Fail> {
-    let row = [
+fn compensated() -> [(Event, Reply); 13] {
+    [
         (Event::Begin, began(1, 64)),
         (Event::Begin, began(2, 128)),
         (add(1, 0, 1, 7), logged(192)),
@@ -149,16 +187,27 @@ fn an_add_is_compensated(rt: HostRuntime) -> Result<(), Fail> {
         (undo(1), undid(640)),
         (read(0, 0), value(3)),
         (Event::Force, forced(704)),
-    ];
-    assert_row(&rt, rt.alloc(), 1, &row)?;
-    let device = MemDevice::new(rt.alloc(), row.len())?;
-    let store = MemStore::new(rt.alloc(), 1)?;
-    let engine = call_row(&rt, rt.alloc(), 1, store, device, &row)?;
+    ]
+}
+
+#[test]
+fn an_add_is_compensated(rt: HostRuntime) -> Result<(), Fail> {
+    assert_row(&rt, rt.alloc(), 1, &compensated())
+}
+
+/// Asserts that a log's device ends with the compensation.
+fn assert_compensation(rt: &impl Abort, engine: &Engine<MemStore, MemDevice>) {
     let bytes = engine.log.device().bytes();
     assert_eq!(rt; bytes.len(), 704);
     for (part, number) in bytes[640..].chunks_exact(8).zip(&COMPENSATION) {
         assert_eq!(rt; part, number.to_be_bytes().as_slice());
     }
+}
+
+#[test]
+fn a_compensation_has_its_bytes(rt: HostRuntime) -> Result<(), Fail> {
+    let engine = played(&rt, rt.alloc(), 1, &compensated())?;
+    assert_compensation(&rt, &engine);
     Ok(())
 }
 

@@ -4,17 +4,65 @@ ghost use Rattle.std.specs.Prelude.{◌≡◌, IfOk};
 ghost use Rattle.page_core.specs.Volume.{formatted_pages};
 
 use super::{
-    began, call_row, commit, forced, logged, play_row, read, set, setup_of, value, write_begin,
-    write_end, writing, written,
+    assert_replies, began, call, commit, engine_on, events_of, forced, logged, play_on, read, set,
+    setup_of, value, write_begin, write_end, writing, written,
 };
-use crate::{Engine, Event, Refusal, Reply};
+use crate::{Engine, Event, Refusal, Reply, play};
 use log_records::{DirtyPage, DirtyPages};
-use log_store::{FaultyDevice, MemDevice};
+use log_store::{FaultyDevice, LogDevice, MemDevice};
 use page_core::{Lsn, PageNo};
-use page_store::{FaultyStore, MemStore};
+use page_store::{FaultyStore, MemStore, PageStore, StoreFault};
 use std::alloc::Global;
 use std::process::Abort;
 use std::test::Fail;
+
+/// The LSN of page 0 as it is stored, and the numbers in its first two slots.
+fn stored<S: PageStore, D: LogDevice>(
+    engine: &mut Engine<S, D>,
+) -> Result<(Lsn, u64, u64), StoreFault> {
+    let page = engine.pool.stored(PageNo(0))?;
+    Ok((page.lsn, page.slots[0], page.slots[1]))
+}
+
+/// Asserts which pages are dirty, and how page 0 is stored.
+fn assert_pages<S: PageStore, D: LogDevice>(
+    rt: &impl Abort,
+    engine: &mut Engine<S, D>,
+    dirty: Option<DirtyPages>,
+    want: (Lsn, u64, u64),
+) -> Result<(), Fail> {
+    assert_eq!(rt; engine.pool.dirty_from(PageNo(0)), dirty);
+    assert_eq!(rt; stored(engine)?, want);
+    Ok(())
+}
+
+/// Page 0 is dirty from 192 on.
+fn one_dirty() -> Option<DirtyPages> {
+    Some(DirtyPages::One(DirtyPage {
+        page: 0,
+        rec_lsn: 192,
+    }))
+}
+
+fn changed_during_a_write() -> [(Event, Reply); 5] {
+    [
+        (Event::Begin, began(1, 64)),
+        (set(1, 0, 0, 5), logged(128)),
+        (write_begin(0), writing(128)),
+        (set(1, 0, 0, 6), logged(192)),
+        (write_end(0), written(128)),
+    ]
+}
+
+#[test]
+fn a_page_changes_during_a_write(rt: HostRuntime) -> Result<(), Fail> {
+    let device = MemDevice::new(rt.alloc(), 5)?;
+    let mut engine = engine_on(rt.alloc(), 1, device)?;
+    call(&rt, &mut engine, &changed_during_a_write());
+    assert_pages(&rt, &mut engine, one_dirty(), (Lsn(128), 5, 0))?;
+    call(&rt, &mut engine, &[(read(0, 0), value(6))]);
+    Ok(())
+}
 
 /// A store of one page whose `k`-th call fails.
 fn failing_store(alloc: Global, k: u64) -> Result<FaultyStore, Fail>
@@ -23,37 +71,27 @@ fn failing_store(alloc: Global, k: u64) -> Result<FaultyStore, Fail>
     Ok(FaultyStore::new(alloc, MemStore::new(alloc, 1)?, k)?)
 }
 
-#[test]
-fn a_page_changes_during_a_write(rt: HostRuntime) -> Result<(), Fail> {
-    let alloc = rt.alloc();
-    let row = [
-        (Event::Begin, began(1, 64)),
-        (set(1, 0, 0, 5), logged(128)),
-        (write_begin(0), writing(128)),
-        (set(1, 0, 0, 6), logged(192)),
-        (write_end(0), written(128)),
-    ];
+/// Makes the calls of a row over such a store, and asserts their replies.
+fn call_over(
+    rt: &impl Abort,
+    alloc: Global,
+    k: u64,
+    row: &[(Event, Reply)],
+) -> Result<Engine<FaultyStore, MemDevice>, Fail> {
     let device = MemDevice::new(alloc, row.len())?;
-    let mut engine = call_row(&rt, alloc, 1, MemStore::new(alloc, 1)?, device, &row)?;
-    let dirty = engine.pool.dirty_from(PageNo(0));
-    let entry = DirtyPage {
-        page: 0,
-        rec_lsn: 192,
-    };
-    assert_eq!(rt; dirty, Some(DirtyPages::One(entry)));
-    let stored = engine.pool.stored(PageNo(0))?;
-    assert_eq!(rt; (stored.lsn, stored.slots[0]), (Lsn(128), 5));
-    assert_eq!(rt; engine.apply(read(0, 0)), value(6));
-    Ok(())
+    let store = failing_store(alloc, k)?;
+    let mut engine = Engine::new(alloc, setup_of(1), store, device)?;
+    call(rt, &mut engine, row);
+    Ok(engine)
 }
 
 /// A write is ended again after its store failed, with the image that it began with.
-fn written_again(first_end: Reply) -> [(Event, Reply); 9] {
+fn written_again() -> [(Event, Reply); 9] {
     [
         (Event::Begin, began(1, 64)),
         (set(1, 0, 0, 5), logged(128)),
         (write_begin(0), writing(128)),
-        (write_end(0), first_end),
+        (write_end(0), Err(Refusal::StoreFault)),
         (write_begin(0), Err(Refusal::WriteBegun)),
         (set(1, 0, 0, 6), logged(192)),
         (write_end(0), written(128)),
@@ -64,22 +102,35 @@ fn written_again(first_end: Reply) -> [(Event, Reply); 9] {
 
 #[test]
 fn a_store_fails(rt: HostRuntime) -> Result<(), Fail> {
-    let alloc = rt.alloc();
-    let row = written_again(Err(Refusal::StoreFault));
+    let mut engine = call_over(&rt, rt.alloc(), 1, &written_again())?;
+    assert_pages(&rt, &mut engine, None, (Lsn(192), 6, 0))
+}
+
+/// Plays the events of a row over such a store, and asserts their replies.
+fn play_over(
+    rt: &impl Abort,
+    alloc: Global,
+    k: u64,
+    events: &[Event],
+    row: &[(Event, Reply)],
+) -> Result<(), Fail> {
     let device = MemDevice::new(alloc, row.len())?;
-    let mut engine = call_row(&rt, alloc, 1, failing_store(alloc, 1)?, device, &row)?;
-    let stored = engine.pool.stored(PageNo(0))?;
-    assert_eq!(rt; (stored.lsn, stored.slots[0]), (Lsn(192), 6));
-    let device = MemDevice::new(alloc, row.len())?;
-    let _ = play_row(&rt, alloc, 1, failing_store(alloc, 1)?, device, &row)?;
+    let store = failing_store(alloc, k)?;
+    let played = play(alloc, setup_of(1), store, device, events)?;
+    assert_replies(rt, &played.replies, row);
     Ok(())
 }
 
-/// The call of the store that fails is the end of the second write.
 #[test]
-fn a_later_write_fails(rt: HostRuntime) -> Result<(), Fail> {
-    let alloc = rt.alloc();
-    let row = [
+fn a_store_fails_in_a_list(rt: HostRuntime) -> Result<(), Fail> {
+    let row = written_again();
+    let events = events_of(rt.alloc(), &row)?;
+    play_over(&rt, rt.alloc(), 1, &events, &row)
+}
+
+/// The call of the store that fails is the end of the second write.
+fn two_writes() -> [(Event, Reply); 11] {
+    [
         (Event::Begin, began(1, 64)),
         (set(1, 0, 0, 5), logged(128)),
         (write_begin(0), writing(128)),
@@ -91,55 +142,72 @@ fn a_later_write_fails(rt: HostRuntime) -> Result<(), Fail> {
         (write_end(0), Err(Refusal::StoreFault)),
         (write_end(0), written(320)),
         (write_begin(0), Err(Refusal::NotDirty)),
-    ];
-    let device = MemDevice::new(alloc, row.len())?;
-    let mut engine = call_row(&rt, alloc, 1, failing_store(alloc, 2)?, device, &row)?;
-    assert_eq!(rt; engine.pool.dirty_from(PageNo(0)), None);
-    let stored = engine.pool.stored(PageNo(0))?;
-    assert_eq!(rt;
-        (stored.lsn, stored.slots[0], stored.slots[1]),
-        (Lsn(320), 5, 7)
-    );
-    Ok(())
+    ]
+}
+
+#[test]
+fn a_later_write_fails(rt: HostRuntime) -> Result<(), Fail> {
+    let mut engine = call_over(&rt, rt.alloc(), 2, &two_writes())?;
+    assert_pages(&rt, &mut engine, None, (Lsn(320), 5, 7))
 }
 
 /// No image is kept where the log could not be forced through its LSN.
+fn forced_again() -> [(Event, Reply); 6] {
+    [
+        (Event::Begin, began(1, 64)),
+        (set(1, 0, 0, 5), logged(128)),
+        (write_begin(0), Err(Refusal::LogFault)),
+        (write_end(0), Err(Refusal::NoWrite)),
+        (write_begin(0), writing(128)),
+        (write_end(0), written(128)),
+    ]
+}
+
+/// A device with room for these records, whose `k`-th call fails.
+fn failing_device(alloc: Global, k: u64) -> Result<FaultyDevice, Fail> {
+    Ok(FaultyDevice::new(MemDevice::new(alloc, 6)?, k))
+}
+
+/// Makes the calls on such a device, and asserts their replies and how far the log is forced.
+fn call_on_failing(rt: &impl Abort, alloc: Global, k: u64) -> Result<(), Fail> {
+    let mut engine = engine_on(alloc, 1, failing_device(alloc, k)?)?;
+    call(rt, &mut engine, &forced_again());
+    assert_eq!(rt; engine.log.forced_end(), Lsn(192));
+    Ok(())
+}
+
+/// Plays the calls on such a device, and asserts their replies.
+fn play_on_failing(rt: &impl Abort, alloc: Global, k: u64) -> Result<(), Fail> {
+    let device = failing_device(alloc, k)?;
+    let _ = play_on(rt, alloc, 1, device, &forced_again())?;
+    Ok(())
+}
+
 #[test]
 fn a_log_is_not_forced_for_a_write(rt: HostRuntime) -> Result<(), Fail> {
-    let alloc = rt.alloc();
     for k in 2..4 {
-        let row = [
-            (Event::Begin, began(1, 64)),
-            (set(1, 0, 0, 5), logged(128)),
-            (write_begin(0), Err(Refusal::LogFault)),
-            (write_end(0), Err(Refusal::NoWrite)),
-            (write_begin(0), writing(128)),
-            (write_end(0), written(128)),
-        ];
-        let device = FaultyDevice::new(MemDevice::new(alloc, row.len())?, k);
-        let engine = call_row(&rt, alloc, 1, MemStore::new(alloc, 1)?, device, &row)?;
-        assert_eq!(rt; engine.log.forced_end(), Lsn(192));
-        let device = FaultyDevice::new(MemDevice::new(alloc, row.len())?, k);
-        let _ = play_row(&rt, alloc, 1, MemStore::new(alloc, 1)?, device, &row)?;
+        call_on_failing(&rt, rt.alloc(), k)?;
+        play_on_failing(&rt, rt.alloc(), k)?;
     }
     Ok(())
 }
 
 /// A write forces the log through its image, and no further.
-#[test]
-fn a_write_forces_its_image_alone(rt: HostRuntime) -> Result<(), Fail> {
-    let alloc = rt.alloc();
-    let device = MemDevice::new(alloc, 4)?;
-    let mut engine = Engine::new(alloc, setup_of(2), MemStore::new(alloc, 2)?, device)?;
-    for (event, reply) in [
+fn one_page_of_two() -> [(Event, Reply); 4] {
+    [
         (Event::Begin, began(1, 64)),
         (set(1, 0, 0, 5), logged(128)),
         (set(1, 1, 0, 6), logged(192)),
         (write_begin(0), writing(128)),
-    ] {
-        assert_eq!(rt; engine.apply(event), reply, "{event:?}");
-    }
+    ]
+}
+
+#[test]
+fn a_write_forces_its_image_alone(rt: HostRuntime) -> Result<(), Fail> {
+    let device = MemDevice::new(rt.alloc(), 4)?;
+    let mut engine = engine_on(rt.alloc(), 2, device)?;
+    call(&rt, &mut engine, &one_page_of_two());
     assert_eq!(rt; engine.log.forced_end(), Lsn(192));
-    assert_eq!(rt; engine.apply(Event::Force), forced(256));
+    call(&rt, &mut engine, &[(Event::Force, forced(256))]);
     Ok(())
 }

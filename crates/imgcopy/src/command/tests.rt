@@ -1,4 +1,5 @@
 use super::*;
+use std::process::Abort;
 use std::test::Fail;
 
 fn refusal(alloc: Global, words: &[&str]) -> Result<Option<String>, AllocError> {
@@ -14,50 +15,65 @@ fn takes_redo(rt: HostRuntime) -> Result<(), Fail> {
     Ok(())
 }
 
+/// Asserts how the text of a refusal starts, what it names, and that it tells the usage.
+fn assert_text(rt: &impl Abort, text: &str, start: &str, why: &str, usage: &str) {
+    assert!(rt; text.starts_with(start), "{text}");
+    assert!(rt; text.contains(why), "{text}");
+    assert!(rt; text.contains(usage), "{text}");
+    assert!(rt; text.ends_with('\n'), "{text}");
+}
+
+/// Asserts the text that refuses these words.
+fn assert_refused(
+    rt: &impl Abort,
+    alloc: Global,
+    words: &[&str],
+    start: &str,
+    why: &str,
+    usage: &str,
+) -> Result<(), Fail> {
+    let text = refusal(alloc, words)?.ok_or("a refusal")?;
+    assert_text(rt, text.as_str(), start, why, usage);
+    Ok(())
+}
+
+/// How the program is called.
+const CALL: &str = "Usage: imgcopy <COMMAND>";
+
+/// How its command is called.
+const CALL_REDO: &str = "Usage: imgcopy redo";
+
 #[test]
-fn tells_the_user_why(rt: HostRuntime) -> Result<(), Fail> {
-    let cases: [(&[&str], &str, &str, &str); 9] = [
-        (&[], "error: no command", "redo", "Usage: imgcopy <COMMAND>"),
-        (&["help"], "Usage: ", "redo", "Usage: imgcopy <COMMAND>"),
-        (&["--help"], "Usage: ", "redo", "Usage: imgcopy <COMMAND>"),
-        (&["-h"], "Usage: ", "redo", "Usage: imgcopy <COMMAND>"),
-        (
-            &["run"],
-            "error: unrecognized",
-            "'run'",
-            "Usage: imgcopy <COMMAND>",
-        ),
-        (
-            &["redo", "extra"],
-            "error: ",
-            "'extra'",
-            "Usage: imgcopy redo",
-        ),
-        (
-            &["redo", "--pages"],
-            "error: ",
-            "'--pages'",
-            "Usage: imgcopy redo",
-        ),
-        (
-            &["redo", "--help"],
+fn tells_the_user_the_commands(rt: HostRuntime) -> Result<(), Fail> {
+    assert_refused(&rt, rt.alloc(), &[], "error: no command", "redo", CALL)?;
+    assert_refused(&rt, rt.alloc(), &["help"], "Usage: ", "redo", CALL)?;
+    assert_refused(&rt, rt.alloc(), &["--help"], "Usage: ", "redo", CALL)?;
+    assert_refused(&rt, rt.alloc(), &["-h"], "Usage: ", "redo", CALL)?;
+    assert_refused(
+        &rt,
+        rt.alloc(),
+        &["run"],
+        "error: unrecognized",
+        "'run'",
+        CALL,
+    )
+}
+
+#[test]
+fn tells_the_user_of_redo(rt: HostRuntime) -> Result<(), Fail> {
+    let (extra, option) = (["redo", "extra"], ["redo", "--pages"]);
+    assert_refused(&rt, rt.alloc(), &extra, "error: ", "'extra'", CALL_REDO)?;
+    assert_refused(&rt, rt.alloc(), &option, "error: ", "'--pages'", CALL_REDO)?;
+    for help in ["--help", "-h"] {
+        let words = ["redo", help];
+        assert_refused(
+            &rt,
+            rt.alloc(),
+            &words,
             "Write the volume",
             "Print help",
-            "Usage: imgcopy redo",
-        ),
-        (
-            &["redo", "-h"],
-            "Write the volume",
-            "Print help",
-            "Usage: imgcopy redo",
-        ),
-    ];
-    for (words, start, why, usage) in cases {
-        let text = refusal(rt.alloc(), words)?.ok_or("a refusal")?;
-        assert!(rt; text.starts_with(start), "{text}");
-        assert!(rt; text.contains(why), "{text}");
-        assert!(rt; text.contains(usage), "{text}");
-        assert!(rt; text.ends_with('\n'), "{text}");
+            CALL_REDO,
+        )?;
     }
     Ok(())
 }

@@ -1,6 +1,7 @@
 use super::*;
 use page_core::Lsn;
 use std::io;
+use std::process::Abort;
 use std::test::Fail;
 
 // The parts of the logs in groups of eight bytes, in hexadecimal. `0` is eight zero bytes.
@@ -70,63 +71,107 @@ fn volume_of_four_records(alloc: Global) -> Result<Vec<u8>, Fail> {
     bytes_with(alloc, 512, &OF_FOUR_RECORDS)
 }
 
-#[test]
-fn writes_the_volume(rt: HostRuntime) -> Result<(), Fail> {
-    let cases: [(&[&str], usize, &[(usize, u64)]); 3] = [
-        (
-            &[TWO_PAGES],
-            1024,
-            &[(0, 0x0000000001000000), (512, 0x0100000001000000)],
-        ),
-        (
-            &[ONE_PAGE, BEGIN, SET_SEVEN, ADD_FIVE, COMMIT],
-            512,
-            &OF_FOUR_RECORDS,
-        ),
-        (
-            &[ONE_PAGE, BEGIN, SET_ONE, ADD_THE_MOST],
-            512,
-            &[(0, 0x0000000001000000), (8, 0xc000000000000000)],
-        ),
-    ];
-    for (parts, count, placed) in cases {
-        let log = bytes_of_groups(rt.alloc(), parts)?;
-        let mut volume = Vec::new(rt.alloc());
-        let outcome = redo_stream(rt.alloc(), &mut log.as_slice(), &mut volume);
-        assert_eq!(rt; outcome, Ok(()), "{parts:?}");
-        assert_eq!(rt; volume, bytes_with(rt.alloc(), count, placed)?, "{parts:?}");
-    }
+/// Asserts that a log gives so many bytes, with these groups of eight bytes at these offsets.
+fn assert_volume(
+    rt: &impl Abort,
+    alloc: Global,
+    log: &[u8],
+    count: usize,
+    placed: &[(usize, u64)],
+) -> Result<(), Fail> {
+    let mut volume = Vec::new(alloc);
+    let mut rest = log;
+    assert_eq!(rt; redo_stream(alloc, &mut rest, &mut volume), Ok(()));
+    assert_eq!(rt; volume, bytes_with(alloc, count, placed)?);
     Ok(())
 }
 
 #[test]
-fn writes_nothing_of_what_is_no_log(rt: HostRuntime) -> Result<(), Fail> {
-    let mut cut = four_records(rt.alloc())?;
-    cut.truncate(266);
-    let spoiled = bytes_of_groups(
-        rt.alloc(),
-        &[ONE_PAGE, BEGIN, SET_SEVEN_SPOILED, ADD_FIVE, COMMIT],
-    )?;
-    let outside = bytes_of_groups(rt.alloc(), &[ONE_PAGE, BEGIN, SET_IN_PAGE_ONE])?;
-    let repeated = bytes_of_groups(
-        rt.alloc(),
-        &[ONE_PAGE, BEGIN, SET_SEVEN, ADD_FIVE, COMMIT, COMMIT],
-    )?;
-    let cases: [(&[u8], Fault, &str); 5] = [
-        (&cut, Fault::Torn(Lsn(256)), "E32 Torn 256"),
-        (&spoiled, Fault::BadRecord(Lsn(128)), "E31 BadRecord 128"),
-        (&outside, Fault::BadRecord(Lsn(128)), "E31 BadRecord 128"),
-        (&repeated, Fault::BadRecord(Lsn(320)), "E31 BadRecord 320"),
-        (&[], Fault::BadHeader, "E30 BadHeader"),
-    ];
-    for (input, fault, line) in cases {
-        let mut volume = Vec::new(rt.alloc());
-        let mut rest = input;
-        assert_eq!(rt; redo_stream(rt.alloc(), &mut rest, &mut volume), Err(fault));
-        assert_eq!(rt; fault.to_string(rt.alloc())?.as_str(), line);
-        assert!(rt; volume.is_empty(), "{line}");
-    }
+fn writes_the_volume_of_no_records(rt: HostRuntime) -> Result<(), Fail> {
+    let log = bytes_of_groups(rt.alloc(), &[TWO_PAGES])?;
+    let placed = [(0, 0x0000000001000000), (512, 0x0100000001000000)];
+    assert_volume(&rt, rt.alloc(), &log, 1024, &placed)
+}
+
+#[test]
+fn writes_the_volume_of_four_records(rt: HostRuntime) -> Result<(), Fail> {
+    let log = four_records(rt.alloc())?;
+    assert_volume(&rt, rt.alloc(), &log, 512, &OF_FOUR_RECORDS)
+}
+
+#[test]
+fn writes_the_volume_of_a_sum_that_wraps(rt: HostRuntime) -> Result<(), Fail> {
+    let log = bytes_of_groups(rt.alloc(), &[ONE_PAGE, BEGIN, SET_ONE, ADD_THE_MOST])?;
+    let placed = [(0, 0x0000000001000000), (8, 0xc000000000000000)];
+    assert_volume(&rt, rt.alloc(), &log, 512, &placed)
+}
+
+/// Asserts that a reader gives no log, and that nothing is written.
+fn assert_fault<R: Read>(rt: &impl Abort, alloc: Global, reader: &mut R, fault: Fault) {
+    let mut volume = Vec::new(alloc);
+    assert_eq!(rt; redo_stream(alloc, reader, &mut volume), Err(fault));
+    assert!(rt; volume.is_empty(), "{fault:?}");
+}
+
+/// The same of some bytes, and what the fault's line is.
+fn assert_no_log(
+    rt: &impl Abort,
+    alloc: Global,
+    bytes: &[u8],
+    fault: Fault,
+    line: &str,
+) -> Result<(), Fail> {
+    let mut rest = bytes;
+    assert_fault(rt, alloc, &mut rest, fault);
+    assert_eq!(rt; fault.to_string(alloc)?.as_str(), line);
     Ok(())
+}
+
+#[test]
+fn writes_nothing_of_a_cut_log(rt: HostRuntime) -> Result<(), Fail> {
+    let log = four_records(rt.alloc())?;
+    let fault = Fault::Torn(Lsn(256));
+    assert_no_log(
+        &rt,
+        rt.alloc(),
+        &log[..log.len().min(266)],
+        fault,
+        "E32 Torn 256",
+    )
+}
+
+#[test]
+fn writes_nothing_of_no_bytes(rt: HostRuntime) -> Result<(), Fail> {
+    assert_no_log(&rt, rt.alloc(), &[], Fault::BadHeader, "E30 BadHeader")
+}
+
+fn assert_bad_record(
+    rt: &impl Abort,
+    alloc: Global,
+    parts: &[&str],
+    at: u64,
+    line: &str,
+) -> Result<(), Fail> {
+    let log = bytes_of_groups(alloc, parts)?;
+    assert_no_log(rt, alloc, &log, Fault::BadRecord(Lsn(at)), line)
+}
+
+#[test]
+fn writes_nothing_of_a_spoiled_record(rt: HostRuntime) -> Result<(), Fail> {
+    let parts = [ONE_PAGE, BEGIN, SET_SEVEN_SPOILED, ADD_FIVE, COMMIT];
+    assert_bad_record(&rt, rt.alloc(), &parts, 128, "E31 BadRecord 128")
+}
+
+#[test]
+fn writes_nothing_of_a_page_outside(rt: HostRuntime) -> Result<(), Fail> {
+    let parts = [ONE_PAGE, BEGIN, SET_IN_PAGE_ONE];
+    assert_bad_record(&rt, rt.alloc(), &parts, 128, "E31 BadRecord 128")
+}
+
+#[test]
+fn writes_nothing_of_a_repeated_record(rt: HostRuntime) -> Result<(), Fail> {
+    let parts = [ONE_PAGE, BEGIN, SET_SEVEN, ADD_FIVE, COMMIT, COMMIT];
+    assert_bad_record(&rt, rt.alloc(), &parts, 320, "E31 BadRecord 320")
 }
 
 /// Gives at most `step` bytes at a read. Each read is interrupted so often before. The read after
@@ -160,21 +205,46 @@ impl<'a> Read for Hesitant<'a> {
     }
 }
 
-#[test]
-fn reads_a_hesitant_reader_to_its_end(rt: HostRuntime) -> Result<(), Fail> {
-    let log = four_records(rt.alloc())?;
-    let wanted = volume_of_four_records(rt.alloc())?;
-    for (step, interruptions) in [(1, 0), (1, 3), (7, 3), (64, 1), (512, 3)] {
-        let mut reader = Hesitant {
-            rest: &log,
+impl<'a> Hesitant<'a> {
+    fn new(rest: &'a [u8], step: usize, interruptions: u32) -> Hesitant<'a> {
+        Hesitant {
+            rest,
             step,
             interruptions,
             interrupted: 0,
             good_reads: None,
-        };
-        let mut volume = Vec::new(rt.alloc());
-        assert_eq!(rt; redo_stream(rt.alloc(), &mut reader, &mut volume), Ok(()));
-        assert_eq!(rt; volume, wanted, "{step} bytes at a read");
+        }
+    }
+
+    /// Gives a byte at a read, and fails after so many reads.
+    fn failing(rest: &'a [u8], good_reads: usize) -> Hesitant<'a> {
+        Hesitant {
+            good_reads: Some(good_reads),
+            ..Hesitant::new(rest, 1, 0)
+        }
+    }
+}
+
+/// Asserts that such a reader of the four records gives their volume.
+fn assert_hesitant(
+    rt: &impl Abort,
+    alloc: Global,
+    reader: &mut Hesitant<'_>,
+    step: usize,
+) -> Result<(), Fail> {
+    let mut volume = Vec::new(alloc);
+    assert_eq!(rt; redo_stream(alloc, reader, &mut volume), Ok(()));
+    let wanted = volume_of_four_records(alloc)?;
+    assert_eq!(rt; volume, wanted, "{step} bytes at a read");
+    Ok(())
+}
+
+#[test]
+fn reads_a_hesitant_reader_to_its_end(rt: HostRuntime) -> Result<(), Fail> {
+    let log = four_records(rt.alloc())?;
+    for (step, interruptions) in [(1, 0), (1, 3), (7, 3), (64, 1), (512, 3)] {
+        let mut reader = Hesitant::new(&log, step, interruptions);
+        assert_hesitant(&rt, rt.alloc(), &mut reader, step)?;
     }
     Ok(())
 }
@@ -183,43 +253,23 @@ fn reads_a_hesitant_reader_to_its_end(rt: HostRuntime) -> Result<(), Fail> {
 fn writes_nothing_where_a_read_fails(rt: HostRuntime) -> Result<(), Fail> {
     let log = four_records(rt.alloc())?;
     for good_reads in 0..=log.len() {
-        let mut reader = Hesitant {
-            rest: &log,
-            step: 1,
-            interruptions: 0,
-            interrupted: 0,
-            good_reads: Some(good_reads),
-        };
-        let mut volume = Vec::new(rt.alloc());
-        let outcome = redo_stream(rt.alloc(), &mut reader, &mut volume);
-        assert_eq!(rt; outcome, Err(Fault::ReadFault), "after {good_reads} reads");
-        assert!(rt; volume.is_empty(), "after {good_reads} reads");
+        let mut reader = Hesitant::failing(&log, good_reads);
+        assert_fault(&rt, rt.alloc(), &mut reader, Fault::ReadFault);
     }
     Ok(())
 }
 
 #[test]
 fn a_bad_record_goes_before_a_later_failure(rt: HostRuntime) -> Result<(), Fail> {
-    let log = bytes_of_groups(
-        rt.alloc(),
-        &[ONE_PAGE, BEGIN, SET_SEVEN_SPOILED, ADD_FIVE, COMMIT],
-    )?;
+    let parts = [ONE_PAGE, BEGIN, SET_SEVEN_SPOILED, ADD_FIVE, COMMIT];
+    let log = bytes_of_groups(rt.alloc(), &parts)?;
     for (good_reads, fault) in [
         (191, Fault::ReadFault),
         (192, Fault::BadRecord(Lsn(128))),
         (319, Fault::BadRecord(Lsn(128))),
     ] {
-        let mut reader = Hesitant {
-            rest: &log,
-            step: 1,
-            interruptions: 0,
-            interrupted: 0,
-            good_reads: Some(good_reads),
-        };
-        let mut volume = Vec::new(rt.alloc());
-        let outcome = redo_stream(rt.alloc(), &mut reader, &mut volume);
-        assert_eq!(rt; outcome, Err(fault), "after {good_reads} reads");
-        assert!(rt; volume.is_empty(), "after {good_reads} reads");
+        let mut reader = Hesitant::failing(&log, good_reads);
+        assert_fault(&rt, rt.alloc(), &mut reader, fault);
     }
     Ok(())
 }
@@ -250,12 +300,41 @@ impl Write for Narrow {
     }
 }
 
+impl Narrow {
+    fn new(alloc: Global, step: usize, room: usize, when_full: Option<ErrorKind>) -> Narrow {
+        Narrow {
+            held: Vec::new(alloc),
+            step,
+            room,
+            when_full,
+        }
+    }
+}
+
+/// Asserts what comes of a log that is written to a narrow writer, which then holds the first bytes
+/// of the volume.
+fn assert_narrow(
+    rt: &impl Abort,
+    alloc: Global,
+    log: &[u8],
+    writer: &mut Narrow,
+    outcome: Result<(), Fault>,
+    wanted: &[u8],
+) {
+    let mut rest = log;
+    assert_eq!(rt; redo_stream(alloc, &mut rest, writer), outcome);
+    assert!(rt;
+        Some(writer.held.as_slice()) == wanted.get(..writer.room),
+        "{outcome:?}"
+    );
+}
+
 #[test]
 fn counts_what_a_narrow_writer_took(rt: HostRuntime) -> Result<(), Fail> {
     let log = four_records(rt.alloc())?;
     let wanted = volume_of_four_records(rt.alloc())?;
     let broken = Some(ErrorKind::BrokenPipe);
-    let cases = [
+    for (step, room, when_full, outcome) in [
         (1, 512, broken, Ok(())),
         (100, 512, broken, Ok(())),
         (512, 0, broken, Err(Fault::WriteFault(0))),
@@ -265,59 +344,38 @@ fn counts_what_a_narrow_writer_took(rt: HostRuntime) -> Result<(), Fail> {
         (1, 7, None, Err(Fault::WriteFault(7))),
         (7, 100, broken, Err(Fault::WriteFault(100))),
         (512, 511, broken, Err(Fault::WriteFault(511))),
-    ];
-    for (step, room, when_full, outcome) in cases {
-        let mut writer = Narrow {
-            held: Vec::new(rt.alloc()),
-            step,
-            room,
-            when_full,
-        };
-        assert_eq!(rt;
-            redo_stream(rt.alloc(), &mut log.as_slice(), &mut writer),
-            outcome
-        );
-        assert_eq!(rt;
-            Some(writer.held.as_slice()),
-            wanted.get(..room),
-            "{room} bytes"
-        );
+    ] {
+        let mut writer = Narrow::new(rt.alloc(), step, room, when_full);
+        assert_narrow(&rt, rt.alloc(), &log, &mut writer, outcome, &wanted);
     }
     Ok(())
 }
 
-/// More pages than go out at once, to a writer that takes all of them or fails within the last one.
+/// The bytes of 513 formatted pages, which are more than go out at once.
+fn formatted_volume(alloc: Global) -> Result<Vec<u8>, Fail> {
+    let mut bytes = Vec::new(alloc);
+    for number in 0..513u32 {
+        bytes.extend_from_slice(&number.to_le_bytes())?;
+        bytes.extend_from_slice(&[1, 0, 0, 0])?;
+        bytes.extend_from_slice(&[0; 504])?;
+    }
+    Ok(bytes)
+}
+
+/// To a writer that takes all of them or fails within the last one.
 #[test]
 fn writes_many_pages(rt: HostRuntime) -> Result<(), Fail> {
-    let log = bytes_of_groups(
-        rt.alloc(),
-        &["41494d474c4f4731 0102000000000000 0 0 0 0 0 0"],
-    )?;
-    let mut wanted = Vec::new(rt.alloc());
-    for number in 0..513u32 {
-        wanted.extend_from_slice(&number.to_le_bytes())?;
-        wanted.extend_from_slice(&[1, 0, 0, 0])?;
-        wanted.extend_from_slice(&[0; 504])?;
-    }
+    let parts = ["41494d474c4f4731 0102000000000000 0 0 0 0 0 0"];
+    let log = bytes_of_groups(rt.alloc(), &parts)?;
+    let wanted = formatted_volume(rt.alloc())?;
+    let broken = Some(ErrorKind::BrokenPipe);
     for (room, outcome) in [
         (262_656, Ok(())),
         (262_151, Err(Fault::WriteFault(262_151))),
         (262_144, Err(Fault::WriteFault(262_144))),
     ] {
-        let mut writer = Narrow {
-            held: Vec::new(rt.alloc()),
-            step: 4096,
-            room,
-            when_full: Some(ErrorKind::BrokenPipe),
-        };
-        assert_eq!(rt;
-            redo_stream(rt.alloc(), &mut log.as_slice(), &mut writer),
-            outcome
-        );
-        assert!(rt;
-            Some(writer.held.as_slice()) == wanted.get(..room),
-            "{room} bytes"
-        );
+        let mut writer = Narrow::new(rt.alloc(), 4096, room, broken);
+        assert_narrow(&rt, rt.alloc(), &log, &mut writer, outcome, &wanted);
     }
     Ok(())
 }
@@ -348,32 +406,44 @@ impl Write for Interrupted {
     }
 }
 
+impl Interrupted {
+    fn new(alloc: Global, first: usize, interruptions: u32) -> Interrupted {
+        Interrupted {
+            held: Vec::new(alloc),
+            first,
+            interruptions,
+            interrupted: 0,
+        }
+    }
+}
+
+/// Asserts what comes of a log that is written to such a writer, and which bytes it took.
+fn assert_interrupted(
+    rt: &impl Abort,
+    alloc: Global,
+    log: &[u8],
+    writer: &mut Interrupted,
+    outcome: Result<(), Fault>,
+    wanted: Option<&[u8]>,
+) {
+    let mut rest = log;
+    assert_eq!(rt; redo_stream(alloc, &mut rest, writer), outcome);
+    assert!(rt; Some(writer.held.as_slice()) == wanted, "{outcome:?}");
+}
+
 #[test]
 fn tries_an_interrupted_write_again(rt: HostRuntime) -> Result<(), Fail> {
     let log = four_records(rt.alloc())?;
     let wanted = volume_of_four_records(rt.alloc())?;
-    let cases = [
+    for (first, interruptions, count, outcome) in [
         (0, 16, 512, Ok(())),
         (0, 17, 0, Err(Fault::WriteFault(0))),
         (9, 17, 9, Err(Fault::WriteFault(9))),
         (511, 17, 511, Err(Fault::WriteFault(511))),
-    ];
-    for (first, interruptions, count, outcome) in cases {
-        let mut writer = Interrupted {
-            held: Vec::new(rt.alloc()),
-            first,
-            interruptions,
-            interrupted: 0,
-        };
-        assert_eq!(rt;
-            redo_stream(rt.alloc(), &mut log.as_slice(), &mut writer),
-            outcome
-        );
-        assert_eq!(rt;
-            Some(writer.held.as_slice()),
-            wanted.get(..count),
-            "{count} bytes"
-        );
+    ] {
+        let mut writer = Interrupted::new(rt.alloc(), first, interruptions);
+        let taken = wanted.get(..count);
+        assert_interrupted(&rt, rt.alloc(), &log, &mut writer, outcome, taken);
     }
     Ok(())
 }

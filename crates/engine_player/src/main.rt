@@ -1,0 +1,200 @@
+//! Makes calls of the engine, and again where one was refused for want of memory, and tells
+//! whether one was.
+#![tactic(auto)]
+
+use aries_core::{Answer, Engine, Event, Refusal, Reply, Setup, play};
+use log_store::MemDevice;
+use page_core::{Lsn, PageNo, SlotNo, TxnNo};
+use page_store::MemStore;
+use std::alloc::Global;
+
+const SETUP: Setup = Setup {
+    pages: 1,
+    frames: 1,
+};
+
+fn set(txn: u32, number: u64) -> Event {
+    Event::Set {
+        txn: TxnNo(txn),
+        page: PageNo(0),
+        slot: SlotNo(0),
+        number,
+    }
+}
+
+fn add(txn: u32, slot: u16, amount: u64) -> Event {
+    Event::Add {
+        txn: TxnNo(txn),
+        page: PageNo(0),
+        slot: SlotNo(slot),
+        amount,
+    }
+}
+
+fn began(txn: u32, lsn: u64) -> Reply {
+    Ok(Answer::Began {
+        txn: TxnNo(txn),
+        lsn: Lsn(lsn),
+    })
+}
+
+fn logged(lsn: u64) -> Reply {
+    Ok(Answer::Logged(Lsn(lsn)))
+}
+
+fn row() -> [(Event, Reply); 18] {
+    let one = TxnNo(1);
+    let page = PageNo(0);
+    [
+        (Event::Begin, began(1, 64)),
+        (set(1, 5), logged(128)),
+        (add(1, 0, 3), logged(192)),
+        (Event::WriteBegin(page), Ok(Answer::Writing(Lsn(192)))),
+        (Event::Begin, began(2, 256)),
+        (set(2, 9), Err(Refusal::SlotBusy(one))),
+        (add(2, 1, 7), logged(320)),
+        (Event::WriteEnd(page), Ok(Answer::Written(Lsn(192)))),
+        (Event::WriteBegin(page), Ok(Answer::Writing(Lsn(320)))),
+        (Event::WriteEnd(page), Ok(Answer::Written(Lsn(320)))),
+        (Event::Abort(one), logged(384)),
+        (Event::UndoStep(one), Ok(Answer::Undid(Lsn(448)))),
+        (Event::UndoStep(one), Ok(Answer::Undid(Lsn(512)))),
+        (Event::UndoStep(one), Ok(Answer::Ended(Lsn(576)))),
+        (Event::UndoStep(one), Err(Refusal::NoTxn)),
+        (set(2, 9), logged(640)),
+        (Event::Commit(TxnNo(2)), logged(704)),
+        (Event::Force, Ok(Answer::Forced(Lsn(768)))),
+    ]
+}
+
+fn new_engine(alloc: Global) -> Option<Engine<MemStore, MemDevice>> {
+    let store = MemStore::new(alloc, 1).ok()?;
+    let device = MemDevice::new(alloc, 14).ok()?;
+    Engine::new(alloc, SETUP, store, device).ok()
+}
+
+/// Makes a call, and makes it again where memory was refused. The reply, and whether it was.
+fn call(engine: &mut Engine<MemStore, MemDevice>, event: &Event) -> (Reply, bool) {
+    let reply = engine.apply(*event);
+    if reply == Err(Refusal::OutOfMemory) {
+        (engine.apply(*event), true)
+    } else {
+        (reply, false)
+    }
+}
+
+/// Has a new transaction change each slot, so that all that an engine keeps of it grows.
+fn change_each_slot(engine: &mut Engine<MemStore, MemDevice>) -> Option<bool> {
+    let (begun, mut again) = call(engine, &Event::Begin);
+    if begun != began(3, 768) {
+        return None;
+    }
+    for slot in 0..62 {
+        let (given, was_refused) = call(engine, &add(3, slot, 1));
+        if given != logged(832 + 64 * slot as u64) {
+            return None;
+        }
+        again = again || was_refused;
+    }
+    Some(again)
+}
+
+/// An engine, and whether it was made again.
+fn engine_in_two(alloc: Global) -> Option<(Engine<MemStore, MemDevice>, bool)> {
+    match new_engine(alloc) {
+        Some(engine) => Some((engine, false)),
+        None => Some((new_engine(alloc)?, true)),
+    }
+}
+
+/// Makes the calls of a row, and tells whether one was made again; None at a wrong reply.
+fn call_each(engine: &mut Engine<MemStore, MemDevice>, row: &[(Event, Reply)]) -> Option<bool> {
+    let mut again = false;
+    for (event, reply) in row {
+        let (given, was_refused) = call(engine, event);
+        if given != *reply {
+            return None;
+        }
+        again = again || was_refused;
+    }
+    Some(change_each_slot(engine)? || again)
+}
+
+/// Makes the calls one by one, and tells whether one was made again; None at a wrong reply.
+fn call_row(alloc: Global, row: &[(Event, Reply)]) -> Option<bool> {
+    let (mut engine, again) = engine_in_two(alloc)?;
+    Some(call_each(&mut engine, row)? || again)
+}
+
+fn events_of(alloc: Global, row: &[(Event, Reply)]) -> Option<Vec<Event>> {
+    let mut events = Vec::with_capacity(alloc, row.len()).ok()?;
+    for &(event, _) in row {
+        events.push(event).ok()?;
+    }
+    Some(events)
+}
+
+/// Plays these events on a new engine.
+fn replies_of(alloc: Global, events: &[Event]) -> Option<Vec<Reply>> {
+    let store = MemStore::new(alloc, 1).ok()?;
+    let device = MemDevice::new(alloc, 14).ok()?;
+    Some(play(alloc, SETUP, store, device, events).ok()?.replies)
+}
+
+/// Whether no reply tells that memory was refused.
+fn had_memory(replies: &[Reply]) -> bool {
+    replies
+        .iter()
+        .all(|reply| *reply != Err(Refusal::OutOfMemory))
+}
+
+/// The replies to the events as one list; None where memory was refused.
+fn replies_to(alloc: Global, row: &[(Event, Reply)]) -> Option<Vec<Reply>> {
+    let events = events_of(alloc, row)?;
+    let replies = replies_of(alloc, &events)?;
+    if had_memory(&replies) {
+        Some(replies)
+    } else {
+        None
+    }
+}
+
+/// Plays the events, and tells whether they were played again; None at a wrong reply.
+fn play_row(alloc: Global, row: &[(Event, Reply)]) -> Option<bool> {
+    let mut again = false;
+    let replies = match replies_to(alloc, row) {
+        Some(replies) => replies,
+        None => {
+            again = true;
+            replies_to(alloc, row)?
+        }
+    };
+    if replies.len() != row.len() {
+        return None;
+    }
+    for (&given, &(_, reply)) in replies.iter().zip(row) {
+        if given != reply {
+            return None;
+        }
+    }
+    Some(again)
+}
+
+fn make_both(alloc: Global) -> Option<bool> {
+    let row = row();
+    let called = call_row(alloc, &row)?;
+    let played = play_row(alloc, &row)?;
+    Some(called || played)
+}
+
+fn main(rt: HostRuntime) {
+    let text = match make_both(rt.alloc()) {
+        Some(again) => if again {
+            "a call was made again"
+        } else {
+            "each call was made once"
+        },
+        None => "a reply is wrong",
+    };
+    let _ = rt.eprintln(text);
+}
