@@ -1,5 +1,5 @@
 -- What the steps of a checkpoint append, and what it is after them.
-use Rattle.std.specs.Prelude.{ℕ, ◌≡◌, ◌+◌, ◌<◌, List, [], ◌∷◌, length, min, Option, Some, None}
+use Rattle.std.specs.Prelude.{ℕ, ◌+◌, ◌<◌, List, [], ◌∷◌, length, min, Option, Some, None}
 use Rattle.std.specs.Prelude.{IfSome}
 use Rattle.std.specs.List.{fold}
 use Rattle.std.specs.Option.{option_map_or}
@@ -86,6 +86,15 @@ txns_step rs from c =
     })
     (next_open rs from)
     (record { next = None; ckpt = record c { phase = gathered } })
+
+-- one step of a gather, of pages with these last writes; there is none once all is gathered
+abbrev pub step_in : Phase → List Record → List ℕ → CkptView Phase → Gathering
+step_in (in_pages from) rs written c = pages_step rs written from c
+step_in (in_txns from) rs written c = txns_step rs from c
+step_in gathered rs written c = record { next = None; ckpt = c }
+
+abbrev pub gather_step : List Record → List ℕ → CkptView Phase → Gathering
+gather_step rs written c = step_in c.phase rs written c
 
 -- ---- the end
 

@@ -9,7 +9,7 @@ ghost use Rattle.log_records.specs.declared.limits.TheConstants.{MAX_RECORDS};
 ghost use Rattle.log_records.specs.declared.record.Record.{Record};
 ghost use Rattle.log_records.specs.declared.record.Record.TheVariants.{BeginChkpt};
 ghost use Rattle.log_records.specs.DirtyPage.{entries_of};
-ghost use Rattle.log_records.specs.Log.{IsLog, with_next};
+ghost use Rattle.log_records.specs.Log.{IsLog, Log, with_next};
 ghost use Rattle.log_history.specs.Checkpoint.{IsCompleteCheckpoint, open_checkpoint, redo_point};
 ghost use Rattle.log_history.specs.Linked.{MayFollow};
 ghost use Rattle.log_history.specs.Transactions.{first_lsn, is_open, undo_next};
@@ -86,6 +86,7 @@ impl Ckpt<Pages> {
             → AreCovered log.new.log.records stored (pages_ckpt c)) }
 
         ensures refused { OnErr result (log.new.log ≡ log.old.log) }
+        ensures valid { IsLog log.new.log }
         ensures forced_end { log.new.forced_end ≡ log.old.forced_end }
         ensures device { log.new.device ≡ log.old.device }
     {
@@ -127,6 +128,7 @@ impl Ckpt<Pages> {
 
         ensures refused { IfErr result (λ c. c ≡ self) }
         ensures same { OnErr result (log.new.log ≡ log.old.log) }
+        ensures valid { IsLog log.new.log }
         ensures forced_end { log.new.forced_end ≡ log.old.forced_end }
         ensures device { log.new.device ≡ log.old.device }
     {
@@ -151,9 +153,26 @@ impl Ckpt<Pages> {
             },
         }))
     }
+
+    /// Whether `pages` would append a record: whether a dirty page is left.
+    pub fn would_append<S: PageStore>(&self, pool: &Pool<S>) -> bool
+        ensures { (log : Log) → IsPoolOf S.stored log pool.now → IsTrue result
+            ↔ IsSome (pages_step log.records (written_of pool.now.states) self.now.phase
+            (pages_ckpt self.now)).next }
+    {
+        pool.dirty_from(self.phase.from).is_some()
+    }
 }
 
 impl Ckpt<Txns> {
+    /// Whether `txns` would append a record: whether an open transaction is left.
+    pub fn would_append(&self, table: &TxnTable) -> bool
+        ensures { (rs : List Record) → IsTableOf rs table.now → IsTrue result
+            ↔ IsSome (txns_step rs self.now.phase (txns_ckpt self.now)).next }
+    {
+        table.next_from(self.phase.from).is_some()
+    }
+
     /// Gathers the open transaction with the least number that was not passed yet into one record.
     /// Where none is left, it appends nothing, and all is gathered. `Err` comes where memory is
     /// refused.
@@ -180,6 +199,7 @@ impl Ckpt<Txns> {
 
         ensures refused { IfErr result (λ c. c ≡ self) }
         ensures same { OnErr result (log.new.log ≡ log.old.log) }
+        ensures valid { IsLog log.new.log }
         ensures forced_end { log.new.forced_end ≡ log.old.forced_end }
         ensures device { log.new.device ≡ log.old.device }
     {
@@ -238,6 +258,8 @@ impl Ckpt<Gathered> {
             AllCover log.new.log.records (S.stored pool.now.store) point.redo) }
         ensures complete { IfOk result (λ point.
             IsCompleteCheckpoint log.new.log.records point.begin point.end) }
+        ensures order { IfOk result (λ point. (point.redo ≤ point.begin)
+            × (point.begin < point.end)) }
         ensures forced { OnOk result (log.new.forced_end ≡ end_of log.new.log.records) }
         ensures logged { OnOk result (log.new.log
             ≡ with_next log.old.log (end_record log.old.log.records self ∷ [])) }
@@ -247,6 +269,7 @@ impl Ckpt<Gathered> {
         ensures no_failure { OnOk result (D.failures log.new.device ≡ D.failures log.old.device) }
         ensures cause { IfErr result (λ why. IsLogFault why
             → D.failures log.old.device < D.failures log.new.device) }
+        ensures valid { IsLog log.new.log }
     {
         let lsn = end_of(log);
         if log.make_room().is_err() {

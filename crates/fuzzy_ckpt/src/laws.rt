@@ -1,13 +1,15 @@
 //! Laws of checkpoints that are being taken, for those who go on beside them.
 
-ghost use Rattle.std.specs.Prelude.{ℕ, ◌≡◌, ◌<◌, ◌≤◌, ◌∷◌, ◌++◌, [], List, length, slice_set};
+ghost use Rattle.std.specs.Prelude.{ℕ, ◌≡◌, ◌<◌, ◌≤◌, ◌∷◌, ◌++◌, [], List, length, slice_set, None};
 ghost use Rattle.std.specs.Prelude.{slice_index_or};
 ghost use Rattle.page_core.specs.declared.page.Page.{Page};
 ghost use Rattle.log_records.specs.declared.limits.TheConstants.{MAX_RECORDS};
 ghost use Rattle.log_records.specs.declared.record.Record.{Record};
+ghost use Rattle.log_records.specs.declared.record.Record.TheVariants.{EndChkpt};
 ghost use Rattle.log_records.specs.Coverage.{IsPast};
 ghost use Rattle.log_records.specs.Log.{IsLog, Log, lsn_of, with_next};
 ghost use Rattle.log_records.specs.Record.{IsOfCheckpoint, IsOfTransaction, own_lsn};
+ghost use Rattle.log_history.specs.Checkpoint.{open_checkpoint};
 ghost use Rattle.log_history.specs.Linked.{IsLinked, MayFollow};
 ghost use Rattle.log_history.specs.Table.{Table};
 ghost use Rattle.buffer_pool.specs.Pool.{IsPoolOf, PoolView};
@@ -19,9 +21,17 @@ use page_store::PageStore;
 /// A record of a transaction leaves an open checkpoint open, as it is: a transaction that begins
 /// now began behind it, and one that ends is not asked for.
 pub fn checkpoints_stay_open_as_transactions_go_on()
-    ensures { (log : Log) (r : Record) (it : CkptView Phase) → IsLog log → IsLinked log.records
+    ensures same { (rs : List Record) (r : Record) → IsOfTransaction r
+        → open_checkpoint (rs ++ r ∷ []) ≡ open_checkpoint rs }
+    ensures kept { (log : Log) (r : Record) (it : CkptView Phase) → IsLog log → IsLinked log.records
         → IsOfTransaction r → MayFollow log.records r → own_lsn r ≡ lsn_of (length log.records)
         → IsCkptOf log.records it → IsCkptOf (log.records ++ r ∷ []) it }
+{}
+
+/// The end of a checkpoint leaves none open.
+pub fn an_ended_checkpoint_is_not_open()
+    ensures { (rs : List Record) (lsn begin redo : ℕ)
+        → open_checkpoint (rs ++ EndChkpt lsn begin redo ∷ []) ≡ None }
 {}
 
 /// A record more leaves what the stored pages cover, since its change is not below the redo point.
