@@ -1,2 +1,3 @@
+pub mod Beside
 pub mod Covers
 pub mod Opens
