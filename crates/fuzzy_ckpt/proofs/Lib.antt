@@ -1,3 +1,4 @@
 pub mod Beside
 pub mod Covers
+pub mod Dirty
 pub mod Opens

@@ -7,6 +7,7 @@ use Rattle.fuzzy_ckpt.specs.declared.ckpt.PagesStep.{PagesStep}
 use Rattle.fuzzy_ckpt.specs.declared.ckpt.PagesStep.TheVariants as pages
 use Rattle.fuzzy_ckpt.specs.declared.ckpt.TxnsStep.{TxnsStep}
 use Rattle.fuzzy_ckpt.specs.declared.ckpt.TxnsStep.TheVariants as txns
+use Rattle.fuzzy_ckpt.specs.declared.phase.Gathered.{Gathered}
 use Rattle.fuzzy_ckpt.specs.declared.point.FinishFault.{FinishFault}
 use Rattle.fuzzy_ckpt.specs.declared.point.FinishFault.TheVariants.{OutOfMemory, LogFault}
 use Rattle.fuzzy_ckpt.specs.Ckpt.{CkptView, Phase, gathered_ckpt, pages_ckpt, txns_ckpt}
@@ -31,7 +32,8 @@ pub record IsUnforced {D : Type 0} (old new : WrittenLog D) (r : Record) : Type 
 
 -- what stands where a checkpoint did not come to its end: nothing has changed, and the checkpoint is
 -- handed back; or its EndChkpt stands in the log, and is not forced
-abbrev pub FailsAs : {D P : Type 0} → WrittenLog D → WrittenLog D → CkptView P → FinishFault → Type 0
+abbrev pub FailsAs : {D : Type 0} → WrittenLog D → WrittenLog D → CkptView Gathered → FinishFault
+    → Type 0
 FailsAs old new c (OutOfMemory back) =
     (back ≡ c) × (new.log ≡ old.log) × (new.forced_end ≡ old.forced_end) × (new.device ≡ old.device)
 FailsAs old new c LogFault = IsUnforced old new (end_record old.log.records c)

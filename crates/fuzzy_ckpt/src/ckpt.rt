@@ -9,7 +9,7 @@ ghost use Rattle.log_records.specs.declared.limits.TheConstants.{MAX_RECORDS};
 ghost use Rattle.log_records.specs.declared.record.Record.{Record};
 ghost use Rattle.log_records.specs.declared.record.Record.TheVariants.{BeginChkpt};
 ghost use Rattle.log_records.specs.DirtyPage.{entries_of};
-ghost use Rattle.log_records.specs.Log.{IsLog, Log, with_next};
+ghost use Rattle.log_records.specs.Log.{IsLog, Log as LogValue, with_next};
 ghost use Rattle.log_history.specs.Checkpoint.{IsCompleteCheckpoint, open_checkpoint, redo_point};
 ghost use Rattle.log_history.specs.Linked.{MayFollow};
 ghost use Rattle.log_history.specs.Transactions.{first_lsn, is_open, undo_next};
@@ -156,7 +156,7 @@ impl Ckpt<Pages> {
 
     /// Whether `pages` would append a record: whether a dirty page is left.
     pub fn would_append<S: PageStore>(&self, pool: &Pool<S>) -> bool
-        ensures { (log : Log) → IsPoolOf S.stored log pool.now → IsTrue result
+        ensures { (log : LogValue) → IsPoolOf S.stored log pool.now → IsTrue result
             ↔ IsSome (pages_step log.records (written_of pool.now.states) self.now.phase
             (pages_ckpt self.now)).next }
     {
