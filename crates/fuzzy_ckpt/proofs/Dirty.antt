@@ -51,12 +51,11 @@ entries_are f a (suc n) =
 
 -- ---- they rise
 
-pub AreRising : List DirtyPage → Type 0
+abbrev pub AreRising : List DirtyPage → Type 0
 AreRising [] = Unit {0}
 AreRising (e ∷ es) = All (λ x. e.page < x.page) es × AreRising es
 
 rising_entries : (f : ℕ → Option ℕ) (a n : ℕ) → AreRising (entries f a n)
-unfolding AreRising
 rising_entries f a zero = tt
 rising_entries f a (suc n) = by_lsn (f a) (rising_entries f (a + 1) n)
   where
@@ -70,7 +69,6 @@ rising_entries f a (suc n) = by_lsn (f a) (rising_entries f (a + 1) n)
         )
 
 rising_filter : (test : DirtyPage → Bool) (es : List DirtyPage) → AreRising es → AreRising (filter test es)
-unfolding AreRising
 rising_filter test [] rising = tt
 rising_filter test (e ∷ es) rising = by_test (test e) (rising_filter test es rising.1)
   where
@@ -79,7 +77,6 @@ rising_filter test (e ∷ es) rising = by_test (test e) (rising_filter test es r
     by_test false rest = rest
 
 rising_take : (n : ℕ) (es : List DirtyPage) → AreRising es → AreRising (take n es)
-unfolding AreRising
 rising_take zero es rising = tt
 rising_take (suc n) [] rising = tt
 rising_take (suc n) (e ∷ es) rising = (All-take (λ x. e.page < x.page) n es rising.0, rising_take n es rising.1)
@@ -87,7 +84,7 @@ rising_take (suc n) (e ∷ es) rising = (All-take (λ x. e.page < x.page) n es r
 -- ---- none is left out
 
 -- an entry is among these, unless they are so many, and all before it
-Among : ℕ → List DirtyPage → ℕ → ℕ → Type 0
+abbrev Among : ℕ → List DirtyPage → ℕ → ℕ → Type 0
 Among k es p lsn =
     Contains es (record { page = p; rec_lsn = lsn }) ⊎ ((k ≤ length es) × All (λ e. e.page < p) es)
 
@@ -98,49 +95,51 @@ head_of p lsn a l es same is = (0, omega arith, λ i. record { page = sym same i
 behind : (e x : DirtyPage) (es : List DirtyPage) → Contains es x → Contains (e ∷ es) x
 behind e x es has = (suc has.0, let lt = has.1 in omega arith, has.2)
 
+module _ (f : ℕ → Option ℕ) (from a n p lsn : ℕ) (low : a ≤ p) (le : from ≤ p) (is : f p ≡ Some lsn)
+    (later : (k : ℕ) → a < p → Among k (take k (above from (entries f (a + 1) n))) p lsn) where
+  taken : (k l : ℕ) → f a ≡ Some l → Among k (take k (record { page = a; rec_lsn = l } ∷ above from (entries f (a + 1) n))) p lsn
+  taken zero l here = inr (omega arith, All-nil (λ (e : DirtyPage). e.page < p))
+  taken (suc k) l here =
+      let e : DirtyPage = record { page = a; rec_lsn = l } in
+      let es = take k (above from (entries f (a + 1) n)) in
+      elim (cases_eq p a) [
+        | inl same ↦
+            let both : Some l ≡ Some lsn = sym here ∙ ap f (sym same) ∙ is in
+            let one : l ≡ lsn = cc in
+            inl (head_of p lsn a l es same one)
+        | inr other ↦
+            let lt : a < p = omega arith in
+            elim (later k lt) [
+              | inl has ↦ inl (behind e (record { page = p; rec_lsn = lsn }) es has)
+              | inr all ↦
+                  let long = all.0 in
+                  inr (omega arith, All-cons (λ (x : DirtyPage). x.page < p) e es lt all.1)
+            ]
+      ]
+
+  found_next : (k : ℕ) (o : Option ℕ) → f a ≡ o
+      → Among k (take k (above from (cons_option (entry a o) (entries f (a + 1) n)))) p lsn
+  found_next k None none = elim (cases_eq p a) [
+    | inl same ↦ let both : None ≡ Some lsn = sym none ∙ ap f (sym same) ∙ is in cc
+    | inr other ↦ let lt : a < p = omega arith in later k lt
+  ]
+  found_next k (Some l) here =
+      let e : DirtyPage = record { page = a; rec_lsn = l } in
+      let es = above from (entries f (a + 1) n) in
+      elim (cases_lt a from) [
+        | inl below ↦
+            let lt : a < p = omega arith in
+            subst (λ (b : Bool). Among k (take k (cond b (e ∷ es) es)) p lsn) (sym (lt-leb from a below)) (later k lt)
+        | inr high ↦
+            subst (λ (b : Bool). Among k (take k (cond b (e ∷ es) es)) p lsn) (sym (le-leb from a high)) (taken k l here)
+      ]
+
 found : (f : ℕ → Option ℕ) (from k a n p lsn : ℕ) → a ≤ p → p < a + n → from ≤ p → f p ≡ Some lsn
     → Among k (take k (above from (entries f a n))) p lsn
 found f from k a zero p lsn low high le is = absurd (omega arith)
-found f from k a (suc n) p lsn low high le is = by_lsn (f a) refl
-  where
-    rest : List DirtyPage
-    rest = entries f (a + 1) n
-
-    later : (k : ℕ) → a < p → Among k (take k (above from rest)) p lsn
-    later k lt = found f from k (a + 1) n p lsn (omega arith) (omega arith) le is
-
-    taken : (k l : ℕ) → f a ≡ Some l
-        → Among k (take k (record { page = a; rec_lsn = l } ∷ above from rest)) p lsn
-    unfolding Among
-    taken zero l here = inr (omega arith, All-nil (λ (e : DirtyPage). e.page < p))
-    taken (suc k) l here = elim (cases_eq p a) [
-      | inl same ↦
-          let both : Some l ≡ Some lsn = sym here ∙ ap f (sym same) ∙ is in
-          let one : l ≡ lsn = cc in
-          inl (head_of p lsn a l (take k (above from rest)) same one)
-      | inr other ↦
-          let lt : a < p = omega arith in
-          elim (later k lt) [
-            | inl has ↦ inl (behind (record { page = a; rec_lsn = l }) (record { page = p; rec_lsn = lsn }) (take k (above from rest)) has)
-            | inr all ↦ inr (let long = all.0 in omega arith,
-                All-cons (λ (e : DirtyPage). e.page < p) (record { page = a; rec_lsn = l }) (take k (above from rest)) lt all.1)
-          ]
-    ]
-
-    by_lsn : (o : Option ℕ) → f a ≡ o → Among k (take k (above from (cons_option (entry a o) rest))) p lsn
-    by_lsn None none = elim (cases_eq p a) [
-      | inl same ↦ let both : None ≡ Some lsn = sym none ∙ ap f (sym same) ∙ is in cc
-      | inr other ↦ let lt : a < p = omega arith in later k lt
-    ]
-    by_lsn (Some l) here = elim (cases_lt a from) [
-      | inl below ↦
-          let lt : a < p = omega arith in
-          subst (λ (b : Bool). Among k (take k (cond b (record { page = a; rec_lsn = l } ∷ above from rest) (above from rest))) p lsn)
-          (sym (lt-leb from a below)) (later k lt)
-      | inr high ↦
-          subst (λ (b : Bool). Among k (take k (cond b (record { page = a; rec_lsn = l } ∷ above from rest) (above from rest))) p lsn)
-          (sym (le-leb from a high)) (taken k l here)
-    ]
+found f from k a (suc n) p lsn low high le is =
+    found_next f from a n p lsn low le is
+    (λ k lt. found f from k (a + 1) n p lsn (omega arith) (omega arith) le is) k (f a) refl
 
 -- ---- the next ones
 
@@ -153,14 +152,16 @@ next_are : (f : ℕ → Option ℕ) (from end : ℕ) → AreNext f from end (tak
 next_are f from end =
     let all = entries f 0 end in
     let passed = filter_passes (λ (e : DirtyPage). nat_le from e.page) all in
-    let kept = All-filter (λ (e : DirtyPage). nat_le from e.page) (IsEntry f 0 end) all (entries_are f 0 end) in
+    let sum : 0 + end ≡ end = omega arith in
+    let are = subst (λ (n : ℕ). All (IsEntry f 0 n) all) sum (entries_are f 0 end) in
+    let kept = All-filter (λ (e : DirtyPage). nat_le from e.page) (IsEntry f 0 end) all are in
     record {
       each = All-take (IsEntry f from end) 3 (above from all) (λ i d lt.
           let is = kept i d lt in
           record { later = leb-true from _ (passed i d lt); within = is.within; dirty = is.dirty });
       rising = rising_take 3 (above from all)
           (rising_filter (λ (e : DirtyPage). nat_le from e.page) all (rising_entries f 0 end));
-      found_or_past = λ p lsn le lt is. found f from 3 0 end p lsn (omega arith) lt le is;
+      found_or_past = λ p lsn le lt is. found f from 3 0 end p lsn (omega arith) (omega arith) le is;
     }
 
 -- the RecLSN of each page
@@ -173,7 +174,6 @@ next_dirty_are rs written from = next_are (lsn_at rs written) from (length writt
 
 -- where there are none, no page is dirty
 pub none_left : (f : ℕ → Option ℕ) (from end : ℕ) → AreNext f from end [] → (p : ℕ) → from ≤ p → p < end → f p ≡ None
-unfolding Among
 none_left f from end next p le lt = by_lsn (f p) refl
   where
     by_lsn : (o : Option ℕ) → f p ≡ o → o ≡ None
@@ -187,7 +187,6 @@ none_left f from end next p le lt = by_lsn (f p) refl
 pub none_between : (f : ℕ → Option ℕ) (from end : ℕ) (pages : DirtyPages) → AreNext f from end (entries_of pages)
     → (p lsn : ℕ) → from ≤ p → p < end → p < last_page pages + 1 → f p ≡ Some lsn
     → Contains (entries_of pages) (record { page = p; rec_lsn = lsn })
-unfolding Among
 none_between f from end (One a) next p lsn le lt low is = elim (next.found_or_past p lsn le lt is) [
   | inl has ↦ has
   | inr all ↦ let long = all.0 in absurd (omega arith)
@@ -204,7 +203,6 @@ none_between f from end (Three a b c) next p lsn le lt low is = elim (next.found
 -- none of them is past the last
 pub upto_last : (f : ℕ → Option ℕ) (from end : ℕ) (pages : DirtyPages) → AreNext f from end (entries_of pages)
     → All (λ e. e.page < last_page pages + 1) (entries_of pages)
-unfolding AreRising
 upto_last f from end (One a) next = All-cons (λ e. e.page < a.page + 1) a [] (omega arith) (All-nil (λ (e : DirtyPage). e.page < a.page + 1))
 upto_last f from end (Two a b) next =
     let P = λ (e : DirtyPage). e.page < b.page + 1 in

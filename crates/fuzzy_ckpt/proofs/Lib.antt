@@ -2,3 +2,4 @@ pub mod Beside
 pub mod Covers
 pub mod Dirty
 pub mod Opens
+pub mod PagesSteps

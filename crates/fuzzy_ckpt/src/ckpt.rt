@@ -9,7 +9,7 @@ ghost use Rattle.log_records.specs.declared.limits.TheConstants.{MAX_RECORDS};
 ghost use Rattle.log_records.specs.declared.record.Record.{Record};
 ghost use Rattle.log_records.specs.declared.record.Record.TheVariants.{BeginChkpt};
 ghost use Rattle.log_records.specs.DirtyPage.{entries_of};
-ghost use Rattle.log_records.specs.Log.{IsLog, Log as LogValue, with_next};
+ghost use Rattle.log_records.specs.Log.{IsLog, Log as LogValue, StandsAt, with_next};
 ghost use Rattle.log_history.specs.Checkpoint.{IsCompleteCheckpoint, open_checkpoint, redo_point};
 ghost use Rattle.log_history.specs.Linked.{MayFollow};
 ghost use Rattle.log_history.specs.Transactions.{first_lsn, is_open, undo_next};
@@ -91,8 +91,7 @@ impl Ckpt<Pages> {
         ensures device { log.new.device ≡ log.old.device }
     {
         let begin = log.end();
-        log.make_room()?;
-        log.append(Record::BeginChkpt { lsn: begin });
+        append(log, Record::BeginChkpt { lsn: begin })?;
         Ok(Ckpt {
             begin,
             redo: begin,
@@ -140,18 +139,17 @@ impl Ckpt<Pages> {
                 phase: Txns { from: TxnNo(0) },
             }));
         };
-        let lsn = end_of(log);
-        if log.make_room().is_err() {
-            return Err(Ckpt { begin, redo, phase });
+        let lsn = log.end();
+        match append(log, Record::ChkptPages { lsn, begin, pages }) {
+            Ok(()) => Ok(PagesStep::More(Ckpt {
+                begin,
+                redo: least_of(redo, pages),
+                phase: Pages {
+                    from: behind(pages),
+                },
+            })),
+            Err(_) => Err(Ckpt { begin, redo, phase }),
         }
-        log.append(Record::ChkptPages { lsn, begin, pages });
-        Ok(PagesStep::More(Ckpt {
-            begin,
-            redo: least_of(redo, pages),
-            phase: Pages {
-                from: behind(pages),
-            },
-        }))
     }
 
     /// Whether `pages` would append a record: whether a dirty page is left.
@@ -211,25 +209,24 @@ impl Ckpt<Txns> {
                 phase: Gathered,
             }));
         };
-        let lsn = end_of(log);
-        if log.make_room().is_err() {
-            return Err(Ckpt { begin, redo, phase });
-        }
-        log.append(Record::ChkptTxns {
-            lsn,
+        let next = Record::ChkptTxns {
+            lsn: end_of(log),
             begin,
             txn: state.txn,
             state: state.phase(),
             last: state.last,
             undo_next: undo_next(table, &state),
-        });
-        Ok(TxnsStep::More(Ckpt {
-            begin,
-            redo,
-            phase: Txns {
-                from: TxnNo(state.txn.0 + 1),
-            },
-        }))
+        };
+        match append(log, next) {
+            Ok(()) => Ok(TxnsStep::More(Ckpt {
+                begin,
+                redo,
+                phase: Txns {
+                    from: TxnNo(state.txn.0 + 1),
+                },
+            })),
+            Err(_) => Err(Ckpt { begin, redo, phase }),
+        }
     }
 }
 
@@ -272,14 +269,14 @@ impl Ckpt<Gathered> {
         ensures valid { IsLog log.new.log }
     {
         let lsn = end_of(log);
-        if log.make_room().is_err() {
-            return Err(FinishFault::OutOfMemory(self));
-        }
-        log.append(Record::EndChkpt {
+        let next = Record::EndChkpt {
             lsn,
             begin: self.begin,
             redo: self.redo,
-        });
+        };
+        if append(log, next).is_err() {
+            return Err(FinishFault::OutOfMemory(self));
+        }
         match log.force_to(lsn) {
             Ok(()) => Ok(Point {
                 begin: self.begin,
@@ -289,6 +286,23 @@ impl Ckpt<Gathered> {
             Err(_) => Err(FinishFault::LogFault),
         }
     }
+}
+
+/// Appends a record of a checkpoint.
+fn append<D: LogDevice>(log: &mut Log<D>, next: Record) -> Result<(), AllocError>
+    requires stands { StandsAt log.old.log.pages (end_of log.old.log.records) next }
+    requires few { length log.old.log.records < MAX_RECORDS }
+
+    ensures ok { OnOk result (log.new.log ≡ with_next log.old.log (next ∷ [])) }
+    ensures err { OnErr result (log.new.log ≡ log.old.log) }
+    ensures valid { IsLog log.new.log }
+    ensures forced_end { log.new.forced_end ≡ log.old.forced_end }
+    ensures device { log.new.device ≡ log.old.device }
+{
+    let _end = end_of(log);
+    log.make_room()?;
+    log.append(next);
+    Ok(())
 }
 
 /// The least of an LSN and the RecLSNs of some dirty pages.
