@@ -1,15 +1,15 @@
 -- A step over pages: its record may come next, and what the checkpoint is after it.
 use Rattle.std.proofs.Common.{◌≡◌, ℕ, suc, ◌+◌, ◌-◌, ◌<◌, ◌≤◌, eqb, Bool, true, false, List, [], ◌∷◌, ◌++◌, length, get_or, refl, sym, ap, subst, ◌∙◌}
 use Rattle.std.proofs.Common.{arith, inl, inr, eqb-true, length-append, min}
-use Rattle.std.specs.Prelude.{Option, Some, None, IfSome, IsSomeAnd, nat_lt}
+use Rattle.std.specs.Prelude.{Option, Some, None, IfSome, IsSomeAnd, MatchOption, nat_lt}
 use Rattle.std.specs.List.{All, AllByRecursion, Contains, filter}
 use Rattle.std.specs.Option.{option_map_or}
 use Rattle.std.proofs.lemmas.Bool.{cases_lt}
 use Rattle.std.proofs.lemmas.List.Elements.{All-append, All-contains, All-contains_itself, All-filter, All-get_or, All-nil, All-weaker}
 use Rattle.std.proofs.lemmas.List.Elements.{recursion_from_All}
+use Rattle.std.proofs.lemmas.List.{length-map}
 use Rattle.std.proofs.lemmas.List.Sums.{fold-append}
 use Rattle.std.proofs.lemmas.Option.{get_or_from_slice_get, slice_get_within}
-use Rattle.std.proofs.Math.Nat.{mul-mod_right}
 use Rattle.page_core.specs.declared.page.Page.{Page}
 use Rattle.page_core.specs.declared.page.TheConstants.{MAX_PAGES}
 use Rattle.log_records.specs.declared.dirty_page.DirtyPage.{DirtyPage}
@@ -29,10 +29,13 @@ use Rattle.log_records.proofs.Coverage.{clean_is_image, covers_later, covers_low
 use Rattle.log_history.specs.Checkpoint.{Checkpoint, checkpoint_after, open_checkpoint}
 use Rattle.log_history.specs.Linked.{ArePagesNow, MayFollow, MayRecordPages}
 use Rattle.log_history.specs.Transactions.{last_of}
+use Rattle.buffer_pool.specs.Pool.{IsPoolOf, PageState, PoolView, writing_of, written_of}
 use Rattle.fuzzy_ckpt.specs.Ckpt.{AreCovered, CkptView, IsCkptOf, Phase, in_txns, pages_ckpt}
-use Rattle.fuzzy_ckpt.specs.Steps.{end_of, last_page, past_pages}
+use Rattle.fuzzy_ckpt.specs.Steps.{Gathering, end_of, last_page, pages_step, past_pages}
 use Rattle.fuzzy_ckpt.proofs.Covers.{now_covers}
-use Rattle.fuzzy_ckpt.proofs.Dirty.{AreNext, IsEntry, last_is, lsn_at, next_dirty_are, none_between, none_left, upto_last}
+use Rattle.fuzzy_ckpt.proofs.Dirty.{AreNext, IsEntry, last_is, lsn_at, next_dirty_are, none_between, none_left, pages_of_entries, upto_last}
+use Rattle.fuzzy_ckpt.proofs.Ends.{end_is_lsn}
+use Rattle.fuzzy_ckpt.proofs.Leasts.{from_none, from_some, least_in}
 use Rattle.fuzzy_ckpt.proofs.Opens.{begin_before, ckpt_redo_before, lowered, lowered_falls, lowered_least, open_push}
 
 -- ---- one stored page
@@ -113,29 +116,6 @@ module _ (log : Log) (stored : List Page) (written : List ℕ) (writing : List (
 
 -- ---- a RecLSN is the LSN of a change
 
-least_in : (ns : List ℕ) (m : ℕ) → least ns ≡ Some m → Contains ns m
-least_in [] m is = cc
-least_in (n ∷ ns) m is = by_rest (least_in ns) (least ns) refl
-  where
-    by_rest : ((k : ℕ) → least ns ≡ Some k → Contains ns k) → (o : Option ℕ) → least ns ≡ o → Contains (n ∷ ns) m
-    by_rest rest None none =
-        let alone : Some n ≡ Some m = ap (λ (o : Option ℕ). Some (option_map_or (min n) o n)) (sym none) ∙ is in
-        let here : n ≡ m = cc in
-        (0, omega arith, here)
-    by_rest rest (Some k) some =
-        let both : Some (min n k) ≡ Some m = ap (λ (o : Option ℕ). Some (option_map_or (min n) o n)) (sym some) ∙ is in
-        let here : min n k ≡ m = cc in
-        elim (cases_lt k n) [
-          | inl less ↦
-              let one : k ≡ m = omega arith in
-              let has = rest k some in
-              let lt = has.1 in
-              subst (Contains (n ∷ ns)) one (suc has.0, omega arith, has.2)
-          | inr le ↦
-              let one : n ≡ m = omega arith in
-              (0, omega arith, one)
-        ]
-
 pub rec_is_change : (rs : List Record) (p written lsn : ℕ) → rec_lsn rs p written ≡ Some lsn → Contains (changes_on rs p) lsn
 rec_is_change rs p written lsn is =
     All-contains (Contains (changes_on rs p)) (filter (nat_lt written) (changes_on rs p)) lsn
@@ -215,13 +195,6 @@ pages_follow rs written c pages lsn next is =
 
 -- ---- the record
 
-pub end_is_lsn : (n : ℕ) → n ≤ MAX_RECORDS → IsLsn (lsn_of n)
-end_is_lsn n few = record {
-  aligned = mul-mod_right 64 (n + 1);
-  past_header = omega arith;
-  fits = omega arith;
-}
-
 -- a change stands before the end
 change_before : (log : Log) (p lsn : ℕ) → IsLog log → Contains (changes_on log.records p) lsn
     → IsBefore (end_of log.records) lsn
@@ -261,9 +234,26 @@ are_pages log written from (Three a b c) valid count next = (
   next.rising.1.0 0 c (omega arith),
 )
 
+-- the step of a search that found some
+pages_found : (rs : List Record) (written : List ℕ) (c : CkptView ℕ) (pages : DirtyPages)
+    → entries_of pages ≡ next_dirty (dirty rs written) c.phase
+    → pages_step rs written c.phase (pages_ckpt c)
+    ≡ record { next = Some (ChkptPages (end_of rs) c.begin pages); ckpt = past_pages pages (pages_ckpt c) }
+pages_found rs written c pages found =
+    let none : Gathering = record { next = None; ckpt = record (pages_ckpt c) { phase = in_txns 0 } } in
+    let some : DirtyPages → Gathering = λ pages. record {
+      next = Some (ChkptPages (end_of rs) c.begin pages);
+      ckpt = past_pages pages (pages_ckpt c);
+    } in
+    ap (λ (o : Option DirtyPages). option_map_or some o none)
+    (pages_of_entries pages (next_dirty (dirty rs written) c.phase) found)
+
 -- ---- what holds of a step that has found dirty pages
 
-pub record MorePages (log : Log) (stored : List Page) (c : CkptView ℕ) (pages : DirtyPages) : Type 0 where
+pub record MorePages (log : Log) (stored : List Page) (written : List ℕ) (c : CkptView ℕ)
+    (pages : DirtyPages) : Type 0 where
+  pub step : pages_step log.records written c.phase (pages_ckpt c)
+      ≡ record { next = Some (ChkptPages (end_of log.records) c.begin pages); ckpt = past_pages pages (pages_ckpt c) }
   pub fits : last_page pages < MAX_PAGES
   pub follows : MayFollow log.records (ChkptPages (end_of log.records) c.begin pages)
   pub stands : length log.records < MAX_RECORDS
@@ -272,10 +262,10 @@ pub record MorePages (log : Log) (stored : List Page) (c : CkptView ℕ) (pages 
   pub covered : AreCovered (log.records ++ ChkptPages (end_of log.records) c.begin pages ∷ []) stored
       (past_pages pages (pages_ckpt c))
 
-pub more_pages : (log : Log) (stored : List Page) (written : List ℕ) (writing : List (Option Page)) (c : CkptView ℕ)
+more_pages : (log : Log) (stored : List Page) (written : List ℕ) (writing : List (Option Page)) (c : CkptView ℕ)
     (pages : DirtyPages) → IsLog log → log.pages ≡ length written → AreStored log.records stored written writing
     → IsCkptOf log.records (pages_ckpt c) → AreCovered log.records stored (pages_ckpt c)
-    → entries_of pages ≡ next_dirty (dirty log.records written) c.phase → MorePages log stored c pages
+    → entries_of pages ≡ next_dirty (dirty log.records written) c.phase → MorePages log stored written c pages
 more_pages log stored written writing c pages valid count are is covered found =
     let rs = log.records in
     let end = length written in
@@ -286,6 +276,7 @@ more_pages log stored written writing c pages valid count are is covered found =
     let before = ckpt_redo_before log (pages_ckpt c) valid is in
     let low = lowered_falls (entries_of pages) c.redo in
     record {
+      step = pages_found rs written c pages found;
       fits = let lt = last.1 in omega arith;
       follows = pages_follow rs written c pages (end_of rs) next is;
       stands = λ few. record {
@@ -305,3 +296,38 @@ more_pages log stored written writing c pages valid count are is covered found =
           covers_later rs (ChkptPages (end_of rs) c.begin pages) p (get_or stored p d) (lowered c.redo (entries_of pages))
           (omega arith) (more_covered log stored written writing c valid count are covered pages found p d lt passed);
     }
+
+
+-- ---- of a pool
+
+count_is : {S : Type 0} (stored_in : S → List Page) (log : Log) (pool : PoolView S) → IsPoolOf stored_in log pool
+    → log.pages ≡ length (written_of pool.states)
+count_is stored_in log pool of = of.pages ∙ sym (length-map pool.states (λ (s : PageState). s.written))
+
+-- what a pool answers of its dirty pages
+abbrev Answers : List DirtyPage → ℕ → Option DirtyPages → Type 0
+Answers table from o = MatchOption o (next_dirty table from ≡ []) (λ some. entries_of some ≡ next_dirty table from)
+
+pub pool_more : {S : Type 0} (stored_in : S → List Page) (log : Log) (pool : PoolView S) (c : CkptView ℕ) (from : ℕ)
+    (o : Option DirtyPages) (pages : DirtyPages) → IsPoolOf stored_in log pool → IsCkptOf log.records (pages_ckpt c)
+    → AreCovered log.records (stored_in pool.store) (pages_ckpt c) → from ≡ c.phase
+    → Answers (dirty log.records (written_of pool.states)) from o → o ≡ Some pages
+    → MorePages log (stored_in pool.store) (written_of pool.states) c pages
+pool_more stored_in log pool c from o pages of is covered same answer some =
+    let table = dirty log.records (written_of pool.states) in
+    more_pages log (stored_in pool.store) (written_of pool.states) (writing_of pool.states) c pages of.valid
+    (count_is stored_in log pool of) of.stored is covered
+    (from_some o pages (next_dirty table from ≡ []) (λ x. entries_of x ≡ next_dirty table from) some answer
+    ∙ ap (next_dirty table) same)
+
+pub pool_none : {S : Type 0} (stored_in : S → List Page) (log : Log) (pool : PoolView S) (c : CkptView ℕ) (from : ℕ)
+    (o : Option DirtyPages) → IsPoolOf stored_in log pool
+    → AreCovered log.records (stored_in pool.store) (pages_ckpt c) → from ≡ c.phase
+    → Answers (dirty log.records (written_of pool.states)) from o → o ≡ None
+    → AreCovered log.records (stored_in pool.store) (record (pages_ckpt c) { phase = in_txns 0 })
+pool_none stored_in log pool c from o of covered same answer none =
+    let table = dirty log.records (written_of pool.states) in
+    none_covered log (stored_in pool.store) (written_of pool.states) (writing_of pool.states) c of.valid
+    (count_is stored_in log pool of) of.stored covered
+    (ap (next_dirty table) (sym same)
+    ∙ from_none o (next_dirty table from ≡ []) (λ x. entries_of x ≡ next_dirty table from) none answer) 0

@@ -12,7 +12,9 @@ ghost use Rattle.log_records.specs.DirtyPage.{entries_of};
 ghost use Rattle.log_records.specs.Log.{IsLog, Log as LogValue, StandsAt, with_next};
 ghost use Rattle.log_history.specs.Checkpoint.{IsCompleteCheckpoint, open_checkpoint, redo_point};
 ghost use Rattle.log_history.specs.Linked.{MayFollow};
-ghost use Rattle.log_history.specs.Transactions.{first_lsn, is_open, undo_next};
+ghost use Rattle.log_history.specs.Table.{entry_of};
+ghost use Rattle.log_history.specs.Transactions.{is_open};
+ghost use Rattle.log_history.specs.TxnState.{state_of};
 ghost use Rattle.log_store.specs.WrittenLog.{EndsAtRecord};
 ghost use Rattle.buffer_pool.specs.Pool.{IsPoolOf, written_of};
 ghost use Rattle.txn_table.specs.TxnTable.{IsTableOf};
@@ -20,7 +22,7 @@ ghost use Rattle.fuzzy_ckpt.specs.Ckpt.{AllCover, AreCovered, IsCkptOf, gathered
 ghost use Rattle.fuzzy_ckpt.specs.Ckpt.{txns_ckpt};
 ghost use Rattle.fuzzy_ckpt.specs.Steps.{HasRoom, end_of, end_record, last_page, new_ckpt};
 ghost use Rattle.fuzzy_ckpt.specs.Steps.{pages_step};
-ghost use Rattle.fuzzy_ckpt.specs.Steps.{txns_step, with_step};
+ghost use Rattle.fuzzy_ckpt.specs.Steps.{txn_record, txns_step, with_step};
 ghost use Rattle.fuzzy_ckpt.specs.Answers.{FailsAs, IsLogFault, after_pages, after_txns};
 
 use crate::phase::{Gathered, Pages, Txns};
@@ -202,6 +204,7 @@ impl Ckpt<Txns> {
         ensures device { log.new.device ≡ log.old.device }
     {
         let Ckpt { begin, redo, phase } = self;
+        let lsn = end_of(log);
         let Some(state) = table.next_from(phase.from) else {
             return Ok(TxnsStep::Passed(Ckpt {
                 begin,
@@ -209,14 +212,7 @@ impl Ckpt<Txns> {
                 phase: Gathered,
             }));
         };
-        let next = Record::ChkptTxns {
-            lsn: end_of(log),
-            begin,
-            txn: state.txn,
-            state: state.phase(),
-            last: state.last,
-            undo_next: undo_next(table, &state),
-        };
+        let next = txn_record(table, lsn, begin, &state);
         match append(log, next) {
             Ok(()) => Ok(TxnsStep::More(Ckpt {
                 begin,
@@ -327,14 +323,23 @@ fn behind(pages: DirtyPages) -> PageNo
     PageNo(last.page + 1)
 }
 
-/// The UndoNxt of an open transaction: the LSN of its last pending Update, or of its Begin.
-fn undo_next(table: &TxnTable, state: &TxnState) -> Lsn
-    ensures { (rs : List Record) → IsTableOf rs table.now → is_open rs state.now.txn ≡ true
-        → state.now.first ≡ first_lsn rs state.now.txn → result ≡ undo_next rs state.now.txn }
+/// The record of an open transaction.
+fn txn_record(table: &TxnTable, lsn: Lsn, begin: Lsn, state: &TxnState) -> Record
+    ensures { (rs : List Record) → IsTableOf rs table.now → lsn ≡ end_of rs
+        → is_open rs state.now.txn ≡ true → state.now ≡ state_of (entry_of rs state.now.txn)
+        → result ≡ txn_record rs begin state.now.txn }
 {
-    match table.last_pending(state.txn) {
+    let undo_next = match table.last_pending(state.txn) {
         Some(last) => last.lsn,
         None => state.first,
+    };
+    Record::ChkptTxns {
+        lsn,
+        begin,
+        txn: state.txn,
+        state: state.phase(),
+        last: state.last,
+        undo_next,
     }
 }
 
