@@ -218,7 +218,7 @@ impl Ckpt<Txns> {
                 begin,
                 redo,
                 phase: Txns {
-                    from: TxnNo(state.txn.0 + 1),
+                    from: next_number(state.txn),
                 },
             })),
             Err(_) => Err(Ckpt { begin, redo, phase }),
@@ -341,6 +341,14 @@ fn txn_record(table: &TxnTable, lsn: Lsn, begin: Lsn, state: &TxnState) -> Recor
         last: state.last,
         undo_next,
     }
+}
+
+/// The number behind a transaction's.
+fn next_number(txn: TxnNo) -> TxnNo
+    requires { txn ≤ MAX_RECORDS }
+    ensures { result ≡ txn + 1 }
+{
+    TxnNo(txn.0 + 1)
 }
 
 /// The LSN that the next record has.
