@@ -10,9 +10,9 @@ use Rattle.log_records.specs.Coverage.{Covers, IsPast, changes, changes_on}
 use Rattle.log_records.specs.Image.{image}
 use Rattle.log_records.specs.Log.{IsLog, Log, lsn_of}
 use Rattle.log_records.specs.Record.{own_lsn}
-use Rattle.log_records.proofs.Coverage.{covers_later, covers_lower, has_each, of_each}
+use Rattle.log_records.proofs.Coverage.{covers_later, has_each, of_each}
 use Rattle.log_records.proofs.Stored.{past_now}
-use Rattle.fuzzy_ckpt.specs.Ckpt.{AllCover, AreCovered, CkptView, IsCkptOf, IsPassed, Phase}
+use Rattle.fuzzy_ckpt.specs.Ckpt.{AllCover, AreCovered, CkptView, IsCkptOf, Phase}
 use Rattle.fuzzy_ckpt.proofs.Opens.{ckpt_redo_before}
 
 -- ---- a record more

@@ -5,7 +5,7 @@ use Rattle.std.specs.Prelude.{Option, Some, None, nat_le}
 use Rattle.std.specs.List.{All, Contains, cons_option, filter, filter_map, range_with_len}
 use Rattle.std.specs.Option.{option_map}
 use Rattle.std.proofs.lemmas.Bool.{cases_eq, cases_lt, le-leb, leb-true, lt-leb}
-use Rattle.std.proofs.lemmas.List.Elements.{All-cons, All-filter, All-head, All-nil, All-tail, All-take, All-weaker, filter_passes}
+use Rattle.std.proofs.lemmas.List.Elements.{All-cons, All-filter, All-head, All-nil, All-take, All-weaker, filter_passes}
 use Rattle.log_records.specs.declared.dirty_page.DirtyPage.{DirtyPage}
 use Rattle.log_records.specs.declared.dirty_page.DirtyPages.{DirtyPages}
 use Rattle.log_records.specs.declared.dirty_page.DirtyPages.TheVariants.{One, Two, Three}
@@ -61,12 +61,11 @@ rising_entries f a (suc n) = by_lsn (f a) (rising_entries f (a + 1) n)
   where
     by_lsn : (o : Option ℕ) → AreRising (entries f (a + 1) n) → AreRising (cons_option (entry a o) (entries f (a + 1) n))
     by_lsn None rest = rest
-    by_lsn (Some lsn) rest =
-        (
-          All-weaker (IsEntry f (a + 1) (a + 1 + n)) (λ x. a < x.page) (λ x is. let later = is.later in omega arith)
-              (entries f (a + 1) n) (entries_are f (a + 1) n),
-          rest,
-        )
+    by_lsn (Some lsn) rest = (
+      All-weaker (IsEntry f (a + 1) (a + 1 + n)) (λ x. a < x.page) (λ x is. let later = is.later in omega arith)
+          (entries f (a + 1) n) (entries_are f (a + 1) n),
+      rest,
+    )
 
 rising_filter : (test : DirtyPage → Bool) (es : List DirtyPage) → AreRising es → AreRising (filter test es)
 rising_filter test [] rising = tt

@@ -1,17 +1,16 @@
 -- The ends of a checkpoint, and where they stand.
-use Rattle.std.proofs.Common.{◌≡◌, ℕ, ◌+◌, ◌<◌, ◌≤◌, List, [], ◌∷◌, ◌++◌, length, get_or, refl, sym, ap, subst, ◌∙◌, arith}
+use Rattle.std.proofs.Common.{◌≡◌, ℕ, ◌+◌, ◌<◌, ◌≤◌, List, [], ◌∷◌, ◌++◌, length, refl, arith}
 use Rattle.std.specs.Prelude.{Result, Ok, Err, OnOk, is_err, false}
-use Rattle.std.specs.List.{All}
 use Rattle.std.proofs.Math.Nat.{mul-mod_right}
 use Rattle.std.proofs.lemmas.List.Elements.{All-nil}
 use Rattle.page_core.specs.declared.page.Page.{Page}
 use Rattle.log_records.specs.declared.dirty_page.DirtyPage.{DirtyPage}
 use Rattle.log_records.specs.declared.limits.TheConstants.{MAX_RECORDS}
 use Rattle.log_records.specs.declared.record.Record.{Record}
-use Rattle.log_records.specs.declared.record.Record.TheVariants.{BeginChkpt, EndChkpt}
+use Rattle.log_records.specs.declared.record.Record.TheVariants.{BeginChkpt}
 use Rattle.log_records.specs.Log.{IsLog, Log, StandsAt, lsn_of}
-use Rattle.log_records.specs.Record.{IsLsn, own_lsn}
-use Rattle.fuzzy_ckpt.specs.Ckpt.{AllCover, AreCovered, CkptView, IsCkptOf, Phase, gathered_ckpt}
+use Rattle.log_records.specs.Record.{IsLsn}
+use Rattle.fuzzy_ckpt.specs.Ckpt.{AllCover, AreCovered, CkptView, IsCkptOf, gathered_ckpt}
 use Rattle.fuzzy_ckpt.specs.Steps.{end_of, end_record, new_ckpt}
 use Rattle.fuzzy_ckpt.proofs.Covers.{all_later}
 use Rattle.fuzzy_ckpt.proofs.Opens.{begin_before, ckpt_redo_before, lowered_falls, open_push}

@@ -1,6 +1,6 @@
 -- A step over pages: its record may come next, and what the checkpoint is after it.
-use Rattle.std.proofs.Common.{◌≡◌, ℕ, suc, ◌+◌, ◌-◌, ◌<◌, ◌≤◌, eqb, Bool, true, false, List, [], ◌∷◌, ◌++◌, length, get_or, refl, sym, ap, subst, ◌∙◌}
-use Rattle.std.proofs.Common.{arith, inl, inr, eqb-true, length-append, min}
+use Rattle.std.proofs.Common.{◌≡◌, ℕ, ◌+◌, ◌-◌, ◌<◌, ◌≤◌, eqb, true, false, List, [], ◌∷◌, ◌++◌, length, get_or, refl, sym, ap, subst, ◌∙◌}
+use Rattle.std.proofs.Common.{arith, inl, inr, eqb-true, min}
 use Rattle.std.specs.Prelude.{Option, Some, None, IfSome, IsSomeAnd, MatchOption, nat_lt}
 use Rattle.std.specs.List.{All, AllByRecursion, Contains, filter}
 use Rattle.std.specs.Option.{option_map_or}
@@ -19,18 +19,17 @@ use Rattle.log_records.specs.declared.limits.TheConstants.{MAX_RECORDS}
 use Rattle.log_records.specs.declared.page_change.PageChange.{PageChange}
 use Rattle.log_records.specs.declared.record.Record.{Record}
 use Rattle.log_records.specs.declared.record.Record.TheVariants.{ChkptPages}
-use Rattle.log_records.specs.Coverage.{AreStored, Covers, IsPast, changes, changes_on, dirty, next_dirty, rec_lsn}
+use Rattle.log_records.specs.Coverage.{AreStored, Covers, IsPast, changes_on, dirty, next_dirty, rec_lsn}
 use Rattle.log_records.specs.DirtyPage.{entries_of}
-use Rattle.log_records.specs.Least.{least}
-use Rattle.log_records.specs.Log.{IsLog, IsWithin, Log, StandsAt, lsn_of}
-use Rattle.log_records.specs.Record.{AreDirtyPages, IsBefore, IsDirtyPage, IsLsn, change_of, own_lsn}
+use Rattle.log_records.specs.Log.{IsLog, Log, StandsAt}
+use Rattle.log_records.specs.Record.{AreDirtyPages, IsBefore, IsDirtyPage, change_of}
 use Rattle.log_records.proofs.Changes.{change_within, valid_change}
 use Rattle.log_records.proofs.Coverage.{clean_is_image, covers_later, covers_lower, dirty_covers, of_each}
-use Rattle.log_history.specs.Checkpoint.{Checkpoint, checkpoint_after, open_checkpoint}
-use Rattle.log_history.specs.Linked.{ArePagesNow, MayFollow, MayRecordPages}
+use Rattle.log_history.specs.Checkpoint.{Checkpoint, checkpoint_after}
+use Rattle.log_history.specs.Linked.{MayFollow, MayRecordPages}
 use Rattle.log_history.specs.Transactions.{last_of}
 use Rattle.buffer_pool.specs.Pool.{IsPoolOf, PageState, PoolView, writing_of, written_of}
-use Rattle.fuzzy_ckpt.specs.Ckpt.{AreCovered, CkptView, IsCkptOf, Phase, in_txns, pages_ckpt}
+use Rattle.fuzzy_ckpt.specs.Ckpt.{AreCovered, CkptView, IsCkptOf, in_txns, pages_ckpt}
 use Rattle.fuzzy_ckpt.specs.Steps.{Gathering, end_of, last_page, pages_step, past_pages}
 use Rattle.fuzzy_ckpt.proofs.Covers.{now_covers}
 use Rattle.fuzzy_ckpt.proofs.Dirty.{AreNext, IsEntry, last_is, lsn_at, next_dirty_are, none_between, none_left, pages_of_entries, upto_last}
@@ -105,13 +104,13 @@ module _ (log : Log) (stored : List Page) (written : List ℕ) (writing : List (
       elim (cases_lt p c.phase) [
         | inl before ↦ covered p d lt before
         | inr behind ↦ elim (cases_lt p (length written)) [
-            | inl within ↦
-                let clean = none_left (lsn_at rs written) c.phase (length written) next p behind within in
-                stored_covers log stored written writing p c.redo d valid are lt (λ lsn some.
-                let both : None ≡ Some lsn = sym clean ∙ some in cc)
-            | inr outside ↦
-                outside_covers log p c.redo (get_or stored p d) valid (omega arith) (are.pages p d lt).past
-          ]
+          | inl within ↦
+              let clean = none_left (lsn_at rs written) c.phase (length written) next p behind within in
+              stored_covers log stored written writing p c.redo d valid are lt (λ lsn some.
+              let both : None ≡ Some lsn = sym clean ∙ some in cc)
+          | inr outside ↦
+              outside_covers log p c.redo (get_or stored p d) valid (omega arith) (are.pages p d lt).past
+        ]
       ]
 
 -- ---- a RecLSN is the LSN of a change
@@ -185,8 +184,7 @@ pages_follow rs written c pages lsn next is =
           (All-weaker (IsEntry (lsn_at rs written) c.phase (length written)) (λ e. last.page < e.page)
           (λ e it. let later = it.later in omega arith) es next.each))
           (last_has (λ e. e.page < c.phase) is.ckpt.pages is.behind.0);
-    } in
-    (
+    } in (
       subst (λ (o : Option Checkpoint). IsSomeAnd o (MayRecordPages c.begin pages)) (sym is.still_open) may,
       recursion_from_All (λ e. Contains (changes_on rs e.page) e.rec_lsn) es
           (All-weaker (IsEntry (lsn_at rs written) c.phase (length written)) (λ e. Contains (changes_on rs e.page) e.rec_lsn)
@@ -296,7 +294,6 @@ more_pages log stored written writing c pages valid count are is covered found =
           covers_later rs (ChkptPages (end_of rs) c.begin pages) p (get_or stored p d) (lowered c.redo (entries_of pages))
           (omega arith) (more_covered log stored written writing c valid count are covered pages found p d lt passed);
     }
-
 
 -- ---- of a pool
 

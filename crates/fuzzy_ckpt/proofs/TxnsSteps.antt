@@ -1,12 +1,12 @@
 -- A step over transactions: its record may come next, and what the checkpoint is after it.
-use Rattle.std.proofs.Common.{◌≡◌, ℕ, suc, ◌+◌, ◌-◌, ◌<◌, ◌≤◌, eqb, Bool, true, false, cond, List, [], ◌∷◌, ◌++◌, length, get_or, map}
+use Rattle.std.proofs.Common.{◌≡◌, ℕ, ◌+◌, ◌-◌, ◌<◌, ◌≤◌, eqb, true, List, [], ◌∷◌, ◌++◌, length, get_or, map}
 use Rattle.std.proofs.Common.{refl, sym, ap, subst, ◌∙◌, arith, inl, inr}
-use Rattle.std.specs.Prelude.{Option, Some, None, IfSome, IsSomeAnd, nat_le, slice_get}
+use Rattle.std.specs.Prelude.{Option, Some, None, IfSome, IsSomeAnd, nat_le}
 use Rattle.std.specs.List.{All, Contains, filter}
 use Rattle.std.specs.Option.{option_map, option_map_or}
 use Rattle.std.proofs.lemmas.Bool.{cases_lt, le-leb, leb-true}
 use Rattle.std.proofs.lemmas.List.{length-map}
-use Rattle.std.proofs.lemmas.List.Elements.{All-contains, All-contains_itself, All-filter, All-get_or, All-head, All-map, All-nil}
+use Rattle.std.proofs.lemmas.List.Elements.{All-contains, All-filter, All-get_or, All-head, All-map, All-nil}
 use Rattle.std.proofs.lemmas.List.Elements.{All-push, All-tail, All-take, All-weaker, Contains-append_left, Contains-push, filter_passes}
 use Rattle.std.proofs.lemmas.Option.{get_or_from_slice_get, slice_get-get_or, slice_get_within}
 use Rattle.page_core.specs.declared.page.Page.{Page}
@@ -14,14 +14,13 @@ use Rattle.log_records.specs.declared.limits.TheConstants.{MAX_RECORDS}
 use Rattle.log_records.specs.declared.record.Record.{Record}
 use Rattle.log_records.specs.declared.record.Record.TheVariants.{Begin, Update, Comp, Commit, Abort, End, BeginChkpt, ChkptPages, ChkptTxns, EndChkpt}
 use Rattle.log_records.specs.Coverage.{Covers}
-use Rattle.log_records.specs.Least.{least}
-use Rattle.log_records.specs.Log.{IsLog, Log, StandsAt, lsn_of}
-use Rattle.log_records.specs.Record.{IsBefore, IsRecord, IsTxn, own_lsn}
+use Rattle.log_records.specs.Log.{IsLog, Log, StandsAt}
+use Rattle.log_records.specs.Record.{IsBefore, IsTxn, own_lsn}
 use Rattle.log_records.proofs.Changes.{valid_change}
 use Rattle.log_records.proofs.Coverage.{covers_later}
 use Rattle.log_history.specs.declared.pending_change.PendingChange.{PendingChange}
 use Rattle.log_history.specs.declared.txn_state.TxnState.{TxnState}
-use Rattle.log_history.specs.Checkpoint.{Checkpoint, checkpoint_after, open_checkpoint}
+use Rattle.log_history.specs.Checkpoint.{Checkpoint, checkpoint_after}
 use Rattle.log_history.specs.Linked.{IsLinked, MayFollow, MayRecordTxn}
 use Rattle.log_history.specs.Table.{entry_of}
 use Rattle.log_history.specs.Transactions.{begun, first_lsn, is_open, last_lsn, last_of, last_or, open_in, pending, pending_from, records_of, txn_of, undo_next, with_pending}
@@ -29,7 +28,7 @@ use Rattle.log_history.specs.TxnState.{state_of}
 use Rattle.log_history.proofs.Begun.{begun_bounds, open_has_begun, some_from_begin}
 use Rattle.txn_table.specs.TxnTable.{next_open}
 use Rattle.txn_table.proofs.Tables.{begun_few}
-use Rattle.fuzzy_ckpt.specs.Ckpt.{AreCovered, CkptView, IsCkptOf, Phase, gathered, in_txns, txns_ckpt}
+use Rattle.fuzzy_ckpt.specs.Ckpt.{AreCovered, CkptView, IsCkptOf, gathered, in_txns, txns_ckpt}
 use Rattle.fuzzy_ckpt.specs.Steps.{Gathering, end_of, txn_record, txns_step}
 use Rattle.fuzzy_ckpt.proofs.Ends.{end_is_lsn}
 use Rattle.fuzzy_ckpt.proofs.Leasts.{least_in, least_low, least_none, of_kept}
@@ -127,8 +126,7 @@ next_at : (rs : List Record) (from t : ℕ) → next_open rs from ≡ Some t
     → (from ≤ t) × (is_open rs t ≡ true) × All (λ n. nat_le from n ≡ true → t ≤ n) (open_in rs)
 next_at rs from t is =
     let ns = filter (nat_le from) (open_in rs) in
-    let has = least_in ns t is in
-    (
+    let has = least_in ns t is in (
       leb-true from t (All-contains (λ n. nat_le from n ≡ true) ns t (filter_passes (nat_le from) (open_in rs)) has),
       All-contains (λ n. is_open rs n ≡ true) ns t
           (All-filter (nat_le from) (λ n. is_open rs n ≡ true) (open_in rs) (filter_passes (is_open rs) (begun rs))) has,

@@ -1,5 +1,5 @@
 -- What the steps of a checkpoint answer.
-use Rattle.std.specs.Prelude.{ℕ, ◌≡◌, ◌<◌, ◌≤◌, [], ◌∷◌}
+use Rattle.std.specs.Prelude.{◌≡◌, ◌<◌, ◌≤◌, [], ◌∷◌}
 use Rattle.log_records.specs.declared.record.Record.{Record}
 use Rattle.log_records.specs.Log.{with_next}
 use Rattle.log_store.specs.WrittenLog.{EndsAtRecord, WrittenLog}

@@ -4,7 +4,6 @@ use Rattle.std.specs.List.{All}
 use Rattle.page_core.specs.declared.page.Page.{Page}
 use Rattle.log_records.specs.declared.record.Record.{Record}
 use Rattle.log_records.specs.Coverage.{Covers}
-use Rattle.log_records.specs.Log.{lsn_of}
 use Rattle.log_history.specs.Checkpoint.{Checkpoint, open_checkpoint, redo_point}
 use Rattle.log_history.specs.Linked.{HasOldTxns}
 use Rattle.log_history.specs.Transactions.{first_lsn, open_in}

@@ -110,8 +110,7 @@ impl Ckpt<Pages> {
     ) -> Result<PagesStep, Ckpt<Pages>>
         requires ckpt { IsCkptOf log.old.log.records (pages_ckpt self) }
         requires pool { IsPoolOf S.stored log.old.log pool.now }
-        requires covered {
-            AreCovered log.old.log.records (S.stored pool.now.store) (pages_ckpt self) }
+        requires covered { AreCovered log.old.log.records (S.stored pool.now.store) (pages_ckpt self) }
         requires room { HasRoom log.old.log.records (pages_step log.old.log.records
             (written_of pool.now.states) self.phase (pages_ckpt self)).next }
 
@@ -236,8 +235,7 @@ impl Ckpt<Gathered> {
         pool: &Pool<S>,
     ) -> Result<Point, FinishFault>
         requires ckpt { IsCkptOf log.old.log.records (gathered_ckpt self) }
-        requires covered {
-            AreCovered log.old.log.records (S.stored pool.now.store) (gathered_ckpt self) }
+        requires covered { AreCovered log.old.log.records (S.stored pool.now.store) (gathered_ckpt self) }
         requires few { length log.old.log.records < MAX_RECORDS }
 
         ensures point { IfOk result (λ point. point ≡ record {
@@ -265,10 +263,11 @@ impl Ckpt<Gathered> {
         ensures valid { IsLog log.new.log }
     {
         let lsn = end_of(log);
+        let redo = self.redo;
         let next = Record::EndChkpt {
             lsn,
             begin: self.begin,
-            redo: self.redo,
+            redo,
         };
         if append(log, next).is_err() {
             return Err(FinishFault::OutOfMemory(self));
@@ -277,7 +276,7 @@ impl Ckpt<Gathered> {
             Ok(()) => Ok(Point {
                 begin: self.begin,
                 end: lsn,
-                redo: self.redo,
+                redo,
             }),
             Err(_) => Err(FinishFault::LogFault),
         }
@@ -308,9 +307,7 @@ fn least_of(redo: Lsn, pages: DirtyPages) -> Lsn
     match pages {
         DirtyPages::One(a) => Lsn(redo.0.min(a.rec_lsn)),
         DirtyPages::Two(a, b) => Lsn(redo.0.min(a.rec_lsn).min(b.rec_lsn)),
-        DirtyPages::Three(a, b, c) => {
-            Lsn(redo.0.min(a.rec_lsn).min(b.rec_lsn).min(c.rec_lsn))
-        }
+        DirtyPages::Three(a, b, c) => { Lsn(redo.0.min(a.rec_lsn).min(b.rec_lsn).min(c.rec_lsn)) }
     }
 }
 

@@ -1,8 +1,7 @@
-use Rattle.std.proofs.Common.{◌≡◌, ◌∙◌, ℕ, ◌<◌, ◌≤◌, ◌∷◌, [], sym, subst, ap, arith}
-use Rattle.page_core.specs.declared.page.Page.{Page}
+use Rattle.std.proofs.Common.{◌≡◌, ◌∙◌, ℕ, ◌<◌, ◌≤◌, ◌∷◌, [], sym, subst}
 use Rattle.log_records.specs.declared.record.Record.TheVariants.{EndChkpt}
 use Rattle.log_records.specs.Log.{Log, StandsAt, with_next}
-use Rattle.fuzzy_ckpt.specs.Ckpt.{AllCover, CkptView, IsCkptOf}
+use Rattle.fuzzy_ckpt.specs.Ckpt.{AllCover, CkptView}
 use Rattle.fuzzy_ckpt.specs.Steps.{end_of, end_record}
 use Rattle.fuzzy_ckpt.specs.declared.phase.Gathered.{Gathered}
 use Rattle.fuzzy_ckpt.proofs.Ends.{end_covers, end_order, end_stands, said}

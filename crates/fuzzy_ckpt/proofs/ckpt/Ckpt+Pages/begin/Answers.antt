@@ -1,4 +1,4 @@
-use Rattle.std.proofs.Common.{◌∷◌, [], sym, subst, ap}
+use Rattle.std.proofs.Common.{sym, subst}
 use Rattle.log_records.specs.Log.{Log}
 use Rattle.fuzzy_ckpt.specs.Ckpt.{IsCkptOf}
 use Rattle.fuzzy_ckpt.specs.Steps.{new_ckpt}

@@ -4,7 +4,7 @@ use Rattle.log_records.specs.declared.record.Record.TheVariants.{ChkptPages}
 use Rattle.log_records.specs.DirtyPage.{entries_of}
 use Rattle.log_records.specs.Log.{Log, StandsAt, with_next}
 use Rattle.log_history.specs.Linked.{MayFollow}
-use Rattle.fuzzy_ckpt.specs.Ckpt.{AreCovered, CkptView, IsCkptOf, Phase, in_pages, in_txns, pages_ckpt}
+use Rattle.fuzzy_ckpt.specs.Ckpt.{AreCovered, CkptView, IsCkptOf, in_pages, in_txns, pages_ckpt}
 use Rattle.fuzzy_ckpt.specs.Steps.{Gathering, HasRoom, end_of, past_pages}
 use Rattle.fuzzy_ckpt.proofs.Opens.{lowered}
 use Rattle.fuzzy_ckpt.proofs.PagesSteps.{pool_more, pool_none}
@@ -72,7 +72,7 @@ returns-in-Ok-clause-ckpt g c =
     ∙ ap (λ (v : CkptView ℕ). with_next log (ChkptPages (end_of log.records) v.begin pages ∷ [])) c.self.view_is in
     let redo = c.least_of.ensures ∙ ap (λ (v : CkptView ℕ). lowered v.redo (entries_of pages)) c.self.view_is in
     let view : record { begin = c.self.inside.begin; redo = c.least_of.result; phase = in_pages c.behind.result }
-        ≡ past_pages pages (pages_ckpt c.args.self) = λ i. record {
+    ≡ past_pages pages (pages_ckpt c.args.self) = λ i. record {
       begin = (c.self.view_is i).begin;
       redo = redo i;
       phase = in_pages (c.behind.ensures i);
@@ -99,7 +99,7 @@ returns-in-Ok-clause-covered g c =
     ∙ ap (λ (v : CkptView ℕ). with_next log (ChkptPages (end_of log.records) v.begin pages ∷ [])) c.self.view_is in
     let redo = c.least_of.ensures ∙ ap (λ (v : CkptView ℕ). lowered v.redo (entries_of pages)) c.self.view_is in
     let view : record { begin = c.self.inside.begin; redo = c.least_of.result; phase = in_pages c.behind.result }
-        ≡ past_pages pages (pages_ckpt c.args.self) = λ i. record {
+    ≡ past_pages pages (pages_ckpt c.args.self) = λ i. record {
       begin = (c.self.view_is i).begin;
       redo = redo i;
       phase = in_pages (c.behind.ensures i);

@@ -1,11 +1,10 @@
-use Rattle.std.proofs.Common.{◌≡◌, ◌∙◌, ℕ, ◌<◌, ◌+◌, ◌∷◌, [], List, length, get_or, refl, sym, ap, subst, arith}
+use Rattle.std.proofs.Common.{◌≡◌, ◌∙◌, ℕ, ◌+◌, ◌∷◌, [], get_or, refl, sym, ap, subst, arith}
 use Rattle.std.specs.Prelude.{IfSome}
-use Rattle.page_core.specs.declared.page.Page.{Page}
 use Rattle.log_records.specs.declared.record.Record.{Record}
 use Rattle.log_records.specs.Log.{Log, StandsAt, with_next}
 use Rattle.log_records.specs.Coverage.{Covers}
 use Rattle.log_history.specs.Linked.{MayFollow}
-use Rattle.fuzzy_ckpt.specs.Ckpt.{AreCovered, CkptView, IsCkptOf, Phase, gathered, in_txns, txns_ckpt}
+use Rattle.fuzzy_ckpt.specs.Ckpt.{CkptView, IsCkptOf, Phase, gathered, in_txns, txns_ckpt}
 use Rattle.fuzzy_ckpt.specs.Steps.{Gathering, HasRoom, end_of, txn_record, with_step}
 use Rattle.fuzzy_ckpt.proofs.TxnsSteps.{table_more, table_passed, txns_cover}
 use Rattle.fuzzy_ckpt.proofs.ckpt.Ckpt+Txns.txns.Goals as goal
