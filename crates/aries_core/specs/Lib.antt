@@ -2,6 +2,8 @@ pub mod Accepted
 pub mod Call
 pub mod EngineState
 pub mod EventFits
+pub mod Gather
+pub mod GatherReplies
 pub mod Refusal
 pub mod Run
 pub mod Step

@@ -19,7 +19,7 @@ ghost use Rattle.aries_core.specs.Step.{Step, reply_of, undo_answer};
 ghost use Rattle.aries_core.specs.declared.event.Answer.TheVariants as answer;
 ghost use Rattle.aries_core.specs.declared.event.Event.TheVariants as event;
 
-use crate::event::{Answer, Event, Reply, Undone};
+use crate::event::{Answer, Event, Gathered, Reply, Undone};
 use crate::refusal::Refusal;
 use crate::setup::{PlayFault, Setup};
 use buffer_pool::Pool;
@@ -46,10 +46,10 @@ impl<S: PageStore, D: LogDevice> Model for Engine<S, D> {
 
     ghost Value = { EngineView S D };
 
-    ghost view = { λ it. engine_view S.stored it.log it.pool };
+    ghost view = { λ it. engine_view S.stored it.log it.pool (record { master = None; session = None }) };
 
     ghost invariant = { λ it.
-        IsKept S.stored (engine_view S.stored it.log it.pool).state it.txns it.pool };
+        IsKept S.stored (engine_view S.stored it.log it.pool (record { master = None; session = None })).state it.txns it.pool (record { master = None; session = None }) };
 }
 
 impl<S: PageStore + Drop, D: LogDevice + Drop> Engine<S, D> {
@@ -128,6 +128,15 @@ impl<S: PageStore, D: LogDevice> Engine<S, D> {
             Event::Force => Answer::Forced(self.force()?),
             Event::WriteBegin(page) => Answer::Writing(self.write_begin(page)?),
             Event::WriteEnd(page) => Answer::Written(self.write_end(page)?),
+            Event::CkptBegin => Answer::Logged(self.ckpt_begin()?),
+            Event::CkptGather => match self.ckpt_gather()? {
+                Gathered::More => Answer::More,
+                Gathered::Done => Answer::Done,
+            },
+            Event::CkptEnd => {
+                let (begin, end, redo) = self.ckpt_end()?;
+                Answer::Point { begin, end, redo }
+            }
         };
         Ok(answer)
     }
