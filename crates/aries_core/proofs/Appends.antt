@@ -26,7 +26,7 @@ pub record Comes (s : EngineState) (r : Record) : Type 0 where
 pub comes : {S : Type 0} (stored : S → List Page) (s : EngineState) (table : Table) (pool : PoolView S) (r : Record)
     → IsKept stored s table pool → Calls s r → Comes s r
 comes stored s table pool r kept calls = record {
-  may_follow = follows s calls.call r calls.accepted calls.made;
+  may_follow = follows s calls.call r kept.fit calls.accepted calls.made;
   stands_at = stands s calls.call r kept.fit calls.fits calls.accepted calls.made;
   few = omega (arith, room_grows s calls.call r kept.fit calls.accepted calls.made, length_push s.log r);
   valid = (fit_appended s r kept.fit calls).valid;

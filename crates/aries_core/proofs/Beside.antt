@@ -27,6 +27,7 @@ use Rattle.aries_core.specs.EngineState.{EngineState, IsFit, IsGathering, IsMast
 use Rattle.aries_core.specs.Gather.{Left, session_of}
 use Rattle.aries_core.specs.Step.{Fails, Step}
 use Rattle.aries_core.proofs.Follows.{undo_has}
+use Rattle.aries_core.proofs.Gathers.{AreGathered}
 use Rattle.aries_core.proofs.Steps.{stored_or_not}
 use Rattle.aries_core.proofs.Writes.{Begins, Ends, Leaves, PageStep, Repeats}
 
@@ -142,9 +143,6 @@ stores old new fit (Repeats page repeats) =
     StoresOne page image image there (of_image old page image image fit there repeats.ends.there) repeats.stored
 
 -- ---- the open checkpoint
-
-abbrev pub AreGathered : List Record → List Page → Left → Type 0
-AreGathered rs stored left = IfSome (open_checkpoint rs) (IsGathering rs stored left)
 
 pub gathered_later : (log : Log) (r : Record) (stored : List Page) (left : Left) → IsLog log → IsLinked log.records
     → IsOfTransaction r → MayFollow log.records r → own_lsn r ≡ lsn_of (length log.records)

@@ -8,8 +8,7 @@ use Rattle.log_history.specs.Checkpoint.{Checkpoint, open_checkpoint}
 use Rattle.log_history.specs.Linked.{MayFollow}
 use Rattle.aries_core.specs.EngineState.{EngineState, IsFit, IsGathering, end, end_ckpt_record}
 use Rattle.aries_core.specs.Gather.{none_left, pages_left, txns_left}
-use Rattle.aries_core.proofs.Gathers.{FindsPages, FindsTxn, pages_record, txn_entry}
-use Rattle.aries_core.proofs.Beside.{AreGathered}
+use Rattle.aries_core.proofs.Gathers.{AreGathered, FindsPages, FindsTxn, pages_record, txn_entry}
 
 pub pages_follow : (s : EngineState) (c : Checkpoint) (pages : DirtyPages) → IsFit s → open_checkpoint s.log ≡ Some c
     → FindsPages s c (Some pages) → MayFollow s.log (pages_record s c pages)
@@ -32,9 +31,9 @@ pub txn_follows : (s : EngineState) (c : Checkpoint) (t : ℕ) → IsFit s → o
     → FindsTxn s c (Some t) → MayFollow s.log (txn_entry s c t)
 txn_follows s c t fit still_open finds = ?
 
-pub txn_stands : (s : EngineState) (c : Checkpoint) (t : ℕ) → IsFit s → open_checkpoint s.log ≡ Some c
+pub txn_stand : (s : EngineState) (c : Checkpoint) (t : ℕ) → IsFit s → open_checkpoint s.log ≡ Some c
     → FindsTxn s c (Some t) → StandsAt s.pages (end s) (txn_entry s c t)
-txn_stands s c t fit still_open finds = ?
+txn_stand s c t fit still_open finds = ?
 
 pub txn_gathered : (s : EngineState) (c : Checkpoint) (t : ℕ) → IsFit s → open_checkpoint s.log ≡ Some c
     → FindsTxn s c (Some t) → AreGathered (s.log ++ txn_entry s c t ∷ []) s.stored txns_left
@@ -44,10 +43,10 @@ pub txns_passed : (s : EngineState) (c : Checkpoint) → IsFit s → open_checkp
     → FindsTxn s c None → AreGathered s.log s.stored none_left
 txns_passed s c fit still_open finds = ?
 
-pub end_follows : (s : EngineState) (c : Checkpoint) → IsFit s → open_checkpoint s.log ≡ Some c → s.left ≡ none_left
+pub end_ckpt_follows : (s : EngineState) (c : Checkpoint) → IsFit s → open_checkpoint s.log ≡ Some c → s.left ≡ none_left
     → MayFollow s.log (end_ckpt_record s c)
-end_follows s c fit still_open done = ?
+end_ckpt_follows s c fit still_open done = ?
 
-pub end_stands : (s : EngineState) (c : Checkpoint) → IsFit s → open_checkpoint s.log ≡ Some c
+pub end_ckpt_stands : (s : EngineState) (c : Checkpoint) → IsFit s → open_checkpoint s.log ≡ Some c
     → StandsAt s.pages (end s) (end_ckpt_record s c)
-end_stands s c fit still_open = ?
+end_ckpt_stands s c fit still_open = ?

@@ -1,6 +1,7 @@
 -- What a step of a gather does: five cases.
 use Rattle.std.proofs.Common.{◌≡◌, ℕ, ◌+◌, refl, ap, ◌∙◌}
-use Rattle.std.specs.Prelude.{Option, Some, None, IsSomeAnd}
+use Rattle.std.specs.Prelude.{Option, Some, None, IfSome, IsSomeAnd, List}
+use Rattle.page_core.specs.declared.page.Page.{Page}
 use Rattle.std.specs.Option.{option_map_or}
 use Rattle.log_records.specs.declared.dirty_page.DirtyPages.{DirtyPages}
 use Rattle.log_records.specs.declared.record.Record.{Record}
@@ -13,9 +14,13 @@ use Rattle.fuzzy_ckpt.specs.Steps.{Gathering, gather_step, pages_of, past_pages,
 use Rattle.aries_core.specs.declared.event.Answer.TheVariants as answer
 use Rattle.aries_core.specs.declared.event.Event.TheVariants as event
 use Rattle.aries_core.specs.declared.refusal.Refusal.TheVariants.{LogFault}
-use Rattle.aries_core.specs.EngineState.{EngineState, Outcome, appended, ckpt_end_effect, closed, effect, end, gather_effect, gathered_record, gathering, next_step, point_of}
+use Rattle.aries_core.specs.EngineState.{EngineState, IsGathering, Outcome, appended, ckpt_end_effect, closed, effect, end, gather_effect, gathered_record, gathering, next_step, point_of}
 use Rattle.aries_core.specs.Step.{Fails, ForcedPart}
 use Rattle.aries_core.specs.Gather.{Left, behind_pages, behind_txns, left_of, none_left, pages_left, session_of, txns_left}
+
+-- what is said of the open checkpoint, if one is
+abbrev pub AreGathered : List Record → List Page → Left → Type 0
+AreGathered rs stored left = IfSome (open_checkpoint rs) (IsGathering rs stored left)
 
 -- ---- the cases
 

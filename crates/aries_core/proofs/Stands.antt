@@ -19,7 +19,8 @@ use Rattle.aries_core.specs.declared.event.Event.TheVariants as event
 use Rattle.aries_core.specs.EngineState.{EngineState, IsFit, abort_record, commit_record, comp_record, end, end_record, log_of, next_txn, update_record}
 use Rattle.aries_core.specs.EventFits.{EventFits}
 use Rattle.aries_core.specs.Refusal.{refusal}
-use Rattle.aries_core.proofs.Follows.{undo_has}
+use Rattle.aries_core.proofs.Follows.{end_record_has, gather_record_has, undo_has}
+use Rattle.aries_core.proofs.GatherSteps.{end_ckpt_stands, pages_stand, txn_stand}
 use Rattle.aries_core.proofs.Numbers.{last_lsn_is_before, length_begun, lsn_is_lsn, number_fits, open_is_txn}
 use Rattle.aries_core.proofs.Pending.{StandsBefore, all_stand, last_pending}
 use Rattle.aries_core.proofs.Refusals.{ChangePasses, active_passes, change_passes, undo_passes}
@@ -151,3 +152,10 @@ stands s (event.UndoStep txn) r fit fits none made =
 stands s event.Force r fit fits none made = absurd (cc)
 stands s (event.WriteBegin page) r fit fits none made = absurd (cc)
 stands s (event.WriteEnd page) r fit fits none made = absurd (cc)
+stands s event.CkptBegin r fit fits none made =
+    subst (StandsAtEnd s) (same_Some _ _ made) (record { lsn = refl; valid = end_is_lsn s fit; within = tt })
+stands s event.CkptGather r fit fits none made =
+    gather_record_has (StandsAtEnd s) s r none made (λ c pages is finds. pages_stand s c pages fit is finds)
+    (λ c t is finds. txn_stand s c t fit is finds)
+stands s event.CkptEnd r fit fits none made =
+    end_record_has (StandsAtEnd s) s r none made (λ c is done. end_ckpt_stands s c fit is)

@@ -4,6 +4,7 @@ use Rattle.std.specs.Option.{option_map, option_map_or}
 use Rattle.page_core.specs.declared.change.Change.TheVariants.{Set, Add}
 use Rattle.log_records.specs.declared.record.Record.{Record}
 use Rattle.log_records.specs.declared.record.Record.TheVariants as log
+use Rattle.log_records.specs.Record.{IsOfTransaction}
 use Rattle.log_history.specs.Checkpoint.{open_checkpoint}
 use Rattle.log_history.specs.Linked.{number_in}
 use Rattle.log_history.specs.Transactions.{last_of, pending}
@@ -33,8 +34,9 @@ record_for s event.CkptBegin = Some (begin_ckpt_record s)
 record_for s event.CkptGather = gathered_record s
 record_for s event.CkptEnd = option_map (end_ckpt_record s) (open_checkpoint s.log)
 
--- the record is that of a call that is accepted
+-- the record is that of a transaction's call that is accepted
 pub record Calls (s : EngineState) (r : Record) : Type 0 where
+  pub of_transaction : IsOfTransaction r
   pub call : Event
   pub fits : EventFits call
   pub accepted : refusal s call ≡ None
