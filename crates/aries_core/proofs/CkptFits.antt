@@ -10,8 +10,8 @@ use Rattle.log_records.specs.declared.record.Record.TheVariants.{BeginChkpt}
 use Rattle.log_records.specs.Log.{lsn_of}
 use Rattle.log_records.specs.Record.{own_lsn}
 use Rattle.log_history.specs.Checkpoint.{Checkpoint, open_checkpoint}
-use Rattle.fuzzy_ckpt.proofs.Covers.{all_later}
-use Rattle.fuzzy_ckpt.proofs.Opens.{ckpt_redo_before, open_push}
+use Rattle.fuzzy_ckpt.proofs.Ends.{begun_is, end_covers}
+use Rattle.fuzzy_ckpt.proofs.Opens.{open_push}
 use Rattle.aries_core.specs.declared.event.Answer.{Answer}
 use Rattle.aries_core.specs.declared.event.Event.{Event}
 use Rattle.aries_core.specs.declared.event.Event.TheVariants as event
@@ -19,7 +19,7 @@ use Rattle.aries_core.specs.declared.refusal.Refusal.{Refusal}
 use Rattle.aries_core.specs.declared.refusal.Refusal.TheVariants.{LogFault, OutOfMemory}
 use Rattle.aries_core.specs.EngineState.{EngineState, IsFit, IsGathering, IsMasterOf, appended, begin_ckpt_record, closed, effect, end, end_ckpt_record, forced_to, gathering, log_of, point_of, with_master}
 use Rattle.aries_core.specs.EventFits.{EventFits}
-use Rattle.aries_core.specs.Gather.{Left, none_left, pages_left}
+use Rattle.aries_core.specs.Gather.{none_left, pages_left, session_of}
 use Rattle.aries_core.specs.Refusal.{refusal}
 use Rattle.aries_core.specs.Step.{Fails, Step}
 use Rattle.aries_core.proofs.Beside.{CkptsFit, IsBeside, ckpts_later, ckpts_stored, keeps_ckpts, master_forced, master_later, of_transaction}
@@ -28,7 +28,7 @@ use Rattle.aries_core.proofs.Forces.{Forces}
 use Rattle.aries_core.proofs.Gathers.{AreGathered, PassesPages, PassesTxns, TakesPages, TakesTxn, WasDone, ckpt_end_is}
 use Rattle.aries_core.proofs.Gathers.{closed_part, gather_case, pages_record, passes_pages, passes_txns, takes_pages}
 use Rattle.aries_core.proofs.Gathers.{takes_txn, txn_entry, was_done}
-use Rattle.aries_core.proofs.GatherSteps.{pages_gathered, pages_passed, txn_gathered, txns_passed}
+use Rattle.aries_core.proofs.GatherSteps.{gathering_of, pages_gathered, pages_passed, txn_gathered, txns_passed}
 use Rattle.aries_core.proofs.Refusals.{ckpt_end_passes, gather_passes}
 use Rattle.aries_core.proofs.Stands.{stands}
 use Rattle.aries_core.proofs.Steps.{Grows, Stays}
@@ -52,19 +52,9 @@ master_now s r fit own = master_later (log_of s) r s.stored s.forced_end s.maste
 
 begun_gathered : (rs : List Record) (stored : List Page) (lsn : ℕ) → AreGathered (rs ++ BeginChkpt lsn ∷ []) stored pages_left
 begun_gathered rs stored lsn =
-    let c : Checkpoint = record { begin = lsn; pages = []; txns = [] } in
-    let is : open_checkpoint (rs ++ BeginChkpt lsn ∷ []) ≡ Some c = open_push rs (BeginChkpt lsn) in
-    subst (λ (o : Option Checkpoint). IfSome o (IsGathering (rs ++ BeginChkpt lsn ∷ []) stored pages_left)) (sym is)
-    (record {
-      ckpt = record {
-        ckpt = c;
-        still_open = is;
-        same_begin = refl;
-        same_redo = refl;
-        behind = (All-nil (λ (e : DirtyPage). e.page < 0), refl);
-      };
-      covered = λ p d lt passed. absurd (omega arith);
-    })
+    subst (λ (o : Option Checkpoint). IfSome o (IsGathering (rs ++ BeginChkpt lsn ∷ []) stored pages_left))
+    (sym (open_push rs (BeginChkpt lsn)))
+    (record { ckpt = begun_is rs lsn; covered = λ p d lt passed. absurd (omega arith) })
 
 -- ---- its gather goes on
 
@@ -109,17 +99,11 @@ none_gathered s c =
     subst (λ (o : Option Checkpoint). IfSome o (IsGathering (s.log ++ end_ckpt_record s c ∷ []) s.stored pages_left))
     (sym (open_push s.log (end_ckpt_record s c))) tt
 
--- the open checkpoint of a fit engine
-pub gathering_of : (s : EngineState) (c : Checkpoint) → IsFit s → open_checkpoint s.log ≡ Some c
-    → IsGathering s.log s.stored s.left c
-gathering_of s c fit is = subst (λ (o : Option Checkpoint). IfSome o (IsGathering s.log s.stored s.left)) is fit.gathered
-
 point_is_master : (s : EngineState) (c : Checkpoint) → IsFit s → open_checkpoint s.log ≡ Some c → s.left ≡ none_left
     → IsMasterOf (s.log ++ end_ckpt_record s c ∷ []) s.stored (end (closed s c)) (point_of s c)
 point_is_master s c fit is done =
     let r = end_ckpt_record s c in
-    let gathers = subst (λ (l : Left). IsGathering s.log s.stored l c) done (gathering_of s c fit is) in
-    let low = (ckpt_redo_before (log_of s) _ fit.valid gathers.ckpt).earlier in
+    let now = gathering_of s c none_left fit is done in
     record {
       complete = record {
         before = s.log;
@@ -130,7 +114,7 @@ point_is_master s c fit is done =
       };
       same_redo = refl;
       forced = omega (arith, length_push s.log r);
-      covered = all_later s.log r s.stored (point_of s c).redo (omega arith) (λ p d lt. gathers.covered p d lt tt);
+      covered = end_covers (log_of s) (session_of none_left c) s.stored fit.valid now.ckpt now.covered;
     }
 
 ended_fit : (old new : EngineState) → IsFit old → refusal old event.CkptEnd ≡ None
