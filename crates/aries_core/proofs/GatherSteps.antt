@@ -21,6 +21,7 @@ use Rattle.fuzzy_ckpt.specs.Steps.{last_page, pages_of, past_pages}
 use Rattle.fuzzy_ckpt.proofs.Ends.{end_stands}
 use Rattle.fuzzy_ckpt.proofs.Opens.{open_push}
 use Rattle.fuzzy_ckpt.proofs.PagesSteps.{MorePages, more_pages, none_covered, none_kept}
+use Rattle.fuzzy_ckpt.proofs.TxnsSteps.{MoreTxns, all_passed, more_txns, txns_cover}
 use Rattle.aries_core.specs.EngineState.{EngineState, IsFit, IsGathering, end, end_ckpt_record, log_of}
 use Rattle.aries_core.specs.Gather.{Left, behind_pages, behind_txns, none_left, pages_left, session_of, txns_left}
 use Rattle.aries_core.proofs.Gathers.{AreGathered, FindsPages, FindsTxn, pages_record, txn_entry}
@@ -63,7 +64,7 @@ abbrev view_of : Checkpoint → CkptView ℕ
 view_of c = record { begin = c.begin; redo = redo_point c; phase = behind_pages c }
 
 more : (s : EngineState) (c : Checkpoint) (pages : DirtyPages) → IsFit s → open_checkpoint s.log ≡ Some c
-    → FindsPages s c (Some pages) → MorePages (log_of s) s.stored (view_of c) pages
+    → FindsPages s c (Some pages) → MorePages (log_of s) s.stored s.written (view_of c) pages
 more s c pages fit is finds =
     let now = gathering_of s c pages_left fit is finds.left in
     let next = next_dirty (dirty s.log s.written) (behind_pages c) in
@@ -87,7 +88,7 @@ cursor_after c (Two a b) = ap (λ o. option_map_or (λ (e : DirtyPage). e.page +
 cursor_after c (Three a b d) =
     ap (λ o. option_map_or (λ (e : DirtyPage). e.page + 1) o 0) (last_append c.pages a (b ∷ d ∷ []))
 
-past_is_session : (c : Checkpoint) (pages : DirtyPages)
+pub past_is_session : (c : Checkpoint) (pages : DirtyPages)
     → past_pages pages (session_of pages_left c) ≡ session_of pages_left (with_pages (entries_of pages) c)
 past_is_session c pages = λ i. record {
   begin = c.begin;
@@ -115,15 +116,20 @@ pages_gathered s c pages fit is finds =
     })
 
 -- no page is left
+pub first_txn : (s : EngineState) (c : Checkpoint) → IsFit s → open_checkpoint s.log ≡ Some c → s.left ≡ pages_left
+    → behind_txns c ≡ 0
+first_txn s c fit is left =
+    let now = gathering_of s c pages_left fit is left in
+    let same : now.ckpt.ckpt ≡ c = same_Some _ _ (sym now.ckpt.still_open ∙ is) in
+    let empty : c.txns ≡ [] = ap (λ (x : Checkpoint). x.txns) (sym same) ∙ now.ckpt.behind.1 in
+    ap (λ (ts : List ℕ). option_map_or (λ t. t + 1) (last_of ts) 0) empty
+
 pub pages_passed : (s : EngineState) (c : Checkpoint) → IsFit s → open_checkpoint s.log ≡ Some c
     → FindsPages s c None → AreGathered s.log s.stored txns_left
 pages_passed s c fit is finds =
     let now = gathering_of s c pages_left fit is finds.left in
     let none = none_of_some (next_dirty (dirty s.log s.written) (behind_pages c)) finds.found in
-    let same : now.ckpt.ckpt ≡ c = same_Some _ _ (sym now.ckpt.still_open ∙ is) in
-    let empty : c.txns ≡ [] = ap (λ (x : Checkpoint). x.txns) (sym same) ∙ now.ckpt.behind.1 in
-    let first : behind_txns c ≡ 0 = ap (λ (ts : List ℕ). option_map_or (λ t. t + 1) (last_of ts) 0) empty in
-    let at : in_txns 0 ≡ in_txns (behind_txns c) = ap in_txns (sym first) in
+    let at : in_txns 0 ≡ in_txns (behind_txns c) = ap in_txns (sym (first_txn s c fit is finds.left)) in
     let view : Phase → CkptView Phase = λ phase. record { begin = c.begin; redo = redo_point c; phase = phase } in
     subst (λ (o : Option Checkpoint). IfSome o (IsGathering s.log s.stored txns_left)) (sym is) (record {
       ckpt = subst (λ p. IsCkptOf s.log (view p)) at (none_kept s.log (view_of c) now.ckpt);
@@ -134,21 +140,49 @@ pages_passed s c fit is finds =
 
 -- ---- open transactions
 
+-- the checkpoint as the session of its transactions has it
+abbrev txn_view : Checkpoint → CkptView ℕ
+txn_view c = record { begin = c.begin; redo = redo_point c; phase = behind_txns c }
+
+one_more : (s : EngineState) (c : Checkpoint) (t : ℕ) → IsFit s → open_checkpoint s.log ≡ Some c → FindsTxn s c (Some t)
+    → MoreTxns (log_of s) (txn_view c) t
+one_more s c t fit is finds =
+    let now = gathering_of s c txns_left fit is finds.left in
+    more_txns (log_of s) (txn_view c) t fit.valid fit.linked now.ckpt finds.found
+
 pub txn_follows : (s : EngineState) (c : Checkpoint) (t : ℕ) → IsFit s → open_checkpoint s.log ≡ Some c
     → FindsTxn s c (Some t) → MayFollow s.log (txn_entry s c t)
-txn_follows s c t fit still_open finds = ?
+txn_follows s c t fit is finds = (one_more s c t fit is finds).follows
 
 pub txn_stand : (s : EngineState) (c : Checkpoint) (t : ℕ) → IsFit s → open_checkpoint s.log ≡ Some c
     → FindsTxn s c (Some t) → length s.log < MAX_RECORDS → StandsAt s.pages (end s) (txn_entry s c t)
-txn_stand s c t fit still_open finds few = ?
+txn_stand s c t fit is finds few = (one_more s c t fit is finds).stands few
+
+-- the cursor is behind the last transaction
+pub cursor_after_txn : (c : Checkpoint) (t : ℕ) → behind_txns (with_txn t c) ≡ t + 1
+cursor_after_txn c t = ap (λ o. option_map_or (λ (n : ℕ). n + 1) o 0) (last_append c.txns t [])
 
 pub txn_gathered : (s : EngineState) (c : Checkpoint) (t : ℕ) → IsFit s → open_checkpoint s.log ≡ Some c
     → FindsTxn s c (Some t) → AreGathered (s.log ++ txn_entry s c t ∷ []) s.stored txns_left
-txn_gathered s c t fit still_open finds = ?
+txn_gathered s c t fit is finds =
+    let r = txn_entry s c t in
+    let now = gathering_of s c txns_left fit is finds.left in
+    let found = one_more s c t fit is finds in
+    let at : in_txns (t + 1) ≡ in_txns (behind_txns (with_txn t c)) = ap in_txns (sym (cursor_after_txn c t)) in
+    let view : Phase → CkptView Phase = λ phase. record { begin = c.begin; redo = redo_point c; phase = phase } in
+    opened s r c (with_txn t c) txns_left is refl (record {
+      ckpt = subst (λ p. IsCkptOf (s.log ++ r ∷ []) (view p)) at found.kept;
+      covered = λ p d lt passed. txns_cover (log_of s) (txn_view c) s.stored r fit.valid now.ckpt refl now.covered p d lt;
+    })
 
 pub txns_passed : (s : EngineState) (c : Checkpoint) → IsFit s → open_checkpoint s.log ≡ Some c
     → FindsTxn s c None → AreGathered s.log s.stored none_left
-txns_passed s c fit still_open finds = ?
+txns_passed s c fit is finds =
+    let now = gathering_of s c txns_left fit is finds.left in
+    subst (λ (o : Option Checkpoint). IfSome o (IsGathering s.log s.stored none_left)) (sym is) (record {
+      ckpt = all_passed s.log (txn_view c) now.ckpt finds.found;
+      covered = λ p d lt passed. now.covered p d lt tt;
+    })
 
 -- ---- the end
 

@@ -290,13 +290,13 @@ pub record EngineView (S D : Type 0) : Type 0 where
   pub device : D
 
 -- the last complete checkpoint, and the session of the open one
-pub record Checkpoints : Type 0 where
+pub record CkptsView : Type 0 where
   pub master : Option Point
   pub session : Option (CkptView Phase)
 
 -- what an engine is, by the log that it writes, the pool of its pages and its checkpoints
 abbrev pub engine_view : {S D : Type 0} → (S → List Page) → WrittenLog D → PoolView S
-    → Checkpoints → EngineView S D
+    → CkptsView → EngineView S D
 engine_view stored it pool ckpts = record {
   state = record {
     pages = it.log.pages;
@@ -315,7 +315,7 @@ engine_view stored it pool ckpts = record {
 -- the engine is fit, and its transaction table, its pool and the session of its checkpoint are
 -- those of its log
 pub record IsKept {S : Type 0} (stored : S → List Page) (s : EngineState) (table : Table)
-    (pool : PoolView S) (ckpts : Checkpoints) : Type 0 where
+    (pool : PoolView S) (ckpts : CkptsView) : Type 0 where
   pub fit : IsFit s
   pub table_of_log : IsTableOf s.log table
   pub pool_of_log : IsPoolOf stored (log_of s) pool

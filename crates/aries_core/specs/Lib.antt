@@ -4,6 +4,7 @@ pub mod EngineState
 pub mod EventFits
 pub mod Gather
 pub mod GatherReplies
+pub mod OpenCkpt
 pub mod Refusal
 pub mod Run
 pub mod Step

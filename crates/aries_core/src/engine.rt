@@ -20,9 +20,11 @@ ghost use Rattle.aries_core.specs.declared.event.Answer.TheVariants as answer;
 ghost use Rattle.aries_core.specs.declared.event.Event.TheVariants as event;
 
 use crate::event::{Answer, Event, Gathered, Reply, Undone};
+use crate::open_ckpt::OpenCkpt;
 use crate::refusal::Refusal;
 use crate::setup::{PlayFault, Setup};
 use buffer_pool::Pool;
+use fuzzy_ckpt::Point;
 use log_history::{PendingChange, TxnState};
 use log_records::{MAX_OPEN, MAX_RECORDS, Record};
 use log_store::{DeviceFault, Log, LogDevice};
@@ -39,17 +41,25 @@ pub struct Engine<S: PageStore, D: LogDevice> {
     pub(crate) log: Log<D>,
     pub(crate) txns: TxnTable,
     pub(crate) pool: Pool<S>,
+    /// The last complete checkpoint whose end is forced.
+    pub(crate) master: Option<Point>,
+    /// The checkpoint that is open in the log.
+    pub(crate) session: Option<OpenCkpt>,
 }
 
 impl<S: PageStore, D: LogDevice> Model for Engine<S, D> {
     ghost use Rattle.aries_core.specs.EngineState.{EngineView, IsKept, engine_view};
+    ghost use Rattle.aries_core.specs.OpenCkpt.{ckpts_view};
 
     ghost Value = { EngineView S D };
 
-    ghost view = { λ it. engine_view S.stored it.log it.pool (record { master = None; session = None }) };
+    ghost view = { λ it. engine_view S.stored it.log it.pool
+        (ckpts_view it.master it.session) };
 
     ghost invariant = { λ it.
-        IsKept S.stored (engine_view S.stored it.log it.pool (record { master = None; session = None })).state it.txns it.pool (record { master = None; session = None }) };
+        IsKept S.stored
+        (engine_view S.stored it.log it.pool (ckpts_view it.master it.session)).state
+        it.txns it.pool (ckpts_view it.master it.session) };
 }
 
 impl<S: PageStore + Drop, D: LogDevice + Drop> Engine<S, D> {
@@ -75,6 +85,8 @@ impl<S: PageStore + Drop, D: LogDevice + Drop> Engine<S, D> {
                 log,
                 txns: TxnTable::new(alloc),
                 pool,
+                master: None,
+                session: None,
             }),
             Err(_) => Err(PlayFault::LogFault),
         }
@@ -134,7 +146,7 @@ impl<S: PageStore, D: LogDevice> Engine<S, D> {
                 Gathered::Done => Answer::Done,
             },
             Event::CkptEnd => {
-                let (begin, end, redo) = self.ckpt_end()?;
+                let Point { begin, end, redo } = self.ckpt_end()?;
                 Answer::Point { begin, end, redo }
             }
         };
@@ -392,7 +404,7 @@ impl<S: PageStore, D: LogDevice> Engine<S, D> {
     }
 
     /// Whether records and owed records stay within the limit, with so many more.
-    fn has_room(&self, more: u64) -> bool
+    pub(crate) fn has_room(&self, more: u64) -> bool
         requires { more ≤ 3 }
         ensures { result ≡ not (has_no_room self.now.state more) }
     {

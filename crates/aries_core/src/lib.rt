@@ -5,6 +5,7 @@ mod checkpoint;
 mod engine;
 mod event;
 mod laws;
+mod open_ckpt;
 mod page_writes;
 mod played;
 mod refusal;
