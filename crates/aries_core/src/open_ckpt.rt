@@ -6,9 +6,9 @@ ghost use Rattle.buffer_pool.specs.Pool.{IsPoolOf, written_of};
 ghost use Rattle.txn_table.specs.TxnTable.{IsTableOf};
 ghost use Rattle.fuzzy_ckpt.specs.Ckpt.{AreCovered, IsCkptOf};
 ghost use Rattle.fuzzy_ckpt.specs.Steps.{HasRoom, gather_step, with_step};
+ghost use Rattle.aries_core.specs.Gather.{is_done, left_of};
 ghost use Rattle.aries_core.specs.OpenCkpt.{view_of};
 
-use crate::event::Gathered;
 use buffer_pool::Pool;
 use fuzzy_ckpt::{Ckpt, PagesStep, TxnsStep};
 use log_store::{Log, LogDevice};
@@ -40,6 +40,7 @@ impl OpenCkpt {
 
     /// Whether the gather has ended.
     pub(crate) fn is_gathered(&self) -> bool
+        ensures { result ≡ is_done (left_of (view_of self.now).phase) }
     {
         matches!(self, OpenCkpt::Gathered(_))
     }
