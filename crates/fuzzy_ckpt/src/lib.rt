@@ -1,26 +1,16 @@
-//! The redo point of a checkpoint: where redo has to begin.
-//!
-//! This is a placeholder that nothing uses yet. Its contract would let updates be lost: a redo
-//! point at the checkpoint's begin record leaves out changes that were made before it and are not
-//! stored. The stage of checkpoints replaces it.
+//! Fuzzy checkpoints, taken step by step while transactions and writes of pages go on.
 #![tactic(auto)]
 
-ghost use Rattle.std.specs.Prelude.{◌≤◌};
+mod ckpt;
+mod laws;
+mod phase;
+mod point;
 
-/// A redo point for a checkpoint whose begin and end records have these LSNs. It is not past `end`.
-pub fn redo_point(begin: u64, end: u64) -> u64
-    requires { begin ≤ end }
-    ensures { result ≤ end }
-{
-    begin
-}
-
-#[cfg(test)]
-mod tests {
-    use super::redo_point;
-
-    #[test]
-    fn answers_the_begin(rt: HostRuntime) {
-        assert_eq!(rt; redo_point(192, 512), 192);
-    }
-}
+pub use ckpt::{Ckpt, PagesStep, TxnsStep};
+pub use laws::{
+    an_ended_checkpoint_is_not_open, checkpoint_records_leave_the_pool,
+    checkpoint_records_leave_the_table, checkpoints_stay_open_as_transactions_go_on,
+    covered_pages_stay_covered_as_pages_are_written, covered_pages_stay_covered_as_the_log_grows,
+};
+pub use phase::{Gathered, Pages, Txns};
+pub use point::{FinishFault, Point};

@@ -1,6 +1,6 @@
 -- What a reader keeps of the checkpoints of a log.
-use Rattle.std.specs.Prelude.{ℕ, ◌≡◌, ◌-◌, ◌/◌, ◌<◌, ◌++◌, List, [], ◌∷◌, map, min, Option, Some, None}
-use Rattle.std.specs.Prelude.{IfSome, IsSomeAnd, Contains, slice_get}
+use Rattle.std.specs.Prelude.{ℕ, ◌≡◌, ◌-◌, ◌/◌, ◌<◌, ◌++◌, List, [], ◌∷◌, map, min}
+use Rattle.std.specs.Prelude.{Option, Some, None, IfSome, IsSomeAnd, Contains, slice_get}
 use Rattle.std.specs.List.{All, AllByRecursion, fold}
 use Rattle.std.specs.Option.{option_map, option_map_or}
 use Rattle.page_core.specs.declared.numbers.TheConstants.{LSN_STEP}

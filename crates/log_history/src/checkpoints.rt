@@ -1,7 +1,7 @@
 //! The checkpoints of a log that is read: what decides whether a checkpoint's record may follow.
 
-ghost use Rattle.std.specs.Prelude.{◌≡◌, ◌↔◌, ◌<◌, ◌/◌, ◌-◌, [], min, Some, None, IfSome, IsTrue, OnOk};
-ghost use Rattle.std.specs.Prelude.{slice_get};
+ghost use Rattle.std.specs.Prelude.{◌≡◌, ◌↔◌, ◌<◌, ◌/◌, ◌-◌, [], min, slice_get, Some, None};
+ghost use Rattle.std.specs.Prelude.{IfSome, IsSomeAnd, IsTrue, OnErr, OnOk};
 ghost use Rattle.std.specs.List.{AllByRecursion, fold};
 ghost use Rattle.log_history.specs.CheckpointTable.{AreChanges, last_page_of, page_of};
 ghost use Rattle.log_records.specs.DirtyPage.{entries_of};
@@ -15,7 +15,8 @@ use std::marker::Model;
 /// What stands for a record that changes no page. No page has this number.
 pub const NO_PAGE: u32 = 65_536;
 
-/// The open checkpoint: the LSN of its BeginChkpt, the last of its pages, and its redo point so far.
+/// The open checkpoint: the LSN of its BeginChkpt, the last of its pages, and its redo point so
+/// far.
 #[derive(Clone, Copy, Debug, PartialEq, Eq)]
 struct Open {
     begin: u64,
@@ -51,12 +52,10 @@ impl Model for Checkpoints {
 }
 
 impl Checkpoints {
-    ghost use Rattle.std.specs.Prelude.{IsSomeAnd};
     ghost use Rattle.log_history.specs.CheckpointTable.{MayAddPages, MayAddTxn};
     ghost use Rattle.log_history.specs.CheckpointTable.{MayClose, MayNoteCheckpoint};
     ghost use Rattle.log_history.specs.CheckpointTable.{add_pages, noted_checkpoint};
     ghost use Rattle.log_history.specs.Transactions.{without_last};
-    ghost use Rattle.std.specs.Prelude.{OnErr};
     ghost use Rattle.std.specs.Option.{option_map};
 
     /// Before the first record: no checkpoint is open.
@@ -131,7 +130,8 @@ impl Checkpoints {
         }
     }
 
-    /// Takes the record as the next one. An `Err` comes where memory is refused, and changes nothing.
+    /// Takes the record as the next one. An `Err` comes where memory is refused, and changes
+    /// nothing.
     pub fn note(&mut self, next: &Record) -> Result<(), AllocError>
         ensures ok { OnOk result (self.new ≡ noted_checkpoint self.old next.now) }
         ensures err { OnErr result (self.new ≡ self.old) }

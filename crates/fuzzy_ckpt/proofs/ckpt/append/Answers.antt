@@ -1,0 +1,9 @@
+use Rattle.std.proofs.Common.{◌∙◌, ◌∷◌, [], sym, ap, subst}
+use Rattle.log_records.specs.Log.{IsLog, Log, with_next}
+use Rattle.log_store.proofs.Scans.{valid_next}
+use Rattle.fuzzy_ckpt.proofs.ckpt.append.Goals as goal
+
+pub returns-clause-valid : goal.returns-clause-valid
+returns-clause-valid g c =
+    subst IsLog (sym (c.append.ensures.next ∙ ap (λ (l : Log). with_next l (c.args.next ∷ [])) c.make_room.ensures.same))
+    (valid_next c.args.log.now.log c.args.next c.end_of-end.ensures.valid c.requires.few c.requires.stands)
