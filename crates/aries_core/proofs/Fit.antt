@@ -24,6 +24,8 @@ use Rattle.aries_core.specs.EngineState.{EngineState, IsFit, appended, log_of, n
 use Rattle.aries_core.specs.EventFits.{EventFits}
 use Rattle.aries_core.specs.Run.{Run}
 use Rattle.aries_core.specs.Step.{Step}
+use Rattle.aries_core.proofs.Beside.{gathered_later}
+use Rattle.aries_core.proofs.CkptFits.{FitsCkpts, ckpts_fit, master_now}
 use Rattle.aries_core.proofs.Follows.{follows}
 use Rattle.aries_core.proofs.Forces.{EndsAtRecord, Forces, forces}
 use Rattle.aries_core.proofs.Rooms.{room_grows}
@@ -50,8 +52,8 @@ goes_on old event reply new forces (inr grows) = record {
 }
 
 fit_stays : (old : EngineState) (event : Event) (reply : Result Answer Refusal) (new : EngineState) → IsFit old
-    → EndsAtRecord new → PagesFit new → Stays old event reply new → IsFit new
-fit_stays old event reply new fit forced pages stays = record {
+    → EndsAtRecord new → PagesFit new → FitsCkpts new → Stays old event reply new → IsFit new
+fit_stays old event reply new fit forced pages ckpts stays = record {
   valid = rw (stays.pages, stays.log) fit.valid;
   linked = rw stays.log fit.linked;
   room = rw stays.log fit.room;
@@ -59,6 +61,8 @@ fit_stays old event reply new fit forced pages stays = record {
   counted = pages.counted;
   stored = pages.stored;
   stable = pages.stable;
+  gathered = ckpts.gathered;
+  master = ckpts.master;
 }
 
 room_push : (rs : List Record) (r : Record)
@@ -73,11 +77,12 @@ room_push rs r room whole n le = elim (cases_lt (length rs) n) [
 -- the state with the record of an accepted call at the end of its log
 pub fit_appended : (s : EngineState) (r : Record) → IsFit s → Calls s r → IsFit (appended s r)
 fit_appended s r fit calls =
-    let may = follows s calls.call r calls.accepted calls.made in
+    let may = follows s calls.call r fit calls.accepted calls.made in
     let whole = room_grows s calls.call r fit calls.accepted calls.made in
     let few : length s.log < MAX_RECORDS = omega (arith, length_push s.log r) in
+    let at = stands s calls.call r fit calls.fits calls.accepted calls.made in
     record {
-      valid = valid_next (log_of s) r fit.valid few (stands s calls.call r fit calls.fits calls.accepted calls.made);
+      valid = valid_next (log_of s) r fit.valid few at;
       linked = linked_push s.log r fit.linked may;
       room = room_push s.log r fit.room whole;
       forced = (fit.forced.0, omega (arith, fit.forced.1, length_push s.log r), fit.forced.2);
@@ -88,13 +93,15 @@ fit_appended s r fit calls =
       };
       stored = stored_later s.log (r ∷ []) s.stored s.written s.writing fit.stored;
       stable = record { pages = fit.stable.pages; images = fit.stable.images };
+      gathered = gathered_later (log_of s) r s.stored s.left fit.valid fit.linked calls.of_transaction may at.lsn fit.gathered;
+      master = master_now s r fit at.lsn;
     }
 
 fit_grows : (old : EngineState) (event : Event) (reply : Result Answer Refusal) (new : EngineState) → IsFit old
-    → EventFits event → EndsAtRecord new → PagesFit new → Grows old event reply new → IsFit new
-fit_grows old event reply new fit numbers forced pages grows =
+    → EventFits event → EndsAtRecord new → PagesFit new → FitsCkpts new → Grows old event reply new → IsFit new
+fit_grows old event reply new fit numbers forced pages ckpts grows =
     let r = grows.r in
-    let may = follows old event r grows.accepted grows.made in
+    let may = follows old event r fit grows.accepted grows.made in
     let whole = room_grows old event r fit grows.accepted grows.made in
     let few : length old.log < MAX_RECORDS = omega (arith, length_push old.log r) in
     record {
@@ -106,6 +113,8 @@ fit_grows old event reply new fit numbers forced pages grows =
       counted = pages.counted;
       stored = pages.stored;
       stable = pages.stable;
+      gathered = ckpts.gathered;
+      master = ckpts.master;
     }
 
 pub fit_of_step : (old : EngineState) (event : Event) (reply : Result Answer Refusal) (new : EngineState) → IsFit old
@@ -114,10 +123,12 @@ fit_of_step old event reply new fit numbers step =
     let forces = forces old event reply new fit.forced step in
     let kind = stays_or_grows old event reply new step in
     let goes = goes_on old event reply new forces kind in
-    let pages = pages_fit old new fit goes (page_step old event reply new step) in
+    let stored = page_step old event reply new step in
+    let pages = pages_fit old new fit goes stored in
+    let ckpts = ckpts_fit old event reply new fit numbers forces stored kind step in
     elim kind [
-      | inl stays ↦ fit_stays old event reply new fit forces.at_record pages stays
-      | inr grows ↦ fit_grows old event reply new fit numbers forces.at_record pages grows
+      | inl stays ↦ fit_stays old event reply new fit forces.at_record pages ckpts stays
+      | inr grows ↦ fit_grows old event reply new fit numbers forces.at_record pages ckpts grows
     ]
 
 pub fit_of_run : (old : EngineState) (events : List Event) (replies : List (Result Answer Refusal)) (new : EngineState)
@@ -171,6 +182,8 @@ new_is_fit pages count = record {
         rw page (omega (arith, lsn_of_formatted p));
     images = λ p. rw (get_or-replicate {X = Option Page} pages None p) tt;
   };
+  gathered = tt;
+  master = tt;
 }
   where
     room_of_none : (n : ℕ) → n ≤ 0

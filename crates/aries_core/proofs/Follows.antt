@@ -1,19 +1,27 @@
 -- The record of an accepted event may come behind the log.
-use Rattle.std.proofs.Common.{◌≡◌, ℕ, ◌-◌, List, [], ◌∷◌, length, refl, subst, arith}
+use Rattle.std.proofs.Common.{◌≡◌, ℕ, ◌-◌, List, [], ◌∷◌, length, refl, sym, ap, subst, ◌∙◌, arith}
 use Rattle.std.specs.Prelude.{Option, Some, None}
+use Rattle.std.specs.Option.{option_map}
 use Rattle.std.proofs.lemmas.Option.{same_Some, slice_get-get_or}
 use Rattle.page_core.specs.declared.change.Change.TheVariants.{Set, Add}
 use Rattle.page_core.specs.declared.change.ChangeKind.TheVariants as kind
 use Rattle.log_history.specs.declared.pending_change.PendingChange.{PendingChange}
 use Rattle.log_records.specs.declared.record.Record.{Record}
 use Rattle.log_records.specs.declared.record.Record.TheVariants as log
+use Rattle.log_records.specs.declared.dirty_page.DirtyPages.{DirtyPages}
+use Rattle.log_history.specs.Checkpoint.{Checkpoint, open_checkpoint}
 use Rattle.log_history.specs.Linked.{GoesOn, IsActive, MayFollow, number_in}
 use Rattle.log_history.specs.Transactions.{holder, last_lsn, last_of, pending}
 use Rattle.aries_core.specs.declared.event.Event.{Event}
 use Rattle.aries_core.specs.declared.event.Event.TheVariants as event
-use Rattle.aries_core.specs.EngineState.{EngineState, abort_record, commit_record, comp_record, end, end_record, next_txn, update_record}
+use Rattle.aries_core.specs.EngineState.{EngineState, IsFit, abort_record, commit_record, comp_record, end, end_ckpt_record, end_record, next_txn, update_record}
 use Rattle.aries_core.specs.Refusal.{refusal}
-use Rattle.aries_core.proofs.Refusals.{ActiveIn, RollsIn, active_passes, begin_passes, change_passes, undo_passes}
+use Rattle.aries_core.specs.Gather.{none_left}
+use Rattle.aries_core.proofs.Gathers.{FindsPages, FindsTxn, PassesPages, PassesTxns, TakesPages, TakesTxn, WasDone, gather_case}
+use Rattle.aries_core.proofs.Gathers.{pages_record, passes_pages, passes_txns, takes_pages, takes_txn, txn_entry, was_done}
+use Rattle.aries_core.proofs.GatherSteps.{end_ckpt_follows, pages_follow, txn_follows}
+use Rattle.aries_core.proofs.Refusals.{ActiveIn, RollsIn, active_passes, begin_passes, change_passes, ckpt_begin_passes, ckpt_end_passes}
+use Rattle.aries_core.proofs.Refusals.{gather_passes, undo_passes}
 use Rattle.aries_core.specs.Call.{record_for}
 
 -- a list that has no last element has none
@@ -72,23 +80,63 @@ undo_has P s txn r made comp ended = by_last (last_of (pending s.log txn)) refl
     by_last None o = subst P (same_Some _ _ (rw o at made)) (ended o)
     by_last (Some p) o = subst P (same_Some _ _ (rw o at made)) (comp p o)
 
-pub follows : (s : EngineState) (event : Event) (r : Record) → refusal s event ≡ None → record_for s event ≡ Some r
-    → MayFollow s.log r
-follows s event.Begin r none made = subst (MayFollow s.log) (same_Some _ _ made) (begin_follows s none)
-follows s (event.Set txn page slot number) r none made =
+pub none_is_not_some : {X : Type 0} {x : X} → None ≡ Some x → ⊥
+none_is_not_some same = cc
+
+-- a step of a gather appends no record, or one of these
+pub gather_record_has : (P : Record → Type 0) (s : EngineState) (r : Record) → refusal s event.CkptGather ≡ None
+    → record_for s event.CkptGather ≡ Some r
+    → ((c : Checkpoint) (pages : DirtyPages) → open_checkpoint s.log ≡ Some c → FindsPages s c (Some pages)
+    → P (pages_record s c pages))
+    → ((c : Checkpoint) (t : ℕ) → open_checkpoint s.log ≡ Some c → FindsTxn s c (Some t) → P (txn_entry s c t)) → P r
+gather_record_has P s r none made pages txn =
+    let passes = gather_passes s none in
+    let c = passes.ckpt in
+    let is = passes.still_open in
+    elim (gather_case s c) [
+      | TakesPages found finds ↦
+          subst P (same_Some _ _ (sym (takes_pages s c found is finds).made ∙ made)) (pages c found is finds)
+      | PassesPages finds ↦ absurd (none_is_not_some (sym (passes_pages s c is finds).made ∙ made))
+      | TakesTxn t finds ↦
+          subst P (same_Some _ _ (sym (takes_txn s c t is finds).made ∙ made)) (txn c t is finds)
+      | PassesTxns finds ↦ absurd (none_is_not_some (sym (passes_txns s c is finds).made ∙ made))
+      | WasDone left ↦ absurd (none_is_not_some (sym (was_done s c is left).made ∙ made))
+    ]
+
+-- the end of a checkpoint appends its EndChkpt
+pub end_record_has : (P : Record → Type 0) (s : EngineState) (r : Record) → refusal s event.CkptEnd ≡ None
+    → record_for s event.CkptEnd ≡ Some r
+    → ((c : Checkpoint) → open_checkpoint s.log ≡ Some c → s.left ≡ none_left → P (end_ckpt_record s c)) → P r
+end_record_has P s r none made ends =
+    let passes = ckpt_end_passes s none in
+    let c = passes.ckpt in
+    subst P (same_Some _ _ (sym (ap (option_map (end_ckpt_record s)) passes.still_open) ∙ made))
+    (ends c passes.still_open passes.done)
+
+pub follows : (s : EngineState) (event : Event) (r : Record) → IsFit s → refusal s event ≡ None
+    → record_for s event ≡ Some r → MayFollow s.log r
+follows s event.Begin r fit none made = subst (MayFollow s.log) (same_Some _ _ made) (begin_follows s none)
+follows s (event.Set txn page slot number) r fit none made =
     let passes = change_passes s txn page slot kind.Set none in
     subst (MayFollow s.log) (same_Some _ _ made) (set_follows s txn page slot number passes.active passes.free)
-follows s (event.Add txn page slot amount) r none made =
+follows s (event.Add txn page slot amount) r fit none made =
     let passes = change_passes s txn page slot kind.Add none in
     subst (MayFollow s.log) (same_Some _ _ made) (add_follows s txn page slot amount passes.active passes.free)
-follows s (event.Read page slot) r none made = absurd (cc)
-follows s (event.Commit txn) r none made =
+follows s (event.Read page slot) r fit none made = absurd (cc)
+follows s (event.Commit txn) r fit none made =
     subst (MayFollow s.log) (same_Some _ _ made) (commit_follows s txn (active_passes s txn none))
-follows s (event.Abort txn) r none made =
+follows s (event.Abort txn) r fit none made =
     subst (MayFollow s.log) (same_Some _ _ made) (abort_follows s txn (active_passes s txn none))
-follows s (event.UndoStep txn) r none made =
+follows s (event.UndoStep txn) r fit none made =
     let rolls = undo_passes s txn none in
     undo_has (MayFollow s.log) s txn r made (λ p last. comp_follows s txn p rolls last) (end_follows s txn rolls)
-follows s event.Force r none made = absurd (cc)
-follows s (event.WriteBegin page) r none made = absurd (cc)
-follows s (event.WriteEnd page) r none made = absurd (cc)
+follows s event.Force r fit none made = absurd (cc)
+follows s (event.WriteBegin page) r fit none made = absurd (cc)
+follows s (event.WriteEnd page) r fit none made = absurd (cc)
+follows s event.CkptBegin r fit none made =
+    subst (MayFollow s.log) (same_Some _ _ made) (ckpt_begin_passes s none).idle
+follows s event.CkptGather r fit none made =
+    gather_record_has (MayFollow s.log) s r none made (λ c pages is finds. pages_follow s c pages fit is finds)
+    (λ c t is finds. txn_follows s c t fit is finds)
+follows s event.CkptEnd r fit none made =
+    end_record_has (MayFollow s.log) s r none made (λ c is done. end_ckpt_follows s c fit is done)

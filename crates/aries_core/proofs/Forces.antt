@@ -7,6 +7,7 @@ use Rattle.page_core.specs.declared.page.Page.{Page}
 use Rattle.log_history.specs.declared.pending_change.PendingChange.{PendingChange}
 use Rattle.log_records.specs.declared.record.Record.{Record}
 use Rattle.log_records.specs.Log.{lsn_of}
+use Rattle.log_history.specs.Checkpoint.{Checkpoint}
 use Rattle.log_history.specs.Transactions.{last_of, pending}
 use Rattle.log_store.specs.WrittenLog.{end_up_to}
 use Rattle.aries_core.specs.declared.event.Answer.{Answer}
@@ -14,8 +15,9 @@ use Rattle.aries_core.specs.declared.event.Event.{Event}
 use Rattle.aries_core.specs.declared.event.Event.TheVariants as event
 use Rattle.aries_core.specs.declared.refusal.Refusal.{Refusal}
 use Rattle.aries_core.specs.declared.refusal.Refusal.TheVariants.{OutOfMemory, StoreFault, LogFault, CommitUnsure}
-use Rattle.aries_core.specs.EngineState.{EngineState, appended, commit_record, comp_record, effect, end, end_record, forced_through, forced_to, image_of, log_of, page_now}
+use Rattle.aries_core.specs.EngineState.{EngineState, appended, closed, commit_record, comp_record, effect, end, end_ckpt_record, end_record, forced_through, forced_to, image_of, log_of, page_now}
 use Rattle.aries_core.specs.Step.{Fails, ForcedPart, Step}
+use Rattle.aries_core.proofs.Gathers.{ckpt_end_has, closed_part, gather_has}
 use Rattle.aries_core.proofs.Steps.{stored_or_not}
 
 -- the forced end is the LSN of a record, or of the log's end
@@ -83,6 +85,25 @@ write_end_forces : (old : EngineState) (page : ℕ) (o : Option Page) → image_
 write_end_forces old page None o ends = rw o (same_forces old ends)
 write_end_forces old page (Some image) o ends = rw o (record { at_record = ends; no_less = omega arith })
 
+gather_forces : (old : EngineState) → EndsAtRecord old → Forces old (effect old event.CkptGather).state
+gather_forces old (k, le, e) =
+    gather_has (Forces old) old (same_forces old (k, le, e))
+    (λ left. record { at_record = (k, le, e); no_less = omega arith })
+    (λ r left. record { at_record = (k, omega (arith, length_push old.log r), e); no_less = omega arith })
+
+closed_forces : (old : EngineState) (c : Checkpoint) → EndsAtRecord old → Forces old (closed old c)
+closed_forces old c (k, le, e) = record {
+  at_record = (k, omega (arith, length_push old.log (end_ckpt_record old c)), e);
+  no_less = omega arith;
+}
+
+ckpt_end_forces : (old : EngineState) → EndsAtRecord old → Forces old (effect old event.CkptEnd).state
+ckpt_end_forces old ends =
+    ckpt_end_has (Forces old) old (same_forces old ends) (λ c.
+    let all = both_force old (closed old c) _ (closed_forces old c ends)
+    (all_forces (closed old c) (closed_forces old c ends).at_record) in
+    record { at_record = all.at_record; no_less = all.no_less })
+
 effect_forces : (old : EngineState) (event : Event) → EndsAtRecord old → Forces old (effect old event).state
 effect_forces old event.Begin ends = appended_forces old _ ends
 effect_forces old (event.Set txn page slot number) ends = appended_forces old _ ends
@@ -96,6 +117,10 @@ effect_forces old (event.WriteBegin page) ends =
     let through = through_forces old (page_now old page).lsn ends in
     record { at_record = through.at_record; no_less = through.no_less }
 effect_forces old (event.WriteEnd page) ends = write_end_forces old page (image_of old page) refl ends
+effect_forces old event.CkptBegin ends =
+    let all = appended_forces old _ ends in record { at_record = all.at_record; no_less = all.no_less }
+effect_forces old event.CkptGather ends = gather_forces old ends
+effect_forces old event.CkptEnd ends = ckpt_end_forces old ends
 
 failed_forces : (old : EngineState) (event : Event) (why : Refusal) (new : EngineState) → EndsAtRecord old
     → Fails old event why new → Forces old new
@@ -109,6 +134,10 @@ failed_forces old (event.WriteEnd page) StoreFault new ends fails = elim (stored
 ]
 failed_forces old (event.Commit txn) (CommitUnsure lsn) new ends fails =
     both_force old (appended old (commit_record old txn)) new (appended_forces old _ ends) (part_forces _ new _ (omega arith) fails.1)
+failed_forces old event.CkptEnd LogFault new ends fails =
+    let part = closed_part old new fails in
+    both_force old (closed old part.0) new (closed_forces old part.0 ends)
+    (part_forces (closed old part.0) new _ (omega arith) part.2)
 failed_forces old event why new ends fails = absurd fails
 
 pub forces : (old : EngineState) (event : Event) (reply : Result Answer Refusal) (new : EngineState) → EndsAtRecord old

@@ -1,8 +1,12 @@
 pub mod Appends
+pub mod Beside
 pub mod Calls
+pub mod CkptFits
 pub mod Fit
 pub mod Follows
 pub mod Forces
+pub mod GatherSteps
+pub mod Gathers
 pub mod FullLog
 pub mod Numbers
 pub mod Pending

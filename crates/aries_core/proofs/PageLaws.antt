@@ -17,6 +17,7 @@ use Rattle.aries_core.specs.Refusal.{refusal}
 use Rattle.aries_core.specs.Run.{Run}
 use Rattle.aries_core.specs.Step.{Fails, Step}
 use Rattle.aries_core.specs.Written.{with_write, written_from}
+use Rattle.aries_core.proofs.Gathers.{ckpt_end_has, closed_part, gather_has}
 use Rattle.aries_core.proofs.Refusals.{write_end_passes}
 use Rattle.aries_core.proofs.Steps.{stored_or_not}
 
@@ -75,6 +76,11 @@ answered old (event.UndoStep txn) answer new none given is = undo_written old tx
 answered old event.Force answer new none given is = same_written old new _ is refl
 answered old (event.WriteBegin page) answer new none given is = same_written old new _ is refl
 answered old (event.WriteEnd page) answer new none given is = ended_written old page answer new none given is
+answered old event.CkptBegin answer new none given is = same_written old new _ is refl
+answered old event.CkptGather answer new none given is =
+    same_written old new _ is (gather_has (λ s. s.written ≡ old.written) old refl (λ left. refl) (λ r left. refl))
+answered old event.CkptEnd answer new none given is =
+    same_written old new _ is (ckpt_end_has (λ s. s.written ≡ old.written) old refl (λ c. refl))
 
 failed : (old : EngineState) (event : Event) (why : Refusal) (new : EngineState) → Fails old event why new
     → new.written ≡ old.written
@@ -86,6 +92,7 @@ failed old (event.WriteEnd page) StoreFault new fails = elim (stored_or_not old 
   | inl same ↦ same_written old new _ same refl
   | inr stored ↦ same_written old new _ stored.2 refl
 ]
+failed old event.CkptEnd LogFault new fails = same_written old new _ (closed_part old new fails).2.reached.2 refl
 failed old event why new fails = absurd fails
 
 written_of_step : (old : EngineState) (event : Event) (reply : Result Answer Refusal) (new : EngineState)

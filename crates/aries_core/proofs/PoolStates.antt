@@ -10,7 +10,7 @@ use Rattle.log_records.specs.Coverage.{rec_lsn}
 use Rattle.log_store.specs.WrittenLog.{WrittenLog, end_up_to}
 use Rattle.aries_core.specs.declared.event.Event.TheVariants as event
 use Rattle.aries_core.specs.declared.refusal.Refusal.TheVariants.{NoWrite, NotDirty, PageOut, WriteBegun}
-use Rattle.aries_core.specs.EngineState.{EngineState, begun_write, ended_write, engine_view, forced_through, image_of}
+use Rattle.aries_core.specs.EngineState.{CkptsView, EngineState, begun_write, ended_write, engine_view, forced_through, image_of}
 use Rattle.aries_core.specs.EngineState.{new_state, rec_lsn_of, with_stored}
 use Rattle.page_core.specs.Volume.{formatted_pages}
 use Rattle.aries_core.specs.Refusal.{refusal}
@@ -49,25 +49,25 @@ end_may s p within begun = rw (lt-leb s.pages p within, none_by_some (image_of s
 
 -- ---- a page
 
-pub image_at : {S D : Type 0} (stored : S → List Page) (it : WrittenLog D) (pool : PoolView S) (p : ℕ)
-    → p < length pool.states → image_of (engine_view stored it pool).state p ≡ (state_at pool p).writing
-image_at stored it pool p within = get_or-map (λ s. s.writing) pool.states p unwritten None within
+pub image_at : {S D : Type 0} (stored : S → List Page) (it : WrittenLog D) (pool : PoolView S) (ckpts : CkptsView)
+    (p : ℕ) → p < length pool.states → image_of (engine_view stored it pool ckpts).state p ≡ (state_at pool p).writing
+image_at stored it pool ckpts p within = get_or-map (λ s. s.writing) pool.states p unwritten None within
 
-pub rec_lsn_at : {S D : Type 0} (stored : S → List Page) (it : WrittenLog D) (pool : PoolView S) (p : ℕ)
-    → IsPoolOf stored it.log pool → p < length pool.states
-    → rec_lsn_of (engine_view stored it pool).state p ≡ (state_at pool p).rec_lsn
-rec_lsn_at stored it pool p is within =
+pub rec_lsn_at : {S D : Type 0} (stored : S → List Page) (it : WrittenLog D) (pool : PoolView S) (ckpts : CkptsView)
+    (p : ℕ) → IsPoolOf stored it.log pool → p < length pool.states
+    → rec_lsn_of (engine_view stored it pool ckpts).state p ≡ (state_at pool p).rec_lsn
+rec_lsn_at stored it pool ckpts p is within =
     ap (rec_lsn it.log.records p) (get_or-map (λ s. s.written) pool.states p unwritten 0 within)
     ∙ sym (is.states p unwritten within).dirty
 
 -- ---- what stands after a call
 
-pub begun_is : {S D : Type 0} (stored : S → List Page) (old new : WrittenLog D) (pool : PoolView S) (p : ℕ) (q : Page)
-    → p < length pool.states → new.log ≡ old.log
+pub begun_is : {S D : Type 0} (stored : S → List Page) (old new : WrittenLog D) (pool : PoolView S) (ckpts : CkptsView)
+    (p : ℕ) (q : Page) → p < length pool.states → new.log ≡ old.log
     → new.forced_end ≡ max old.forced_end (end_up_to old.log q.lsn)
-    → (engine_view stored new (with_state pool p (write_begun (state_at pool p) q))).state
-    ≡ begun_write (forced_through (engine_view stored old pool).state q.lsn) p q
-begun_is stored old new pool p q within same forced =
+    → (engine_view stored new (with_state pool p (write_begun (state_at pool p) q)) ckpts).state
+    ≡ begun_write (forced_through (engine_view stored old pool ckpts).state q.lsn) p q
+begun_is stored old new pool ckpts p q within same forced =
     let begun = write_begun (state_at pool p) q in
     let written : written_of (set pool.states p begun) ≡ written_of pool.states =
     map-set (λ s. s.written) pool.states p begun
@@ -77,11 +77,11 @@ begun_is stored old new pool p q within same forced =
     map-set (λ s. s.writing) pool.states p begun in
     rw (same, forced, written, writing) refl
 
-pub ended_is : {S D : Type 0} (stored : S → List Page) (it : WrittenLog D) (pool after : PoolView S) (p : ℕ) (q : Page)
-    → stored after.store ≡ set (stored pool.store) p q
+pub ended_is : {S D : Type 0} (stored : S → List Page) (it : WrittenLog D) (pool after : PoolView S)
+    (ckpts : CkptsView) (p : ℕ) (q : Page) → stored after.store ≡ set (stored pool.store) p q
     → after.states ≡ set pool.states p (write_ended (state_at pool p) q.lsn)
-    → (engine_view stored it after).state ≡ ended_write (engine_view stored it pool).state p q
-ended_is stored it pool after p q store states =
+    → (engine_view stored it after ckpts).state ≡ ended_write (engine_view stored it pool ckpts).state p q
+ended_is stored it pool after ckpts p q store states =
     let ended = write_ended (state_at pool p) q.lsn in
     let written : written_of after.states ≡ set (written_of pool.states) p q.lsn =
     ap written_of states ∙ map-set (λ s. s.written) pool.states p ended in
@@ -89,15 +89,15 @@ ended_is stored it pool after p q store states =
     ap writing_of states ∙ map-set (λ s. s.writing) pool.states p ended in
     rw (store, written, writing) refl
 
-pub repeated_is : {S D : Type 0} (stored : S → List Page) (it : WrittenLog D) (pool after : PoolView S) (p : ℕ)
-    (q : Page) → stored after.store ≡ set (stored pool.store) p q → after.states ≡ pool.states
-    → (engine_view stored it after).state ≡ with_stored (engine_view stored it pool).state p q
-repeated_is stored it pool after p q store states = rw (store, states) refl
+pub repeated_is : {S D : Type 0} (stored : S → List Page) (it : WrittenLog D) (pool after : PoolView S)
+    (ckpts : CkptsView) (p : ℕ) (q : Page) → stored after.store ≡ set (stored pool.store) p q → after.states ≡ pool.states
+    → (engine_view stored it after ckpts).state ≡ with_stored (engine_view stored it pool ckpts).state p q
+repeated_is stored it pool after ckpts p q store states = rw (store, states) refl
 
 pub kept_is : {S D : Type 0} (stored : S → List Page) (it : WrittenLog D) (pool after : PoolView S)
-    → stored after.store ≡ stored pool.store → after.states ≡ pool.states
-    → (engine_view stored it after).state ≡ (engine_view stored it pool).state
-kept_is stored it pool after store states = rw (store, states) refl
+    (ckpts : CkptsView) → stored after.store ≡ stored pool.store → after.states ≡ pool.states
+    → (engine_view stored it after ckpts).state ≡ (engine_view stored it pool ckpts).state
+kept_is stored it pool after ckpts store states = rw (store, states) refl
 
 -- ---- a new engine
 
@@ -107,7 +107,8 @@ map-replicate f (suc n) x = ap (λ ys. f x ∷ ys) (map-replicate f n x)
 
 pub new_is : {S D : Type 0} (stored : S → List Page) (it : WrittenLog D) (pool : PoolView S) (store : S) (n : ℕ)
     → it.log ≡ record { pages = n; records = [] } → it.forced_end ≡ 64 → pool ≡ new_pool store n
-    → stored store ≡ formatted_pages n → (engine_view stored it pool).state ≡ new_state n
+    → stored store ≡ formatted_pages n
+    → (engine_view stored it pool (record { master = None; session = None })).state ≡ new_state n
 new_is {S = S} stored it pool store n log forced is formatted =
     let written : written_of pool.states ≡ replicate n 0 =
     ap (λ (v : PoolView S). written_of v.states) is ∙ map-replicate (λ s. s.written) n unwritten in

@@ -1,5 +1,5 @@
 -- What an event that is not refused has passed.
-use Rattle.std.proofs.Common.{◌≡◌, ℕ, ◌+◌, ◌<◌, ◌≤◌, ◌⊎◌, Bool, true, false, not, length, refl, inl, inr}
+use Rattle.std.proofs.Common.{◌≡◌, ℕ, ◌+◌, ◌<◌, ◌≤◌, ◌⊎◌, Bool, true, false, ◌&&◌, not, length, refl, sym, ap, ◌∙◌, inl, inr}
 use Rattle.std.specs.Prelude.{Option, Some, None, is_none, is_some}
 use Rattle.std.specs.Option.{option_map}
 use Rattle.std.proofs.lemmas.Option.{cond_some, same_Some}
@@ -8,12 +8,15 @@ use Rattle.page_core.specs.declared.change.ChangeKind.{ChangeKind}
 use Rattle.page_core.specs.declared.page.Page.{Page}
 use Rattle.page_core.specs.declared.page.TheConstants.{SLOTS}
 use Rattle.log_records.specs.declared.limits.TheConstants.{MAX_OPEN, MAX_RECORDS}
+use Rattle.log_records.specs.declared.record.Record.{Record}
+use Rattle.log_history.specs.Checkpoint.{Checkpoint, open_checkpoint}
 use Rattle.log_history.specs.Transactions.{holder, is_open, is_rolling, open_in, owed}
 use Rattle.aries_core.specs.declared.event.Event.TheVariants as event
 use Rattle.aries_core.specs.declared.refusal.Refusal.{Refusal}
-use Rattle.aries_core.specs.declared.refusal.Refusal.TheVariants.{CommitUnsure, LogFull, NoTxn, NoWrite, NotDirty, NotRolling, PageOut, SlotBusy, SlotOut, TooManyTxns, TxnRolling, WriteBegun}
-use Rattle.aries_core.specs.EngineState.{EngineState, image_of, rec_lsn_of}
-use Rattle.aries_core.specs.Refusal.{active_refusal, change_refusal, has_no_room, or_else, page_refusal, refused_if, refusal}
+use Rattle.aries_core.specs.declared.refusal.Refusal.TheVariants.{CkptOpen, CommitUnsure, GatherLeft, LogFull, NoCkpt, NoTxn, NoWrite, NotDirty, NotRolling, PageOut, SlotBusy, SlotOut, TooManyTxns, TxnRolling, WriteBegun}
+use Rattle.aries_core.specs.EngineState.{EngineState, gathered_record, image_of, rec_lsn_of}
+use Rattle.aries_core.specs.Gather.{Left, is_done, none_left, pages_left, txns_left}
+use Rattle.aries_core.specs.Refusal.{active_refusal, change_refusal, ckpt_refusal, has_no_room, or_else, page_refusal, refused_if, refusal}
 
 -- ---- one test, and two
 
@@ -213,3 +216,117 @@ write_end_passes s page none =
     let place = none_of_both _ _ none in
     let some = some_by_test (image_of s page) (not_refused _ _ place.1) in
     record { within = leb-false _ _ (not_refused _ _ place.0); image = some.0; there = some.1 }
+
+-- ---- checkpoints
+
+-- a checkpoint may begin
+pub record CkptBegins (s : EngineState) : Type 0 where
+  pub idle : open_checkpoint s.log ≡ None
+  pub room : HasRoom s 1
+
+-- the gather of the open checkpoint may go on by a step
+pub record GatherGoesOn (s : EngineState) : Type 0 where
+  pub ckpt : Checkpoint
+  pub still_open : open_checkpoint s.log ≡ Some ckpt
+  pub room : (r : Record) → gathered_record s ≡ Some r → HasRoom s 1
+
+-- the open checkpoint may end
+pub record CkptEnds (s : EngineState) : Type 0 where
+  pub ckpt : Checkpoint
+  pub still_open : open_checkpoint s.log ≡ Some ckpt
+  pub done : s.left ≡ none_left
+  pub room : HasRoom s 1
+
+-- a test that some value passes
+some_passes : {X : Type 0} (o : Option X) (x : X) (other : Bool) → o ≡ Some x → (is_some o && other) ≡ other
+some_passes o x other is = ap (λ p. is_some p && other) is
+
+none_left_if_done : (left : Left) → is_done left ≡ true → left ≡ none_left
+none_left_if_done none_left done = refl
+none_left_if_done pages_left done = cc
+none_left_if_done txns_left done = cc
+
+pub ckpt_begin_passes : (s : EngineState) → refusal s event.CkptBegin ≡ None → CkptBegins s
+ckpt_begin_passes s none =
+    let both = none_of_both _ _ none in
+    record { idle = none_by_test (open_checkpoint s.log) (not_refused _ _ both.0); room = has_room s 1 _ both.1 }
+
+pub gather_passes : (s : EngineState) → refusal s event.CkptGather ≡ None → GatherGoesOn s
+gather_passes s none =
+    let both = none_of_both _ _ none in
+    let some = some_by_test (open_checkpoint s.log) (not_refused _ _ both.0) in
+    record {
+      ckpt = some.0;
+      still_open = some.1;
+      room = λ r made.
+          ltb-false _ _ (sym (some_passes (gathered_record s) r (has_no_room s 1) made) ∙ not_refused _ _ both.1);
+    }
+
+pub ckpt_end_passes : (s : EngineState) → refusal s event.CkptEnd ≡ None → CkptEnds s
+ckpt_end_passes s none =
+    let both = none_of_both _ _ none in
+    let some = some_by_test (open_checkpoint s.log) (not_refused _ _ both.0) in
+    let rest = none_of_both _ _ both.1 in
+    record {
+      ckpt = some.0;
+      still_open = some.1;
+      done = none_left_if_done s.left (not-false _ (not_refused _ _ rest.0));
+      room = has_room s 1 _ rest.1;
+    }
+
+-- they are refused for room
+
+both_hold : (a b : Bool) → (a && b) ≡ true → (a ≡ true) × (b ≡ true)
+both_hold true b is = (refl, is)
+both_hold false b is = cc
+
+some_if : {X : Type 0} (o : Option X) → is_some o ≡ true → (x : X) × (o ≡ Some x)
+some_if None is = cc
+some_if (Some x) is = (x, refl)
+
+pub ckpt_begin_full : (s : EngineState) → refusal s event.CkptBegin ≡ Some LogFull
+    → (open_checkpoint s.log ≡ None) × (MAX_RECORDS < length s.log + owed s.log + 1)
+ckpt_begin_full s full =
+    let both = second_of_both (refused_if _ CkptOpen) _ LogFull (not_of_one _ CkptOpen LogFull (λ same. (cc))) full in
+    (none_by_test (open_checkpoint s.log) (not_refused _ _ both.0), ltb-true _ _ (refused_so _ _ _ both.1).0)
+
+-- a step of a gather that would append a record, and has no room for it
+pub record GatherIsFull (s : EngineState) : Type 0 where
+  pub ckpt : Checkpoint
+  pub still_open : open_checkpoint s.log ≡ Some ckpt
+  pub r : Record
+  pub made : gathered_record s ≡ Some r
+  pub past : MAX_RECORDS < length s.log + owed s.log + 1
+
+pub gather_full : (s : EngineState) → refusal s event.CkptGather ≡ Some LogFull → GatherIsFull s
+gather_full s full =
+    let both = second_of_both (ckpt_refusal s) _ LogFull (not_of_one _ NoCkpt LogFull (λ same. (cc))) full in
+    let some = some_by_test (open_checkpoint s.log) (not_refused _ _ both.0) in
+    let tests = both_hold _ _ (refused_so _ _ _ both.1).0 in
+    let appends = some_if (gathered_record s) tests.0 in
+    record {
+      ckpt = some.0;
+      still_open = some.1;
+      r = appends.0;
+      made = appends.1;
+      past = ltb-true _ _ tests.1;
+    }
+
+-- a checkpoint that could end, and has no room for its EndChkpt
+pub record EndIsFull (s : EngineState) : Type 0 where
+  pub ckpt : Checkpoint
+  pub still_open : open_checkpoint s.log ≡ Some ckpt
+  pub done : s.left ≡ none_left
+  pub past : MAX_RECORDS < length s.log + owed s.log + 1
+
+pub ckpt_end_full : (s : EngineState) → refusal s event.CkptEnd ≡ Some LogFull → EndIsFull s
+ckpt_end_full s full =
+    let both = second_of_both (ckpt_refusal s) _ LogFull (not_of_one _ NoCkpt LogFull (λ same. (cc))) full in
+    let some = some_by_test (open_checkpoint s.log) (not_refused _ _ both.0) in
+    let rest = second_of_both (refused_if _ GatherLeft) _ LogFull (not_of_one _ GatherLeft LogFull (λ same. (cc))) both.1 in
+    record {
+      ckpt = some.0;
+      still_open = some.1;
+      done = none_left_if_done s.left (not-false _ (not_refused _ _ rest.0));
+      past = ltb-true _ _ (refused_so _ _ _ rest.1).0;
+    }

@@ -1,5 +1,5 @@
 -- The log has room for its records and for those that open transactions may still need.
-use Rattle.std.proofs.Common.{◌≡◌, ℕ, ◌+◌, ◌<◌, ◌≤◌, ◌++◌, List, [], ◌∷◌, length, refl, subst, arith, inl, inr}
+use Rattle.std.proofs.Common.{◌≡◌, ℕ, ◌+◌, ◌<◌, ◌≤◌, false, ◌++◌, List, [], ◌∷◌, length, refl, sym, subst, ◌∙◌, arith, inl, inr}
 use Rattle.std.specs.Prelude.{Some, None, Ok}
 use Rattle.std.proofs.lemmas.List.{length_push, take_all}
 use Rattle.std.proofs.lemmas.Option.{same_Some}
@@ -10,15 +10,18 @@ use Rattle.log_records.specs.declared.limits.TheConstants.{MAX_RECORDS}
 use Rattle.log_records.specs.declared.record.Record.{Record}
 use Rattle.log_records.specs.declared.record.Record.TheVariants as log
 use Rattle.log_history.specs.Linked.{MayFollow, number_in}
-use Rattle.log_history.specs.Transactions.{last_lsn, owed}
-use Rattle.log_history.proofs.Room.{claimed_begin, claimed_push, claimed_update, needs}
+use Rattle.log_history.specs.Transactions.{begun_by, is_last, last_lsn, owed, txn_of}
+use Rattle.log_history.proofs.Room.{claimed_aside, claimed_begin, claimed_push, claimed_update, needs}
 use Rattle.aries_core.specs.declared.event.Event.{Event}
 use Rattle.aries_core.specs.declared.event.Event.TheVariants as event
 use Rattle.aries_core.specs.declared.refusal.Refusal.TheVariants.{LogFull}
-use Rattle.aries_core.specs.EngineState.{EngineState, IsFit, effect, end, next_txn, update_record}
+use Rattle.aries_core.specs.EngineState.{EngineState, IsFit, Outcome, begin_ckpt_record, effect, end, end_ckpt_record, next_txn, update_record}
 use Rattle.aries_core.specs.Refusal.{refusal}
-use Rattle.aries_core.proofs.Follows.{add_follows, follows, set_follows, undo_has}
-use Rattle.aries_core.proofs.Refusals.{HasRoom, active_not_full, begin_full, begin_passes, change_full, change_passes, read_not_full, undo_not_full, write_begin_not_full, write_end_not_full}
+use Rattle.aries_core.proofs.Follows.{add_follows, end_record_has, follows, gather_record_has, none_is_not_some, set_follows, undo_has}
+use Rattle.aries_core.proofs.Gathers.{PassesPages, PassesTxns, TakesPages, TakesTxn, WasDone, ckpt_end_is, gather_case}
+use Rattle.aries_core.proofs.Gathers.{pages_record, passes_pages, passes_txns, takes_pages, takes_txn, txn_entry, was_done}
+use Rattle.aries_core.proofs.Refusals.{GatherIsFull, HasRoom, ckpt_begin_full, ckpt_end_full, gather_full}
+use Rattle.aries_core.proofs.Refusals.{active_not_full, begin_full, begin_passes, change_full, change_passes, ckpt_begin_passes, ckpt_end_passes, gather_passes, read_not_full, undo_not_full, write_begin_not_full, write_end_not_full}
 use Rattle.aries_core.specs.Call.{record_for}
 use Rattle.aries_core.proofs.Steps.{stays_or_grows}
 
@@ -52,12 +55,20 @@ grows_within s (event.UndoStep txn) r fit none made =
 grows_within s event.Force r fit none made = absurd (cc)
 grows_within s (event.WriteBegin page) r fit none made = absurd (cc)
 grows_within s (event.WriteEnd page) r fit none made = absurd (cc)
+grows_within s event.CkptBegin r fit none made =
+    subst (λ (q : Record). HasRoom s (needs q)) (same_Some _ _ made) (ckpt_begin_passes s none).room
+grows_within s event.CkptGather r fit none made =
+    let room = (gather_passes s none).room r made in
+    gather_record_has (λ (q : Record). HasRoom s (needs q)) s r none made (λ c pages is finds. room)
+    (λ c t is finds. room)
+grows_within s event.CkptEnd r fit none made =
+    end_record_has (λ (q : Record). HasRoom s (needs q)) s r none made (λ c is done. (ckpt_end_passes s none).room)
 
 pub room_grows : (s : EngineState) (event : Event) (r : Record) → IsFit s → refusal s event ≡ None
     → record_for s event ≡ Some r → length (s.log ++ r ∷ []) + owed (s.log ++ r ∷ []) ≤ MAX_RECORDS
 room_grows s event r fit none made =
     let within = grows_within s event r fit none made in
-    omega (arith, claimed_push s.log r fit.linked (follows s event r none made))
+    omega (arith, claimed_push s.log r fit.linked (follows s event r fit none made))
 
 -- after an accepted call, whatever it is
 pub room_if_accepted : (s : EngineState) (event : Event) → IsFit s → refusal s event ≡ None
@@ -80,6 +91,31 @@ update_past s txn page slot change fit may past =
       length_push s.log (update_record s txn page slot change),
       claimed_update s.log (end s) txn (last_lsn s.log txn) page slot change fit.linked may,
     )
+
+-- a checkpoint's record needs room for itself
+aside_past : (s : EngineState) (r : Record) → IsFit s → begun_by r ≡ None → is_last r ≡ false → txn_of r ≡ 0
+    → MAX_RECORDS < length s.log + owed s.log + 1
+    → MAX_RECORDS < length (s.log ++ r ∷ []) + owed (s.log ++ r ∷ [])
+aside_past s r fit none more no_txn past = omega (arith, claimed_aside s.log r fit.linked none more no_txn)
+
+abbrev IsPast : Outcome → Type 0
+IsPast o = MAX_RECORDS < length o.state.log + owed o.state.log
+
+gather_past : (s : EngineState) → IsFit s → GatherIsFull s → IsPast (effect s event.CkptGather)
+gather_past s fit full =
+    let c = full.ckpt in
+    let is = full.still_open in
+    elim (gather_case s c) [
+      | TakesPages pages finds ↦
+          subst IsPast (sym (takes_pages s c pages is finds).outcome)
+          (aside_past s (pages_record s c pages) fit refl refl refl full.past)
+      | PassesPages finds ↦ absurd (none_is_not_some (sym (passes_pages s c is finds).made ∙ full.made))
+      | TakesTxn t finds ↦
+          subst IsPast (sym (takes_txn s c t is finds).outcome)
+          (aside_past s (txn_entry s c t) fit refl refl refl full.past)
+      | PassesTxns finds ↦ absurd (none_is_not_some (sym (passes_txns s c is finds).made ∙ full.made))
+      | WasDone left ↦ absurd (none_is_not_some (sym (was_done s c is left).made ∙ full.made))
+    ]
 
 pub past_if_full : (s : EngineState) (event : Event) → IsFit s → refusal s event ≡ Some LogFull
     → let after = (effect s event).state in MAX_RECORDS < length after.log + owed after.log
@@ -105,3 +141,10 @@ past_if_full s (event.UndoStep txn) fit full = absurd (undo_not_full s txn full)
 past_if_full s event.Force fit full = absurd (cc)
 past_if_full s (event.WriteBegin page) fit full = absurd (write_begin_not_full s page full)
 past_if_full s (event.WriteEnd page) fit full = absurd (write_end_not_full s page full)
+past_if_full s event.CkptBegin fit full =
+    aside_past s (begin_ckpt_record s) fit refl refl refl (ckpt_begin_full s full).1
+past_if_full s event.CkptGather fit full = gather_past s fit (gather_full s full)
+past_if_full s event.CkptEnd fit full =
+    let end = ckpt_end_full s full in
+    subst IsPast (sym (ckpt_end_is s end.ckpt end.still_open))
+    (aside_past s (end_ckpt_record s end.ckpt) fit refl refl refl end.past)

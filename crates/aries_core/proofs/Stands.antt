@@ -8,6 +8,7 @@ use Rattle.page_core.specs.declared.change.Change.TheVariants.{Set, Add}
 use Rattle.page_core.specs.declared.change.ChangeKind.TheVariants as kind
 use Rattle.page_core.specs.Change.{kind_of, undo_of}
 use Rattle.log_history.specs.declared.pending_change.PendingChange.{PendingChange}
+use Rattle.log_records.specs.declared.limits.TheConstants.{MAX_RECORDS}
 use Rattle.log_records.specs.declared.record.Record.{Record}
 use Rattle.log_records.specs.declared.record.Record.TheVariants as log
 use Rattle.log_history.specs.Linked.{number_in}
@@ -19,10 +20,11 @@ use Rattle.aries_core.specs.declared.event.Event.TheVariants as event
 use Rattle.aries_core.specs.EngineState.{EngineState, IsFit, abort_record, commit_record, comp_record, end, end_record, log_of, next_txn, update_record}
 use Rattle.aries_core.specs.EventFits.{EventFits}
 use Rattle.aries_core.specs.Refusal.{refusal}
-use Rattle.aries_core.proofs.Follows.{undo_has}
+use Rattle.aries_core.proofs.Follows.{end_record_has, gather_record_has, undo_has}
+use Rattle.aries_core.proofs.GatherSteps.{end_ckpt_stands, pages_stand, txn_stand}
 use Rattle.aries_core.proofs.Numbers.{last_lsn_is_before, length_begun, lsn_is_lsn, number_fits, open_is_txn}
 use Rattle.aries_core.proofs.Pending.{StandsBefore, all_stand, last_pending}
-use Rattle.aries_core.proofs.Refusals.{ChangePasses, active_passes, change_passes, undo_passes}
+use Rattle.aries_core.proofs.Refusals.{ChangePasses, active_passes, change_passes, ckpt_end_passes, gather_passes, undo_passes}
 use Rattle.aries_core.specs.Call.{record_for}
 
 abbrev pub StandsAtEnd : EngineState → Record → Type 0
@@ -151,3 +153,13 @@ stands s (event.UndoStep txn) r fit fits none made =
 stands s event.Force r fit fits none made = absurd (cc)
 stands s (event.WriteBegin page) r fit fits none made = absurd (cc)
 stands s (event.WriteEnd page) r fit fits none made = absurd (cc)
+stands s event.CkptBegin r fit fits none made =
+    subst (StandsAtEnd s) (same_Some _ _ made) (record { lsn = refl; valid = end_is_lsn s fit; within = tt })
+stands s event.CkptGather r fit fits none made =
+    let room = (gather_passes s none).room r made in
+    let few : length s.log < MAX_RECORDS = omega arith in
+    gather_record_has (StandsAtEnd s) s r none made (λ c pages is finds. pages_stand s c pages fit is finds few)
+    (λ c t is finds. txn_stand s c t fit is finds few)
+stands s event.CkptEnd r fit fits none made =
+    let room = (ckpt_end_passes s none).room in
+    end_record_has (StandsAtEnd s) s r none made (λ c is done. end_ckpt_stands s c fit is done (omega arith))

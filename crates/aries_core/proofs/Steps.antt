@@ -1,9 +1,11 @@
 -- What a step does to the log.
 use Rattle.std.proofs.Common.{◌≡◌, ℕ, ◌++◌, ◌⊎◌, [], ◌∷◌, refl, ap, ◌∙◌, inl, inr}
 use Rattle.std.specs.Prelude.{Option, Some, None, IsSomeAnd, Result, Ok, Err}
+use Rattle.std.specs.Option.{option_map}
 use Rattle.page_core.specs.declared.page.Page.{Page}
 use Rattle.log_history.specs.declared.pending_change.PendingChange.{PendingChange}
 use Rattle.log_records.specs.declared.record.Record.{Record}
+use Rattle.log_history.specs.Checkpoint.{Checkpoint, open_checkpoint}
 use Rattle.log_history.specs.Transactions.{last_of, pending}
 use Rattle.log_history.specs.Work.{call_of}
 use Rattle.aries_core.specs.Call.{record_for}
@@ -13,10 +15,12 @@ use Rattle.aries_core.specs.declared.event.Event.TheVariants as event
 use Rattle.aries_core.specs.declared.refusal.Refusal.{Refusal}
 use Rattle.aries_core.specs.declared.refusal.Refusal.TheVariants.{OutOfMemory, StoreFault, LogFault, CommitUnsure}
 use Rattle.aries_core.specs.Accepted.{shown_call}
-use Rattle.aries_core.specs.EngineState.{EngineState, appended, comp_record, effect, end_record, ended_write, image_of, with_stored}
+use Rattle.aries_core.specs.EngineState.{EngineState, appended, comp_record, effect, end_ckpt_record, end_record, ended_write, image_of, with_stored}
 use Rattle.aries_core.specs.Refusal.{refusal}
 use Rattle.aries_core.specs.Step.{Fails, MayBeStored, Step}
-use Rattle.aries_core.proofs.Refusals.{commit_not_unsure}
+use Rattle.aries_core.proofs.Gathers.{PassesPages, PassesTxns, TakesPages, TakesTxn, WasDone, ckpt_end_is, closed_part}
+use Rattle.aries_core.proofs.Gathers.{gather_case, passes_pages, passes_txns, takes_pages, takes_txn, was_done}
+use Rattle.aries_core.proofs.Refusals.{ckpt_end_passes, commit_not_unsure, gather_passes}
 
 -- the step leaves the log as it is, and shows no call
 pub record Stays (old : EngineState) (event : Event) (reply : Result Answer Refusal) (new : EngineState) : Type 0 where
@@ -88,6 +92,45 @@ stored_or_not old page new may = by_image (image_of old page) refl may
     by_image (Some image) o (inl same) = inl same
     by_image (Some image) o (inr stored) = inr (image, o, stored)
 
+-- a step of a gather appends one record, or none
+gather_stays_or_grows : (old : EngineState) (answer : Answer) (new : EngineState)
+    → refusal old event.CkptGather ≡ None → new ≡ (effect old event.CkptGather).state
+    → Stays old event.CkptGather (Ok answer) new ⊎ Grows old event.CkptGather (Ok answer) new
+gather_stays_or_grows old answer new none is =
+    let passes = gather_passes old none in
+    let c = passes.ckpt in
+    let still_open = passes.still_open in
+    elim (gather_case old c) [
+      | TakesPages pages finds ↦
+          let does = takes_pages old c pages still_open finds in
+          inr (grows old event.CkptGather (Ok answer) new _ _ (is ∙ ap (λ o. o.state) does.outcome) none does.made refl refl refl)
+      | PassesPages finds ↦
+          let does = passes_pages old c still_open finds in
+          inl (stays old event.CkptGather (Ok answer) new _ (is ∙ ap (λ o. o.state) does.outcome) refl refl refl)
+      | TakesTxn t finds ↦
+          let does = takes_txn old c t still_open finds in
+          inr (grows old event.CkptGather (Ok answer) new _ _ (is ∙ ap (λ o. o.state) does.outcome) none does.made refl refl refl)
+      | PassesTxns finds ↦
+          let does = passes_txns old c still_open finds in
+          inl (stays old event.CkptGather (Ok answer) new _ (is ∙ ap (λ o. o.state) does.outcome) refl refl refl)
+      | WasDone left ↦
+          let does = was_done old c still_open left in
+          inl (stays old event.CkptGather (Ok answer) new _ (is ∙ ap (λ o. o.state) does.outcome) refl refl refl)
+    ]
+
+-- the end of a checkpoint appends its EndChkpt, whether it is forced or not
+made_at_end : (old : EngineState) (c : Checkpoint) → open_checkpoint old.log ≡ Some c
+    → record_for old event.CkptEnd ≡ Some (end_ckpt_record old c)
+made_at_end old c is = ap (option_map (end_ckpt_record old)) is
+
+ckpt_end_grows : (old : EngineState) (answer : Answer) (new : EngineState) → refusal old event.CkptEnd ≡ None
+    → new ≡ (effect old event.CkptEnd).state → Grows old event.CkptEnd (Ok answer) new
+ckpt_end_grows old answer new none is =
+    let passes = ckpt_end_passes old none in
+    let c = passes.ckpt in
+    grows old event.CkptEnd (Ok answer) new _ _ (is ∙ ap (λ o. o.state) (ckpt_end_is old c passes.still_open)) none
+    (made_at_end old c passes.still_open) refl refl refl
+
 -- an accepted call
 answered : (old : EngineState) (event : Event) (answer : Answer) (new : EngineState) → refusal old event ≡ None
     → answer ≡ (effect old event).answer → new ≡ (effect old event).state
@@ -110,6 +153,10 @@ answered old event.Force answer new none given is = inl (stays old event.Force (
 answered old (event.WriteBegin page) answer new none given is =
     inl (stays old (event.WriteBegin page) (Ok answer) new _ is refl refl refl)
 answered old (event.WriteEnd page) answer new none given is = inl (write_end_stays old page answer new _ refl is)
+answered old event.CkptBegin answer new none given is =
+    inr (grows old event.CkptBegin (Ok answer) new _ _ is none refl refl refl refl)
+answered old event.CkptGather answer new none given is = gather_stays_or_grows old answer new none is
+answered old event.CkptEnd answer new none given is = inr (ckpt_end_grows old answer new none is)
 
 -- an error shows no call, but for an unsure Commit
 not_shown : (call : Event) (why : Refusal) → ((txn lsn : ℕ) → call ≡ event.Commit txn → why ≡ CommitUnsure lsn → ⊥)
@@ -140,6 +187,9 @@ failed old (event.WriteEnd page) StoreFault new none fails = elim (stored_or_not
   | inl same ↦ inl (stays old (event.WriteEnd page) (Err StoreFault) new _ same refl refl refl)
   | inr stored ↦ inl (stays old (event.WriteEnd page) (Err StoreFault) new _ stored.2 refl refl refl)
 ]
+failed old event.CkptEnd LogFault new none fails =
+    let part = closed_part old new fails in
+    inr (grows old event.CkptEnd (Err LogFault) new _ _ part.2.reached.2 none (made_at_end old part.0 part.1) refl refl refl)
 failed old event why new none fails = absurd fails
 
 pub stays_or_grows : (old : EngineState) (event : Event) (reply : Result Answer Refusal) (new : EngineState)

@@ -1,66 +1,109 @@
 -- The calls that write a page: what they make of an engine that is in step with its pool.
-use Rattle.std.proofs.Common.{◌≡◌, ℕ, ◌<◌, List, length, set, refl, sym, ap, subst, ◌∙◌, max, inl, inr}
+use Rattle.std.proofs.Common.{◌≡◌, ℕ, ◌<◌, ◌≤◌, List, length, get_or, set, refl, sym, ap, subst, ◌∙◌, arith, max, inl, inr}
 use Rattle.std.specs.Prelude.{Option, Some, None, IfSome, Result, Ok, Err}
 use Rattle.page_core.specs.declared.page.Page.{Page}
 use Rattle.page_store.specs.Store.{StoresOrKeeps}
-use Rattle.buffer_pool.specs.Pool.{IsPoolOf, PoolView, state_at, with_state, write_begun, write_ended}
+use Rattle.std.proofs.lemmas.List.Elements.{All-weaker}
+use Rattle.buffer_pool.specs.Pool.{IsPoolOf, PoolView, state_at, with_state, write_begun, write_ended, writing_of}
 use Rattle.log_records.specs.Image.{image}
 use Rattle.log_history.specs.Table.{Table}
-use Rattle.log_store.specs.WrittenLog.{WrittenLog, end_up_to}
+use Rattle.log_records.specs.Log.{Log}
+use Rattle.log_store.specs.WrittenLog.{EndsAtRecord, WrittenLog, end_up_to}
 use Rattle.aries_core.specs.declared.event.Answer.{Answer}
 use Rattle.aries_core.specs.declared.event.Answer.TheVariants as answer
 use Rattle.aries_core.specs.declared.event.Event.{Event}
 use Rattle.aries_core.specs.declared.event.Event.TheVariants as event
 use Rattle.aries_core.specs.declared.refusal.Refusal.{Refusal}
 use Rattle.aries_core.specs.declared.refusal.Refusal.TheVariants.{StoreFault}
-use Rattle.aries_core.specs.EngineState.{IsKept, begun_write, effect, ended_write, engine_view, forced_through}
+use Rattle.aries_core.specs.EngineState.{CkptsView, IsKept, begun_write, effect, ended_write, engine_view, forced_through}
 use Rattle.aries_core.specs.EventFits.{EventFits}
 use Rattle.aries_core.specs.Refusal.{refusal}
 use Rattle.aries_core.specs.Step.{MayBeStored, Step}
+use Rattle.aries_core.proofs.Beside.{master_forced}
 use Rattle.aries_core.proofs.Fit.{fit_of_step}
 use Rattle.aries_core.proofs.PoolStates.{begun_is, ended_is, image_at, kept_is, repeated_is}
 use Rattle.aries_core.proofs.Refusals.{write_end_passes}
 
 -- what a call says of the state after it: it is a step, and the engine is in step with its pool
 pub record Called {S D : Type 0} (stored : S → List Page) (it new : WrittenLog D) (table : Table)
-    (pool after : PoolView S) (call : Event) (reply : Result Answer Refusal) : Type 0 where
-  pub step : Step (engine_view stored it pool).state call reply (engine_view stored new after).state
-  pub kept : IsKept stored (engine_view stored new after).state table after
+    (pool after : PoolView S) (ckpts : CkptsView) (call : Event) (reply : Result Answer Refusal) : Type 0 where
+  pub step : Step (engine_view stored it pool ckpts).state call reply (engine_view stored new after ckpts).state
+  pub kept : IsKept stored (engine_view stored new after ckpts).state table after ckpts
 
 -- a step that leaves the log and the table
-called : {S D : Type 0} (stored : S → List Page) (it new : WrittenLog D) (table : Table) (pool after : PoolView S)
-    (call : Event) (reply : Result Answer Refusal) → IsKept stored (engine_view stored it pool).state table pool
+called : {S D : Type 0} (stored : S → List Page) (it new : WrittenLog D) (table : Table) (pool after : PoolView S) (ckpts : CkptsView)
+    (call : Event) (reply : Result Answer Refusal) → IsKept stored (engine_view stored it pool ckpts).state table pool ckpts
     → EventFits call → new.log ≡ it.log
-    → Step (engine_view stored it pool).state call reply (engine_view stored new after).state
-    → IsPoolOf stored it.log after → Called stored it new table pool after call reply
-called stored it new table pool after call reply kept fits same step is = record {
+    → Step (engine_view stored it pool ckpts).state call reply (engine_view stored new after ckpts).state
+    → IsPoolOf stored it.log after → Called stored it new table pool after ckpts call reply
+called stored it new table pool after ckpts call reply kept fits same step is = record {
   step = step;
   kept = record {
-    fit = fit_of_step (engine_view stored it pool).state call reply (engine_view stored new after).state kept.fit fits
+    fit = fit_of_step (engine_view stored it pool ckpts).state call reply (engine_view stored new after ckpts).state kept.fit fits
         step;
     table_of_log = rw same kept.table_of_log;
     pool_of_log = rw same is;
+    session_of_log = rw same kept.session_of_log;
   };
 }
 
+-- ---- the log is forced further, while all else stays
+
+pub force_kept : {S D : Type 0} (stored : S → List Page) (it new : WrittenLog D) (table : Table) (pool : PoolView S)
+    (ckpts : CkptsView) → IsKept stored (engine_view stored it pool ckpts).state table pool ckpts → new.log ≡ it.log
+    → it.forced_end ≤ new.forced_end → EndsAtRecord new
+    → IsKept stored (engine_view stored new pool ckpts).state table pool ckpts
+force_kept stored it new table pool ckpts kept same no_less ends =
+    let fit = kept.fit in
+    record {
+      fit = record {
+        valid = rw same fit.valid;
+        linked = rw same fit.linked;
+        room = rw same fit.room;
+        forced = ends;
+        counted = record {
+          stored = fit.counted.stored ∙ ap (λ (l : Log). l.pages) (sym same);
+          written = fit.counted.written ∙ ap (λ (l : Log). l.pages) (sym same);
+          writing = fit.counted.writing ∙ ap (λ (l : Log). l.pages) (sym same);
+        };
+        stored = rw same fit.stored;
+        stable = record {
+          pages = All-weaker (λ page. page.lsn < it.forced_end) (λ page. page.lsn < new.forced_end)
+              (λ page low. omega arith) (stored pool.store) fit.stable.pages;
+          images = λ p. image_below (get_or (writing_of pool.states) p None) (fit.stable.images p);
+        };
+        gathered = rw same fit.gathered;
+        master = rw same (master_forced it.log.records (stored pool.store) it.forced_end new.forced_end ckpts.master no_less
+            fit.master);
+      };
+      table_of_log = rw same kept.table_of_log;
+      pool_of_log = rw same kept.pool_of_log;
+      session_of_log = rw same kept.session_of_log;
+    }
+  where
+    image_below : (o : Option Page) → IfSome o (λ image. image.lsn < it.forced_end)
+        → IfSome o (λ image. image.lsn < new.forced_end)
+    image_below None below = tt
+    image_below (Some image) below = omega arith
+
 -- ---- a write begins
 
-pub begun : {S D : Type 0} (stored : S → List Page) (it new : WrittenLog D) (table : Table) (pool after : PoolView S)
-    (p lsn : ℕ) (q : Page) → IsKept stored (engine_view stored it pool).state table pool
-    → refusal (engine_view stored it pool).state (event.WriteBegin p) ≡ None → p < length pool.states
+pub begun : {S D : Type 0} (stored : S → List Page) (it new : WrittenLog D) (table : Table) (pool after : PoolView S) (ckpts : CkptsView)
+    (p lsn : ℕ) (q : Page) → IsKept stored (engine_view stored it pool ckpts).state table pool ckpts
+    → refusal (engine_view stored it pool ckpts).state (event.WriteBegin p) ≡ None → p < length pool.states
     → q ≡ image it.log.records p → lsn ≡ q.lsn → new.log ≡ it.log
     → new.forced_end ≡ max it.forced_end (end_up_to it.log q.lsn)
     → after ≡ with_state pool p (write_begun (state_at pool p) q) → IsPoolOf stored it.log after
-    → Called stored it new table pool after (event.WriteBegin p) (Ok (answer.Writing lsn))
-begun stored it new table pool after p lsn q kept none within now at same forced is of_log =
-    let s = (engine_view stored it pool).state in
-    let state : (engine_view stored new after).state ≡ begun_write (forced_through s q.lsn) p q =
-    ap (λ v. (engine_view stored new v).state) is ∙ begun_is stored it new pool p q within same forced in
-    let effected : (engine_view stored new after).state ≡ (effect s (event.WriteBegin p)).state =
+    → Called stored it new table pool after ckpts (event.WriteBegin p) (Ok (answer.Writing lsn))
+begun stored it new table pool after ckpts p lsn q kept none within now at same forced is of_log =
+    let s = (engine_view stored it pool ckpts).state in
+    let state : (engine_view stored new after ckpts).state ≡ begun_write (forced_through s q.lsn) p q =
+    ap (λ v. (engine_view stored new v ckpts).state) is ∙ begun_is stored it new pool ckpts p q within same forced in
+    let effected : (engine_view stored new after ckpts).state ≡ (effect s (event.WriteBegin p)).state =
     state ∙ ap (λ (x : Page). begun_write (forced_through s x.lsn) p x) now in
     let said : answer.Writing lsn ≡ (effect s (event.WriteBegin p)).answer =
     ap answer.Writing (at ∙ ap (λ (x : Page). x.lsn) now) in
-    called stored it new table pool after (event.WriteBegin p) (Ok (answer.Writing lsn)) kept tt same
+    called stored it new table pool after ckpts (event.WriteBegin p) (Ok (answer.Writing lsn)) kept tt same
     (none, said, effected) of_log
 
 -- ---- a write ends
@@ -68,51 +111,51 @@ begun stored it new table pool after p lsn q kept none within now at same forced
 of_image : (o : Option Page) (P : Page → Type 0) (q : Page) → o ≡ Some q → IfSome o P → P q
 of_image o P q is h = subst (λ (o : Option Page). IfSome o P) is h
 
-pub ended : {S D : Type 0} (stored : S → List Page) (it : WrittenLog D) (table : Table) (pool after : PoolView S)
-    (p lsn : ℕ) → IsKept stored (engine_view stored it pool).state table pool
-    → refusal (engine_view stored it pool).state (event.WriteEnd p) ≡ None → p < length pool.states
+pub ended : {S D : Type 0} (stored : S → List Page) (it : WrittenLog D) (table : Table) (pool after : PoolView S) (ckpts : CkptsView)
+    (p lsn : ℕ) → IsKept stored (engine_view stored it pool ckpts).state table pool ckpts
+    → refusal (engine_view stored it pool ckpts).state (event.WriteEnd p) ≡ None → p < length pool.states
     → IfSome (state_at pool p).writing (λ q. lsn ≡ q.lsn)
     → IfSome (state_at pool p).writing (λ q. stored after.store ≡ set (stored pool.store) p q)
     → IfSome (state_at pool p).writing (λ q. after ≡ record (with_state pool p (write_ended (state_at pool p) q.lsn)) {
       store = after.store;
     })
-    → IsPoolOf stored it.log after → Called stored it it table pool after (event.WriteEnd p) (Ok (answer.Written lsn))
-ended stored it table pool after p lsn kept none within at store states of_log =
-    let s = (engine_view stored it pool).state in
+    → IsPoolOf stored it.log after → Called stored it it table pool after ckpts (event.WriteEnd p) (Ok (answer.Written lsn))
+ended stored it table pool after ckpts p lsn kept none within at store states of_log =
+    let s = (engine_view stored it pool ckpts).state in
     let ends = write_end_passes s p none in
     let q = ends.image in
-    let here : (state_at pool p).writing ≡ Some q = sym (image_at stored it pool p within) ∙ ends.there in
+    let here : (state_at pool p).writing ≡ Some q = sym (image_at stored it pool ckpts p within) ∙ ends.there in
     let lsn_is : lsn ≡ q.lsn = of_image (state_at pool p).writing (λ q. lsn ≡ q.lsn) q here at in
     let stored_is : stored after.store ≡ set (stored pool.store) p q =
     of_image (state_at pool p).writing (λ q. stored after.store ≡ set (stored pool.store) p q) q here store in
     let is : after ≡ record (with_state pool p (write_ended (state_at pool p) q.lsn)) { store = after.store } =
     of_image (state_at pool p).writing
     (λ q. after ≡ record (with_state pool p (write_ended (state_at pool p) q.lsn)) { store = after.store }) q here states in
-    let state : (engine_view stored it after).state ≡ ended_write s p q =
-    ended_is stored it pool after p q stored_is (ap (λ v. v.states) is) in
-    let effected : (engine_view stored it after).state ≡ (effect s (event.WriteEnd p)).state =
+    let state : (engine_view stored it after ckpts).state ≡ ended_write s p q =
+    ended_is stored it pool after ckpts p q stored_is (ap (λ v. v.states) is) in
+    let effected : (engine_view stored it after ckpts).state ≡ (effect s (event.WriteEnd p)).state =
     rw ends.there state in
     let said : answer.Written lsn ≡ (effect s (event.WriteEnd p)).answer = rw ends.there (ap answer.Written lsn_is) in
-    called stored it it table pool after (event.WriteEnd p) (Ok (answer.Written lsn)) kept tt refl
+    called stored it it table pool after ckpts (event.WriteEnd p) (Ok (answer.Written lsn)) kept tt refl
     (none, said, effected) of_log
 
-pub repeated : {S D : Type 0} (stored : S → List Page) (it : WrittenLog D) (table : Table) (pool after : PoolView S)
-    (p : ℕ) → IsKept stored (engine_view stored it pool).state table pool
-    → refusal (engine_view stored it pool).state (event.WriteEnd p) ≡ None → p < length pool.states
+pub repeated : {S D : Type 0} (stored : S → List Page) (it : WrittenLog D) (table : Table) (pool after : PoolView S) (ckpts : CkptsView)
+    (p : ℕ) → IsKept stored (engine_view stored it pool ckpts).state table pool ckpts
+    → refusal (engine_view stored it pool ckpts).state (event.WriteEnd p) ≡ None → p < length pool.states
     → IfSome (state_at pool p).writing (λ q. StoresOrKeeps (stored pool.store) p q (stored after.store))
     → after ≡ record pool { store = after.store }
-    → IsPoolOf stored it.log after → Called stored it it table pool after (event.WriteEnd p) (Err StoreFault)
-repeated stored it table pool after p kept none within either goes_on of_log =
-    let s = (engine_view stored it pool).state in
+    → IsPoolOf stored it.log after → Called stored it it table pool after ckpts (event.WriteEnd p) (Err StoreFault)
+repeated stored it table pool after ckpts p kept none within either goes_on of_log =
+    let s = (engine_view stored it pool ckpts).state in
     let ends = write_end_passes s p none in
     let q = ends.image in
-    let here : (state_at pool p).writing ≡ Some q = sym (image_at stored it pool p within) ∙ ends.there in
+    let here : (state_at pool p).writing ≡ Some q = sym (image_at stored it pool ckpts p within) ∙ ends.there in
     let states = ap (λ v. v.states) goes_on in
-    let may : MayBeStored p s (engine_view stored it after).state =
+    let may : MayBeStored p s (engine_view stored it after ckpts).state =
     rw ends.there (elim (of_image (state_at pool p).writing
     (λ q. StoresOrKeeps (stored pool.store) p q (stored after.store)) q here either) [
-      | inl stores ↦ inr (repeated_is stored it pool after p q stores states)
-      | inr keeps ↦ inl (kept_is stored it pool after keeps states)
+      | inl stores ↦ inr (repeated_is stored it pool after ckpts p q stores states)
+      | inr keeps ↦ inl (kept_is stored it pool after ckpts keeps states)
     ]) in
-    called stored it it table pool after (event.WriteEnd p) (Err StoreFault) kept tt refl
+    called stored it it table pool after ckpts (event.WriteEnd p) (Err StoreFault) kept tt refl
     (inr (none, may)) of_log

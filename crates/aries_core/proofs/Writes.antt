@@ -25,6 +25,7 @@ use Rattle.aries_core.specs.EngineState.{AreCounted, AreStable, EngineState, IsF
 use Rattle.aries_core.specs.EngineState.{log_of, page_now}
 use Rattle.aries_core.specs.Refusal.{refusal}
 use Rattle.aries_core.specs.Step.{Fails, Step}
+use Rattle.aries_core.proofs.Gathers.{ckpt_end_has, closed_part, gather_has}
 use Rattle.aries_core.proofs.Refusals.{WriteBegins, WriteEnds, write_begin_passes, write_end_passes}
 use Rattle.aries_core.proofs.Steps.{stored_or_not}
 
@@ -118,6 +119,15 @@ answered old (event.UndoStep txn) new none is = undo_leaves old txn new _ refl i
 answered old event.Force new none is = leaves old new _ is refl refl refl
 answered old (event.WriteBegin page) new none is = begun old page new none is
 answered old (event.WriteEnd page) new none is = ended old page new none is
+answered old event.CkptBegin new none is = leaves old new _ is refl refl refl
+answered old event.CkptGather new none is =
+    leaves old new _ is (gather_has (λ s. s.stored ≡ old.stored) old refl (λ left. refl) (λ r left. refl))
+    (gather_has (λ s. s.written ≡ old.written) old refl (λ left. refl) (λ r left. refl))
+    (gather_has (λ s. s.writing ≡ old.writing) old refl (λ left. refl) (λ r left. refl))
+answered old event.CkptEnd new none is =
+    leaves old new _ is (ckpt_end_has (λ s. s.stored ≡ old.stored) old refl (λ c. refl))
+    (ckpt_end_has (λ s. s.written ≡ old.written) old refl (λ c. refl))
+    (ckpt_end_has (λ s. s.writing ≡ old.writing) old refl (λ c. refl))
 
 failed : (old : EngineState) (event : Event) (why : Refusal) (new : EngineState) → refusal old event ≡ None
     → Fails old event why new → PageStep old new
@@ -139,6 +149,8 @@ failed old (event.WriteEnd page) StoreFault new none fails =
             writing = ap (λ (s : EngineState). s.writing) stored.2;
           })
     ]
+failed old event.CkptEnd LogFault new none fails =
+    leaves old new _ (closed_part old new fails).2.reached.2 refl refl refl
 failed old event why new none fails = absurd fails
 
 pub page_step : (old : EngineState) (event : Event) (reply : Result Answer Refusal) (new : EngineState)

@@ -1,16 +1,18 @@
 -- The record of a call.
 use Rattle.std.specs.Prelude.{◌≡◌, Option, Some, None}
-use Rattle.std.specs.Option.{option_map_or}
+use Rattle.std.specs.Option.{option_map, option_map_or}
 use Rattle.page_core.specs.declared.change.Change.TheVariants.{Set, Add}
 use Rattle.log_records.specs.declared.record.Record.{Record}
 use Rattle.log_records.specs.declared.record.Record.TheVariants as log
+use Rattle.log_records.specs.Record.{IsOfTransaction}
+use Rattle.log_history.specs.Checkpoint.{open_checkpoint}
 use Rattle.log_history.specs.Linked.{number_in}
 use Rattle.log_history.specs.Transactions.{last_of, pending}
 use Rattle.aries_core.specs.declared.event.Event.{Event}
 use Rattle.aries_core.specs.declared.event.Event.TheVariants as event
 use Rattle.aries_core.specs.EngineState.{EngineState, abort_record, commit_record, comp_record, end}
-use Rattle.aries_core.specs.EngineState.{end_record}
-use Rattle.aries_core.specs.EngineState.{next_txn, update_record}
+use Rattle.aries_core.specs.EngineState.{begin_ckpt_record, end_ckpt_record, end_record}
+use Rattle.aries_core.specs.EngineState.{gathered_record, next_txn, update_record}
 use Rattle.aries_core.specs.EventFits.{EventFits}
 use Rattle.aries_core.specs.Refusal.{refusal}
 
@@ -28,9 +30,13 @@ record_for s (event.UndoStep txn) =
 record_for s event.Force = None
 record_for s (event.WriteBegin page) = None
 record_for s (event.WriteEnd page) = None
+record_for s event.CkptBegin = Some (begin_ckpt_record s)
+record_for s event.CkptGather = gathered_record s
+record_for s event.CkptEnd = option_map (end_ckpt_record s) (open_checkpoint s.log)
 
--- the record is that of a call that is accepted
+-- the record is that of a transaction's call that is accepted
 pub record Calls (s : EngineState) (r : Record) : Type 0 where
+  pub of_transaction : IsOfTransaction r
   pub call : Event
   pub fits : EventFits call
   pub accepted : refusal s call ≡ None

@@ -1,9 +1,9 @@
 -- What an engine is, and what an accepted call makes of it.
 use Rattle.std.specs.Prelude.{ℕ, ◌≡◌, ◌+◌, ◌<◌, ◌≤◌, List, [], ◌∷◌, ◌++◌, length, max}
 use Rattle.std.specs.Prelude.{replicate, slice_index, slice_index_or, slice_set, take, Option, Some}
-use Rattle.std.specs.Prelude.{None, IfSome}
+use Rattle.std.specs.Prelude.{None, IfSome, if◌then◌else◌}
 use Rattle.std.specs.List.{All}
-use Rattle.std.specs.Option.{option_map_or}
+use Rattle.std.specs.Option.{option_map, option_map_or}
 use Rattle.page_core.specs.declared.change.Change.{Change}
 use Rattle.page_core.specs.declared.change.Change.TheVariants.{Set, Add}
 use Rattle.page_core.specs.Change.{undo_of}
@@ -12,6 +12,8 @@ use Rattle.buffer_pool.specs.Pool.{IsPoolOf, PoolView, writing_of, written_of}
 use Rattle.log_records.specs.Coverage.{AreStored, rec_lsn}
 use Rattle.log_records.specs.declared.limits.TheConstants.{MAX_RECORDS}
 use Rattle.log_history.specs.declared.pending_change.PendingChange.{PendingChange}
+use Rattle.log_history.specs.Checkpoint.{Checkpoint, IsCompleteCheckpoint, open_checkpoint}
+use Rattle.log_history.specs.Checkpoint.{redo_point}
 use Rattle.log_records.specs.declared.record.Record.{Record}
 use Rattle.log_records.specs.declared.record.Record.TheVariants as log
 use Rattle.page_core.specs.declared.page.Page.{Page}
@@ -22,20 +24,28 @@ use Rattle.log_history.specs.Transactions.{begun, last_lsn, last_of, owed, pendi
 use Rattle.log_history.specs.Table.{Table}
 use Rattle.log_store.specs.WrittenLog.{WrittenLog, end_up_to}
 use Rattle.txn_table.specs.TxnTable.{IsTableOf}
+use Rattle.fuzzy_ckpt.specs.declared.point.Point.{Point}
+use Rattle.fuzzy_ckpt.specs.Ckpt.{AllCover, AreCovered, CkptView, IsCkptOf, Phase}
+use Rattle.fuzzy_ckpt.specs.Steps.{Gathering, gather_step}
 use Rattle.aries_core.specs.declared.event.Answer.{Answer}
 use Rattle.aries_core.specs.declared.event.Answer.TheVariants as answer
 use Rattle.aries_core.specs.declared.event.Event.{Event}
 use Rattle.aries_core.specs.declared.event.Event.TheVariants as event
+use Rattle.aries_core.specs.Gather.{Left, is_done, left_of, pages_left, session_of}
 
 -- the page count of the volume, the log, the LSN below which each record is on the device, and the
--- stored pages; of each page the LSN of its last write, and the image that is being written
+-- last complete checkpoint below it; the stored pages; of each page the LSN of its last write, and
+-- the image that is being written; and what is left for the gather of the checkpoint that is open in
+-- the log (the dirty pages, where none is)
 pub record EngineState : Type 0 where
   pub pages : ℕ
   pub log : List Record
   pub forced_end : ℕ
+  pub master : Option Point
   pub stored : List Page
   pub written : List ℕ
   pub writing : List (Option Page)
+  pub left : Left
 
 -- a new engine: its log has a header alone, and its pages are formatted
 abbrev pub new_state : ℕ → EngineState
@@ -43,9 +53,11 @@ new_state pages = record {
   pages = pages;
   log = [];
   forced_end = lsn_of 0;
+  master = None;
   stored = formatted_pages pages;
   written = replicate pages 0;
   writing = replicate pages None;
+  left = pages_left;
 }
 
 -- the LSN that the next record will have
@@ -83,6 +95,13 @@ ended_write s page image = record s {
   writing = slice_set s.writing page None;
 }
 
+-- the gather of the open checkpoint has this left
+abbrev pub gathering : EngineState → Left → EngineState
+gathering s left = record s { left = left }
+
+abbrev pub with_master : EngineState → Point → EngineState
+with_master s point = record s { master = Some point }
+
 -- ---- a page
 
 -- the page as it is now
@@ -119,6 +138,30 @@ abbrev pub comp_record : EngineState → ℕ → PendingChange → Record
 comp_record s txn p = log.Comp (end s) txn (last_lsn s.log txn) p.prev p.page p.slot
     (undo_of p.change)
 
+-- ---- the open checkpoint
+
+abbrev pub begin_ckpt_record : EngineState → Record
+begin_ckpt_record s = log.BeginChkpt (end s)
+
+abbrev pub end_ckpt_record : EngineState → Checkpoint → Record
+end_ckpt_record s c = log.EndChkpt (end s) c.begin (redo_point c)
+
+-- the next step of its gather
+abbrev pub next_step : EngineState → Checkpoint → Gathering
+next_step s c = gather_step s.log s.written (session_of s.left c)
+
+-- the record that this step appends, if it appends one
+abbrev pub gathered_record : EngineState → Option Record
+gathered_record s = option_map_or (λ c. (next_step s c).next) (open_checkpoint s.log) None
+
+-- what the checkpoint is as a Point, once it is complete
+abbrev pub point_of : EngineState → Checkpoint → Point
+point_of s c = record { begin = c.begin; end = end s; redo = redo_point c }
+
+-- it is closed by its EndChkpt, which need not be forced yet
+abbrev pub closed : EngineState → Checkpoint → EngineState
+closed s c = gathering (appended s (end_ckpt_record s c)) pages_left
+
 -- ---- what an accepted call answers, and what stands after it
 
 pub record Outcome : Type 0 where
@@ -146,6 +189,27 @@ write_end_effect s page =
     })
     (image_of s page) (record { answer = answer.Written 0; state = s })
 
+abbrev pub gather_effect : EngineState → Gathering → Outcome
+gather_effect s step =
+    let left = left_of step.ckpt.phase in
+    record {
+      answer = if is_done left then answer.Done else answer.More;
+      state = gathering (option_map_or (appended s) step.next s) left;
+    }
+
+abbrev pub ckpt_end_effect : EngineState → Checkpoint → Outcome
+ckpt_end_effect s c =
+    let after = closed s c in
+    record {
+      answer = answer.Point c.begin (end s) (redo_point c);
+      state = with_master (forced_to after (end after)) (point_of s c);
+    }
+
+-- of a call that needs an open checkpoint
+abbrev pub of_open : EngineState → Answer → (Checkpoint → Outcome) → Outcome
+of_open s other outcome =
+    option_map_or outcome (open_checkpoint s.log) (record { answer = other; state = s })
+
 abbrev pub effect : EngineState → Event → Outcome
 effect s event.Begin = record {
   answer = answer.Began (next_txn s) (end s);
@@ -170,6 +234,12 @@ effect s (event.WriteBegin page) = record {
   state = begun_write (forced_through s (page_now s page).lsn) page (page_now s page);
 }
 effect s (event.WriteEnd page) = write_end_effect s page
+effect s event.CkptBegin = record {
+  answer = answer.Logged (end s);
+  state = gathering (appended s (begin_ckpt_record s)) pages_left;
+}
+effect s event.CkptGather = of_open s answer.Done (λ c. gather_effect s (next_step s c))
+effect s event.CkptEnd = of_open s (answer.Point 0 0 0) (ckpt_end_effect s)
 
 -- ---- the invariant
 
@@ -184,6 +254,22 @@ pub record AreStable (s : EngineState) : Type 0 where
   pub pages : All (λ page. page.lsn < s.forced_end) s.stored
   pub images : (p : ℕ) → IfSome (image_of s p) (λ image. image.lsn < s.forced_end)
 
+-- what lies behind the cursor of the open checkpoint: the log has it, and no stored page there lacks
+-- a change below the redo point so far
+pub record IsGathering (rs : List Record) (stored : List Page) (left : Left)
+    (c : Checkpoint) : Type 0 where
+  pub ckpt : IsCkptOf rs (session_of left c)
+  pub covered : AreCovered rs stored (session_of left c)
+
+-- the master names a complete checkpoint of the log whose end is forced, and no stored page lacks a
+-- change below its redo point
+pub record IsMasterOf (rs : List Record) (stored : List Page) (forced_end : ℕ)
+    (point : Point) : Type 0 where
+  pub complete : IsCompleteCheckpoint rs point.begin point.end
+  pub same_redo : point.redo ≡ complete.redo
+  pub forced : point.end < forced_end
+  pub covered : AllCover rs stored point.redo
+
 -- what holds of every engine, whatever calls came and whatever its devices did
 pub record IsFit (s : EngineState) : Type 0 where
   pub valid : IsLog (log_of s)
@@ -193,6 +279,8 @@ pub record IsFit (s : EngineState) : Type 0 where
   pub counted : AreCounted s
   pub stored : AreStored s.log s.stored s.written s.writing
   pub stable : AreStable s
+  pub gathered : IfSome (open_checkpoint s.log) (IsGathering s.log s.stored s.left)
+  pub master : IfSome s.master (IsMasterOf s.log s.stored s.forced_end)
 
 -- ---- the engine, its store and its device
 
@@ -201,25 +289,34 @@ pub record EngineView (S D : Type 0) : Type 0 where
   pub store : S
   pub device : D
 
--- what an engine is, by the log that it writes and the pool of its pages
+-- the last complete checkpoint, and the session of the open one
+pub record CkptsView : Type 0 where
+  pub master : Option Point
+  pub session : Option (CkptView Phase)
+
+-- what an engine is, by the log that it writes, the pool of its pages and its checkpoints
 abbrev pub engine_view : {S D : Type 0} → (S → List Page) → WrittenLog D → PoolView S
-    → EngineView S D
-engine_view stored it pool = record {
+    → CkptsView → EngineView S D
+engine_view stored it pool ckpts = record {
   state = record {
     pages = it.log.pages;
     log = it.log.records;
     forced_end = it.forced_end;
+    master = ckpts.master;
     stored = stored pool.store;
     written = written_of pool.states;
     writing = writing_of pool.states;
+    left = option_map_or (λ c. left_of c.phase) ckpts.session pages_left;
   };
   store = pool.store;
   device = it.device;
 }
 
--- the engine is fit, and its transaction table and its pool are those of its log
+-- the engine is fit, and its transaction table, its pool and the session of its checkpoint are
+-- those of its log
 pub record IsKept {S : Type 0} (stored : S → List Page) (s : EngineState) (table : Table)
-    (pool : PoolView S) : Type 0 where
+    (pool : PoolView S) (ckpts : CkptsView) : Type 0 where
   pub fit : IsFit s
   pub table_of_log : IsTableOf s.log table
   pub pool_of_log : IsPoolOf stored (log_of s) pool
+  pub session_of_log : ckpts.session ≡ option_map (session_of s.left) (open_checkpoint s.log)

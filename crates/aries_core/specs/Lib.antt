@@ -2,6 +2,9 @@ pub mod Accepted
 pub mod Call
 pub mod EngineState
 pub mod EventFits
+pub mod Gather
+pub mod GatherReplies
+pub mod OpenCkpt
 pub mod Refusal
 pub mod Run
 pub mod Step

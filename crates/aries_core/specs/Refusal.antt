@@ -1,5 +1,5 @@
 -- When a call is refused, and what is printed of a refusal.
-use Rattle.std.specs.Prelude.{ℕ, ◌+◌, ◌++◌, nat_le, nat_lt, Bool, not, List, length, Option, Some}
+use Rattle.std.specs.Prelude.{ℕ, ◌+◌, ◌++◌, ◌&&◌, nat_le, nat_lt, Bool, not, List, length, Option, Some}
 use Rattle.std.specs.Prelude.{is_some, is_none}
 use Rattle.std.specs.Prelude.{None, if◌then◌else◌, codes}
 use Rattle.std.specs.Fmt.{decimal}
@@ -8,6 +8,7 @@ use Rattle.page_core.specs.declared.change.ChangeKind.{ChangeKind}
 use Rattle.page_core.specs.declared.change.ChangeKind.TheVariants as kind
 use Rattle.page_core.specs.declared.page.TheConstants.{SLOTS}
 use Rattle.log_records.specs.declared.limits.TheConstants.{MAX_OPEN, MAX_RECORDS}
+use Rattle.log_history.specs.Checkpoint.{open_checkpoint}
 use Rattle.log_history.specs.Transactions.{holder, is_open, is_rolling, open_in, owed}
 use Rattle.aries_core.specs.declared.event.Event.{Event}
 use Rattle.aries_core.specs.declared.event.Event.TheVariants as event
@@ -16,11 +17,13 @@ use Rattle.aries_core.specs.declared.refusal.Refusal.TheVariants.{OutOfMemory, N
 use Rattle.aries_core.specs.declared.refusal.Refusal.TheVariants.{SlotOut, SlotBusy, TxnRolling}
 use Rattle.aries_core.specs.declared.refusal.Refusal.TheVariants.{NotRolling, LogFull, TooManyTxns}
 use Rattle.aries_core.specs.declared.refusal.Refusal.TheVariants.{NotDirty, WriteBegun, NoWrite}
+use Rattle.aries_core.specs.declared.refusal.Refusal.TheVariants.{CkptOpen, NoCkpt, GatherLeft}
 use Rattle.aries_core.specs.declared.refusal.Refusal.TheVariants.{StoreFault, LogFault}
 use Rattle.aries_core.specs.declared.refusal.Refusal.TheVariants.{CommitUnsure}
 use Rattle.aries_core.specs.declared.setup.PlayFault.{PlayFault}
 use Rattle.aries_core.specs.declared.setup.PlayFault.TheVariants as fault
-use Rattle.aries_core.specs.EngineState.{EngineState, image_of, rec_lsn_of}
+use Rattle.aries_core.specs.EngineState.{EngineState, gathered_record, image_of, rec_lsn_of}
+use Rattle.aries_core.specs.Gather.{is_done}
 
 -- the first refusal that is there
 abbrev pub or_else : Option Refusal → Option Refusal → Option Refusal
@@ -53,8 +56,12 @@ change_refusal s txn page slot kind =
     (or_else (option_map SlotBusy (holder s.log page slot kind txn))
     (refused_if (has_no_room s 2) LogFull)))
 
+-- of a call that needs an open checkpoint
+abbrev pub ckpt_refusal : EngineState → Option Refusal
+ckpt_refusal s = refused_if (is_none (open_checkpoint s.log)) NoCkpt
+
 -- the refusal that needs neither memory nor a device, in the order of the checks; a Begin owes two
--- more records
+-- more records, and a step of a gather that appends nothing needs no room
 abbrev pub refusal : EngineState → Event → Option Refusal
 refusal s event.Begin =
     or_else (refused_if (nat_le MAX_OPEN (length (open_in s.log))) TooManyTxns)
@@ -75,6 +82,16 @@ refusal s (event.WriteBegin page) =
 refusal s (event.WriteEnd page) =
     or_else (refused_if (nat_le s.pages page) PageOut)
     (refused_if (is_none (image_of s page)) NoWrite)
+refusal s event.CkptBegin =
+    or_else (refused_if (is_some (open_checkpoint s.log)) CkptOpen)
+    (refused_if (has_no_room s 1) LogFull)
+refusal s event.CkptGather =
+    or_else (ckpt_refusal s)
+    (refused_if (is_some (gathered_record s) && has_no_room s 1) LogFull)
+refusal s event.CkptEnd =
+    or_else (ckpt_refusal s)
+    (or_else (refused_if (not (is_done s.left)) GatherLeft)
+    (refused_if (has_no_room s 1) LogFull))
 
 -- what is printed of a refusal
 abbrev pub line_of : Refusal → List ℕ
@@ -90,6 +107,9 @@ line_of TooManyTxns = codes "E9 TooManyTxns"
 line_of NotDirty = codes "E10 NotDirty"
 line_of WriteBegun = codes "E11 WriteBegun"
 line_of NoWrite = codes "E12 NoWrite"
+line_of CkptOpen = codes "E13 CkptOpen"
+line_of NoCkpt = codes "E14 NoCkpt"
+line_of GatherLeft = codes "E15 GatherLeft"
 line_of StoreFault = codes "E22 StoreFault"
 line_of LogFault = codes "E23 LogFault"
 line_of (CommitUnsure lsn) = codes "E26 CommitUnsure " ++ decimal lsn

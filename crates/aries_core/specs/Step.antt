@@ -2,17 +2,20 @@
 use Rattle.std.specs.Prelude.{ℕ, ◌≡◌, ◌<◌, ◌≤◌, ◌⊎◌, Some, None, IsSomeAnd, Result, Ok}
 use Rattle.std.specs.Prelude.{Err}
 use Rattle.log_records.specs.Log.{lsn_of}
+use Rattle.log_history.specs.Checkpoint.{open_checkpoint}
 use Rattle.log_store.specs.WrittenLog.{end_up_to}
 use Rattle.aries_core.specs.declared.event.Answer.{Answer}
 use Rattle.aries_core.specs.declared.event.Answer.TheVariants as answer
 use Rattle.aries_core.specs.declared.event.Event.{Event}
 use Rattle.aries_core.specs.declared.event.Event.TheVariants as event
+use Rattle.aries_core.specs.declared.event.Gathered.{Gathered}
+use Rattle.aries_core.specs.declared.event.Gathered.TheVariants as gathered
 use Rattle.aries_core.specs.declared.event.Undone.{Undone}
 use Rattle.aries_core.specs.declared.event.Undone.TheVariants as undone
 use Rattle.aries_core.specs.declared.refusal.Refusal.{Refusal}
 use Rattle.aries_core.specs.declared.refusal.Refusal.TheVariants.{CommitUnsure, LogFault}
 use Rattle.aries_core.specs.declared.refusal.Refusal.TheVariants.{OutOfMemory, StoreFault}
-use Rattle.aries_core.specs.EngineState.{EngineState, appended, commit_record, effect, end}
+use Rattle.aries_core.specs.EngineState.{EngineState, appended, closed, commit_record, effect, end}
 use Rattle.aries_core.specs.EngineState.{forced_to, image_of, log_of, page_now, with_stored}
 use Rattle.aries_core.specs.Refusal.{refusal}
 
@@ -43,6 +46,9 @@ Fails old (event.WriteEnd page) StoreFault new = MayBeStored page old new
 Fails old (event.Commit txn) (CommitUnsure lsn) new =
     let after = appended old (commit_record old txn) in
     (lsn ≡ end old) × ForcedPart (end after) after new
+Fails old event.CkptEnd LogFault new =
+    IsSomeAnd (open_checkpoint old.log)
+    (λ c. let after = closed old c in ForcedPart (end after) after new)
 Fails old event refusal new = ⊥
 
 -- from old, an engine may reply so to the event and go on to new
@@ -63,6 +69,11 @@ reply_of answered (Err why) = Err why
 abbrev pub undo_answer : Undone → Answer
 undo_answer (undone.Undid lsn) = answer.Undid lsn
 undo_answer (undone.Ended lsn) = answer.Ended lsn
+
+-- what a step of a gather answers
+abbrev pub gather_answer : Gathered → Answer
+gather_answer gathered.More = answer.More
+gather_answer gathered.Done = answer.Done
 
 -- a Commit that is not known to be forced
 abbrev pub IsUnsure : Refusal → Type 0
@@ -85,6 +96,7 @@ abbrev pub LeavesDevice : Event → Type 0
 LeavesDevice (event.Commit txn) = ⊥
 LeavesDevice event.Force = ⊥
 LeavesDevice (event.WriteBegin page) = ⊥
+LeavesDevice event.CkptEnd = ⊥
 LeavesDevice other = Unit {0}
 
 -- the event ends no write, so no call of the page store is made

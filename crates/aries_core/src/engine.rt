@@ -19,10 +19,12 @@ ghost use Rattle.aries_core.specs.Step.{Step, reply_of, undo_answer};
 ghost use Rattle.aries_core.specs.declared.event.Answer.TheVariants as answer;
 ghost use Rattle.aries_core.specs.declared.event.Event.TheVariants as event;
 
-use crate::event::{Answer, Event, Reply, Undone};
+use crate::event::{Answer, Event, Gathered, Reply, Undone};
+use crate::open_ckpt::OpenCkpt;
 use crate::refusal::Refusal;
 use crate::setup::{PlayFault, Setup};
 use buffer_pool::Pool;
+use fuzzy_ckpt::Point;
 use log_history::{PendingChange, TxnState};
 use log_records::{MAX_OPEN, MAX_RECORDS, Record};
 use log_store::{DeviceFault, Log, LogDevice};
@@ -39,17 +41,25 @@ pub struct Engine<S: PageStore, D: LogDevice> {
     pub(crate) log: Log<D>,
     pub(crate) txns: TxnTable,
     pub(crate) pool: Pool<S>,
+    /// The last complete checkpoint whose end is forced.
+    pub(crate) master: Option<Point>,
+    /// The checkpoint that is open in the log.
+    pub(crate) session: Option<OpenCkpt>,
 }
 
 impl<S: PageStore, D: LogDevice> Model for Engine<S, D> {
     ghost use Rattle.aries_core.specs.EngineState.{EngineView, IsKept, engine_view};
+    ghost use Rattle.aries_core.specs.OpenCkpt.{ckpts_view};
 
     ghost Value = { EngineView S D };
 
-    ghost view = { λ it. engine_view S.stored it.log it.pool };
+    ghost view = { λ it. engine_view S.stored it.log it.pool
+        (ckpts_view it.master it.session) };
 
     ghost invariant = { λ it.
-        IsKept S.stored (engine_view S.stored it.log it.pool).state it.txns it.pool };
+        IsKept S.stored
+        (engine_view S.stored it.log it.pool (ckpts_view it.master it.session)).state
+        it.txns it.pool (ckpts_view it.master it.session) };
 }
 
 impl<S: PageStore + Drop, D: LogDevice + Drop> Engine<S, D> {
@@ -75,6 +85,8 @@ impl<S: PageStore + Drop, D: LogDevice + Drop> Engine<S, D> {
                 log,
                 txns: TxnTable::new(alloc),
                 pool,
+                master: None,
+                session: None,
             }),
             Err(_) => Err(PlayFault::LogFault),
         }
@@ -128,6 +140,15 @@ impl<S: PageStore, D: LogDevice> Engine<S, D> {
             Event::Force => Answer::Forced(self.force()?),
             Event::WriteBegin(page) => Answer::Writing(self.write_begin(page)?),
             Event::WriteEnd(page) => Answer::Written(self.write_end(page)?),
+            Event::CkptBegin => Answer::Logged(self.ckpt_begin()?),
+            Event::CkptGather => match self.ckpt_gather()? {
+                Gathered::More => Answer::More,
+                Gathered::Done => Answer::Done,
+            },
+            Event::CkptEnd => {
+                let Point { begin, end, redo } = self.ckpt_end()?;
+                Answer::Point { begin, end, redo }
+            }
         };
         Ok(answer)
     }
@@ -383,7 +404,7 @@ impl<S: PageStore, D: LogDevice> Engine<S, D> {
     }
 
     /// Whether records and owed records stay within the limit, with so many more.
-    fn has_room(&self, more: u64) -> bool
+    pub(crate) fn has_room(&self, more: u64) -> bool
         requires { more ≤ 3 }
         ensures { result ≡ not (has_no_room self.now.state more) }
     {

@@ -39,6 +39,12 @@ pub enum Event {
     WriteBegin(PageNo),
     /// Stores the image of a page whose write has begun.
     WriteEnd(PageNo),
+    /// Begins a checkpoint.
+    CkptBegin,
+    /// Gathers the next dirty pages, or the next open transaction, for the open checkpoint.
+    CkptGather,
+    /// Ends the open checkpoint, and forces the log through its last record.
+    CkptEnd,
 }
 
 /// What an accepted call answers.
@@ -60,6 +66,12 @@ pub enum Answer {
     Writing(Lsn),
     /// The LSN of the image that was stored.
     Written(Lsn),
+    /// The gather of the open checkpoint goes on.
+    More,
+    /// The gather of the open checkpoint has ended.
+    Done,
+    /// The LSNs of the BeginChkpt and of the EndChkpt of the checkpoint, and its redo point.
+    Point { begin: Lsn, end: Lsn, redo: Lsn },
 }
 
 /// What a step of a rollback did.
@@ -69,6 +81,15 @@ pub enum Undone {
     Undid(Lsn),
     /// It ended the transaction: the LSN of the End.
     Ended(Lsn),
+}
+
+/// What a step of a gather answers.
+#[derive(Clone, Copy, Debug, PartialEq, Eq)]
+pub enum Gathered {
+    /// The gather goes on.
+    More,
+    /// The gather has ended.
+    Done,
 }
 
 /// The answer of a call, or why it was refused.

@@ -1,16 +1,18 @@
 //! The engine for one thread: each call is one event, and appends just its record to the log.
 #![tactic(auto)]
 
+mod checkpoint;
 mod engine;
 mod event;
 mod laws;
+mod open_ckpt;
 mod page_writes;
 mod played;
 mod refusal;
 mod setup;
 
 pub use engine::Engine;
-pub use event::{Answer, Event, Reply, Undone};
+pub use event::{Answer, Event, Gathered, Reply, Undone};
 pub use laws::{
     a_new_engine_is_fit, a_refusal_changes_nothing, an_answered_commit_is_forced,
     an_unsure_commit_ends_its_transaction, engines_stay_fit, log_full_is_exact,

@@ -32,6 +32,12 @@ pub enum Refusal {
     WriteBegun,
     /// No write of the page is in progress.
     NoWrite,
+    /// A checkpoint is open.
+    CkptOpen,
+    /// No checkpoint is open.
+    NoCkpt,
+    /// The gather of the open checkpoint has not ended.
+    GatherLeft,
     /// The page store failed. The write stays in progress with its image, and may be ended again;
     /// the old page is stored, or the image.
     StoreFault,
@@ -65,6 +71,9 @@ impl fmt::Display for Refusal {
             Refusal::NotDirty => write!(f, "E10 NotDirty"),
             Refusal::WriteBegun => write!(f, "E11 WriteBegun"),
             Refusal::NoWrite => write!(f, "E12 NoWrite"),
+            Refusal::CkptOpen => write!(f, "E13 CkptOpen"),
+            Refusal::NoCkpt => write!(f, "E14 NoCkpt"),
+            Refusal::GatherLeft => write!(f, "E15 GatherLeft"),
             Refusal::StoreFault => write!(f, "E22 StoreFault"),
             Refusal::LogFault => write!(f, "E23 LogFault"),
             Refusal::CommitUnsure(lsn) => {

@@ -260,7 +260,7 @@ pub record MorePages (log : Log) (stored : List Page) (written : List ℕ) (c : 
   pub covered : AreCovered (log.records ++ ChkptPages (end_of log.records) c.begin pages ∷ []) stored
       (past_pages pages (pages_ckpt c))
 
-more_pages : (log : Log) (stored : List Page) (written : List ℕ) (writing : List (Option Page)) (c : CkptView ℕ)
+pub more_pages : (log : Log) (stored : List Page) (written : List ℕ) (writing : List (Option Page)) (c : CkptView ℕ)
     (pages : DirtyPages) → IsLog log → log.pages ≡ length written → AreStored log.records stored written writing
     → IsCkptOf log.records (pages_ckpt c) → AreCovered log.records stored (pages_ckpt c)
     → entries_of pages ≡ next_dirty (dirty log.records written) c.phase → MorePages log stored written c pages

@@ -220,7 +220,7 @@ claimed_end rs lsn t prev linked may =
     omega (arith, step, one (has_aborted rs t), length_push rs r)
 
 -- a record of no transaction
-claimed_aside : (rs : List Record) (r : Record) → IsLinked rs → begun_by r ≡ None → is_last r ≡ false → txn_of r ≡ 0
+pub claimed_aside : (rs : List Record) (r : Record) → IsLinked rs → begun_by r ≡ None → is_last r ≡ false → txn_of r ≡ 0
     → claimed (rs ++ r ∷ []) ≡ claimed rs + 1
 claimed_aside rs r linked none more no_txn =
     let after = owed_by (rs ++ r ∷ []) in

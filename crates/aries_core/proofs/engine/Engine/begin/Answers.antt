@@ -25,4 +25,4 @@ append-requires g c =
     subst (λ (v : EngineView g.row.S.Denot g.row.D.Denot). length (open_in v.state.log) < 64) c.self.view_is
     (omega (arith, c.open_txns.ensures _ c.self.invariant.table_of_log)) in
     let room : has_no_room c.args.self.now.state 3 ≡ false = room_left _ _ c.has_room.ensures c.if-not-has_room.false in
-    record { call = event.Begin; fits = tt; accepted = begin_none c.args.self.now.state few room; made = rw (lsn, txn) refl }
+    record { of_transaction = tt; call = event.Begin; fits = tt; accepted = begin_none c.args.self.now.state few room; made = rw (lsn, txn) refl }

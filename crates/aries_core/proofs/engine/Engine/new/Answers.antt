@@ -4,7 +4,10 @@ use Rattle.log_records.specs.Log.{Log}
 use Rattle.log_history.proofs.Histories.{linked_none}
 use Rattle.buffer_pool.specs.Pool.{IsPoolOf}
 use Rattle.txn_table.specs.TxnTable.{IsTableOf}
+use Rattle.log_history.specs.Checkpoint.{open_checkpoint}
+use Rattle.std.specs.Option.{option_map}
 use Rattle.aries_core.specs.EngineState.{IsFit}
+use Rattle.aries_core.specs.Gather.{pages_left, session_of}
 use Rattle.aries_core.proofs.Fit.{new_is_fit}
 use Rattle.aries_core.proofs.PoolStates.{new_is}
 use Rattle.aries_core.proofs.engine.Engine.new.Goals as goal
@@ -24,6 +27,7 @@ invariant_of-result g c =
       pool_of_log =
           subst (λ (l : Log). IsPoolOf stored l c.in-Ok.pool) (sym c.in-Ok-new.ensures.empty)
           (c.in-Ok.ensures.empty n c.requires.formatted);
+      session_of_log = sym (ap (λ (l : Log). option_map (session_of pages_left) (open_checkpoint l.records)) c.in-Ok-new.ensures.empty);
     }
 
 pub returns-in-Ok-new-clause-empty : goal.returns-in-Ok-new-clause-empty

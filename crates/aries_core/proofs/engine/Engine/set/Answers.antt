@@ -4,6 +4,7 @@ use Rattle.aries_core.proofs.engine.Engine.set.Goals as goal
 
 pub update-requires-clause-called : goal.update-requires-clause-called
 update-requires-clause-called g c = record {
+  of_transaction = tt;
   call = event.Set c.args.txn c.args.page c.args.slot c.args.number;
   fits = c.ranges.number.fits;
   accepted = c.in_ok-prev.ensures.free;

@@ -22,7 +22,7 @@ append-requires g c =
     c.last_pending.ensures _ c.self.invariant.table_of_log
     ∙ ap (λ (v : EngineView g.row.S.Denot g.row.D.Denot). if is_open v.state.log c.args.txn then last_of (pending v.state.log c.args.txn) else None) c.self.view_is in
     let last = of_open _ _ _ found c.in_ok-prev.ensures.still_open ∙ c.in-Some.is in
-    record { call = event.UndoStep c.args.txn; fits = tt; accepted = c.in_ok-prev.ensures.rolling; made = rw (lsn, prev, last, c.undo_of.ensures.inverse) refl }
+    record { of_transaction = tt; call = event.UndoStep c.args.txn; fits = tt; accepted = c.in_ok-prev.ensures.rolling; made = rw (lsn, prev, last, c.undo_of.ensures.inverse) refl }
 
 pub append-requires-in-None : goal.append-requires-in-None
 append-requires-in-None g c =
@@ -34,4 +34,4 @@ append-requires-in-None g c =
     c.last_pending.ensures _ c.self.invariant.table_of_log
     ∙ ap (λ (v : EngineView g.row.S.Denot g.row.D.Denot). if is_open v.state.log c.args.txn then last_of (pending v.state.log c.args.txn) else None) c.self.view_is in
     let last = of_open _ _ _ found c.in_ok-prev.ensures.still_open ∙ c.in-None.is in
-    record { call = event.UndoStep c.args.txn; fits = tt; accepted = c.in_ok-prev.ensures.rolling; made = rw (lsn, prev, last) refl }
+    record { of_transaction = tt; call = event.UndoStep c.args.txn; fits = tt; accepted = c.in_ok-prev.ensures.rolling; made = rw (lsn, prev, last) refl }

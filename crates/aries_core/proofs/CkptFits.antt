@@ -1,0 +1,194 @@
+-- The open checkpoint and the master after a step.
+use Rattle.std.proofs.Common.{◌≡◌, ℕ, ◌<◌, ◌≤◌, ◌++◌, ◌⊎◌, List, [], ◌∷◌, length, refl, sym, ap, subst, ◌∙◌, arith, inl, inr}
+use Rattle.std.specs.Prelude.{Option, Some, None, IfSome, IsSomeAnd, Result, Ok, Err}
+use Rattle.std.proofs.lemmas.List.{length_push}
+use Rattle.std.proofs.lemmas.List.Elements.{All-nil}
+use Rattle.page_core.specs.declared.page.Page.{Page}
+use Rattle.log_records.specs.declared.dirty_page.DirtyPage.{DirtyPage}
+use Rattle.log_records.specs.declared.record.Record.{Record}
+use Rattle.log_records.specs.declared.record.Record.TheVariants.{BeginChkpt}
+use Rattle.log_records.specs.Log.{lsn_of}
+use Rattle.log_records.specs.Record.{own_lsn}
+use Rattle.log_history.specs.Checkpoint.{Checkpoint, open_checkpoint}
+use Rattle.fuzzy_ckpt.proofs.Ends.{begun_is, end_covers}
+use Rattle.fuzzy_ckpt.proofs.Opens.{open_push}
+use Rattle.aries_core.specs.declared.event.Answer.{Answer}
+use Rattle.aries_core.specs.declared.event.Event.{Event}
+use Rattle.aries_core.specs.declared.event.Event.TheVariants as event
+use Rattle.aries_core.specs.declared.refusal.Refusal.{Refusal}
+use Rattle.aries_core.specs.declared.refusal.Refusal.TheVariants.{LogFault, OutOfMemory}
+use Rattle.aries_core.specs.EngineState.{EngineState, IsFit, IsGathering, IsMasterOf, appended, begin_ckpt_record, closed, effect, end, end_ckpt_record, forced_to, gathering, log_of, point_of, with_master}
+use Rattle.aries_core.specs.EventFits.{EventFits}
+use Rattle.aries_core.specs.Gather.{none_left, pages_left, session_of}
+use Rattle.aries_core.specs.Refusal.{refusal}
+use Rattle.aries_core.specs.Step.{Fails, Step}
+use Rattle.aries_core.proofs.Beside.{CkptsFit, IsBeside, ckpts_later, ckpts_stored, keeps_ckpts, master_forced, master_later, of_transaction}
+use Rattle.aries_core.proofs.Follows.{follows}
+use Rattle.aries_core.proofs.Forces.{Forces}
+use Rattle.aries_core.proofs.Gathers.{AreGathered, PassesPages, PassesTxns, TakesPages, TakesTxn, WasDone, ckpt_end_is}
+use Rattle.aries_core.proofs.Gathers.{closed_part, gather_case, pages_record, passes_pages, passes_txns, takes_pages}
+use Rattle.aries_core.proofs.Gathers.{takes_txn, txn_entry, was_done}
+use Rattle.aries_core.proofs.GatherSteps.{gathering_of, pages_gathered, pages_passed, txn_gathered, txns_passed}
+use Rattle.aries_core.proofs.Refusals.{ckpt_end_passes, gather_passes}
+use Rattle.aries_core.proofs.Stands.{stands}
+use Rattle.aries_core.proofs.Steps.{Grows, Stays}
+use Rattle.aries_core.proofs.Writes.{PageStep}
+
+abbrev pub FitsCkpts : EngineState → Type 0
+FitsCkpts s = CkptsFit s.log s.stored s.left s.forced_end s.master
+
+ckpts_now : (s : EngineState) → IsFit s → FitsCkpts s
+ckpts_now s fit = record { gathered = fit.gathered; master = fit.master }
+
+forced_within : (s : EngineState) → IsFit s → s.forced_end ≤ lsn_of (length s.log)
+forced_within s fit = let k = fit.forced.0 in let le = fit.forced.1 in let is = fit.forced.2 in omega arith
+
+-- the master with one more record
+pub master_now : (s : EngineState) (r : Record) → IsFit s → own_lsn r ≡ end s
+    → IfSome s.master (IsMasterOf (s.log ++ r ∷ []) s.stored s.forced_end)
+master_now s r fit own = master_later (log_of s) r s.stored s.forced_end s.master fit.valid own (forced_within s fit) fit.master
+
+-- ---- a checkpoint begins
+
+begun_gathered : (rs : List Record) (stored : List Page) (lsn : ℕ) → AreGathered (rs ++ BeginChkpt lsn ∷ []) stored pages_left
+begun_gathered rs stored lsn =
+    subst (λ (o : Option Checkpoint). IfSome o (IsGathering (rs ++ BeginChkpt lsn ∷ []) stored pages_left))
+    (sym (open_push rs (BeginChkpt lsn)))
+    (record { ckpt = begun_is rs lsn; covered = λ p d lt passed. absurd (omega arith) })
+
+-- ---- its gather goes on
+
+gathered_fit : (old : EngineState) (new : EngineState) → IsFit old → refusal old event.CkptGather ≡ None
+    → new ≡ (effect old event.CkptGather).state → FitsCkpts new
+gathered_fit old new fit none is =
+    let passes = gather_passes old none in
+    let c = passes.ckpt in
+    let open_now = passes.still_open in
+    elim (gather_case old c) [
+      | TakesPages pages finds ↦
+          subst FitsCkpts (sym (is ∙ ap (λ o. o.state) (takes_pages old c pages open_now finds).outcome)) (record {
+            gathered = pages_gathered old c pages fit open_now finds;
+            master = master_now old (pages_record old c pages) fit refl;
+          })
+      | PassesPages finds ↦
+          subst FitsCkpts (sym (is ∙ ap (λ o. o.state) (passes_pages old c open_now finds).outcome)) (record {
+            gathered = pages_passed old c fit open_now finds;
+            master = fit.master;
+          })
+      | TakesTxn t finds ↦
+          subst FitsCkpts (sym (is ∙ ap (λ o. o.state) (takes_txn old c t open_now finds).outcome)) (record {
+            gathered = txn_gathered old c t fit open_now finds;
+            master = master_now old (txn_entry old c t) fit refl;
+          })
+      | PassesTxns finds ↦
+          subst FitsCkpts (sym (is ∙ ap (λ o. o.state) (passes_txns old c open_now finds).outcome)) (record {
+            gathered = txns_passed old c fit open_now finds;
+            master = fit.master;
+          })
+      | WasDone left ↦
+          subst FitsCkpts (sym (is ∙ ap (λ o. o.state) (was_done old c open_now left).outcome)) (record {
+            gathered = subst (AreGathered old.log old.stored) left fit.gathered;
+            master = fit.master;
+          })
+    ]
+
+-- ---- it ends
+
+none_gathered : (s : EngineState) (c : Checkpoint) → AreGathered (s.log ++ end_ckpt_record s c ∷ []) s.stored pages_left
+none_gathered s c =
+    subst (λ (o : Option Checkpoint). IfSome o (IsGathering (s.log ++ end_ckpt_record s c ∷ []) s.stored pages_left))
+    (sym (open_push s.log (end_ckpt_record s c))) tt
+
+point_is_master : (s : EngineState) (c : Checkpoint) → IsFit s → open_checkpoint s.log ≡ Some c → s.left ≡ none_left
+    → IsMasterOf (s.log ++ end_ckpt_record s c ∷ []) s.stored (end (closed s c)) (point_of s c)
+point_is_master s c fit is done =
+    let r = end_ckpt_record s c in
+    let now = gathering_of s c none_left fit is done in
+    record {
+      complete = record {
+        before = s.log;
+        behind = [];
+        redo = _;
+        ended = refl;
+        begun = subst (λ (o : Option Checkpoint). IsSomeAnd o (λ x. x.begin ≡ c.begin)) (sym is) refl;
+      };
+      same_redo = refl;
+      forced = omega (arith, length_push s.log r);
+      covered = end_covers (log_of s) (session_of none_left c) s.stored fit.valid now.ckpt now.covered;
+    }
+
+ended_fit : (old new : EngineState) → IsFit old → refusal old event.CkptEnd ≡ None
+    → new ≡ (effect old event.CkptEnd).state → FitsCkpts new
+ended_fit old new fit none is =
+    let passes = ckpt_end_passes old none in
+    let c = passes.ckpt in
+    subst FitsCkpts (sym (is ∙ ap (λ o. o.state) (ckpt_end_is old c passes.still_open))) (record {
+      gathered = none_gathered old c;
+      master = point_is_master old c fit passes.still_open passes.done;
+    })
+
+unforced_fit : (old new : EngineState) → IsFit old → Fails old event.CkptEnd LogFault new → FitsCkpts new
+unforced_fit old new fit fails =
+    let part = closed_part old new fails in
+    let c = part.0 in
+    let k = part.2.reached.0 in
+    let is : new ≡ forced_to (closed old c) (lsn_of k) = part.2.reached.2 in
+    let no_less = part.2.no_less in
+    let at = ap (λ (s : EngineState). s.forced_end) is in
+    subst FitsCkpts (sym is) (record {
+      gathered = none_gathered old c;
+      master = master_forced (closed old c).log old.stored old.forced_end (lsn_of k) old.master (omega arith)
+          (master_now old (end_ckpt_record old c) fit refl);
+    })
+
+-- ---- a step beside checkpoints
+
+beside_fit : (old : EngineState) (event : Event) (reply : Result Answer Refusal) (new : EngineState) → IsFit old
+    → EventFits event → IsBeside event → Forces old new → PageStep old new
+    → Stays old event reply new ⊎ Grows old event reply new → Step old event reply new → FitsCkpts new
+beside_fit old event reply new fit numbers beside forces pages kind step =
+    let keeps = keeps_ckpts old event reply new beside step in
+    let stored = ckpts_stored old new fit pages in
+    let so_far : CkptsFit new.log new.stored old.left old.forced_end old.master = elim kind [
+      | inl stays ↦ rw stays.log stored
+      | inr grows ↦
+          let r = grows.r in
+          rw grows.log (ckpts_later (log_of old) r new.stored old.left old.forced_end old.master fit.valid fit.linked
+          (of_transaction old event r beside grows.made) (follows old event r fit grows.accepted grows.made)
+          (stands old event r fit numbers grows.accepted grows.made).lsn (forced_within old fit) stored)
+    ] in
+    rw (keeps.left, keeps.master) (record {
+      gathered = so_far.gathered;
+      master = master_forced new.log new.stored old.forced_end new.forced_end old.master forces.no_less so_far.master;
+    })
+
+-- ---- each step
+
+pub ckpts_fit : (old : EngineState) (event : Event) (reply : Result Answer Refusal) (new : EngineState) → IsFit old
+    → EventFits event → Forces old new → PageStep old new
+    → Stays old event reply new ⊎ Grows old event reply new → Step old event reply new → FitsCkpts new
+ckpts_fit old event.CkptBegin (Ok answer) new fit numbers forces pages kind step =
+    subst FitsCkpts (sym step.2) (record {
+      gathered = begun_gathered old.log old.stored (end old);
+      master = master_now old (begin_ckpt_record old) fit refl;
+    })
+ckpts_fit old event.CkptGather (Ok answer) new fit numbers forces pages kind step = gathered_fit old new fit step.0 step.2
+ckpts_fit old event.CkptEnd (Ok answer) new fit numbers forces pages kind step = ended_fit old new fit step.0 step.2
+ckpts_fit old event.CkptBegin (Err why) new fit numbers forces pages kind (inl both) =
+    subst FitsCkpts (sym both.1) (ckpts_now old fit)
+ckpts_fit old event.CkptBegin (Err OutOfMemory) new fit numbers forces pages kind (inr both) =
+    subst FitsCkpts (sym both.1.1) (ckpts_now old fit)
+ckpts_fit old event.CkptBegin (Err why) new fit numbers forces pages kind (inr both) = absurd both.1
+ckpts_fit old event.CkptGather (Err why) new fit numbers forces pages kind (inl both) =
+    subst FitsCkpts (sym both.1) (ckpts_now old fit)
+ckpts_fit old event.CkptGather (Err OutOfMemory) new fit numbers forces pages kind (inr both) =
+    subst FitsCkpts (sym both.1.1) (ckpts_now old fit)
+ckpts_fit old event.CkptGather (Err why) new fit numbers forces pages kind (inr both) = absurd both.1
+ckpts_fit old event.CkptEnd (Err why) new fit numbers forces pages kind (inl both) =
+    subst FitsCkpts (sym both.1) (ckpts_now old fit)
+ckpts_fit old event.CkptEnd (Err OutOfMemory) new fit numbers forces pages kind (inr both) =
+    subst FitsCkpts (sym both.1.1) (ckpts_now old fit)
+ckpts_fit old event.CkptEnd (Err LogFault) new fit numbers forces pages kind (inr both) = unforced_fit old new fit both.1
+ckpts_fit old event.CkptEnd (Err why) new fit numbers forces pages kind (inr both) = absurd both.1
+ckpts_fit old event reply new fit numbers forces pages kind step =
+    beside_fit old event reply new fit numbers tt forces pages kind step

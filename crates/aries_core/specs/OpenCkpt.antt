@@ -1,0 +1,16 @@
+-- The session of a checkpoint that is open, whatever it gathers.
+use Rattle.std.specs.Prelude.{Option}
+use Rattle.std.specs.Option.{option_map}
+use Rattle.fuzzy_ckpt.specs.declared.point.Point.{Point}
+use Rattle.fuzzy_ckpt.specs.Ckpt.{CkptView, Phase, gathered_ckpt, pages_ckpt, txns_ckpt}
+use Rattle.aries_core.specs.declared.open_ckpt.OpenCkpt.{OpenCkpt}
+use Rattle.aries_core.specs.declared.open_ckpt.OpenCkpt.TheVariants.{Gathered, Pages, Txns}
+use Rattle.aries_core.specs.EngineState.{CkptsView}
+
+abbrev pub view_of : OpenCkpt → CkptView Phase
+view_of (Pages ckpt) = pages_ckpt ckpt
+view_of (Txns ckpt) = txns_ckpt ckpt
+view_of (Gathered ckpt) = gathered_ckpt ckpt
+
+abbrev pub ckpts_view : Option Point → Option OpenCkpt → CkptsView
+ckpts_view master session = record { master = master; session = option_map view_of session }
