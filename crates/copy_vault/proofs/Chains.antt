@@ -1,5 +1,6 @@
 -- Chains of copies, and the pages that they have.
-use Rattle.std.proofs.Common.{◌≡◌, ℕ, ◌+◌, ◌-◌, ◌<◌, ◌≤◌, List, [], ◌∷◌, ◌++◌, length, get_or, take, drop, reverse, refl, sym, ap}
+use Rattle.std.proofs.Common.{◌≡◌, ℕ, ◌+◌, ◌-◌, ◌<◌, ◌≤◌, List, [], ◌∷◌, ◌++◌, length, get_or, take, drop}
+use Rattle.std.proofs.Common.{reverse, refl, sym, ap}
 use Rattle.std.proofs.Common.{◌∙◌, subst, arith, suc, zero, false}
 use Rattle.std.specs.Prelude.{Some, None}
 use Rattle.std.specs.Bool.{◌==◌}
