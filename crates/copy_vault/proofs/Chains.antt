@@ -11,7 +11,9 @@ use Rattle.std.proofs.lemmas.List.{at_drop_more, map-append, reverse-append, tak
 use Rattle.std.proofs.lemmas.List.{drop_more, take_all, take_more}
 use Rattle.std.proofs.lemmas.List.Concat.{flat_map-append}
 use Rattle.page_core.specs.declared.page.Page.{Page}
+use Rattle.std.proofs.lemmas.List.FromFn.{get_or-map-range_with_len, length-map-range_with_len}
 use Rattle.page_core.specs.Page.{formatted}
+use Rattle.page_core.specs.Volume.{AreNumbered}
 use Rattle.copy_vault.specs.declared.fault.CopyFault.{CopyFault}
 use Rattle.copy_vault.specs.declared.copy_id.CopyKind.{CopyKind}
 use Rattle.copy_vault.specs.declared.copy_id.CopyKind.TheVariants.{Full, Inc}
@@ -19,7 +21,12 @@ use Rattle.copy_vault.specs.Copy.{CopyView, IsComplete, PageDecision, undecided,
 use Rattle.copy_vault.specs.Vault.{CopyState, HasParent, IsOfId, IsParent, complete, complete_refusal, state_of}
 use Rattle.copy_vault.proofs.Fronts.{all_push}
 use Rattle.copy_vault.specs.Chain.{FitFrom, Fits, IsBrokenAt, kind_after}
-use Rattle.copy_vault.specs.Chain.{Follow, IsChain, IsChainOf, IsNext, content, last_of, last_redo, lent, page_count, takings}
+use Rattle.copy_vault.specs.Chain.{Follow, IsChain, IsChainOf, IsNext, content, contents, last_of, last_redo, lent, page_count, takings}
+
+all_append : {X : Type 0} (P : X → Type 0) (xs ys : List X) → AllByRecursion P xs → AllByRecursion P ys
+    → AllByRecursion P (xs ++ ys)
+all_append P [] ys one two = two
+all_append P (x ∷ xs) ys one two = (one.0, all_append P xs ys one.1 two)
 
 -- ---- references to copies
 
@@ -128,6 +135,42 @@ some_took members p chain lt none =
     let below : p < length first.pages = omega (arith, ap page_count chain.is) in
     has_page (decision_at first.pages p) (here.decided p below) (here.keeps chain.full p) (takings chain.more p)
     (ap (λ (ms : List CopyView). takings ms p) (sym chain.is) ∙ none)
+
+-- ---- the numbers of the pages
+
+number_of : (d : PageDecision) (p : ℕ) → ((page : Page) → d ≡ taken page → page.number ≡ p)
+    → AllByRecursion (λ (page : Page). page.number ≡ p) (page_of d)
+number_of undecided p here = tt
+number_of (taken page) p here = (here page refl, tt)
+number_of kept p here = tt
+
+numbers_of : (members : List CopyView) (p : ℕ) → AllByRecursion (λ copy. IsComplete copy.kind copy.pages) members
+    → AllByRecursion (λ (page : Page). page.number ≡ p) (takings members p)
+numbers_of [] p all = tt
+numbers_of (copy ∷ more) p all =
+    all_append (λ (page : Page). page.number ≡ p) (page_of (decision_at copy.pages p)) (takings more p)
+    (number_of (decision_at copy.pages p) p (all.0.in_place p)) (numbers_of more p all.1)
+
+last_number : (page : Page) (pages : List Page) (p : ℕ) → page.number ≡ p
+    → AllByRecursion (λ (page : Page). page.number ≡ p) pages → (last_of page pages).number ≡ p
+last_number page [] p here all = here
+last_number page (next ∷ more) p here all = last_number next more p all.0 all.1
+
+formatted_number : (p : ℕ) → (formatted p).number ≡ p
+unfolding formatted
+formatted_number p = refl
+
+content_number : (members : List CopyView) (p : ℕ) → AllByRecursion (λ copy. IsComplete copy.kind copy.pages) members
+    → (content members p).number ≡ p
+content_number members p all =
+    last_number (formatted p) (takings members p) p (formatted_number p) (numbers_of members p all)
+
+pub contents_numbered : (members : List CopyView) → IsChain members → AreNumbered (contents members)
+contents_numbered members chain k d lt =
+    let count = page_count members in
+    let below : k < count = omega (arith, length-map-range_with_len (content members) 0 count) in
+    ap (λ (page : Page). page.number) (get_or-map-range_with_len (content members) 0 count k k d below (omega arith))
+    ∙ content_number members k chain.complete
 
 -- ---- a chain that is gone back
 

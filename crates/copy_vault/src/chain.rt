@@ -2,6 +2,7 @@
 
 ghost use Rattle.std.specs.Prelude.{◌≡◌, ◌<◌, ◌↔◌, IfOk, IfErr, IfSome, IsTrue, OnOk, None};
 ghost use Rattle.std.specs.List.{AllByRecursion};
+ghost use Rattle.page_core.specs.Volume.{AreNumbered};
 ghost use Rattle.copy_vault.specs.Copy.{IsComplete};
 ghost use Rattle.copy_vault.specs.Chain.{FitFrom, Fits, IsBrokenAt, IsChain, IsRefused, content};
 ghost use Rattle.copy_vault.specs.Chain.{contents, last_redo, lent, page_count};
@@ -69,7 +70,8 @@ impl<'a> Chain<'a> {
 
     /// How many pages the volume has.
     pub fn pages(&self) -> u32
-        ensures { result ≡ page_count self.now }
+        ensures count { result ≡ page_count self.now }
+        ensures chain { IsChain self.now }
     {
         self.members[0].pages()
     }
@@ -84,7 +86,8 @@ impl<'a> Chain<'a> {
     /// A page, as the last copy that took it has it.
     pub fn content(&self, number: PageNo) -> &Page
         requires { number < page_count self.now }
-        ensures { result.now ≡ content self.now number }
+        ensures content { result.now ≡ content self.now number }
+        ensures numbered { result.now.number ≡ number }
     {
         let mut later = self.members.len();
         while later > 0 {
@@ -98,7 +101,8 @@ impl<'a> Chain<'a> {
 
     /// All pages, in order of their numbers. It looks at each decision of its copies once at most.
     pub fn contents(&self, alloc: Global) -> Result<Vec<&Page>, AllocError>
-        ensures { IfOk result (λ pages. lent pages.items ≡ contents self.now) }
+        ensures contents { IfOk result (λ pages. lent pages.items ≡ contents self.now) }
+        ensures numbered { OnOk result (AreNumbered (contents self.now)) }
     {
         let count = self.pages();
         let mut pages = Vec::with_capacity(alloc, count as usize)?;
