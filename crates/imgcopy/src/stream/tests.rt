@@ -1,6 +1,7 @@
 use super::*;
 use page_core::Lsn;
 use std::io;
+use std::io::ErrorKind;
 use std::test::Fail;
 
 // The parts of the logs in groups of eight bytes, in hexadecimal. `0` is eight zero bytes.
