@@ -1,20 +1,32 @@
 -- Chains of copies, and the pages that they have.
-use Rattle.std.proofs.Common.{◌≡◌, ℕ, ◌+◌, ◌-◌, ◌<◌, List, [], ◌∷◌, ◌++◌, length, get_or, take, drop, reverse, refl, sym, ap}
-use Rattle.std.proofs.Common.{◌∙◌, subst, arith, suc, zero}
+use Rattle.std.proofs.Common.{◌≡◌, ℕ, ◌+◌, ◌-◌, ◌<◌, ◌≤◌, List, [], ◌∷◌, ◌++◌, length, get_or, take, drop}
+use Rattle.std.proofs.Common.{reverse, refl, sym, ap}
+use Rattle.std.proofs.Common.{◌∙◌, subst, arith, suc, zero, false}
 use Rattle.std.specs.Prelude.{Some, None}
+use Rattle.std.specs.Bool.{◌==◌}
 use Rattle.std.specs.Borrow.{Bor}
 use Rattle.std.specs.List.{AllByRecursion}
 use Rattle.std.proofs.Math.ListN.{get_or-map}
 use Rattle.std.proofs.lemmas.List.{at_drop_more, map-append, reverse-append, take-append-drop}
+use Rattle.std.proofs.lemmas.List.{drop_more, take_all, take_more}
 use Rattle.std.proofs.lemmas.List.Concat.{flat_map-append}
 use Rattle.page_core.specs.declared.page.Page.{Page}
+use Rattle.std.proofs.lemmas.List.FromFn.{get_or-map-range_with_len, length-map-range_with_len}
 use Rattle.page_core.specs.Page.{formatted}
+use Rattle.page_core.specs.Volume.{AreNumbered}
 use Rattle.copy_vault.specs.declared.fault.CopyFault.{CopyFault}
 use Rattle.copy_vault.specs.declared.copy_id.CopyKind.{CopyKind}
 use Rattle.copy_vault.specs.declared.copy_id.CopyKind.TheVariants.{Full, Inc}
 use Rattle.copy_vault.specs.Copy.{CopyView, IsComplete, PageDecision, undecided, taken, kept, decision_at, page_of}
 use Rattle.copy_vault.specs.Vault.{CopyState, HasParent, IsOfId, IsParent, complete, complete_refusal, state_of}
-use Rattle.copy_vault.specs.Chain.{Follow, IsChain, IsChainOf, IsNext, content, last_of, last_redo, lent, page_count, takings}
+use Rattle.copy_vault.proofs.Fronts.{all_push}
+use Rattle.copy_vault.specs.Chain.{FitFrom, Fits, IsBrokenAt, kind_after}
+use Rattle.copy_vault.specs.Chain.{Follow, IsChain, IsChainOf, IsNext, content, contents, last_of, last_redo, lent, page_count, takings}
+
+all_append : {X : Type 0} (P : X → Type 0) (xs ys : List X) → AllByRecursion P xs → AllByRecursion P ys
+    → AllByRecursion P (xs ++ ys)
+all_append P [] ys one two = two
+all_append P (x ∷ xs) ys one two = (one.0, all_append P xs ys one.1 two)
 
 -- ---- references to copies
 
@@ -124,6 +136,42 @@ some_took members p chain lt none =
     has_page (decision_at first.pages p) (here.decided p below) (here.keeps chain.full p) (takings chain.more p)
     (ap (λ (ms : List CopyView). takings ms p) (sym chain.is) ∙ none)
 
+-- ---- the numbers of the pages
+
+number_of : (d : PageDecision) (p : ℕ) → ((page : Page) → d ≡ taken page → page.number ≡ p)
+    → AllByRecursion (λ (page : Page). page.number ≡ p) (page_of d)
+number_of undecided p here = tt
+number_of (taken page) p here = (here page refl, tt)
+number_of kept p here = tt
+
+numbers_of : (members : List CopyView) (p : ℕ) → AllByRecursion (λ copy. IsComplete copy.kind copy.pages) members
+    → AllByRecursion (λ (page : Page). page.number ≡ p) (takings members p)
+numbers_of [] p all = tt
+numbers_of (copy ∷ more) p all =
+    all_append (λ (page : Page). page.number ≡ p) (page_of (decision_at copy.pages p)) (takings more p)
+    (number_of (decision_at copy.pages p) p (all.0.in_place p)) (numbers_of more p all.1)
+
+last_number : (page : Page) (pages : List Page) (p : ℕ) → page.number ≡ p
+    → AllByRecursion (λ (page : Page). page.number ≡ p) pages → (last_of page pages).number ≡ p
+last_number page [] p here all = here
+last_number page (next ∷ more) p here all = last_number next more p all.0 all.1
+
+formatted_number : (p : ℕ) → (formatted p).number ≡ p
+unfolding formatted
+formatted_number p = refl
+
+content_number : (members : List CopyView) (p : ℕ) → AllByRecursion (λ copy. IsComplete copy.kind copy.pages) members
+    → (content members p).number ≡ p
+content_number members p all =
+    last_number (formatted p) (takings members p) p (formatted_number p) (numbers_of members p all)
+
+pub contents_numbered : (members : List CopyView) → IsChain members → AreNumbered (contents members)
+contents_numbered members chain k d lt =
+    let count = page_count members in
+    let below : k < count = omega (arith, length-map-range_with_len (content members) 0 count) in
+    ap (λ (page : Page). page.number) (get_or-map-range_with_len (content members) 0 count k k d below (omega arith))
+    ∙ content_number members k chain.complete
+
 -- ---- a chain that is gone back
 
 -- what was seen of the chain from its last copy back to this one
@@ -205,3 +253,84 @@ next_of_parent copies parent id other copy is there same kind =
 pub is_full : (kind : CopyKind) → ((parent : ℕ) → ¬ (kind ≡ Inc parent)) → kind ≡ Full
 is_full Full none = refl
 is_full (Inc parent) none = absurd (none parent refl)
+
+-- ---- copies that are given
+
+pub fit_push : (pages : ℕ) (kind : CopyKind) (xs : List CopyView) (x : CopyView) → FitFrom pages kind xs
+    → Fits pages (kind_after kind xs) x → FitFrom pages kind (xs ++ x ∷ [])
+fit_push pages kind [] x fit here = (here, tt)
+fit_push pages kind (y ∷ ys) x fit here = (fit.0, fit_push pages (Inc y.id) ys x fit.1 here)
+
+pub after_push : (kind : CopyKind) (xs : List CopyView) (x : CopyView) → kind_after kind (xs ++ x ∷ []) ≡ Inc x.id
+after_push kind [] x = refl
+after_push kind (y ∷ ys) x = after_push (Inc y.id) ys x
+
+fit_follow : (pages : ℕ) (copy : CopyView) (more : List CopyView) → length copy.pages ≡ pages
+    → FitFrom pages (Inc copy.id) more → Follow copy more
+fit_follow pages copy [] count fit = tt
+fit_follow pages copy (next ∷ more) count fit = (
+  record { parent = fit.0.same_kind; same_count = fit.0.same_count ∙ sym count },
+  fit_follow pages next more fit.0.same_count fit.1,
+)
+
+pub fit_chain : (pages : ℕ) (copies : List CopyView) → FitFrom pages Full copies → 0 < length copies
+    → AllByRecursion (λ copy. IsComplete copy.kind copy.pages) copies → IsChain copies
+fit_chain pages [] fit some all = absurd (omega arith)
+fit_chain pages (first ∷ more) fit some all = record {
+  first = first;
+  more = more;
+  is = refl;
+  full = fit.0.same_kind;
+  linked = fit_follow pages first more fit.0.same_count fit.1;
+  complete = all;
+}
+
+pub not_empty : {T : Type 0} (xs : List T) → false ≡ (length xs == 0) → 0 < length xs
+not_empty [] e = cc
+not_empty (x ∷ xs) e = omega arith
+
+-- the copies up to here, and the next one
+pub record FitUpTo (pages : ℕ) (copies : List CopyView) (k : ℕ) (kind : CopyKind) : Type 0 where
+  pub fit : FitFrom pages Full (take k copies)
+  pub next : kind ≡ kind_after Full (take k copies)
+  pub all : AllByRecursion (λ copy. IsComplete copy.kind copy.pages) (take k copies)
+
+pub fit_more : (pages : ℕ) (copies : List CopyView) (k : ℕ) (kind : CopyKind) (copy : CopyView)
+    → FitUpTo pages copies k kind → k < length copies → copy ≡ get_or copies k copy → Fits pages kind copy
+    → IsComplete copy.kind copy.pages → FitUpTo pages copies (k + 1) (Inc copy.id)
+fit_more pages copies k kind copy up lt is here whole =
+    let more : take (k + 1) copies ≡ take k copies ++ copy ∷ [] =
+    take_more copies k copy lt ∙ ap (λ (c : CopyView). take k copies ++ c ∷ []) (sym is) in
+    let all : CopyView → Type 0 = λ copy. IsComplete copy.kind copy.pages in
+    record {
+      fit = subst (FitFrom pages Full) (sym more) (fit_push pages Full (take k copies) copy up.fit
+          (record { same_kind = here.same_kind ∙ up.next; same_count = here.same_count }));
+      next = sym (ap (kind_after Full) more ∙ after_push Full (take k copies) copy);
+      all = subst (AllByRecursion all) (sym more) (all_push all (take k copies) copy up.all whole);
+    }
+
+pub fit_all : (pages : ℕ) (copies : List CopyView) (k : ℕ) (kind : CopyKind) → FitUpTo pages copies k kind
+    → length copies ≤ k → FitUpTo pages copies (length copies) kind
+fit_all pages copies k kind up past =
+    let same : take k copies ≡ take (length copies) copies = take_all k copies past
+    ∙ sym (take_all (length copies) copies (omega arith)) in
+    record {
+      fit = subst (FitFrom pages Full) same up.fit;
+      next = up.next ∙ ap (kind_after Full) same;
+      all = subst (AllByRecursion (λ copy. IsComplete copy.kind copy.pages)) same up.all;
+    }
+
+pub broken_at : (pages : ℕ) (copies : List CopyView) (k : ℕ) (kind : CopyKind) (copy : CopyView) (id : ℕ)
+    → FitUpTo pages copies k kind → k < length copies → copy ≡ get_or copies k copy → id ≡ copy.id
+    → (¬ Fits pages kind copy) → IsBrokenAt pages copies id
+broken_at pages copies k kind copy id up lt is same misfit = record {
+  before = take k copies;
+  copy = copy;
+  after = drop (k + 1) copies;
+  is = sym (take-append-drop k copies)
+      ∙ ap (λ (cs : List CopyView). take k copies ++ cs)
+      (drop_more copies k copy lt ∙ ap (λ (c : CopyView). c ∷ drop (k + 1) copies) (sym is));
+  fit = up.fit;
+  misfit = λ here. misfit (record { same_kind = here.same_kind ∙ sym up.next; same_count = here.same_count });
+  id_is = same;
+}

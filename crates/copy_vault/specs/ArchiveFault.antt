@@ -5,7 +5,8 @@ use Rattle.page_core.specs.declared.page.Page.{Page}
 use Rattle.page_core.specs.declared.page.TheConstants.{PAGE_BYTES}
 use Rattle.page_core.specs.Page.{page_bytes}
 use Rattle.copy_vault.specs.declared.archive_fault.ArchiveFault.{ArchiveFault}
-use Rattle.copy_vault.specs.declared.archive_fault.ArchiveFault.TheVariants.{OutOfMemory, BadArchive}
+use Rattle.copy_vault.specs.declared.archive_fault.ArchiveFault.TheVariants.{OutOfMemory}
+use Rattle.copy_vault.specs.declared.archive_fault.ArchiveFault.TheVariants.{BadArchive}
 use Rattle.copy_vault.specs.declared.archive_fault.ArchiveFault.TheVariants.{CountDiffers}
 use Rattle.copy_vault.specs.declared.archive_fault.ArchiveFault.TheVariants.{ReadFault}
 use Rattle.copy_vault.specs.declared.header.ArchiveHeader.{ArchiveHeader}

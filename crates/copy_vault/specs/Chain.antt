@@ -1,9 +1,12 @@
 -- A chain of image copies, and the pages that it has.
-use Rattle.std.specs.Prelude.{ℕ, ◌≡◌, List, [], ◌∷◌, ◌++◌, length, map}
+use Rattle.std.specs.Prelude.{ℕ, ◌≡◌, ◌<◌, ◌⊎◌, List, [], ◌∷◌, ◌++◌, length, map}
 use Rattle.std.specs.Borrow.{Bor}
 use Rattle.std.specs.List.{AllByRecursion, flat_map, range_with_len}
 use Rattle.page_core.specs.declared.page.Page.{Page}
 use Rattle.page_core.specs.Page.{formatted}
+use Rattle.copy_vault.specs.declared.chain_fault.ChainFault.{ChainFault}
+use Rattle.copy_vault.specs.declared.chain_fault.ChainFault.TheVariants.{ChainBroken, OutOfMemory}
+use Rattle.copy_vault.specs.declared.copy_id.CopyKind.{CopyKind}
 use Rattle.copy_vault.specs.declared.copy_id.CopyKind.TheVariants.{Full, Inc}
 use Rattle.copy_vault.specs.Copy.{CopyView, IsComplete, decision_at, page_of}
 use Rattle.copy_vault.specs.Vault.{CopyState, complete, state_of}
@@ -34,6 +37,42 @@ pub record IsChainOf (copies : List CopyState) (id : ℕ) (members : List CopyVi
   pub is : members ≡ before ++ last ∷ []
   pub of_id : state_of copies id ≡ complete last
   pub of_vault : AllByRecursion (λ copy. state_of copies copy.id ≡ complete copy) members
+
+-- ---- copies that are given
+
+-- a copy is of this kind, and of so many pages
+pub record Fits (pages : ℕ) (kind : CopyKind) (copy : CopyView) : Type 0 where
+  pub same_kind : copy.kind ≡ kind
+  pub same_count : length copy.pages ≡ pages
+
+-- the copies are a chain for so many pages, as far as they go: the first one is of this kind, and
+-- each other one has the one before it as its parent
+abbrev pub FitFrom : ℕ → CopyKind → List CopyView → Type 0
+FitFrom pages kind [] = Unit {0}
+FitFrom pages kind (copy ∷ more) = Fits pages kind copy × FitFrom pages (Inc copy.id) more
+
+-- the kind of the copy that may come behind these
+abbrev pub kind_after : CopyKind → List CopyView → CopyKind
+kind_after kind [] = kind
+kind_after kind (copy ∷ more) = kind_after (Inc copy.id) more
+
+-- the copy of this id does not fit behind those before it, which fit
+pub record IsBrokenAt (pages : ℕ) (copies : List CopyView) (id : ℕ) : Type 0 where
+  pub before : List CopyView
+  pub copy : CopyView
+  pub after : List CopyView
+  pub is : copies ≡ before ++ copy ∷ after
+  pub fit : FitFrom pages Full before
+  pub misfit : ¬ Fits pages (kind_after Full before) copy
+  pub id_is : id ≡ copy.id
+
+-- why the copies are refused; there is no copy 0
+abbrev pub IsRefused : ℕ → List CopyView → ChainFault → Type 0
+IsRefused pages copies (ChainBroken id) =
+    ((copies ≡ []) × (id ≡ 0)) ⊎ IsBrokenAt pages copies id
+IsRefused pages copies OutOfMemory = FitFrom pages Full copies × (0 < length copies)
+
+-- ---- the pages of a chain
 
 -- how many pages the volume of these copies has
 abbrev pub page_count : List CopyView → ℕ

@@ -5,6 +5,8 @@ use Rattle.copy_vault.specs.declared.archive_fault.ArchiveFault.{ArchiveFault}
 use Rattle.copy_vault.specs.declared.archive_fault.ArchiveFault.TheVariants as archive
 use Rattle.copy_vault.specs.declared.archive_fault.ArchiveWriteFault.{ArchiveWriteFault}
 use Rattle.copy_vault.specs.declared.archive_fault.ArchiveWriteFault.TheVariants as write
+use Rattle.copy_vault.specs.declared.chain_fault.ChainFault.{ChainFault}
+use Rattle.copy_vault.specs.declared.chain_fault.ChainFault.TheVariants as chain
 use Rattle.copy_vault.specs.declared.fault.CopyFault.{CopyFault}
 use Rattle.copy_vault.specs.declared.fault.CopyFault.TheVariants as copy
 
@@ -26,3 +28,8 @@ text_of_copy copy.CopyNotOpen = codes "the copy is complete"
 text_of_copy copy.CopyNotComplete = codes "the copy is still being read"
 text_of_copy (copy.PagesLeft page) = codes "page " ++ decimal page ++ codes " is not decided"
 text_of_copy copy.TooManyCopies = codes "every id was given"
+
+abbrev pub text_of_chain : ChainFault → List ℕ
+text_of_chain chain.OutOfMemory = codes "out of memory"
+text_of_chain (chain.ChainBroken id) =
+    codes "copy " ++ decimal id ++ codes " does not follow those before it"

@@ -1,5 +1,6 @@
 -- The image copies that a vault keeps.
-use Rattle.std.specs.Prelude.{ℕ, ◌≡◌, ◌+◌, ◌-◌, ◌<◌, ◌≤◌, ◌⊎◌, Bool, true, false, List, [], ◌∷◌, ◌++◌, length}
+use Rattle.std.specs.Prelude.{ℕ, ◌≡◌, ◌+◌, ◌-◌, ◌<◌, ◌≤◌, ◌⊎◌, Bool, true, false}
+use Rattle.std.specs.Prelude.{List, [], ◌∷◌, ◌++◌, length}
 use Rattle.std.specs.Prelude.{map, zero, suc}
 use Rattle.std.specs.Prelude.{slice_index_or, slice_set, Option, Some, None, nat_lt, if◌then◌else◌}
 use Rattle.std.specs.Option.{option_map, option_or}
@@ -9,7 +10,8 @@ use Rattle.copy_vault.specs.declared.copy_id.CopyKind.TheVariants.{Full, Inc}
 use Rattle.copy_vault.specs.declared.copy_id.Decision.{Decision}
 use Rattle.copy_vault.specs.declared.copy_id.TheConstants.{MAX_COPIES}
 use Rattle.copy_vault.specs.declared.fault.CopyFault.{CopyFault}
-use Rattle.copy_vault.specs.declared.fault.CopyFault.TheVariants.{OutOfMemory, NoCopy, CopyNotOpen, CopyNotComplete}
+use Rattle.copy_vault.specs.declared.fault.CopyFault.TheVariants.{OutOfMemory, NoCopy, CopyNotOpen}
+use Rattle.copy_vault.specs.declared.fault.CopyFault.TheVariants.{CopyNotComplete}
 use Rattle.copy_vault.specs.declared.fault.CopyFault.TheVariants.{PagesLeft, TooManyCopies}
 use Rattle.copy_vault.specs.declared.vault.Entry.{Entry}
 use Rattle.copy_vault.specs.declared.vault.Entry.TheVariants as entry

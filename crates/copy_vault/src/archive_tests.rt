@@ -1,8 +1,8 @@
 //! The bytes of archives, and which fault those have that are cut or spoiled.
 
 use crate::{
-    ArchiveFault, ArchiveWriteFault, CompleteCopy, CopyFault, CopyId, CopyKind, Decision, Vault,
-    read_archive, write_archive,
+    ArchiveFault, ArchiveWriteFault, Chain, ChainFault, CompleteCopy, CopyFault, CopyId, CopyKind,
+    Decision, Vault, read_archive, write_archive,
 };
 use page_core::{Lsn, PAGE_BYTES, Page, PageNo};
 use std::alloc::Global;
@@ -142,6 +142,36 @@ fn an_archive_is_read_and_written_again(rt: HostRuntime) -> Result<(), Fail> {
         assert_eq!(rt; written(alloc, &copy)?, archive);
     }
     Ok(())
+}
+
+#[test]
+fn archives_are_linked(rt: HostRuntime) -> Result<(), Fail> {
+    let alloc = rt.alloc();
+    let mut copies = Vec::new(alloc);
+    assert_eq!(rt;
+        linked(alloc, &copies, 1),
+        Some(ChainFault::ChainBroken(CopyId(0)))
+    );
+    for (header, pages) in [(OF_ONE_PAGE, 1), (OF_A_KEPT_PAGE, 0)] {
+        let archive = archive_with(alloc, header, pages)?;
+        copies.push(read_archive(alloc, &mut archive.as_slice())?)?;
+    }
+    assert_eq!(rt;
+        linked(alloc, &copies, 1),
+        Some(ChainFault::ChainBroken(CopyId(3)))
+    );
+    assert_eq!(rt;
+        linked(alloc, &copies, 2),
+        Some(ChainFault::ChainBroken(CopyId(1)))
+    );
+    copies.truncate(1);
+    assert_eq!(rt; linked(alloc, &copies, 1), None);
+    Ok(())
+}
+
+/// Why these copies are no chain, if they are none.
+fn linked(alloc: Global, copies: &[CompleteCopy], pages: u32) -> Option<ChainFault> {
+    Chain::link(alloc, copies, pages).err()
 }
 
 #[test]

@@ -1,9 +1,16 @@
 //! A chain of image copies.
 
-ghost use Rattle.std.specs.Prelude.{◌≡◌, ◌<◌, IfOk};
-ghost use Rattle.copy_vault.specs.Chain.{IsChain, content, contents, last_redo, lent, page_count};
+ghost use Rattle.std.specs.Prelude.{◌≡◌, ◌<◌, ◌↔◌, IfOk, IfErr, IfSome, IsTrue, OnOk, None};
+ghost use Rattle.std.specs.List.{AllByRecursion};
+ghost use Rattle.page_core.specs.Volume.{AreNumbered};
+ghost use Rattle.copy_vault.specs.Copy.{IsComplete};
+ghost use Rattle.copy_vault.specs.Chain.{FitFrom, Fits, IsBrokenAt, IsChain, IsRefused, content};
+ghost use Rattle.copy_vault.specs.Chain.{contents, last_redo, lent, page_count};
+ghost use Rattle.copy_vault.specs.declared.copy_id.CopyKind.TheVariants.{Full};
 
+use crate::chain_fault::ChainFault;
 use crate::complete::CompleteCopy;
+use crate::copy_id::{CopyId, CopyKind};
 use page_core::{Lsn, Page, PageNo};
 use std::alloc::{AllocError, Global};
 use std::marker::Model;
@@ -37,9 +44,34 @@ impl<'a> Chain<'a> {
         Chain { members }
     }
 
+    /// The chain of copies that are given in order, as those of archives are, where their volume
+    /// has so many pages. Refusals in order: `ChainBroken`, `OutOfMemory`.
+    pub fn link(
+        alloc: Global,
+        copies: &'a [CompleteCopy],
+        pages: u32,
+    ) -> Result<Chain<'a>, ChainFault>
+        ensures ok { IfOk result (λ chain. chain ≡ copies.now) }
+        ensures fit { OnOk result (FitFrom pages Full copies.now) }
+        ensures err { IfErr result (IsRefused pages copies.now) }
+    {
+        if copies.is_empty() {
+            return Err(ChainFault::ChainBroken(CopyId(0)));
+        }
+        if let Some(id) = first_misfit(copies, pages) {
+            return Err(ChainFault::ChainBroken(id));
+        }
+        let mut members = Vec::with_capacity(alloc, copies.len())?;
+        for i in 0..copies.len() {
+            members.push(&copies[i])?;
+        }
+        Ok(Chain::new(members))
+    }
+
     /// How many pages the volume has.
     pub fn pages(&self) -> u32
-        ensures { result ≡ page_count self.now }
+        ensures count { result ≡ page_count self.now }
+        ensures chain { IsChain self.now }
     {
         self.members[0].pages()
     }
@@ -54,7 +86,8 @@ impl<'a> Chain<'a> {
     /// A page, as the last copy that took it has it.
     pub fn content(&self, number: PageNo) -> &Page
         requires { number < page_count self.now }
-        ensures { result.now ≡ content self.now number }
+        ensures content { result.now ≡ content self.now number }
+        ensures numbered { result.now.number ≡ number }
     {
         let mut later = self.members.len();
         while later > 0 {
@@ -68,7 +101,8 @@ impl<'a> Chain<'a> {
 
     /// All pages, in order of their numbers. It looks at each decision of its copies once at most.
     pub fn contents(&self, alloc: Global) -> Result<Vec<&Page>, AllocError>
-        ensures { IfOk result (λ pages. lent pages.items ≡ contents self.now) }
+        ensures contents { IfOk result (λ pages. lent pages.items ≡ contents self.now) }
+        ensures numbered { OnOk result (AreNumbered (contents self.now)) }
     {
         let count = self.pages();
         let mut pages = Vec::with_capacity(alloc, count as usize)?;
@@ -77,4 +111,30 @@ impl<'a> Chain<'a> {
         }
         Ok(pages)
     }
+}
+
+/// The first copy that does not fit behind those before it.
+fn first_misfit(copies: &[CompleteCopy], pages: u32) -> Option<CopyId>
+    ensures found { IfSome result (IsBrokenAt pages copies.now) }
+    ensures none { result ≡ None → FitFrom pages Full copies.now }
+    ensures complete { result ≡ None
+        → AllByRecursion (λ copy. IsComplete copy.kind copy.pages) copies.now }
+{
+    let mut kind = CopyKind::Full;
+    for i in 0..copies.len() {
+        let copy = &copies[i];
+        if !fits(copy, pages, kind) {
+            return Some(copy.id());
+        }
+        kind = CopyKind::Inc(copy.id());
+    }
+    None
+}
+
+/// Whether a copy is of this kind, and of so many pages.
+fn fits(copy: &CompleteCopy, pages: u32, kind: CopyKind) -> bool
+    ensures fits { IsTrue result ↔ Fits pages kind copy.now }
+    ensures complete { IsComplete copy.now.kind copy.now.pages }
+{
+    copy.kind() == kind && copy.pages() == pages
 }

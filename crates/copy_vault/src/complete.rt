@@ -1,6 +1,6 @@
 //! An image copy that is complete.
 
-ghost use Rattle.std.specs.Prelude.{◌≡◌, ◌<◌, length};
+ghost use Rattle.std.specs.Prelude.{◌≡◌, ◌<◌, length, IfSome};
 ghost use Rattle.copy_vault.specs.Archive.{header_of};
 ghost use Rattle.copy_vault.specs.Copy.{IsComplete, decision_at, page_of, taken_count};
 ghost use Rattle.copy_vault.specs.Slots.{page_list};
@@ -111,7 +111,8 @@ impl CompleteCopy {
     /// The page of this number, if the copy has it.
     pub fn page(&self, number: PageNo) -> Option<&Page>
         requires { number < length self.now.pages }
-        ensures { page_list result ≡ page_of (decision_at self.now.pages number) }
+        ensures found { page_list result ≡ page_of (decision_at self.now.pages number) }
+        ensures numbered { IfSome result (λ page. page.now.number ≡ number) }
     {
         self.slots.page(number)
     }

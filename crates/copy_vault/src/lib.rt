@@ -5,6 +5,7 @@
 mod archive_fault;
 mod archive_laws;
 mod chain;
+mod chain_fault;
 mod complete;
 mod copy_id;
 mod fault;
@@ -19,6 +20,7 @@ mod write;
 pub use archive_fault::{ArchiveFault, ArchiveWriteFault};
 pub use archive_laws::{an_archive_has_no_fault, bytes_have_one_fault, copies_are_spelled_apart};
 pub use chain::Chain;
+pub use chain_fault::ChainFault;
 pub use complete::CompleteCopy;
 pub use copy_id::{CopyId, CopyKind, Decision, MAX_COPIES};
 pub use fault::CopyFault;

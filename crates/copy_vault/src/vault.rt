@@ -10,7 +10,8 @@ ghost use Rattle.copy_vault.specs.Vault.{CopyState, HasRoom, OpenRefuses, answer
 ghost use Rattle.copy_vault.specs.Vault.{complete_of, complete_refusal, inc_refusal, pages_in};
 ghost use Rattle.copy_vault.specs.Vault.{decided, drop_refusal, dropped, open_refusal, opened};
 ghost use Rattle.copy_vault.specs.Vault.{pages_read, reading_of, seal_refusal, sealed, sealed_in};
-ghost use Rattle.copy_vault.specs.Vault.{HasParent, IsKept, IsOfId, since_of, state_in, state_of, taken_in, without};
+ghost use Rattle.copy_vault.specs.Vault.{HasParent, IsKept, IsOfId, since_of, state_in, state_of};
+ghost use Rattle.copy_vault.specs.Vault.{taken_in, without};
 ghost use Rattle.copy_vault.specs.declared.copy_id.CopyKind.TheVariants.{Full, Inc};
 ghost use Rattle.copy_vault.specs.declared.vault.Entry.TheVariants as entry;
 
@@ -128,9 +129,9 @@ impl Vault {
         self.open(alloc, CopyKind::Full, Lsn(0), pages, begin, redo)
     }
 
-    /// Begins an incremental copy of the volume that the copy of this id is of, which is its parent,
-    /// and answers its id: one more than the last one. It notes a checkpoint by its begin LSN and
-    /// redo point. Refusals in order: `NoCopy` and `CopyNotComplete` of the parent,
+    /// Begins an incremental copy of the volume that the copy of this id is of, its parent, and
+    /// answers its id: one more than the last one. It notes a checkpoint by its begin LSN and redo
+    /// point. Refusals in order: `NoCopy` and `CopyNotComplete` of the parent,
     /// `TooManyCopies`, `OutOfMemory`.
     pub fn open_inc(
         &mut self,

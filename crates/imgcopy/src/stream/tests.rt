@@ -1,6 +1,7 @@
 use super::*;
 use page_core::Lsn;
 use std::io;
+use std::io::ErrorKind;
 use std::process::Abort;
 use std::test::Fail;
 

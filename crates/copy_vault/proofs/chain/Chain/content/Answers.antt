@@ -19,8 +19,8 @@ page-requires c =
       ap page_count c.self.view_is,
     )
 
-pub returns-in-Some : goal.returns-in-Some
-returns-in-Some c =
+pub returns-in-Some-clause-content : goal.returns-in-Some-clause-content
+returns-in-Some-clause-content c =
     let refs = c.self.inside.members.items in
     let copy = c.index.result.now in
     let k = c.loop-later.later - 1 in
@@ -31,7 +31,7 @@ returns-in-Some c =
     let next : c.loop-later.later ≡ k + 1 = omega arith in
     sym (content_at (lent refs) k number copy.now c.in-Some.page.now (omega arith)
     (subst (λ n. takings (drop n (lent refs)) number ≡ []) next c.loop-later.invariant.none)
-    (ap (λ (m : CopyView). page_of (decision_at m.pages number)) here ∙ sym c.in-Some.ensures))
+    (ap (λ (m : CopyView). page_of (decision_at m.pages number)) here ∙ sym c.in-Some.ensures.found))
     ∙ ap (λ (ms : List CopyView). content ms number) c.self.view_is
 
 pub loop-later-preserved : goal.loop-later-preserved
@@ -47,7 +47,7 @@ loop-later-preserved c =
     record {
       within = omega arith;
       none = none_later (lent refs) k number copy.now (omega arith)
-          (ap (λ (m : CopyView). page_of (decision_at m.pages number)) here ∙ sym c.in_default.ensures)
+          (ap (λ (m : CopyView). page_of (decision_at m.pages number)) here ∙ sym c.in_default.ensures.found)
           (subst (λ n. takings (drop n (lent refs)) number ≡ []) next c.loop-later.invariant.none);
     }
 
