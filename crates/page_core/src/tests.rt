@@ -1,5 +1,6 @@
 use super::*;
 use crate::field::{u16_at, u32_at, u64_at};
+use std::process::Abort;
 use std::test::Fail;
 
 /// The bytes of page 0 with LSN 192, and 12 in slot 3.
@@ -24,20 +25,29 @@ fn a_page_has_its_bytes(rt: HostRuntime) {
     assert_eq!(rt; Page::from_bytes(&example_bytes()), Ok(page));
 }
 
+/// The bytes of a formatted page whose number has these two lowest bytes.
+fn formatted_bytes(low: u8, high: u8) -> [u8; PAGE_BYTES] {
+    let mut bytes = [0; PAGE_BYTES];
+    bytes[0] = low;
+    bytes[1] = high;
+    bytes[4] = 1;
+    bytes
+}
+
+fn assert_formatted(rt: &impl Abort, number: u32, bytes: &[u8; PAGE_BYTES]) {
+    let page = Page::formatted(PageNo(number));
+    assert_eq!(rt; page.number, PageNo(number));
+    assert_eq!(rt; page.lsn, Lsn(0));
+    assert_eq!(rt; page.slots, [0; SLOTS]);
+    assert_eq!(rt; page.to_bytes(), *bytes);
+    assert_eq!(rt; Page::from_bytes(bytes), Ok(page));
+}
+
 #[test]
 fn a_formatted_page_is_empty(rt: HostRuntime) {
-    for (number, low, high) in [(0, 0, 0), (258, 2, 1), (65_535, 255, 255)] {
-        let page = Page::formatted(PageNo(number));
-        assert_eq!(rt; page.number, PageNo(number));
-        assert_eq!(rt; page.lsn, Lsn(0), "of page {number}");
-        assert_eq!(rt; page.slots, [0; SLOTS], "of page {number}");
-        let mut bytes = [0; PAGE_BYTES];
-        bytes[0] = low;
-        bytes[1] = high;
-        bytes[4] = 1;
-        assert_eq!(rt; page.to_bytes(), bytes, "of page {number}");
-        assert_eq!(rt; Page::from_bytes(&bytes), Ok(page));
-    }
+    assert_formatted(&rt, 0, &formatted_bytes(0, 0));
+    assert_formatted(&rt, 258, &formatted_bytes(2, 1));
+    assert_formatted(&rt, 65_535, &formatted_bytes(255, 255));
 }
 
 #[test]
@@ -101,32 +111,33 @@ fn an_undo_has_its_change(rt: HostRuntime) {
     }
 }
 
+fn assert_no_page(rt: &impl Abort, bytes: &[u8]) {
+    assert_eq!(rt; Page::from_bytes(bytes), Err(BadPage));
+}
+
+/// Format 2, LSN 65 and page 65,536.
 #[test]
-fn other_bytes_are_no_page(rt: HostRuntime) -> Result<(), Fail> {
-    // Format 2, LSN 65 and page 65,536.
+fn other_bytes_are_no_page(rt: HostRuntime) {
     for (index, byte) in [(4, 2), (8, 65), (2, 1)] {
         let mut bytes = example_bytes();
         bytes[index] = byte;
-        assert_eq!(rt;
-            Page::from_bytes(&bytes),
-            Err(BadPage),
-            "with {byte} at {index}"
-        );
+        assert_no_page(&rt, &bytes);
     }
+}
+
+#[test]
+fn a_page_has_512_bytes(rt: HostRuntime) {
     let mut longer = [0; 513];
     longer[4] = 1;
     assert!(rt; Page::from_bytes(&longer[..512]).is_ok());
-    for length in [511, 513] {
-        assert_eq!(rt;
-            Page::from_bytes(&longer[..length]),
-            Err(BadPage),
-            "of {length} bytes"
-        );
-    }
-    assert_eq!(rt;
-        format!(in rt.alloc(); "{BadPage}")?.as_str(),
-        "the bytes are no page"
-    );
+    assert_no_page(&rt, &longer[..511]);
+    assert_no_page(&rt, &longer);
+}
+
+#[test]
+fn a_bad_page_has_a_text(rt: HostRuntime) -> Result<(), Fail> {
+    let printed = format!(in rt.alloc(); "{BadPage}")?;
+    assert_eq!(rt; printed.as_str(), "the bytes are no page");
     Ok(())
 }
 

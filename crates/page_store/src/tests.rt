@@ -130,12 +130,23 @@ fn one_call_fails(rt: HostRuntime) -> Result<(), Fail> {
     Ok(())
 }
 
+/// Makes these calls, and asserts what comes of each.
+fn assert_calls<S: PageStore>(
+    rt: &impl Abort,
+    store: &mut S,
+    calls: &[(Call, Result<u64, StoreFault>)],
+) {
+    for &(call, want) in calls {
+        assert_eq!(rt; make_call(rt, store, call), want, "{call:?}");
+    }
+}
+
 #[test]
 fn a_damaged_page_is_read_once_it_is_written(rt: HostRuntime) -> Result<(), Fail> {
     let alloc = rt.alloc();
     let mut store = FaultyStore::new(alloc, MemStore::new(alloc, 2)?, 3)?;
     store.damage(PageNo(1));
-    for (call, want) in [
+    let calls = [
         (Call::Read(1), Err(StoreFault)),
         (Call::Read(0), Ok(0)),
         // The third call, which fails, and so mends nothing.
@@ -145,9 +156,8 @@ fn a_damaged_page_is_read_once_it_is_written(rt: HostRuntime) -> Result<(), Fail
         (Call::Read(1), Err(StoreFault)),
         (Call::Write(1, 7), Ok(7)),
         (Call::Read(1), Ok(7)),
-    ] {
-        assert_eq!(rt; make_call(&rt, &mut store, call), want, "{call:?}");
-    }
+    ];
+    assert_calls(&rt, &mut store, &calls);
     let written = [page_with(0, 6), page_with(1, 7)];
     assert_eq!(rt; store.stored(), written.as_slice());
     Ok(())
@@ -155,23 +165,22 @@ fn a_damaged_page_is_read_once_it_is_written(rt: HostRuntime) -> Result<(), Fail
 
 #[test]
 fn a_page_is_swapped_in(rt: HostRuntime) -> Result<(), Fail> {
-    let alloc = rt.alloc();
-    let mut store = MemStore::new(alloc, 3)?;
+    let mut store = MemStore::new(rt.alloc(), 3)?;
     let page = page_with(2, 9);
     assert_eq!(rt; swap_in(&mut store, &page), Ok(Page::formatted(PageNo(2))));
     assert_eq!(rt; swap_in(&mut store, &page), Ok(page_with(2, 9)));
+    Ok(())
+}
+
+#[test]
+fn a_swap_fails(rt: HostRuntime) -> Result<(), Fail> {
+    let alloc = rt.alloc();
     for k in [1, 2] {
         let mut store = FaultyStore::new(alloc, MemStore::new(alloc, 3)?, k)?;
-        assert_eq!(rt;
-            swap_in(&mut store, &page),
-            Err(StoreFault),
-            "call {k} fails"
-        );
-        assert_eq!(rt;
-            make_call(&rt, &mut store, Call::Read(2)),
-            Ok(0),
-            "call {k} failed"
-        );
+        let swapped = swap_in(&mut store, &page_with(2, 9));
+        assert_eq!(rt; swapped, Err(StoreFault), "call {k} fails");
+        let read = make_call(&rt, &mut store, Call::Read(2));
+        assert_eq!(rt; read, Ok(0), "call {k} failed");
     }
     Ok(())
 }
@@ -180,14 +189,13 @@ fn a_page_is_swapped_in(rt: HostRuntime) -> Result<(), Fail> {
 fn the_last_page_of_the_largest_store_is_there(rt: HostRuntime) -> Result<(), Fail> {
     let mut store = MemStore::new(rt.alloc(), MAX_PAGES)?;
     assert_eq!(rt; store.pages(), 65_536);
-    for (call, want) in [
-        (Call::Read(65_535), 0),
-        (Call::Write(65_535, 1), 1),
-        (Call::Read(65_535), 1),
-        (Call::Read(65_534), 0),
-    ] {
-        assert_eq!(rt; make_call(&rt, &mut store, call), Ok(want), "{call:?}");
-    }
+    let calls = [
+        (Call::Read(65_535), Ok(0)),
+        (Call::Write(65_535, 1), Ok(1)),
+        (Call::Read(65_535), Ok(1)),
+        (Call::Read(65_534), Ok(0)),
+    ];
+    assert_calls(&rt, &mut store, &calls);
     Ok(())
 }
 
