@@ -73,22 +73,23 @@ lost_of_open rs =
 
 -- ---- their LSNs
 
-lost_above : (rs : List Record) (n : ℕ) (xs : List Record) → AllByRecursion (λ m. n < m) (map own_lsn xs)
-    → All (λ l. n < l.change.lsn) (filter_map (lost_by rs) xs)
-lost_above rs n [] above = All-nil (λ (l : LostChange). n < l.change.lsn)
-lost_above rs n (Update lsn t prev page slot change ∷ xs) above =
+-- what holds of the LSNs of records holds of those of their lost changes
+pub lost_lsns : (P : ℕ → Type 0) (rs xs : List Record) → AllByRecursion P (map own_lsn xs)
+    → All (λ l. P l.change.lsn) (filter_map (lost_by rs) xs)
+lost_lsns P rs [] all = All-nil (λ (l : LostChange). P l.change.lsn)
+lost_lsns P rs (Update lsn t prev page slot change ∷ xs) all =
     let l : LostChange = record {
       txn = t;
       change = record { lsn = lsn; prev = prev; page = page; slot = slot; change = change };
     } in
-    first l (is_lost rs t lsn) above.0 (lost_above rs n xs above.1)
+    first l (is_lost rs t lsn) all.0 (lost_lsns P rs xs all.1)
   where
-    first : (l : LostChange) (b : Bool) → n < l.change.lsn → All (λ l. n < l.change.lsn) (filter_map (lost_by rs) xs)
-        → All (λ l. n < l.change.lsn) (cons_option (cond b (Some l) None) (filter_map (lost_by rs) xs))
+    first : (l : LostChange) (b : Bool) → P l.change.lsn → All (λ l. P l.change.lsn) (filter_map (lost_by rs) xs)
+        → All (λ l. P l.change.lsn) (cons_option (cond b (Some l) None) (filter_map (lost_by rs) xs))
     first l true here rest =
-        All-cons (λ (k : LostChange). n < k.change.lsn) l (filter_map (lost_by rs) xs) here rest
+        All-cons (λ (k : LostChange). P k.change.lsn) l (filter_map (lost_by rs) xs) here rest
     first l false here rest = rest
-lost_above rs n (r ∷ xs) above = lost_above rs n xs above.1
+lost_lsns P rs (r ∷ xs) all = lost_lsns P rs xs all.1
 
 abbrev Below : LostChange → LostChange → Type 0
 Below k l = k.change.lsn < l.change.lsn
@@ -100,7 +101,7 @@ lost_rise rs (Update lsn t prev page slot change ∷ xs) rising =
       txn = t;
       change = record { lsn = lsn; prev = prev; page = page; slot = slot; change = change };
     } in
-    first l (is_lost rs t lsn) (lost_above rs lsn xs rising.0) (lost_rise rs xs rising.1)
+    first l (is_lost rs t lsn) (lost_lsns (λ m. lsn < m) rs xs rising.0) (lost_rise rs xs rising.1)
   where
     first : (l : LostChange) (b : Bool) → All (Below l) (filter_map (lost_by rs) xs)
         → AllPairs Below (filter_map (lost_by rs) xs)

@@ -47,10 +47,10 @@ without_last_push : (ps : List PendingChange) (p : PendingChange) → without_la
 without_last_push ps p = take_at ps (p ∷ []) _ (omega (arith, length_push ps p))
 
 -- what a record of another transaction leaves
-pending_other : (rs : List Record) (r : Record) (t : ℕ) → txn_of r ≢ t → pending (rs ++ r ∷ []) t ≡ pending rs t
+pub pending_other : (rs : List Record) (r : Record) (t : ℕ) → txn_of r ≢ t → pending (rs ++ r ∷ []) t ≡ pending rs t
 pending_other rs r t other = ap (pending_from []) (records_of_push_other rs r t other)
 
-closed_by_end : (rs : List Record) (n t : ℕ) → n ≡ t → is_open (with_end rs n) t ≡ false
+pub closed_by_end : (rs : List Record) (n t : ℕ) → n ≡ t → is_open (with_end rs n) t ≡ false
 closed_by_end rs n t same = is_open_push_own rs (end_of rs n) t refl same ∙ and-false (is_open rs t)
 
 other_from_open : (rs : List Record) (n t : ℕ) → is_open (with_end rs n) t ≡ true → n ≢ t
@@ -175,7 +175,7 @@ module _ (P : List Record → Type 0)
     (ends : (rs : List Record) (t : ℕ) → IsLinked rs → MayFollow rs (end_of rs t) → P rs → P (with_end rs t))
     (comps : (rs : List Record) (l : LostChange) → IsLinked rs → MayFollow rs (comp_of rs l)
     → last_of (pending rs l.txn) ≡ Some l.change → P rs → P (with_comp rs l)) where
-  one_undone : (rs : List Record) (ks : List LostChange) (l : LostChange) → Undoing P rs (ks ++ l ∷ [])
+  pub one_undone : (rs : List Record) (ks : List LostChange) (l : LostChange) → Undoing P rs (ks ++ l ∷ [])
       → Undoing P (without_lost rs l) ks
   unfolding without_lost
   one_undone rs ks l u = by (is_undone mid t) refl
@@ -289,7 +289,7 @@ none_open P rs u = all_out (begun rs)
     all_out (t ∷ ts) = ap (λ b. cond b (t ∷ filter (is_open rs) ts) (filter (is_open rs) ts)) (closed t) ∙ all_out ts
 
 -- which are spent
-spent_idle : (rs : List Record) (t : ℕ) → is_open rs t ≡ true → list_any (λ n. eqb n t) (spent rs) ≡ is_undone rs t
+pub spent_idle : (rs : List Record) (t : ℕ) → is_open rs t ≡ true → list_any (λ n. eqb n t) (spent rs) ≡ is_undone rs t
 spent_idle rs t live =
     let is = λ (n : ℕ). eqb n t in
     let among : list_any is (open_in rs) ≡ true =

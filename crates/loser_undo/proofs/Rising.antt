@@ -39,6 +39,11 @@ others_differ [] n ys rising = above ys rising.0
 others_differ (x ∷ xs) n ys rising =
     let below = all_at (λ m. x < m) xs n ys rising.0 in (omega arith, others_differ xs n ys rising.1)
 
+-- those before it are less
+pub others_below : (xs : List ℕ) (n : ℕ) (ys : List ℕ) → IsRising (xs ++ n ∷ ys) → AllByRecursion (λ m. m < n) xs
+others_below [] n ys rising = tt
+others_below (x ∷ xs) n ys rising = (all_at (λ m. x < m) xs n ys rising.0, others_below xs n ys rising.1)
+
 -- ---- lists that rise
 
 pub rising_from_pairs : (xs : List ℕ) → AllPairs (λ x y. x < y) xs → IsRising xs

@@ -28,11 +28,11 @@ use Rattle.loser_undo.proofs.Phases.{Undoing, all_undone, none_open}
 
 -- ---- what undoes a valid change is valid
 
-undo_fits : (change : Change) → IsChange change → IsChange (undo_of change)
+pub undo_fits : (change : Change) → IsChange change → IsChange (undo_of change)
 undo_fits (Set before after) fits = (omega arith, fits.0)
 undo_fits (Add amount) fits = omega arith
 
-undo_has_no_before : (change : Change) → HasNoBefore (undo_of change)
+pub undo_has_no_before : (change : Change) → HasNoBefore (undo_of change)
 undo_has_no_before (Set before after) = refl
 undo_has_no_before (Add amount) = tt
 
@@ -87,10 +87,10 @@ undone_page log page valid linked =
 -- ---- room
 
 -- the parts of a record of an open transaction at the log's end
-abbrev OpenParts : List Record → ℕ → Type 0
+abbrev pub OpenParts : List Record → ℕ → Type 0
 OpenParts rs t = IsLsn (lsn_of (length rs)) × IsTxn t × IsBefore (lsn_of (length rs)) (last_lsn rs t)
 
-open_parts : (log : Log) (t : ℕ) → IsLog log → IsLinked log.records → is_open log.records t ≡ true
+pub open_parts : (log : Log) (t : ℕ) → IsLog log → IsLinked log.records → is_open log.records t ≡ true
     → OpenParts log.records t
 open_parts log t valid linked still = (
   lsn_is_lsn (length log.records) valid.count,
@@ -165,17 +165,17 @@ undone_length log valid linked =
 
 -- ---- the log comes first
 
-record Begins (rs whole : List Record) : Type 0 where
-  behind : List Record
-  is : whole ≡ rs ++ behind
+pub record Begins (rs whole : List Record) : Type 0 where
+  pub behind : List Record
+  pub is : whole ≡ rs ++ behind
 
-begins_push : (rs whole : List Record) (r : Record) → Begins rs whole → Begins rs (whole ++ r ∷ [])
+pub begins_push : (rs whole : List Record) (r : Record) → Begins rs whole → Begins rs (whole ++ r ∷ [])
 begins_push rs whole r begins = record {
   behind = begins.behind ++ r ∷ [];
   is = ap (λ xs. xs ++ r ∷ []) begins.is ∙ append_assoc rs begins.behind (r ∷ []);
 }
 
-begins_without : (rs whole : List Record) (l : LostChange) → Begins rs whole → Begins rs (without_lost whole l)
+pub begins_without : (rs whole : List Record) (l : LostChange) → Begins rs whole → Begins rs (without_lost whole l)
 unfolding without_lost
 begins_without rs whole l begins = by (is_undone (with_comp whole l) l.txn)
   where
@@ -186,16 +186,16 @@ begins_without rs whole l begins = by (is_undone (with_comp whole l) l.txn)
     by true = begins_push rs (with_comp whole l) (end_of (with_comp whole l) l.txn) after
     by false = after
 
-over : {X : Type 0} (rs : List Record) (f : List Record → X → List Record)
+pub begins_fold : {X : Type 0} (rs : List Record) (f : List Record → X → List Record)
     → ((whole : List Record) (x : X) → Begins rs whole → Begins rs (f whole x)) → (whole : List Record) (xs : List X)
     → Begins rs whole → Begins rs (fold f whole xs)
-over rs f more whole [] begins = begins
-over rs f more whole (x ∷ xs) begins = over rs f more (f whole x) xs (more whole x begins)
+begins_fold rs f more whole [] begins = begins
+begins_fold rs f more whole (x ∷ xs) begins = begins_fold rs f more (f whole x) xs (more whole x begins)
 
 pub log_comes_first : (rs : List Record) → take (length rs) (after_undo rs) ≡ rs
 unfolding after_undo
 log_comes_first rs =
     let none : Begins rs rs = record { behind = []; is = sym (append-nil rs) } in
-    let ends = over rs with_end (λ whole t begins. begins_push rs whole (end_of whole t) begins) rs (spent rs) none in
-    let all = over rs without_lost (begins_without rs) (fold with_end rs (spent rs)) (lost_changes rs) ends in
+    let ends = begins_fold rs with_end (λ whole t begins. begins_push rs whole (end_of whole t) begins) rs (spent rs) none in
+    let all = begins_fold rs without_lost (begins_without rs) (fold with_end rs (spent rs)) (lost_changes rs) ends in
     ap (take (length rs)) all.is ∙ take_at rs all.behind (length rs) refl
