@@ -1,3 +1,4 @@
+pub mod Appends
 pub mod Committed
 pub mod Examples
 pub mod Falling

@@ -1,11 +1,13 @@
 -- The steps in which undo goes over a log make the log after undo.
 use Rattle.std.proofs.Common.{◌≡◌, ◌≢◌, ℕ, ◌+◌, ◌<◌, ◌≤◌, Bool, true, false, cond, ◌&&◌, eqb, List, [], ◌∷◌, ◌++◌, length, get_or, map, take, drop, sym, refl, ap, ap₂, subst, ◌∙◌, inl, inr, arith, append_assoc, append-nil, eq-eqb, ne_eqb}
 use Rattle.std.specs.Prelude.{Option, Some, None, reverse}
-use Rattle.std.specs.List.{All, AllByRecursion, filter, filter_map, fold}
+use Rattle.std.specs.List.{All, AllByRecursion, filter, filter_map, fold, range_with_len}
 use Rattle.std.specs.Option.{option_and_then, option_map_or, option_to_list}
 use Rattle.std.proofs.lemmas.Bool.{cases_Bool}
-use Rattle.std.proofs.lemmas.List.{map-append, reverse-append, reverse-reverse, take_all, take-append-drop, take_more}
+use Rattle.std.proofs.lemmas.List.{map-append, map-id, reverse-append, reverse-reverse, take_all, take-append-drop, take_more}
 use Rattle.std.proofs.lemmas.List.Elements.{All-filter, All-map}
+use Rattle.std.proofs.lemmas.List.FromFn.{map-range_with_len_more}
+use Rattle.std.proofs.lemmas.List.Sums.{fold-append}
 use Rattle.log_records.specs.declared.record.Record.{Record}
 use Rattle.log_records.specs.declared.record.Record.TheVariants.{Begin, Update, Comp, Commit, Abort, End, BeginChkpt, ChkptPages, ChkptTxns, EndChkpt}
 use Rattle.log_records.specs.Log.{IsLog, Log}
@@ -14,7 +16,7 @@ use Rattle.log_history.specs.declared.pending_change.PendingChange.{PendingChang
 use Rattle.log_history.specs.Linked.{IsLinked}
 use Rattle.log_history.specs.Transactions.{begun, is_open, last_of, open_in, pending}
 use Rattle.log_history.proofs.AtEnd.{All-last_of}
-use Rattle.log_history.proofs.Begun.{begun-IsStrictlyIncreasing}
+use Rattle.log_history.proofs.Begun.{begun-IsStrictlyIncreasing, begun_is}
 use Rattle.log_history.proofs.Filters.{filter_map_push}
 use Rattle.log_history.proofs.Pushes.{is_open_push_other}
 use Rattle.loser_undo.specs.Steps.{last_lost, with_end_if_spent, without_last_lost}
@@ -231,3 +233,21 @@ first_stage log valid linked =
 
 pub last_stage : (rs now : List Record) → Stage rs now 0 → now ≡ after_undo rs
 last_stage rs now stage = stage.rest
+
+-- ---- the numbers of the transactions, one by one
+
+range_more : (i : ℕ) → range_with_len 1 (i + 1) ≡ range_with_len 1 i ++ (i + 1) ∷ []
+range_more i =
+    sym (map-id (range_with_len 1 (i + 1))) ∙ map-range_with_len_more (λ n. n) 1 i (i + 1) (omega arith)
+    ∙ ap (λ xs. xs ++ (i + 1) ∷ []) (map-id (range_with_len 1 i))
+
+-- the log with the Ends among the first transactions
+abbrev pub ended_below : List Record → ℕ → List Record
+ended_below rs i = fold with_end_if_spent rs (range_with_len 1 i)
+
+pub ended_more : (rs : List Record) (i : ℕ) → ended_below rs (i + 1) ≡ with_end_if_spent (ended_below rs i) (i + 1)
+ended_more rs i =
+    ap (fold with_end_if_spent rs) (range_more i) ∙ fold-append with_end_if_spent rs (range_with_len 1 i) ((i + 1) ∷ [])
+
+pub all_ended_below : (rs : List Record) → IsLinked rs → ended_below rs (length (begun rs)) ≡ fold with_end rs (spent rs)
+all_ended_below rs linked = ap (fold with_end_if_spent rs) (sym (begun_is rs linked)) ∙ ends_are rs linked

@@ -115,21 +115,20 @@ grows pages rs r has no_more stands =
       room = omega (arith, room, no_more);
     }
 
-room_with_end : (pages : ℕ) (rs : List Record) (t : ℕ) → IsLinked rs → MayFollow rs (end_of rs t) → HasRoom pages rs
-    → HasRoom pages (with_end rs t)
-room_with_end pages rs t linked may has =
-    let parts = open_parts (log_of pages rs) t has.valid linked may.0.still_open in
-    grows pages rs (end_of rs t) has (omega (arith, claimed_push rs (end_of rs t) linked may))
-    (record { lsn = refl; valid = (parts.0, parts.1, parts.2); within = tt })
+pub end_stands : (log : Log) (t : ℕ) → IsLog log → IsLinked log.records → is_open log.records t ≡ true
+    → StandsAt log.pages (lsn_of (length log.records)) (end_of log.records t)
+end_stands log t valid linked still =
+    let parts = open_parts log t valid linked still in
+    record { lsn = refl; valid = (parts.0, parts.1, parts.2); within = tt }
 
-room_with_comp : (pages : ℕ) (rs : List Record) (l : LostChange) → IsLinked rs → MayFollow rs (comp_of rs l)
-    → last_of (pending rs l.txn) ≡ Some l.change → HasRoom pages rs → HasRoom pages (with_comp rs l)
-room_with_comp pages rs l linked may last has =
-    let parts = open_parts (log_of pages rs) l.txn has.valid linked may.0.still_open in
-    let change = last_pending (log_of pages rs) l.txn l.change has.valid last in
+pub comp_stands : (log : Log) (l : LostChange) → IsLog log → IsLinked log.records → is_open log.records l.txn ≡ true
+    → last_of (pending log.records l.txn) ≡ Some l.change
+    → StandsAt log.pages (lsn_of (length log.records)) (comp_of log.records l)
+comp_stands log l valid linked still last =
+    let parts = open_parts log l.txn valid linked still in
+    let change = last_pending log l.txn l.change valid last in
     let fits = change.fits in
-    grows pages rs (comp_of rs l) has (omega (arith, claimed_push rs (comp_of rs l) linked may))
-    (record {
+    record {
       lsn = refl;
       valid = (
         parts.0,
@@ -140,7 +139,19 @@ room_with_comp pages rs l linked may last has =
         undo_has_no_before l.change.change,
       );
       within = change.within;
-    })
+    }
+
+room_with_end : (pages : ℕ) (rs : List Record) (t : ℕ) → IsLinked rs → MayFollow rs (end_of rs t) → HasRoom pages rs
+    → HasRoom pages (with_end rs t)
+room_with_end pages rs t linked may has =
+    grows pages rs (end_of rs t) has (omega (arith, claimed_push rs (end_of rs t) linked may))
+    (end_stands (log_of pages rs) t has.valid linked may.0.still_open)
+
+room_with_comp : (pages : ℕ) (rs : List Record) (l : LostChange) → IsLinked rs → MayFollow rs (comp_of rs l)
+    → last_of (pending rs l.txn) ≡ Some l.change → HasRoom pages rs → HasRoom pages (with_comp rs l)
+room_with_comp pages rs l linked may last has =
+    grows pages rs (comp_of rs l) has (omega (arith, claimed_push rs (comp_of rs l) linked may))
+    (comp_stands (log_of pages rs) l has.valid linked may.0.still_open last)
 
 pub undone_fits : (log : Log) → IsLog log → IsLinked log.records → length log.records + owed log.records ≤ MAX_RECORDS
     → IsLog (record log { records = after_undo log.records })

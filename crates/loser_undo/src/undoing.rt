@@ -6,7 +6,7 @@ ghost use Rattle.log_records.specs.Log.{StandsAt, lsn_of, with_next};
 ghost use Rattle.log_history.specs.Linked.{MayFollow};
 ghost use Rattle.log_history.specs.Transactions.{begun, is_open, last_of, pending};
 ghost use Rattle.loser_undo.specs.Steps.{IsOfUndo, with_end_if_spent, without_last_lost};
-ghost use Rattle.loser_undo.specs.Undo.{with_comp, with_end};
+ghost use Rattle.loser_undo.specs.Undo.{after_undo, spent, with_comp, with_end};
 
 use log_history::PendingChange;
 use log_records::Record;
@@ -99,18 +99,44 @@ impl Undoing {
 
     /// Takes back the change of an Update that is the last pending one of its transaction, and ends
     /// the transaction where nothing is left of it. Another record is passed over.
-    pub fn take_back(&mut self, record: &Record)
+    pub fn take_back(&mut self, next: &Record)
         ensures { self.new ≡ record self.old {
-          records = without_last_lost self.old.records «record».now;
+          records = without_last_lost self.old.records next.now;
         } }
     {
-        if let Record::Update { lsn, txn, .. } = *record {
+        if let Record::Update { lsn, txn, .. } = *next {
             if let Some(change) = self.losers.last_pending(txn) {
                 if change.lsn == lsn {
                     self.compensate(txn, change);
                     self.end_if_spent(txn);
                 }
             }
+        }
+    }
+
+    /// Appends an End for each open transaction with nothing pending, in order of number.
+    fn end_spent(&mut self)
+        ensures { self.new ≡ record self.old {
+          records = fold with_end self.old.records (spent self.old.records);
+        } }
+    {
+        let begun = self.losers.begin().0 - 1;
+        for before in 0..begun {
+            self.end_if_spent(TxnNo(before + 1));
+        }
+    }
+
+    /// Appends all records of undo. It goes over the log once, from its last record to its first,
+    /// and takes no memory.
+    pub fn undo(&mut self)
+        ensures { self.new ≡ record self.old { records = after_undo self.old.records } }
+    {
+        let mut left = self.records.len();
+        self.end_spent();
+        while left > 0 {
+            left -= 1;
+            let next = self.records[left];
+            self.take_back(&next);
         }
     }
 }
