@@ -1,5 +1,5 @@
 -- A log while undo appends to it.
-use Rattle.std.proofs.Common.{◌≡◌, ℕ, ◌+◌, ◌<◌, ◌≤◌, Bool, true, false, cond, ◌&&◌, not, eqb, List, [], ◌∷◌, ◌++◌, length, sym, refl, ap, ap₂, subst, ◌∙◌, inl, inr, arith, eq-eqb, eqb-true}
+use Rattle.std.proofs.Common.{◌≡◌, ℕ, ◌+◌, ◌*◌, ◌<◌, ◌≤◌, Bool, true, false, cond, ◌&&◌, not, eqb, List, [], ◌∷◌, ◌++◌, length, sym, refl, ap, ap₂, subst, ◌∙◌, inl, inr, arith, eq-eqb, eqb-true}
 use Rattle.std.specs.Prelude.{Option, Some, None, Result, Ok, Err, OnOk, is_err}
 use Rattle.std.specs.Option.{option_and_then, option_map_or}
 use Rattle.std.proofs.lemmas.Bool.{cases_Bool}
@@ -19,7 +19,7 @@ use Rattle.log_history.specs.Table.{Table, entry_of, table_of}
 use Rattle.log_history.specs.Transactions.{is_open, last_lsn, last_of, owed, pending}
 use Rattle.log_history.specs.TxnState.{state_of}
 use Rattle.log_history.proofs.AtEnd.{valid_next}
-use Rattle.log_history.proofs.Histories.{linked_push}
+use Rattle.log_history.proofs.Histories.{along_linked, linked_push}
 use Rattle.log_history.proofs.Pushes.{is_open_push}
 use Rattle.log_history.proofs.Room.{claimed_push, needs}
 use Rattle.txn_table.specs.TxnTable.{IsTableOf}
@@ -162,3 +162,21 @@ comp_may_stand log now table capacity t lsn state p change view undoing found at
     (subst (λ (r : Record). StandsAt log.pages (lsn_of (length log.records)) r)
     (sym (ap₂ (λ m n. Comp m t n p.prev p.page p.slot change) here last
     ∙ ap (λ c. Comp (lsn_of (length log.records)) t (last_lsn log.records t) p.prev p.page p.slot c) undoes)) stands)
+
+-- ---- how much may be owed
+
+needs_few : (r : Record) → needs r ≤ 3
+needs_few (Begin lsn t) = omega arith
+needs_few (Update lsn t prev page slot change) = omega arith
+needs_few (BeginChkpt lsn) = omega arith
+needs_few (ChkptPages lsn begin pages) = omega arith
+needs_few (ChkptTxns lsn begin t state last undo) = omega arith
+needs_few (EndChkpt lsn begin redo) = omega arith
+needs_few other = omega arith
+
+pub owed_few : (rs : List Record) → IsLinked rs → length rs + owed rs ≤ 3 * length rs
+owed_few = along_linked (λ rs. length rs + owed rs ≤ 3 * length rs) (omega arith) more
+  where
+    more : (rs : List Record) (r : Record) → IsLinked rs → MayFollow rs r → length rs + owed rs ≤ 3 * length rs
+        → length (rs ++ r ∷ []) + owed (rs ++ r ∷ []) ≤ 3 * length (rs ++ r ∷ [])
+    more rs r linked may few = omega (arith, few, claimed_push rs r linked may, needs_few r, length_push rs r)

@@ -1,10 +1,10 @@
 -- The steps in which undo goes over a log make the log after undo.
-use Rattle.std.proofs.Common.{◌≡◌, ◌≢◌, ℕ, ◌+◌, ◌<◌, ◌≤◌, Bool, true, false, cond, ◌&&◌, eqb, List, [], ◌∷◌, ◌++◌, length, get_or, map, take, drop, sym, refl, ap, ap₂, subst, ◌∙◌, inl, inr, arith, append_assoc, append-nil, eq-eqb, ne_eqb}
+use Rattle.std.proofs.Common.{◌≡◌, ◌≢◌, ℕ, ◌+◌, ◌<◌, ◌≤◌, Bool, true, false, cond, ◌&&◌, eqb, List, [], ◌∷◌, ◌++◌, length, get_or, map, take, drop, sym, refl, ap, ap₂, subst, subst₂, ◌∙◌, inl, inr, arith, append_assoc, append-nil, eq-eqb, ne_eqb, ◌-◌}
 use Rattle.std.specs.Prelude.{Option, Some, None, reverse}
 use Rattle.std.specs.List.{All, AllByRecursion, filter, filter_map, fold, range_with_len}
 use Rattle.std.specs.Option.{option_and_then, option_map_or, option_to_list}
 use Rattle.std.proofs.lemmas.Bool.{cases_Bool}
-use Rattle.std.proofs.lemmas.List.{map-append, map-id, reverse-append, reverse-reverse, take_all, take-append-drop, take_more}
+use Rattle.std.proofs.lemmas.List.{get_or_append_left, length-append, map-append, map-id, reverse-append, reverse-reverse, take_all, take-append-drop, take_more}
 use Rattle.std.proofs.lemmas.List.Elements.{All-filter, All-map}
 use Rattle.std.proofs.lemmas.List.FromFn.{map-range_with_len_more}
 use Rattle.std.proofs.lemmas.List.Sums.{fold-append}
@@ -251,3 +251,36 @@ ended_more rs i =
 
 pub all_ended_below : (rs : List Record) → IsLinked rs → ended_below rs (length (begun rs)) ≡ fold with_end rs (spent rs)
 all_ended_below rs linked = ap (fold with_end_if_spent rs) (sym (begun_is rs linked)) ∙ ends_are rs linked
+
+-- ---- the records from the last to the first
+
+pub first_stage_of : (log now new : Log) (n : ℕ) → log ≡ now → IsLog log → IsLinked log.records
+    → new ≡ record now { records = fold with_end now.records (spent now.records) } → n ≡ length log.records
+    → Stage now.records new.records n
+first_stage_of log now new n view valid linked is count =
+    let here = subst
+    (λ (l : Log). Stage l.records (fold with_end l.records (spent l.records)) (length l.records)) view
+    (first_stage log valid linked) in
+    subst₂ (Stage now.records) (sym (ap (λ (l : Log). l.records) is))
+    (sym (count ∙ ap (λ (l : Log). length l.records) view)) here
+
+-- the log has its first records still
+read_is : (rs now : List Record) (i : ℕ) (d : Record) → Begins rs now → i < length rs → get_or now i d ≡ get_or rs i d
+read_is rs now i d begins within =
+    ap (λ xs. get_or xs i d) begins.is ∙ get_or_append_left rs begins.behind d i within
+
+pub still_long : (rs now : List Record) (n : ℕ) → Stage rs now n → length rs ≤ length now
+still_long rs now n stage =
+    omega (arith, ap length stage.begins.is, length-append rs stage.begins.behind)
+
+pub next_stage : (log now cur new : Log) (r : Record) (i : ℕ) → log ≡ now → IsLog log → 0 < i
+    → i ≤ length now.records → Stage now.records cur.records i → r ≡ get_or cur.records (i - 1) r
+    → new ≡ record cur { records = without_last_lost cur.records r } → Stage now.records new.records (i - 1)
+next_stage log now cur new r i view valid some within stage read is =
+    let valid_now = subst IsLog view valid in
+    let lt : i - 1 < length now.records = omega arith in
+    let here = subst (Stage now.records cur.records) (omega arith) stage in
+    let one = one_stage now valid_now (i - 1) r lt cur.records here in
+    let same = sym (read ∙ read_is now.records cur.records (i - 1) r stage.begins lt) in
+    subst (λ (xs : List Record). Stage now.records xs (i - 1))
+    (ap (without_last_lost cur.records) same ∙ sym (ap (λ (l : Log). l.records) is)) one

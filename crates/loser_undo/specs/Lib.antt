@@ -1,2 +1,3 @@
+pub mod Recovery
 pub mod Steps
 pub mod Undo
