@@ -2,7 +2,7 @@
 use Rattle.std.proofs.Common.{◌≡◌, ℕ, ◌+◌, ◌^◌, ◌<◌, ◌≤◌, Bool, true, false, cond, List, [], ◌∷◌, ◌++◌, length, map, take, sym, refl, ap, subst, ◌∙◌, arith, append_assoc, append-nil}
 use Rattle.std.specs.Prelude.{Some, IfSome}
 use Rattle.std.specs.List.{All, fold, range_with_len}
-use Rattle.std.proofs.lemmas.List.{length_push, take_at}
+use Rattle.std.proofs.lemmas.List.{length-take, length_push, take_at}
 use Rattle.std.proofs.lemmas.List.Elements.{All-push, All-weaker}
 use Rattle.page_core.specs.declared.change.Change.{Change}
 use Rattle.page_core.specs.declared.change.Change.TheVariants.{Set, Add}
@@ -210,3 +210,6 @@ log_comes_first rs =
     let ends = begins_fold rs with_end (λ whole t begins. begins_push rs whole (end_of whole t) begins) rs (spent rs) none in
     let all = begins_fold rs without_lost (begins_without rs) (fold with_end rs (spent rs)) (lost_changes rs) ends in
     ap (take (length rs)) all.is ∙ take_at rs all.behind (length rs) refl
+
+pub grows_by_undo : (rs : List Record) → length rs ≤ length (after_undo rs)
+grows_by_undo rs = omega (arith, ap length (log_comes_first rs), length-take (length rs) (after_undo rs))

@@ -1,6 +1,6 @@
 //! Undo of a whole log.
 
-ghost use Rattle.std.specs.Prelude.{◌≡◌, ◌↔◌, ◌+◌, ◌<◌, ◌≤◌, length, map, IfOk, IfErr, IsErrAnd};
+ghost use Rattle.std.specs.Prelude.{◌≡◌, ◌↔◌, ◌+◌, ◌<◌, ◌≤◌, drop, length, map, IfOk, IfErr, IsErrAnd};
 ghost use Rattle.log_records.specs.declared.limits.TheConstants.{MAX_RECORDS};
 ghost use Rattle.log_records.specs.Image.{AreNumbered, image_from};
 ghost use Rattle.log_records.specs.Log.{AreWithin};
@@ -117,7 +117,7 @@ fn begin(redone: Redone) -> Result<(Undoing, Vec<Page>), Redone>
 }
 
 /// Appends all records of undo, and redoes them on the pages.
-fn finish(mut log: Undoing, mut pages: Vec<Page>) -> Undone
+fn finish(mut log: Undoing, pages: Vec<Page>) -> Undone
     requires { IsRecovery (record { log = log; pages = pages.items }) }
     ensures { result ≡ undone (record { log = log; pages = pages.items }) }
 {
@@ -128,12 +128,23 @@ fn finish(mut log: Undoing, mut pages: Vec<Page>) -> Undone
         records,
         losers: _,
     } = log;
-    redo_records(&mut pages, &records[from..]);
+    let pages = redo_behind(pages, &records, from);
     Undone {
         page_count,
         records,
         pages,
     }
+}
+
+/// Redoes the records from an index on.
+fn redo_behind(mut pages: Vec<Page>, records: &[Record], from: usize) -> Vec<Page>
+    requires from { from ≤ length records.now }
+    requires within { AreWithin (length pages.items) records.now }
+    requires numbered { AreNumbered pages.items }
+    ensures { result.items ≡ map (λ page. image_from page (drop from records.now)) pages.items }
+{
+    redo_records(&mut pages, &records[from..]);
+    pages
 }
 
 /// Redoes records on their pages, in their order.

@@ -19,4 +19,8 @@ pub loop-record-preserved : goal.loop-record-preserved
 loop-record-preserved c =
     let rs = c.args.records.now in
     let i = c.loop-record.record-index in
-    ?
+    let x = c.record-item.result in
+    let before = map (λ page. image_from page (take i rs)) c.args.pages.now in
+    c.redo_on_its_page.ensures ∙ ap (map (λ page. with_record page x)) c.loop-record.invariant
+    ∙ ap (λ (r : Record). map (λ page. with_record page r) before) c.record-item.is
+    ∙ images-more c.args.pages.now rs i x c.loop-record-test.true
