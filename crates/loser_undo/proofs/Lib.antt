@@ -4,6 +4,7 @@ pub mod Examples
 pub mod Falling
 pub mod Loops
 pub mod Lost
+pub mod Pages
 pub mod Phases
 pub mod Rising
 pub mod Valid

@@ -1,10 +1,13 @@
 -- A log and its pages, before undo and after it.
-use Rattle.std.specs.Prelude.{ℕ, ◌≡◌, List, [], drop, length, map}
+use Rattle.std.specs.Prelude.{ℕ, ◌≡◌, ◌<◌, List, [], drop, length, map, slice_index}
+use Rattle.std.specs.Prelude.{slice_index_or}
 use Rattle.page_core.specs.declared.page.Page.{Page}
+use Rattle.page_core.specs.declared.page.TheConstants.{SLOTS}
 use Rattle.page_core.specs.Volume.{AreNumbered}
 use Rattle.log_records.specs.declared.record.Record.{Record}
-use Rattle.log_records.specs.Image.{image_from}
+use Rattle.log_records.specs.Image.{image_from, redo_all}
 use Rattle.log_records.specs.Log.{IsLog, Log}
+use Rattle.log_history.specs.Committed.{committed}
 use Rattle.log_history.specs.Linked.{IsLinked}
 use Rattle.log_history.specs.Table.{Table}
 use Rattle.log_history.specs.Transactions.{open_in}
@@ -43,3 +46,12 @@ pub record IsRedone (r : Recovery) (losers : Table) : Type 0 where
 pub record IsUndone (r : Recovery) : Type 0 where
   pub is : IsRecovery r
   pub closed : open_in r.log.records ≡ []
+
+-- the pages are those that the log makes
+abbrev pub IsWhole : Recovery → Type 0
+IsWhole r = r.pages ≡ redo_all r.log.records r.log.pages
+
+-- each slot of each page has the number that the committed transactions of these records leave
+abbrev pub HasCommitted : List Record → List Page → Type 0
+HasCommitted rs pages = (page slot : ℕ) (d : Page) → page < length pages → slot < SLOTS
+    → slice_index (slice_index_or pages page d).slots slot ≡ committed rs page slot

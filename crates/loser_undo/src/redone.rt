@@ -84,11 +84,34 @@ impl Redone {
         }
     }
 
+    /// How many pages the volume has.
+    pub fn page_count(&self) -> u32
+        ensures { result ≡ self.now.log.pages }
+    {
+        self.page_count
+    }
+
+    /// The records of the log, the oldest first.
+    pub fn records(&self) -> &[Record]
+        ensures { result.now ≡ self.now.log.records }
+    {
+        &self.records
+    }
+
+    /// The pages, in order of their numbers.
+    pub fn pages(&self) -> &[Page]
+        ensures pages { result.now ≡ self.now.pages }
+        ensures kept { IsRecovery self.now }
+    {
+        &self.pages
+    }
+
     /// The records of the log, with those that its open transactions may still need, are more than
     /// a log may have.
     pub(crate) fn is_full(&self) -> bool
-        ensures { IsTrue result ↔ (MAX_RECORDS
+        ensures full { IsTrue result ↔ (MAX_RECORDS
             < length self.now.log.records + owed self.now.log.records) }
+        ensures kept { IsRecovery self.now }
     {
         self.records.len() as u64 + self.losers.owed() > MAX_RECORDS as u64
     }

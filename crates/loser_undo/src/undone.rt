@@ -6,7 +6,7 @@ ghost use Rattle.log_records.specs.Image.{AreNumbered, image_from};
 ghost use Rattle.log_records.specs.Log.{AreWithin};
 ghost use Rattle.log_history.specs.Transactions.{owed};
 ghost use Rattle.loser_undo.specs.declared.fault.UndoFault.TheVariants.{LogFull};
-ghost use Rattle.loser_undo.specs.Recovery.{IsRecovery, undone};
+ghost use Rattle.loser_undo.specs.Recovery.{HasCommitted, IsRecovery, IsWhole, undone};
 
 use crate::fault::UndoFault;
 use crate::redone::Redone;
@@ -68,12 +68,16 @@ impl Undone {
 /// Undo of all transactions that are open at the log's end (ARIES, section 6.3). It appends an End
 /// for each that has nothing pending, and then goes back over the log: it compensates each pending
 /// change, and ends each transaction of which nothing is left. What it appends is redone on the
-/// pages at once, whatever these have.
+/// pages, whatever these have. Where they are those that the log makes, so they are afterwards, and
+/// have what was committed.
 ///
 /// `LogFull` comes where the records do not fit, and `OutOfMemory` where memory for them is
 /// refused. Both come before the first record, and hand the log and its pages back.
 pub fn undo_all(redone: Redone) -> Result<Undone, (Redone, UndoFault)>
     ensures ok { IfOk result (λ it. it ≡ undone redone) }
+    ensures whole { IfOk result (λ it. IsWhole redone → IsWhole it) }
+    ensures committed { IfOk result (λ it. IsWhole redone
+        → HasCommitted redone.log.records it.pages) }
     ensures full { IsErrAnd result (λ e. e.1 ≡ LogFull)
         ↔ (MAX_RECORDS < length redone.log.records + owed redone.log.records) }
     ensures same { IfErr result (λ e. e.0 ≡ redone) }

@@ -15,8 +15,8 @@ overflow_add-result c =
     let is = c.owed.ensures rs made (omega (arith, few, most)) in
     omega (arith, few, most, is, c.len.ensures, it.records.ok.0)
 
-pub returns : goal.returns
-returns c =
+pub returns-clause-full : goal.returns-clause-full
+returns-clause-full c =
     let it = c.self.inside in
     let rs = it.records.items in
     let made = c.self.invariant.made in
