@@ -1,19 +1,17 @@
 -- A log while undo appends to it.
-use Rattle.std.proofs.Common.{◌≡◌, ℕ, ◌+◌, ◌*◌, ◌<◌, ◌≤◌, Bool, true, false, cond, ◌&&◌, not, eqb, List, [], ◌∷◌, ◌++◌, length, sym, refl, ap, ap₂, subst, ◌∙◌, inl, inr, arith, eq-eqb, eqb-true}
-use Rattle.std.specs.Prelude.{Option, Some, None, Result, Ok, Err, OnOk, is_err}
+use Rattle.std.proofs.Common.{◌≡◌, ℕ, ◌+◌, ◌*◌, ◌<◌, ◌≤◌, Bool, true, false, cond, ◌&&◌, not, eqb, List, [], ◌∷◌, ◌++◌, length, sym, refl, ap, ap₂, subst, ◌∙◌, inl, inr, arith, eq-eqb}
+use Rattle.std.specs.Prelude.{Some, None, Result, Ok, Err, OnOk, is_err}
 use Rattle.std.specs.Option.{option_and_then, option_map_or}
 use Rattle.std.proofs.lemmas.Bool.{cases_Bool}
 use Rattle.std.proofs.lemmas.List.{length_push}
 use Rattle.std.proofs.lemmas.Option.{same_Some}
 use Rattle.page_core.specs.declared.change.Change.{Change}
 use Rattle.page_core.specs.Change.{undo_of}
-use Rattle.log_records.specs.declared.limits.TheConstants.{MAX_RECORDS}
 use Rattle.log_records.specs.declared.record.Record.{Record}
 use Rattle.log_records.specs.declared.record.Record.TheVariants.{Begin, Update, Comp, Commit, Abort, End, BeginChkpt, ChkptPages, ChkptTxns, EndChkpt}
-use Rattle.log_records.specs.Log.{IsLog, Log, StandsAt, lsn_of, with_next}
+use Rattle.log_records.specs.Log.{Log, StandsAt, lsn_of, with_next}
 use Rattle.log_history.specs.declared.pending_change.PendingChange.{PendingChange}
 use Rattle.log_history.specs.declared.txn_state.TxnState.{TxnState}
-use Rattle.log_history.specs.Growth.{MayGrow}
 use Rattle.log_history.specs.Linked.{IsLinked, MayFollow}
 use Rattle.log_history.specs.Table.{Table, entry_of, table_of}
 use Rattle.log_history.specs.Transactions.{is_open, last_lsn, last_of, owed, pending}
@@ -22,7 +20,6 @@ use Rattle.log_history.proofs.AtEnd.{valid_next}
 use Rattle.log_history.proofs.Histories.{along_linked, linked_push}
 use Rattle.log_history.proofs.Pushes.{is_open_push}
 use Rattle.log_history.proofs.Room.{claimed_push, needs}
-use Rattle.txn_table.specs.TxnTable.{IsTableOf}
 use Rattle.loser_undo.specs.Steps.{IsOfUndo, IsUndoing, last_lost, with_end_if_spent, without_last_lost}
 use Rattle.loser_undo.proofs.Valid.{comp_stands, end_stands}
 use Rattle.loser_undo.specs.Undo.{LostChange, comp_of, is_undone, with_comp, with_end, without_lost}

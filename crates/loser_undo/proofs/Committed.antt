@@ -1,5 +1,5 @@
 -- Undo appends no Commit.
-use Rattle.std.proofs.Common.{◌≡◌, ℕ, Bool, true, false, cond, List, [], ◌∷◌, ◌++◌, refl, ◌∙◌}
+use Rattle.std.proofs.Common.{◌≡◌, ℕ, Bool, true, false, cond, List, [], ◌∷◌, refl, ◌∙◌}
 use Rattle.std.specs.List.{fold}
 use Rattle.log_records.specs.declared.record.Record.{Record}
 use Rattle.log_history.specs.Committed.{committed}

@@ -4,23 +4,23 @@ use Rattle.std.specs.Prelude.{Option, Some, None, reverse}
 use Rattle.std.specs.List.{All, AllByRecursion, filter, filter_map, fold, range_with_len}
 use Rattle.std.specs.Option.{option_and_then, option_map_or, option_to_list}
 use Rattle.std.proofs.lemmas.Bool.{cases_Bool}
-use Rattle.std.proofs.lemmas.List.{get_or_append_left, length-append, map-append, map-id, reverse-append, reverse-reverse, take_all, take-append-drop, take_more}
+use Rattle.std.proofs.lemmas.List.{get_or_append_left, length-append, map-append, map-id, reverse-append, take_all, take-append-drop, take_more}
 use Rattle.std.proofs.lemmas.List.Elements.{All-filter, All-map}
 use Rattle.std.proofs.lemmas.List.FromFn.{map-range_with_len_more}
 use Rattle.std.proofs.lemmas.List.Sums.{fold-append}
 use Rattle.log_records.specs.declared.record.Record.{Record}
-use Rattle.log_records.specs.declared.record.Record.TheVariants.{Begin, Update, Comp, Commit, Abort, End, BeginChkpt, ChkptPages, ChkptTxns, EndChkpt}
+use Rattle.log_records.specs.declared.record.Record.TheVariants.{Update}
 use Rattle.log_records.specs.Log.{IsLog, Log}
 use Rattle.log_records.specs.Record.{own_lsn}
 use Rattle.log_history.specs.declared.pending_change.PendingChange.{PendingChange}
 use Rattle.log_history.specs.Linked.{IsLinked}
-use Rattle.log_history.specs.Transactions.{begun, is_open, last_of, open_in, pending}
+use Rattle.log_history.specs.Transactions.{begun, is_open, last_of, pending}
 use Rattle.log_history.proofs.AtEnd.{All-last_of}
 use Rattle.log_history.proofs.Begun.{begun-IsStrictlyIncreasing, begun_is}
 use Rattle.log_history.proofs.Filters.{filter_map_push}
 use Rattle.log_history.proofs.Pushes.{is_open_push_other}
 use Rattle.loser_undo.specs.Steps.{last_lost, with_end_if_spent, without_last_lost}
-use Rattle.loser_undo.specs.Undo.{LostChange, after_undo, end_of, is_lost, is_undone, lost_by, lost_changes, spent, with_end, without_lost}
+use Rattle.loser_undo.specs.Undo.{LostChange, after_undo, end_of, is_lost, is_undone, lost_by, spent, with_end, without_lost}
 use Rattle.loser_undo.proofs.Falling.{lost_lsns}
 use Rattle.loser_undo.proofs.Lost.{changes_of, of_txn}
 use Rattle.loser_undo.proofs.Phases.{Undoing, changes_of_own, last_of_push, one_undone, pending_other, undoing_begins}

@@ -1,17 +1,14 @@
 -- The pages of a log after undo.
-use Rattle.std.proofs.Common.{◌≡◌, ℕ, ◌<◌, ◌++◌, List, get_or, length, map, take, drop, sym, refl, ap, subst, ◌∙◌, arith}
+use Rattle.std.proofs.Common.{◌≡◌, ◌<◌, ◌++◌, List, get_or, length, map, sym, ap, ◌∙◌, arith}
 use Rattle.std.specs.Prelude.{slice_index}
-use Rattle.std.proofs.lemmas.List.{length-map, take-append-drop}
+use Rattle.std.proofs.lemmas.List.{take-append-drop}
 use Rattle.page_core.specs.declared.page.Page.{Page}
-use Rattle.page_core.specs.declared.page.TheConstants.{SLOTS}
-use Rattle.log_records.specs.declared.record.Record.{Record}
 use Rattle.log_records.specs.Image.{image_from, redo_all}
 use Rattle.log_records.specs.Log.{IsLog, Log}
 use Rattle.log_records.proofs.Images.{length-redo_all, redo_all-append}
-use Rattle.log_history.specs.Committed.{committed}
-use Rattle.log_history.specs.Linked.{IsLinked, number_in}
+use Rattle.log_history.specs.Linked.{IsLinked}
 use Rattle.log_history.proofs.Followed.{number_of_volume}
-use Rattle.loser_undo.specs.Recovery.{HasCommitted, IsRecovery, IsWhole, Recovery, appended, undone}
+use Rattle.loser_undo.specs.Recovery.{HasCommitted, IsWhole, Recovery, appended, undone}
 use Rattle.loser_undo.specs.Undo.{after_undo}
 use Rattle.loser_undo.proofs.Valid.{log_comes_first, undone_number}
 

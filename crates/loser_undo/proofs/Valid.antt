@@ -1,5 +1,5 @@
 -- The log after undo: its changes are valid, it fits where records plus owed ones do, and it begins with the log.
-use Rattle.std.proofs.Common.{◌≡◌, ℕ, ◌+◌, ◌^◌, ◌<◌, ◌≤◌, Bool, true, false, cond, List, [], ◌∷◌, ◌++◌, length, map, take, sym, refl, ap, subst, ◌∙◌, arith, append_assoc, append-nil}
+use Rattle.std.proofs.Common.{◌≡◌, ℕ, ◌+◌, ◌<◌, ◌≤◌, Bool, true, false, cond, List, [], ◌∷◌, ◌++◌, length, map, take, sym, refl, ap, ◌∙◌, arith, append_assoc, append-nil}
 use Rattle.std.specs.Prelude.{Some, IfSome}
 use Rattle.std.specs.List.{All, fold, range_with_len}
 use Rattle.std.proofs.lemmas.List.{length-take, length_push, take_at}
@@ -10,9 +10,9 @@ use Rattle.page_core.specs.declared.page.TheConstants.{SLOTS}
 use Rattle.page_core.specs.Change.{undo_of}
 use Rattle.log_records.specs.declared.limits.TheConstants.{MAX_RECORDS}
 use Rattle.log_records.specs.declared.record.Record.{Record}
-use Rattle.log_records.specs.declared.record.Record.TheVariants.{Begin, Update, Comp, Commit, Abort, End, BeginChkpt, ChkptPages, ChkptTxns, EndChkpt}
+use Rattle.log_records.specs.declared.record.Record.TheVariants.{Update}
 use Rattle.log_records.specs.Image.{image}
-use Rattle.log_records.specs.Log.{IsLog, Log, StandsAt, lsn_of, with_next}
+use Rattle.log_records.specs.Log.{IsLog, Log, StandsAt, lsn_of}
 use Rattle.log_records.specs.Record.{HasNoBefore, IsBefore, IsChange, IsLsn, IsTxn}
 use Rattle.log_history.specs.declared.pending_change.PendingChange.{PendingChange}
 use Rattle.log_history.specs.Committed.{committed}

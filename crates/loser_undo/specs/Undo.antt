@@ -5,7 +5,7 @@ use Rattle.std.specs.List.{filter_map, fold, list_any}
 use Rattle.page_core.specs.Change.{undo_of}
 use Rattle.log_records.specs.declared.record.Record.{Record}
 use Rattle.log_records.specs.declared.record.Record.TheVariants.{Update, Comp, End}
-use Rattle.log_records.specs.Log.{Log, lsn_of}
+use Rattle.log_records.specs.Log.{lsn_of}
 use Rattle.log_history.specs.declared.pending_change.PendingChange.{PendingChange}
 use Rattle.log_history.specs.Transactions.{is_open, last_lsn, open_in, pending}
 

@@ -1,6 +1,4 @@
-use Rattle.std.proofs.Common.{◌≡◌, ◌∙◌, ap, get_or, length, map, sym, subst, take}
-use Rattle.std.specs.Prelude.{List}
-use Rattle.page_core.specs.declared.page.Page.{Page}
+use Rattle.std.proofs.Common.{◌∙◌, ap, map, sym, subst, take}
 use Rattle.page_core.specs.Volume.{AreNumbered}
 use Rattle.log_records.specs.declared.record.Record.{Record}
 use Rattle.log_records.specs.Image.{image_from, with_record}

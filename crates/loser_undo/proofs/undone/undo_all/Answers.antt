@@ -1,4 +1,4 @@
-use Rattle.std.proofs.Common.{◌≡◌, List, ap₂, subst, sym, ◌∙◌}
+use Rattle.std.proofs.Common.{List, ap₂, subst, sym, ◌∙◌}
 use Rattle.page_core.specs.declared.page.Page.{Page}
 use Rattle.log_records.specs.Log.{Log}
 use Rattle.loser_undo.specs.Recovery.{HasCommitted, IsWhole, Recovery, undone}

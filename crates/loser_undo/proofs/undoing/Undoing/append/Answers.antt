@@ -1,4 +1,4 @@
-use Rattle.std.proofs.Common.{◌≡◌, ◌∷◌, [], ◌++◌, ℕ, List, length, sym, ap, subst, subst₂, ◌∙◌, arith}
+use Rattle.std.proofs.Common.{ℕ, List, length, sym, subst, subst₂, ◌∙◌, arith}
 use Rattle.log_records.specs.declared.record.Record.{Record}
 use Rattle.log_records.specs.Log.{Log, StandsAt, lsn_of}
 use Rattle.log_history.specs.Linked.{MayFollow}

@@ -1,5 +1,4 @@
 use Rattle.std.proofs.Common.{◌≡◌}
-use Rattle.log_records.specs.Log.{Log}
 use Rattle.loser_undo.proofs.Loops.{ended_below}
 use Rattle.loser_undo.proofs.undoing.Undoing.end_spent.Given as goal
 

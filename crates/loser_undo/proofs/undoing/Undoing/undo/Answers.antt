@@ -1,4 +1,4 @@
-use Rattle.std.proofs.Common.{◌≡◌, ◌-◌, ◌≤◌, get_or, length, sym, ap, ◌∙◌, arith, le_of_eq}
+use Rattle.std.proofs.Common.{◌≡◌, ◌-◌, get_or, length, ap, ◌∙◌, arith, le_of_eq}
 use Rattle.log_records.specs.Log.{Log}
 use Rattle.loser_undo.proofs.Loops.{first_stage_of, next_stage}
 use Rattle.loser_undo.proofs.undoing.Undoing.undo.Goals as goal
