@@ -20,9 +20,9 @@ use Rattle.log_history.proofs.AtEnd.{valid_next}
 use Rattle.log_history.proofs.Histories.{along_linked, linked_push}
 use Rattle.log_history.proofs.Pushes.{is_open_push}
 use Rattle.log_history.proofs.Room.{claimed_push, needs}
-use Rattle.loser_undo.specs.Steps.{IsOfUndo, IsUndoing, last_lost, with_end_if_spent, without_last_lost}
+use Rattle.loser_undo.specs.Steps.{IsOfUndo, IsUndoing, last_lost, with_end_if_spent, last_taken_back}
 use Rattle.loser_undo.proofs.Valid.{comp_stands, end_stands}
-use Rattle.loser_undo.specs.Undo.{LostChange, comp_of, is_undone, with_comp, with_end, without_lost}
+use Rattle.loser_undo.specs.Undo.{LostChange, comp_of, is_undone, with_comp, with_end, taken_back}
 
 -- what an answer that is no `Err` says
 pub said : {T E : Type 0} (r : Result T E) (P : Type 0) → is_err r ≡ false → OnOk r P → P
@@ -108,12 +108,12 @@ open_from_last rs t p found = elim (cases_Bool (is_open rs t)) [
       let none = sym (ap (λ b. cond b (last_of (pending rs t)) None) shut) ∙ found in cc
 ]
 
-pub taken_back : (rs : List Record) (r : Record) (lsn t prev page slot : ℕ) (change : Change) (p : PendingChange)
+pub takes_back_last : (rs : List Record) (r : Record) (lsn t prev page slot : ℕ) (change : Change) (p : PendingChange)
     → r ≡ Update lsn t prev page slot change → cond (is_open rs t) (last_of (pending rs t)) None ≡ Some p
     → p.lsn ≡ lsn
-    → with_end_if_spent (with_comp rs (record { txn = t; change = p })) t ≡ without_last_lost rs r
-unfolding without_lost
-taken_back rs r lsn t prev page slot change p is found same =
+    → with_end_if_spent (with_comp rs (record { txn = t; change = p })) t ≡ last_taken_back rs r
+unfolding taken_back
+takes_back_last rs r lsn t prev page slot change p is found same =
     let l : LostChange = record { txn = t; change = p } in
     let after = with_comp rs l in
     let chosen = λ (q : PendingChange). cond (eqb q.lsn lsn) (Some (let k : LostChange = record {
@@ -124,7 +124,7 @@ taken_back rs r lsn t prev page slot change p is found same =
     ap (last_lost rs) is ∙ ap (option_and_then chosen) found ∙ ap (λ b. cond b (Some l) None) (eq-eqb p.lsn lsn same) in
     ap (λ b. cond (b && is_undone after t) (with_end after t) after)
     (still_open_after rs l (open_from_last rs t p found))
-    ∙ sym (ap (λ o. option_map_or (without_lost rs) o rs) last)
+    ∙ sym (ap (λ o. option_map_or (taken_back rs) o rs) last)
 
 -- ---- the records as the code writes them
 

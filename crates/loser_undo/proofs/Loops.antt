@@ -19,8 +19,8 @@ use Rattle.log_history.proofs.AtEnd.{All-last_of}
 use Rattle.log_history.proofs.Begun.{begun-IsStrictlyIncreasing, begun_is}
 use Rattle.log_history.proofs.Filters.{filter_map_push}
 use Rattle.log_history.proofs.Pushes.{is_open_push_other}
-use Rattle.loser_undo.specs.Steps.{last_lost, with_end_if_spent, without_last_lost}
-use Rattle.loser_undo.specs.Undo.{LostChange, after_undo, end_of, is_lost, is_undone, lost_by, spent, with_end, without_lost}
+use Rattle.loser_undo.specs.Steps.{last_lost, with_end_if_spent, last_taken_back}
+use Rattle.loser_undo.specs.Undo.{LostChange, after_undo, end_of, is_lost, is_undone, lost_by, spent, with_end, taken_back}
 use Rattle.loser_undo.proofs.Falling.{lost_lsns}
 use Rattle.loser_undo.proofs.Lost.{changes_of, of_txn}
 use Rattle.loser_undo.proofs.Phases.{Undoing, changes_of_own, last_of_push, one_undone, pending_other, undoing_begins}
@@ -99,7 +99,7 @@ lost_in rs i = filter_map (lost_by rs) (take i rs)
 -- undo has come down to the record at an index
 pub record Stage (rs now : List Record) (i : ℕ) : Type 0 where
   pub undoing : Undoing Any now (lost_in rs i)
-  pub rest : fold without_lost now (reverse (lost_in rs i)) ≡ after_undo rs
+  pub rest : fold taken_back now (reverse (lost_in rs i)) ≡ after_undo rs
   pub begins : Begins rs now
 
 -- the changes of a list of which each is below an LSN
@@ -163,7 +163,7 @@ last_is_lost rs now r ks undoing below = refl
 
 module _ (log : Log) (valid : IsLog log) (i : ℕ) (d : Record) (within : i < length log.records) where
   pub one_stage : (now : List Record) → Stage log.records now (i + 1)
-      → Stage log.records (without_last_lost now (get_or log.records i d)) i
+      → Stage log.records (last_taken_back now (get_or log.records i d)) i
   one_stage now stage = by (lost_by log.records r) refl
     where
       r : Record
@@ -193,27 +193,27 @@ module _ (log : Log) (valid : IsLog log) (i : ℕ) (d : Record) (within : i < le
       last : last_lost now r ≡ lost_by log.records r
       last = last_is_lost log.records now r ks undoing below
 
-      rest : fold without_lost now (reverse (ks ++ option_to_list (lost_by log.records r))) ≡ after_undo log.records
-      rest = ap (λ ls. fold without_lost now (reverse ls)) (sym more) ∙ stage.rest
+      rest : fold taken_back now (reverse (ks ++ option_to_list (lost_by log.records r))) ≡ after_undo log.records
+      rest = ap (λ ls. fold taken_back now (reverse ls)) (sym more) ∙ stage.rest
 
-      by : (o : Option LostChange) → lost_by log.records r ≡ o → Stage log.records (without_last_lost now r) i
+      by : (o : Option LostChange) → lost_by log.records r ≡ o → Stage log.records (last_taken_back now r) i
       by None is =
-          let same : without_last_lost now r ≡ now = ap (λ o. option_map_or (without_lost now) o now) (last ∙ is) in
+          let same : last_taken_back now r ≡ now = ap (λ o. option_map_or (taken_back now) o now) (last ∙ is) in
           let none = ap (λ o. ks ++ option_to_list o) is ∙ append-nil ks in
           subst (λ xs. Stage log.records xs i) (sym same) (record {
             undoing = subst (Undoing Any now) none undoing;
-            rest = ap (λ ls. fold without_lost now (reverse ls)) (sym none) ∙ rest;
+            rest = ap (λ ls. fold taken_back now (reverse ls)) (sym none) ∙ rest;
             begins = stage.begins;
           })
       by (Some l) is =
-          let same : without_last_lost now r ≡ without_lost now l =
-          ap (λ o. option_map_or (without_lost now) o now) (last ∙ is) in
+          let same : last_taken_back now r ≡ taken_back now l =
+          ap (λ o. option_map_or (taken_back now) o now) (last ∙ is) in
           let one = ap (λ o. ks ++ option_to_list o) is in
-          let first = ap (fold without_lost now) (sym (reverse-append ks (l ∷ []))) in
+          let first = ap (fold taken_back now) (sym (reverse-append ks (l ∷ []))) in
           subst (λ xs. Stage log.records xs i) (sym same) (record {
             undoing = one_undone Any (λ xs t linked may has. tt) (λ xs k linked may found has. tt) now ks l
                 (subst (Undoing Any now) one undoing);
-            rest = first ∙ ap (λ ls. fold without_lost now (reverse ls)) (sym one) ∙ rest;
+            rest = first ∙ ap (λ ls. fold taken_back now (reverse ls)) (sym one) ∙ rest;
             begins = begins_without log.records now l stage.begins;
           })
 
@@ -227,7 +227,7 @@ first_stage log valid linked =
     let none : Begins rs rs = record { behind = []; is = sym (append-nil rs) } in
     record {
       undoing = subst (Undoing Any start) (sym whole) (undoing_begins Any (λ xs t linked may has. tt) log valid linked tt);
-      rest = ap (λ ls. fold without_lost start (reverse ls)) whole;
+      rest = ap (λ ls. fold taken_back start (reverse ls)) whole;
       begins = begins_fold rs with_end (λ now t begins. begins_push rs now (end_of now t) begins) rs (spent rs) none;
     }
 
@@ -275,7 +275,7 @@ still_long rs now n stage =
 
 pub next_stage : (log now cur new : Log) (r : Record) (i : ℕ) → log ≡ now → IsLog log → 0 < i
     → i ≤ length now.records → Stage now.records cur.records i → r ≡ get_or cur.records (i - 1) r
-    → new ≡ record cur { records = without_last_lost cur.records r } → Stage now.records new.records (i - 1)
+    → new ≡ record cur { records = last_taken_back cur.records r } → Stage now.records new.records (i - 1)
 next_stage log now cur new r i view valid some within stage read is =
     let valid_now = subst IsLog view valid in
     let lt : i - 1 < length now.records = omega arith in
@@ -283,4 +283,4 @@ next_stage log now cur new r i view valid some within stage read is =
     let one = one_stage now valid_now (i - 1) r lt cur.records here in
     let same = sym (read ∙ read_is now.records cur.records (i - 1) r stage.begins lt) in
     subst (λ (xs : List Record). Stage now.records xs (i - 1))
-    (ap (without_last_lost cur.records) same ∙ sym (ap (λ (l : Log). l.records) is)) one
+    (ap (last_taken_back cur.records) same ∙ sym (ap (λ (l : Log). l.records) is)) one

@@ -19,7 +19,7 @@ use Rattle.log_history.proofs.Begun.{open_has_begun, open_in-IsStrictlyIncreasin
 use Rattle.log_history.proofs.Filters.{filter_push_in, filter_push_out}
 use Rattle.log_history.proofs.Histories.{linked_push}
 use Rattle.log_history.proofs.Pushes.{is_open_push, is_open_push_other, is_open_push_own, pending_push, records_of_push_other}
-use Rattle.loser_undo.specs.Undo.{LostChange, after_undo, comp_of, end_of, is_lost, is_undone, lost_by, lost_changes, spent, with_comp, with_end, without_lost}
+use Rattle.loser_undo.specs.Undo.{LostChange, after_undo, comp_of, end_of, is_lost, is_undone, lost_by, lost_changes, spent, with_comp, with_end, taken_back}
 use Rattle.loser_undo.proofs.Lost.{changes_of, of_txn, pending_is_lost}
 use Rattle.loser_undo.proofs.Rising.{IsRising, rising_from_increasing}
 
@@ -176,8 +176,8 @@ module _ (P : List Record → Type 0)
     (comps : (rs : List Record) (l : LostChange) → IsLinked rs → MayFollow rs (comp_of rs l)
     → last_of (pending rs l.txn) ≡ Some l.change → P rs → P (with_comp rs l)) where
   pub one_undone : (rs : List Record) (ks : List LostChange) (l : LostChange) → Undoing P rs (ks ++ l ∷ [])
-      → Undoing P (without_lost rs l) ks
-  unfolding without_lost
+      → Undoing P (taken_back rs l) ks
+  unfolding taken_back
   one_undone rs ks l u = by (is_undone mid t) refl
     where
       t : ℕ
@@ -267,10 +267,10 @@ module _ (P : List Record → Type 0)
           }
 
   each_undone : (rs : List Record) (ls : List LostChange) → Undoing P rs (reverse ls)
-      → Undoing P (fold without_lost rs ls) []
+      → Undoing P (fold taken_back rs ls) []
   each_undone rs [] u = u
   each_undone rs (l ∷ ls) u =
-      each_undone (without_lost rs l) ls (one_undone rs (reverse ls) l (subst (Undoing P rs) (reverse-cons l ls) u))
+      each_undone (taken_back rs l) ls (one_undone rs (reverse ls) l (subst (Undoing P rs) (reverse-cons l ls) u))
 
 -- ---- both
 

@@ -22,7 +22,7 @@ use Rattle.log_history.proofs.AtEnd.{All-last_of, All-pending, last_lsn_is_befor
 use Rattle.log_history.proofs.Owned.{HasChange}
 use Rattle.log_history.proofs.Room.{claimed, claimed_push}
 use Rattle.log_history.proofs.Undone.{changes_of_log, number_is_committed, slots_are_committed}
-use Rattle.loser_undo.specs.Undo.{LostChange, after_undo, comp_of, end_of, is_undone, lost_changes, spent, with_comp, with_end, without_lost}
+use Rattle.loser_undo.specs.Undo.{LostChange, after_undo, comp_of, end_of, is_undone, lost_changes, spent, with_comp, with_end, taken_back}
 use Rattle.loser_undo.proofs.Committed.{committed_stays}
 use Rattle.loser_undo.proofs.Phases.{Undoing, all_undone, none_open}
 
@@ -186,8 +186,8 @@ begins_push rs whole r begins = record {
   is = ap (λ xs. xs ++ r ∷ []) begins.is ∙ append_assoc rs begins.behind (r ∷ []);
 }
 
-pub begins_without : (rs whole : List Record) (l : LostChange) → Begins rs whole → Begins rs (without_lost whole l)
-unfolding without_lost
+pub begins_without : (rs whole : List Record) (l : LostChange) → Begins rs whole → Begins rs (taken_back whole l)
+unfolding taken_back
 begins_without rs whole l begins = by (is_undone (with_comp whole l) l.txn)
   where
     after : Begins rs (with_comp whole l)
@@ -208,7 +208,7 @@ unfolding after_undo
 log_comes_first rs =
     let none : Begins rs rs = record { behind = []; is = sym (append-nil rs) } in
     let ends = begins_fold rs with_end (λ whole t begins. begins_push rs whole (end_of whole t) begins) rs (spent rs) none in
-    let all = begins_fold rs without_lost (begins_without rs) (fold with_end rs (spent rs)) (lost_changes rs) ends in
+    let all = begins_fold rs taken_back (begins_without rs) (fold with_end rs (spent rs)) (lost_changes rs) ends in
     ap (take (length rs)) all.is ∙ take_at rs all.behind (length rs) refl
 
 pub grows_by_undo : (rs : List Record) → length rs ≤ length (after_undo rs)

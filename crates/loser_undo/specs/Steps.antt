@@ -9,7 +9,7 @@ use Rattle.log_records.specs.Log.{IsLog, Log}
 use Rattle.log_history.specs.Table.{Table}
 use Rattle.log_history.specs.Transactions.{is_open, last_of, owed, pending}
 use Rattle.txn_table.specs.TxnTable.{IsTableOf}
-use Rattle.loser_undo.specs.Undo.{LostChange, is_undone, with_end, without_lost}
+use Rattle.loser_undo.specs.Undo.{LostChange, is_undone, with_end, taken_back}
 
 -- a record that undo appends
 abbrev pub IsOfUndo : Record → Type 0
@@ -28,9 +28,9 @@ last_lost rs (Update lsn txn prev page slot change) = option_and_then
     (if is_open rs txn then last_of (pending rs txn) else None)
 last_lost rs other = None
 
--- without that change
-abbrev pub without_last_lost : List Record → Record → List Record
-without_last_lost rs r = option_map_or (without_lost rs) (last_lost rs r) rs
+-- with that change taken back
+abbrev pub last_taken_back : List Record → Record → List Record
+last_taken_back rs r = option_map_or (taken_back rs) (last_lost rs r) rs
 
 -- a log that is being undone, with the table of its transactions, and room for what they may need
 pub record IsUndoing (log : Log) (table : Table) (capacity : ℕ) : Type 0 where

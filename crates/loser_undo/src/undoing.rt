@@ -5,7 +5,7 @@ ghost use Rattle.std.specs.List.{fold};
 ghost use Rattle.log_records.specs.Log.{StandsAt, lsn_of, with_next};
 ghost use Rattle.log_history.specs.Linked.{MayFollow};
 ghost use Rattle.log_history.specs.Transactions.{begun, is_open, last_of, pending};
-ghost use Rattle.loser_undo.specs.Steps.{IsOfUndo, with_end_if_spent, without_last_lost};
+ghost use Rattle.loser_undo.specs.Steps.{IsOfUndo, with_end_if_spent, last_taken_back};
 ghost use Rattle.loser_undo.specs.Undo.{after_undo, spent, with_comp, with_end};
 
 use log_history::PendingChange;
@@ -101,7 +101,7 @@ impl Undoing {
     /// the transaction where nothing is left of it. Another record is passed over.
     pub fn take_back(&mut self, next: &Record)
         ensures { self.new ≡ record self.old {
-          records = without_last_lost self.old.records next.now;
+          records = last_taken_back self.old.records next.now;
         } }
     {
         if let Record::Update { lsn, txn, .. } = *next {
