@@ -12,9 +12,21 @@ pub struct Record {
     step: Step,
 }
 
+/// Up to three pages, each with its RecLSN.
+struct Entries {
+    entries: [(u32, u64); 3],
+    count: usize,
+}
+
+impl Entries {
+    fn all(&self) -> &[(u32, u64)] {
+        &self.entries[..self.count]
+    }
+}
+
 enum Step {
     Begin,
-    Pages(Vec<(u32, u64)>),
+    Pages(Entries),
     Transaction {
         transaction: u32,
         is_rolling: bool,
@@ -54,16 +66,12 @@ pub fn read(bytes: &[u8], lsn: u64, page_count: u32) -> Option<Record> {
             if !(1..=3).contains(&count) {
                 return None;
             }
-            let entry = |index| {
-                (
-                    u32_at(bytes, 20 + 12 * index),
-                    u64_at(bytes, 24 + 12 * index),
-                )
-            };
-            (
-                Step::Pages((0..count).map(entry).collect()),
-                20 + 12 * count,
-            )
+            let entries = std::array::from_fn(|index| {
+                let at = 20 + 12 * index;
+                (u32_at(bytes, at), u64_at(bytes, at + 4))
+            });
+            let used = 20 + 12 * count;
+            (Step::Pages(Entries { entries, count }), used)
         }
         CHKPT_TXNS => {
             let state = u32_at(bytes, 24);
@@ -91,8 +99,9 @@ pub fn read(bytes: &[u8], lsn: u64, page_count: u32) -> Option<Record> {
     let is_right = match &step {
         Step::Begin => begin == 0,
         Step::Pages(entries) => {
-            entries.windows(2).all(|pair| pair[0].0 < pair[1].0)
+            entries.all().windows(2).all(|pair| pair[0].0 < pair[1].0)
                 && entries
+                    .all()
                     .iter()
                     .all(|entry| entry.0 < page_count && is_before(entry.1))
         }
@@ -130,7 +139,7 @@ impl Checkpoints {
         match &record.step {
             Step::Begin => unreachable!("a BeginChkpt was taken above"),
             Step::Pages(entries) => {
-                for (page, rec_lsn) in entries {
+                for (page, rec_lsn) in entries.all() {
                     let index = *rec_lsn as usize / RECORD_SIZE - 1;
                     if changed.get(index) != Some(page) || open.last_page >= Some(*page) {
                         return None;

@@ -2,9 +2,10 @@
 //! may follow those before it. The same arguments always give the same bytes. README.md says what the shapes are.
 
 use bench::{
-    ABORT, ADD, BEGIN, COMMIT, COMP, END, HEADER_SIZE, MAGIC, MOST_OPEN, MOST_PAGES, MOST_RECORDS,
-    RECORD_SIZE, SET, SLOTS, UPDATE,
+    ABORT, ADD, BEGIN, BEGIN_CHKPT, CHKPT_PAGES, CHKPT_TXNS, COMMIT, COMP, END, END_CHKPT,
+    HEADER_SIZE, MAGIC, MOST_OPEN, MOST_PAGES, MOST_RECORDS, RECORD_SIZE, SET, SLOTS, UPDATE,
 };
+use std::collections::BTreeMap;
 use std::io::{self, BufWriter, Write};
 use std::process::ExitCode;
 
@@ -21,15 +22,17 @@ enum Shape {
     Interleaved,
     Rollback,
     Mixed,
+    Checkpoints,
 }
 
-const SHAPES: [(&str, Shape); 6] = [
+const SHAPES: [(&str, Shape); 7] = [
     ("uniform", Shape::Uniform),
     ("hot", Shape::Hot),
     ("short", Shape::Short),
     ("interleaved", Shape::Interleaved),
     ("rollback", Shape::Rollback),
     ("mixed", Shape::Mixed),
+    ("checkpoints", Shape::Checkpoints),
 ];
 
 impl Shape {
@@ -130,10 +133,11 @@ struct Change {
     kind: ChangeKind,
 }
 
-/// A change that is not taken back: the number that its undo has, and its record's PrevLSN.
+/// A change that is not taken back: the number that its undo has, its record's LSN, and its PrevLSN.
 struct Pending {
     change: Change,
     undo: u64,
+    lsn: u64,
     previous: u64,
 }
 
@@ -145,10 +149,20 @@ impl Change {
 
 struct Transaction {
     number: u32,
+    first_lsn: u64,
     last_lsn: u64,
     pending: Vec<Pending>,
     wanted_changes: u64,
     is_rolling: bool,
+}
+
+/// A checkpoint that is open, as an engine makes one.
+struct Checkpoint {
+    begin: u64,
+    redo: u64,
+    /// The pages that are not in it yet, each with its RecLSN.
+    pages: BTreeMap<u32, u64>,
+    last_transaction: u32,
 }
 
 /// The bytes of one record, all zero at first.
@@ -177,6 +191,43 @@ impl Record {
     }
 }
 
+impl Checkpoint {
+    fn pages_record(&mut self, lsn: u64) -> Record {
+        let mut record = Record::new(CHKPT_PAGES, 0, self.begin, lsn);
+        let mut count = 0u32;
+        while let Some((page, rec_lsn)) = (count < 3).then(|| self.pages.pop_first()).flatten() {
+            let at = 20 + 12 * count as usize;
+            record.put(at, &page.to_le_bytes());
+            record.put(at + 4, &rec_lsn.to_le_bytes());
+            self.redo = self.redo.min(rec_lsn);
+            count += 1;
+        }
+        record.put(16, &count.to_le_bytes());
+        record
+    }
+
+    fn transaction_record(&mut self, open: &Transaction, lsn: u64) -> Record {
+        let mut record = Record::new(CHKPT_TXNS, 0, self.begin, lsn);
+        let state: u32 = if open.is_rolling { 2 } else { 1 };
+        let undo_next = open
+            .pending
+            .last()
+            .map_or(open.first_lsn, |pending| pending.lsn);
+        record.put(20, &open.number.to_le_bytes());
+        record.put(24, &state.to_le_bytes());
+        record.put(28, &open.last_lsn.to_le_bytes());
+        record.put(36, &undo_next.to_le_bytes());
+        self.last_transaction = open.number;
+        record
+    }
+
+    fn end_record(&self, lsn: u64) -> Record {
+        let mut record = Record::new(END_CHKPT, 0, self.begin, lsn);
+        record.put(24, &self.redo.to_le_bytes());
+        record
+    }
+}
+
 struct Generator {
     random: Random,
     shape: Shape,
@@ -188,6 +239,9 @@ struct Generator {
     last_transaction: u32,
     /// The transaction whose turn it is, where they take turns.
     turn: usize,
+    /// The pages that were changed since the last checkpoint began, each with the LSN of the first change.
+    changed: BTreeMap<u32, u64>,
+    checkpoint: Option<Checkpoint>,
 }
 
 impl Generator {
@@ -204,10 +258,16 @@ impl Generator {
             open: Vec::new(),
             last_transaction: 0,
             turn: 0,
+            changed: BTreeMap::new(),
+            checkpoint: None,
         }
     }
 
     fn next_record(&mut self, lsn: u64) -> Record {
+        let is_turn_of_checkpoint = lsn / RECORD_SIZE as u64 % 2 == 0;
+        if self.shape == Shape::Checkpoints && is_turn_of_checkpoint {
+            return self.go_on_with_checkpoint(lsn);
+        }
         if self.open.len() < self.open_transactions() {
             return self.begin(lsn);
         }
@@ -223,6 +283,29 @@ impl Generator {
             Some(change) => self.update(chosen, change, lsn),
             None => self.commit(chosen, lsn),
         }
+    }
+
+    /// The next record of the open checkpoint: up to three pages, or else a transaction, or else its end. Where none is
+    /// open, the next one begins.
+    fn go_on_with_checkpoint(&mut self, lsn: u64) -> Record {
+        let Some(mut checkpoint) = self.checkpoint.take() else {
+            self.checkpoint = Some(Checkpoint {
+                begin: lsn,
+                redo: lsn,
+                pages: std::mem::take(&mut self.changed),
+                last_transaction: 0,
+            });
+            return Record::new(BEGIN_CHKPT, 0, 0, lsn);
+        };
+        let past = checkpoint.last_transaction;
+        let open = self.open.iter().filter(|open| open.number > past);
+        let record = match open.min_by_key(|open| open.number) {
+            _ if !checkpoint.pages.is_empty() => checkpoint.pages_record(lsn),
+            Some(next) => checkpoint.transaction_record(next, lsn),
+            None => return checkpoint.end_record(lsn),
+        };
+        self.checkpoint = Some(checkpoint);
+        record
     }
 
     /// The long transaction of the shape `rollback` is the first one, and alone.
@@ -250,6 +333,7 @@ impl Generator {
         };
         let opened = Transaction {
             number,
+            first_lsn: lsn,
             last_lsn: lsn,
             pending: Vec::new(),
             wanted_changes,
@@ -267,7 +351,7 @@ impl Generator {
     fn finish(&mut self, chosen: usize, lsn: u64) -> Record {
         let aborts = match self.shape {
             Shape::Rollback => self.open[chosen].number == 1,
-            Shape::Mixed => self.random.below(4) == 0,
+            Shape::Mixed | Shape::Checkpoints => self.random.below(4) == 0,
             _ => false,
         };
         if aborts {
@@ -311,8 +395,10 @@ impl Generator {
         self.open[chosen].pending.push(Pending {
             change,
             undo,
+            lsn,
             previous,
         });
+        self.changed.entry(change.page as u32).or_insert(lsn);
         record
     }
 
@@ -324,6 +410,9 @@ impl Generator {
             return record;
         };
         self.make(&pending.change, pending.undo);
+        self.changed
+            .entry(pending.change.page as u32)
+            .or_insert(lsn);
         let mut record = self.chained(COMP, chosen, lsn);
         record.put(16, &pending.previous.to_le_bytes());
         record.put_change(&pending.change, 0, pending.undo);

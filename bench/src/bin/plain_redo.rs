@@ -172,7 +172,7 @@ impl Redo {
         Ok(())
     }
 
-    #[cold]
+    #[inline(never)]
     fn take_checkpoint(&mut self, bytes: &[u8]) -> Result<(), Fault> {
         let lsn = self.lsn as u64;
         let record =

@@ -19,6 +19,7 @@ use Rattle.log_records.specs.Image.{image, with_record}
 use Rattle.log_records.specs.Log.{IsLog, IsPageCount, IsWithin, Log, lsn_of}
 use Rattle.log_records.specs.Record.{change_of, own_lsn}
 use Rattle.log_records.specs.Log.{with_next}
+use Rattle.log_records.proofs.Changes.{change_within}
 use Rattle.log_records.proofs.Images.{image_from-append, number-image, number-with_record}
 use Rattle.page_store.specs.Store.{StoresOrKeeps}
 use Rattle.log_records.specs.Coverage.{AreStored, IsPast}
@@ -85,7 +86,8 @@ page_is_there stored_in log next pool c some valid is =
     let there : length rs < length (rs ++ next ∷ []) = omega (arith, length_push rs next) in
     let within : IsWithin log.pages next =
     subst (IsWithin log.pages) (get_or_push rs next next (length rs) refl) (valid.records (length rs) next there).within in
-    let below : c.page < log.pages = subst (λ (o : Option PageChange). IfSome o (λ x. x.page < log.pages)) some within in
+    let below : c.page < log.pages = subst (λ (o : Option PageChange). IfSome o (λ x. x.page < log.pages)) some
+    (change_within log.pages next within) in
     omega (arith, is.pages)
 
 -- what a pool is after a record more, if each state is

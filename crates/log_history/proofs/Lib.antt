@@ -3,6 +3,7 @@ pub mod Begun
 pub mod Chains
 pub mod CheckpointTables
 pub mod Checks
+pub mod Completes
 pub mod Filters
 pub mod Firsts
 pub mod Followed

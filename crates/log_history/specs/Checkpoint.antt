@@ -8,8 +8,8 @@ use Rattle.log_records.specs.declared.record.Record.TheVariants.{BeginChkpt, Chk
 use Rattle.log_records.specs.declared.record.Record.TheVariants.{EndChkpt}
 use Rattle.log_records.specs.DirtyPage.{entries_of}
 
--- a checkpoint that is open: the LSN of its BeginChkpt, and the dirty pages and transactions that it
--- has so far
+-- a checkpoint that is open: the LSN of its BeginChkpt, and the dirty pages and transactions that
+-- it has so far
 pub record Checkpoint : Type 0 where
   pub begin : ℕ
   pub pages : List DirtyPage

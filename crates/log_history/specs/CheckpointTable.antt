@@ -1,6 +1,6 @@
 -- What a reader keeps of the checkpoints of a log.
-use Rattle.std.specs.Prelude.{ℕ, ◌≡◌, ◌-◌, ◌/◌, ◌<◌, ◌++◌, List, [], ◌∷◌, map, min, Option, Some, None}
-use Rattle.std.specs.Prelude.{IfSome, IsSomeAnd, Contains, slice_get}
+use Rattle.std.specs.Prelude.{ℕ, ◌≡◌, ◌-◌, ◌/◌, ◌<◌, ◌++◌, List, [], ◌∷◌, map, min}
+use Rattle.std.specs.Prelude.{Option, Some, None, IfSome, IsSomeAnd, Contains, slice_get}
 use Rattle.std.specs.List.{All, AllByRecursion, fold}
 use Rattle.std.specs.Option.{option_map, option_map_or}
 use Rattle.page_core.specs.declared.numbers.TheConstants.{LSN_STEP}
@@ -28,6 +28,11 @@ pub record Current : Type 0 where
 pub record CheckpointTable : Type 0 where
   pub changed : List ℕ
   pub current : Option Current
+
+-- the table, and how many records more there is room for
+pub record WithRoom : Type 0 where
+  pub table : CheckpointTable
+  pub room : ℕ
 
 -- ---- the table of a log
 

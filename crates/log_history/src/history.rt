@@ -1,5 +1,5 @@
-//! A log that is read is replayed: at each place the records so far have made open transactions, checkpoints
-//! and pages, and these decide whether the next record may follow.
+//! A log that is read is replayed: at each place the records so far have made open transactions,
+//! checkpoints and pages, and these decide whether the next record may follow.
 
 ghost use Rattle.std.specs.Prelude.{◌↔◌, length, IsTrue};
 ghost use Rattle.log_records.specs.Log.{IsWithin};
@@ -30,7 +30,7 @@ impl Model for History {
 
     ghost view = { λ history. record {
       table = history.txns;
-      checkpoints = history.checkpoints;
+      checkpoints = history.checkpoints.table;
       pages = history.pages.items;
     } };
 
@@ -80,11 +80,9 @@ impl History {
         {
             return Ok(false);
         }
-        self.checkpoints.note(next)?;
-        if let Err(error) = self.txns.note(next) {
-            self.checkpoints.take_back();
-            return Err(error);
-        }
+        self.checkpoints.make_room()?;
+        self.txns.note(next)?;
+        self.checkpoints.note(next);
         redo_on_its_page(&mut self.pages, next);
         Ok(true)
     }

@@ -1,6 +1,7 @@
 //! The transactions of a log, and the chain that their records make: which record may follow.
 #![tactic(auto)]
 
+mod checkpoint_laws;
 mod checkpoints;
 mod claims;
 mod history;
@@ -12,6 +13,10 @@ mod pending_change;
 mod seat_set;
 mod txn_state;
 
+pub use checkpoint_laws::{
+    complete_checkpoints_are_known_by_their_ends, complete_checkpoints_outlast_new_records,
+    redo_points_are_not_past_their_begins,
+};
 pub use checkpoints::Checkpoints;
 pub use history::History;
 pub use history_laws::{

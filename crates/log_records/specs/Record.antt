@@ -15,7 +15,8 @@ use Rattle.log_records.specs.declared.dirty_page.DirtyPages.{DirtyPages}
 use Rattle.log_records.specs.declared.dirty_page.DirtyPages.TheVariants.{One, Two, Three}
 use Rattle.log_records.specs.declared.fields.TheConstants.{BEGIN_CHKPT, CHKPT_PAGES, CHKPT_TXNS}
 use Rattle.log_records.specs.declared.fields.TheConstants.{END_CHKPT}
-use Rattle.log_records.specs.CkptBytes.{ckpt_bytes, code_of, no_body, pages_body, redo_body, txn_body}
+use Rattle.log_records.specs.CkptBytes.{ckpt_bytes, code_of, no_body, pages_body, redo_body}
+use Rattle.log_records.specs.CkptBytes.{txn_body}
 use Rattle.log_records.specs.Fields.{fields_of, fields_bytes}
 
 -- the number of a transaction

@@ -23,8 +23,8 @@ pub struct Master {
     pub end: Lsn,
 }
 
-/// The bytes of a master record. Where an LSN is none, or they do not rise, no reader takes them for
-/// one.
+/// The bytes of a master record. Where an LSN is none, or they do not rise, no reader takes them
+/// for one.
 pub fn encode_master(master: &Master) -> [u8; MASTER_BYTES]
     ensures { result ≡ master_bytes master.now }
 {

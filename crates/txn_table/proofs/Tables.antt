@@ -4,7 +4,6 @@ use Rattle.std.specs.Prelude.{Option, Some, None, if◌then◌else◌, IfSome, f
 use Rattle.std.specs.Option.{option_and_then, option_map, option_map_or}
 use Rattle.log_records.specs.declared.record.Record.{Record}
 use Rattle.log_records.specs.declared.record.Record.TheVariants.{Begin, Update, Comp, Commit, Abort, End, BeginChkpt, ChkptPages, ChkptTxns, EndChkpt}
-use Rattle.log_history.specs.declared.txn_state.TxnState.{TxnState}
 use Rattle.log_history.specs.Table.{Entry, Table, entry_in, entry_of, table_of}
 use Rattle.log_history.specs.Transactions.{begun, is_open, last_of, pending, open_in}
 use Rattle.log_history.specs.TxnState.{state_of, next_in}
