@@ -138,7 +138,8 @@ last_is_lost rs now (Update lsn t prev page slot change) ks undoing below = by (
         → last_lost now (Update lsn t prev page slot change) ≡ cond b (Some l) None
     by true u =
         let live = last_of_all (λ k. is_open now k.txn ≡ true) ks l u.opened in
-        let last = ap last_of (u.pendings t live ∙ changes_of_own t ks l refl) ∙ last_of_push (changes_of t ks) l.change in
+        let last = ap last_of (u.pendings t live ∙ changes_of_own t ks l refl)
+        ∙ last_of_push (changes_of t ks) l.change in
         ap (λ b. option_and_then (λ (p : PendingChange). cond (eqb p.lsn lsn)
         (Some (let k : LostChange = record { txn = t; change = p } in k)) None)
         (cond b (last_of (pending now t)) None)) live
@@ -226,7 +227,8 @@ first_stage log valid linked =
     let whole = ap (filter_map (lost_by rs)) (take_all (length rs) rs (omega arith)) in
     let none : Begins rs rs = record { behind = []; is = sym (append-nil rs) } in
     record {
-      undoing = subst (Undoing Any start) (sym whole) (undoing_begins Any (λ xs t linked may has. tt) log valid linked tt);
+      undoing = subst (Undoing Any start) (sym whole)
+          (undoing_begins Any (λ xs t linked may has. tt) log valid linked tt);
       rest = ap (λ ls. fold taken_back start (reverse ls)) whole;
       begins = begins_fold rs with_end (λ now t begins. begins_push rs now (end_of now t) begins) rs (spent rs) none;
     }
@@ -247,9 +249,11 @@ ended_below rs i = fold with_end_if_spent rs (range_with_len 1 i)
 
 pub ended_more : (rs : List Record) (i : ℕ) → ended_below rs (i + 1) ≡ with_end_if_spent (ended_below rs i) (i + 1)
 ended_more rs i =
-    ap (fold with_end_if_spent rs) (range_more i) ∙ fold-append with_end_if_spent rs (range_with_len 1 i) ((i + 1) ∷ [])
+    ap (fold with_end_if_spent rs) (range_more i)
+    ∙ fold-append with_end_if_spent rs (range_with_len 1 i) ((i + 1) ∷ [])
 
-pub all_ended_below : (rs : List Record) → IsLinked rs → ended_below rs (length (begun rs)) ≡ fold with_end rs (spent rs)
+pub all_ended_below : (rs : List Record) → IsLinked rs
+    → ended_below rs (length (begun rs)) ≡ fold with_end rs (spent rs)
 all_ended_below rs linked = ap (fold with_end_if_spent rs) (sym (begun_is rs linked)) ∙ ends_are rs linked
 
 -- ---- the records from the last to the first

@@ -207,7 +207,8 @@ pub log_comes_first : (rs : List Record) → take (length rs) (after_undo rs) �
 unfolding after_undo
 log_comes_first rs =
     let none : Begins rs rs = record { behind = []; is = sym (append-nil rs) } in
-    let ends = begins_fold rs with_end (λ whole t begins. begins_push rs whole (end_of whole t) begins) rs (spent rs) none in
+    let ends = begins_fold rs with_end (λ whole t begins. begins_push rs whole (end_of whole t) begins) rs (spent rs)
+    none in
     let all = begins_fold rs taken_back (begins_without rs) (fold with_end rs (spent rs)) (lost_changes rs) ends in
     ap (take (length rs)) all.is ∙ take_at rs all.behind (length rs) refl
 

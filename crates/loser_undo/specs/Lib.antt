@@ -1,3 +1,4 @@
+pub mod Fault
 pub mod Recovery
 pub mod Steps
 pub mod Undo

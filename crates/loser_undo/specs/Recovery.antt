@@ -1,4 +1,4 @@
--- A log and its pages, before undo and after it.
+-- A log with its master record and its pages, before undo and after it.
 use Rattle.std.specs.Prelude.{ℕ, ◌≡◌, ◌<◌, List, [], drop, length, map, slice_index}
 use Rattle.std.specs.Prelude.{slice_index_or}
 use Rattle.page_core.specs.declared.page.Page.{Page}
@@ -11,12 +11,14 @@ use Rattle.log_history.specs.Committed.{committed}
 use Rattle.log_history.specs.Linked.{IsLinked}
 use Rattle.log_history.specs.Table.{Table}
 use Rattle.log_history.specs.Transactions.{open_in}
+use Rattle.log_store.specs.declared.master.Master.{Master}
 use Rattle.txn_table.specs.TxnTable.{IsTableOf}
 use Rattle.loser_undo.specs.Undo.{after_undo}
 
--- a log and the pages of its volume, whatever redo has made of them
+-- a log, its master record, and the pages of its volume, whatever redo has made of them
 pub record Recovery : Type 0 where
   pub log : Log
+  pub master : Master
   pub pages : List Page
 
 -- the records that undo appends to a log
@@ -25,7 +27,7 @@ appended log = drop (length log.records) (after_undo log.records)
 
 -- the log after undo, and the pages with the changes of the records that it has appended
 abbrev pub undone : Recovery → Recovery
-undone r = record {
+undone r = record r {
   log = record r.log { records = after_undo r.log.records };
   pages = map (λ page. image_from page (appended r.log)) r.pages;
 }

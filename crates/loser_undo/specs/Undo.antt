@@ -50,7 +50,8 @@ end_of rs txn = End (lsn_of (length rs)) txn (last_lsn rs txn)
 -- the compensation of a change; its UndoNxt is the PrevLSN of the Update that made it
 abbrev pub comp_of : List Record → LostChange → Record
 comp_of rs lost = let p = lost.change in
-    Comp (lsn_of (length rs)) lost.txn (last_lsn rs lost.txn) p.prev p.page p.slot (undo_of p.change)
+    Comp (lsn_of (length rs)) lost.txn (last_lsn rs lost.txn)
+    p.prev p.page p.slot (undo_of p.change)
 
 abbrev pub with_end : List Record → ℕ → List Record
 with_end rs txn = rs ++ end_of rs txn ∷ []

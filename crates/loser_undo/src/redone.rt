@@ -1,4 +1,4 @@
-//! A log and its pages after redo.
+//! A log, its master record and its pages after redo.
 
 ghost use Rattle.std.specs.Prelude.{◌≡◌, ◌↔◌, ◌+◌, ◌<◌, ◌≤◌, length, IfOk, IfErr, IsTrue};
 ghost use Rattle.log_records.specs.declared.limits.TheConstants.{MAX_RECORDS};
@@ -8,17 +8,19 @@ ghost use Rattle.log_history.specs.Transactions.{owed};
 ghost use Rattle.loser_undo.specs.Recovery.{IsRecovery};
 
 use log_records::{MAX_RECORDS, Record};
+use log_store::Master;
 use page_core::Page;
 use std::alloc::{AllocError, Global};
 use std::marker::Model;
 use txn_table::TxnTable;
 
-/// A log and its pages after redo (ARIES, section 6): the pages still have the changes of the
-/// transactions that are open at the log's end. Which these are is known too.
+/// A log, its master record and its pages after redo (ARIES, section 6): the pages still have the
+/// changes of the transactions that are open at the log's end. Which these are is known too.
 #[derive(Drop)]
 pub struct Redone {
     pub(crate) page_count: u32,
     pub(crate) records: Vec<Record>,
+    pub(crate) master: Master,
     pub(crate) losers: TxnTable,
     pub(crate) pages: Vec<Page>,
 }
@@ -30,18 +32,21 @@ impl Model for Redone {
 
     ghost view = { λ it. record {
       log = record { pages = it.page_count; records = it.records.items };
+      master = it.master;
       pages = it.pages.items;
     } };
 
     ghost invariant = { λ it. IsRedone (record {
       log = record { pages = it.page_count; records = it.records.items };
+      master = it.master;
       pages = it.pages.items;
     }) it.losers };
 }
 
-/// The open transactions of a log with their pending changes, as read from its first record to its
-/// last (the analysis of ARIES, section 6.1). An `Err` comes where memory for them is refused.
-pub fn losers(alloc: Global, log: &[Record]) -> Result<TxnTable, AllocError>
+/// The open transactions of a log with their pending changes (the analysis of ARIES, section 6.1).
+/// The log is read from its first record to its last, so the master record is not needed yet. An
+/// `Err` comes where memory for them is refused.
+pub fn losers(alloc: Global, log: &[Record], _master: &Master) -> Result<TxnTable, AllocError>
     requires linked { IsLinked log.now }
     requires few { length log.now ≤ MAX_RECORDS }
     ensures { IfOk result (λ table. table ≡ table_of log.now) }
@@ -54,29 +59,34 @@ pub fn losers(alloc: Global, log: &[Record]) -> Result<TxnTable, AllocError>
 }
 
 impl Redone {
-    /// A log and its pages, whatever has been redone on them. An `Err` comes where memory for the
-    /// table of its open transactions is refused, and hands both back.
+    /// A log, its master record and its pages, whatever has been redone on them. An `Err` comes
+    /// where memory for the table of its open transactions is refused, and hands the records and
+    /// the pages back.
     pub fn new(
         alloc: Global,
         page_count: u32,
         records: Vec<Record>,
+        master: Master,
         pages: Vec<Page>,
     ) -> Result<Redone, (Vec<Record>, Vec<Page>)>
         requires { IsRecovery (record {
           log = record { pages = page_count; records = records.items };
+          master = master;
           pages = pages.items;
         }) }
         ensures ok { IfOk result (λ it. it ≡ record {
           log = record { pages = page_count; records = records.items };
+          master = master;
           pages = pages.items;
         }) }
         ensures err { IfErr result (λ e.
             (e.0.items ≡ records.items) × (e.1.items ≡ pages.items)) }
     {
-        match losers(alloc, &records) {
+        match losers(alloc, &records, &master) {
             Ok(losers) => Ok(Redone {
                 page_count,
                 records,
+                master,
                 losers,
                 pages,
             }),
@@ -89,6 +99,13 @@ impl Redone {
         ensures { result ≡ self.now.log.pages }
     {
         self.page_count
+    }
+
+    /// Where the last complete checkpoint of the log stands.
+    pub fn master(&self) -> Master
+        ensures { result ≡ self.now.master }
+    {
+        self.master
     }
 
     /// The records of the log, the oldest first.

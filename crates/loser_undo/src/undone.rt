@@ -1,6 +1,7 @@
 //! Undo of a whole log.
 
-ghost use Rattle.std.specs.Prelude.{◌≡◌, ◌↔◌, ◌+◌, ◌<◌, ◌≤◌, drop, length, map, IfOk, IfErr, IsErrAnd};
+ghost use Rattle.std.specs.Prelude.{◌≡◌, ◌↔◌, ◌+◌, ◌<◌, ◌≤◌, drop, length, map, IfOk, IfErr};
+ghost use Rattle.std.specs.Prelude.{IsErrAnd};
 ghost use Rattle.log_records.specs.declared.limits.TheConstants.{MAX_RECORDS};
 ghost use Rattle.log_records.specs.Image.{AreNumbered, image_from};
 ghost use Rattle.log_records.specs.Log.{AreWithin};
@@ -12,14 +13,16 @@ use crate::fault::UndoFault;
 use crate::redone::Redone;
 use crate::undoing::Undoing;
 use log_records::{Record, redo_on_its_page};
+use log_store::Master;
 use page_core::Page;
 use std::marker::Model;
 
-/// A log and its pages after undo: no transaction is open.
+/// A log, its master record and its pages after undo: no transaction is open.
 #[derive(Drop)]
 pub struct Undone {
     page_count: u32,
     records: Vec<Record>,
+    master: Master,
     pages: Vec<Page>,
 }
 
@@ -30,11 +33,13 @@ impl Model for Undone {
 
     ghost view = { λ it. record {
       log = record { pages = it.page_count; records = it.records.items };
+      master = it.master;
       pages = it.pages.items;
     } };
 
     ghost invariant = { λ it. IsUndone (record {
       log = record { pages = it.page_count; records = it.records.items };
+      master = it.master;
       pages = it.pages.items;
     }) };
 }
@@ -47,6 +52,13 @@ impl Undone {
         ensures { result ≡ self.now.log.pages }
     {
         self.page_count
+    }
+
+    /// Where the last complete checkpoint of the log stands.
+    pub fn master(&self) -> Master
+        ensures { result ≡ self.now.master }
+    {
+        self.master
     }
 
     /// The records of the log, the oldest first.
@@ -85,8 +97,9 @@ pub fn undo_all(redone: Redone) -> Result<Undone, (Redone, UndoFault)>
     if redone.is_full() {
         return Err((redone, UndoFault::LogFull));
     }
+    let master = redone.master;
     match begin(redone) {
-        Ok((log, pages)) => Ok(finish(log, pages)),
+        Ok((log, pages)) => Ok(finish(log, master, pages)),
         Err(redone) => Err((redone, UndoFault::OutOfMemory)),
     }
 }
@@ -94,13 +107,15 @@ pub fn undo_all(redone: Redone) -> Result<Undone, (Redone, UndoFault)>
 /// Makes room for all records that undo may append. An `Err` comes where it is refused.
 fn begin(redone: Redone) -> Result<(Undoing, Vec<Page>), Redone>
     requires { length redone.log.records + owed redone.log.records ≤ MAX_RECORDS }
-    ensures ok { IfOk result (λ parts. (parts.0 ≡ redone.log) × (parts.1.items ≡ redone.pages)) }
+    ensures ok { IfOk result (λ parts.
+        (parts.0 ≡ redone.log) × (parts.1.items ≡ redone.pages)) }
     ensures err { IfErr result (λ it. it ≡ redone) }
 {
     let owed = redone.losers.owed() as usize;
     let Redone {
         page_count,
         mut records,
+        master,
         losers,
         pages,
     } = redone;
@@ -108,6 +123,7 @@ fn begin(redone: Redone) -> Result<(Undoing, Vec<Page>), Redone>
         return Err(Redone {
             page_count,
             records,
+            master,
             losers,
             pages,
         });
@@ -121,9 +137,9 @@ fn begin(redone: Redone) -> Result<(Undoing, Vec<Page>), Redone>
 }
 
 /// Appends all records of undo, and redoes them on the pages.
-fn finish(mut log: Undoing, pages: Vec<Page>) -> Undone
-    requires { IsRecovery (record { log = log; pages = pages.items }) }
-    ensures { result ≡ undone (record { log = log; pages = pages.items }) }
+fn finish(mut log: Undoing, master: Master, pages: Vec<Page>) -> Undone
+    requires { IsRecovery (record { log = log; master = master; pages = pages.items }) }
+    ensures { result ≡ undone (record { log = log; master = master; pages = pages.items }) }
 {
     let from = log.records.len();
     log.undo();
@@ -136,6 +152,7 @@ fn finish(mut log: Undoing, pages: Vec<Page>) -> Undone
     Undone {
         page_count,
         records,
+        master,
         pages,
     }
 }

@@ -20,7 +20,8 @@ invariant_of-self c =
     let r = c.args.next in
     let log : Log = record { pages = it.pages; records = it.records.items } in
     let may = subst (λ (l : Log). MayFollow l.records r) (sym c.self.view_is) c.requires.follows in
-    let stands = subst (λ (l : Log). StandsAt l.pages (lsn_of (length l.records)) r) (sym c.self.view_is) c.requires.stands in
+    let stands = subst (λ (l : Log). StandsAt l.pages (lsn_of (length l.records)) r) (sym c.self.view_is)
+    c.requires.stands in
     let made = said c.note.result _ (sym c.is_err.ensures.value ∙ c.if-is_err.false) c.note.ensures.ok
     log.records c.self.invariant.made may in
     let next = undoing_next log it.losers c.note.new.self _ r c.self.invariant may stands c.requires.undoes made in
