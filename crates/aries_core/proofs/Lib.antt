@@ -5,7 +5,6 @@ pub mod Follows
 pub mod Forces
 pub mod FullLog
 pub mod Numbers
-pub mod Pending
 pub mod Plays
 pub mod Refusals
 pub mod Rooms

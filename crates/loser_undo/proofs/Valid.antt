@@ -18,23 +18,13 @@ use Rattle.log_history.specs.declared.pending_change.PendingChange.{PendingChang
 use Rattle.log_history.specs.Committed.{committed}
 use Rattle.log_history.specs.Linked.{IsLinked, MayFollow, number_in}
 use Rattle.log_history.specs.Transactions.{is_open, last_lsn, last_of, open_in, owed, pending}
-use Rattle.log_history.proofs.AtEnd.{All-last_of, All-pending, last_lsn_is_before, last_pending, lsn_is_lsn, noted, open_is_txn, valid_next}
+use Rattle.log_history.proofs.AtEnd.{All-last_of, All-pending, last_lsn_is_before, last_pending, lsn_is_lsn, noted, open_is_txn, undo_fits, undo_has_no_before, valid_next}
 use Rattle.log_history.proofs.Owned.{HasChange}
 use Rattle.log_history.proofs.Room.{claimed, claimed_push}
 use Rattle.log_history.proofs.Undone.{changes_of_log, number_is_committed, slots_are_committed}
 use Rattle.loser_undo.specs.Undo.{LostChange, after_undo, comp_of, end_of, is_undone, lost_changes, spent, with_comp, with_end, taken_back}
 use Rattle.loser_undo.proofs.Committed.{committed_stays}
 use Rattle.loser_undo.proofs.Phases.{Undoing, all_undone, none_open}
-
--- ---- what undoes a valid change is valid
-
-pub undo_fits : (change : Change) → IsChange change → IsChange (undo_of change)
-undo_fits (Set before after) fits = (omega arith, fits.0)
-undo_fits (Add amount) fits = omega arith
-
-pub undo_has_no_before : (change : Change) → HasNoBefore (undo_of change)
-undo_has_no_before (Set before after) = refl
-undo_has_no_before (Add amount) = tt
 
 -- ---- all changes stay valid
 
