@@ -4,16 +4,13 @@ use Rattle.std.specs.Prelude.{Some, IfSome}
 use Rattle.std.specs.List.{All, fold, range_with_len}
 use Rattle.std.proofs.lemmas.List.{length-take, length_push, take_at}
 use Rattle.std.proofs.lemmas.List.Elements.{All-push, All-weaker}
-use Rattle.page_core.specs.declared.change.Change.{Change}
-use Rattle.page_core.specs.declared.change.Change.TheVariants.{Set, Add}
 use Rattle.page_core.specs.declared.page.TheConstants.{SLOTS}
-use Rattle.page_core.specs.Change.{undo_of}
 use Rattle.log_records.specs.declared.limits.TheConstants.{MAX_RECORDS}
 use Rattle.log_records.specs.declared.record.Record.{Record}
 use Rattle.log_records.specs.declared.record.Record.TheVariants.{Update}
 use Rattle.log_records.specs.Image.{image}
 use Rattle.log_records.specs.Log.{IsLog, Log, StandsAt, lsn_of}
-use Rattle.log_records.specs.Record.{HasNoBefore, IsBefore, IsChange, IsLsn, IsTxn}
+use Rattle.log_records.specs.Record.{IsBefore, IsChange, IsLsn, IsTxn}
 use Rattle.log_history.specs.declared.pending_change.PendingChange.{PendingChange}
 use Rattle.log_history.specs.Committed.{committed}
 use Rattle.log_history.specs.Linked.{IsLinked, MayFollow, number_in}
