@@ -15,7 +15,7 @@ use Rattle.log_records.specs.declared.record.Record.{Record}
 use Rattle.log_records.specs.Log.{IsPageCount}
 use Rattle.log_history.specs.Transactions.{owed}
 use Rattle.log_history.proofs.Histories.{linked_none, linked_push}
-use Rattle.log_store.proofs.Scans.{valid_next}
+use Rattle.log_history.proofs.AtEnd.{valid_next}
 use Rattle.aries_core.specs.declared.event.Answer.{Answer}
 use Rattle.aries_core.specs.declared.event.Event.{Event}
 use Rattle.aries_core.specs.declared.refusal.Refusal.{Refusal}

@@ -9,7 +9,6 @@ pub mod GatherSteps
 pub mod Gathers
 pub mod FullLog
 pub mod Numbers
-pub mod Pending
 pub mod Plays
 pub mod Refusals
 pub mod Rooms

@@ -6,14 +6,14 @@ use Rattle.std.proofs.lemmas.List.Elements.{All-weaker}
 use Rattle.page_core.specs.declared.change.Change.{Change}
 use Rattle.page_core.specs.declared.change.Change.TheVariants.{Set, Add}
 use Rattle.page_core.specs.declared.change.ChangeKind.TheVariants as kind
-use Rattle.page_core.specs.Change.{kind_of, undo_of}
+use Rattle.page_core.specs.Change.{kind_of}
 use Rattle.log_history.specs.declared.pending_change.PendingChange.{PendingChange}
 use Rattle.log_records.specs.declared.limits.TheConstants.{MAX_RECORDS}
 use Rattle.log_records.specs.declared.record.Record.{Record}
 use Rattle.log_records.specs.declared.record.Record.TheVariants as log
 use Rattle.log_history.specs.Linked.{number_in}
 use Rattle.log_records.specs.Log.{StandsAt}
-use Rattle.log_records.specs.Record.{HasNoBefore, IsBefore, IsChange, IsLsn, IsRecord, IsTxn}
+use Rattle.log_records.specs.Record.{IsBefore, IsChange, IsLsn, IsRecord, IsTxn}
 use Rattle.log_history.specs.Transactions.{is_open, last_lsn, last_of, pending}
 use Rattle.aries_core.specs.declared.event.Event.{Event}
 use Rattle.aries_core.specs.declared.event.Event.TheVariants as event
@@ -21,9 +21,9 @@ use Rattle.aries_core.specs.EngineState.{EngineState, IsFit, abort_record, commi
 use Rattle.aries_core.specs.EventFits.{EventFits}
 use Rattle.aries_core.specs.Refusal.{refusal}
 use Rattle.aries_core.proofs.Follows.{end_record_has, gather_record_has, undo_has}
+use Rattle.log_history.proofs.AtEnd.{StandsBefore, all_stand, last_lsn_is_before, last_pending, length_begun, lsn_is_lsn, open_is_txn, undo_fits, undo_has_no_before}
 use Rattle.aries_core.proofs.GatherSteps.{end_ckpt_stands, pages_stand, txn_stand}
-use Rattle.aries_core.proofs.Numbers.{last_lsn_is_before, length_begun, lsn_is_lsn, number_fits, open_is_txn}
-use Rattle.aries_core.proofs.Pending.{StandsBefore, all_stand, last_pending}
+use Rattle.aries_core.proofs.Numbers.{number_fits}
 use Rattle.aries_core.proofs.Refusals.{ChangePasses, active_passes, change_passes, ckpt_end_passes, gather_passes, undo_passes}
 use Rattle.aries_core.specs.Call.{record_for}
 
@@ -47,14 +47,6 @@ open_parts s txn fit still_open = record {
   number = open_is_txn s.log txn fit.linked fit.valid.count still_open;
   prev = last_lsn_is_before (log_of s) txn fit.valid still_open;
 }
-
-undo_fits : (change : Change) → IsChange change → IsChange (undo_of change)
-undo_fits (Set before after) fits = (omega arith, fits.0)
-undo_fits (Add amount) fits = omega arith
-
-undo_has_no_before : (change : Change) → HasNoBefore (undo_of change)
-undo_has_no_before (Set before after) = refl
-undo_has_no_before (Add amount) = tt
 
 -- ---- each record
 

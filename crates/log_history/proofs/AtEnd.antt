@@ -1,16 +1,19 @@
 -- What may stand at the end of a valid log: what is pending there, and the numbers of its open transactions.
-use Rattle.std.proofs.Common.{◌≡◌, refl, ℕ, ◌+◌, ◌-◌, ◌^◌, ◌<◌, ◌≤◌, true, eqb, List, [], ◌∷◌, ◌++◌, length, get_or, map, subst, arith, below_more}
+use Rattle.std.proofs.Common.{◌≡◌, refl, ℕ, ◌+◌, ◌-◌, ◌<◌, ◌≤◌, true, eqb, List, [], ◌∷◌, ◌++◌, length, get_or, map, subst, arith, below_more}
 use Rattle.std.specs.Prelude.{Option, Some, None, IfSome}
 use Rattle.std.specs.List.{All}
 use Rattle.std.proofs.Math.Nat.{mul-mod_right}
 use Rattle.std.proofs.lemmas.List.{get_or_append_left, get_or_push, length-map, length_push}
 use Rattle.std.proofs.lemmas.List.Elements.{All-filter, All-get_or, All-head, All-map, All-nil, All-push, All-tail, All-take, All-weaker}
 use Rattle.std.proofs.lemmas.Option.{get_or_from_slice_get, slice_get_within}
+use Rattle.page_core.specs.declared.change.Change.{Change}
+use Rattle.page_core.specs.declared.change.Change.TheVariants.{Set, Add}
+use Rattle.page_core.specs.Change.{undo_of}
 use Rattle.log_records.specs.declared.limits.TheConstants.{MAX_RECORDS}
 use Rattle.log_records.specs.declared.record.Record.{Record}
 use Rattle.log_records.specs.declared.record.Record.TheVariants.{Begin, Update, Comp, Commit, Abort, End, BeginChkpt, ChkptPages, ChkptTxns, EndChkpt}
 use Rattle.log_records.specs.Log.{IsLog, IsWithin, Log, StandsAt, lsn_of, with_next}
-use Rattle.log_records.specs.Record.{IsBefore, IsLsn, IsPageChange, IsRecord, IsTxn, own_lsn}
+use Rattle.log_records.specs.Record.{HasNoBefore, IsBefore, IsChange, IsLsn, IsPageChange, IsRecord, IsTxn, own_lsn}
 use Rattle.log_records.proofs.Changes.{valid_change}
 use Rattle.log_history.specs.declared.pending_change.PendingChange.{PendingChange}
 use Rattle.log_history.specs.Linked.{IsLinked}
@@ -175,3 +178,13 @@ valid_next log r valid few stands = record {
       (λ n below. rw (get_or_append_left log.records (r ∷ []) d n below) (valid.records n d below))
       (rw (get_or_push log.records r d (length log.records) refl) stands) i (omega (arith, length_push log.records r));
 }
+
+-- ---- what undoes a change
+
+pub undo_fits : (change : Change) → IsChange change → IsChange (undo_of change)
+undo_fits (Set before after) fits = (omega arith, fits.0)
+undo_fits (Add amount) fits = omega arith
+
+pub undo_has_no_before : (change : Change) → HasNoBefore (undo_of change)
+undo_has_no_before (Set before after) = refl
+undo_has_no_before (Add amount) = tt

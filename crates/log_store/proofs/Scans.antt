@@ -1,20 +1,20 @@
 -- A log that is read record by record.
-use Rattle.std.proofs.Common.{◌≡◌, ℕ, ◌+◌, ◌-◌, ◌*◌, ◌<◌, ◌≤◌, List, [], ◌∷◌, ◌++◌, length, get_or, take, drop, refl}
-use Rattle.std.proofs.Common.{sym, ap, subst, ◌∙◌, arith, below_more, inl, inr}
+use Rattle.std.proofs.Common.{◌≡◌, ℕ, ◌+◌, ◌-◌, ◌*◌, ◌<◌, ◌≤◌, List, [], ◌∷◌, ◌++◌, length, take, drop, refl}
+use Rattle.std.proofs.Common.{sym, ap, subst, ◌∙◌, arith, inl, inr}
 use Rattle.std.specs.Prelude.{slice_range}
 use Rattle.std.specs.Prelude.{Option}
 use Rattle.std.specs.Io.KnownBytes.{Consumes}
 pub use Rattle.page_core.proofs.Inputs.{if_err, on_ok, of_rest, of_all}
 use Rattle.std.proofs.lemmas.Bool.{cases_lt}
 use Rattle.std.proofs.lemmas.List.{append_assoc, append-nil, nil_from_length, take-append-le, take_at, drop_at}
-use Rattle.std.proofs.lemmas.List.{length-append, length_push, get_or_append_left, get_or_push, flat_map_more}
+use Rattle.std.proofs.lemmas.List.{length-append, length_push, flat_map_more}
 use Rattle.std.proofs.KnownBytes.{Consumes-trans}
 use Rattle.log_store.specs.declared.fault.LogReadFault.{LogReadFault}
 use Rattle.log_store.specs.declared.fault.LogReadFault.TheVariants.{OutOfMemory, BadHeader, BadRecord, BadChain, Torn}
 use Rattle.log_store.specs.declared.fault.LogReadFault.TheVariants.{ReadFault, TooLong}
 use Rattle.log_records.specs.declared.record.Record.{Record}
 use Rattle.log_records.specs.Record.{record_bytes}
-use Rattle.log_records.specs.Log.{Log, IsLog, StandsAt, SpellsLog, HasHeader, header_bytes, log_bytes, lsn_of, with_next}
+use Rattle.log_records.specs.Log.{Log, StandsAt, SpellsLog, HasHeader, header_bytes, log_bytes, lsn_of, with_next}
 use Rattle.log_history.specs.History.{IsMadeOf, Made}
 use Rattle.log_history.specs.Linked.{IsLinked, MayFollow}
 use Rattle.log_store.specs.Fault.{IsFirstFault, Refuses, HoldsNoFault, GaveNoFault}
@@ -23,6 +23,7 @@ use Rattle.log_records.proofs.Logs.{range_in, length-log, header_of_log, record_
 use Rattle.log_store.proofs.Faults.{AreFirst, whole_records, first_chain, first_record, first_too_long, first_torn}
 use Rattle.log_records.proofs.Records.{record_length}
 use Rattle.log_store.proofs.Inputs.{refuses_all, none_held, none_in_read, of_input}
+use Rattle.log_history.proofs.AtEnd.{valid_next}
 
 -- ---- what a log's bytes have, however they go on
 
@@ -95,17 +96,6 @@ bad_chain log r given unit rest spells linked few stands e breaks =
     })
 
 -- ---- one record more
-
-pub valid_next : (log : Log) (r : Record) → IsLog log → length log.records < 1048576
-    → StandsAt log.pages (lsn_of (length log.records)) r → IsLog (with_next log (r ∷ []))
-valid_next log r valid few stands = record {
-  pages = valid.pages;
-  count = omega (arith, length_push log.records r);
-  records = λ i d lt. below_more (λ n. StandsAt log.pages (lsn_of n) (get_or (log.records ++ r ∷ []) n d))
-      (length log.records)
-      (λ n below. rw (get_or_append_left log.records (r ∷ []) d n below) (valid.records n d below))
-      (rw (get_or_push log.records r d (length log.records) refl) stands) i (omega (arith, length_push log.records r));
-}
 
 spells_next : (log : Log) (r : Record) (given unit : List ℕ) → SpellsLog log given → length log.records < 1048576
     → StandsAt log.pages (lsn_of (length log.records)) r → unit ≡ record_bytes r

@@ -1,16 +1,16 @@
 -- Undo appends no Commit.
-use Rattle.std.proofs.Common.{◌≡◌, ℕ, Bool, true, false, cond, List, [], ◌∷◌, ◌++◌, refl, ◌∙◌}
+use Rattle.std.proofs.Common.{◌≡◌, ℕ, Bool, true, false, cond, List, [], ◌∷◌, refl, ◌∙◌}
 use Rattle.std.specs.List.{fold}
 use Rattle.log_records.specs.declared.record.Record.{Record}
 use Rattle.log_history.specs.Committed.{committed}
 use Rattle.log_history.proofs.Slots.{committed_push}
-use Rattle.loser_undo.specs.Undo.{LostChange, after_undo, comp_of, end_of, is_undone, lost_changes, spent, with_comp, with_end, without_lost}
+use Rattle.loser_undo.specs.Undo.{LostChange, after_undo, comp_of, end_of, is_undone, lost_changes, spent, with_comp, with_end, taken_back}
 
 committed_with_end : (rs : List Record) (t : ℕ) → committed (with_end rs t) ≡ committed rs
 committed_with_end rs t = committed_push rs (end_of rs t)
 
-committed_without : (rs : List Record) (l : LostChange) → committed (without_lost rs l) ≡ committed rs
-unfolding without_lost
+committed_without : (rs : List Record) (l : LostChange) → committed (taken_back rs l) ≡ committed rs
+unfolding taken_back
 committed_without rs l = by (is_undone (with_comp rs l) l.txn) ∙ committed_push rs (comp_of rs l)
   where
     by : (b : Bool) → committed (cond b (with_end (with_comp rs l) l.txn) (with_comp rs l)) ≡ committed (with_comp rs l)
@@ -26,5 +26,5 @@ over f same rs (x ∷ xs) = over f same (f rs x) xs ∙ same rs x
 pub committed_stays : (rs : List Record) → committed (after_undo rs) ≡ committed rs
 unfolding after_undo
 committed_stays rs =
-    over without_lost committed_without (fold with_end rs (spent rs)) (lost_changes rs)
+    over taken_back committed_without (fold with_end rs (spent rs)) (lost_changes rs)
     ∙ over with_end committed_with_end rs (spent rs)

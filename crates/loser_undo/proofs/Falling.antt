@@ -1,6 +1,6 @@
 -- The changes that undo takes back, in their order.
-use Rattle.std.proofs.Common.{◌≡◌, ℕ, ◌+◌, ◌-◌, ◌<◌, Bool, true, false, cond, eqb, eq-eqb, ne_eqb, List, [], ◌∷◌, ◌++◌, length, get_or, map, sym, refl, ap, subst, subst₂, ◌∙◌, inl, inr, arith}
-use Rattle.std.specs.Prelude.{Option, Some, None, reverse}
+use Rattle.std.proofs.Common.{◌≡◌, ℕ, ◌-◌, ◌<◌, Bool, true, false, cond, eq-eqb, ne_eqb, List, [], ◌∷◌, ◌++◌, length, map, sym, refl, ap, subst, subst₂, ◌∙◌, inl, inr, arith}
+use Rattle.std.specs.Prelude.{Some, None, reverse}
 use Rattle.std.specs.List.{All, AllByRecursion, AllPairs, cons_option, filter, filter_map}
 use Rattle.std.proofs.lemmas.Bool.{cases_eq}
 use Rattle.std.proofs.lemmas.List.{get_or-reverse, length-reverse}
@@ -8,7 +8,7 @@ use Rattle.std.proofs.lemmas.List.Elements.{All-append, All-cons, All-head, All-
 use Rattle.std.proofs.lemmas.List.Kept.{AllPairs-cons}
 use mathlib.Core.List.{reverse-cons}
 use Rattle.log_records.specs.declared.record.Record.{Record}
-use Rattle.log_records.specs.declared.record.Record.TheVariants.{Begin, Update, Comp, Commit, Abort, End, BeginChkpt, ChkptPages, ChkptTxns, EndChkpt}
+use Rattle.log_records.specs.declared.record.Record.TheVariants.{Update}
 use Rattle.log_records.specs.Log.{IsLog, Log}
 use Rattle.log_records.specs.Record.{own_lsn}
 use Rattle.log_history.specs.Transactions.{is_open, pending}
@@ -73,22 +73,23 @@ lost_of_open rs =
 
 -- ---- their LSNs
 
-lost_above : (rs : List Record) (n : ℕ) (xs : List Record) → AllByRecursion (λ m. n < m) (map own_lsn xs)
-    → All (λ l. n < l.change.lsn) (filter_map (lost_by rs) xs)
-lost_above rs n [] above = All-nil (λ (l : LostChange). n < l.change.lsn)
-lost_above rs n (Update lsn t prev page slot change ∷ xs) above =
+-- what holds of the LSNs of records holds of those of their lost changes
+pub lost_lsns : (P : ℕ → Type 0) (rs xs : List Record) → AllByRecursion P (map own_lsn xs)
+    → All (λ l. P l.change.lsn) (filter_map (lost_by rs) xs)
+lost_lsns P rs [] all = All-nil (λ (l : LostChange). P l.change.lsn)
+lost_lsns P rs (Update lsn t prev page slot change ∷ xs) all =
     let l : LostChange = record {
       txn = t;
       change = record { lsn = lsn; prev = prev; page = page; slot = slot; change = change };
     } in
-    first l (is_lost rs t lsn) above.0 (lost_above rs n xs above.1)
+    first l (is_lost rs t lsn) all.0 (lost_lsns P rs xs all.1)
   where
-    first : (l : LostChange) (b : Bool) → n < l.change.lsn → All (λ l. n < l.change.lsn) (filter_map (lost_by rs) xs)
-        → All (λ l. n < l.change.lsn) (cons_option (cond b (Some l) None) (filter_map (lost_by rs) xs))
+    first : (l : LostChange) (b : Bool) → P l.change.lsn → All (λ l. P l.change.lsn) (filter_map (lost_by rs) xs)
+        → All (λ l. P l.change.lsn) (cons_option (cond b (Some l) None) (filter_map (lost_by rs) xs))
     first l true here rest =
-        All-cons (λ (k : LostChange). n < k.change.lsn) l (filter_map (lost_by rs) xs) here rest
+        All-cons (λ (k : LostChange). P k.change.lsn) l (filter_map (lost_by rs) xs) here rest
     first l false here rest = rest
-lost_above rs n (r ∷ xs) above = lost_above rs n xs above.1
+lost_lsns P rs (r ∷ xs) all = lost_lsns P rs xs all.1
 
 abbrev Below : LostChange → LostChange → Type 0
 Below k l = k.change.lsn < l.change.lsn
@@ -100,7 +101,7 @@ lost_rise rs (Update lsn t prev page slot change ∷ xs) rising =
       txn = t;
       change = record { lsn = lsn; prev = prev; page = page; slot = slot; change = change };
     } in
-    first l (is_lost rs t lsn) (lost_above rs lsn xs rising.0) (lost_rise rs xs rising.1)
+    first l (is_lost rs t lsn) (lost_lsns (λ m. lsn < m) rs xs rising.0) (lost_rise rs xs rising.1)
   where
     first : (l : LostChange) (b : Bool) → All (Below l) (filter_map (lost_by rs) xs)
         → AllPairs Below (filter_map (lost_by rs) xs)

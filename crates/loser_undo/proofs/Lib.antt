@@ -1,7 +1,10 @@
+pub mod Appends
 pub mod Committed
 pub mod Examples
 pub mod Falling
+pub mod Loops
 pub mod Lost
+pub mod Pages
 pub mod Phases
 pub mod Rising
 pub mod Valid

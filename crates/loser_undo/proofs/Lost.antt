@@ -7,11 +7,11 @@ use Rattle.std.proofs.lemmas.List.{map-append, take_all, take_more}
 use Rattle.std.proofs.lemmas.List.Folds.{list_any-append}
 use Rattle.std.proofs.Math.Bool.{or-true}
 use Rattle.log_records.specs.declared.record.Record.{Record}
-use Rattle.log_records.specs.declared.record.Record.TheVariants.{Begin, Update, Comp, Commit, Abort, End, BeginChkpt, ChkptPages, ChkptTxns, EndChkpt}
+use Rattle.log_records.specs.declared.record.Record.TheVariants.{Update, Comp}
 use Rattle.log_records.specs.Log.{IsLog, Log}
 use Rattle.log_records.specs.Record.{own_lsn}
 use Rattle.log_history.specs.declared.pending_change.PendingChange.{PendingChange}
-use Rattle.log_history.specs.Transactions.{is_open, pending, pending_from, records_of, txn_of, with_pending, without_last}
+use Rattle.log_history.specs.Transactions.{is_open, pending, pending_from, records_of, txn_of, without_last}
 use Rattle.log_history.proofs.Filters.{filter_push, filter_push_out}
 use Rattle.loser_undo.specs.Undo.{LostChange, is_lost, lost_by}
 use Rattle.loser_undo.proofs.Rising.{IsRising, all_but, lsns_rise, others_differ, rising_but, rising_filter}

@@ -1,6 +1,6 @@
 -- Undo keeps a log linked, and closes its open transactions.
-use Rattle.std.proofs.Common.{◌≡◌, ◌≢◌, ℕ, ◌-◌, ◌<◌, Bool, true, false, cond, ◌&&◌, ◌||◌, not, eqb, List, [], ◌∷◌, ◌++◌, length, map, slice_get, sym, refl, ap, ap₂, subst, ◌∙◌, inl, inr, arith, append-nil, eq-eqb, ne_eqb, eqb-true, true≢false}
-use Rattle.std.specs.Prelude.{Option, Some, None, reverse}
+use Rattle.std.proofs.Common.{◌≡◌, ◌≢◌, ℕ, ◌-◌, ◌<◌, Bool, true, false, cond, ◌&&◌, ◌||◌, not, eqb, List, [], ◌∷◌, ◌++◌, length, map, sym, refl, ap, ap₂, subst, ◌∙◌, inl, inr, arith, eq-eqb, ne_eqb, eqb-true, true≢false}
+use Rattle.std.specs.Prelude.{Some, None, reverse}
 use Rattle.std.specs.List.{AllByRecursion, cons_option, filter, filter_map, fold, list_any}
 use Rattle.std.proofs.lemmas.Bool.{and_parts, cases_Bool, cases_eq, eqb-false, or_parts}
 use Rattle.std.proofs.lemmas.List.{get_or_push, length_push, map_push, reverse-reverse, take_at}
@@ -10,7 +10,7 @@ use Rattle.std.proofs.lemmas.Option.{slice_get-get_or}
 use Rattle.std.proofs.Math.Bool.{and-false, and-true}
 use mathlib.Core.List.{reverse-cons}
 use Rattle.log_records.specs.declared.record.Record.{Record}
-use Rattle.log_records.specs.declared.record.Record.TheVariants.{Begin, Update, Comp, Commit, Abort, End, BeginChkpt, ChkptPages, ChkptTxns, EndChkpt}
+use Rattle.log_records.specs.declared.record.Record.TheVariants.{Update}
 use Rattle.log_records.specs.Log.{IsLog, Log}
 use Rattle.log_history.specs.declared.pending_change.PendingChange.{PendingChange}
 use Rattle.log_history.specs.Linked.{IsLinked, MayFollow}
@@ -19,7 +19,7 @@ use Rattle.log_history.proofs.Begun.{open_has_begun, open_in-IsStrictlyIncreasin
 use Rattle.log_history.proofs.Filters.{filter_push_in, filter_push_out}
 use Rattle.log_history.proofs.Histories.{linked_push}
 use Rattle.log_history.proofs.Pushes.{is_open_push, is_open_push_other, is_open_push_own, pending_push, records_of_push_other}
-use Rattle.loser_undo.specs.Undo.{LostChange, after_undo, comp_of, end_of, is_lost, is_undone, lost_by, lost_changes, spent, with_comp, with_end, without_lost}
+use Rattle.loser_undo.specs.Undo.{LostChange, after_undo, comp_of, end_of, is_lost, is_undone, lost_by, lost_changes, spent, with_comp, with_end, taken_back}
 use Rattle.loser_undo.proofs.Lost.{changes_of, of_txn, pending_is_lost}
 use Rattle.loser_undo.proofs.Rising.{IsRising, rising_from_increasing}
 
@@ -47,10 +47,10 @@ without_last_push : (ps : List PendingChange) (p : PendingChange) → without_la
 without_last_push ps p = take_at ps (p ∷ []) _ (omega (arith, length_push ps p))
 
 -- what a record of another transaction leaves
-pending_other : (rs : List Record) (r : Record) (t : ℕ) → txn_of r ≢ t → pending (rs ++ r ∷ []) t ≡ pending rs t
+pub pending_other : (rs : List Record) (r : Record) (t : ℕ) → txn_of r ≢ t → pending (rs ++ r ∷ []) t ≡ pending rs t
 pending_other rs r t other = ap (pending_from []) (records_of_push_other rs r t other)
 
-closed_by_end : (rs : List Record) (n t : ℕ) → n ≡ t → is_open (with_end rs n) t ≡ false
+pub closed_by_end : (rs : List Record) (n t : ℕ) → n ≡ t → is_open (with_end rs n) t ≡ false
 closed_by_end rs n t same = is_open_push_own rs (end_of rs n) t refl same ∙ and-false (is_open rs t)
 
 other_from_open : (rs : List Record) (n t : ℕ) → is_open (with_end rs n) t ≡ true → n ≢ t
@@ -175,9 +175,9 @@ module _ (P : List Record → Type 0)
     (ends : (rs : List Record) (t : ℕ) → IsLinked rs → MayFollow rs (end_of rs t) → P rs → P (with_end rs t))
     (comps : (rs : List Record) (l : LostChange) → IsLinked rs → MayFollow rs (comp_of rs l)
     → last_of (pending rs l.txn) ≡ Some l.change → P rs → P (with_comp rs l)) where
-  one_undone : (rs : List Record) (ks : List LostChange) (l : LostChange) → Undoing P rs (ks ++ l ∷ [])
-      → Undoing P (without_lost rs l) ks
-  unfolding without_lost
+  pub one_undone : (rs : List Record) (ks : List LostChange) (l : LostChange) → Undoing P rs (ks ++ l ∷ [])
+      → Undoing P (taken_back rs l) ks
+  unfolding taken_back
   one_undone rs ks l u = by (is_undone mid t) refl
     where
       t : ℕ
@@ -267,10 +267,10 @@ module _ (P : List Record → Type 0)
           }
 
   each_undone : (rs : List Record) (ls : List LostChange) → Undoing P rs (reverse ls)
-      → Undoing P (fold without_lost rs ls) []
+      → Undoing P (fold taken_back rs ls) []
   each_undone rs [] u = u
   each_undone rs (l ∷ ls) u =
-      each_undone (without_lost rs l) ls (one_undone rs (reverse ls) l (subst (Undoing P rs) (reverse-cons l ls) u))
+      each_undone (taken_back rs l) ls (one_undone rs (reverse ls) l (subst (Undoing P rs) (reverse-cons l ls) u))
 
 -- ---- both
 
@@ -289,7 +289,7 @@ none_open P rs u = all_out (begun rs)
     all_out (t ∷ ts) = ap (λ b. cond b (t ∷ filter (is_open rs) ts) (filter (is_open rs) ts)) (closed t) ∙ all_out ts
 
 -- which are spent
-spent_idle : (rs : List Record) (t : ℕ) → is_open rs t ≡ true → list_any (λ n. eqb n t) (spent rs) ≡ is_undone rs t
+pub spent_idle : (rs : List Record) (t : ℕ) → is_open rs t ≡ true → list_any (λ n. eqb n t) (spent rs) ≡ is_undone rs t
 spent_idle rs t live =
     let is = λ (n : ℕ). eqb n t in
     let among : list_any is (open_in rs) ≡ true =

@@ -1,5 +1,5 @@
 -- Numbers that rise along a list, as the LSNs of a log do.
-use Rattle.std.proofs.Common.{◌≡◌, ◌≢◌, ℕ, zero, suc, ◌+◌, ◌<◌, Bool, true, false, cond, List, [], ◌∷◌, ◌++◌, length, get_or, map, refl, ap, ◌∙◌, arith}
+use Rattle.std.proofs.Common.{◌≡◌, ◌≢◌, ℕ, suc, ◌+◌, ◌<◌, Bool, true, false, cond, List, [], ◌∷◌, ◌++◌, length, map, ap, ◌∙◌, arith}
 use Rattle.std.specs.Prelude.{slice_index_or}
 use Rattle.std.specs.List.{AllByRecursion, AllPairs, filter}
 use Rattle.std.specs.List.Sorted.{IsStrictlyIncreasing}
@@ -38,6 +38,11 @@ others_differ [] n ys rising = above ys rising.0
     above (m ∷ ms) all = let more = all.0 in (omega arith, above ms all.1)
 others_differ (x ∷ xs) n ys rising =
     let below = all_at (λ m. x < m) xs n ys rising.0 in (omega arith, others_differ xs n ys rising.1)
+
+-- those before it are less
+pub others_below : (xs : List ℕ) (n : ℕ) (ys : List ℕ) → IsRising (xs ++ n ∷ ys) → AllByRecursion (λ m. m < n) xs
+others_below [] n ys rising = tt
+others_below (x ∷ xs) n ys rising = (all_at (λ m. x < m) xs n ys rising.0, others_below xs n ys rising.1)
 
 -- ---- lists that rise
 

@@ -1,40 +1,27 @@
 -- The log after undo: its changes are valid, it fits where records plus owed ones do, and it begins with the log.
-use Rattle.std.proofs.Common.{◌≡◌, ℕ, ◌+◌, ◌^◌, ◌<◌, ◌≤◌, Bool, true, false, cond, List, [], ◌∷◌, ◌++◌, length, map, take, sym, refl, ap, subst, ◌∙◌, arith, append_assoc, append-nil}
+use Rattle.std.proofs.Common.{◌≡◌, ℕ, ◌+◌, ◌<◌, ◌≤◌, Bool, true, false, cond, List, [], ◌∷◌, ◌++◌, length, map, take, sym, refl, ap, ◌∙◌, arith, append_assoc, append-nil}
 use Rattle.std.specs.Prelude.{Some, IfSome}
 use Rattle.std.specs.List.{All, fold, range_with_len}
-use Rattle.std.proofs.lemmas.List.{length_push, take_at}
+use Rattle.std.proofs.lemmas.List.{length-take, length_push, take_at}
 use Rattle.std.proofs.lemmas.List.Elements.{All-push, All-weaker}
-use Rattle.page_core.specs.declared.change.Change.{Change}
-use Rattle.page_core.specs.declared.change.Change.TheVariants.{Set, Add}
 use Rattle.page_core.specs.declared.page.TheConstants.{SLOTS}
-use Rattle.page_core.specs.Change.{undo_of}
 use Rattle.log_records.specs.declared.limits.TheConstants.{MAX_RECORDS}
 use Rattle.log_records.specs.declared.record.Record.{Record}
-use Rattle.log_records.specs.declared.record.Record.TheVariants.{Begin, Update, Comp, Commit, Abort, End, BeginChkpt, ChkptPages, ChkptTxns, EndChkpt}
+use Rattle.log_records.specs.declared.record.Record.TheVariants.{Update}
 use Rattle.log_records.specs.Image.{image}
-use Rattle.log_records.specs.Log.{IsLog, Log, StandsAt, lsn_of, with_next}
-use Rattle.log_records.specs.Record.{HasNoBefore, IsBefore, IsChange, IsLsn, IsTxn}
+use Rattle.log_records.specs.Log.{IsLog, Log, StandsAt, lsn_of}
+use Rattle.log_records.specs.Record.{IsBefore, IsChange, IsLsn, IsTxn}
 use Rattle.log_history.specs.declared.pending_change.PendingChange.{PendingChange}
 use Rattle.log_history.specs.Committed.{committed}
 use Rattle.log_history.specs.Linked.{IsLinked, MayFollow, number_in}
 use Rattle.log_history.specs.Transactions.{is_open, last_lsn, last_of, open_in, owed, pending}
-use Rattle.log_history.proofs.AtEnd.{All-last_of, All-pending, last_lsn_is_before, last_pending, lsn_is_lsn, noted, open_is_txn, valid_next}
+use Rattle.log_history.proofs.AtEnd.{All-last_of, All-pending, last_lsn_is_before, last_pending, lsn_is_lsn, noted, open_is_txn, undo_fits, undo_has_no_before, valid_next}
 use Rattle.log_history.proofs.Owned.{HasChange}
 use Rattle.log_history.proofs.Room.{claimed, claimed_push}
 use Rattle.log_history.proofs.Undone.{changes_of_log, number_is_committed, slots_are_committed}
-use Rattle.loser_undo.specs.Undo.{LostChange, after_undo, comp_of, end_of, is_undone, lost_changes, spent, with_comp, with_end, without_lost}
+use Rattle.loser_undo.specs.Undo.{LostChange, after_undo, comp_of, end_of, is_undone, lost_changes, spent, with_comp, with_end, taken_back}
 use Rattle.loser_undo.proofs.Committed.{committed_stays}
 use Rattle.loser_undo.proofs.Phases.{Undoing, all_undone, none_open}
-
--- ---- what undoes a valid change is valid
-
-undo_fits : (change : Change) → IsChange change → IsChange (undo_of change)
-undo_fits (Set before after) fits = (omega arith, fits.0)
-undo_fits (Add amount) fits = omega arith
-
-undo_has_no_before : (change : Change) → HasNoBefore (undo_of change)
-undo_has_no_before (Set before after) = refl
-undo_has_no_before (Add amount) = tt
 
 -- ---- all changes stay valid
 
@@ -87,10 +74,10 @@ undone_page log page valid linked =
 -- ---- room
 
 -- the parts of a record of an open transaction at the log's end
-abbrev OpenParts : List Record → ℕ → Type 0
+abbrev pub OpenParts : List Record → ℕ → Type 0
 OpenParts rs t = IsLsn (lsn_of (length rs)) × IsTxn t × IsBefore (lsn_of (length rs)) (last_lsn rs t)
 
-open_parts : (log : Log) (t : ℕ) → IsLog log → IsLinked log.records → is_open log.records t ≡ true
+pub open_parts : (log : Log) (t : ℕ) → IsLog log → IsLinked log.records → is_open log.records t ≡ true
     → OpenParts log.records t
 open_parts log t valid linked still = (
   lsn_is_lsn (length log.records) valid.count,
@@ -115,21 +102,20 @@ grows pages rs r has no_more stands =
       room = omega (arith, room, no_more);
     }
 
-room_with_end : (pages : ℕ) (rs : List Record) (t : ℕ) → IsLinked rs → MayFollow rs (end_of rs t) → HasRoom pages rs
-    → HasRoom pages (with_end rs t)
-room_with_end pages rs t linked may has =
-    let parts = open_parts (log_of pages rs) t has.valid linked may.0.still_open in
-    grows pages rs (end_of rs t) has (omega (arith, claimed_push rs (end_of rs t) linked may))
-    (record { lsn = refl; valid = (parts.0, parts.1, parts.2); within = tt })
+pub end_stands : (log : Log) (t : ℕ) → IsLog log → IsLinked log.records → is_open log.records t ≡ true
+    → StandsAt log.pages (lsn_of (length log.records)) (end_of log.records t)
+end_stands log t valid linked still =
+    let parts = open_parts log t valid linked still in
+    record { lsn = refl; valid = (parts.0, parts.1, parts.2); within = tt }
 
-room_with_comp : (pages : ℕ) (rs : List Record) (l : LostChange) → IsLinked rs → MayFollow rs (comp_of rs l)
-    → last_of (pending rs l.txn) ≡ Some l.change → HasRoom pages rs → HasRoom pages (with_comp rs l)
-room_with_comp pages rs l linked may last has =
-    let parts = open_parts (log_of pages rs) l.txn has.valid linked may.0.still_open in
-    let change = last_pending (log_of pages rs) l.txn l.change has.valid last in
+pub comp_stands : (log : Log) (l : LostChange) → IsLog log → IsLinked log.records → is_open log.records l.txn ≡ true
+    → last_of (pending log.records l.txn) ≡ Some l.change
+    → StandsAt log.pages (lsn_of (length log.records)) (comp_of log.records l)
+comp_stands log l valid linked still last =
+    let parts = open_parts log l.txn valid linked still in
+    let change = last_pending log l.txn l.change valid last in
     let fits = change.fits in
-    grows pages rs (comp_of rs l) has (omega (arith, claimed_push rs (comp_of rs l) linked may))
-    (record {
+    record {
       lsn = refl;
       valid = (
         parts.0,
@@ -140,7 +126,19 @@ room_with_comp pages rs l linked may last has =
         undo_has_no_before l.change.change,
       );
       within = change.within;
-    })
+    }
+
+room_with_end : (pages : ℕ) (rs : List Record) (t : ℕ) → IsLinked rs → MayFollow rs (end_of rs t) → HasRoom pages rs
+    → HasRoom pages (with_end rs t)
+room_with_end pages rs t linked may has =
+    grows pages rs (end_of rs t) has (omega (arith, claimed_push rs (end_of rs t) linked may))
+    (end_stands (log_of pages rs) t has.valid linked may.0.still_open)
+
+room_with_comp : (pages : ℕ) (rs : List Record) (l : LostChange) → IsLinked rs → MayFollow rs (comp_of rs l)
+    → last_of (pending rs l.txn) ≡ Some l.change → HasRoom pages rs → HasRoom pages (with_comp rs l)
+room_with_comp pages rs l linked may last has =
+    grows pages rs (comp_of rs l) has (omega (arith, claimed_push rs (comp_of rs l) linked may))
+    (comp_stands (log_of pages rs) l has.valid linked may.0.still_open last)
 
 pub undone_fits : (log : Log) → IsLog log → IsLinked log.records → length log.records + owed log.records ≤ MAX_RECORDS
     → IsLog (record log { records = after_undo log.records })
@@ -165,18 +163,18 @@ undone_length log valid linked =
 
 -- ---- the log comes first
 
-record Begins (rs whole : List Record) : Type 0 where
-  behind : List Record
-  is : whole ≡ rs ++ behind
+pub record Begins (rs whole : List Record) : Type 0 where
+  pub behind : List Record
+  pub is : whole ≡ rs ++ behind
 
-begins_push : (rs whole : List Record) (r : Record) → Begins rs whole → Begins rs (whole ++ r ∷ [])
+pub begins_push : (rs whole : List Record) (r : Record) → Begins rs whole → Begins rs (whole ++ r ∷ [])
 begins_push rs whole r begins = record {
   behind = begins.behind ++ r ∷ [];
   is = ap (λ xs. xs ++ r ∷ []) begins.is ∙ append_assoc rs begins.behind (r ∷ []);
 }
 
-begins_without : (rs whole : List Record) (l : LostChange) → Begins rs whole → Begins rs (without_lost whole l)
-unfolding without_lost
+pub begins_without : (rs whole : List Record) (l : LostChange) → Begins rs whole → Begins rs (taken_back whole l)
+unfolding taken_back
 begins_without rs whole l begins = by (is_undone (with_comp whole l) l.txn)
   where
     after : Begins rs (with_comp whole l)
@@ -186,16 +184,20 @@ begins_without rs whole l begins = by (is_undone (with_comp whole l) l.txn)
     by true = begins_push rs (with_comp whole l) (end_of (with_comp whole l) l.txn) after
     by false = after
 
-over : {X : Type 0} (rs : List Record) (f : List Record → X → List Record)
+pub begins_fold : {X : Type 0} (rs : List Record) (f : List Record → X → List Record)
     → ((whole : List Record) (x : X) → Begins rs whole → Begins rs (f whole x)) → (whole : List Record) (xs : List X)
     → Begins rs whole → Begins rs (fold f whole xs)
-over rs f more whole [] begins = begins
-over rs f more whole (x ∷ xs) begins = over rs f more (f whole x) xs (more whole x begins)
+begins_fold rs f more whole [] begins = begins
+begins_fold rs f more whole (x ∷ xs) begins = begins_fold rs f more (f whole x) xs (more whole x begins)
 
 pub log_comes_first : (rs : List Record) → take (length rs) (after_undo rs) ≡ rs
 unfolding after_undo
 log_comes_first rs =
     let none : Begins rs rs = record { behind = []; is = sym (append-nil rs) } in
-    let ends = over rs with_end (λ whole t begins. begins_push rs whole (end_of whole t) begins) rs (spent rs) none in
-    let all = over rs without_lost (begins_without rs) (fold with_end rs (spent rs)) (lost_changes rs) ends in
+    let ends = begins_fold rs with_end (λ whole t begins. begins_push rs whole (end_of whole t) begins) rs (spent rs)
+    none in
+    let all = begins_fold rs taken_back (begins_without rs) (fold with_end rs (spent rs)) (lost_changes rs) ends in
     ap (take (length rs)) all.is ∙ take_at rs all.behind (length rs) refl
+
+pub grows_by_undo : (rs : List Record) → length rs ≤ length (after_undo rs)
+grows_by_undo rs = omega (arith, ap length (log_comes_first rs), length-take (length rs) (after_undo rs))

@@ -1,2 +1,4 @@
-pub mod Redone
+pub mod Fault
+pub mod Recovery
+pub mod Steps
 pub mod Undo

@@ -5,7 +5,7 @@ use Rattle.std.specs.List.{filter_map, fold, list_any}
 use Rattle.page_core.specs.Change.{undo_of}
 use Rattle.log_records.specs.declared.record.Record.{Record}
 use Rattle.log_records.specs.declared.record.Record.TheVariants.{Update, Comp, End}
-use Rattle.log_records.specs.Log.{Log, lsn_of}
+use Rattle.log_records.specs.Log.{lsn_of}
 use Rattle.log_history.specs.declared.pending_change.PendingChange.{PendingChange}
 use Rattle.log_history.specs.Transactions.{is_open, last_lsn, open_in, pending}
 
@@ -43,14 +43,15 @@ spent rs = filter (is_undone rs) (open_in rs)
 
 -- ---- what undo appends
 
--- the End of a transaction
+-- the End of a transaction; its PrevLSN is the LSN of the transaction's last record
 abbrev pub end_of : List Record → ℕ → Record
 end_of rs txn = End (lsn_of (length rs)) txn (last_lsn rs txn)
 
--- the compensation of a change
+-- the compensation of a change; its UndoNxt is the PrevLSN of the Update that made it
 abbrev pub comp_of : List Record → LostChange → Record
 comp_of rs lost = let p = lost.change in
-    Comp (lsn_of (length rs)) lost.txn (last_lsn rs lost.txn) p.prev p.page p.slot (undo_of p.change)
+    Comp (lsn_of (length rs)) lost.txn (last_lsn rs lost.txn)
+    p.prev p.page p.slot (undo_of p.change)
 
 abbrev pub with_end : List Record → ℕ → List Record
 with_end rs txn = rs ++ end_of rs txn ∷ []
@@ -58,13 +59,13 @@ with_end rs txn = rs ++ end_of rs txn ∷ []
 abbrev pub with_comp : List Record → LostChange → List Record
 with_comp rs lost = rs ++ comp_of rs lost ∷ []
 
--- with the compensation of a change, followed at once by its transaction's End where nothing of it
--- is left
-unfoldable pub without_lost : List Record → LostChange → List Record
-without_lost rs lost = let after = with_comp rs lost in
+-- the log with a change taken back: its compensation, followed at once by its transaction's End
+-- where nothing of it is left
+unfoldable pub taken_back : List Record → LostChange → List Record
+taken_back rs lost = let after = with_comp rs lost in
     if is_undone after lost.txn then with_end after lost.txn else after
 
--- the log after undo: an End for each open transaction with nothing pending, and then the
--- compensation of each pending change
+-- the log after undo: an End for each open transaction with nothing pending, and then each lost
+-- change taken back. No Abort is appended
 unfoldable pub after_undo : List Record → List Record
-after_undo rs = fold without_lost (fold with_end rs (spent rs)) (lost_changes rs)
+after_undo rs = fold taken_back (fold with_end rs (spent rs)) (lost_changes rs)

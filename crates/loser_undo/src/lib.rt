@@ -1,12 +1,17 @@
 //! Undo of the losers: the transactions that are open at the end of a log.
 #![tactic(auto)]
 
+mod fault;
 mod redone;
 mod undo_laws;
+mod undoing;
+mod undone;
 
-pub use redone::Redone;
+pub use fault::UndoFault;
+pub use redone::{Redone, losers};
 pub use undo_laws::{
     undo_commits_nothing, undo_fits_where_records_and_owed_ones_do, undo_keeps_logs_linked,
     undo_leaves_none_open, undo_leaves_what_is_committed, undo_only_appends,
     undo_takes_back_what_is_pending,
 };
+pub use undone::{Undone, undo_all};

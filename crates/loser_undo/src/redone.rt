@@ -1,60 +1,135 @@
-//! A volume after redo.
+//! A log, its master record and its pages after redo.
 
-ghost use Rattle.std.specs.Prelude.{◌≡◌};
-ghost use Rattle.loser_undo.specs.Redone.{IsVolumeOf};
+ghost use Rattle.std.specs.Prelude.{◌≡◌, ◌↔◌, ◌+◌, ◌<◌, ◌≤◌, length, IfOk, IfErr, IsTrue};
+ghost use Rattle.log_records.specs.declared.limits.TheConstants.{MAX_RECORDS};
+ghost use Rattle.log_history.specs.Linked.{IsLinked};
+ghost use Rattle.log_history.specs.Table.{table_of};
+ghost use Rattle.log_history.specs.Transactions.{owed};
+ghost use Rattle.loser_undo.specs.Recovery.{IsRecovery};
 
-use log_store::{LogImage, Master};
+use log_records::{MAX_RECORDS, Record};
+use log_store::Master;
 use page_core::Page;
+use std::alloc::{AllocError, Global};
 use std::marker::Model;
+use txn_table::TxnTable;
 
-/// A volume on which its log was redone (ARIES, section 8): the log, its last complete checkpoint,
-/// and the pages, in order of their numbers. Transactions that are open in the log have their
-/// changes on the pages.
+/// A log, its master record and its pages after redo (ARIES, section 6): the pages still have the
+/// changes of the transactions that are open at the log's end. Which these are is known too.
 #[derive(Drop)]
 pub struct Redone {
-    log: LogImage,
-    master: Option<Master>,
-    pages: Vec<Page>,
+    pub(crate) page_count: u32,
+    pub(crate) records: Vec<Record>,
+    pub(crate) master: Master,
+    pub(crate) losers: TxnTable,
+    pub(crate) pages: Vec<Page>,
 }
 
 impl Model for Redone {
-    ghost use Rattle.loser_undo.specs.Redone.{IsVolumeOf, VolumeView};
+    ghost use Rattle.loser_undo.specs.Recovery.{IsRedone, Recovery};
 
-    ghost Value = { VolumeView };
+    ghost Value = { Recovery };
 
-    ghost view = { λ it. record { log = it.log; master = it.master; pages = it.pages.items } };
+    ghost view = { λ it. record {
+      log = record { pages = it.page_count; records = it.records.items };
+      master = it.master;
+      pages = it.pages.items;
+    } };
 
-    ghost invariant = { λ it. IsVolumeOf it.log it.master it.pages.items };
+    ghost invariant = { λ it. IsRedone (record {
+      log = record { pages = it.page_count; records = it.records.items };
+      master = it.master;
+      pages = it.pages.items;
+    }) it.losers };
+}
+
+/// The open transactions of a log with their pending changes (the analysis of ARIES, section 6.1).
+/// The log is read from its first record to its last, so the master record is not needed yet. An
+/// `Err` comes where memory for them is refused.
+pub fn losers(alloc: Global, log: &[Record], _master: &Master) -> Result<TxnTable, AllocError>
+    requires linked { IsLinked log.now }
+    requires few { length log.now ≤ MAX_RECORDS }
+    ensures { IfOk result (λ table. table ≡ table_of log.now) }
+{
+    let mut table = TxnTable::new(alloc);
+    for record in log {
+        table.note(record)?;
+    }
+    Ok(table)
 }
 
 impl Redone {
-    /// A volume of its parts.
-    pub fn new(log: LogImage, master: Option<Master>, pages: Vec<Page>) -> Redone
-        requires { IsVolumeOf log master pages.items }
-        ensures { result ≡ record { log = log; master = master; pages = pages.items } }
+    /// A log, its master record and its pages, whatever has been redone on them. An `Err` comes
+    /// where memory for the table of its open transactions is refused, and hands the records and
+    /// the pages back.
+    pub fn new(
+        alloc: Global,
+        page_count: u32,
+        records: Vec<Record>,
+        master: Master,
+        pages: Vec<Page>,
+    ) -> Result<Redone, (Vec<Record>, Vec<Page>)>
+        requires { IsRecovery (record {
+          log = record { pages = page_count; records = records.items };
+          master = master;
+          pages = pages.items;
+        }) }
+        ensures ok { IfOk result (λ it. it ≡ record {
+          log = record { pages = page_count; records = records.items };
+          master = master;
+          pages = pages.items;
+        }) }
+        ensures err { IfErr result (λ e.
+            (e.0.items ≡ records.items) × (e.1.items ≡ pages.items)) }
     {
-        Redone { log, master, pages }
+        match losers(alloc, &records, &master) {
+            Ok(losers) => Ok(Redone {
+                page_count,
+                records,
+                master,
+                losers,
+                pages,
+            }),
+            Err(_) => Err((records, pages)),
+        }
     }
 
-    /// Its log.
-    pub fn log(&self) -> &LogImage
-        ensures log { result.now ≡ self.now.log }
-        ensures volume { IsVolumeOf self.now.log self.now.master self.now.pages }
+    /// How many pages the volume has.
+    pub fn page_count(&self) -> u32
+        ensures { result ≡ self.now.log.pages }
     {
-        &self.log
+        self.page_count
     }
 
-    /// The last complete checkpoint of the log, if one is known.
-    pub fn master(&self) -> Option<Master>
+    /// Where the last complete checkpoint of the log stands.
+    pub fn master(&self) -> Master
         ensures { result ≡ self.now.master }
     {
         self.master
     }
 
+    /// The records of the log, the oldest first.
+    pub fn records(&self) -> &[Record]
+        ensures { result.now ≡ self.now.log.records }
+    {
+        &self.records
+    }
+
     /// The pages, in order of their numbers.
     pub fn pages(&self) -> &[Page]
-        ensures { result.now ≡ self.now.pages }
+        ensures pages { result.now ≡ self.now.pages }
+        ensures kept { IsRecovery self.now }
     {
         &self.pages
+    }
+
+    /// The records of the log, with those that its open transactions may still need, are more than
+    /// a log may have.
+    pub(crate) fn is_full(&self) -> bool
+        ensures full { IsTrue result ↔ (MAX_RECORDS
+            < length self.now.log.records + owed self.now.log.records) }
+        ensures kept { IsRecovery self.now }
+    {
+        self.records.len() as u64 + self.losers.owed() > MAX_RECORDS as u64
     }
 }

@@ -1,7 +1,7 @@
 //! Laws of the log after undo, for those who read the contracts.
 
-ghost use Rattle.std.specs.Prelude.{ℕ, ◌≡◌, ◌+◌, ◌<◌, ◌≤◌, ◌==◌, true, List, [], length, map, filter};
-ghost use Rattle.std.specs.Prelude.{reverse, take};
+ghost use Rattle.std.specs.Prelude.{ℕ, ◌≡◌, ◌+◌, ◌<◌, ◌≤◌, ◌==◌, true, List, [], length, map};
+ghost use Rattle.std.specs.Prelude.{filter, reverse, take};
 ghost use Rattle.std.specs.List.{All, AllPairs, range_with_len};
 ghost use Rattle.page_core.specs.declared.page.TheConstants.{SLOTS};
 ghost use Rattle.log_records.specs.declared.limits.TheConstants.{MAX_RECORDS};

@@ -4,6 +4,7 @@ ghost use Rattle.std.specs.Prelude.{ℕ, ◌≡◌, ◌+◌, ◌<◌, ◌≤◌,
 ghost use Rattle.std.specs.Prelude.{OnErr};
 ghost use Rattle.std.specs.Prelude.{if◌then◌else◌, Some, None};
 ghost use Rattle.log_records.specs.declared.record.Record.{Record};
+ghost use Rattle.log_history.specs.Growth.{MayGrow};
 ghost use Rattle.log_history.specs.Linked.{MayFollow};
 ghost use Rattle.log_history.specs.Transactions.{begun, holder, is_open, last_of, open_in, owed};
 ghost use Rattle.log_history.specs.Transactions.{pending};
@@ -73,6 +74,7 @@ impl TxnTable {
         ensures ok { OnOk result ((rs : List Record) → IsTableOf rs self.old → MayFollow rs next.now
             → self.new ≡ table_of (rs ++ next.now ∷ [])) }
         ensures err { OnErr result (self.new ≡ self.old) }
+        ensures growth { OnErr result (MayGrow next.now) }
     {
         self.open.note(next)
     }

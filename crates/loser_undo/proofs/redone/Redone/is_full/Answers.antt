@@ -1,0 +1,31 @@
+use Rattle.std.proofs.Common.{◌≡◌, ◌+◌, ◌<◌, ℕ, length, ap, subst, sym, ◌∙◌, arith}
+use Rattle.std.proofs.lemmas.Bool.{lt-ltb, ltb-true}
+use Rattle.log_history.specs.Transactions.{owed}
+use Rattle.loser_undo.specs.Recovery.{Recovery}
+use Rattle.loser_undo.proofs.Appends.{owed_few}
+use Rattle.loser_undo.proofs.redone.Redone.is_full.Goals as goal
+
+pub overflow_add-result : goal.overflow_add-result
+overflow_add-result c =
+    let it = c.self.inside in
+    let rs = it.records.items in
+    let made = c.self.invariant.made in
+    let few = made.few in
+    let most = owed_few rs made.linked in
+    let is = c.owed.ensures rs made (omega (arith, few, most)) in
+    omega (arith, few, most, is, c.len.ensures, it.records.ok.0)
+
+pub returns-clause-full : goal.returns-clause-full
+returns-clause-full c =
+    let it = c.self.inside in
+    let rs = it.records.items in
+    let made = c.self.invariant.made in
+    let few = made.few in
+    let most = owed_few rs made.linked in
+    let is = c.owed.ensures rs made (omega (arith, few, most)) in
+    let sum : c.len.result + c.owed.result ≡ length rs + owed rs =
+    omega (arith, is, c.len.ensures, it.records.ok.0) in
+    let now = sum ∙ ap (λ (r : Recovery). length r.log.records + owed r.log.records) c.self.view_is in (
+      λ full. subst (λ (n : ℕ). 1048576 < n) now (ltb-true _ _ full),
+      λ past. lt-ltb 1048576 (c.len.result + c.owed.result) (subst (λ (n : ℕ). 1048576 < n) (sym now) past),
+    )

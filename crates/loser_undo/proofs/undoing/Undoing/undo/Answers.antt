@@ -1,0 +1,35 @@
+use Rattle.std.proofs.Common.{◌≡◌, ◌-◌, get_or, length, ap, ◌∙◌, arith, le_of_eq}
+use Rattle.log_records.specs.Log.{Log}
+use Rattle.loser_undo.proofs.Loops.{first_stage_of, next_stage}
+use Rattle.loser_undo.proofs.undoing.Undoing.undo.Goals as goal
+
+pub loop-left-init : goal.loop-left-init
+loop-left-init c =
+    let it = c.self.inside in
+    let now = c.args.self.now in
+    let log : Log = record { pages = it.pages; records = it.records.items } in
+    let count : c.len-left.result ≡ length log.records = c.len-left.ensures ∙ it.records.ok.0 in
+    record {
+      stage = first_stage_of log now c.end_spent.new.self c.len-left.result c.self.view_is c.self.invariant.valid
+          c.self.invariant.made.linked c.end_spent.ensures count;
+      within = le_of_eq (count ∙ ap (λ (l : Log). length l.records) c.self.view_is);
+      pages = ap (λ (l : Log). l.pages) c.end_spent.ensures;
+    }
+
+pub loop-left-preserved : goal.loop-left-preserved
+loop-left-preserved c =
+    let it = c.self.inside in
+    let now = c.args.self.now in
+    let log : Log = record { pages = it.pages; records = it.records.items } in
+    let inv = c.loop-left.invariant in
+    let some = c.loop-left-test.true in
+    let within = inv.within in
+    let r = c.index.result.now in
+    let read = c.index.ensures
+    ∙ ap (λ (l : Log). get_or l.records (c.loop-left.left - 1) r) c.self-in-loop-left.view_is in
+    record {
+      stage = next_stage log now c.loop-left.self c.take_back.new.self r c.loop-left.left
+          c.self.view_is c.self.invariant.valid some within inv.stage read c.take_back.ensures;
+      within = omega arith;
+      pages = ap (λ (l : Log). l.pages) c.take_back.ensures ∙ inv.pages;
+    }

@@ -1,0 +1,180 @@
+//! Undo of a whole log.
+
+ghost use Rattle.std.specs.Prelude.{◌≡◌, ◌↔◌, ◌+◌, ◌<◌, ◌≤◌, drop, length, map, IfOk, IfErr};
+ghost use Rattle.std.specs.Prelude.{IsErrAnd};
+ghost use Rattle.log_records.specs.declared.limits.TheConstants.{MAX_RECORDS};
+ghost use Rattle.log_records.specs.Image.{AreNumbered, image_from};
+ghost use Rattle.log_records.specs.Log.{AreWithin};
+ghost use Rattle.log_history.specs.Transactions.{owed};
+ghost use Rattle.loser_undo.specs.declared.fault.UndoFault.TheVariants.{LogFull};
+ghost use Rattle.loser_undo.specs.Recovery.{HasCommitted, IsRecovery, IsWhole, undone};
+
+use crate::fault::UndoFault;
+use crate::redone::Redone;
+use crate::undoing::Undoing;
+use log_records::{Record, redo_on_its_page};
+use log_store::Master;
+use page_core::Page;
+use std::marker::Model;
+
+/// A log, its master record and its pages after undo: no transaction is open.
+#[derive(Drop)]
+pub struct Undone {
+    page_count: u32,
+    records: Vec<Record>,
+    master: Master,
+    pages: Vec<Page>,
+}
+
+impl Model for Undone {
+    ghost use Rattle.loser_undo.specs.Recovery.{IsUndone, Recovery};
+
+    ghost Value = { Recovery };
+
+    ghost view = { λ it. record {
+      log = record { pages = it.page_count; records = it.records.items };
+      master = it.master;
+      pages = it.pages.items;
+    } };
+
+    ghost invariant = { λ it. IsUndone (record {
+      log = record { pages = it.page_count; records = it.records.items };
+      master = it.master;
+      pages = it.pages.items;
+    }) };
+}
+
+impl Undone {
+    ghost use Rattle.loser_undo.specs.Recovery.{IsUndone};
+
+    /// How many pages the volume has.
+    pub fn page_count(&self) -> u32
+        ensures { result ≡ self.now.log.pages }
+    {
+        self.page_count
+    }
+
+    /// Where the last complete checkpoint of the log stands.
+    pub fn master(&self) -> Master
+        ensures { result ≡ self.now.master }
+    {
+        self.master
+    }
+
+    /// The records of the log, the oldest first.
+    pub fn records(&self) -> &[Record]
+        ensures records { result.now ≡ self.now.log.records }
+        ensures undone { IsUndone self.now }
+    {
+        &self.records
+    }
+
+    /// The pages, in order of their numbers.
+    pub fn pages(&self) -> &[Page]
+        ensures { result.now ≡ self.now.pages }
+    {
+        &self.pages
+    }
+}
+
+/// Undo of all transactions that are open at the log's end (ARIES, section 6.3). It appends an End
+/// for each that has nothing pending, and then goes back over the log: it compensates each pending
+/// change, and ends each transaction of which nothing is left. What it appends is redone on the
+/// pages, whatever these have. Where they are those that the log makes, so they are afterwards, and
+/// have what was committed.
+///
+/// `LogFull` comes where the records do not fit, and `OutOfMemory` where memory for them is
+/// refused. Both come before the first record, and hand the log and its pages back.
+pub fn undo_all(redone: Redone) -> Result<Undone, (Redone, UndoFault)>
+    ensures ok { IfOk result (λ it. it ≡ undone redone) }
+    ensures whole { IfOk result (λ it. IsWhole redone → IsWhole it) }
+    ensures committed { IfOk result (λ it. IsWhole redone
+        → HasCommitted redone.log.records it.pages) }
+    ensures full { IsErrAnd result (λ e. e.1 ≡ LogFull)
+        ↔ (MAX_RECORDS < length redone.log.records + owed redone.log.records) }
+    ensures same { IfErr result (λ e. e.0 ≡ redone) }
+{
+    if redone.is_full() {
+        return Err((redone, UndoFault::LogFull));
+    }
+    let master = redone.master;
+    match begin(redone) {
+        Ok((log, pages)) => Ok(finish(log, master, pages)),
+        Err(redone) => Err((redone, UndoFault::OutOfMemory)),
+    }
+}
+
+/// Makes room for all records that undo may append. An `Err` comes where it is refused.
+fn begin(redone: Redone) -> Result<(Undoing, Vec<Page>), Redone>
+    requires { length redone.log.records + owed redone.log.records ≤ MAX_RECORDS }
+    ensures ok { IfOk result (λ parts.
+        (parts.0 ≡ redone.log) × (parts.1.items ≡ redone.pages)) }
+    ensures err { IfErr result (λ it. it ≡ redone) }
+{
+    let owed = redone.losers.owed() as usize;
+    let Redone {
+        page_count,
+        mut records,
+        master,
+        losers,
+        pages,
+    } = redone;
+    if records.reserve(owed).is_err() {
+        return Err(Redone {
+            page_count,
+            records,
+            master,
+            losers,
+            pages,
+        });
+    }
+    let log = Undoing {
+        pages: page_count,
+        records,
+        losers,
+    };
+    Ok((log, pages))
+}
+
+/// Appends all records of undo, and redoes them on the pages.
+fn finish(mut log: Undoing, master: Master, pages: Vec<Page>) -> Undone
+    requires { IsRecovery (record { log = log; master = master; pages = pages.items }) }
+    ensures { result ≡ undone (record { log = log; master = master; pages = pages.items }) }
+{
+    let from = log.records.len();
+    log.undo();
+    let Undoing {
+        pages: page_count,
+        records,
+        losers: _,
+    } = log;
+    let pages = redo_behind(pages, &records, from);
+    Undone {
+        page_count,
+        records,
+        master,
+        pages,
+    }
+}
+
+/// Redoes the records from an index on.
+fn redo_behind(mut pages: Vec<Page>, records: &[Record], from: usize) -> Vec<Page>
+    requires from { from ≤ length records.now }
+    requires within { AreWithin (length pages.items) records.now }
+    requires numbered { AreNumbered pages.items }
+    ensures { result.items ≡ map (λ page. image_from page (drop from records.now)) pages.items }
+{
+    redo_records(&mut pages, &records[from..]);
+    pages
+}
+
+/// Redoes records on their pages, in their order.
+fn redo_records(pages: &mut [Page], records: &[Record])
+    requires within { AreWithin (length pages.old) records.now }
+    requires numbered { AreNumbered pages.old }
+    ensures { pages.new ≡ map (λ page. image_from page records.now) pages.old }
+{
+    for record in records {
+        redo_on_its_page(pages, record);
+    }
+}
