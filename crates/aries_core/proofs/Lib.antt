@@ -1,6 +1,7 @@
 pub mod Appends
 pub mod Beside
 pub mod Calls
+pub mod CkptCalls
 pub mod CkptFits
 pub mod Fit
 pub mod Follows

@@ -84,7 +84,10 @@ impl<S: PageStore, D: LogDevice> Engine<S, D> {
             → D.failures self.old.device < D.failures self.new.device) }
     {
         self.find_gathered()?;
-        let Some(OpenCkpt::Gathered(ckpt)) = self.session.take() else {
+        let Some(session) = self.session.take() else {
+            unreachable!();
+        };
+        let Some(ckpt) = session.into_gathered() else {
             unreachable!();
         };
         match ckpt.finish(&mut self.log, &self.pool) {
