@@ -32,8 +32,8 @@ use Rattle.aries_core.specs.Gather.{Left, is_done, left_of, none_left, pages_lef
 use Rattle.aries_core.specs.Refusal.{refusal}
 use Rattle.aries_core.specs.Step.{Fails, ForcedPart, Step, TakesMemory}
 use Rattle.aries_core.proofs.Fit.{fit_of_step}
-use Rattle.aries_core.proofs.Follows.{follows, gather_record_has}
-use Rattle.aries_core.proofs.GatherSteps.{cursor_after_txn, end_ckpt_follows, first_txn, past_is_session}
+use Rattle.aries_core.proofs.Follows.{follows, gather_record_has, none_is_not_some}
+use Rattle.aries_core.proofs.GatherSteps.{cursor_after_txn, end_ckpt_follows, first_txn, gathering_of, past_is_session}
 use Rattle.aries_core.proofs.Gathers.{FindsPages, FindsTxn, PassesPages, PassesTxns, TakesPages, TakesTxn, WasDone}
 use Rattle.aries_core.proofs.Gathers.{at_left, ckpt_end_is, gather_case, pages_record, txn_entry, with_pages, with_txn}
 use Rattle.aries_core.proofs.Refusals.{ckpt_begin_passes, ckpt_end_passes, gather_passes}
@@ -137,6 +137,20 @@ session_is : {S : Type 0} (stored : S → List Page) (s : EngineState) (table : 
     → open_checkpoint s.log ≡ Some c → ckpts.session ≡ Some v → v ≡ session_of s.left c
 session_is stored s table pool ckpts c v kept is has =
     same_Some _ _ (sym has ∙ kept.session_of_log ∙ ap (option_map (session_of s.left)) is)
+
+-- what the engine knows of its session
+pub session_covered : {S : Type 0} (stored : S → List Page) (s : EngineState) (table : Table) (pool : PoolView S)
+    (ckpts : CkptsView) (v : CkptView Phase) → IsKept stored s table pool ckpts → ckpts.session ≡ Some v
+    → IsCkptOf s.log v × AreCovered s.log s.stored v
+session_covered stored s table pool ckpts v kept has = by_open (open_checkpoint s.log) refl
+  where
+    by_open : (o : Option Checkpoint) → open_checkpoint s.log ≡ o → IsCkptOf s.log v × AreCovered s.log s.stored v
+    by_open None is =
+        absurd (none_is_not_some (sym (kept.session_of_log ∙ ap (option_map (session_of s.left)) is) ∙ has))
+    by_open (Some c) is =
+        let same = session_is stored s table pool ckpts c v kept is has in
+        let now = gathering_of s c s.left kept.fit is refl in
+        (subst (IsCkptOf s.log) (sym same) now.ckpt, subst (AreCovered s.log s.stored) (sym same) now.covered)
 
 gathered_kept : {S D : Type 0} (stored : S → List Page) (it new : WrittenLog D) (table : Table) (pool : PoolView S)
     (ckpts after : CkptsView) (reply : Result Answer Refusal) (next : Option Record)

@@ -90,17 +90,17 @@ impl<S: PageStore, D: LogDevice> Engine<S, D> {
         let Some(ckpt) = session.into_gathered() else {
             unreachable!();
         };
-        match ckpt.finish(&mut self.log, &self.pool) {
-            Ok(point) => {
-                self.master = Some(point);
-                Ok(point)
-            }
+        let point = match ckpt.finish(&mut self.log, &self.pool) {
+            Ok(point) => point,
             Err(FinishFault::OutOfMemory(ckpt)) => {
                 self.session = Some(OpenCkpt::Gathered(ckpt));
-                Err(Refusal::OutOfMemory)
+                return Err(Refusal::OutOfMemory);
             }
-            Err(FinishFault::LogFault) => Err(Refusal::LogFault),
-        }
+            Err(FinishFault::LogFault) => return Err(Refusal::LogFault),
+        };
+        let Point { begin, end, redo } = point;
+        self.master = Some(Point { begin, end, redo });
+        Ok(Point { begin, end, redo })
     }
 
     /// The last complete checkpoint whose end is forced.
