@@ -30,7 +30,7 @@ impl Model for History {
 
     ghost view = { λ history. record {
       table = history.txns;
-      checkpoints = history.checkpoints;
+      checkpoints = history.checkpoints.table;
       pages = history.pages.items;
     } };
 
@@ -80,11 +80,9 @@ impl History {
         {
             return Ok(false);
         }
-        self.checkpoints.note(next)?;
-        if let Err(error) = self.txns.note(next) {
-            self.checkpoints.take_back();
-            return Err(error);
-        }
+        self.checkpoints.make_room()?;
+        self.txns.note(next)?;
+        self.checkpoints.note(next);
         redo_on_its_page(&mut self.pages, next);
         Ok(true)
     }
