@@ -1,11 +1,13 @@
 -- The next dirty pages of a log: what they are, and that none before the last of them is left out.
-use Rattle.std.proofs.Common.{◌≡◌, ℕ, zero, suc, ◌+◌, ◌<◌, ◌≤◌, Bool, true, false, cond, List, [], ◌∷◌, length, get_or, take}
+use Rattle.std.proofs.Common.{◌≡◌, ℕ, zero, suc, ◌+◌, ◌<◌, ◌≤◌, Bool, true, false, cond, List, [], ◌∷◌, length, get_or}
+use Rattle.std.proofs.Common.{take}
 use Rattle.std.proofs.Common.{refl, sym, ap, subst, ◌∙◌, arith, inl, inr, ◌⊎◌}
 use Rattle.std.specs.Prelude.{Option, Some, None, nat_le}
 use Rattle.std.specs.List.{All, Contains, cons_option, filter, filter_map, range_with_len}
 use Rattle.std.specs.Option.{option_map}
 use Rattle.std.proofs.lemmas.Bool.{cases_eq, cases_lt, le-leb, leb-true, lt-leb}
-use Rattle.std.proofs.lemmas.List.Elements.{All-cons, All-filter, All-head, All-nil, All-take, All-weaker, filter_passes}
+use Rattle.std.proofs.lemmas.List.Elements.{All-cons, All-filter, All-head, All-nil, All-take, All-weaker}
+use Rattle.std.proofs.lemmas.List.Elements.{filter_passes}
 use Rattle.log_records.specs.declared.dirty_page.DirtyPage.{DirtyPage}
 use Rattle.log_records.specs.declared.dirty_page.DirtyPages.{DirtyPages}
 use Rattle.log_records.specs.declared.dirty_page.DirtyPages.TheVariants.{One, Two, Three}
@@ -34,7 +36,8 @@ pub record IsEntry (f : ℕ → Option ℕ) (from end : ℕ) (e : DirtyPage) : T
   pub dirty : f e.page ≡ Some e.rec_lsn
 
 All-cons_option : (P : DirtyPage → Type 0) (p : ℕ) (o : Option ℕ) (es : List DirtyPage)
-    → ((lsn : ℕ) → o ≡ Some lsn → P (record { page = p; rec_lsn = lsn })) → All P es → All P (cons_option (entry p o) es)
+    → ((lsn : ℕ) → o ≡ Some lsn → P (record { page = p; rec_lsn = lsn })) → All P es
+    → All P (cons_option (entry p o) es)
 All-cons_option P p None es new all = all
 All-cons_option P p (Some lsn) es new all = All-cons P (record { page = p; rec_lsn = lsn }) es (new lsn refl) all
 
@@ -59,7 +62,8 @@ rising_entries : (f : ℕ → Option ℕ) (a n : ℕ) → AreRising (entries f a
 rising_entries f a zero = tt
 rising_entries f a (suc n) = by_lsn (f a) (rising_entries f (a + 1) n)
   where
-    by_lsn : (o : Option ℕ) → AreRising (entries f (a + 1) n) → AreRising (cons_option (entry a o) (entries f (a + 1) n))
+    by_lsn : (o : Option ℕ) → AreRising (entries f (a + 1) n)
+        → AreRising (cons_option (entry a o) (entries f (a + 1) n))
     by_lsn None rest = rest
     by_lsn (Some lsn) rest = (
       All-weaker (IsEntry f (a + 1) (a + 1 + n)) (λ x. a < x.page) (λ x is. let later = is.later in omega arith)
@@ -96,7 +100,8 @@ behind e x es has = (suc has.0, let lt = has.1 in omega arith, has.2)
 
 module _ (f : ℕ → Option ℕ) (from a n p lsn : ℕ) (low : a ≤ p) (le : from ≤ p) (is : f p ≡ Some lsn)
     (later : (k : ℕ) → a < p → Among k (take k (above from (entries f (a + 1) n))) p lsn) where
-  taken : (k l : ℕ) → f a ≡ Some l → Among k (take k (record { page = a; rec_lsn = l } ∷ above from (entries f (a + 1) n))) p lsn
+  taken : (k l : ℕ) → f a ≡ Some l
+      → Among k (take k (record { page = a; rec_lsn = l } ∷ above from (entries f (a + 1) n))) p lsn
   taken zero l here = inr (omega arith, All-nil (λ (e : DirtyPage). e.page < p))
   taken (suc k) l here =
       let e : DirtyPage = record { page = a; rec_lsn = l } in
@@ -130,7 +135,8 @@ module _ (f : ℕ → Option ℕ) (from a n p lsn : ℕ) (low : a ≤ p) (le : f
             let lt : a < p = omega arith in
             subst (λ (b : Bool). Among k (take k (cond b (e ∷ es) es)) p lsn) (sym (lt-leb from a below)) (later k lt)
         | inr high ↦
-            subst (λ (b : Bool). Among k (take k (cond b (e ∷ es) es)) p lsn) (sym (le-leb from a high)) (taken k l here)
+            subst (λ (b : Bool). Among k (take k (cond b (e ∷ es) es)) p lsn) (sym (le-leb from a high))
+            (taken k l here)
       ]
 
 found : (f : ℕ → Option ℕ) (from k a n p lsn : ℕ) → a ≤ p → p < a + n → from ≤ p → f p ≡ Some lsn
@@ -202,7 +208,8 @@ none_between f from end (Three a b c) next p lsn le lt low is = elim (next.found
 -- none of them is past the last
 pub upto_last : (f : ℕ → Option ℕ) (from end : ℕ) (pages : DirtyPages) → AreNext f from end (entries_of pages)
     → All (λ e. e.page < last_page pages + 1) (entries_of pages)
-upto_last f from end (One a) next = All-cons (λ e. e.page < a.page + 1) a [] (omega arith) (All-nil (λ (e : DirtyPage). e.page < a.page + 1))
+upto_last f from end (One a) next = All-cons (λ e. e.page < a.page + 1) a [] (omega arith)
+    (All-nil (λ (e : DirtyPage). e.page < a.page + 1))
 upto_last f from end (Two a b) next =
     let P = λ (e : DirtyPage). e.page < b.page + 1 in
     let first : a.page < b.page = All-head (λ x. a.page < x.page) b [] next.rising.0 in
@@ -211,7 +218,8 @@ upto_last f from end (Three a b c) next =
     let P = λ (e : DirtyPage). e.page < c.page + 1 in
     let first : a.page < b.page = All-head (λ x. a.page < x.page) b (c ∷ []) next.rising.0 in
     let second : b.page < c.page = All-head (λ x. b.page < x.page) c [] next.rising.1.0 in
-    All-cons P a (b ∷ c ∷ []) (omega arith) (All-cons P b (c ∷ []) (omega arith) (All-cons P c [] (omega arith) (All-nil P)))
+    All-cons P a (b ∷ c ∷ []) (omega arith)
+    (All-cons P b (c ∷ []) (omega arith) (All-cons P c [] (omega arith) (All-nil P)))
 
 -- and the last is none before the cursor
 pub last_is : (f : ℕ → Option ℕ) (from end : ℕ) (pages : DirtyPages) → AreNext f from end (entries_of pages)

@@ -1,5 +1,6 @@
 -- The least of some numbers.
-use Rattle.std.proofs.Common.{◌≡◌, ℕ, suc, ◌≤◌, Bool, true, false, cond, List, [], ◌∷◌, refl, sym, ap, subst, ◌∙◌, arith, inl, inr, min}
+use Rattle.std.proofs.Common.{◌≡◌, ℕ, suc, ◌≤◌, Bool, true, false, cond, List, [], ◌∷◌, refl, sym, ap, subst, ◌∙◌}
+use Rattle.std.proofs.Common.{arith, inl, inr, min}
 use Rattle.std.specs.Prelude.{Option, Some, None, MatchOption}
 use Rattle.std.specs.List.{All, Contains, filter}
 use Rattle.std.specs.Option.{option_map_or}
@@ -61,7 +62,8 @@ of_kept f P (n ∷ ns) all = by_test (of_kept f P ns) (f n) refl
     by_test : (All P (filter f ns) → All (λ n. f n ≡ true → P n) ns) → (b : Bool) → f n ≡ b
         → All (λ n. f n ≡ true → P n) (n ∷ ns)
     by_test rest true e =
-        let here : All P (n ∷ filter f ns) = subst (λ (b : Bool). All P (cond b (n ∷ filter f ns) (filter f ns))) e all in
+        let here : All P (n ∷ filter f ns) = subst
+        (λ (b : Bool). All P (cond b (n ∷ filter f ns) (filter f ns))) e all in
         All-cons (λ n. f n ≡ true → P n) n ns (λ same. All-head P n (filter f ns) here)
         (rest (All-tail P n (filter f ns) here))
     by_test rest false e =

@@ -6,14 +6,16 @@ use Rattle.std.specs.List.{All, Contains, fold}
 use Rattle.std.proofs.Math.Nat.{min-eq_left, min-eq_right}
 use Rattle.std.proofs.lemmas.Bool.{cases_lt}
 use Rattle.std.proofs.lemmas.List.{take_all, take_more}
-use Rattle.std.proofs.lemmas.List.Elements.{All-append, All-cons, All-filter, All-from_recursion, All-head, All-map, All-nil}
+use Rattle.std.proofs.lemmas.List.Elements.{All-append, All-cons, All-filter, All-from_recursion, All-head, All-map}
+use Rattle.std.proofs.lemmas.List.Elements.{All-nil}
 use Rattle.std.proofs.lemmas.List.Elements.{All-push, All-tail, All-weaker}
 use Rattle.std.proofs.lemmas.List.Sums.{fold-append}
 use Rattle.log_records.specs.declared.dirty_page.DirtyPage.{DirtyPage}
 use Rattle.log_records.specs.declared.dirty_page.DirtyPages.{DirtyPages}
 use Rattle.log_records.specs.declared.dirty_page.DirtyPages.TheVariants.{One, Two, Three}
 use Rattle.log_records.specs.declared.record.Record.{Record}
-use Rattle.log_records.specs.declared.record.Record.TheVariants.{Begin, Update, Comp, Commit, Abort, End, BeginChkpt, ChkptPages, ChkptTxns, EndChkpt}
+use Rattle.log_records.specs.declared.record.Record.TheVariants.{Begin, Update, Comp, Commit, Abort, End, BeginChkpt}
+use Rattle.log_records.specs.declared.record.Record.TheVariants.{ChkptPages, ChkptTxns, EndChkpt}
 use Rattle.log_records.specs.DirtyPage.{entries_of}
 use Rattle.log_records.specs.Log.{IsLog, Log, lsn_of}
 use Rattle.log_records.specs.Record.{AreDirtyPages, IsBefore, IsOfTransaction, IsRecord, own_lsn}
@@ -26,7 +28,8 @@ use Rattle.fuzzy_ckpt.specs.Ckpt.{CkptView, HasBehind, IsCkptOf, Phase, gathered
 
 -- ---- one record more
 
-pub open_push : (rs : List Record) (r : Record) → open_checkpoint (rs ++ r ∷ []) ≡ checkpoint_after (open_checkpoint rs) r
+pub open_push : (rs : List Record) (r : Record)
+    → open_checkpoint (rs ++ r ∷ []) ≡ checkpoint_after (open_checkpoint rs) r
 open_push rs r = fold-append checkpoint_after None rs (r ∷ [])
 
 after_transaction : (o : Option Checkpoint) (r : Record) → IsOfTransaction r → checkpoint_after o r ≡ o
@@ -90,7 +93,8 @@ all_later at next c le are = record {
       (λ e is. later_before at next e.rec_lsn le is) c.pages are.pages;
 }
 
-entries_before : (at : ℕ) (pages : DirtyPages) → AreDirtyPages at pages → All (λ e. IsBefore at e.rec_lsn) (entries_of pages)
+entries_before : (at : ℕ) (pages : DirtyPages) → AreDirtyPages at pages
+    → All (λ e. IsBefore at e.rec_lsn) (entries_of pages)
 entries_before at (One a) are = All-from_recursion (λ e. IsBefore at e.rec_lsn) (a ∷ []) (are.rec_lsn, tt)
 entries_before at (Two a b) are =
     All-from_recursion (λ e. IsBefore at e.rec_lsn) (a ∷ b ∷ []) (are.0.rec_lsn, (are.1.rec_lsn, tt))
@@ -105,7 +109,11 @@ stays_before at (Some c) are = all_later at (at + 64) c (omega arith) are
 before_step : (at : ℕ) (r : Record) → own_lsn r ≡ at → IsRecord r → (o : Option Checkpoint) → IfSome o (AreBefore at)
     → IfSome (checkpoint_after o r) (AreBefore (at + 64))
 before_step at (BeginChkpt lsn) own valid o are =
-    record { begin = record { place = valid; earlier = omega arith }; pages = All-nil (λ (e : DirtyPage). IsBefore (at + 64) e.rec_lsn) }
+    record {
+      begin = record { place = valid; earlier = omega arith };
+      pages = All-nil
+          (λ (e : DirtyPage). IsBefore (at + 64) e.rec_lsn);
+    }
 before_step at (ChkptPages lsn begin pages) own valid None are = tt
 before_step at (ChkptPages lsn begin pages) own valid (Some c) are =
     let old = all_later at (at + 64) c (omega arith) are in
@@ -137,7 +145,8 @@ before_each log valid (suc n) le =
     let next : n + 1 ≡ suc n = omega arith in
     let more : take (n + 1) rs ≡ take n rs ++ r ∷ [] = take_more rs n (BeginChkpt 0) (omega arith) in
     let lsn : lsn_of n + 64 ≡ lsn_of (suc n) = omega arith in
-    let step = before_step (lsn_of n) r stands.lsn stands.valid (open_checkpoint (take n rs)) (before_each log valid n (omega arith)) in
+    let step = before_step (lsn_of n) r stands.lsn stands.valid (open_checkpoint (take n rs))
+    (before_each log valid n (omega arith)) in
     subst (λ (k : ℕ). IfSome (open_checkpoint (take k rs)) (AreBefore (lsn_of (suc n)))) next
     (subst (λ (xs : List Record). IfSome (open_checkpoint xs) (AreBefore (lsn_of (suc n)))) (sym more)
     (subst (λ (o : Option Checkpoint). IfSome o (AreBefore (lsn_of (suc n)))) (sym (open_push (take n rs) r))
@@ -161,7 +170,8 @@ redo_before at c are = lowered_has (IsBefore at) c.pages c.begin are.begin are.p
 abbrev Old : ℕ → (ℕ → Type 0) → Entry → Type 0
 Old begin P e = e.first < begin → P e.txn
 
-changed_old : (begin : ℕ) (P : ℕ → Type 0) (t : ℕ) (r : Record) → ((e : Entry) → Old begin P e → Old begin P (entry_after e r))
+changed_old : (begin : ℕ) (P : ℕ → Type 0) (t : ℕ) (r : Record) → ((e : Entry) → Old begin P e
+    → Old begin P (entry_after e r))
     → (es : List Entry) → All (Old begin P) es
     → All (Old begin P) (map (λ e. cond (eqb e.txn t) (entry_after e r) e) es)
 changed_old begin P t r after es all =
@@ -175,7 +185,8 @@ changed_old begin P t r after es all =
 
 noted_old : (begin : ℕ) (P : ℕ → Type 0) (table : Table) (r : Record) → begin ≤ own_lsn r
     → All (Old begin P) table.entries → All (Old begin P) (noted table r).entries
-noted_old begin P table (Begin lsn txn) le all = All-push (Old begin P) table.entries _ all (λ low. absurd (omega arith))
+noted_old begin P table (Begin lsn txn) le all = All-push (Old begin P) table.entries _ all
+    (λ low. absurd (omega arith))
 noted_old begin P table (Update lsn txn prev page slot change) le all =
     changed_old begin P txn (Update lsn txn prev page slot change) (λ e is. is) table.entries all
 noted_old begin P table (Comp lsn txn prev undo_next page slot change) le all =

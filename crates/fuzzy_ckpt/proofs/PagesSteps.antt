@@ -1,11 +1,13 @@
 -- A step over pages: its record may come next, and what the checkpoint is after it.
-use Rattle.std.proofs.Common.{◌≡◌, ℕ, ◌+◌, ◌-◌, ◌<◌, ◌≤◌, eqb, true, false, List, [], ◌∷◌, ◌++◌, length, get_or, refl, sym, ap, subst, ◌∙◌}
+use Rattle.std.proofs.Common.{◌≡◌, ℕ, ◌+◌, ◌-◌, ◌<◌, ◌≤◌, eqb, true, false, List, [], ◌∷◌, ◌++◌, length, get_or, refl}
+use Rattle.std.proofs.Common.{sym, ap, subst, ◌∙◌}
 use Rattle.std.proofs.Common.{arith, inl, inr, eqb-true, min}
 use Rattle.std.specs.Prelude.{Option, Some, None, IfSome, IsSomeAnd, MatchOption, nat_lt}
 use Rattle.std.specs.List.{All, AllByRecursion, Contains, filter}
 use Rattle.std.specs.Option.{option_map_or}
 use Rattle.std.proofs.lemmas.Bool.{cases_lt}
-use Rattle.std.proofs.lemmas.List.Elements.{All-append, All-contains, All-contains_itself, All-filter, All-get_or, All-nil, All-weaker}
+use Rattle.std.proofs.lemmas.List.Elements.{All-append, All-contains, All-contains_itself, All-filter, All-get_or}
+use Rattle.std.proofs.lemmas.List.Elements.{All-nil, All-weaker}
 use Rattle.std.proofs.lemmas.List.Elements.{recursion_from_All}
 use Rattle.std.proofs.lemmas.List.{length-map}
 use Rattle.std.proofs.lemmas.List.Sums.{fold-append}
@@ -32,7 +34,8 @@ use Rattle.buffer_pool.specs.Pool.{IsPoolOf, PageState, PoolView, writing_of, wr
 use Rattle.fuzzy_ckpt.specs.Ckpt.{AreCovered, CkptView, IsCkptOf, in_txns, pages_ckpt}
 use Rattle.fuzzy_ckpt.specs.Steps.{Gathering, end_of, last_page, pages_step, past_pages}
 use Rattle.fuzzy_ckpt.proofs.Covers.{now_covers}
-use Rattle.fuzzy_ckpt.proofs.Dirty.{AreNext, IsEntry, last_is, lsn_at, next_dirty_are, none_between, none_left, pages_of_entries, upto_last}
+use Rattle.fuzzy_ckpt.proofs.Dirty.{AreNext, IsEntry, last_is, lsn_at, next_dirty_are, none_between, none_left}
+use Rattle.fuzzy_ckpt.proofs.Dirty.{pages_of_entries, upto_last}
 use Rattle.fuzzy_ckpt.proofs.Ends.{end_is_lsn}
 use Rattle.fuzzy_ckpt.proofs.Leasts.{from_none, from_some, least_in}
 use Rattle.fuzzy_ckpt.proofs.Opens.{begin_before, ckpt_redo_before, lowered, lowered_falls, lowered_least, open_push}
@@ -40,8 +43,8 @@ use Rattle.fuzzy_ckpt.proofs.Opens.{begin_before, ckpt_redo_before, lowered, low
 -- ---- one stored page
 
 -- it lacks nothing below its RecLSN, and nothing at all where it has none
-stored_covers : (log : Log) (stored : List Page) (written : List ℕ) (writing : List (Option Page)) (p bound : ℕ) (d : Page)
-    → IsLog log → AreStored log.records stored written writing → p < length stored
+stored_covers : (log : Log) (stored : List Page) (written : List ℕ) (writing : List (Option Page)) (p bound : ℕ)
+    (d : Page) → IsLog log → AreStored log.records stored written writing → p < length stored
     → ((lsn : ℕ) → lsn_at log.records written p ≡ Some lsn → bound ≤ lsn)
     → Covers log.records p (get_or stored p d) bound
 stored_covers log stored written writing p bound d valid are there high = by_lsn (lsn_at log.records written p) refl
@@ -92,7 +95,8 @@ module _ (log : Log) (stored : List Page) (written : List ℕ) (writing : List (
             let last = (last_is (lsn_at rs written) c.phase (length written) pages next).1 in
             stored_covers log stored written writing p low d valid are lt (λ lsn some.
             All-contains (λ e. low ≤ e.rec_lsn) es (record { page = p; rec_lsn = lsn }) (lowered_least es c.redo)
-            (none_between (lsn_at rs written) c.phase (length written) pages next p lsn behind (omega arith) passed some))
+            (none_between (lsn_at rs written) c.phase (length written) pages next p lsn behind
+            (omega arith) passed some))
       ]
 
   pub none_covered : next_dirty (dirty log.records written) c.phase ≡ [] → (number : ℕ)
@@ -115,7 +119,8 @@ module _ (log : Log) (stored : List Page) (written : List ℕ) (writing : List (
 
 -- ---- a RecLSN is the LSN of a change
 
-pub rec_is_change : (rs : List Record) (p written lsn : ℕ) → rec_lsn rs p written ≡ Some lsn → Contains (changes_on rs p) lsn
+pub rec_is_change : (rs : List Record) (p written lsn : ℕ) → rec_lsn rs p written ≡ Some lsn
+    → Contains (changes_on rs p) lsn
 rec_is_change rs p written lsn is =
     All-contains (Contains (changes_on rs p)) (filter (nat_lt written) (changes_on rs p)) lsn
     (All-filter (nat_lt written) (Contains (changes_on rs p)) (changes_on rs p) (All-contains_itself (changes_on rs p)))
@@ -163,7 +168,8 @@ more_kept rs c lsn pages is behind upto =
           ∙ sym (fold-append (λ least (e : DirtyPage). min least e.rec_lsn) old.begin old.pages es);
       behind = (
         All-append (λ e. e.page < last_page pages + 1) old.pages es
-            (All-weaker (λ e. e.page < c.phase) (λ e. e.page < last_page pages + 1) (λ e lt. omega arith) old.pages is.behind.0)
+            (All-weaker (λ e. e.page < c.phase) (λ e. e.page < last_page pages + 1)
+            (λ e lt. omega arith) old.pages is.behind.0)
             upto,
         is.behind.1,
       );
@@ -187,7 +193,8 @@ pages_follow rs written c pages lsn next is =
     } in (
       subst (λ (o : Option Checkpoint). IsSomeAnd o (MayRecordPages c.begin pages)) (sym is.still_open) may,
       recursion_from_All (λ e. Contains (changes_on rs e.page) e.rec_lsn) es
-          (All-weaker (IsEntry (lsn_at rs written) c.phase (length written)) (λ e. Contains (changes_on rs e.page) e.rec_lsn)
+          (All-weaker (IsEntry (lsn_at rs written) c.phase (length written))
+          (λ e. Contains (changes_on rs e.page) e.rec_lsn)
           (λ e it. rec_is_change rs e.page (get_or written e.page 0) e.rec_lsn it.dirty) es next.each),
     )
 
@@ -256,7 +263,8 @@ pub record MorePages (log : Log) (stored : List Page) (written : List ℕ) (c : 
   pub follows : MayFollow log.records (ChkptPages (end_of log.records) c.begin pages)
   pub stands : length log.records < MAX_RECORDS
       → StandsAt log.pages (end_of log.records) (ChkptPages (end_of log.records) c.begin pages)
-  pub kept : IsCkptOf (log.records ++ ChkptPages (end_of log.records) c.begin pages ∷ []) (past_pages pages (pages_ckpt c))
+  pub kept : IsCkptOf (log.records ++ ChkptPages (end_of log.records) c.begin pages ∷ [])
+      (past_pages pages (pages_ckpt c))
   pub covered : AreCovered (log.records ++ ChkptPages (end_of log.records) c.begin pages ∷ []) stored
       (past_pages pages (pages_ckpt c))
 
@@ -291,7 +299,8 @@ more_pages log stored written writing c pages valid count are is covered found =
       kept = more_kept rs c (end_of rs) pages is last.0 (upto_last (lsn_at rs written) c.phase end pages next);
       covered = λ p d lt passed.
           let sooner = before.earlier in
-          covers_later rs (ChkptPages (end_of rs) c.begin pages) p (get_or stored p d) (lowered c.redo (entries_of pages))
+          covers_later rs (ChkptPages (end_of rs) c.begin pages) p (get_or stored p d)
+          (lowered c.redo (entries_of pages))
           (omega arith) (more_covered log stored written writing c valid count are covered pages found p d lt passed);
     }
 

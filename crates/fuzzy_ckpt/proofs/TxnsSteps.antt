@@ -7,12 +7,14 @@ use Rattle.std.specs.Option.{option_map, option_map_or}
 use Rattle.std.proofs.lemmas.Bool.{cases_lt, le-leb, leb-true}
 use Rattle.std.proofs.lemmas.List.{length-map}
 use Rattle.std.proofs.lemmas.List.Elements.{All-contains, All-filter, All-get_or, All-head, All-map, All-nil}
-use Rattle.std.proofs.lemmas.List.Elements.{All-push, All-tail, All-take, All-weaker, Contains-append_left, Contains-push, filter_passes}
+use Rattle.std.proofs.lemmas.List.Elements.{All-push, All-tail, All-take, All-weaker, Contains-append_left}
+use Rattle.std.proofs.lemmas.List.Elements.{Contains-push, filter_passes}
 use Rattle.std.proofs.lemmas.Option.{get_or_from_slice_get, slice_get-get_or, slice_get_within}
 use Rattle.page_core.specs.declared.page.Page.{Page}
 use Rattle.log_records.specs.declared.limits.TheConstants.{MAX_RECORDS}
 use Rattle.log_records.specs.declared.record.Record.{Record}
-use Rattle.log_records.specs.declared.record.Record.TheVariants.{Begin, Update, Comp, Commit, Abort, End, BeginChkpt, ChkptPages, ChkptTxns, EndChkpt}
+use Rattle.log_records.specs.declared.record.Record.TheVariants.{Begin, Update, Comp, Commit, Abort, End, BeginChkpt}
+use Rattle.log_records.specs.declared.record.Record.TheVariants.{ChkptPages, ChkptTxns, EndChkpt}
 use Rattle.log_records.specs.Coverage.{Covers}
 use Rattle.log_records.specs.Log.{IsLog, Log, StandsAt}
 use Rattle.log_records.specs.Record.{IsBefore, IsTxn, own_lsn}
@@ -23,7 +25,8 @@ use Rattle.log_history.specs.declared.txn_state.TxnState.{TxnState}
 use Rattle.log_history.specs.Checkpoint.{Checkpoint, checkpoint_after}
 use Rattle.log_history.specs.Linked.{IsLinked, MayFollow, MayRecordTxn}
 use Rattle.log_history.specs.Table.{entry_of}
-use Rattle.log_history.specs.Transactions.{begun, first_lsn, is_open, last_lsn, last_of, last_or, open_in, pending, pending_from, records_of, txn_of, undo_next, with_pending}
+use Rattle.log_history.specs.Transactions.{begun, first_lsn, is_open, last_lsn, last_of, last_or, open_in, pending}
+use Rattle.log_history.specs.Transactions.{pending_from, records_of, txn_of, undo_next, with_pending}
 use Rattle.log_history.specs.TxnState.{state_of}
 use Rattle.log_history.proofs.Begun.{begun_bounds, open_has_begun, some_from_begin}
 use Rattle.txn_table.specs.TxnTable.{next_open}
@@ -42,9 +45,11 @@ before_end log valid = λ i d lt.
     let own = stands.lsn in
     record { place = (valid_change (get_or log.records i d) stands.valid).0; earlier = omega arith }
 
-own_before : (log : Log) (t : ℕ) → IsLog log → All (λ r. IsBefore (end_of log.records) (own_lsn r)) (records_of log.records t)
+own_before : (log : Log) (t : ℕ) → IsLog log
+    → All (λ r. IsBefore (end_of log.records) (own_lsn r)) (records_of log.records t)
 own_before log t valid =
-    All-filter (λ r. eqb (txn_of r) t) (λ r. IsBefore (end_of log.records) (own_lsn r)) log.records (before_end log valid)
+    All-filter (λ r. eqb (txn_of r) t) (λ r. IsBefore (end_of log.records) (own_lsn r)) log.records
+    (before_end log valid)
 
 is_txn : (rs : List Record) (t : ℕ) → IsLinked rs → length rs ≤ MAX_RECORDS → is_open rs t ≡ true → IsTxn t
 is_txn rs t linked few still_open =
@@ -104,7 +109,8 @@ pending_all : (at : ℕ) (changes : List PendingChange) (rs : List Record) → A
 pending_all at changes [] all each = all
 pending_all at changes (r ∷ rs) all each =
     let P = λ (r : Record). IsBefore at (own_lsn r) in
-    pending_all at (with_pending changes r) rs (pending_after at changes r (All-head P r rs each) all) (All-tail P r rs each)
+    pending_all at (with_pending changes r) rs (pending_after at changes r (All-head P r rs each) all)
+    (All-tail P r rs each)
 
 undo_before : (log : Log) (t : ℕ) → IsLog log → is_open log.records t ≡ true
     → IsBefore (end_of log.records) (undo_next log.records t)
@@ -129,7 +135,8 @@ next_at rs from t is =
     let has = least_in ns t is in (
       leb-true from t (All-contains (λ n. nat_le from n ≡ true) ns t (filter_passes (nat_le from) (open_in rs)) has),
       All-contains (λ n. is_open rs n ≡ true) ns t
-          (All-filter (nat_le from) (λ n. is_open rs n ≡ true) (open_in rs) (filter_passes (is_open rs) (begun rs))) has,
+          (All-filter (nat_le from) (λ n. is_open rs n ≡ true) (open_in rs)
+          (filter_passes (is_open rs) (begun rs))) has,
       of_kept (nat_le from) (λ n. t ≤ n) (open_in rs) (least_low ns t is),
     )
 
@@ -140,7 +147,8 @@ no_next rs from none =
 
 -- what a table answers of it
 pub table_found : (rs : List Record) (o : Option ℕ) (state : TxnState)
-    → Some state ≡ option_map (λ t. state_of (entry_of rs t)) o → (o ≡ Some state.txn) × (state ≡ state_of (entry_of rs state.txn))
+    → Some state ≡ option_map (λ t. state_of (entry_of rs t)) o
+    → (o ≡ Some state.txn) × (state ≡ state_of (entry_of rs state.txn))
 table_found rs None state is = absurd (cc)
 table_found rs (Some t) state is =
     let same : state ≡ state_of (entry_of rs t) = cc in
@@ -184,15 +192,20 @@ all_passed rs c is none =
 
 pub record MoreTxns (log : Log) (c : CkptView ℕ) (t : ℕ) : Type 0 where
   pub step : txns_step log.records c.phase (txns_ckpt c)
-      ≡ record { next = Some (txn_record log.records c.begin t); ckpt = record (txns_ckpt c) { phase = in_txns (t + 1) } }
+      ≡ record {
+        next = Some (txn_record log.records c.begin t);
+        ckpt = record (txns_ckpt c) { phase = in_txns (t + 1) };
+      }
   pub still_open : is_open log.records t ≡ true
   pub fits : t < MAX_RECORDS + 1
   pub follows : MayFollow log.records (txn_record log.records c.begin t)
   pub stands : length log.records < MAX_RECORDS
       → StandsAt log.pages (end_of log.records) (txn_record log.records c.begin t)
-  pub kept : IsCkptOf (log.records ++ txn_record log.records c.begin t ∷ []) (record (txns_ckpt c) { phase = in_txns (t + 1) })
+  pub kept : IsCkptOf (log.records ++ txn_record log.records c.begin t ∷ [])
+      (record (txns_ckpt c) { phase = in_txns (t + 1) })
 
-pub more_txns : (log : Log) (c : CkptView ℕ) (t : ℕ) → IsLog log → IsLinked log.records → IsCkptOf log.records (txns_ckpt c)
+pub more_txns : (log : Log) (c : CkptView ℕ) (t : ℕ) → IsLog log → IsLinked log.records
+    → IsCkptOf log.records (txns_ckpt c)
     → next_open log.records c.phase ≡ Some t → MoreTxns log c t
 more_txns log c t valid linked is found =
     let rs = log.records in
@@ -232,7 +245,8 @@ more_txns log c t valid linked is found =
         same_redo = is.same_redo;
         behind = (
           All-push (λ n. n < t + 1) old.txns t
-              (All-weaker (λ n. n < c.phase) (λ n. n < t + 1) (λ n lt. let le = at.0 in omega arith) old.txns is.behind.0)
+              (All-weaker (λ n. n < c.phase) (λ n. n < t + 1)
+              (λ n lt. let le = at.0 in omega arith) old.txns is.behind.0)
               (omega arith),
           old_kept rs r old.begin (λ n. n < t + 1 → Contains (old.txns ++ t ∷ []) n) linked may (omega arith)
               (λ i d lt early low. elim (cases_lt (get_or (open_in rs) i d) c.phase) [

@@ -30,8 +30,8 @@ pub record IsUnforced {D : Type 0} (old new : WrittenLog D) (r : Record) : Type 
   pub short : new.forced_end < end_of new.log.records
   pub at_record : EndsAtRecord new
 
--- what stands where a checkpoint did not come to its end: nothing has changed, and the checkpoint is
--- handed back; or its EndChkpt stands in the log, and is not forced
+-- what stands where a checkpoint did not come to its end: nothing has changed, and the checkpoint
+-- is handed back; or its EndChkpt stands in the log, and is not forced
 abbrev pub FailsAs : {D : Type 0} → WrittenLog D → WrittenLog D → CkptView Gathered → FinishFault
     → Type 0
 FailsAs old new c (OutOfMemory back) =

@@ -15,8 +15,8 @@ pub data Phase : Type 0 where
   in_txns : (from : ℕ) → Phase
   gathered : Phase
 
--- a checkpoint that is being taken: the LSN of its BeginChkpt, the least of it and of the RecLSNs so
--- far, and how far it has come
+-- a checkpoint that is being taken: the LSN of its BeginChkpt, the least of it and of the RecLSNs
+-- so far, and how far it has come
 pub record CkptView (P : Type 0) : Type 0 where
   pub begin : ℕ
   pub redo : ℕ

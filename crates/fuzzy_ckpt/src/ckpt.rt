@@ -21,8 +21,7 @@ ghost use Rattle.txn_table.specs.TxnTable.{IsTableOf};
 ghost use Rattle.fuzzy_ckpt.specs.Ckpt.{AllCover, AreCovered, IsCkptOf, gathered_ckpt, pages_ckpt};
 ghost use Rattle.fuzzy_ckpt.specs.Ckpt.{txns_ckpt};
 ghost use Rattle.fuzzy_ckpt.specs.Steps.{HasRoom, end_of, end_record, last_page, new_ckpt};
-ghost use Rattle.fuzzy_ckpt.specs.Steps.{pages_step};
-ghost use Rattle.fuzzy_ckpt.specs.Steps.{txn_record, txns_step, with_step};
+ghost use Rattle.fuzzy_ckpt.specs.Steps.{pages_step, txn_record, txns_step, with_step};
 ghost use Rattle.fuzzy_ckpt.specs.Answers.{FailsAs, IsLogFault, after_pages, after_txns};
 
 use crate::phase::{Gathered, Pages, Txns};
@@ -110,7 +109,8 @@ impl Ckpt<Pages> {
     ) -> Result<PagesStep, Ckpt<Pages>>
         requires ckpt { IsCkptOf log.old.log.records (pages_ckpt self) }
         requires pool { IsPoolOf S.stored log.old.log pool.now }
-        requires covered { AreCovered log.old.log.records (S.stored pool.now.store) (pages_ckpt self) }
+        requires covered { AreCovered log.old.log.records (S.stored pool.now.store)
+            (pages_ckpt self) }
         requires room { HasRoom log.old.log.records (pages_step log.old.log.records
             (written_of pool.now.states) self.phase (pages_ckpt self)).next }
 
@@ -235,7 +235,8 @@ impl Ckpt<Gathered> {
         pool: &Pool<S>,
     ) -> Result<Point, FinishFault>
         requires ckpt { IsCkptOf log.old.log.records (gathered_ckpt self) }
-        requires covered { AreCovered log.old.log.records (S.stored pool.now.store) (gathered_ckpt self) }
+        requires covered { AreCovered log.old.log.records (S.stored pool.now.store)
+            (gathered_ckpt self) }
         requires few { length log.old.log.records < MAX_RECORDS }
 
         ensures point { IfOk result (λ point. point ≡ record {

@@ -48,7 +48,8 @@ pub fn covered_pages_stay_covered_as_the_log_grows()
 pub fn covered_pages_stay_covered_as_pages_are_written()
     ensures behind { (rs : List Record) (stored : List Page) (it : CkptView Phase) (n : ℕ)
         (image d : Page) → IsPast rs n image → (slice_index_or stored n d).lsn ≤ image.lsn
-        → n < length stored → AreCovered rs stored it → AreCovered rs (slice_set stored n image) it }
+        → n < length stored → AreCovered rs stored it
+        → AreCovered rs (slice_set stored n image) it }
     ensures all { (rs : List Record) (stored : List Page) (bound n : ℕ) (image d : Page)
         → IsPast rs n image → (slice_index_or stored n d).lsn ≤ image.lsn
         → n < length stored → AllCover rs stored bound

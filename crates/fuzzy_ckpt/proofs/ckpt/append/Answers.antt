@@ -5,5 +5,6 @@ use Rattle.fuzzy_ckpt.proofs.ckpt.append.Goals as goal
 
 pub returns-clause-valid : goal.returns-clause-valid
 returns-clause-valid g c =
-    subst IsLog (sym (c.append.ensures.next ∙ ap (λ (l : Log). with_next l (c.args.next ∷ [])) c.make_room.ensures.same))
+    subst IsLog (sym (c.append.ensures.next ∙ ap
+    (λ (l : Log). with_next l (c.args.next ∷ [])) c.make_room.ensures.same))
     (valid_next c.args.log.now.log c.args.next c.end_of-end.ensures.valid c.requires.few c.requires.stands)

@@ -12,17 +12,21 @@ append-requires-clause-stands g c =
     let log = c.args.log.now.log in
     subst (λ (n : ℕ). StandsAt log.pages (end_of log.records) (EndChkpt n c.self.inside.begin c.self.inside.redo))
     (sym c.end_of-lsn.ensures.end)
-    (subst (λ (v : CkptView Gathered). StandsAt log.pages (end_of log.records) (end_record log.records v)) (sym c.self.view_is)
+    (subst (λ (v : CkptView Gathered). StandsAt log.pages (end_of log.records) (end_record log.records v))
+    (sym c.self.view_is)
     (end_stands log c.args.self c.end_of-lsn.ensures.valid c.requires.ckpt c.requires.few))
 
 pub returns-in-Ok-clause-stored : goal.returns-in-Ok-clause-stored
 returns-in-Ok-clause-stored g c =
     let log = c.args.log.now.log in
     let stored = g.S.PageStore.stored c.args.pool.now.store in
-    let logged : c.force_to.new.self.log ≡ with_next log (EndChkpt c.end_of-lsn.result c.self.inside.begin c.self.inside.redo ∷ []) =
-    c.force_to.ensures.same ∙ said c.append.result _ (sym c.is_err.ensures.value ∙ c.if-is_err.false) c.append.ensures.ok in
+    let logged : c.force_to.new.self.log ≡ with_next log
+    (EndChkpt c.end_of-lsn.result c.self.inside.begin c.self.inside.redo ∷ []) =
+    c.force_to.ensures.same ∙ said c.append.result _
+    (sym c.is_err.ensures.value ∙ c.if-is_err.false) c.append.ensures.ok in
     subst (λ (l : Log). AllCover l.records stored c.self.inside.redo) (sym logged)
-    (subst (λ (n : ℕ). AllCover (with_next log (EndChkpt n c.self.inside.begin c.self.inside.redo ∷ [])).records stored c.self.inside.redo)
+    (subst (λ (n : ℕ). AllCover (with_next log
+    (EndChkpt n c.self.inside.begin c.self.inside.redo ∷ [])).records stored c.self.inside.redo)
     (sym c.end_of-lsn.ensures.end)
     (subst (λ (v : CkptView Gathered). AllCover (with_next log (end_record log.records v ∷ [])).records stored v.redo)
     (sym c.self.view_is)
@@ -31,6 +35,7 @@ returns-in-Ok-clause-stored g c =
 pub returns-in-Ok-clause-order : goal.returns-in-Ok-clause-order
 returns-in-Ok-clause-order g c =
     let log = c.args.log.now.log in
-    subst (λ (n : ℕ). (c.self.inside.redo ≤ c.self.inside.begin) × (c.self.inside.begin < n)) (sym c.end_of-lsn.ensures.end)
+    subst (λ (n : ℕ). (c.self.inside.redo ≤ c.self.inside.begin) × (c.self.inside.begin < n))
+    (sym c.end_of-lsn.ensures.end)
     (subst (λ (v : CkptView Gathered). (v.redo ≤ v.begin) × (v.begin < end_of log.records)) (sym c.self.view_is)
     (end_order log c.args.self c.end_of-lsn.ensures.valid c.requires.ckpt))

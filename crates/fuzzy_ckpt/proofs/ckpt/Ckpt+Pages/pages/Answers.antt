@@ -14,7 +14,8 @@ pub returns-in_default-clause-covered : goal.returns-in_default-clause-covered
 returns-in_default-clause-covered g c =
     let log = c.args.log.now.log in
     let stored = g.S.PageStore.stored in
-    subst (λ (v : CkptView ℕ). AreCovered log.records (stored c.args.pool.now.store) (record (pages_ckpt v) { phase = in_txns 0 }))
+    subst (λ (v : CkptView ℕ). AreCovered log.records (stored c.args.pool.now.store)
+    (record (pages_ckpt v) { phase = in_txns 0 }))
     (sym c.self.view_is)
     (pool_none stored log c.args.pool.now c.args.self c.phase.inside.from c.dirty_from.result c.requires.pool
     c.requires.covered (c.phase.view_is ∙ ap (λ (v : CkptView ℕ). v.phase) c.self.view_is)
@@ -24,19 +25,22 @@ pub append-requires-clause-stands : goal.append-requires-clause-stands
 append-requires-clause-stands g c =
     let log = c.args.log.now.log in
     let pages = c.in-Some.pages in
-    let it = pool_more g.S.PageStore.stored log c.args.pool.now c.args.self c.phase.inside.from c.dirty_from.result pages
+    let it = pool_more g.S.PageStore.stored log c.args.pool.now c.args.self c.phase.inside.from c.dirty_from.result
+    pages
     c.requires.pool c.requires.ckpt c.requires.covered
     (c.phase.view_is ∙ ap (λ (v : CkptView ℕ). v.phase) c.self.view_is)
     (c.dirty_from.ensures log c.requires.pool) c.in-Some.is in
     let few = subst (λ (x : Gathering). HasRoom log.records x.next) it.step c.requires.room in
-    subst (λ (n : ℕ). StandsAt log.pages (end_of log.records) (ChkptPages n c.self.inside.begin pages)) (sym c.end-lsn.ensures)
+    subst (λ (n : ℕ). StandsAt log.pages (end_of log.records) (ChkptPages n c.self.inside.begin pages))
+    (sym c.end-lsn.ensures)
     (subst (λ (v : CkptView ℕ). StandsAt log.pages (end_of log.records) (ChkptPages (end_of log.records) v.begin pages))
     (sym c.self.view_is) (it.stands few))
 
 pub behind-requires : goal.behind-requires
 behind-requires g c =
     let log = c.args.log.now.log in
-    (pool_more g.S.PageStore.stored log c.args.pool.now c.args.self c.phase.inside.from c.dirty_from.result c.in-Some.pages
+    (pool_more g.S.PageStore.stored log c.args.pool.now c.args.self c.phase.inside.from c.dirty_from.result
+    c.in-Some.pages
     c.requires.pool c.requires.ckpt c.requires.covered
     (c.phase.view_is ∙ ap (λ (v : CkptView ℕ). v.phase) c.self.view_is)
     (c.dirty_from.ensures log c.requires.pool) c.in-Some.is).fits
@@ -63,7 +67,8 @@ pub returns-in-Ok-clause-ckpt : goal.returns-in-Ok-clause-ckpt
 returns-in-Ok-clause-ckpt g c =
     let log = c.args.log.now.log in
     let pages = c.in-Some.pages in
-    let it = pool_more g.S.PageStore.stored log c.args.pool.now c.args.self c.phase.inside.from c.dirty_from.result pages
+    let it = pool_more g.S.PageStore.stored log c.args.pool.now c.args.self c.phase.inside.from c.dirty_from.result
+    pages
     c.requires.pool c.requires.ckpt c.requires.covered
     (c.phase.view_is ∙ ap (λ (v : CkptView ℕ). v.phase) c.self.view_is)
     (c.dirty_from.ensures log c.requires.pool) c.in-Some.is in
@@ -83,14 +88,16 @@ returns-in-Ok-clause-ckpt g c =
       phase = in_pages c.behind.result;
     }))
     (sym logged)
-    (subst (IsCkptOf (with_next log (ChkptPages (end_of log.records) c.args.self.begin pages ∷ [])).records) (sym view) it.kept)
+    (subst (IsCkptOf (with_next log (ChkptPages (end_of log.records) c.args.self.begin pages ∷ [])).records)
+    (sym view) it.kept)
 
 pub returns-in-Ok-clause-covered : goal.returns-in-Ok-clause-covered
 returns-in-Ok-clause-covered g c =
     let log = c.args.log.now.log in
     let pages = c.in-Some.pages in
     let stored = g.S.PageStore.stored c.args.pool.now.store in
-    let it = pool_more g.S.PageStore.stored log c.args.pool.now c.args.self c.phase.inside.from c.dirty_from.result pages
+    let it = pool_more g.S.PageStore.stored log c.args.pool.now c.args.self c.phase.inside.from c.dirty_from.result
+    pages
     c.requires.pool c.requires.ckpt c.requires.covered
     (c.phase.view_is ∙ ap (λ (v : CkptView ℕ). v.phase) c.self.view_is)
     (c.dirty_from.ensures log c.requires.pool) c.in-Some.is in
@@ -110,5 +117,6 @@ returns-in-Ok-clause-covered g c =
       phase = in_pages c.behind.result;
     }))
     (sym logged)
-    (subst (AreCovered (with_next log (ChkptPages (end_of log.records) c.args.self.begin pages ∷ [])).records stored) (sym view)
+    (subst (AreCovered (with_next log (ChkptPages (end_of log.records) c.args.self.begin pages ∷ [])).records stored)
+    (sym view)
     it.covered)

@@ -21,7 +21,8 @@ pub append-requires-clause-stands : goal.append-requires-clause-stands
 append-requires-clause-stands g c =
     let log = c.args.log.now.log in
     let t = c.in-Some.state.txn in
-    let it = table_more log c.args.self c.phase.inside.from c.next_from.result c.in-Some.state c.end_of-lsn.ensures.valid
+    let it = table_more log c.args.self c.phase.inside.from c.next_from.result c.in-Some.state
+    c.end_of-lsn.ensures.valid
     c.requires.table.linked c.requires.ckpt (c.phase.view_is ∙ ap (λ (v : CkptView ℕ). v.phase) c.self.view_is)
     (c.next_from.ensures log.records c.requires.table) c.in-Some.is in
     let few = subst (λ (x : Gathering). HasRoom log.records x.next) it.0.step c.requires.room in
@@ -32,7 +33,8 @@ append-requires-clause-stands g c =
 pub next_number-requires : goal.next_number-requires
 next_number-requires g c =
     let log = c.args.log.now.log in
-    let it = table_more log c.args.self c.phase.inside.from c.next_from.result c.in-Some.state c.end_of-lsn.ensures.valid
+    let it = table_more log c.args.self c.phase.inside.from c.next_from.result c.in-Some.state
+    c.end_of-lsn.ensures.valid
     c.requires.table.linked c.requires.ckpt (c.phase.view_is ∙ ap (λ (v : CkptView ℕ). v.phase) c.self.view_is)
     (c.next_from.ensures log.records c.requires.table) c.in-Some.is in
     let fits = it.0.fits in
@@ -42,7 +44,8 @@ pub returns-in-Ok-clause-logged : goal.returns-in-Ok-clause-logged
 returns-in-Ok-clause-logged g c =
     let log = c.args.log.now.log in
     let t = c.in-Some.state.txn in
-    let it = table_more log c.args.self c.phase.inside.from c.next_from.result c.in-Some.state c.end_of-lsn.ensures.valid
+    let it = table_more log c.args.self c.phase.inside.from c.next_from.result c.in-Some.state
+    c.end_of-lsn.ensures.valid
     c.requires.table.linked c.requires.ckpt (c.phase.view_is ∙ ap (λ (v : CkptView ℕ). v.phase) c.self.view_is)
     (c.next_from.ensures log.records c.requires.table) c.in-Some.is in
     let made = c.txn_record-next.ensures log.records c.requires.table c.end_of-lsn.ensures.end it.0.still_open it.1
@@ -53,7 +56,8 @@ returns-in-Ok-clause-logged g c =
 pub returns-in-Ok-clause-follows : goal.returns-in-Ok-clause-follows
 returns-in-Ok-clause-follows g c =
     let log = c.args.log.now.log in
-    let it = table_more log c.args.self c.phase.inside.from c.next_from.result c.in-Some.state c.end_of-lsn.ensures.valid
+    let it = table_more log c.args.self c.phase.inside.from c.next_from.result c.in-Some.state
+    c.end_of-lsn.ensures.valid
     c.requires.table.linked c.requires.ckpt (c.phase.view_is ∙ ap (λ (v : CkptView ℕ). v.phase) c.self.view_is)
     (c.next_from.ensures log.records c.requires.table) c.in-Some.is in
     subst (λ (x : Gathering). IfSome x.next (MayFollow log.records)) (sym it.0.step) it.0.follows
@@ -61,7 +65,8 @@ returns-in-Ok-clause-follows g c =
 pub returns-in-Err-clause-follows : goal.returns-in-Err-clause-follows
 returns-in-Err-clause-follows g c =
     let log = c.args.log.now.log in
-    let it = table_more log c.args.self c.phase.inside.from c.next_from.result c.in-Some.state c.end_of-lsn.ensures.valid
+    let it = table_more log c.args.self c.phase.inside.from c.next_from.result c.in-Some.state
+    c.end_of-lsn.ensures.valid
     c.requires.table.linked c.requires.ckpt (c.phase.view_is ∙ ap (λ (v : CkptView ℕ). v.phase) c.self.view_is)
     (c.next_from.ensures log.records c.requires.table) c.in-Some.is in
     subst (λ (x : Gathering). IfSome x.next (MayFollow log.records)) (sym it.0.step) it.0.follows
@@ -70,7 +75,8 @@ pub returns-in-Ok-clause-ckpt : goal.returns-in-Ok-clause-ckpt
 returns-in-Ok-clause-ckpt g c =
     let log = c.args.log.now.log in
     let t = c.in-Some.state.txn in
-    let it = table_more log c.args.self c.phase.inside.from c.next_from.result c.in-Some.state c.end_of-lsn.ensures.valid
+    let it = table_more log c.args.self c.phase.inside.from c.next_from.result c.in-Some.state
+    c.end_of-lsn.ensures.valid
     c.requires.table.linked c.requires.ckpt (c.phase.view_is ∙ ap (λ (v : CkptView ℕ). v.phase) c.self.view_is)
     (c.next_from.ensures log.records c.requires.table) c.in-Some.is in
     let made = c.txn_record-next.ensures log.records c.requires.table c.end_of-lsn.ensures.end it.0.still_open it.1
@@ -93,14 +99,17 @@ pub returns-in-Ok-clause-covered : goal.returns-in-Ok-clause-covered
 returns-in-Ok-clause-covered g c = λ stored covered p d lt passed.
     let log = c.args.log.now.log in
     let t = c.in-Some.state.txn in
-    let it = table_more log c.args.self c.phase.inside.from c.next_from.result c.in-Some.state c.end_of-lsn.ensures.valid
+    let it = table_more log c.args.self c.phase.inside.from c.next_from.result c.in-Some.state
+    c.end_of-lsn.ensures.valid
     c.requires.table.linked c.requires.ckpt (c.phase.view_is ∙ ap (λ (v : CkptView ℕ). v.phase) c.self.view_is)
     (c.next_from.ensures log.records c.requires.table) c.in-Some.is in
     let made = c.txn_record-next.ensures log.records c.requires.table c.end_of-lsn.ensures.end it.0.still_open it.1
     ∙ ap (λ (v : CkptView ℕ). txn_record log.records v.begin t) c.self.view_is in
     let logged = c.in-Ok.ensures.ok ∙ ap (λ (r : Record). with_next log (r ∷ [])) made in
     subst (λ (l : Log). Covers l.records p (get_or stored p d) c.self.inside.redo) (sym logged)
-    (subst (λ (v : CkptView ℕ). Covers (with_next log (txn_record log.records c.args.self.begin t ∷ [])).records p (get_or stored p d) v.redo)
+    (subst (λ (v : CkptView ℕ). Covers (with_next log (txn_record log.records c.args.self.begin t ∷ [])).records p
+    (get_or stored p d) v.redo)
     (sym c.self.view_is)
-    (txns_cover log c.args.self stored (txn_record log.records c.args.self.begin t) c.end_of-lsn.ensures.valid c.requires.ckpt
+    (txns_cover log c.args.self stored
+    (txn_record log.records c.args.self.begin t) c.end_of-lsn.ensures.valid c.requires.ckpt
     refl covered p d lt))
