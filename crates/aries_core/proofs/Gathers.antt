@@ -91,14 +91,14 @@ abbrev done : EngineState → Outcome
 done s = record { answer = answer.Done; state = gathering s none_left }
 
 -- the step of a session
-abbrev step_at : EngineState → Checkpoint → Left → Gathering
+abbrev pub step_at : EngineState → Checkpoint → Left → Gathering
 step_at s c left = gather_step s.log s.written (session_of left c)
 
-at_left : (s : EngineState) (c : Checkpoint) (left : Left) → s.left ≡ left → next_step s c ≡ step_at s c left
+pub at_left : (s : EngineState) (c : Checkpoint) (left : Left) → s.left ≡ left → next_step s c ≡ step_at s c left
 at_left s c left is = ap (step_at s c) is
 
 -- it takes these pages, or goes on to transactions
-abbrev with_pages : EngineState → Checkpoint → Option DirtyPages → Gathering
+abbrev pub with_pages : EngineState → Checkpoint → Option DirtyPages → Gathering
 with_pages s c o =
     option_map_or (λ pages. record {
       next = Some (pages_record s c pages);
@@ -107,7 +107,7 @@ with_pages s c o =
     o (record { next = None; ckpt = record (session_of pages_left c) { phase = in_txns 0 } })
 
 -- it takes this transaction, or is done
-abbrev with_txn : EngineState → Checkpoint → Option ℕ → Gathering
+abbrev pub with_txn : EngineState → Checkpoint → Option ℕ → Gathering
 with_txn s c o =
     option_map_or (λ t. record {
       next = Some (txn_entry s c t);

@@ -1,9 +1,9 @@
 pub mod Accepted
 pub mod Call
+pub mod CkptReplies
 pub mod EngineState
 pub mod EventFits
 pub mod Gather
-pub mod GatherReplies
 pub mod OpenCkpt
 pub mod Refusal
 pub mod Run

@@ -52,11 +52,7 @@ impl<S: PageStore, D: LogDevice> Engine<S, D> {
             Ok(session) => {
                 let done = session.is_gathered();
                 self.session = Some(session);
-                Ok(if done {
-                    Gathered::Done
-                } else {
-                    Gathered::More
-                })
+                Ok(if done { Gathered::Done } else { Gathered::More })
             }
             Err(session) => {
                 self.session = Some(session);
@@ -84,20 +80,23 @@ impl<S: PageStore, D: LogDevice> Engine<S, D> {
             → D.failures self.old.device < D.failures self.new.device) }
     {
         self.find_gathered()?;
-        let Some(OpenCkpt::Gathered(ckpt)) = self.session.take() else {
+        let Some(session) = self.session.take() else {
             unreachable!();
         };
-        match ckpt.finish(&mut self.log, &self.pool) {
-            Ok(point) => {
-                self.master = Some(point);
-                Ok(point)
-            }
+        let Some(ckpt) = session.into_gathered() else {
+            unreachable!();
+        };
+        let point = match ckpt.finish(&mut self.log, &self.pool) {
+            Ok(point) => point,
             Err(FinishFault::OutOfMemory(ckpt)) => {
                 self.session = Some(OpenCkpt::Gathered(ckpt));
-                Err(Refusal::OutOfMemory)
+                return Err(Refusal::OutOfMemory);
             }
-            Err(FinishFault::LogFault) => Err(Refusal::LogFault),
-        }
+            Err(FinishFault::LogFault) => return Err(Refusal::LogFault),
+        };
+        let Point { begin, end, redo } = point;
+        self.master = Some(Point { begin, end, redo });
+        Ok(Point { begin, end, redo })
     }
 
     /// The last complete checkpoint whose end is forced.

@@ -124,8 +124,3 @@ pub fn the_written_lsns_are_those_answered()
         (new : EngineState) → Run (new_state pages) events replies new
         → new.written ≡ written_by pages events replies }
 {}
-
-/// Scratch.
-fn scratch_law()
-    ensures { (n : ℕ) → n ≤ n + n }
-{}

@@ -2,6 +2,7 @@
 #![tactic(auto)]
 
 mod checkpoint;
+mod ckpt_laws;
 mod engine;
 mod event;
 mod laws;
@@ -11,6 +12,11 @@ mod played;
 mod refusal;
 mod setup;
 
+pub use ckpt_laws::{
+    an_answered_point_is_the_master, an_unforced_checkpoint_leaves_the_master,
+    gather_left_is_exact, stored_pages_cover_the_redo_point, the_log_says_which_checkpoint_is_open,
+    the_master_is_the_last_point_answered, the_master_names_a_complete_checkpoint,
+};
 pub use engine::Engine;
 pub use event::{Answer, Event, Gathered, Reply, Undone};
 pub use laws::{

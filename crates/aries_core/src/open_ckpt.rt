@@ -1,10 +1,11 @@
 //! The session of a checkpoint that is open, whatever it gathers.
 
-ghost use Rattle.std.specs.Prelude.{ℕ, ◌≡◌, IfOk, IfErr, IsSome, IsTrue, ◌↔◌, OnOk, OnErr};
-ghost use Rattle.log_records.specs.Log.{Log};
+ghost use Rattle.std.specs.Prelude.{ℕ, ◌≡◌, false, IfOk, IfErr, IsSome, IsTrue, ◌↔◌, OnOk, OnErr};
+ghost use Rattle.std.specs.Prelude.{MatchOption};
+ghost use Rattle.log_records.specs.Log.{Log as LogValue};
 ghost use Rattle.buffer_pool.specs.Pool.{IsPoolOf, written_of};
 ghost use Rattle.txn_table.specs.TxnTable.{IsTableOf};
-ghost use Rattle.fuzzy_ckpt.specs.Ckpt.{AreCovered, IsCkptOf};
+ghost use Rattle.fuzzy_ckpt.specs.Ckpt.{AreCovered, IsCkptOf, gathered_ckpt};
 ghost use Rattle.fuzzy_ckpt.specs.Steps.{HasRoom, gather_step, with_step};
 ghost use Rattle.aries_core.specs.Gather.{is_done, left_of};
 ghost use Rattle.aries_core.specs.OpenCkpt.{view_of};
@@ -26,7 +27,7 @@ pub enum OpenCkpt {
 impl OpenCkpt {
     /// Whether the next step of the gather appends a record.
     pub(crate) fn would_append<S: PageStore>(&self, pool: &Pool<S>, txns: &TxnTable) -> bool
-        ensures { (log : Log) → IsPoolOf S.stored log pool.now
+        ensures { (log : LogValue) → IsPoolOf S.stored log pool.now
             → IsTableOf log.records txns.now
             → IsTrue result ↔ IsSome (gather_step log.records (written_of pool.now.states)
             (view_of self.now)).next }
@@ -45,6 +46,17 @@ impl OpenCkpt {
         matches!(self, OpenCkpt::Gathered(_))
     }
 
+    /// The checkpoint to be ended, if its gather has ended.
+    pub(crate) fn into_gathered(self) -> Option<Ckpt<fuzzy_ckpt::Gathered>>
+        ensures { MatchOption result (is_done (left_of (view_of self).phase) ≡ false)
+            (λ c. gathered_ckpt c ≡ view_of self) }
+    {
+        match self {
+            OpenCkpt::Gathered(ckpt) => Some(ckpt),
+            _ => None,
+        }
+    }
+
     /// Does one step of the gather. `Err` comes where memory is refused, with the checkpoint as it
     /// was.
     pub(crate) fn gather<S: PageStore, D: LogDevice>(
@@ -56,8 +68,7 @@ impl OpenCkpt {
         requires ckpt { IsCkptOf log.old.log.records (view_of self) }
         requires pool { IsPoolOf S.stored log.old.log pool.now }
         requires table { IsTableOf log.old.log.records txns.now }
-        requires covered {
-            AreCovered log.old.log.records (S.stored pool.now.store) (view_of self) }
+        requires covered { AreCovered log.old.log.records (S.stored pool.now.store) (view_of self) }
         requires room { HasRoom log.old.log.records (gather_step log.old.log.records
             (written_of pool.now.states) (view_of self)).next }
 

@@ -1,6 +1,6 @@
 use Rattle.std.proofs.Common.{◌∙◌, ◌∷◌, [], sym, ap, subst}
 use Rattle.log_records.specs.Log.{IsLog, Log, with_next}
-use Rattle.log_store.proofs.Scans.{valid_next}
+use Rattle.log_history.proofs.AtEnd.{valid_next}
 use Rattle.fuzzy_ckpt.proofs.ckpt.append.Goals as goal
 
 pub returns-clause-valid : goal.returns-clause-valid

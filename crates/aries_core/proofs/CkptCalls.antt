@@ -1,0 +1,289 @@
+-- The calls that take a checkpoint: what they make of an engine that is in step with its log.
+use Rattle.std.proofs.Common.{◌≡◌, ℕ, ◌+◌, ◌<◌, ◌≤◌, ◌++◌, Bool, true, false, List, [], ◌∷◌, length, refl, sym, ap, subst, ◌∙◌, arith, inr}
+use Rattle.std.specs.Prelude.{Option, Some, None, IsSomeAnd, Result, Ok, Err, if◌then◌else◌}
+use Rattle.std.specs.Option.{option_map, option_map_or}
+use Rattle.std.proofs.lemmas.Option.{same_Some}
+use Rattle.page_core.specs.declared.page.Page.{Page}
+use Rattle.log_records.specs.declared.limits.TheConstants.{MAX_RECORDS}
+use Rattle.log_records.specs.declared.record.Record.{Record}
+use Rattle.log_records.specs.declared.record.Record.TheVariants.{BeginChkpt}
+use Rattle.log_records.specs.Log.{IsLog, Log, lsn_of, with_next}
+use Rattle.log_records.specs.Record.{IsOfCheckpoint}
+use Rattle.log_history.specs.Checkpoint.{Checkpoint, checkpoint_after, open_checkpoint, redo_point}
+use Rattle.log_history.specs.Linked.{MayFollow}
+use Rattle.log_history.specs.Table.{Table}
+use Rattle.log_store.specs.WrittenLog.{WrittenLog}
+use Rattle.buffer_pool.specs.Pool.{IsPoolOf, PoolView, written_of}
+use Rattle.fuzzy_ckpt.specs.declared.point.Point.{Point}
+use Rattle.fuzzy_ckpt.specs.Ckpt.{AreCovered, CkptView, IsCkptOf, Phase, gathered, in_txns}
+use Rattle.fuzzy_ckpt.specs.Answers.{IsUnforced}
+use Rattle.fuzzy_ckpt.specs.Steps.{Gathering, end_of, end_record, gather_step, new_ckpt, with_step}
+use Rattle.fuzzy_ckpt.proofs.Beside.{pool_kept, table_kept}
+use Rattle.fuzzy_ckpt.proofs.Opens.{open_push}
+use Rattle.aries_core.specs.declared.event.Answer.{Answer}
+use Rattle.aries_core.specs.declared.event.Answer.TheVariants as answer
+use Rattle.aries_core.specs.declared.event.Event.{Event}
+use Rattle.aries_core.specs.declared.event.Event.TheVariants as event
+use Rattle.aries_core.specs.declared.refusal.Refusal.{Refusal}
+use Rattle.aries_core.specs.declared.refusal.Refusal.TheVariants.{LogFault, OutOfMemory}
+use Rattle.aries_core.specs.EngineState.{CkptsView, EngineState, IsFit, IsKept, closed, effect, end, end_ckpt_record, engine_view, forced_to, gather_effect, gathered_record, log_of, next_step, point_of}
+use Rattle.aries_core.specs.EventFits.{EventFits}
+use Rattle.aries_core.specs.Gather.{Left, is_done, left_of, none_left, pages_left, session_of, txns_left}
+use Rattle.aries_core.specs.Refusal.{refusal}
+use Rattle.aries_core.specs.Step.{Fails, ForcedPart, Step, TakesMemory}
+use Rattle.aries_core.proofs.Fit.{fit_of_step}
+use Rattle.aries_core.proofs.Follows.{follows, gather_record_has, none_is_not_some}
+use Rattle.aries_core.proofs.GatherSteps.{cursor_after_txn, end_ckpt_follows, first_txn, gathering_of, past_is_session}
+use Rattle.aries_core.proofs.Gathers.{FindsPages, FindsTxn, PassesPages, PassesTxns, TakesPages, TakesTxn, WasDone}
+use Rattle.aries_core.proofs.Gathers.{at_left, ckpt_end_is, gather_case, pages_record, txn_entry, with_pages, with_txn}
+use Rattle.aries_core.proofs.Refusals.{ckpt_begin_passes, ckpt_end_passes, gather_passes}
+
+-- what a call says of the state after it: it is a step, and the engine is in step with its log
+pub record CkptCalled {S D : Type 0} (stored : S → List Page) (it new : WrittenLog D) (table : Table) (pool : PoolView S)
+    (ckpts after : CkptsView) (call : Event) (reply : Result Answer Refusal) : Type 0 where
+  pub step : Step (engine_view stored it pool ckpts).state call reply (engine_view stored new pool after).state
+  pub kept : IsKept stored (engine_view stored new pool after).state table pool after
+
+-- the open checkpoint has this session
+abbrev HasSession : List Record → Option (CkptView Phase) → Type 0
+HasSession rs session =
+    session ≡ option_map (session_of (option_map_or (λ c. left_of c.phase) session pages_left)) (open_checkpoint rs)
+
+-- one record of a checkpoint more
+with_record : {S D : Type 0} (stored : S → List Page) (it new : WrittenLog D) (table : Table) (pool : PoolView S)
+    (ckpts after : CkptsView) (call : Event) (reply : Result Answer Refusal) (r : Record)
+    → IsKept stored (engine_view stored it pool ckpts).state table pool ckpts → EventFits call
+    → Step (engine_view stored it pool ckpts).state call reply (engine_view stored new pool after).state
+    → new.log ≡ with_next it.log (r ∷ []) → IsOfCheckpoint r → MayFollow it.log.records r
+    → length it.log.records < MAX_RECORDS → HasSession new.log.records after.session
+    → CkptCalled stored it new table pool ckpts after call reply
+with_record stored it new table pool ckpts after call reply r kept fits step logged of may few session =
+    let s = (engine_view stored it pool ckpts).state in
+    let fit = fit_of_step s call reply (engine_view stored new pool after).state kept.fit fits step in
+    let valid : IsLog (with_next it.log (r ∷ [])) = subst IsLog logged fit.valid in
+    record {
+      step = step;
+      kept = record {
+        fit = fit;
+        table_of_log = rw logged (table_kept it.log.records r table of may few kept.table_of_log);
+        pool_of_log = rw logged (pool_kept stored it.log r pool of valid kept.pool_of_log);
+        session_of_log = session;
+      };
+    }
+
+-- ---- a checkpoint begins
+
+pub ckpt_begun : {S D : Type 0} (stored : S → List Page) (it new : WrittenLog D) (table : Table) (pool : PoolView S)
+    (ckpts after : CkptsView) (lsn : ℕ) → IsKept stored (engine_view stored it pool ckpts).state table pool ckpts
+    → refusal (engine_view stored it pool ckpts).state event.CkptBegin ≡ None
+    → new.log ≡ with_next it.log (BeginChkpt (end_of it.log.records) ∷ []) → new.forced_end ≡ it.forced_end
+    → after ≡ record ckpts { session = Some (new_ckpt (end_of it.log.records)) } → lsn ≡ end_of it.log.records
+    → CkptCalled stored it new table pool ckpts after event.CkptBegin (Ok (answer.Logged lsn))
+ckpt_begun stored it new table pool ckpts after lsn kept none logged forced is at =
+    let s = (engine_view stored it pool ckpts).state in
+    let r = BeginChkpt (end_of it.log.records) in
+    let passes = ckpt_begin_passes s none in
+    let room = passes.room in
+    let state : (engine_view stored new pool after).state ≡ (effect s event.CkptBegin).state = rw (is, logged, forced) refl in
+    with_record stored it new table pool ckpts after event.CkptBegin (Ok (answer.Logged lsn)) r kept tt
+    (none, ap answer.Logged at, state) logged tt passes.idle (omega arith)
+    (rw (is, logged) (ap (option_map (session_of pages_left)) (sym (open_push it.log.records r))))
+
+-- ---- its gather goes on
+
+-- what a step of a gather leaves is the session of the checkpoint that is open after it
+abbrev LeavesSession : EngineState → Gathering → Type 0
+LeavesSession s g = HasSession (with_step (log_of s) g.next).records (Some g.ckpt)
+
+opened : (s : EngineState) (c : Checkpoint) (left : Left) (r : Record) → open_checkpoint s.log ≡ Some c
+    → option_map (session_of left) (open_checkpoint (s.log ++ r ∷ [])) ≡ option_map (session_of left) (checkpoint_after (Some c) r)
+opened s c left r is =
+    ap (option_map (session_of left)) (open_push s.log r ∙ ap (λ (o : Option Checkpoint). checkpoint_after o r) is)
+
+session_after : (s : EngineState) (c : Checkpoint) → IsFit s → open_checkpoint s.log ≡ Some c
+    → LeavesSession s (next_step s c)
+session_after s c fit is =
+    let view : Phase → CkptView Phase = λ phase. record { begin = c.begin; redo = redo_point c; phase = phase } in
+    elim (gather_case s c) [
+      | TakesPages pages finds ↦
+          subst (LeavesSession s) (sym (at_left s c pages_left finds.left ∙ ap (with_pages s c) finds.found))
+          (ap Some (past_is_session c pages) ∙ sym (opened s c pages_left (pages_record s c pages) is))
+      | PassesPages finds ↦
+          subst (LeavesSession s) (sym (at_left s c pages_left finds.left ∙ ap (with_pages s c) finds.found))
+          (ap (λ n. Some (view (in_txns n))) (sym (first_txn s c fit is finds.left))
+          ∙ sym (ap (option_map (session_of txns_left)) is))
+      | TakesTxn t finds ↦
+          subst (LeavesSession s) (sym (at_left s c txns_left finds.left ∙ ap (with_txn s c) finds.found))
+          (ap (λ n. Some (view (in_txns n))) (sym (cursor_after_txn c t)) ∙ sym (opened s c txns_left (txn_entry s c t) is))
+      | PassesTxns finds ↦
+          subst (LeavesSession s) (sym (at_left s c txns_left finds.left ∙ ap (with_txn s c) finds.found))
+          (sym (ap (option_map (session_of none_left)) is))
+      | WasDone left ↦
+          subst (LeavesSession s) (sym (at_left s c none_left left)) (sym (ap (option_map (session_of none_left)) is))
+    ]
+
+-- the state after a step
+gathered_state : {S D : Type 0} (stored : S → List Page) (it new : WrittenLog D) (pool : PoolView S)
+    (ckpts after : CkptsView) (next : Option Record) (v : CkptView Phase) → new.log ≡ with_step it.log next
+    → new.forced_end ≡ it.forced_end → after ≡ record ckpts { session = Some v }
+    → (engine_view stored new pool after).state
+    ≡ (gather_effect (engine_view stored it pool ckpts).state (record { next = next; ckpt = v })).state
+gathered_state stored it new pool ckpts after None v logged forced is = rw (is, logged, forced) refl
+gathered_state stored it new pool ckpts after (Some r) v logged forced is = rw (is, logged, forced) refl
+
+-- the open checkpoint is the one of the session
+session_is : {S : Type 0} (stored : S → List Page) (s : EngineState) (table : Table) (pool : PoolView S)
+    (ckpts : CkptsView) (c : Checkpoint) (v : CkptView Phase) → IsKept stored s table pool ckpts
+    → open_checkpoint s.log ≡ Some c → ckpts.session ≡ Some v → v ≡ session_of s.left c
+session_is stored s table pool ckpts c v kept is has =
+    same_Some _ _ (sym has ∙ kept.session_of_log ∙ ap (option_map (session_of s.left)) is)
+
+-- what the engine knows of its session
+pub session_covered : {S : Type 0} (stored : S → List Page) (s : EngineState) (table : Table) (pool : PoolView S)
+    (ckpts : CkptsView) (v : CkptView Phase) → IsKept stored s table pool ckpts → ckpts.session ≡ Some v
+    → IsCkptOf s.log v × AreCovered s.log s.stored v
+session_covered stored s table pool ckpts v kept has = by_open (open_checkpoint s.log) refl
+  where
+    by_open : (o : Option Checkpoint) → open_checkpoint s.log ≡ o → IsCkptOf s.log v × AreCovered s.log s.stored v
+    by_open None is =
+        absurd (none_is_not_some (sym (kept.session_of_log ∙ ap (option_map (session_of s.left)) is) ∙ has))
+    by_open (Some c) is =
+        let same = session_is stored s table pool ckpts c v kept is has in
+        let now = gathering_of s c s.left kept.fit is refl in
+        (subst (IsCkptOf s.log) (sym same) now.ckpt, subst (AreCovered s.log s.stored) (sym same) now.covered)
+
+gathered_kept : {S D : Type 0} (stored : S → List Page) (it new : WrittenLog D) (table : Table) (pool : PoolView S)
+    (ckpts after : CkptsView) (reply : Result Answer Refusal) (next : Option Record)
+    → IsKept stored (engine_view stored it pool ckpts).state table pool ckpts
+    → refusal (engine_view stored it pool ckpts).state event.CkptGather ≡ None
+    → Step (engine_view stored it pool ckpts).state event.CkptGather reply (engine_view stored new pool after).state
+    → gathered_record (engine_view stored it pool ckpts).state ≡ next → new.log ≡ with_step it.log next
+    → HasSession new.log.records after.session
+    → CkptCalled stored it new table pool ckpts after event.CkptGather reply
+gathered_kept stored it new table pool ckpts after reply None kept none step made logged session =
+    let s = (engine_view stored it pool ckpts).state in
+    record {
+      step = step;
+      kept = record {
+        fit = fit_of_step s event.CkptGather reply (engine_view stored new pool after).state kept.fit tt step;
+        table_of_log = rw logged kept.table_of_log;
+        pool_of_log = rw logged kept.pool_of_log;
+        session_of_log = session;
+      };
+    }
+gathered_kept stored it new table pool ckpts after reply (Some r) kept none step made logged session =
+    let s = (engine_view stored it pool ckpts).state in
+    let room = (gather_passes s none).room r made in
+    with_record stored it new table pool ckpts after event.CkptGather reply r kept tt step logged
+    (gather_record_has IsOfCheckpoint s r none made (λ c pages is finds. tt) (λ c t is finds. tt))
+    (follows s event.CkptGather r kept.fit none made) (omega arith) session
+
+pub ckpt_gathered : {S D : Type 0} (stored : S → List Page) (it new : WrittenLog D) (table : Table) (pool : PoolView S)
+    (ckpts after : CkptsView) (v w : CkptView Phase) (reply : Answer)
+    → IsKept stored (engine_view stored it pool ckpts).state table pool ckpts
+    → refusal (engine_view stored it pool ckpts).state event.CkptGather ≡ None → ckpts.session ≡ Some v
+    → new.log ≡ with_step it.log (gather_step it.log.records (written_of pool.states) v).next
+    → new.forced_end ≡ it.forced_end → after ≡ record ckpts { session = Some w }
+    → w ≡ (gather_step it.log.records (written_of pool.states) v).ckpt
+    → reply ≡ (if is_done (left_of w.phase) then answer.Done else answer.More)
+    → CkptCalled stored it new table pool ckpts after event.CkptGather (Ok reply)
+ckpt_gathered stored it new table pool ckpts after v w reply kept none has logged forced is left said =
+    let s = (engine_view stored it pool ckpts).state in
+    let passes = gather_passes s none in
+    let c = passes.ckpt in
+    let g = next_step s c in
+    let same : gather_step it.log.records (written_of pool.states) v ≡ g =
+    ap (gather_step it.log.records (written_of pool.states))
+    (session_is stored s table pool ckpts c v kept passes.still_open has) in
+    let next : new.log ≡ with_step it.log g.next = logged ∙ ap (λ (x : Gathering). with_step it.log x.next) same in
+    let ckpt : w ≡ g.ckpt = left ∙ ap (λ (x : Gathering). x.ckpt) same in
+    let now : after ≡ record ckpts { session = Some g.ckpt } = is ∙ ap (λ x. record ckpts { session = Some x }) ckpt in
+    let outcome : effect s event.CkptGather ≡ gather_effect s g =
+    ap (λ o. option_map_or (λ x. gather_effect s (next_step s x)) o (record { answer = answer.Done; state = s })) passes.still_open in
+    let state : (engine_view stored new pool after).state ≡ (effect s event.CkptGather).state =
+    gathered_state stored it new pool ckpts after g.next g.ckpt next forced now ∙ ap (λ o. o.state) (sym outcome) in
+    let answered : reply ≡ (effect s event.CkptGather).answer =
+    said ∙ ap (λ (x : CkptView Phase). if is_done (left_of x.phase) then answer.Done else answer.More) ckpt
+    ∙ ap (λ o. o.answer) (sym outcome) in
+    let made : gathered_record s ≡ g.next = ap (λ o. option_map_or (λ x. (next_step s x).next) o None) passes.still_open in
+    gathered_kept stored it new table pool ckpts after (Ok reply) g.next kept none (none, answered, state) made next
+    (rw (now, next) (session_after s c kept.fit passes.still_open))
+
+-- ---- it ends
+
+pub ckpt_ended : {S D : Type 0} (stored : S → List Page) (it new : WrittenLog D) (table : Table) (pool : PoolView S)
+    (ckpts after : CkptsView) (v : CkptView Phase) (point : Point)
+    → IsKept stored (engine_view stored it pool ckpts).state table pool ckpts
+    → refusal (engine_view stored it pool ckpts).state event.CkptEnd ≡ None → ckpts.session ≡ Some v
+    → new.log ≡ with_next it.log (end_record it.log.records v ∷ []) → new.forced_end ≡ end_of new.log.records
+    → after ≡ record { master = Some point; session = None }
+    → point ≡ record { begin = v.begin; end = end_of it.log.records; redo = v.redo }
+    → CkptCalled stored it new table pool ckpts after event.CkptEnd (Ok (answer.Point point.begin point.end point.redo))
+ckpt_ended stored it new table pool ckpts after v point kept none has logged forced is at =
+    let s = (engine_view stored it pool ckpts).state in
+    let passes = ckpt_end_passes s none in
+    let c = passes.ckpt in
+    let r = end_ckpt_record s c in
+    let same = session_is stored s table pool ckpts c v kept passes.still_open has in
+    let next : new.log ≡ with_next it.log (r ∷ []) =
+    logged ∙ ap (λ (x : CkptView Phase). with_next it.log (end_record it.log.records x ∷ [])) same in
+    let named : point ≡ point_of s c =
+    at ∙ ap (λ (x : CkptView Phase). record { begin = x.begin; end = end_of it.log.records; redo = x.redo }) same in
+    let ends : new.forced_end ≡ end_of (it.log.records ++ r ∷ []) = forced ∙ ap (λ (l : Log). end_of l.records) next in
+    let outcome = ckpt_end_is s c passes.still_open in
+    let state : (engine_view stored new pool after).state ≡ (effect s event.CkptEnd).state =
+    rw (outcome, is, next, ends, named) refl in
+    let answered : answer.Point point.begin point.end point.redo ≡ (effect s event.CkptEnd).answer =
+    rw (outcome, named) refl in
+    let room = passes.room in
+    with_record stored it new table pool ckpts after event.CkptEnd (Ok (answer.Point point.begin point.end point.redo)) r
+    kept tt (none, answered, state) next tt (end_ckpt_follows s c kept.fit passes.still_open passes.done) (omega arith)
+    (rw (is, next) (ap (option_map (session_of pages_left)) (sym (open_push it.log.records r))))
+
+-- the log's device failed
+pub ckpt_unforced : {S D : Type 0} (stored : S → List Page) (it new : WrittenLog D) (table : Table) (pool : PoolView S)
+    (ckpts after : CkptsView) (v : CkptView Phase)
+    → IsKept stored (engine_view stored it pool ckpts).state table pool ckpts
+    → refusal (engine_view stored it pool ckpts).state event.CkptEnd ≡ None → ckpts.session ≡ Some v
+    → IsUnforced it new (end_record it.log.records v) → after ≡ record ckpts { session = None }
+    → CkptCalled stored it new table pool ckpts after event.CkptEnd (Err LogFault)
+ckpt_unforced stored it new table pool ckpts after v kept none has failed is =
+    let s = (engine_view stored it pool ckpts).state in
+    let passes = ckpt_end_passes s none in
+    let c = passes.ckpt in
+    let r = end_ckpt_record s c in
+    let same = session_is stored s table pool ckpts c v kept passes.still_open has in
+    let next : new.log ≡ with_next it.log (r ∷ []) =
+    failed.logged ∙ ap (λ (x : CkptView Phase). with_next it.log (end_record it.log.records x ∷ [])) same in
+    let k = failed.at_record.0 in
+    let at : new.forced_end ≡ lsn_of k = failed.at_record.2 in
+    let short = failed.short in
+    let longer = ap (λ (l : Log). length l.records) next in
+    let state : (engine_view stored new pool after).state ≡ forced_to (closed s c) (lsn_of k) = rw (is, next, at) refl in
+    let part : ForcedPart (end (closed s c)) (closed s c) (engine_view stored new pool after).state = record {
+      reached = (k, omega (arith, at, short, longer), state);
+      no_less = failed.rising;
+    } in
+    let fails : Fails s event.CkptEnd LogFault (engine_view stored new pool after).state =
+    subst (λ (o : Option Checkpoint). IsSomeAnd o (λ x. ForcedPart (end (closed s x)) (closed s x)
+    (engine_view stored new pool after).state)) (sym passes.still_open) part in
+    let room = passes.room in
+    with_record stored it new table pool ckpts after event.CkptEnd (Err LogFault) r kept tt (inr (none, fails)) next tt
+    (end_ckpt_follows s c kept.fit passes.still_open passes.done) (omega arith)
+    (rw (is, next) (ap (option_map (session_of pages_left)) (sym (open_push it.log.records r))))
+
+-- ---- nothing has changed
+
+pub ckpt_same : {S D : Type 0} (stored : S → List Page) (it new : WrittenLog D) (table : Table) (pool : PoolView S)
+    (ckpts after : CkptsView) (call : Event) (why : Refusal)
+    → IsKept stored (engine_view stored it pool ckpts).state table pool ckpts
+    → refusal (engine_view stored it pool ckpts).state call ≡ None → TakesMemory call → why ≡ OutOfMemory
+    → new.log ≡ it.log → new.forced_end ≡ it.forced_end → after ≡ ckpts
+    → CkptCalled stored it new table pool ckpts after call (Err why)
+ckpt_same stored it new table pool ckpts after call why kept none takes is same forced alike =
+    let state : (engine_view stored new pool after).state ≡ (engine_view stored it pool ckpts).state =
+    rw (alike, same, forced) refl in
+    record {
+      step = rw is (inr (none, (takes, state)));
+      kept = rw (state, alike) kept;
+    }

@@ -1,0 +1,317 @@
+-- Laws of checkpoints, of steps and of whole runs.
+use Rattle.std.proofs.Common.{◌≡◌, ℕ, ◌<◌, ◌≤◌, ◌↔◌, ◌⊎◌, ◌++◌, Bool, true, false, not, List, [], ◌∷◌, length, get_or, refl, sym, ap, subst, subst₂, ◌∙◌, arith, inl, inr}
+use Rattle.std.specs.Prelude.{Option, Some, None, IfSome, IsSome, IsSomeAnd, Result, Ok, Err, is_none, is_some}
+use Rattle.std.proofs.lemmas.List.{length_push}
+use Rattle.page_core.specs.declared.page.Page.{Page}
+use Rattle.log_records.specs.declared.record.Record.TheVariants as log
+use Rattle.log_records.specs.Coverage.{Covers}
+use Rattle.log_history.specs.Checkpoint.{Checkpoint, IsCompleteCheckpoint, open_checkpoint, redo_point}
+use Rattle.fuzzy_ckpt.specs.declared.point.Point.{Point}
+use Rattle.fuzzy_ckpt.proofs.Opens.{open_push, open_same}
+use Rattle.aries_core.specs.declared.event.Answer.{Answer}
+use Rattle.aries_core.specs.declared.event.Answer.TheVariants as answer
+use Rattle.aries_core.specs.declared.event.Event.{Event}
+use Rattle.aries_core.specs.declared.event.Event.TheVariants as event
+use Rattle.aries_core.specs.declared.refusal.Refusal.{Refusal}
+use Rattle.aries_core.specs.declared.refusal.Refusal.TheVariants.{CkptOpen, GatherLeft, LogFault, LogFull, NoCkpt, OutOfMemory}
+use Rattle.aries_core.specs.CkptReplies.{gather_from, point_from, with_gather, with_point}
+use Rattle.aries_core.specs.EngineState.{EngineState, IsFit, IsMasterOf, closed, effect, end, end_ckpt_record}
+use Rattle.aries_core.specs.Gather.{is_done}
+use Rattle.aries_core.specs.Refusal.{has_no_room, or_else, refused_if, refusal}
+use Rattle.aries_core.specs.Run.{Run}
+use Rattle.aries_core.specs.Step.{Fails, Step}
+use Rattle.aries_core.proofs.Beside.{IsBeside, keeps_ckpts, of_transaction}
+use Rattle.aries_core.proofs.Follows.{none_is_not_some}
+use Rattle.aries_core.proofs.Gathers.{PassesPages, PassesTxns, TakesPages, TakesTxn, WasDone, ckpt_end_is, closed_part}
+use Rattle.aries_core.proofs.Gathers.{gather_case, gather_has, passes_pages, passes_txns, takes_pages, takes_txn, was_done}
+use Rattle.aries_core.proofs.Refusals.{ckpt_end_passes, gather_passes}
+use Rattle.aries_core.proofs.Steps.{stays_or_grows}
+
+-- ---- the master of a fit engine
+
+of_master : (s : EngineState) (point : Point) → IsFit s → s.master ≡ Some point
+    → IsMasterOf s.log s.stored s.forced_end point
+of_master s point fit is = subst (λ (o : Option Point). IfSome o (IsMasterOf s.log s.stored s.forced_end)) is fit.master
+
+pub master_is_complete : (s : EngineState) (point : Point) → IsFit s → s.master ≡ Some point
+    → IsCompleteCheckpoint s.log point.begin point.end × (point.end < s.forced_end)
+master_is_complete s point fit is = let has = of_master s point fit is in (has.complete, has.forced)
+
+pub redo_is_covered : (s : EngineState) (point : Point) (page : ℕ) (d : Page) → IsFit s → page < s.pages
+    → s.master ≡ Some point → Covers s.log page (get_or s.stored page d) point.redo
+redo_is_covered s point page d fit within is =
+    let count = fit.counted.stored in
+    (of_master s point fit is).covered page d (omega arith)
+
+-- ---- a Point is answered
+
+pub point_is_master : (old : EngineState) (begin end redo : ℕ) (new : EngineState)
+    → Step old event.CkptEnd (Ok (answer.Point begin end redo)) new
+    → IsSomeAnd (open_checkpoint old.log) (λ c. (begin ≡ c.begin) × (redo ≡ redo_point c))
+    × (new.log ≡ old.log ++ log.EndChkpt end begin redo ∷ []) × (end < new.forced_end)
+    × (new.master ≡ Some (record { begin = begin; end = end; redo = redo }))
+point_is_master old begin at redo new step =
+    let passes = ckpt_end_passes old step.0 in
+    let c = passes.ckpt in
+    let outcome = ckpt_end_is old c passes.still_open in
+    let said : answer.Point begin at redo ≡ answer.Point c.begin (end old) (redo_point c) = step.1 ∙ ap (λ o. o.answer) outcome in
+    let same_begin : begin ≡ c.begin = cc in
+    let same_end : at ≡ end old = cc in
+    let same_redo : redo ≡ redo_point c = cc in
+    let state = step.2 ∙ ap (λ o. o.state) outcome in
+    let forced_is = ap (λ (s : EngineState). s.forced_end) state in (
+      subst (λ (o : Option Checkpoint). IsSomeAnd o (λ x. (begin ≡ x.begin) × (redo ≡ redo_point x))) (sym passes.still_open)
+          (same_begin, same_redo),
+      rw (same_begin, same_end, same_redo) (ap (λ (s : EngineState). s.log) state),
+      omega (arith, same_end, forced_is, length_push old.log (end_ckpt_record old c)),
+      rw (same_begin, same_end, same_redo) (ap (λ (s : EngineState). s.master) state),
+    )
+
+-- a refusal of the end is none of the device
+end_not_by_device : (s : EngineState) → refusal s event.CkptEnd ≡ Some LogFault → ⊥
+end_not_by_device s is =
+    by_tests (is_none (open_checkpoint s.log)) (not (is_done s.left)) (has_no_room s 1) is
+  where
+    by_tests : (a b c : Bool)
+        → or_else (refused_if a NoCkpt) (or_else (refused_if b GatherLeft) (refused_if c LogFull)) ≡ Some LogFault → ⊥
+    by_tests true b c is = cc
+    by_tests false true c is = cc
+    by_tests false false true is = cc
+    by_tests false false false is = cc
+
+unforced_at : (old new : EngineState) → Fails old event.CkptEnd LogFault new
+    → IsSomeAnd (open_checkpoint old.log) (λ c. (at : ℕ)
+    × (new.log ≡ old.log ++ log.EndChkpt at c.begin (redo_point c) ∷ []) × (new.forced_end ≤ at))
+    × (open_checkpoint new.log ≡ None) × (new.master ≡ old.master)
+unforced_at old new fails =
+    let part = closed_part old new fails in
+    let c = part.0 in
+    let r = end_ckpt_record old c in
+    let state = part.2.reached.2 in
+    let log_is : new.log ≡ old.log ++ r ∷ [] = ap (λ (s : EngineState). s.log) state in
+    let forced_is = ap (λ (s : EngineState). s.forced_end) state in
+    let before = part.2.reached.1 in (
+      subst (λ (o : Option Checkpoint). IsSomeAnd o (λ x. (at : ℕ)
+          × (new.log ≡ old.log ++ log.EndChkpt at x.begin (redo_point x) ∷ []) × (new.forced_end ≤ at))) (sym part.1)
+          (end old, log_is, omega (arith, forced_is, length_push old.log r)),
+      ap open_checkpoint log_is ∙ open_push old.log r,
+      ap (λ (s : EngineState). s.master) state,
+    )
+
+pub unforced_leaves : (old new : EngineState) → Step old event.CkptEnd (Err LogFault) new
+    → IsSomeAnd (open_checkpoint old.log) (λ c. (at : ℕ)
+    × (new.log ≡ old.log ++ log.EndChkpt at c.begin (redo_point c) ∷ []) × (new.forced_end ≤ at))
+    × (open_checkpoint new.log ≡ None) × (new.master ≡ old.master)
+unforced_leaves old new (inl both) = absurd (end_not_by_device old both.0)
+unforced_leaves old new (inr both) = unforced_at old new both.1
+
+-- ---- which checkpoint ended last
+
+same_if_beside : (point : Option Point) (event : Event) (reply : Result Answer Refusal) → IsBeside event
+    → with_point point event reply ≡ point
+same_if_beside point event.CkptBegin reply beside = absurd beside
+same_if_beside point event.CkptGather reply beside = absurd beside
+same_if_beside point event.CkptEnd reply beside = absurd beside
+same_if_beside point event reply beside = refl
+
+not_answered : (point : Option Point) (event : Event) (why : Refusal) → with_point point event (Err why) ≡ point
+not_answered point event.CkptEnd why = refl
+not_answered point event why = refl
+
+same_master : (old new state : EngineState) → new ≡ state → state.master ≡ old.master → new.master ≡ old.master
+same_master old new state is same = ap (λ (s : EngineState). s.master) is ∙ same
+
+ended_point : (old : EngineState) (reply : Answer) (new : EngineState) → refusal old event.CkptEnd ≡ None
+    → reply ≡ (effect old event.CkptEnd).answer → new ≡ (effect old event.CkptEnd).state
+    → new.master ≡ with_point old.master event.CkptEnd (Ok reply)
+ended_point old reply new none given is =
+    let passes = ckpt_end_passes old none in
+    let c = passes.ckpt in
+    let outcome = ckpt_end_is old c passes.still_open in
+    ap (λ (s : EngineState). s.master) (is ∙ ap (λ o. o.state) outcome)
+    ∙ ap (λ (a : Answer). with_point old.master event.CkptEnd (Ok a)) (sym (given ∙ ap (λ o. o.answer) outcome))
+
+failed_point : (old : EngineState) (why : Refusal) (new : EngineState) → Fails old event.CkptEnd why new
+    → new.master ≡ old.master
+failed_point old OutOfMemory new fails = same_master old new old fails.1 refl
+failed_point old LogFault new fails = same_master old new _ (closed_part old new fails).2.reached.2 refl
+failed_point old why new fails = absurd fails
+
+failed_begin : (old : EngineState) (why : Refusal) (new : EngineState) → Fails old event.CkptBegin why new → new ≡ old
+failed_begin old OutOfMemory new fails = fails.1
+failed_begin old why new fails = absurd fails
+
+failed_gather : (old : EngineState) (why : Refusal) (new : EngineState) → Fails old event.CkptGather why new → new ≡ old
+failed_gather old OutOfMemory new fails = fails.1
+failed_gather old why new fails = absurd fails
+
+master_of_step : (old : EngineState) (event : Event) (reply : Result Answer Refusal) (new : EngineState)
+    → Step old event reply new → new.master ≡ with_point old.master event reply
+master_of_step old event.CkptBegin (Ok reply) new step = same_master old new _ step.2 refl
+master_of_step old event.CkptGather (Ok reply) new step =
+    same_master old new _ step.2 (gather_has (λ s. s.master ≡ old.master) old refl (λ left. refl) (λ r left. refl))
+master_of_step old event.CkptEnd (Ok reply) new step = ended_point old reply new step.0 step.1 step.2
+master_of_step old event.CkptBegin (Err why) new (inl both) = same_master old new old both.1 refl
+master_of_step old event.CkptBegin (Err why) new (inr both) = same_master old new old (failed_begin old why new both.1) refl
+master_of_step old event.CkptGather (Err why) new (inl both) = same_master old new old both.1 refl
+master_of_step old event.CkptGather (Err why) new (inr both) = same_master old new old (failed_gather old why new both.1) refl
+master_of_step old event.CkptEnd (Err why) new (inl both) = same_master old new old both.1 refl
+master_of_step old event.CkptEnd (Err why) new (inr both) = failed_point old why new both.1
+master_of_step old event reply new step =
+    (keeps_ckpts old event reply new tt step).master ∙ sym (same_if_beside old.master event reply tt)
+
+pub master_of_run : (old : EngineState) (events : List Event) (replies : List (Result Answer Refusal))
+    (new : EngineState) → Run old events replies new → new.master ≡ point_from old.master events replies
+master_of_run old [] [] new is = ap (λ (s : EngineState). s.master) is
+master_of_run old (event ∷ events) (reply ∷ replies) new run =
+    master_of_run run.0 events replies new run.2
+    ∙ ap (λ (m : Option Point). point_from m events replies) (master_of_step old event reply run.0 run.1)
+master_of_run old [] (reply ∷ replies) new run = absurd run
+master_of_run old (event ∷ events) [] new run = absurd run
+
+-- ---- which checkpoint is open
+
+begin_refused : (o : Option Checkpoint) (full : Bool)
+    → or_else (refused_if (is_some o) CkptOpen) (refused_if full LogFull) ≡ Some CkptOpen ↔ IsSome o
+begin_refused None true = (λ is. cc, λ some. cc)
+begin_refused None false = (λ is. cc, λ some. cc)
+begin_refused (Some c) full = (λ is. refl, λ some. refl)
+
+gather_refused : (o : Option Checkpoint) (full : Bool)
+    → or_else (refused_if (is_none o) NoCkpt) (refused_if full LogFull) ≡ Some NoCkpt ↔ o ≡ None
+gather_refused None full = (λ is. refl, λ none. refl)
+gather_refused (Some c) true = (λ is. cc, λ none. cc)
+gather_refused (Some c) false = (λ is. cc, λ none. cc)
+
+end_refused : (o : Option Checkpoint) (left full : Bool)
+    → or_else (refused_if (is_none o) NoCkpt) (or_else (refused_if left GatherLeft) (refused_if full LogFull))
+    ≡ Some NoCkpt ↔ o ≡ None
+end_refused None left full = (λ is. refl, λ none. refl)
+end_refused (Some c) true full = (λ is. cc, λ none. cc)
+end_refused (Some c) false true = (λ is. cc, λ none. cc)
+end_refused (Some c) false false = (λ is. cc, λ none. cc)
+
+pub open_says : (s : EngineState) → refusal s event.CkptBegin ≡ Some CkptOpen ↔ IsSome (open_checkpoint s.log)
+open_says s = begin_refused (open_checkpoint s.log) (has_no_room s 1)
+
+pub gather_says : (s : EngineState) → refusal s event.CkptGather ≡ Some NoCkpt ↔ open_checkpoint s.log ≡ None
+gather_says s = gather_refused (open_checkpoint s.log) _
+
+pub end_says : (s : EngineState) → refusal s event.CkptEnd ≡ Some NoCkpt ↔ open_checkpoint s.log ≡ None
+end_says s = end_refused (open_checkpoint s.log) (not (is_done s.left)) (has_no_room s 1)
+
+-- ---- whether its gather has ended
+
+-- while a checkpoint is open, its gather has ended where this says so
+abbrev Tells : EngineState → Bool → Type 0
+Tells s done = IsSome (open_checkpoint s.log) → is_done s.left ≡ done
+
+untold : (done : Bool) (event : Event) (reply : Result Answer Refusal) → IsBeside event
+    → with_gather done event reply ≡ done
+untold done event.CkptBegin reply beside = absurd beside
+untold done event.CkptGather reply beside = absurd beside
+untold done event.CkptEnd reply beside = absurd beside
+untold done event reply beside = refl
+
+not_told : (done : Bool) (event : Event) (why : Refusal) → with_gather done event (Err why) ≡ done
+not_told done event.CkptBegin why = refl
+not_told done event.CkptGather why = refl
+not_told done event why = refl
+
+same_tells : (old new : EngineState) (done : Bool) → Tells old done → new ≡ old → Tells new done
+same_tells old new done tells is = subst (λ (s : EngineState). Tells s done) (sym is) tells
+
+none_tells : (s : EngineState) (done : Bool) → open_checkpoint s.log ≡ None → Tells s done
+none_tells s done none is = let some = subst IsSome none is in cc
+
+some_of : (o : Option Checkpoint) (c : Checkpoint) → o ≡ Some c → IsSome o
+some_of o c is = subst IsSome (sym is) refl
+
+abbrev Told : Bool → EngineState → Answer → Type 0
+Told done s a = Tells s (with_gather done event.CkptGather (Ok a))
+
+gather_tells : (old : EngineState) (done : Bool) (reply : Answer) (new : EngineState) → Tells old done
+    → refusal old event.CkptGather ≡ None → reply ≡ (effect old event.CkptGather).answer
+    → new ≡ (effect old event.CkptGather).state → Tells new (with_gather done event.CkptGather (Ok reply))
+gather_tells old done reply new tells none given is =
+    let passes = gather_passes old none in
+    let c = passes.ckpt in
+    let open_now = passes.still_open in
+    let before = tells (some_of (open_checkpoint old.log) c open_now) in
+    elim (gather_case old c) [
+      | TakesPages pages finds ↦
+          let does = takes_pages old c pages open_now finds in
+          subst₂ (Told done) (sym (is ∙ ap (λ o. o.state) does.outcome)) (sym (given ∙ ap (λ o. o.answer) does.outcome))
+          (λ some. sym (ap is_done finds.left) ∙ before)
+      | PassesPages finds ↦
+          let does = passes_pages old c open_now finds in
+          subst₂ (Told done) (sym (is ∙ ap (λ o. o.state) does.outcome)) (sym (given ∙ ap (λ o. o.answer) does.outcome))
+          (λ some. sym (ap is_done finds.left) ∙ before)
+      | TakesTxn t finds ↦
+          let does = takes_txn old c t open_now finds in
+          subst₂ (Told done) (sym (is ∙ ap (λ o. o.state) does.outcome)) (sym (given ∙ ap (λ o. o.answer) does.outcome))
+          (λ some. sym (ap is_done finds.left) ∙ before)
+      | PassesTxns finds ↦
+          let does = passes_txns old c open_now finds in
+          subst₂ (Told done) (sym (is ∙ ap (λ o. o.state) does.outcome)) (sym (given ∙ ap (λ o. o.answer) does.outcome))
+          (λ some. refl)
+      | WasDone left ↦
+          let does = was_done old c open_now left in
+          subst₂ (Told done) (sym (is ∙ ap (λ o. o.state) does.outcome)) (sym (given ∙ ap (λ o. o.answer) does.outcome))
+          (λ some. refl)
+    ]
+
+beside_tells : (old : EngineState) (event : Event) (reply : Result Answer Refusal) (new : EngineState) (done : Bool)
+    → IsBeside event → Tells old done → Step old event reply new → Tells new (with_gather done event reply)
+beside_tells old event reply new done beside tells step =
+    let keeps = keeps_ckpts old event reply new beside step in
+    let same : open_checkpoint new.log ≡ open_checkpoint old.log = elim (stays_or_grows old event reply new step) [
+      | inl stays ↦ ap open_checkpoint stays.log
+      | inr grows ↦
+          ap open_checkpoint grows.log ∙ open_same old.log grows.r (of_transaction old event grows.r beside grows.made)
+    ] in
+    λ some. ap is_done keeps.left ∙ tells (subst IsSome same some) ∙ sym (untold done event reply beside)
+
+told_step : (old : EngineState) (event : Event) (reply : Result Answer Refusal) (new : EngineState) (done : Bool)
+    → Tells old done → Step old event reply new → Tells new (with_gather done event reply)
+told_step old event.CkptBegin (Ok reply) new done tells step = λ some. ap (λ (s : EngineState). is_done s.left) step.2
+told_step old event.CkptGather (Ok reply) new done tells step = gather_tells old done reply new tells step.0 step.1 step.2
+told_step old event.CkptEnd (Ok reply) new done tells step =
+    let passes = ckpt_end_passes old step.0 in
+    let c = passes.ckpt in
+    let log_is = ap (λ (s : EngineState). s.log) (step.2 ∙ ap (λ o. o.state) (ckpt_end_is old c passes.still_open)) in
+    none_tells new done (ap open_checkpoint log_is ∙ open_push old.log (end_ckpt_record old c))
+told_step old event.CkptBegin (Err why) new done tells (inl both) = same_tells old new done tells both.1
+told_step old event.CkptBegin (Err why) new done tells (inr both) = same_tells old new done tells (failed_begin old why new both.1)
+told_step old event.CkptGather (Err why) new done tells (inl both) = same_tells old new done tells both.1
+told_step old event.CkptGather (Err why) new done tells (inr both) = same_tells old new done tells (failed_gather old why new both.1)
+told_step old event.CkptEnd (Err why) new done tells (inl both) = same_tells old new done tells both.1
+told_step old event.CkptEnd (Err OutOfMemory) new done tells (inr both) = same_tells old new done tells both.1.1
+told_step old event.CkptEnd (Err LogFault) new done tells (inr both) = none_tells new done (unforced_at old new both.1).1
+told_step old event.CkptEnd (Err why) new done tells (inr both) = absurd both.1
+told_step old event reply new done tells step = beside_tells old event reply new done tt tells step
+
+told_of_run : (old : EngineState) (events : List Event) (replies : List (Result Answer Refusal)) (new : EngineState)
+    (done : Bool) → Tells old done → Run old events replies new → Tells new (gather_from done events replies)
+told_of_run old [] [] new done tells is = same_tells old new done tells is
+told_of_run old (event ∷ events) (reply ∷ replies) new done tells run =
+    told_of_run run.0 events replies new (with_gather done event reply)
+    (told_step old event reply run.0 done tells run.1) run.2
+told_of_run old [] (reply ∷ replies) new done tells run = absurd run
+told_of_run old (event ∷ events) [] new done tells run = absurd run
+
+left_refused : (o : Option Checkpoint) (done full : Bool) → IsSome o
+    → or_else (refused_if (is_none o) NoCkpt) (or_else (refused_if (not done) GatherLeft) (refused_if full LogFull))
+    ≡ Some GatherLeft ↔ done ≡ false
+left_refused None done full some = cc
+left_refused (Some c) false full some = (λ is. refl, λ is. refl)
+left_refused (Some c) true true some = (λ is. cc, λ is. cc)
+left_refused (Some c) true false some = (λ is. cc, λ is. cc)
+
+pub left_is_exact : (old : EngineState) (events : List Event) (replies : List (Result Answer Refusal))
+    (s : EngineState) (done : Bool) → Tells old done → Run old events replies s → IsSome (open_checkpoint s.log)
+    → refusal s event.CkptEnd ≡ Some GatherLeft ↔ gather_from done events replies ≡ false
+left_is_exact old events replies s done tells run some =
+    subst (λ (b : Bool). refusal s event.CkptEnd ≡ Some GatherLeft ↔ b ≡ false)
+    (told_of_run old events replies s done tells run some)
+    (left_refused (open_checkpoint s.log) (is_done s.left) (has_no_room s 1) some)

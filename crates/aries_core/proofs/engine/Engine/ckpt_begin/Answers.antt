@@ -1,0 +1,24 @@
+use Rattle.std.proofs.Common.{◌≡◌, ℕ, sym, ap, subst, ◌∙◌, refl}
+use Rattle.std.specs.Prelude.{None, Some, Result, Ok}
+use Rattle.fuzzy_ckpt.specs.Ckpt.{CkptView, Phase}
+use Rattle.aries_core.specs.declared.event.Answer.TheVariants as answer
+use Rattle.aries_core.specs.declared.event.Event.TheVariants as event
+use Rattle.aries_core.specs.EngineState.{CkptsView, EngineView, engine_view}
+use Rattle.aries_core.specs.OpenCkpt.{ckpts_view}
+use Rattle.aries_core.specs.Refusal.{refusal}
+use Rattle.aries_core.specs.Step.{Step}
+use Rattle.aries_core.proofs.CkptCalls.{CkptCalled, ckpt_begun}
+use Rattle.aries_core.proofs.engine.Engine.ckpt_begin.Given as given
+use Rattle.aries_core.proofs.engine.Engine.ckpt_begin.Goals as goal
+
+pub invariant_of-self-2 : goal.invariant_of-self-2
+invariant_of-self-2 g c =
+    let it = c.self.inside in
+    let stored = g.S.PageStore.stored in
+    let ckpts = ckpts_view it.master it.session in
+    let none : refusal (engine_view stored it.log it.pool ckpts).state event.CkptBegin ≡ None =
+    subst (λ (v : EngineView g.row.S.Denot g.row.D.Denot). refusal v.state event.CkptBegin ≡ None)
+    (sym c.self.view_is) c.in_ok-find_no_ckpt.ensures.free in
+    (ckpt_begun stored it.log c.begin.new.log it.txns it.pool ckpts _ c.end-lsn.result c.self.invariant none
+    c.in-Ok.ensures.logged c.begin.ensures.forced_end
+    (ap (λ (x : CkptView Phase). record ckpts { session = Some x }) c.in-Ok.ensures.begun) c.end-lsn.ensures).kept
