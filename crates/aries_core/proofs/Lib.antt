@@ -1,6 +1,7 @@
 pub mod Appends
 pub mod Beside
 pub mod Calls
+pub mod CopySteps
 pub mod CkptFits
 pub mod Fit
 pub mod Follows

@@ -2,6 +2,7 @@
 #![tactic(auto)]
 
 mod checkpoint;
+mod copies;
 mod engine;
 mod event;
 mod laws;
@@ -12,7 +13,7 @@ mod refusal;
 mod setup;
 
 pub use engine::Engine;
-pub use event::{Answer, Event, Gathered, Reply, Undone};
+pub use event::{Answer, Event, Gathered, Reply, Took, Undone};
 pub use laws::{
     a_new_engine_is_fit, a_refusal_changes_nothing, an_answered_commit_is_forced,
     an_unsure_commit_ends_its_transaction, engines_stay_fit, log_full_is_exact,
