@@ -47,7 +47,6 @@ pub data CopyStep (old new : EngineState) : Type 0 where
 
 -- ---- a copy begins
 
-
 early_redo : (s : EngineState) → IsFit s → (master : Option Point) → s.master ≡ master
     → option_map_or (λ p. p.redo) master 0 ≤ s.forced_end
 early_redo s fit None is = omega arith
@@ -72,7 +71,7 @@ opens : (s : EngineState) (kind : CopyKind) (begin : ℕ) → IsFit s → HasPar
 opens s kind begin fit parent =
     let redo = option_map_or (λ p. p.redo) s.master 0 in
     subst (λ (n : ℕ). HasParent s.copies (length s.copies + 1) n kind
-        → AreCopied s.log s.forced_end s.stored (opened s.copies kind n begin redo)) fit.counted.stored
+    → AreCopied s.log s.forced_end s.stored (opened s.copies kind n begin redo)) fit.counted.stored
     (λ has. copied_opened s.log s.forced_end s.stored s.copies kind begin redo fit.copied has (early_redo s fit s.master refl)
     (λ p d lt. covered_by s fit s.master refl p d lt))
     parent

@@ -1,6 +1,7 @@
 pub mod Appends
 pub mod Beside
 pub mod Calls
+pub mod CopyCalls
 pub mod CopySteps
 pub mod CkptFits
 pub mod Fit

@@ -52,11 +52,7 @@ impl<S: PageStore, D: LogDevice> Engine<S, D> {
             Ok(session) => {
                 let done = session.is_gathered();
                 self.session = Some(session);
-                Ok(if done {
-                    Gathered::Done
-                } else {
-                    Gathered::More
-                })
+                Ok(if done { Gathered::Done } else { Gathered::More })
             }
             Err(session) => {
                 self.session = Some(session);

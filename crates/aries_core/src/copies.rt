@@ -1,6 +1,7 @@
 //! The calls of the engine that make image copies while others change, and write, its pages.
 
 ghost use Rattle.std.specs.Prelude.{◌≡◌, ◌<◌, Some, None, IfErr, OnOk};
+ghost use Rattle.std.specs.Option.{option_map_or};
 ghost use Rattle.aries_core.specs.Refusal.{refusal};
 ghost use Rattle.aries_core.specs.Step.{IsByStore, Step, reply_of, took_answer};
 ghost use Rattle.aries_core.specs.declared.event.Answer.TheVariants as answer;
@@ -28,7 +29,10 @@ impl<S: PageStore, D: LogDevice> Engine<S, D> {
             return Err(Refusal::NoMaster);
         };
         let pages = self.pool.pages();
-        Ok(self.vault.open_full(self.alloc, pages, master.begin, master.redo)?)
+        Ok(
+            self.vault
+                .open_full(self.alloc, pages, master.begin, master.redo)?,
+        )
     }
 
     /// Begins an incremental image copy, whose parent is the complete copy of this id, and answers
@@ -40,10 +44,8 @@ impl<S: PageStore, D: LogDevice> Engine<S, D> {
         ensures store { self.new.store ≡ self.old.store }
         ensures device { self.new.device ≡ self.old.device }
     {
-        let (begin, redo) = match self.master {
-            Some(master) => (master.begin, master.redo),
-            None => (Lsn(0), Lsn(0)),
-        };
+        let begin = self.noted_begin();
+        let redo = self.noted_redo();
         Ok(self.vault.open_inc(self.alloc, parent, begin, redo)?)
     }
 
@@ -95,6 +97,26 @@ impl<S: PageStore, D: LogDevice> Engine<S, D> {
         ensures device { self.new.device ≡ self.old.device }
     {
         Ok(self.vault.drop_open(copy)?)
+    }
+
+    /// The begin LSN of the last complete checkpoint.
+    fn noted_begin(&self) -> Lsn
+        ensures { result ≡ option_map_or (λ p. p.begin) self.now.state.master 0 }
+    {
+        match self.master {
+            Some(master) => master.begin,
+            None => Lsn(0),
+        }
+    }
+
+    /// The redo point of the last complete checkpoint.
+    fn noted_redo(&self) -> Lsn
+        ensures { result ≡ option_map_or (λ p. p.redo) self.now.state.master 0 }
+    {
+        match self.master {
+            Some(master) => master.redo,
+            None => Lsn(0),
+        }
     }
 
     /// The copy is being read, and has not decided of this page of the volume.

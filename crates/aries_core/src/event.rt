@@ -51,7 +51,10 @@ pub enum Event {
     /// Begins an incremental image copy, whose parent is the complete copy of this id.
     CopyInc(CopyId),
     /// Has an image copy decide of a page as it is stored.
-    Take { copy: CopyId, page: PageNo },
+    Take {
+        copy: CopyId,
+        page: PageNo,
+    },
     /// Makes an image copy complete.
     Seal(CopyId),
     /// Drops an image copy that is being read.

@@ -56,8 +56,7 @@ impl OpenCkpt {
         requires ckpt { IsCkptOf log.old.log.records (view_of self) }
         requires pool { IsPoolOf S.stored log.old.log pool.now }
         requires table { IsTableOf log.old.log.records txns.now }
-        requires covered {
-            AreCovered log.old.log.records (S.stored pool.now.store) (view_of self) }
+        requires covered { AreCovered log.old.log.records (S.stored pool.now.store) (view_of self) }
         requires room { HasRoom log.old.log.records (gather_step log.old.log.records
             (written_of pool.now.states) (view_of self)).next }
 
