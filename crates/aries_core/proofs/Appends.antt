@@ -12,7 +12,7 @@ use Rattle.log_history.specs.Table.{Table, table_of}
 use Rattle.log_store.specs.WrittenLog.{WrittenLog}
 use Rattle.aries_core.specs.Call.{Calls}
 use Rattle.fuzzy_ckpt.proofs.Opens.{open_same}
-use Rattle.aries_core.specs.EngineState.{CkptsView, EngineState, IsKept, appended, end, engine_view, log_of}
+use Rattle.aries_core.specs.EngineState.{MediaView, EngineState, IsKept, appended, end, engine_view, log_of}
 use Rattle.aries_core.specs.Gather.{session_of}
 use Rattle.aries_core.proofs.Fit.{fit_appended}
 use Rattle.aries_core.proofs.Follows.{follows}
@@ -26,7 +26,7 @@ pub record Comes (s : EngineState) (r : Record) : Type 0 where
   pub few : length s.log < MAX_RECORDS
   pub valid : IsLog (with_next (log_of s) (r ∷ []))
 
-pub comes : {S : Type 0} (stored : S → List Page) (s : EngineState) (table : Table) (pool : PoolView S) (ckpts : CkptsView)
+pub comes : {S : Type 0} (stored : S → List Page) (s : EngineState) (table : Table) (pool : PoolView S) (ckpts : MediaView)
     (r : Record) → IsKept stored s table pool ckpts → Calls s r → Comes s r
 comes stored s table pool ckpts r kept calls = record {
   may_follow = follows s calls.call r kept.fit calls.accepted calls.made;
@@ -37,7 +37,7 @@ comes stored s table pool ckpts r kept calls = record {
 
 -- the engine after it
 pub kept_next : {S : Type 0} (stored : S → List Page) (s : EngineState) (old new : Table) (pool after : PoolView S)
-    (ckpts : CkptsView) (r : Record) → IsKept stored s old pool ckpts → Calls s r → new ≡ table_of (s.log ++ r ∷ [])
+    (ckpts : MediaView) (r : Record) → IsKept stored s old pool ckpts → Calls s r → new ≡ table_of (s.log ++ r ∷ [])
     → IsPoolOf stored (with_next (log_of s) (r ∷ [])) after → IsKept stored (appended s r) new after ckpts
 kept_next stored s old new pool after ckpts r kept calls noted changed =
     let fit = fit_appended s r kept.fit calls in
@@ -50,7 +50,7 @@ kept_next stored s old new pool after ckpts r kept calls noted changed =
 
 -- the state by the log that is written and the pool
 pub appended_is : {S D : Type 0} (stored : S → List Page) (old mid new : WrittenLog D) (pool after : PoolView S)
-    (ckpts : CkptsView) (r : Record) → mid.log ≡ old.log → mid.forced_end ≡ old.forced_end → new.log ≡ with_next mid.log (r ∷ [])
+    (ckpts : MediaView) (r : Record) → mid.log ≡ old.log → mid.forced_end ≡ old.forced_end → new.log ≡ with_next mid.log (r ∷ [])
     → new.forced_end ≡ mid.forced_end → after.store ≡ pool.store → written_of after.states ≡ written_of pool.states
     → writing_of after.states ≡ writing_of pool.states
     → (engine_view stored new after ckpts).state ≡ appended (engine_view stored old pool ckpts).state r

@@ -67,6 +67,11 @@ answered old event.Begin new beside is = keeps old new _ is refl refl
 answered old (event.Set txn page slot number) new beside is = keeps old new _ is refl refl
 answered old (event.Add txn page slot amount) new beside is = keeps old new _ is refl refl
 answered old (event.Read page slot) new beside is = keeps old new _ is refl refl
+answered old event.CopyFull new beside is = keeps old new _ is refl refl
+answered old (event.CopyInc parent) new beside is = keeps old new _ is refl refl
+answered old (event.Take copy page) new beside is = keeps old new _ is refl refl
+answered old (event.Seal copy) new beside is = keeps old new _ is refl refl
+answered old (event.DropCopy copy) new beside is = keeps old new _ is refl refl
 answered old (event.Commit txn) new beside is = keeps old new _ is refl refl
 answered old (event.Abort txn) new beside is = keeps old new _ is refl refl
 answered old (event.UndoStep txn) new beside is = undo_keeps old txn new _ refl is
@@ -88,6 +93,7 @@ failed old (event.WriteEnd page) StoreFault new beside fails = elim (stored_or_n
   | inr stored ↦ keeps old new _ stored.2 refl refl
 ]
 failed old event.CkptEnd LogFault new beside fails = absurd beside
+failed old (event.Take copy page) StoreFault new beside fails = keeps old new old fails refl refl
 failed old event why new beside fails = absurd fails
 
 pub keeps_ckpts : (old : EngineState) (event : Event) (reply : Result Answer Refusal) (new : EngineState)
@@ -103,6 +109,11 @@ of_transaction s event.Begin r beside made = subst IsOfTransaction (same_Some _ 
 of_transaction s (event.Set txn page slot number) r beside made = subst IsOfTransaction (same_Some _ _ made) tt
 of_transaction s (event.Add txn page slot amount) r beside made = subst IsOfTransaction (same_Some _ _ made) tt
 of_transaction s (event.Read page slot) r beside made = absurd (cc)
+of_transaction s event.CopyFull r beside made = absurd (cc)
+of_transaction s (event.CopyInc parent) r beside made = absurd (cc)
+of_transaction s (event.Take copy page) r beside made = absurd (cc)
+of_transaction s (event.Seal copy) r beside made = absurd (cc)
+of_transaction s (event.DropCopy copy) r beside made = absurd (cc)
 of_transaction s (event.Commit txn) r beside made = subst IsOfTransaction (same_Some _ _ made) tt
 of_transaction s (event.Abort txn) r beside made = subst IsOfTransaction (same_Some _ _ made) tt
 of_transaction s (event.UndoStep txn) r beside made = undo_has IsOfTransaction s txn r made (λ p last. tt) (λ last. tt)

@@ -26,7 +26,7 @@ use Rattle.aries_core.specs.declared.event.Event.{Event}
 use Rattle.aries_core.specs.declared.event.Event.TheVariants as event
 use Rattle.aries_core.specs.declared.refusal.Refusal.{Refusal}
 use Rattle.aries_core.specs.declared.refusal.Refusal.TheVariants.{LogFault, OutOfMemory}
-use Rattle.aries_core.specs.EngineState.{CkptsView, EngineState, IsFit, IsKept, closed, effect, end, end_ckpt_record, engine_view, forced_to, gather_effect, gathered_record, log_of, next_step, point_of}
+use Rattle.aries_core.specs.EngineState.{MediaView, EngineState, IsFit, IsKept, closed, effect, end, end_ckpt_record, engine_view, forced_to, gather_effect, gathered_record, log_of, next_step, point_of}
 use Rattle.aries_core.specs.EventFits.{EventFits}
 use Rattle.aries_core.specs.Gather.{Left, is_done, left_of, none_left, pages_left, session_of, txns_left}
 use Rattle.aries_core.specs.Refusal.{refusal}
@@ -40,7 +40,7 @@ use Rattle.aries_core.proofs.Refusals.{ckpt_begin_passes, ckpt_end_passes, gathe
 
 -- what a call says of the state after it: it is a step, and the engine is in step with its log
 pub record CkptCalled {S D : Type 0} (stored : S → List Page) (it new : WrittenLog D) (table : Table) (pool : PoolView S)
-    (ckpts after : CkptsView) (call : Event) (reply : Result Answer Refusal) : Type 0 where
+    (ckpts after : MediaView) (call : Event) (reply : Result Answer Refusal) : Type 0 where
   pub step : Step (engine_view stored it pool ckpts).state call reply (engine_view stored new pool after).state
   pub kept : IsKept stored (engine_view stored new pool after).state table pool after
 
@@ -51,7 +51,7 @@ HasSession rs session =
 
 -- one record of a checkpoint more
 with_record : {S D : Type 0} (stored : S → List Page) (it new : WrittenLog D) (table : Table) (pool : PoolView S)
-    (ckpts after : CkptsView) (call : Event) (reply : Result Answer Refusal) (r : Record)
+    (ckpts after : MediaView) (call : Event) (reply : Result Answer Refusal) (r : Record)
     → IsKept stored (engine_view stored it pool ckpts).state table pool ckpts → EventFits call
     → Step (engine_view stored it pool ckpts).state call reply (engine_view stored new pool after).state
     → new.log ≡ with_next it.log (r ∷ []) → IsOfCheckpoint r → MayFollow it.log.records r
@@ -74,7 +74,7 @@ with_record stored it new table pool ckpts after call reply r kept fits step log
 -- ---- a checkpoint begins
 
 pub ckpt_begun : {S D : Type 0} (stored : S → List Page) (it new : WrittenLog D) (table : Table) (pool : PoolView S)
-    (ckpts after : CkptsView) (lsn : ℕ) → IsKept stored (engine_view stored it pool ckpts).state table pool ckpts
+    (ckpts after : MediaView) (lsn : ℕ) → IsKept stored (engine_view stored it pool ckpts).state table pool ckpts
     → refusal (engine_view stored it pool ckpts).state event.CkptBegin ≡ None
     → new.log ≡ with_next it.log (BeginChkpt (end_of it.log.records) ∷ []) → new.forced_end ≡ it.forced_end
     → after ≡ record ckpts { session = Some (new_ckpt (end_of it.log.records)) } → lsn ≡ end_of it.log.records
@@ -124,7 +124,7 @@ session_after s c fit is =
 
 -- the state after a step
 gathered_state : {S D : Type 0} (stored : S → List Page) (it new : WrittenLog D) (pool : PoolView S)
-    (ckpts after : CkptsView) (next : Option Record) (v : CkptView Phase) → new.log ≡ with_step it.log next
+    (ckpts after : MediaView) (next : Option Record) (v : CkptView Phase) → new.log ≡ with_step it.log next
     → new.forced_end ≡ it.forced_end → after ≡ record ckpts { session = Some v }
     → (engine_view stored new pool after).state
     ≡ (gather_effect (engine_view stored it pool ckpts).state (record { next = next; ckpt = v })).state
@@ -133,14 +133,14 @@ gathered_state stored it new pool ckpts after (Some r) v logged forced is = rw (
 
 -- the open checkpoint is the one of the session
 session_is : {S : Type 0} (stored : S → List Page) (s : EngineState) (table : Table) (pool : PoolView S)
-    (ckpts : CkptsView) (c : Checkpoint) (v : CkptView Phase) → IsKept stored s table pool ckpts
+    (ckpts : MediaView) (c : Checkpoint) (v : CkptView Phase) → IsKept stored s table pool ckpts
     → open_checkpoint s.log ≡ Some c → ckpts.session ≡ Some v → v ≡ session_of s.left c
 session_is stored s table pool ckpts c v kept is has =
     same_Some _ _ (sym has ∙ kept.session_of_log ∙ ap (option_map (session_of s.left)) is)
 
 -- what the engine knows of its session
 pub session_covered : {S : Type 0} (stored : S → List Page) (s : EngineState) (table : Table) (pool : PoolView S)
-    (ckpts : CkptsView) (v : CkptView Phase) → IsKept stored s table pool ckpts → ckpts.session ≡ Some v
+    (ckpts : MediaView) (v : CkptView Phase) → IsKept stored s table pool ckpts → ckpts.session ≡ Some v
     → IsCkptOf s.log v × AreCovered s.log s.stored v
 session_covered stored s table pool ckpts v kept has = by_open (open_checkpoint s.log) refl
   where
@@ -153,7 +153,7 @@ session_covered stored s table pool ckpts v kept has = by_open (open_checkpoint 
         (subst (IsCkptOf s.log) (sym same) now.ckpt, subst (AreCovered s.log s.stored) (sym same) now.covered)
 
 gathered_kept : {S D : Type 0} (stored : S → List Page) (it new : WrittenLog D) (table : Table) (pool : PoolView S)
-    (ckpts after : CkptsView) (reply : Result Answer Refusal) (next : Option Record)
+    (ckpts after : MediaView) (reply : Result Answer Refusal) (next : Option Record)
     → IsKept stored (engine_view stored it pool ckpts).state table pool ckpts
     → refusal (engine_view stored it pool ckpts).state event.CkptGather ≡ None
     → Step (engine_view stored it pool ckpts).state event.CkptGather reply (engine_view stored new pool after).state
@@ -179,7 +179,7 @@ gathered_kept stored it new table pool ckpts after reply (Some r) kept none step
     (follows s event.CkptGather r kept.fit none made) (omega arith) session
 
 pub ckpt_gathered : {S D : Type 0} (stored : S → List Page) (it new : WrittenLog D) (table : Table) (pool : PoolView S)
-    (ckpts after : CkptsView) (v w : CkptView Phase) (reply : Answer)
+    (ckpts after : MediaView) (v w : CkptView Phase) (reply : Answer)
     → IsKept stored (engine_view stored it pool ckpts).state table pool ckpts
     → refusal (engine_view stored it pool ckpts).state event.CkptGather ≡ None → ckpts.session ≡ Some v
     → new.log ≡ with_step it.log (gather_step it.log.records (written_of pool.states) v).next
@@ -212,7 +212,7 @@ ckpt_gathered stored it new table pool ckpts after v w reply kept none has logge
 -- ---- it ends
 
 pub ckpt_ended : {S D : Type 0} (stored : S → List Page) (it new : WrittenLog D) (table : Table) (pool : PoolView S)
-    (ckpts after : CkptsView) (v : CkptView Phase) (point : Point)
+    (ckpts after : MediaView) (v : CkptView Phase) (point : Point)
     → IsKept stored (engine_view stored it pool ckpts).state table pool ckpts
     → refusal (engine_view stored it pool ckpts).state event.CkptEnd ≡ None → ckpts.session ≡ Some v
     → new.log ≡ with_next it.log (end_record it.log.records v ∷ []) → new.forced_end ≡ end_of new.log.records
@@ -242,7 +242,7 @@ ckpt_ended stored it new table pool ckpts after v point kept none has logged for
 
 -- the log's device failed
 pub ckpt_unforced : {S D : Type 0} (stored : S → List Page) (it new : WrittenLog D) (table : Table) (pool : PoolView S)
-    (ckpts after : CkptsView) (v : CkptView Phase)
+    (ckpts after : MediaView) (v : CkptView Phase)
     → IsKept stored (engine_view stored it pool ckpts).state table pool ckpts
     → refusal (engine_view stored it pool ckpts).state event.CkptEnd ≡ None → ckpts.session ≡ Some v
     → IsUnforced it new (end_record it.log.records v) → after ≡ record ckpts { session = None }
@@ -275,7 +275,7 @@ ckpt_unforced stored it new table pool ckpts after v kept none has failed is =
 -- ---- nothing has changed
 
 pub ckpt_same : {S D : Type 0} (stored : S → List Page) (it new : WrittenLog D) (table : Table) (pool : PoolView S)
-    (ckpts after : CkptsView) (call : Event) (why : Refusal)
+    (ckpts after : MediaView) (call : Event) (why : Refusal)
     → IsKept stored (engine_view stored it pool ckpts).state table pool ckpts
     → refusal (engine_view stored it pool ckpts).state call ≡ None → TakesMemory call → why ≡ OutOfMemory
     → new.log ≡ it.log → new.forced_end ≡ it.forced_end → after ≡ ckpts

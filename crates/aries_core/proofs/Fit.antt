@@ -1,6 +1,6 @@
 -- Each engine is fit: a new one, and one after a step.
-use Rattle.std.proofs.Common.{◌≡◌, ℕ, zero, suc, get_or, replicate, ◌+◌, ◌<◌, ◌≤◌, ◌++◌, List, [], ◌∷◌, length, take, refl, sym, ◌⊎◌, ◌∙◌, subst, arith, inl, inr}
-use Rattle.std.specs.Prelude.{Option, Result, None}
+use Rattle.std.proofs.Common.{◌≡◌, ℕ, zero, suc, get_or, replicate, ◌+◌, ◌<◌, ◌≤◌, ◌++◌, List, [], ◌∷◌, length, take, refl, sym, ap, ◌⊎◌, ◌∙◌, subst, arith, inl, inr}
+use Rattle.std.specs.Prelude.{Option, Result, Some, None}
 use Rattle.std.proofs.lemmas.List.FromFn.{get_or-map-range_with_len, length-map-range_with_len}
 use Rattle.page_core.specs.declared.page.Page.{Page}
 use Rattle.page_core.specs.Page.{formatted}
@@ -13,19 +13,25 @@ use Rattle.std.proofs.lemmas.List.Elements.{All-head, All-tail}
 use Rattle.log_records.specs.declared.limits.TheConstants.{MAX_RECORDS}
 use Rattle.log_records.specs.declared.record.Record.{Record}
 use Rattle.log_records.specs.Log.{IsPageCount}
+use Rattle.log_records.specs.Record.{own_lsn}
 use Rattle.log_history.specs.Transactions.{owed}
 use Rattle.log_history.proofs.Histories.{linked_none, linked_push}
 use Rattle.log_history.proofs.AtEnd.{valid_next}
+use Rattle.copy_vault.specs.Copy.{CopyView}
+use Rattle.copy_vault.specs.Vault.{dropped, reading, state_of}
+use Rattle.copy_coverage.specs.Copied.{AreCopied, copy_in}
+use Rattle.copy_coverage.proofs.Copied.{copied_later}
 use Rattle.aries_core.specs.declared.event.Answer.{Answer}
 use Rattle.aries_core.specs.declared.event.Event.{Event}
 use Rattle.aries_core.specs.declared.refusal.Refusal.{Refusal}
 use Rattle.aries_core.specs.Call.{Calls}
-use Rattle.aries_core.specs.EngineState.{EngineState, IsFit, appended, log_of, new_state}
+use Rattle.aries_core.specs.EngineState.{EngineState, IsFit, appended, end, log_of, new_state}
 use Rattle.aries_core.specs.EventFits.{EventFits}
 use Rattle.aries_core.specs.Run.{Run}
 use Rattle.aries_core.specs.Step.{Step}
 use Rattle.aries_core.proofs.Beside.{gathered_later}
 use Rattle.aries_core.proofs.CkptFits.{FitsCkpts, ckpts_fit, master_now}
+use Rattle.aries_core.proofs.CopySteps.{copies_fit}
 use Rattle.aries_core.proofs.Follows.{follows}
 use Rattle.aries_core.proofs.Forces.{EndsAtRecord, Forces, forces}
 use Rattle.aries_core.proofs.Rooms.{room_grows}
@@ -52,8 +58,9 @@ goes_on old event reply new forces (inr grows) = record {
 }
 
 fit_stays : (old : EngineState) (event : Event) (reply : Result Answer Refusal) (new : EngineState) → IsFit old
-    → EndsAtRecord new → PagesFit new → FitsCkpts new → Stays old event reply new → IsFit new
-fit_stays old event reply new fit forced pages ckpts stays = record {
+    → EndsAtRecord new → PagesFit new → FitsCkpts new
+    → AreCopied new.log new.forced_end new.stored new.copies → Stays old event reply new → IsFit new
+fit_stays old event reply new fit forced pages ckpts copied stays = record {
   valid = rw (stays.pages, stays.log) fit.valid;
   linked = rw stays.log fit.linked;
   room = rw stays.log fit.room;
@@ -63,6 +70,7 @@ fit_stays old event reply new fit forced pages ckpts stays = record {
   stable = pages.stable;
   gathered = ckpts.gathered;
   master = ckpts.master;
+  copied = copied;
 }
 
 room_push : (rs : List Record) (r : Record)
@@ -73,6 +81,12 @@ room_push rs r room whole n le = elim (cases_lt (length rs) n) [
   | inl all ↦ rw (take_all n (rs ++ r ∷ []) (omega (arith, length_push rs r))) whole
   | inr part ↦ rw (take-append-le n rs (r ∷ []) part) (room n part)
 ]
+
+forced_low : (s : EngineState) (r : Record) → IsFit s → own_lsn r ≡ end s → s.forced_end ≤ own_lsn r
+forced_low s r fit own =
+    let le = fit.forced.1 in
+    let at = fit.forced.2 in
+    omega arith
 
 -- the state with the record of an accepted call at the end of its log
 pub fit_appended : (s : EngineState) (r : Record) → IsFit s → Calls s r → IsFit (appended s r)
@@ -95,11 +109,13 @@ fit_appended s r fit calls =
       stable = record { pages = fit.stable.pages; images = fit.stable.images };
       gathered = gathered_later (log_of s) r s.stored s.left fit.valid fit.linked calls.of_transaction may at.lsn fit.gathered;
       master = master_now s r fit at.lsn;
+      copied = copied_later s.log r s.forced_end s.stored s.copies (forced_low s r fit at.lsn) fit.copied;
     }
 
 fit_grows : (old : EngineState) (event : Event) (reply : Result Answer Refusal) (new : EngineState) → IsFit old
-    → EventFits event → EndsAtRecord new → PagesFit new → FitsCkpts new → Grows old event reply new → IsFit new
-fit_grows old event reply new fit numbers forced pages ckpts grows =
+    → EventFits event → EndsAtRecord new → PagesFit new → FitsCkpts new
+    → AreCopied new.log new.forced_end new.stored new.copies → Grows old event reply new → IsFit new
+fit_grows old event reply new fit numbers forced pages ckpts copied grows =
     let r = grows.r in
     let may = follows old event r fit grows.accepted grows.made in
     let whole = room_grows old event r fit grows.accepted grows.made in
@@ -115,6 +131,7 @@ fit_grows old event reply new fit numbers forced pages ckpts grows =
       stable = pages.stable;
       gathered = ckpts.gathered;
       master = ckpts.master;
+      copied = copied;
     }
 
 pub fit_of_step : (old : EngineState) (event : Event) (reply : Result Answer Refusal) (new : EngineState) → IsFit old
@@ -126,9 +143,10 @@ fit_of_step old event reply new fit numbers step =
     let stored = page_step old event reply new step in
     let pages = pages_fit old new fit goes stored in
     let ckpts = ckpts_fit old event reply new fit numbers forces stored kind step in
+    let copied = copies_fit old event reply new fit numbers forces stored kind step in
     elim kind [
-      | inl stays ↦ fit_stays old event reply new fit forces.at_record pages ckpts stays
-      | inr grows ↦ fit_grows old event reply new fit numbers forces.at_record pages ckpts grows
+      | inl stays ↦ fit_stays old event reply new fit forces.at_record pages ckpts copied stays
+      | inr grows ↦ fit_grows old event reply new fit numbers forces.at_record pages ckpts copied grows
     ]
 
 pub fit_of_run : (old : EngineState) (events : List Event) (replies : List (Result Answer Refusal)) (new : EngineState)
@@ -142,6 +160,23 @@ fit_of_run old [] (reply ∷ replies) new fit numbers run = absurd run
 fit_of_run old (event ∷ events) [] new fit numbers run = absurd run
 
 -- ---- a new engine
+
+no_copy : (id : ℕ) → state_of [] id ≡ dropped
+no_copy zero = refl
+no_copy (suc k) = refl
+
+none_some : (copy : CopyView) → ¬ (None ≡ Some copy)
+none_some copy e = cc
+
+not_reading : (copy : CopyView) → ¬ (dropped ≡ reading copy)
+not_reading copy e = cc
+
+no_copies : (s : EngineState) → AreCopied s.log s.forced_end s.stored []
+no_copies s = record {
+  each = λ id copy is. absurd (none_some copy (ap copy_in (sym (no_copy id)) ∙ is));
+  read = λ id copy is. absurd (not_reading copy (sym (no_copy id) ∙ is));
+  covered = λ id copy older is. absurd (none_some copy (ap copy_in (sym (no_copy id)) ∙ is));
+}
 
 formatted_at : (pages p : ℕ) (d : Page) → p < pages → get_or (formatted_pages pages) p d ≡ formatted p
 formatted_at pages p d lt = get_or-map-range_with_len formatted 0 pages p p d lt (omega arith)
@@ -184,6 +219,7 @@ new_is_fit pages count = record {
   };
   gathered = tt;
   master = tt;
+  copied = no_copies (new_state pages);
 }
   where
     room_of_none : (n : ℕ) → n ≤ 0

@@ -123,6 +123,11 @@ follows s (event.Add txn page slot amount) r fit none made =
     let passes = change_passes s txn page slot kind.Add none in
     subst (MayFollow s.log) (same_Some _ _ made) (add_follows s txn page slot amount passes.active passes.free)
 follows s (event.Read page slot) r fit none made = absurd (cc)
+follows s event.CopyFull r fit none made = absurd (cc)
+follows s (event.CopyInc parent) r fit none made = absurd (cc)
+follows s (event.Take copy page) r fit none made = absurd (cc)
+follows s (event.Seal copy) r fit none made = absurd (cc)
+follows s (event.DropCopy copy) r fit none made = absurd (cc)
 follows s (event.Commit txn) r fit none made =
     subst (MayFollow s.log) (same_Some _ _ made) (commit_follows s txn (active_passes s txn none))
 follows s (event.Abort txn) r fit none made =

@@ -109,6 +109,11 @@ effect_forces old event.Begin ends = appended_forces old _ ends
 effect_forces old (event.Set txn page slot number) ends = appended_forces old _ ends
 effect_forces old (event.Add txn page slot amount) ends = appended_forces old _ ends
 effect_forces old (event.Read page slot) ends = same_forces old ends
+effect_forces old event.CopyFull ends = record { at_record = ends; no_less = omega arith }
+effect_forces old (event.CopyInc parent) ends = record { at_record = ends; no_less = omega arith }
+effect_forces old (event.Take copy page) ends = record { at_record = ends; no_less = omega arith }
+effect_forces old (event.Seal copy) ends = record { at_record = ends; no_less = omega arith }
+effect_forces old (event.DropCopy copy) ends = record { at_record = ends; no_less = omega arith }
 effect_forces old (event.Commit txn) ends = commit_forces old txn ends
 effect_forces old (event.Abort txn) ends = appended_forces old _ ends
 effect_forces old (event.UndoStep txn) ends = undo_forces old txn (last_of (pending old.log txn)) refl ends
@@ -138,6 +143,7 @@ failed_forces old event.CkptEnd LogFault new ends fails =
     let part = closed_part old new fails in
     both_force old (closed old part.0) new (closed_forces old part.0 ends)
     (part_forces (closed old part.0) new _ (omega arith) part.2)
+failed_forces old (event.Take copy page) StoreFault new ends fails = subst (Forces old) (sym fails) (same_forces old ends)
 failed_forces old event why new ends fails = absurd fails
 
 pub forces : (old : EngineState) (event : Event) (reply : Result Answer Refusal) (new : EngineState) → EndsAtRecord old

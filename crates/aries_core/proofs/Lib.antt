@@ -2,6 +2,8 @@ pub mod Appends
 pub mod Beside
 pub mod Calls
 pub mod CkptCalls
+pub mod CopyCalls
+pub mod CopySteps
 pub mod CkptFits
 pub mod CkptLaws
 pub mod Fit

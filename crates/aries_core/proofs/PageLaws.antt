@@ -70,6 +70,11 @@ answered old event.Begin answer new none given is = same_written old new _ is re
 answered old (event.Set txn page slot number) answer new none given is = same_written old new _ is refl
 answered old (event.Add txn page slot amount) answer new none given is = same_written old new _ is refl
 answered old (event.Read page slot) answer new none given is = same_written old new _ is refl
+answered old event.CopyFull answer new none given is = same_written old new _ is refl
+answered old (event.CopyInc parent) answer new none given is = same_written old new _ is refl
+answered old (event.Take copy page) answer new none given is = same_written old new _ is refl
+answered old (event.Seal copy) answer new none given is = same_written old new _ is refl
+answered old (event.DropCopy copy) answer new none given is = same_written old new _ is refl
 answered old (event.Commit txn) answer new none given is = same_written old new _ is refl
 answered old (event.Abort txn) answer new none given is = same_written old new _ is refl
 answered old (event.UndoStep txn) answer new none given is = undo_written old txn new _ refl is
@@ -93,6 +98,7 @@ failed old (event.WriteEnd page) StoreFault new fails = elim (stored_or_not old 
   | inr stored ↦ same_written old new _ stored.2 refl
 ]
 failed old event.CkptEnd LogFault new fails = same_written old new _ (closed_part old new fails).2.reached.2 refl
+failed old (event.Take copy page) StoreFault new fails = same_written old new _ fails refl
 failed old event why new fails = absurd fails
 
 written_of_step : (old : EngineState) (event : Event) (reply : Result Answer Refusal) (new : EngineState)

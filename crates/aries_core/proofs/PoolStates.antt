@@ -10,7 +10,7 @@ use Rattle.log_records.specs.Coverage.{rec_lsn}
 use Rattle.log_store.specs.WrittenLog.{WrittenLog, end_up_to}
 use Rattle.aries_core.specs.declared.event.Event.TheVariants as event
 use Rattle.aries_core.specs.declared.refusal.Refusal.TheVariants.{NoWrite, NotDirty, PageOut, WriteBegun}
-use Rattle.aries_core.specs.EngineState.{CkptsView, EngineState, begun_write, ended_write, engine_view, forced_through, image_of}
+use Rattle.aries_core.specs.EngineState.{MediaView, EngineState, begun_write, ended_write, engine_view, forced_through, image_of}
 use Rattle.aries_core.specs.EngineState.{new_state, rec_lsn_of, with_stored}
 use Rattle.page_core.specs.Volume.{formatted_pages}
 use Rattle.aries_core.specs.Refusal.{refusal}
@@ -49,11 +49,11 @@ end_may s p within begun = rw (lt-leb s.pages p within, none_by_some (image_of s
 
 -- ---- a page
 
-pub image_at : {S D : Type 0} (stored : S → List Page) (it : WrittenLog D) (pool : PoolView S) (ckpts : CkptsView)
+pub image_at : {S D : Type 0} (stored : S → List Page) (it : WrittenLog D) (pool : PoolView S) (ckpts : MediaView)
     (p : ℕ) → p < length pool.states → image_of (engine_view stored it pool ckpts).state p ≡ (state_at pool p).writing
 image_at stored it pool ckpts p within = get_or-map (λ s. s.writing) pool.states p unwritten None within
 
-pub rec_lsn_at : {S D : Type 0} (stored : S → List Page) (it : WrittenLog D) (pool : PoolView S) (ckpts : CkptsView)
+pub rec_lsn_at : {S D : Type 0} (stored : S → List Page) (it : WrittenLog D) (pool : PoolView S) (ckpts : MediaView)
     (p : ℕ) → IsPoolOf stored it.log pool → p < length pool.states
     → rec_lsn_of (engine_view stored it pool ckpts).state p ≡ (state_at pool p).rec_lsn
 rec_lsn_at stored it pool ckpts p is within =
@@ -62,7 +62,7 @@ rec_lsn_at stored it pool ckpts p is within =
 
 -- ---- what stands after a call
 
-pub begun_is : {S D : Type 0} (stored : S → List Page) (old new : WrittenLog D) (pool : PoolView S) (ckpts : CkptsView)
+pub begun_is : {S D : Type 0} (stored : S → List Page) (old new : WrittenLog D) (pool : PoolView S) (ckpts : MediaView)
     (p : ℕ) (q : Page) → p < length pool.states → new.log ≡ old.log
     → new.forced_end ≡ max old.forced_end (end_up_to old.log q.lsn)
     → (engine_view stored new (with_state pool p (write_begun (state_at pool p) q)) ckpts).state
@@ -78,7 +78,7 @@ begun_is stored old new pool ckpts p q within same forced =
     rw (same, forced, written, writing) refl
 
 pub ended_is : {S D : Type 0} (stored : S → List Page) (it : WrittenLog D) (pool after : PoolView S)
-    (ckpts : CkptsView) (p : ℕ) (q : Page) → stored after.store ≡ set (stored pool.store) p q
+    (ckpts : MediaView) (p : ℕ) (q : Page) → stored after.store ≡ set (stored pool.store) p q
     → after.states ≡ set pool.states p (write_ended (state_at pool p) q.lsn)
     → (engine_view stored it after ckpts).state ≡ ended_write (engine_view stored it pool ckpts).state p q
 ended_is stored it pool after ckpts p q store states =
@@ -90,12 +90,12 @@ ended_is stored it pool after ckpts p q store states =
     rw (store, written, writing) refl
 
 pub repeated_is : {S D : Type 0} (stored : S → List Page) (it : WrittenLog D) (pool after : PoolView S)
-    (ckpts : CkptsView) (p : ℕ) (q : Page) → stored after.store ≡ set (stored pool.store) p q → after.states ≡ pool.states
+    (ckpts : MediaView) (p : ℕ) (q : Page) → stored after.store ≡ set (stored pool.store) p q → after.states ≡ pool.states
     → (engine_view stored it after ckpts).state ≡ with_stored (engine_view stored it pool ckpts).state p q
 repeated_is stored it pool after ckpts p q store states = rw (store, states) refl
 
 pub kept_is : {S D : Type 0} (stored : S → List Page) (it : WrittenLog D) (pool after : PoolView S)
-    (ckpts : CkptsView) → stored after.store ≡ stored pool.store → after.states ≡ pool.states
+    (ckpts : MediaView) → stored after.store ≡ stored pool.store → after.states ≡ pool.states
     → (engine_view stored it after ckpts).state ≡ (engine_view stored it pool ckpts).state
 kept_is stored it pool after ckpts store states = rw (store, states) refl
 

@@ -1,7 +1,7 @@
 -- What an event that is not refused has passed.
 use Rattle.std.proofs.Common.{◌≡◌, ℕ, ◌+◌, ◌<◌, ◌≤◌, ◌⊎◌, Bool, true, false, ◌&&◌, not, length, refl, sym, ap, ◌∙◌, inl, inr}
-use Rattle.std.specs.Prelude.{Option, Some, None, is_none, is_some}
-use Rattle.std.specs.Option.{option_map}
+use Rattle.std.specs.Prelude.{Option, Some, None, is_none, is_some, nat_le}
+use Rattle.std.specs.Option.{option_map, option_or}
 use Rattle.std.proofs.lemmas.Option.{cond_some, same_Some}
 use Rattle.std.proofs.lemmas.Bool.{not-false, leb-false, ltb-false, ltb-true}
 use Rattle.page_core.specs.declared.change.ChangeKind.{ChangeKind}
@@ -11,12 +11,18 @@ use Rattle.log_records.specs.declared.limits.TheConstants.{MAX_OPEN, MAX_RECORDS
 use Rattle.log_records.specs.declared.record.Record.{Record}
 use Rattle.log_history.specs.Checkpoint.{Checkpoint, open_checkpoint}
 use Rattle.log_history.specs.Transactions.{holder, is_open, is_rolling, open_in, owed}
+use Rattle.copy_vault.specs.declared.fault.CopyFault.{CopyFault}
+use Rattle.copy_vault.specs.declared.fault.CopyFault.TheVariants as fault
+use Rattle.copy_vault.specs.Copy.{CopyView}
+use Rattle.copy_vault.specs.Vault.{CopyState, complete, complete_refusal, drop_refusal, dropped, open_refusal, reading}
+use Rattle.copy_vault.specs.Vault.{seal_refusal, state_of}
+use Rattle.aries_core.specs.declared.event.Event.{Event}
 use Rattle.aries_core.specs.declared.event.Event.TheVariants as event
 use Rattle.aries_core.specs.declared.refusal.Refusal.{Refusal}
-use Rattle.aries_core.specs.declared.refusal.Refusal.TheVariants.{CkptOpen, CommitUnsure, GatherLeft, LogFull, NoCkpt, NoTxn, NoWrite, NotDirty, NotRolling, PageOut, SlotBusy, SlotOut, TooManyTxns, TxnRolling, WriteBegun}
+use Rattle.aries_core.specs.declared.refusal.Refusal.TheVariants.{CkptOpen, CommitUnsure, GatherLeft, LogFull, NoCkpt, NoMaster, NoTxn, PageDecided, NoWrite, NotDirty, NotRolling, PageOut, SlotBusy, SlotOut, TooManyTxns, TxnRolling, WriteBegun}
 use Rattle.aries_core.specs.EngineState.{EngineState, gathered_record, image_of, rec_lsn_of}
 use Rattle.aries_core.specs.Gather.{Left, is_done, none_left, pages_left, txns_left}
-use Rattle.aries_core.specs.Refusal.{active_refusal, change_refusal, ckpt_refusal, has_no_room, or_else, page_refusal, refused_if, refusal}
+use Rattle.aries_core.specs.Refusal.{active_refusal, change_refusal, ckpt_refusal, copy_refusal, of_vault, has_no_room, or_else, page_refusal, refused_if, refusal}
 
 -- ---- one test, and two
 
@@ -329,4 +335,92 @@ ckpt_end_full s full =
       still_open = some.1;
       done = none_left_if_done s.left (not-false _ (not_refused _ _ rest.0));
       past = ltb-true _ _ (refused_so _ _ _ rest.1).0;
+    }
+
+-- ---- calls on copies
+
+-- a refusal of the vault is none for want of room in the log
+vault_not_full : (o : Option CopyFault) → option_map of_vault o ≡ Some LogFull → ⊥
+vault_not_full None full = cc
+vault_not_full (Some fault.OutOfMemory) full = cc
+vault_not_full (Some fault.NoCopy) full = cc
+vault_not_full (Some fault.CopyNotOpen) full = cc
+vault_not_full (Some fault.CopyNotComplete) full = cc
+vault_not_full (Some (fault.PagesLeft page)) full = cc
+vault_not_full (Some fault.TooManyCopies) full = cc
+
+take_not_full : (s : EngineState) (copy page : ℕ) → refusal s (event.Take copy page) ≡ Some LogFull → ⊥
+take_not_full s copy page full =
+    not_of_both _ _ PageOut PageDecided LogFull (λ same. (cc)) (λ same. (cc))
+    (second_of_both (copy_refusal s copy) _ LogFull (vault_not_full _) full).1
+
+abbrev pub IsOfCopies : Event → Type 0
+IsOfCopies event.CopyFull = Unit {0}
+IsOfCopies (event.CopyInc parent) = Unit {0}
+IsOfCopies (event.Take copy page) = Unit {0}
+IsOfCopies (event.Seal copy) = Unit {0}
+IsOfCopies (event.DropCopy copy) = Unit {0}
+IsOfCopies other = ⊥
+
+pub copy_not_full : (s : EngineState) (event : Event) → IsOfCopies event → refusal s event ≡ Some LogFull → ⊥
+copy_not_full s event.CopyFull is full =
+    vault_not_full _ (second_of_both (refused_if _ NoMaster) _ LogFull (not_of_one _ NoMaster LogFull (λ same. (cc))) full).1
+copy_not_full s (event.CopyInc parent) is full = vault_not_full _ full
+copy_not_full s (event.Take copy page) is full = take_not_full s copy page full
+copy_not_full s (event.Seal copy) is full = vault_not_full _ full
+copy_not_full s (event.DropCopy copy) is full = vault_not_full _ full
+copy_not_full s event is full = absurd is
+
+-- a copy that is to be read on is being read
+vault_passes : (o : Option CopyFault) → option_map of_vault o ≡ None → o ≡ None
+vault_passes None none = refl
+vault_passes (Some f) none = cc
+
+reading_if_drop : (state : CopyState) → drop_refusal state ≡ None → (copy : CopyView) × (state ≡ reading copy)
+reading_if_drop (reading copy) none = (copy, refl)
+reading_if_drop (complete copy) none = cc
+reading_if_drop dropped none = cc
+
+reading_if_seal : (state : CopyState) → seal_refusal state ≡ None → (copy : CopyView) × (state ≡ reading copy)
+reading_if_seal (reading copy) none = (copy, refl)
+reading_if_seal (complete copy) none = cc
+reading_if_seal dropped none = cc
+
+complete_if : (state : CopyState) → complete_refusal state ≡ None → (copy : CopyView) × (state ≡ complete copy)
+complete_if (reading copy) none = cc
+complete_if (complete copy) none = (copy, refl)
+complete_if dropped none = cc
+
+pub drop_passes : (s : EngineState) (copy : ℕ) → copy_refusal s copy ≡ None
+    → (c : CopyView) × (state_of s.copies copy ≡ reading c)
+drop_passes s copy none = reading_if_drop (state_of s.copies copy) (vault_passes _ none)
+
+pub seal_passes : (s : EngineState) (copy : ℕ) → refusal s (event.Seal copy) ≡ None
+    → (c : CopyView) × (state_of s.copies copy ≡ reading c)
+seal_passes s copy none = reading_if_seal (state_of s.copies copy) (vault_passes _ none)
+
+or_none : (a b : Option CopyFault) → option_or a b ≡ None → a ≡ None
+or_none None b none = refl
+or_none (Some f) b none = cc
+
+pub inc_passes : (s : EngineState) (parent : ℕ) → refusal s (event.CopyInc parent) ≡ None
+    → (c : CopyView) × (state_of s.copies parent ≡ complete c)
+inc_passes s parent none =
+    complete_if (state_of s.copies parent)
+    (or_none (complete_refusal (state_of s.copies parent)) (open_refusal s.copies) (vault_passes _ none))
+
+pub record TakePasses (s : EngineState) (copy page : ℕ) : Type 0 where
+  pub view : CopyView
+  pub is_read : state_of s.copies copy ≡ reading view
+  pub within : page < s.pages
+
+pub take_passes : (s : EngineState) (copy page : ℕ) → refusal s (event.Take copy page) ≡ None → TakePasses s copy page
+take_passes s copy page none =
+    let both = none_of_both (copy_refusal s copy) _ none in
+    let there = drop_passes s copy both.0 in
+    let rest = none_of_both (refused_if (nat_le s.pages page) PageOut) _ both.1 in
+    record {
+      view = there.0;
+      is_read = there.1;
+      within = leb-false _ _ (not_refused _ _ rest.0);
     }

@@ -21,7 +21,7 @@ use Rattle.aries_core.proofs.Follows.{add_follows, end_record_has, follows, gath
 use Rattle.aries_core.proofs.Gathers.{PassesPages, PassesTxns, TakesPages, TakesTxn, WasDone, ckpt_end_is, gather_case}
 use Rattle.aries_core.proofs.Gathers.{pages_record, passes_pages, passes_txns, takes_pages, takes_txn, txn_entry, was_done}
 use Rattle.aries_core.proofs.Refusals.{GatherIsFull, HasRoom, ckpt_begin_full, ckpt_end_full, gather_full}
-use Rattle.aries_core.proofs.Refusals.{active_not_full, begin_full, begin_passes, change_full, change_passes, ckpt_begin_passes, ckpt_end_passes, gather_passes, read_not_full, undo_not_full, write_begin_not_full, write_end_not_full}
+use Rattle.aries_core.proofs.Refusals.{active_not_full, begin_full, begin_passes, change_full, change_passes, copy_not_full, ckpt_begin_passes, ckpt_end_passes, gather_passes, read_not_full, undo_not_full, write_begin_not_full, write_end_not_full}
 use Rattle.aries_core.specs.Call.{record_for}
 use Rattle.aries_core.proofs.Steps.{stays_or_grows}
 
@@ -46,6 +46,11 @@ grows_within s (event.Add txn page slot amount) r fit none made =
     subst (λ (q : Record). HasRoom s (needs q)) (same_Some _ _ made)
     (change_passes s txn page slot kind.Add none).room
 grows_within s (event.Read page slot) r fit none made = absurd (cc)
+grows_within s event.CopyFull r fit none made = absurd (cc)
+grows_within s (event.CopyInc parent) r fit none made = absurd (cc)
+grows_within s (event.Take copy page) r fit none made = absurd (cc)
+grows_within s (event.Seal copy) r fit none made = absurd (cc)
+grows_within s (event.DropCopy copy) r fit none made = absurd (cc)
 grows_within s (event.Commit txn) r fit none made =
     subst (λ (q : Record). HasRoom s (needs q)) (same_Some _ _ made) (room_now s fit)
 grows_within s (event.Abort txn) r fit none made =
@@ -135,6 +140,11 @@ past_if_full s (event.Add txn page slot amount) fit full =
     let parts = change_full s txn page slot kind.Add full in
     update_past s txn page slot (Add amount) fit (add_follows s txn page slot amount parts.0 parts.1) parts.2
 past_if_full s (event.Read page slot) fit full = absurd (read_not_full s page slot full)
+past_if_full s event.CopyFull fit full = absurd (copy_not_full s event.CopyFull tt full)
+past_if_full s (event.CopyInc parent) fit full = absurd (copy_not_full s (event.CopyInc parent) tt full)
+past_if_full s (event.Take copy page) fit full = absurd (copy_not_full s (event.Take copy page) tt full)
+past_if_full s (event.Seal copy) fit full = absurd (copy_not_full s (event.Seal copy) tt full)
+past_if_full s (event.DropCopy copy) fit full = absurd (copy_not_full s (event.DropCopy copy) tt full)
 past_if_full s (event.Commit txn) fit full = absurd (active_not_full s txn full)
 past_if_full s (event.Abort txn) fit full = absurd (active_not_full s txn full)
 past_if_full s (event.UndoStep txn) fit full = absurd (undo_not_full s txn full)

@@ -134,6 +134,11 @@ stands s (event.Add txn page slot amount) r fit fits none made =
     subst (StandsAtEnd s) (same_Some _ _ made)
     (update_stands s txn page slot (Add amount) fit (change_passes s txn page slot kind.Add none) fits)
 stands s (event.Read page slot) r fit fits none made = absurd (cc)
+stands s event.CopyFull r fit fits none made = absurd (cc)
+stands s (event.CopyInc parent) r fit fits none made = absurd (cc)
+stands s (event.Take copy page) r fit fits none made = absurd (cc)
+stands s (event.Seal copy) r fit fits none made = absurd (cc)
+stands s (event.DropCopy copy) r fit fits none made = absurd (cc)
 stands s (event.Commit txn) r fit fits none made =
     subst (StandsAtEnd s) (same_Some _ _ made) (commit_stands s txn fit (active_passes s txn none).still_open)
 stands s (event.Abort txn) r fit fits none made =

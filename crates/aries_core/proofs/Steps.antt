@@ -144,6 +144,16 @@ answered old (event.Add txn page slot amount) answer new none given is =
     inr (grows old (event.Add txn page slot amount) (Ok answer) new _ _ is none refl refl refl refl)
 answered old (event.Read page slot) answer new none given is =
     inl (stays old (event.Read page slot) (Ok answer) new _ is refl refl refl)
+answered old event.CopyFull answer new none given is =
+    inl (stays old event.CopyFull (Ok answer) new _ is refl refl refl)
+answered old (event.CopyInc parent) answer new none given is =
+    inl (stays old (event.CopyInc parent) (Ok answer) new _ is refl refl refl)
+answered old (event.Take copy page) answer new none given is =
+    inl (stays old (event.Take copy page) (Ok answer) new _ is refl refl refl)
+answered old (event.Seal copy) answer new none given is =
+    inl (stays old (event.Seal copy) (Ok answer) new _ is refl refl refl)
+answered old (event.DropCopy copy) answer new none given is =
+    inl (stays old (event.DropCopy copy) (Ok answer) new _ is refl refl refl)
 answered old (event.Commit txn) answer new none given is =
     inr (grows old (event.Commit txn) (Ok answer) new _ _ is none refl refl refl refl)
 answered old (event.Abort txn) answer new none given is =
@@ -190,6 +200,8 @@ failed old (event.WriteEnd page) StoreFault new none fails = elim (stored_or_not
 failed old event.CkptEnd LogFault new none fails =
     let part = closed_part old new fails in
     inr (grows old event.CkptEnd (Err LogFault) new _ _ part.2.reached.2 none (made_at_end old part.0 part.1) refl refl refl)
+failed old (event.Take copy page) StoreFault new none fails =
+    inl (stays old (event.Take copy page) (Err StoreFault) new old fails refl refl refl)
 failed old event why new none fails = absurd fails
 
 pub stays_or_grows : (old : EngineState) (event : Event) (reply : Result Answer Refusal) (new : EngineState)

@@ -15,7 +15,7 @@ use Rattle.aries_core.specs.declared.event.Event.{Event}
 use Rattle.aries_core.specs.declared.event.Event.TheVariants as event
 use Rattle.aries_core.specs.declared.refusal.Refusal.{Refusal}
 use Rattle.aries_core.specs.declared.refusal.Refusal.TheVariants.{StoreFault}
-use Rattle.aries_core.specs.EngineState.{CkptsView, IsKept, begun_write, effect, ended_write, engine_view, forced_through}
+use Rattle.aries_core.specs.EngineState.{MediaView, IsKept, begun_write, effect, ended_write, engine_view, forced_through}
 use Rattle.aries_core.specs.EventFits.{EventFits}
 use Rattle.aries_core.specs.Refusal.{refusal}
 use Rattle.aries_core.specs.Step.{MayBeStored, Step}
@@ -26,12 +26,12 @@ use Rattle.aries_core.proofs.Refusals.{write_end_passes}
 
 -- what a call says of the state after it: it is a step, and the engine is in step with its pool
 pub record Called {S D : Type 0} (stored : S → List Page) (it new : WrittenLog D) (table : Table)
-    (pool after : PoolView S) (ckpts : CkptsView) (call : Event) (reply : Result Answer Refusal) : Type 0 where
+    (pool after : PoolView S) (ckpts : MediaView) (call : Event) (reply : Result Answer Refusal) : Type 0 where
   pub step : Step (engine_view stored it pool ckpts).state call reply (engine_view stored new after ckpts).state
   pub kept : IsKept stored (engine_view stored new after ckpts).state table after ckpts
 
 -- a step that leaves the log and the table
-called : {S D : Type 0} (stored : S → List Page) (it new : WrittenLog D) (table : Table) (pool after : PoolView S) (ckpts : CkptsView)
+called : {S D : Type 0} (stored : S → List Page) (it new : WrittenLog D) (table : Table) (pool after : PoolView S) (ckpts : MediaView)
     (call : Event) (reply : Result Answer Refusal) → IsKept stored (engine_view stored it pool ckpts).state table pool ckpts
     → EventFits call → new.log ≡ it.log
     → Step (engine_view stored it pool ckpts).state call reply (engine_view stored new after ckpts).state
@@ -50,7 +50,7 @@ called stored it new table pool after ckpts call reply kept fits same step is = 
 -- ---- the log is forced further, while all else stays
 
 pub force_kept : {S D : Type 0} (stored : S → List Page) (it new : WrittenLog D) (table : Table) (pool : PoolView S)
-    (ckpts : CkptsView) → IsKept stored (engine_view stored it pool ckpts).state table pool ckpts → new.log ≡ it.log
+    (ckpts : MediaView) → IsKept stored (engine_view stored it pool ckpts).state table pool ckpts → new.log ≡ it.log
     → it.forced_end ≤ new.forced_end → EndsAtRecord new
     → IsKept stored (engine_view stored new pool ckpts).state table pool ckpts
 force_kept stored it new table pool ckpts kept same no_less ends =
@@ -88,7 +88,7 @@ force_kept stored it new table pool ckpts kept same no_less ends =
 
 -- ---- a write begins
 
-pub begun : {S D : Type 0} (stored : S → List Page) (it new : WrittenLog D) (table : Table) (pool after : PoolView S) (ckpts : CkptsView)
+pub begun : {S D : Type 0} (stored : S → List Page) (it new : WrittenLog D) (table : Table) (pool after : PoolView S) (ckpts : MediaView)
     (p lsn : ℕ) (q : Page) → IsKept stored (engine_view stored it pool ckpts).state table pool ckpts
     → refusal (engine_view stored it pool ckpts).state (event.WriteBegin p) ≡ None → p < length pool.states
     → q ≡ image it.log.records p → lsn ≡ q.lsn → new.log ≡ it.log
@@ -111,7 +111,7 @@ begun stored it new table pool after ckpts p lsn q kept none within now at same 
 of_image : (o : Option Page) (P : Page → Type 0) (q : Page) → o ≡ Some q → IfSome o P → P q
 of_image o P q is h = subst (λ (o : Option Page). IfSome o P) is h
 
-pub ended : {S D : Type 0} (stored : S → List Page) (it : WrittenLog D) (table : Table) (pool after : PoolView S) (ckpts : CkptsView)
+pub ended : {S D : Type 0} (stored : S → List Page) (it : WrittenLog D) (table : Table) (pool after : PoolView S) (ckpts : MediaView)
     (p lsn : ℕ) → IsKept stored (engine_view stored it pool ckpts).state table pool ckpts
     → refusal (engine_view stored it pool ckpts).state (event.WriteEnd p) ≡ None → p < length pool.states
     → IfSome (state_at pool p).writing (λ q. lsn ≡ q.lsn)
@@ -139,7 +139,7 @@ ended stored it table pool after ckpts p lsn kept none within at store states of
     called stored it it table pool after ckpts (event.WriteEnd p) (Ok (answer.Written lsn)) kept tt refl
     (none, said, effected) of_log
 
-pub repeated : {S D : Type 0} (stored : S → List Page) (it : WrittenLog D) (table : Table) (pool after : PoolView S) (ckpts : CkptsView)
+pub repeated : {S D : Type 0} (stored : S → List Page) (it : WrittenLog D) (table : Table) (pool after : PoolView S) (ckpts : MediaView)
     (p : ℕ) → IsKept stored (engine_view stored it pool ckpts).state table pool ckpts
     → refusal (engine_view stored it pool ckpts).state (event.WriteEnd p) ≡ None → p < length pool.states
     → IfSome (state_at pool p).writing (λ q. StoresOrKeeps (stored pool.store) p q (stored after.store))

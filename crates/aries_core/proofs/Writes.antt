@@ -113,6 +113,11 @@ answered old event.Begin new none is = leaves old new _ is refl refl refl
 answered old (event.Set txn page slot number) new none is = leaves old new _ is refl refl refl
 answered old (event.Add txn page slot amount) new none is = leaves old new _ is refl refl refl
 answered old (event.Read page slot) new none is = leaves old new _ is refl refl refl
+answered old event.CopyFull new none is = leaves old new _ is refl refl refl
+answered old (event.CopyInc parent) new none is = leaves old new _ is refl refl refl
+answered old (event.Take copy page) new none is = leaves old new _ is refl refl refl
+answered old (event.Seal copy) new none is = leaves old new _ is refl refl refl
+answered old (event.DropCopy copy) new none is = leaves old new _ is refl refl refl
 answered old (event.Commit txn) new none is = leaves old new _ is refl refl refl
 answered old (event.Abort txn) new none is = leaves old new _ is refl refl refl
 answered old (event.UndoStep txn) new none is = undo_leaves old txn new _ refl is
@@ -151,6 +156,7 @@ failed old (event.WriteEnd page) StoreFault new none fails =
     ]
 failed old event.CkptEnd LogFault new none fails =
     leaves old new _ (closed_part old new fails).2.reached.2 refl refl refl
+failed old (event.Take copy page) StoreFault new none fails = leaves old new old fails refl refl refl
 failed old event why new none fails = absurd fails
 
 pub page_step : (old : EngineState) (event : Event) (reply : Result Answer Refusal) (new : EngineState)

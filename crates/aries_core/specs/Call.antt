@@ -23,6 +23,11 @@ record_for s (event.Set txn page slot number) =
     Some (update_record s txn page slot (Set (number_in s.log page slot) number))
 record_for s (event.Add txn page slot amount) = Some (update_record s txn page slot (Add amount))
 record_for s (event.Read page slot) = None
+record_for s event.CopyFull = None
+record_for s (event.CopyInc parent) = None
+record_for s (event.Take copy page) = None
+record_for s (event.Seal copy) = None
+record_for s (event.DropCopy copy) = None
 record_for s (event.Commit txn) = Some (commit_record s txn)
 record_for s (event.Abort txn) = Some (abort_record s txn)
 record_for s (event.UndoStep txn) =

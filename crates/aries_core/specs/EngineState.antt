@@ -7,6 +7,7 @@ use Rattle.std.specs.Option.{option_map, option_map_or}
 use Rattle.page_core.specs.declared.change.Change.{Change}
 use Rattle.page_core.specs.declared.change.Change.TheVariants.{Set, Add}
 use Rattle.page_core.specs.Change.{undo_of}
+use Rattle.page_core.specs.Page.{formatted}
 use Rattle.page_core.specs.Volume.{formatted_pages}
 use Rattle.buffer_pool.specs.Pool.{IsPoolOf, PoolView, writing_of, written_of}
 use Rattle.log_records.specs.Coverage.{AreStored, rec_lsn}
@@ -27,6 +28,13 @@ use Rattle.txn_table.specs.TxnTable.{IsTableOf}
 use Rattle.fuzzy_ckpt.specs.declared.point.Point.{Point}
 use Rattle.fuzzy_ckpt.specs.Ckpt.{AllCover, AreCovered, CkptView, IsCkptOf, Phase}
 use Rattle.fuzzy_ckpt.specs.Steps.{Gathering, gather_step}
+use Rattle.copy_vault.specs.declared.copy_id.CopyKind.{CopyKind}
+use Rattle.copy_vault.specs.declared.copy_id.CopyKind.TheVariants.{Full, Inc}
+use Rattle.copy_vault.specs.declared.copy_id.Decision.{Decision}
+use Rattle.copy_vault.specs.declared.copy_id.Decision.TheVariants.{Taken, Kept}
+use Rattle.copy_vault.specs.Vault.{CopyState, answer_in, decided, opened, sealed, state_of}
+use Rattle.copy_vault.specs.Vault.{taken_in, without}
+use Rattle.copy_coverage.specs.Copied.{AreCopied}
 use Rattle.aries_core.specs.declared.event.Answer.{Answer}
 use Rattle.aries_core.specs.declared.event.Answer.TheVariants as answer
 use Rattle.aries_core.specs.declared.event.Event.{Event}
@@ -35,8 +43,8 @@ use Rattle.aries_core.specs.Gather.{Left, is_done, left_of, pages_left, session_
 
 -- the page count of the volume, the log, the LSN below which each record is on the device, and the
 -- last complete checkpoint below it; the stored pages; of each page the LSN of its last write, and
--- the image that is being written; and what is left for the gather of the checkpoint that is open in
--- the log (the dirty pages, where none is)
+-- the image that is being written; what is left for the gather of the checkpoint that is open in the
+-- log (the dirty pages, where none is); and the image copies in order of their ids
 pub record EngineState : Type 0 where
   pub pages : ℕ
   pub log : List Record
@@ -46,6 +54,7 @@ pub record EngineState : Type 0 where
   pub written : List ℕ
   pub writing : List (Option Page)
   pub left : Left
+  pub copies : List CopyState
 
 -- a new engine: its log has a header alone, and its pages are formatted
 abbrev pub new_state : ℕ → EngineState
@@ -58,6 +67,7 @@ new_state pages = record {
   written = replicate pages 0;
   writing = replicate pages None;
   left = pages_left;
+  copies = [];
 }
 
 -- the LSN that the next record will have
@@ -102,7 +112,14 @@ gathering s left = record s { left = left }
 abbrev pub with_master : EngineState → Point → EngineState
 with_master s point = record s { master = Some point }
 
+abbrev pub with_copies : EngineState → List CopyState → EngineState
+with_copies s copies = record s { copies = copies }
+
 -- ---- a page
+
+-- the page as it is stored
+abbrev pub stored_page : EngineState → ℕ → Page
+stored_page s page = slice_index_or s.stored page (formatted page)
 
 -- the page as it is now
 abbrev pub page_now : EngineState → ℕ → Page
@@ -210,6 +227,19 @@ abbrev pub of_open : EngineState → Answer → (Checkpoint → Outcome) → Out
 of_open s other outcome =
     option_map_or outcome (open_checkpoint s.log) (record { answer = other; state = s })
 
+-- a copy begins, with the redo point of the master
+abbrev pub opened_copy : EngineState → CopyKind → Outcome
+opened_copy s kind = record {
+  answer = answer.Copied (length s.copies + 1);
+  state = with_copies s (opened s.copies kind s.pages (option_map_or (λ p. p.begin) s.master 0)
+      (option_map_or (λ p. p.redo) s.master 0));
+}
+
+-- what is answered of a page that a copy has decided of
+abbrev pub take_answer : Decision → Page → Answer
+take_answer Taken page = answer.Taken page.lsn
+take_answer Kept page = answer.Kept
+
 abbrev pub effect : EngineState → Event → Outcome
 effect s event.Begin = record {
   answer = answer.Began (next_txn s) (end s);
@@ -240,6 +270,22 @@ effect s event.CkptBegin = record {
 }
 effect s event.CkptGather = of_open s answer.Done (λ c. gather_effect s (next_step s c))
 effect s event.CkptEnd = of_open s (answer.Point 0 0 0) (ckpt_end_effect s)
+effect s event.CopyFull = opened_copy s Full
+effect s (event.CopyInc parent) = opened_copy s (Inc parent)
+effect s (event.Take copy page) = record {
+  answer =
+      take_answer (answer_in s.copies (state_of s.copies copy) (stored_page s page))
+      (stored_page s page);
+  state = with_copies s (decided s.copies copy page (stored_page s page));
+}
+effect s (event.Seal copy) = record {
+  answer = answer.Sealed (taken_in (state_of s.copies copy));
+  state = with_copies s (sealed s.copies copy);
+}
+effect s (event.DropCopy copy) = record {
+  answer = answer.Dropped;
+  state = with_copies s (without s.copies copy);
+}
 
 -- ---- the invariant
 
@@ -281,6 +327,7 @@ pub record IsFit (s : EngineState) : Type 0 where
   pub stable : AreStable s
   pub gathered : IfSome (open_checkpoint s.log) (IsGathering s.log s.stored s.left)
   pub master : IfSome s.master (IsMasterOf s.log s.stored s.forced_end)
+  pub copied : AreCopied s.log s.forced_end s.stored s.copies
 
 -- ---- the engine, its store and its device
 
@@ -289,14 +336,15 @@ pub record EngineView (S D : Type 0) : Type 0 where
   pub store : S
   pub device : D
 
--- the last complete checkpoint, and the session of the open one
-pub record CkptsView : Type 0 where
+-- the last complete checkpoint, the session of the open one, and the image copies
+pub record MediaView : Type 0 where
   pub master : Option Point
   pub session : Option (CkptView Phase)
+  pub copies : List CopyState
 
--- what an engine is, by the log that it writes, the pool of its pages and its checkpoints
+-- what an engine is, by the log that it writes, the pool of its pages, its checkpoints and its copies
 abbrev pub engine_view : {S D : Type 0} → (S → List Page) → WrittenLog D → PoolView S
-    → CkptsView → EngineView S D
+    → MediaView → EngineView S D
 engine_view stored it pool ckpts = record {
   state = record {
     pages = it.log.pages;
@@ -307,6 +355,7 @@ engine_view stored it pool ckpts = record {
     written = written_of pool.states;
     writing = writing_of pool.states;
     left = option_map_or (λ c. left_of c.phase) ckpts.session pages_left;
+    copies = ckpts.copies;
   };
   store = pool.store;
   device = it.device;
@@ -315,7 +364,7 @@ engine_view stored it pool ckpts = record {
 -- the engine is fit, and its transaction table, its pool and the session of its checkpoint are
 -- those of its log
 pub record IsKept {S : Type 0} (stored : S → List Page) (s : EngineState) (table : Table)
-    (pool : PoolView S) (ckpts : CkptsView) : Type 0 where
+    (pool : PoolView S) (ckpts : MediaView) : Type 0 where
   pub fit : IsFit s
   pub table_of_log : IsTableOf s.log table
   pub pool_of_log : IsPoolOf stored (log_of s) pool

@@ -1,7 +1,7 @@
 -- When a call is refused, and what is printed of a refusal.
 use Rattle.std.specs.Prelude.{ℕ, ◌+◌, ◌++◌, ◌&&◌, nat_le, nat_lt, Bool, not, List, length, Option, Some}
 use Rattle.std.specs.Prelude.{is_some, is_none}
-use Rattle.std.specs.Prelude.{None, if◌then◌else◌, codes}
+use Rattle.std.specs.Prelude.{None, if◌then◌else◌, codes, true}
 use Rattle.std.specs.Fmt.{decimal}
 use Rattle.std.specs.Option.{option_map}
 use Rattle.page_core.specs.declared.change.ChangeKind.{ChangeKind}
@@ -10,6 +10,11 @@ use Rattle.page_core.specs.declared.page.TheConstants.{SLOTS}
 use Rattle.log_records.specs.declared.limits.TheConstants.{MAX_OPEN, MAX_RECORDS}
 use Rattle.log_history.specs.Checkpoint.{open_checkpoint}
 use Rattle.log_history.specs.Transactions.{holder, is_open, is_rolling, open_in, owed}
+use Rattle.copy_vault.specs.declared.fault.CopyFault.{CopyFault}
+use Rattle.copy_vault.specs.declared.fault.CopyFault.TheVariants as fault
+use Rattle.copy_vault.specs.Copy.{decision_at, is_undecided}
+use Rattle.copy_vault.specs.Vault.{CopyState, complete, drop_refusal, dropped, inc_refusal}
+use Rattle.copy_vault.specs.Vault.{open_refusal, reading, seal_refusal, state_of}
 use Rattle.aries_core.specs.declared.event.Event.{Event}
 use Rattle.aries_core.specs.declared.event.Event.TheVariants as event
 use Rattle.aries_core.specs.declared.refusal.Refusal.{Refusal}
@@ -18,10 +23,13 @@ use Rattle.aries_core.specs.declared.refusal.Refusal.TheVariants.{SlotOut, SlotB
 use Rattle.aries_core.specs.declared.refusal.Refusal.TheVariants.{NotRolling, LogFull, TooManyTxns}
 use Rattle.aries_core.specs.declared.refusal.Refusal.TheVariants.{NotDirty, WriteBegun, NoWrite}
 use Rattle.aries_core.specs.declared.refusal.Refusal.TheVariants.{CkptOpen, NoCkpt, GatherLeft}
+use Rattle.aries_core.specs.declared.refusal.Refusal.TheVariants.{NoMaster, NoCopy, CopyNotOpen}
+use Rattle.aries_core.specs.declared.refusal.Refusal.TheVariants.{CopyNotComplete, PageDecided}
+use Rattle.aries_core.specs.declared.refusal.Refusal.TheVariants.{PagesLeft, TooManyCopies}
 use Rattle.aries_core.specs.declared.refusal.Refusal.TheVariants.{StoreFault, LogFault}
 use Rattle.aries_core.specs.declared.refusal.Refusal.TheVariants.{CommitUnsure}
 use Rattle.aries_core.specs.declared.setup.PlayFault.{PlayFault}
-use Rattle.aries_core.specs.declared.setup.PlayFault.TheVariants as fault
+use Rattle.aries_core.specs.declared.setup.PlayFault.TheVariants as play
 use Rattle.aries_core.specs.EngineState.{EngineState, gathered_record, image_of, rec_lsn_of}
 use Rattle.aries_core.specs.Gather.{is_done}
 
@@ -60,6 +68,25 @@ change_refusal s txn page slot kind =
 abbrev pub ckpt_refusal : EngineState → Option Refusal
 ckpt_refusal s = refused_if (is_none (open_checkpoint s.log)) NoCkpt
 
+-- the refusal of the vault, as one of the engine
+abbrev pub of_vault : CopyFault → Refusal
+of_vault fault.OutOfMemory = OutOfMemory
+of_vault fault.NoCopy = NoCopy
+of_vault fault.CopyNotOpen = CopyNotOpen
+of_vault fault.CopyNotComplete = CopyNotComplete
+of_vault (fault.PagesLeft page) = PagesLeft page
+of_vault fault.TooManyCopies = TooManyCopies
+
+-- of a copy that is to be read on, as of one that is to be dropped
+abbrev pub copy_refusal : EngineState → ℕ → Option Refusal
+copy_refusal s copy = option_map of_vault (drop_refusal (state_of s.copies copy))
+
+-- the copy of an id has decided of a page
+abbrev pub has_decided : CopyState → ℕ → Bool
+has_decided (reading copy) page = not (is_undecided (decision_at copy.pages page))
+has_decided (complete copy) page = true
+has_decided dropped page = true
+
 -- the refusal that needs neither memory nor a device, in the order of the checks; a Begin owes two
 -- more records, and a step of a gather that appends nothing needs no room
 abbrev pub refusal : EngineState → Event → Option Refusal
@@ -92,6 +119,15 @@ refusal s event.CkptEnd =
     or_else (ckpt_refusal s)
     (or_else (refused_if (not (is_done s.left)) GatherLeft)
     (refused_if (has_no_room s 1) LogFull))
+refusal s event.CopyFull =
+    or_else (refused_if (is_none s.master) NoMaster) (option_map of_vault (open_refusal s.copies))
+refusal s (event.CopyInc parent) = option_map of_vault (inc_refusal s.copies parent)
+refusal s (event.Take copy page) =
+    or_else (copy_refusal s copy)
+    (or_else (refused_if (nat_le s.pages page) PageOut)
+    (refused_if (has_decided (state_of s.copies copy) page) PageDecided))
+refusal s (event.Seal copy) = option_map of_vault (seal_refusal (state_of s.copies copy))
+refusal s (event.DropCopy copy) = copy_refusal s copy
 
 -- what is printed of a refusal
 abbrev pub line_of : Refusal → List ℕ
@@ -110,11 +146,18 @@ line_of NoWrite = codes "E12 NoWrite"
 line_of CkptOpen = codes "E13 CkptOpen"
 line_of NoCkpt = codes "E14 NoCkpt"
 line_of GatherLeft = codes "E15 GatherLeft"
+line_of NoMaster = codes "E16 NoMaster"
+line_of NoCopy = codes "E17 NoCopy"
+line_of CopyNotOpen = codes "E18 CopyNotOpen"
+line_of CopyNotComplete = codes "E19 CopyNotComplete"
+line_of PageDecided = codes "E20 PageDecided"
+line_of (PagesLeft page) = codes "E21 PagesLeft " ++ decimal page
 line_of StoreFault = codes "E22 StoreFault"
 line_of LogFault = codes "E23 LogFault"
+line_of TooManyCopies = codes "E25 TooManyCopies"
 line_of (CommitUnsure lsn) = codes "E26 CommitUnsure " ++ decimal lsn
 
 -- what is printed where an engine cannot be made
 abbrev pub line_of_fault : PlayFault → List ℕ
-line_of_fault fault.OutOfMemory = line_of OutOfMemory
-line_of_fault fault.LogFault = line_of LogFault
+line_of_fault play.OutOfMemory = line_of OutOfMemory
+line_of_fault play.LogFault = line_of LogFault

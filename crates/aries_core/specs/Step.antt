@@ -10,6 +10,8 @@ use Rattle.aries_core.specs.declared.event.Event.{Event}
 use Rattle.aries_core.specs.declared.event.Event.TheVariants as event
 use Rattle.aries_core.specs.declared.event.Gathered.{Gathered}
 use Rattle.aries_core.specs.declared.event.Gathered.TheVariants as gathered
+use Rattle.aries_core.specs.declared.event.Took.{Took}
+use Rattle.aries_core.specs.declared.event.Took.TheVariants as took
 use Rattle.aries_core.specs.declared.event.Undone.{Undone}
 use Rattle.aries_core.specs.declared.event.Undone.TheVariants as undone
 use Rattle.aries_core.specs.declared.refusal.Refusal.{Refusal}
@@ -34,6 +36,8 @@ abbrev pub TakesMemory : Event → Type 0
 TakesMemory (event.Read page slot) = ⊥
 TakesMemory event.Force = ⊥
 TakesMemory (event.WriteEnd page) = ⊥
+TakesMemory (event.Seal copy) = ⊥
+TakesMemory (event.DropCopy copy) = ⊥
 TakesMemory other = Unit {0}
 
 -- the call fails so for want of memory or by a device, and this stands then
@@ -49,6 +53,7 @@ Fails old (event.Commit txn) (CommitUnsure lsn) new =
 Fails old event.CkptEnd LogFault new =
     IsSomeAnd (open_checkpoint old.log)
     (λ c. let after = closed old c in ForcedPart (end after) after new)
+Fails old (event.Take copy page) StoreFault new = new ≡ old
 Fails old event refusal new = ⊥
 
 -- from old, an engine may reply so to the event and go on to new
@@ -75,6 +80,11 @@ abbrev pub gather_answer : Gathered → Answer
 gather_answer gathered.More = answer.More
 gather_answer gathered.Done = answer.Done
 
+-- what a copy answers of a page
+abbrev pub took_answer : Took → Answer
+took_answer (took.Taken lsn) = answer.Taken lsn
+took_answer took.Kept = answer.Kept
+
 -- a Commit that is not known to be forced
 abbrev pub IsUnsure : Refusal → Type 0
 IsUnsure (CommitUnsure lsn) = Unit {0}
@@ -99,9 +109,10 @@ LeavesDevice (event.WriteBegin page) = ⊥
 LeavesDevice event.CkptEnd = ⊥
 LeavesDevice other = Unit {0}
 
--- the event ends no write, so no call of the page store is made
+-- the event ends no write and takes no page, so no call of the page store is made
 abbrev pub LeavesStore : Event → Type 0
 LeavesStore (event.WriteEnd page) = ⊥
+LeavesStore (event.Take copy page) = ⊥
 LeavesStore other = Unit {0}
 
 -- a reply that tells of a fault of such a kind

@@ -19,11 +19,12 @@ ghost use Rattle.aries_core.specs.Step.{Step, reply_of, undo_answer};
 ghost use Rattle.aries_core.specs.declared.event.Answer.TheVariants as answer;
 ghost use Rattle.aries_core.specs.declared.event.Event.TheVariants as event;
 
-use crate::event::{Answer, Event, Gathered, Reply, Undone};
+use crate::event::{Answer, Event, Gathered, Reply, Took, Undone};
 use crate::open_ckpt::OpenCkpt;
 use crate::refusal::Refusal;
 use crate::setup::{PlayFault, Setup};
 use buffer_pool::Pool;
+use copy_vault::Vault;
 use fuzzy_ckpt::Point;
 use log_history::{PendingChange, TxnState};
 use log_records::{MAX_OPEN, MAX_RECORDS, Record};
@@ -45,21 +46,26 @@ pub struct Engine<S: PageStore, D: LogDevice> {
     pub(crate) master: Option<Point>,
     /// The checkpoint that is open in the log.
     pub(crate) session: Option<OpenCkpt>,
+    /// The image copies.
+    pub(crate) vault: Vault,
+    /// What the copies take memory of.
+    pub(crate) alloc: Global,
 }
 
 impl<S: PageStore, D: LogDevice> Model for Engine<S, D> {
     ghost use Rattle.aries_core.specs.EngineState.{EngineView, IsKept, engine_view};
-    ghost use Rattle.aries_core.specs.OpenCkpt.{ckpts_view};
+    ghost use Rattle.aries_core.specs.OpenCkpt.{media_view};
 
     ghost Value = { EngineView S D };
 
     ghost view = { λ it. engine_view S.stored it.log it.pool
-        (ckpts_view it.master it.session) };
+        (media_view it.master it.session it.vault.copies) };
 
     ghost invariant = { λ it.
         IsKept S.stored
-        (engine_view S.stored it.log it.pool (ckpts_view it.master it.session)).state
-        it.txns it.pool (ckpts_view it.master it.session) };
+        (engine_view S.stored it.log it.pool
+        (media_view it.master it.session it.vault.copies)).state
+        it.txns it.pool (media_view it.master it.session it.vault.copies) };
 }
 
 impl<S: PageStore + Drop, D: LogDevice + Drop> Engine<S, D> {
@@ -87,6 +93,8 @@ impl<S: PageStore + Drop, D: LogDevice + Drop> Engine<S, D> {
                 pool,
                 master: None,
                 session: None,
+                vault: Vault::new(alloc),
+                alloc,
             }),
             Err(_) => Err(PlayFault::LogFault),
         }
@@ -148,6 +156,17 @@ impl<S: PageStore, D: LogDevice> Engine<S, D> {
             Event::CkptEnd => {
                 let Point { begin, end, redo } = self.ckpt_end()?;
                 Answer::Point { begin, end, redo }
+            }
+            Event::CopyFull => Answer::Copied(self.copy_full()?),
+            Event::CopyInc(parent) => Answer::Copied(self.copy_inc(parent)?),
+            Event::Take { copy, page } => match self.take(copy, page)? {
+                Took::Taken(lsn) => Answer::Taken(lsn),
+                Took::Kept => Answer::Kept,
+            },
+            Event::Seal(copy) => Answer::Sealed(self.seal(copy)?),
+            Event::DropCopy(copy) => {
+                self.drop_copy(copy)?;
+                Answer::Dropped
             }
         };
         Ok(answer)

@@ -1,6 +1,7 @@
 //! The calls of the engine and their answers, as values.
 
 use crate::refusal::Refusal;
+use copy_vault::CopyId;
 use page_core::{Lsn, PageNo, SlotNo, TxnNo};
 
 /// A call of the engine, with its arguments.
@@ -45,6 +46,19 @@ pub enum Event {
     CkptGather,
     /// Ends the open checkpoint, and forces the log through its last record.
     CkptEnd,
+    /// Begins a full image copy.
+    CopyFull,
+    /// Begins an incremental image copy, whose parent is the complete copy of this id.
+    CopyInc(CopyId),
+    /// Has an image copy decide of a page as it is stored.
+    Take {
+        copy: CopyId,
+        page: PageNo,
+    },
+    /// Makes an image copy complete.
+    Seal(CopyId),
+    /// Drops an image copy that is being read.
+    DropCopy(CopyId),
 }
 
 /// What an accepted call answers.
@@ -72,6 +86,16 @@ pub enum Answer {
     Done,
     /// The LSNs of the BeginChkpt and of the EndChkpt of the checkpoint, and its redo point.
     Point { begin: Lsn, end: Lsn, redo: Lsn },
+    /// The id of the new copy.
+    Copied(CopyId),
+    /// The copy has the page as it was stored, with this LSN.
+    Taken(Lsn),
+    /// The copy keeps what its parent has of the page.
+    Kept,
+    /// How many pages the complete copy has.
+    Sealed(u32),
+    /// The copy is dropped.
+    Dropped,
 }
 
 /// What a step of a rollback did.
@@ -90,6 +114,15 @@ pub enum Gathered {
     More,
     /// The gather has ended.
     Done,
+}
+
+/// What a copy did with a page.
+#[derive(Clone, Copy, Debug, PartialEq, Eq)]
+pub enum Took {
+    /// It has the page as it was stored, with this LSN.
+    Taken(Lsn),
+    /// It keeps what its parent has of the page.
+    Kept,
 }
 
 /// The answer of a call, or why it was refused.

@@ -3,6 +3,7 @@
 
 mod checkpoint;
 mod ckpt_laws;
+mod copies;
 mod engine;
 mod event;
 mod laws;
@@ -18,7 +19,7 @@ pub use ckpt_laws::{
     the_master_is_the_last_point_answered, the_master_names_a_complete_checkpoint,
 };
 pub use engine::Engine;
-pub use event::{Answer, Event, Gathered, Reply, Undone};
+pub use event::{Answer, Event, Gathered, Reply, Took, Undone};
 pub use laws::{
     a_new_engine_is_fit, a_refusal_changes_nothing, an_answered_commit_is_forced,
     an_unsure_commit_ends_its_transaction, engines_stay_fit, log_full_is_exact,

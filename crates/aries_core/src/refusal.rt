@@ -1,6 +1,7 @@
 //! Why a call of the engine is refused.
 
-use page_core::{Lsn, TxnNo};
+use copy_vault::CopyFault;
+use page_core::{Lsn, PageNo, TxnNo};
 use std::error::Error;
 use std::fmt;
 
@@ -38,14 +39,46 @@ pub enum Refusal {
     NoCkpt,
     /// The gather of the open checkpoint has not ended.
     GatherLeft,
+    /// No checkpoint is complete yet.
+    NoMaster,
+    /// No copy has this id, or it was dropped.
+    NoCopy,
+    /// The copy is complete.
+    CopyNotOpen,
+    /// The copy is still being read.
+    CopyNotComplete,
+    /// The copy has decided of this page.
+    PageDecided,
+    /// Nothing is decided yet of this page, the least such one.
+    PagesLeft(PageNo),
     /// The page store failed. The write stays in progress with its image, and may be ended again;
     /// the old page is stored, or the image.
     StoreFault,
+    /// All 1,024 ids of copies were given, dropped ones counted.
+    TooManyCopies,
     /// The log's device failed. The records that were stored before the fault count as forced.
     LogFault,
     /// The log's device failed while the Commit at this LSN was forced. The Commit stands in the
     /// log, not known to be forced, and its transaction has ended.
     CommitUnsure(Lsn),
+}
+
+impl From<CopyFault> for Refusal {
+    ghost use Rattle.std.specs.Prelude.{◌≡◌};
+    ghost use Rattle.aries_core.specs.Refusal.{of_vault};
+
+    ghost from_gives = { λ fault why. why ≡ of_vault fault };
+
+    fn from(fault: CopyFault) -> Refusal {
+        match fault {
+            CopyFault::OutOfMemory => Refusal::OutOfMemory,
+            CopyFault::NoCopy => Refusal::NoCopy,
+            CopyFault::CopyNotOpen => Refusal::CopyNotOpen,
+            CopyFault::CopyNotComplete => Refusal::CopyNotComplete,
+            CopyFault::PagesLeft(page) => Refusal::PagesLeft(page),
+            CopyFault::TooManyCopies => Refusal::TooManyCopies,
+        }
+    }
 }
 
 impl fmt::Display for Refusal {
@@ -74,8 +107,18 @@ impl fmt::Display for Refusal {
             Refusal::CkptOpen => write!(f, "E13 CkptOpen"),
             Refusal::NoCkpt => write!(f, "E14 NoCkpt"),
             Refusal::GatherLeft => write!(f, "E15 GatherLeft"),
+            Refusal::NoMaster => write!(f, "E16 NoMaster"),
+            Refusal::NoCopy => write!(f, "E17 NoCopy"),
+            Refusal::CopyNotOpen => write!(f, "E18 CopyNotOpen"),
+            Refusal::CopyNotComplete => write!(f, "E19 CopyNotComplete"),
+            Refusal::PageDecided => write!(f, "E20 PageDecided"),
+            Refusal::PagesLeft(page) => {
+                let page = page.0;
+                write!(f, "E21 PagesLeft {page}")
+            }
             Refusal::StoreFault => write!(f, "E22 StoreFault"),
             Refusal::LogFault => write!(f, "E23 LogFault"),
+            Refusal::TooManyCopies => write!(f, "E25 TooManyCopies"),
             Refusal::CommitUnsure(lsn) => {
                 let lsn = lsn.0;
                 write!(f, "E26 CommitUnsure {lsn}")

@@ -3,8 +3,8 @@ use Rattle.std.specs.Prelude.{None, Some, Result, Ok}
 use Rattle.fuzzy_ckpt.specs.Ckpt.{CkptView, Phase}
 use Rattle.aries_core.specs.declared.event.Answer.TheVariants as answer
 use Rattle.aries_core.specs.declared.event.Event.TheVariants as event
-use Rattle.aries_core.specs.EngineState.{CkptsView, EngineView, engine_view}
-use Rattle.aries_core.specs.OpenCkpt.{ckpts_view}
+use Rattle.aries_core.specs.EngineState.{MediaView, EngineView, engine_view}
+use Rattle.aries_core.specs.OpenCkpt.{media_view}
 use Rattle.aries_core.specs.Refusal.{refusal}
 use Rattle.aries_core.specs.Step.{Step}
 use Rattle.aries_core.proofs.CkptCalls.{CkptCalled, ckpt_begun}
@@ -15,7 +15,7 @@ pub invariant_of-self-2 : goal.invariant_of-self-2
 invariant_of-self-2 g c =
     let it = c.self.inside in
     let stored = g.S.PageStore.stored in
-    let ckpts = ckpts_view it.master it.session in
+    let ckpts = media_view it.master it.session in
     let none : refusal (engine_view stored it.log it.pool ckpts).state event.CkptBegin ≡ None =
     subst (λ (v : EngineView g.row.S.Denot g.row.D.Denot). refusal v.state event.CkptBegin ≡ None)
     (sym c.self.view_is) c.in_ok-find_no_ckpt.ensures.free in

@@ -8,7 +8,7 @@ use Rattle.aries_core.specs.declared.event.Event.TheVariants as event
 use Rattle.aries_core.specs.EngineState.{EngineView, engine_view, log_of}
 use Rattle.aries_core.specs.Refusal.{refusal}
 use Rattle.aries_core.specs.Step.{Step}
-use Rattle.aries_core.specs.OpenCkpt.{ckpts_view}
+use Rattle.aries_core.specs.OpenCkpt.{media_view}
 use Rattle.aries_core.proofs.Refusals.{write_begin_passes}
 use Rattle.aries_core.proofs.WriteCalls.{Called, begun, force_kept}
 use Rattle.aries_core.proofs.engine.Engine.write_begin.Given as given
@@ -21,14 +21,14 @@ said (Err e) P ok h = cc
 
 call : (g : given.Over) (c : goal.After-write_begin g)
     → Called g.S.PageStore.stored c.self.inside.log c.force_to.new.self c.self.inside.txns c.self.inside.pool
-    c.write_begin.new.self (ckpts_view c.self.inside.master c.self.inside.session) (event.WriteBegin c.args.page)
+    c.write_begin.new.self (media_view c.self.inside.master c.self.inside.session c.self.inside.vault.copies) (event.WriteBegin c.args.page)
     (Ok (answer.Writing c.write_begin.result))
 call g c =
     let it = c.self.inside in
     let stored = g.S.PageStore.stored in
     let p = c.args.page in
     let q = c.in-Ok.image in
-    let s = (engine_view stored it.log it.pool (ckpts_view it.master it.session)).state in
+    let s = (engine_view stored it.log it.pool (media_view it.master it.session it.vault.copies)).state in
     let none : refusal s (event.WriteBegin p) ≡ None =
     subst (λ (v : EngineView g.row.S.Denot g.row.D.Denot). refusal v.state (event.WriteBegin p) ≡ None)
     (sym c.self.view_is) c.in_ok-find_dirty.ensures.dirty in
@@ -37,7 +37,7 @@ call g c =
     let within : p < length it.pool.states = omega arith in
     let forced = said c.force_to.result _ (sym c.is_err.ensures.value ∙ c.if-is_err.false) c.force_to.ensures.forced in
     let number = c.in-Ok.ensures.numbered in
-    begun stored it.log c.force_to.new.self it.txns it.pool c.write_begin.new.self (ckpts_view it.master it.session) p c.write_begin.result q
+    begun stored it.log c.force_to.new.self it.txns it.pool c.write_begin.new.self (media_view it.master it.session it.vault.copies) p c.write_begin.result q
     c.self.invariant none within (c.in-Ok.ensures.image (log_of s) c.self.invariant.pool_of_log)
     c.write_begin.ensures.lsn c.force_to.ensures.same
     (forced ∙ ap (λ (x : Page). max it.log.forced_end (end_up_to it.log.log x.lsn)) c.page.ensures)
@@ -48,7 +48,7 @@ call g c =
 pub invariant_of-self : goal.invariant_of-self
 invariant_of-self g c =
     let it = c.self.inside in
-    force_kept g.S.PageStore.stored it.log c.force_to.new.self it.txns it.pool (ckpts_view it.master it.session)
+    force_kept g.S.PageStore.stored it.log c.force_to.new.self it.txns it.pool (media_view it.master it.session it.vault.copies)
     c.self.invariant c.force_to.ensures.same c.force_to.ensures.rising c.force_to.ensures.at_record
 
 pub invariant_of-self-2 : goal.invariant_of-self-2
@@ -59,5 +59,5 @@ returns-clause-step g c =
     subst (λ (v : EngineView g.row.S.Denot g.row.D.Denot). Step v.state (event.WriteBegin c.args.page)
     (Ok (answer.Writing c.write_begin.result))
     (engine_view g.S.PageStore.stored c.force_to.new.self c.write_begin.new.self
-    (ckpts_view c.self.inside.master c.self.inside.session)).state)
+    (media_view c.self.inside.master c.self.inside.session c.self.inside.vault.copies)).state)
     c.self.view_is (call g c).step

@@ -7,7 +7,7 @@ use Rattle.aries_core.specs.declared.refusal.Refusal.{Refusal}
 use Rattle.aries_core.specs.EngineState.{EngineView, engine_view, log_of}
 use Rattle.aries_core.specs.Refusal.{refusal}
 use Rattle.aries_core.specs.Step.{Step, reply_of}
-use Rattle.aries_core.specs.OpenCkpt.{ckpts_view}
+use Rattle.aries_core.specs.OpenCkpt.{media_view}
 use Rattle.aries_core.proofs.Refusals.{write_end_passes}
 use Rattle.aries_core.proofs.WriteCalls.{Called, ended, repeated}
 use Rattle.aries_core.proofs.engine.Engine.write_end.Goals.{in-Ok, in-Err}
@@ -16,12 +16,12 @@ use Rattle.aries_core.proofs.engine.Engine.write_end.Goals as goal
 
 call : (g : given.Over) (c : goal.Joined-write_end g)
     → Called g.S.PageStore.stored c.self.inside.log c.self.inside.log c.self.inside.txns c.self.inside.pool
-    c.write_end.new.self (ckpts_view c.self.inside.master c.self.inside.session) (event.WriteEnd c.args.page) (reply_of (λ lsn. answer.Written lsn) c.match-write_end.result)
+    c.write_end.new.self (media_view c.self.inside.master c.self.inside.session c.self.inside.vault.copies) (event.WriteEnd c.args.page) (reply_of (λ lsn. answer.Written lsn) c.match-write_end.result)
 call g c =
     let it = c.self.inside in
     let stored = g.S.PageStore.stored in
     let p = c.args.page in
-    let s = (engine_view stored it.log it.pool (ckpts_view it.master it.session)).state in
+    let s = (engine_view stored it.log it.pool (media_view it.master it.session it.vault.copies)).state in
     let none : refusal s (event.WriteEnd p) ≡ None =
     subst (λ (v : EngineView g.row.S.Denot g.row.D.Denot). refusal v.state (event.WriteEnd p) ≡ None)
     (sym c.self.view_is) c.in_ok-find_writing.ensures.writing in
@@ -31,14 +31,14 @@ call g c =
     let of_log = c.write_end.ensures.kept (log_of s) c.self.invariant.pool_of_log in
     elim c.match-write_end.branch [
       | in-Ok w ↦
-          subst (λ (r : Result Lsn Refusal). Called stored it.log it.log it.txns it.pool c.write_end.new.self (ckpts_view it.master it.session)
+          subst (λ (r : Result Lsn Refusal). Called stored it.log it.log it.txns it.pool c.write_end.new.self (media_view it.master it.session it.vault.copies)
           (event.WriteEnd p) (reply_of (λ lsn. answer.Written lsn) r)) (sym w.result-is)
-          (ended stored it.log it.txns it.pool c.write_end.new.self (ckpts_view it.master it.session) p w.in-Ok.lsn c.self.invariant none within
+          (ended stored it.log it.txns it.pool c.write_end.new.self (media_view it.master it.session it.vault.copies) p w.in-Ok.lsn c.self.invariant none within
           w.in-Ok.ensures.lsn w.in-Ok.ensures.stored w.in-Ok.ensures.ended of_log)
       | in-Err w ↦
-          subst (λ (r : Result Lsn Refusal). Called stored it.log it.log it.txns it.pool c.write_end.new.self (ckpts_view it.master it.session)
+          subst (λ (r : Result Lsn Refusal). Called stored it.log it.log it.txns it.pool c.write_end.new.self (media_view it.master it.session it.vault.copies)
           (event.WriteEnd p) (reply_of (λ lsn. answer.Written lsn) r)) (sym w.result-is)
-          (repeated stored it.log it.txns it.pool c.write_end.new.self (ckpts_view it.master it.session) p c.self.invariant none within
+          (repeated stored it.log it.txns it.pool c.write_end.new.self (media_view it.master it.session it.vault.copies) p c.self.invariant none within
           w.in-Err.ensures.either w.in-Err.ensures.goes_on of_log)
     ]
 
@@ -50,5 +50,5 @@ returns-clause-step g c =
     subst (λ (v : EngineView g.row.S.Denot g.row.D.Denot). Step v.state (event.WriteEnd c.args.page)
     (reply_of (λ lsn. answer.Written lsn) c.match-write_end.result)
     (engine_view g.S.PageStore.stored c.self.inside.log c.write_end.new.self
-    (ckpts_view c.self.inside.master c.self.inside.session)).state)
+    (media_view c.self.inside.master c.self.inside.session c.self.inside.vault.copies)).state)
     c.self.view_is (call g c).step

@@ -1,0 +1,143 @@
+-- Calls that change the copies of an engine and nothing else.
+use Rattle.std.proofs.Common.{◌≡◌, ℕ, ◌+◌, ◌<◌, List, length, get_or, refl, sym, ap, subst, ◌∙◌, arith, not, true, false, Bool, cond}
+use Rattle.std.specs.Prelude.{Option, Some, None, Result, Ok, Err, is_none, nat_le}
+use Rattle.std.specs.Option.{option_map, option_map_or, option_or}
+use Rattle.std.specs.List.{slice_get}
+use Rattle.std.proofs.lemmas.Bool.{lt-leb}
+use Rattle.std.proofs.lemmas.Option.{get_or_from_slice_get}
+use Rattle.page_core.specs.declared.page.Page.{Page}
+use Rattle.page_core.specs.Page.{formatted}
+use Rattle.buffer_pool.specs.Pool.{IsPoolOf, PoolView}
+use Rattle.log_history.specs.Table.{Table}
+use Rattle.log_store.specs.WrittenLog.{WrittenLog}
+use Rattle.fuzzy_ckpt.specs.declared.point.Point.{Point}
+use Rattle.copy_vault.specs.declared.copy_id.CopyKind.TheVariants.{Full, Inc}
+use Rattle.copy_vault.specs.declared.copy_id.Decision.{Decision}
+use Rattle.copy_vault.specs.declared.fault.CopyFault.{CopyFault}
+use Rattle.copy_vault.specs.Copy.{CopyView}
+use Rattle.copy_vault.specs.Vault.{CopyState, answer_in, complete, decided, drop_refusal, dropped, inc_refusal, open_refusal}
+use Rattle.copy_vault.specs.Vault.{opened, pages_in, pages_read, reading, reading_of, seal_refusal, sealed, state_of, taken_in, without}
+use Rattle.copy_coverage.specs.Copied.{copy_in}
+use Rattle.aries_core.specs.declared.event.Answer.{Answer}
+use Rattle.aries_core.specs.declared.event.Answer.TheVariants as answer
+use Rattle.aries_core.specs.declared.event.Event.{Event}
+use Rattle.aries_core.specs.declared.event.Event.TheVariants as event
+use Rattle.aries_core.specs.declared.refusal.Refusal.{Refusal}
+use Rattle.aries_core.specs.EngineState.{EngineState, IsFit, IsKept, MediaView, engine_view, opened_copy, stored_page, take_answer, with_copies}
+use Rattle.aries_core.specs.EventFits.{EventFits}
+use Rattle.aries_core.specs.Refusal.{of_vault, refusal}
+use Rattle.aries_core.specs.Step.{Step}
+use Rattle.aries_core.proofs.Fit.{fit_of_step}
+use Rattle.aries_core.proofs.Refusals.{inc_passes, take_passes}
+
+-- the engine is kept, and the pool may have asked its store
+pub copies_kept : {S D : Type 0} (stored : S → List Page) (it : WrittenLog D) (table : Table) (pool after : PoolView S)
+    (media : MediaView) (copies : List CopyState) (call : Event) (reply : Result Answer Refusal)
+    → IsKept stored (engine_view stored it pool media).state table pool media → EventFits call
+    → IsPoolOf stored it.log after
+    → Step (engine_view stored it pool media).state call reply
+    (engine_view stored it after (record media { copies = copies })).state
+    → IsKept stored (engine_view stored it after (record media { copies = copies })).state table after
+    (record media { copies = copies })
+copies_kept stored it table pool after media copies call reply kept fits is step = record {
+  fit = fit_of_step (engine_view stored it pool media).state call reply
+      (engine_view stored it after (record media { copies = copies })).state kept.fit fits step;
+  table_of_log = kept.table_of_log;
+  pool_of_log = is;
+  session_of_log = kept.session_of_log;
+}
+
+no_fault : (o : Option CopyFault) → o ≡ None → option_map of_vault o ≡ None
+no_fault o is = ap (option_map of_vault) is
+
+-- ---- each of them is a step
+
+pub full_step : (s : EngineState) (copies : List CopyState) (pages id : ℕ) (point : Point) → s.master ≡ Some point
+    → open_refusal s.copies ≡ None → pages ≡ s.pages → id ≡ length s.copies + 1
+    → copies ≡ opened s.copies Full pages point.begin point.redo
+    → Step s event.CopyFull (Ok (answer.Copied id)) (with_copies s copies)
+full_step s copies pages id point master fine same given made = (
+  rw master (no_fault (open_refusal s.copies) fine),
+  ap answer.Copied given,
+  ap (with_copies s) (made ∙ ap (λ (n : ℕ). opened s.copies Full n point.begin point.redo) same
+      ∙ ap (λ (o : Option Point). opened s.copies Full s.pages (option_map_or (λ p. p.begin) o 0) (option_map_or (λ p. p.redo) o 0))
+      (sym master)),
+)
+
+pages_of_parent : (s : EngineState) (parent : ℕ) → IsFit s → refusal s (event.CopyInc parent) ≡ None
+    → pages_in (state_of s.copies parent) ≡ s.pages
+pages_of_parent s parent fit none =
+    let there = inc_passes s parent none in
+    ap pages_in there.1 ∙ (fit.copied.each parent there.0 (ap copy_in there.1)).whole ∙ fit.counted.stored
+
+pub inc_step : (s : EngineState) (copies : List CopyState) (parent begin redo id : ℕ) → IsFit s
+    → inc_refusal s.copies parent ≡ None → begin ≡ option_map_or (λ p. p.begin) s.master 0
+    → redo ≡ option_map_or (λ p. p.redo) s.master 0 → id ≡ length s.copies + 1
+    → copies ≡ opened s.copies (Inc parent) (pages_in (state_of s.copies parent)) begin redo
+    → Step s (event.CopyInc parent) (Ok (answer.Copied id)) (with_copies s copies)
+inc_step s copies parent begin redo id fit fine begin_is redo_is given made =
+    let none = no_fault (inc_refusal s.copies parent) fine in
+    let pages = pages_of_parent s parent fit none in (
+      none,
+      ap answer.Copied given,
+      ap (with_copies s) (made ∙ ap (λ (n : ℕ). opened s.copies (Inc parent) n begin redo) pages
+          ∙ ap (λ (n : ℕ). opened s.copies (Inc parent) s.pages n redo) begin_is
+          ∙ ap (opened s.copies (Inc parent) s.pages (option_map_or (λ p. p.begin) s.master 0)) redo_is),
+    )
+
+pub seal_step : (s : EngineState) (copies : List CopyState) (copy taken : ℕ)
+    → seal_refusal (state_of s.copies copy) ≡ None → taken ≡ taken_in (state_of s.copies copy)
+    → copies ≡ sealed s.copies copy → Step s (event.Seal copy) (Ok (answer.Sealed taken)) (with_copies s copies)
+seal_step s copies copy taken fine given made =
+    (no_fault (seal_refusal (state_of s.copies copy)) fine, ap answer.Sealed given, ap (with_copies s) made)
+
+pub drop_step : (s : EngineState) (copies : List CopyState) (copy : ℕ) → drop_refusal (state_of s.copies copy) ≡ None
+    → copies ≡ without s.copies copy → Step s (event.DropCopy copy) (Ok answer.Dropped) (with_copies s copies)
+drop_step s copies copy fine made =
+    (no_fault (drop_refusal (state_of s.copies copy)) fine, refl, ap (with_copies s) made)
+
+pub take_step : (s : EngineState) (copies : List CopyState) (copy p : ℕ) (page : Page) (decision : Decision)
+    (given : Answer) → refusal s (event.Take copy p) ≡ None → slice_get s.stored p ≡ Some page
+    → decision ≡ answer_in s.copies (state_of s.copies copy) page → copies ≡ decided s.copies copy p page
+    → given ≡ take_answer decision page → Step s (event.Take copy p) (Ok given) (with_copies s copies)
+take_step s copies copy p page decision given none there answer_is made given_is =
+    let same : stored_page s p ≡ page = get_or_from_slice_get s.stored p page (formatted p) there in (
+      none,
+      given_is ∙ ap (λ (d : Decision). take_answer d page) answer_is
+          ∙ ap (λ (q : Page). take_answer (answer_in s.copies (state_of s.copies copy) q) q) (sym same),
+      ap (with_copies s) (made ∙ ap (decided s.copies copy p) (sym same)),
+    )
+
+-- ---- the pages of a copy that is being read
+
+some_reading : (state : CopyState) (copy : CopyView) → reading_of state ≡ Some copy → state ≡ reading copy
+some_reading (reading other) copy is = ap reading (same_view other copy is)
+  where
+    same_view : (a b : CopyView) → Some a ≡ Some b → a ≡ b
+    same_view a b e = cc
+some_reading (complete other) copy is = cc
+some_reading dropped copy is = cc
+
+pub pages_of_reading : (s : EngineState) (id : ℕ) (copy : CopyView) → IsFit s
+    → Some copy ≡ reading_of (state_of s.copies id) → length copy.pages ≡ s.pages
+pages_of_reading s id copy fit is =
+    (fit.copied.each id copy (ap copy_in (some_reading (state_of s.copies id) copy (sym is)))).whole ∙ fit.counted.stored
+
+-- a page that is to be taken is one of the copy's
+pub take_room : (s : EngineState) (copies : List CopyState) (copy p : ℕ) → IsFit s
+    → refusal s (event.Take copy p) ≡ None → copies ≡ s.copies → p < length (pages_read (state_of copies copy))
+take_room s copies copy p fit none same =
+    let passes = take_passes s copy p none in
+    let whole = (fit.copied.each copy passes.view (ap copy_in passes.is_read)).whole in
+    let count = fit.counted.stored in
+    let within = passes.within in
+    rw (same, passes.is_read) (omega arith)
+
+-- the pool has asked its store, and has left it as it was
+pub asked_is : {S D : Type 0} (stored : S → List Page) (it : WrittenLog D) (pool after : PoolView S) (media : MediaView)
+    (copies : List CopyState) → stored after.store ≡ stored pool.store → after ≡ record pool { store = after.store }
+    → (engine_view stored it after (record media { copies = copies })).state
+    ≡ with_copies (engine_view stored it pool media).state copies
+asked_is stored it pool after media copies same rest =
+    let states = ap (λ v. v.states) rest in
+    rw (same, states) refl

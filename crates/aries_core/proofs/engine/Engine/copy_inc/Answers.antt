@@ -1,0 +1,39 @@
+use Rattle.std.proofs.Common.{◌≡◌, ◌∙◌, ℕ, ◌<◌, length, sym, ap, subst, refl, arith}
+use Rattle.std.specs.Prelude.{Some, None, Ok, Result}
+use Rattle.std.specs.Option.{option_map_or}
+use Rattle.aries_core.specs.declared.event.Answer.TheVariants as answer
+use Rattle.aries_core.specs.declared.event.Event.TheVariants as event
+use Rattle.aries_core.specs.EngineState.{engine_view, with_copies}
+use Rattle.aries_core.specs.Step.{Step}
+use Rattle.aries_core.specs.OpenCkpt.{media_view}
+use Rattle.aries_core.proofs.CopyCalls.{copies_kept, inc_step}
+use Rattle.aries_core.proofs.engine.Engine.copy_inc.Goals as goal
+use Rattle.aries_core.proofs.engine.Engine.copy_inc.Given as given
+
+inc_made : (g : given.Over) (c : goal.In_ok-open_inc g) → Step (engine_view g.S.PageStore.stored c.self.inside.log
+    c.self.inside.pool (media_view c.self.inside.master c.self.inside.session c.self.inside.vault.copies)).state
+    (event.CopyInc c.args.parent) (Ok (answer.Copied c.in_ok-open_inc.field-0))
+    (with_copies (engine_view g.S.PageStore.stored c.self.inside.log c.self.inside.pool
+    (media_view c.self.inside.master c.self.inside.session c.self.inside.vault.copies)).state c.open_inc.new.self.copies)
+inc_made g c =
+    let it = c.self.inside in
+    let s = (engine_view g.S.PageStore.stored it.log it.pool (media_view it.master it.session it.vault.copies)).state in
+    let ok = c.in_ok-open_inc.ensures in
+    inc_step s c.open_inc.new.self.copies c.args.parent c.noted_begin-begin.result c.noted_redo-redo.result
+    c.in_ok-open_inc.field-0 c.self.invariant.fit ok.ok
+    (c.noted_begin-begin.ensures ∙ ap (λ v. option_map_or (λ p. p.begin) v.state.master 0) (sym c.self.view_is))
+    (c.noted_redo-redo.ensures ∙ ap (λ v. option_map_or (λ p. p.redo) v.state.master 0) (sym c.self.view_is)) ok.id ok.opened
+
+pub invariant_of-self-2 : goal.invariant_of-self-2
+invariant_of-self-2 g c =
+    let it = c.self.inside in
+    copies_kept g.S.PageStore.stored it.log it.txns it.pool it.pool (media_view it.master it.session it.vault.copies)
+    c.open_inc.new.self.copies (event.CopyInc c.args.parent) (Ok (answer.Copied c.in_ok-open_inc.field-0)) c.self.invariant tt
+    c.self.invariant.pool_of_log (inc_made g c)
+
+pub returns-clause-step : goal.returns-clause-step
+returns-clause-step g c =
+    let it = c.self.inside in
+    let s = (engine_view g.S.PageStore.stored it.log it.pool (media_view it.master it.session it.vault.copies)).state in
+    subst (λ v. Step v.state (event.CopyInc c.args.parent) (Ok (answer.Copied c.in_ok-open_inc.field-0))
+    (with_copies s c.open_inc.new.self.copies)) c.self.view_is (inc_made g c)

@@ -1,0 +1,143 @@
+//! The calls of the engine that make image copies while others change, and write, its pages.
+
+ghost use Rattle.std.specs.Prelude.{◌≡◌, ◌<◌, Some, None, IfErr, OnOk};
+ghost use Rattle.std.specs.Option.{option_map_or};
+ghost use Rattle.aries_core.specs.Refusal.{refusal};
+ghost use Rattle.aries_core.specs.Step.{IsByStore, Step, reply_of, took_answer};
+ghost use Rattle.aries_core.specs.declared.event.Answer.TheVariants as answer;
+ghost use Rattle.aries_core.specs.declared.event.Event.TheVariants as event;
+
+use crate::engine::Engine;
+use crate::event::Took;
+use crate::refusal::Refusal;
+use copy_vault::{CopyId, Decision};
+use log_store::LogDevice;
+use page_core::{Lsn, PageNo};
+use page_store::PageStore;
+
+impl<S: PageStore, D: LogDevice> Engine<S, D> {
+    /// Begins a full image copy (ARIES, section 8), and answers its id. The copy notes the begin
+    /// LSN and the redo point of the last complete checkpoint, whatever checkpoint is open.
+    /// Refusals in order: `NoMaster`, `TooManyCopies`, `OutOfMemory`.
+    pub fn copy_full(&mut self) -> Result<CopyId, Refusal>
+        ensures step { Step self.old.state event.CopyFull (reply_of answer.Copied result)
+            self.new.state }
+        ensures store { self.new.store ≡ self.old.store }
+        ensures device { self.new.device ≡ self.old.device }
+    {
+        let Some(master) = self.master else {
+            return Err(Refusal::NoMaster);
+        };
+        let pages = self.pool.pages();
+        Ok(
+            self.vault
+                .open_full(self.alloc, pages, master.begin, master.redo)?,
+        )
+    }
+
+    /// Begins an incremental image copy, whose parent is the complete copy of this id, and answers
+    /// its own id. It notes the last complete checkpoint as a full one does. Refusals in order:
+    /// `NoCopy`, `CopyNotComplete`, `TooManyCopies`, `OutOfMemory`.
+    pub fn copy_inc(&mut self, parent: CopyId) -> Result<CopyId, Refusal>
+        ensures step { Step self.old.state (event.CopyInc parent) (reply_of answer.Copied result)
+            self.new.state }
+        ensures store { self.new.store ≡ self.old.store }
+        ensures device { self.new.device ≡ self.old.device }
+    {
+        let begin = self.noted_begin();
+        let redo = self.noted_redo();
+        Ok(self.vault.open_inc(self.alloc, parent, begin, redo)?)
+    }
+
+    /// Has a copy that is being read decide of a page as it is stored: a full copy takes it, an
+    /// incremental one where its LSN is at least the redo point of the copy's parent; else it keeps
+    /// what its parent has. Refusals in order: `NoCopy`, `CopyNotOpen`, `PageOut`, `PageDecided`,
+    /// `OutOfMemory`, `StoreFault`.
+    pub fn take(&mut self, copy: CopyId, page: PageNo) -> Result<Took, Refusal>
+        ensures step { Step self.old.state (event.Take copy page) (reply_of took_answer result)
+            self.new.state }
+        ensures device { self.new.device ≡ self.old.device }
+        ensures store_refused { IfErr result (λ why. ¬ IsByStore why
+            → self.new.store ≡ self.old.store) }
+        ensures no_store_failure { OnOk result
+            (S.failures self.new.store ≡ S.failures self.old.store) }
+        ensures store_cause { IfErr result (λ why. IsByStore why
+            → S.failures self.old.store < S.failures self.new.store) }
+    {
+        self.find_takeable(copy, page)?;
+        if self.vault.make_room(self.alloc, copy).is_err() {
+            return Err(Refusal::OutOfMemory);
+        }
+        let Ok(stored) = self.pool.stored(page) else {
+            return Err(Refusal::StoreFault);
+        };
+        match self.vault.decide(copy, page, &stored) {
+            Decision::Taken => Ok(Took::Taken(stored.lsn)),
+            Decision::Kept => Ok(Took::Kept),
+        }
+    }
+
+    /// Makes a copy complete, and answers how many pages it has. Refusals in order: `NoCopy`,
+    /// `CopyNotOpen`, `PagesLeft`. This takes no memory.
+    pub fn seal(&mut self, copy: CopyId) -> Result<u32, Refusal>
+        ensures step { Step self.old.state (event.Seal copy) (reply_of answer.Sealed result)
+            self.new.state }
+        ensures store { self.new.store ≡ self.old.store }
+        ensures device { self.new.device ≡ self.old.device }
+    {
+        Ok(self.vault.seal(copy)?)
+    }
+
+    /// Drops a copy that is being read. Its id is not given again. Refusals in order: `NoCopy`,
+    /// `CopyNotOpen`. This takes no memory.
+    pub fn drop_copy(&mut self, copy: CopyId) -> Result<(), Refusal>
+        ensures step { Step self.old.state (event.DropCopy copy)
+            (reply_of (λ none. answer.Dropped) result) self.new.state }
+        ensures store { self.new.store ≡ self.old.store }
+        ensures device { self.new.device ≡ self.old.device }
+    {
+        Ok(self.vault.drop_open(copy)?)
+    }
+
+    /// The begin LSN of the last complete checkpoint.
+    fn noted_begin(&self) -> Lsn
+        ensures { result ≡ option_map_or (λ p. p.begin) self.now.state.master 0 }
+    {
+        match self.master {
+            Some(master) => master.begin,
+            None => Lsn(0),
+        }
+    }
+
+    /// The redo point of the last complete checkpoint.
+    fn noted_redo(&self) -> Lsn
+        ensures { result ≡ option_map_or (λ p. p.redo) self.now.state.master 0 }
+    {
+        match self.master {
+            Some(master) => master.redo,
+            None => Lsn(0),
+        }
+    }
+
+    /// The copy is being read, and has not decided of this page of the volume.
+    fn find_takeable(&self, copy: CopyId, page: PageNo) -> Result<(), Refusal>
+        ensures refused { IfErr result (λ why.
+            refusal self.now.state (event.Take copy page) ≡ Some why) }
+        ensures free { OnOk result (refusal self.now.state (event.Take copy page) ≡ None) }
+    {
+        let Some(reading) = self.vault.reading(copy) else {
+            return Err(if self.vault.complete(copy).is_some() {
+                Refusal::CopyNotOpen
+            } else {
+                Refusal::NoCopy
+            });
+        };
+        if page.0 >= self.pool.pages() {
+            return Err(Refusal::PageOut);
+        }
+        if !reading.is_undecided(page) {
+            return Err(Refusal::PageDecided);
+        }
+        Ok(())
+    }
+}
