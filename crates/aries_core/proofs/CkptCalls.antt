@@ -216,7 +216,7 @@ pub ckpt_ended : {S D : Type 0} (stored : S → List Page) (it new : WrittenLog 
     → IsKept stored (engine_view stored it pool ckpts).state table pool ckpts
     → refusal (engine_view stored it pool ckpts).state event.CkptEnd ≡ None → ckpts.session ≡ Some v
     → new.log ≡ with_next it.log (end_record it.log.records v ∷ []) → new.forced_end ≡ end_of new.log.records
-    → after ≡ record { master = Some point; session = None }
+    → after ≡ record { master = Some point; session = None; copies = ckpts.copies }
     → point ≡ record { begin = v.begin; end = end_of it.log.records; redo = v.redo }
     → CkptCalled stored it new table pool ckpts after event.CkptEnd (Ok (answer.Point point.begin point.end point.redo))
 ckpt_ended stored it new table pool ckpts after v point kept none has logged forced is at =

@@ -8,6 +8,7 @@ use Rattle.buffer_pool.specs.Pool.{IsPoolOf, PoolView, new_pool, state_at, unwri
 use Rattle.buffer_pool.specs.Pool.{writing_of, written_of}
 use Rattle.log_records.specs.Coverage.{rec_lsn}
 use Rattle.log_store.specs.WrittenLog.{WrittenLog, end_up_to}
+use Rattle.copy_vault.specs.Vault.{CopyState}
 use Rattle.aries_core.specs.declared.event.Event.TheVariants as event
 use Rattle.aries_core.specs.declared.refusal.Refusal.TheVariants.{NoWrite, NotDirty, PageOut, WriteBegun}
 use Rattle.aries_core.specs.EngineState.{MediaView, EngineState, begun_write, ended_write, engine_view, forced_through, image_of}
@@ -106,13 +107,13 @@ map-replicate f zero x = refl
 map-replicate f (suc n) x = ap (λ ys. f x ∷ ys) (map-replicate f n x)
 
 pub new_is : {S D : Type 0} (stored : S → List Page) (it : WrittenLog D) (pool : PoolView S) (store : S) (n : ℕ)
-    → it.log ≡ record { pages = n; records = [] } → it.forced_end ≡ 64 → pool ≡ new_pool store n
+    (copies : List CopyState) → copies ≡ [] → it.log ≡ record { pages = n; records = [] } → it.forced_end ≡ 64 → pool ≡ new_pool store n
     → stored store ≡ formatted_pages n
-    → (engine_view stored it pool (record { master = None; session = None })).state ≡ new_state n
-new_is {S = S} stored it pool store n log forced is formatted =
+    → (engine_view stored it pool (record { master = None; session = None; copies = copies })).state ≡ new_state n
+new_is {S = S} stored it pool store n copies none log forced is formatted =
     let written : written_of pool.states ≡ replicate n 0 =
     ap (λ (v : PoolView S). written_of v.states) is ∙ map-replicate (λ s. s.written) n unwritten in
     let writing : writing_of pool.states ≡ replicate n None =
     ap (λ (v : PoolView S). writing_of v.states) is ∙ map-replicate (λ s. s.writing) n unwritten in
     let pages : stored pool.store ≡ formatted_pages n = ap (λ (v : PoolView S). stored v.store) is ∙ formatted in
-    rw (log, forced, written, writing, pages) refl
+    rw (log, forced, written, writing, pages, none) refl

@@ -17,6 +17,7 @@ use Rattle.aries_core.specs.declared.refusal.Refusal.{Refusal}
 use Rattle.aries_core.specs.declared.refusal.Refusal.TheVariants.{StoreFault}
 use Rattle.aries_core.specs.EngineState.{MediaView, IsKept, begun_write, effect, ended_write, engine_view, forced_through}
 use Rattle.aries_core.specs.EventFits.{EventFits}
+use Rattle.copy_coverage.proofs.Copied.{copied_forced}
 use Rattle.aries_core.specs.Refusal.{refusal}
 use Rattle.aries_core.specs.Step.{MayBeStored, Step}
 use Rattle.aries_core.proofs.Beside.{master_forced}
@@ -75,6 +76,8 @@ force_kept stored it new table pool ckpts kept same no_less ends =
         gathered = rw same fit.gathered;
         master = rw same (master_forced it.log.records (stored pool.store) it.forced_end new.forced_end ckpts.master no_less
             fit.master);
+        copied = rw same (copied_forced it.log.records it.forced_end new.forced_end (stored pool.store) ckpts.copies no_less
+            fit.copied);
       };
       table_of_log = rw same kept.table_of_log;
       pool_of_log = rw same kept.pool_of_log;

@@ -15,7 +15,7 @@ pub invariant_of-self-2 : goal.invariant_of-self-2
 invariant_of-self-2 g c =
     let it = c.self.inside in
     let stored = g.S.PageStore.stored in
-    let ckpts = media_view it.master it.session in
+    let ckpts = media_view it.master it.session it.vault.copies in
     let none : refusal (engine_view stored it.log it.pool ckpts).state event.CkptBegin ≡ None =
     subst (λ (v : EngineView g.row.S.Denot g.row.D.Denot). refusal v.state event.CkptBegin ≡ None)
     (sym c.self.view_is) c.in_ok-find_no_ckpt.ensures.free in

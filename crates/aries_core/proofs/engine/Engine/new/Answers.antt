@@ -16,7 +16,8 @@ pub invariant_of-result : goal.invariant_of-result
 invariant_of-result g c =
     let n = c.args.setup.pages in
     let stored = g.S.PageStore.stored in
-    let state = new_is stored c.in-Ok-new.log c.in-Ok.pool c.args.store n c.in-Ok-new.ensures.empty
+    let state = new_is stored c.in-Ok-new.log c.in-Ok.pool c.args.store n c.new-in-Ok-new-2.result.copies
+    c.new-in-Ok-new-2.ensures c.in-Ok-new.ensures.empty
     c.in-Ok-new.ensures.forced_end (c.in-Ok.ensures.new n c.requires.formatted) c.requires.formatted in
     record {
       fit = subst IsFit (sym state) (new_is_fit n c.requires.pages);
@@ -32,5 +33,6 @@ invariant_of-result g c =
 
 pub returns-in-Ok-new-clause-empty : goal.returns-in-Ok-new-clause-empty
 returns-in-Ok-new-clause-empty g c =
-    new_is g.S.PageStore.stored c.in-Ok-new.log c.in-Ok.pool c.args.store c.args.setup.pages c.in-Ok-new.ensures.empty
+    new_is g.S.PageStore.stored c.in-Ok-new.log c.in-Ok.pool c.args.store c.args.setup.pages
+    c.new-in-Ok-new-2.result.copies c.new-in-Ok-new-2.ensures c.in-Ok-new.ensures.empty
     c.in-Ok-new.ensures.forced_end (c.in-Ok.ensures.new c.args.setup.pages c.requires.formatted) c.requires.formatted
