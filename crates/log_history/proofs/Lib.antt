@@ -1,3 +1,5 @@
+pub mod AdderSets
+pub mod Barred
 pub mod Begun
 pub mod Chains
 pub mod Checks
@@ -13,8 +15,12 @@ pub mod Pushes
 pub mod Ranks
 pub mod Room
 pub mod Rows
+pub mod Seatings
 pub mod Settled
+pub mod SlotMarks
 pub mod Slots
 pub mod Steps
+pub mod Stored
+pub mod Taken
 pub mod Tracked
 pub mod Undone

@@ -16,9 +16,10 @@ use Rattle.log_history.specs.declared.claims.Claims.{Claims}
 use Rattle.log_history.specs.declared.claims.Hold.{Hold}
 use Rattle.log_history.specs.declared.open_entry.OpenEntry.{OpenEntry}
 use Rattle.log_history.specs.declared.seat_set.TheConstants.{SEATS}
-use Rattle.log_history.specs.Claims.{claim_at, has_seat, hold_at, hold_in, no_claim, seats_against}
+use Rattle.log_history.specs.Claims.{claim_at, hold_at, hold_in, no_claim, seats_against}
+use Rattle.log_history.specs.SeatSet.{has_seat}
 use Rattle.log_history.specs.OpenEntry.{AreStacked, IsHeld, KeepsSeat, changes_of, entry_view, hold_among, hold_by}
-use Rattle.log_history.specs.OpenTransactions.{AreRanked, IsSound, Tracks, key_of}
+use Rattle.log_history.specs.OpenTransactions.{AreRanked, IsSoundEntry, Tracks, key_of}
 use Rattle.log_history.specs.Table.{Entry, Table, entry_in, holder_in}
 use Rattle.log_history.specs.Transactions.{keeps_out}
 use Rattle.log_records.specs.Least.{least}
@@ -45,7 +46,7 @@ tracks-set {begun} {before} {xs} after i d e t l k =
     record {
       ranked = subst AreRanked (sym keys) t.ranked;
       reached = subst (λ ks. AllByRecursion (λ j. j.0 ≤ begun) ks) (sym keys) t.reached;
-      sound = All-set IsSound xs i e (subst (λ n. n < SEATS) (sym k.seat) (t.sound i d l).0, k.held.stacked) t.sound;
+      sound = All-set IsSoundEntry xs i e (subst (λ n. n < SEATS) (sym k.seat) (t.sound i d l).0, k.held.stacked) t.sound;
       held = λ page slot seat within. (⊎_elim
           (λ same. ap (λ n. hold_at after page slot n) (sym same) ∙ k.held.held page slot
           ∙ sym (ap (λ b. cond b (hold_by (changes_of e.pending.items) page slot) (hold_among xs page slot seat))
@@ -85,7 +86,7 @@ tracks-push {begun} {claims} {xs} e t next within free none =
       reached = subst (λ ks. AllByRecursion (λ j. j.0 ≤ begun + 1) ks) (sym keys)
           (all-push (λ j. j.0 ≤ begun + 1) (map key_of xs) (key_of e) (above begun (map key_of xs) t.reached)
           (let last : e.txn ≤ begun + 1 = omega arith in last));
-      sound = All-push IsSound xs e t.sound (within, subst (λ ps. AreStacked [] ps) (sym none) tt);
+      sound = All-push IsSoundEntry xs e t.sound (within, subst (λ ps. AreStacked [] ps) (sym none) tt);
       held = λ page slot seat inside. t.held page slot seat inside ∙ sym (hold-push xs e page slot seat none);
     }
 
@@ -97,8 +98,8 @@ pub tracks-remove : {begun : ℕ} {claims : Claims} {xs : List OpenEntry} (i : �
 tracks-remove {begun} {claims} {xs} i d t l none = record {
   ranked = ranked-remove xs i t.ranked l;
   reached = all-remove (λ j. j.0 ≤ begun) xs i t.reached l;
-  sound = All-append IsSound (take i xs) (drop (suc i) xs) (All-take IsSound i xs t.sound)
-      (All-drop IsSound (suc i) xs t.sound);
+  sound = All-append IsSoundEntry (take i xs) (drop (suc i) xs) (All-take IsSoundEntry i xs t.sound)
+      (All-drop IsSoundEntry (suc i) xs t.sound);
   held = λ page slot seat inside. t.held page slot seat inside
       ∙ sym (hold-remove xs i d page slot seat t.ranked l none);
 }
@@ -115,7 +116,7 @@ pushed : (b : Bool) (x : OpenEntry) (o : Option OpenEntry)
 pushed true x o = refl
 pushed false x o = refl
 
-find-view : (q : Entry → Bool) (xs : List OpenEntry)
+pub find-view : (q : Entry → Bool) (xs : List OpenEntry)
     → find q (map entry_view xs) ≡ option_map entry_view (find (λ e. q (entry_view e)) xs)
 find-view q [] = refl
 find-view q (x ∷ xs) =
@@ -126,7 +127,7 @@ some-place : (b : Bool) (n i : ℕ) → cond b (Some n) None ≡ Some i → (b �
 some-place true n i e = (refl, cc)
 some-place false n i e = cc
 
-no-place : (b : Bool) (n : ℕ) → cond b (Some n) None ≡ None → b ≡ false
+pub no-place : (b : Bool) (n : ℕ) → cond b (Some n) None ≡ None → b ≡ false
 no-place true n e = cc
 no-place false n e = refl
 
@@ -262,7 +263,7 @@ pub tracks-nil : (claims : Claims) → ((page slot : ℕ) → claim_at claims pa
 tracks-nil claims none = record {
   ranked = tt;
   reached = tt;
-  sound = All-nil IsSound;
+  sound = All-nil IsSoundEntry;
   held = λ page slot seat within. ap (λ k. hold_in k seat) (none page slot) ∙ hold_in-no_claim seat;
 }
 

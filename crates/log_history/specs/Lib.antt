@@ -1,11 +1,16 @@
+pub mod Adders
 pub mod Checked
 pub mod Claims
 pub mod Committed
 pub mod Growth
 pub mod History
 pub mod Linked
+pub mod Mark
+pub mod Marks
 pub mod OpenEntry
+pub mod OpenList
 pub mod OpenTransactions
+pub mod SeatSet
 pub mod Table
 pub mod Transactions
 pub mod TxnState

@@ -67,10 +67,9 @@ impl History {
         ensures same { IfOk result (λ may. ¬ IsTrue may → self.new ≡ self.old) }
         ensures err { OnErr result (self.new ≡ self.old) }
     {
-        if !self.txns.may_note(next) || !names_number_on(&self.pages, next) {
+        if !names_number_on(&self.pages, next) || !self.txns.note_if_may(next)? {
             return Ok(false);
         }
-        self.txns.note(next)?;
         redo_on_its_page(&mut self.pages, next);
         Ok(true)
     }

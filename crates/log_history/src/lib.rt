@@ -1,9 +1,12 @@
 //! The transactions of a log, and the chain that their records make: which record may follow.
 #![tactic(auto)]
 
+mod adders;
 mod claims;
 mod history;
 mod history_laws;
+mod mark;
+mod marks;
 mod open_entry;
 mod open_list;
 mod open_transactions;

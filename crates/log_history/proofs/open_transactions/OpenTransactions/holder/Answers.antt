@@ -3,7 +3,8 @@ use Rattle.std.specs.List.{find}
 use Rattle.std.specs.Option.{option_map}
 use Rattle.log_history.specs.declared.open_entry.OpenEntry.{OpenEntry}
 use Rattle.log_history.specs.declared.seat_set.SeatSet.{SeatSet}
-use Rattle.log_history.specs.Claims.{has_seat, seats_against}
+use Rattle.log_history.specs.Claims.{seats_against}
+use Rattle.log_history.specs.SeatSet.{has_seat}
 use Rattle.log_history.specs.Table.{Table, holder_in}
 use Rattle.log_history.proofs.Tracked.{least-holder}
 use Rattle.log_history.proofs.open_transactions.OpenTransactions.holder.Goals as goal
