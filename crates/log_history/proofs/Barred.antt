@@ -1,5 +1,5 @@
 -- Who keeps a slot from a transaction: the claims say of its seat what the table says of it.
-use Rattle.std.proofs.Common.{◌≡◌, ◌≢◌, ◌∙◌, ◌<◌, ◌∷◌, ◌&&◌, ◌⊎◌, [], ℕ, zero, suc, Bool, true, false, not, List, Option, Some, None, map, length, get_or, cond, eqb, inl, inr, refl, sym, ap, subst, arith}
+use Rattle.std.proofs.Common.{◌≡◌, ◌≢◌, ◌∙◌, ◌<◌, ◌∷◌, ◌&&◌, ◌⊎◌, [], ℕ, zero, suc, Bool, true, false, not, List, Option, Some, None, map, length, get_or, set, cond, eqb, inl, inr, refl, sym, ap, subst, arith}
 use Rattle.std.proofs.lemmas.Bool.{and_from, and_right, cases_eq, eq-eqb, false≢true, ne_eqb}
 use Rattle.std.specs.List.{find}
 use Rattle.std.specs.Option.{option_map}
@@ -9,12 +9,18 @@ use Rattle.log_history.specs.declared.claims.Claim.{Claim}
 use Rattle.log_history.specs.declared.claims.Claims.{Claims}
 use Rattle.log_history.specs.declared.claims.Hold.{Hold}
 use Rattle.log_history.specs.declared.open_entry.OpenEntry.{OpenEntry}
+use Rattle.log_history.specs.declared.open_list.OpenList.{OpenList}
+use Rattle.log_history.specs.declared.pending_change.PendingChange.{PendingChange}
 use Rattle.log_history.specs.Claims.{IsFreeFor, IsHeldByOther, claim_at, hold_in, no_hold, seats_against}
-use Rattle.log_history.specs.OpenEntry.{changes_of, entry_view, hold_among, hold_by}
-use Rattle.log_history.specs.OpenTransactions.{Tracks}
+use Rattle.log_history.specs.OpenEntry.{Updates, changes_of, entry_view, hold_among, hold_by}
+use Rattle.log_history.specs.OpenList.{Sits, entries_in, entries_of}
+use Rattle.log_history.specs.OpenTransactions.{IsStored, NotesIfMay, Tracks}
 use Rattle.log_history.specs.SeatSet.{has_seat}
-use Rattle.log_history.specs.Table.{Table, holder_in}
+use Rattle.log_history.specs.Table.{IsActiveEntry, Table, entry_after, holder_in, with_entry}
+use Rattle.log_records.specs.declared.record.Record.TheVariants.{Update}
+use Rattle.page_core.specs.Change.{kind_of}
 use Rattle.log_history.proofs.Ranks.{one-of}
+use Rattle.log_history.proofs.Stored.{at-seat, says-here, view-changed, view-stays}
 use Rattle.log_history.proofs.Tracked.{IsAt, least-holder}
 
 -- ---- lists
@@ -75,6 +81,7 @@ module _ {begun i t : ℕ} {xs : List OpenEntry} {x : OpenEntry} {claims : Claim
 
   passes-by : IsFreeFor (claim_at claims page slot) kind x.seat → (k : ℕ) → k < length xs
       → is_holder (get_or xs k x) ≡ false
+  unfolding is_holder
   passes-by free k lt =
       let e = get_or xs k x in
       let has = has_seat (seats_against (claim_at claims page slot) kind) e.seat in
@@ -89,12 +96,14 @@ module _ {begun i t : ℕ} {xs : List OpenEntry} {x : OpenEntry} {claims : Claim
 
   pub nobody-holds : IsFreeFor (claim_at claims page slot) kind x.seat
       → holder_in (record { begun = begun; entries = map entry_view xs }) page slot kind t ≡ None
+  unfolding is_holder
   nobody-holds free =
       least-holder page slot kind t tracks
       ∙ ap (option_map (λ (e : OpenEntry). e.txn)) (find-nobody is_holder xs x (passes-by free))
 
   pub somebody-holds : IsHeldByOther (claim_at claims page slot) kind x.seat
       → holder_in (record { begun = begun; entries = map entry_view xs }) page slot kind t ≡ None → ⊥
+  unfolding is_holder
   somebody-holds held none =
       let seats = seats_against (claim_at claims page slot) kind in
       let place = holds-there xs page slot held.other x
@@ -109,3 +118,36 @@ module _ {begun i t : ℕ} {xs : List OpenEntry} {x : OpenEntry} {claims : Claim
       false≢true (sym (none-fails is_holder xs place.0 x place.1.0 nobody)
       ∙ and_from (not (eqb e.txn t)) (has_seat seats e.seat) (ap not (ne_eqb e.txn t apart))
       (ap (has_seat seats) place.1.1 ∙ held.held))
+
+-- ---- a change is taken, or somebody keeps it out
+
+module _ {begun txn seat : ℕ} {claims : Claims} {list : OpenList} {x : OpenEntry}
+    (stored : IsStored begun claims list)
+    (sits : Sits list.order.items list.seats.items txn seat) (there : x ≡ get_or list.seats.items seat x)
+    (table : Table) (is : (record { begun = begun; entries = map entry_view (entries_in list) }) ≡ table)
+    (e : OpenEntry) (c : PendingChange) (active : IsActiveEntry c.prev (entry_view x)) where
+  pub notes-update : (may : Bool) → Updates claims x e c may
+      → NotesIfMay table
+      (record {
+        begun = begun;
+        entries = map entry_view (entries_of list.order.items (set list.seats.items seat e));
+      })
+      (Update c.lsn txn c.prev c.page c.slot c.change) may
+  notes-update true up =
+      let at = at-seat stored sits there in
+      let update = Update c.lsn txn c.prev c.page c.slot c.change in (
+        (
+          says-here stored sits there table is (IsActiveEntry c.prev) active,
+          ap (λ (v : Table). holder_in v c.page c.slot (kind_of c.change) txn) (sym is)
+              ∙ nobody-holds at stored.tracks c.page c.slot (kind_of c.change) up.0,
+        ),
+        ap (λ es. let v : Table = record { begun = begun; entries = es } in v)
+            (sym (view-changed stored sits there e (λ v. entry_after v update) up.1))
+            ∙ ap (λ (v : Table). with_entry v txn update) is,
+      )
+  notes-update false up =
+      let at = at-seat stored sits there in (
+        λ may. somebody-holds at stored.tracks c.page c.slot (kind_of c.change) up.0
+            (ap (λ (v : Table). holder_in v c.page c.slot (kind_of c.change) txn) is ∙ may.1),
+        ap (λ es. let v : Table = record { begun = begun; entries = es } in v) (view-stays stored sits there e up.1) ∙ is,
+      )

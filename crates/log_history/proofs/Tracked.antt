@@ -173,7 +173,7 @@ missing q xs ys same e =
     find-view q xs ∙ ap (option_map entry_view)
     (found-none (λ e. q (entry_view e)) xs (e ∙ ap (position (λ e. q (entry_view e))) same))
 
-is-there : {X : Type 0} (o : Option X) → IsSome o → o ≡ None → ⊥
+pub is-there : {X : Type 0} (o : Option X) → IsSome o → o ≡ None → ⊥
 is-there (Some x) s e = cc
 is-there None s e = false≢true s
 
