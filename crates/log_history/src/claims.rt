@@ -121,6 +121,11 @@ impl Claims {
         Claim::of(self.marks.holder(page, slot), self.adders.seats(page, slot))
     }
 
+    /// Reaches for what a change of a slot looks at first, so that it comes from memory.
+    pub fn look(&self, page: PageNo, slot: SlotNo) -> u8 {
+        self.marks.look(page, slot)
+    }
+
     /// Takes a slot for one more pending change of the transaction of this seat, and answers what
     /// the transaction kept out before; None where another one keeps the change out. Where there is
     /// no memory for it, nothing changes; so it is on a slot that no page has.

@@ -8,7 +8,7 @@ ghost use Rattle.log_history.specs.History.{NamesNumberOn};
 
 use crate::open_transactions::OpenTransactions;
 use log_records::{Record, redo_on_its_page};
-use page_core::{Change, Page, formatted_pages};
+use page_core::{Change, Page, PageNo, SlotNo, formatted_pages};
 use std::alloc::{AllocError, Global};
 use std::marker::Model;
 
@@ -53,6 +53,17 @@ impl History {
         ensures { result.now ≡ self.now.pages }
     {
         &self.pages
+    }
+
+    /// Reaches for what a change of a slot looks at, so that it comes from memory. For a slot that
+    /// is not there it does nothing. What it answers says nothing, but a compiler must keep the
+    /// look for it.
+    pub fn look(&self, page: PageNo, slot: SlotNo) -> u64 {
+        let seen = match self.pages.get(page.0 as usize) {
+            Some(page) => page.lsn.0 ^ *page.slots.get(slot.0 as usize).unwrap_or(&0),
+            None => 0,
+        };
+        seen ^ self.txns.look(page, slot) as u64
     }
 
     /// Takes the next record if it may come next, and answers whether it may. Where it may not,

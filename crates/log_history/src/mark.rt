@@ -46,6 +46,11 @@ impl Mark {
         Mark { byte }
     }
 
+    /// The byte.
+    pub fn byte(self) -> u8 {
+        self.byte
+    }
+
     /// The holder that it says.
     #[tactic(auto, unfolding(crate::specs::Mark::holder_of))]
     pub fn holder(self) -> Holder

@@ -46,6 +46,14 @@ impl Marks {
         }
     }
 
+    /// Reaches for the byte of a slot, so that it comes from memory. What it answers is that byte.
+    pub fn look(&self, page: PageNo, slot: SlotNo) -> u8 {
+        match self.marks.get(place_of(page, slot)) {
+            Some(mark) => mark.byte(),
+            None => 0,
+        }
+    }
+
     /// Puts this holder on a slot. Where nobody holds it, this may need memory, and is refused on a
     /// slot that no page has.
     pub fn put(&mut self, page: PageNo, slot: SlotNo, holder: Holder) -> Result<(), AllocError>

@@ -83,6 +83,12 @@ impl OpenTransactions {
         self.list.first_other(seats, txn)
     }
 
+    /// Reaches for what a change of a slot looks at first, so that it comes from memory. What it
+    /// answers says nothing, but a compiler must keep the look for it.
+    pub fn look(&self, page: PageNo, slot: SlotNo) -> u8 {
+        self.claims.look(page, slot)
+    }
+
     /// The numbers of an open transaction; None where it is not open.
     pub fn state(&self, txn: TxnNo) -> Option<TxnState>
         ensures { result ≡ option_map state_of (entry_in self.now txn) }

@@ -13,7 +13,7 @@ ghost use Rattle.log_store.specs.Turn.{Gives};
 use crate::fault::LogReadFault;
 use crate::sink::RecordSink;
 use log_history::History;
-use log_records::{HEADER_BYTES, MAX_RECORDS, RECORD_BYTES, page_count, record_at};
+use log_records::{HEADER_BYTES, MAX_RECORDS, RECORD_BYTES, named_slot, page_count, record_at};
 use page_core::{LSN_STEP, Lsn, zeros};
 use std::alloc::Global;
 use std::io::{ErrorKind, Read};
@@ -30,6 +30,20 @@ const MAX_TURNS: u32 = 134_217_728;
 
 /// How many bytes it is asked for at once, at most.
 const BUFFER_BYTES: usize = 262_144;
+
+/// How many records are looked at ahead.
+const AHEAD: usize = 32;
+
+/// Looks at the slots that these records name, right or wrong, so that all of them come from memory
+/// at the same time.
+fn look_ahead(history: &History, bytes: &[u8]) -> u64 {
+    let mut seen = 0;
+    for i in 0..bytes.len() / RECORD_BYTES {
+        let (page, slot) = named_slot(&bytes[RECORD_BYTES * i..RECORD_BYTES * i + RECORD_BYTES]);
+        seen ^= history.look(page, slot);
+    }
+    seen
+}
 
 /// Takes the next record, which stands behind the first `count`, if it may follow them.
 fn take_record<S: RecordSink>(
@@ -62,14 +76,15 @@ fn take_record<S: RecordSink>(
     Ok(sink.take(&[record])?)
 }
 
-/// Takes the whole records among these bytes, which stand behind the first `count` records.
+/// Takes the whole records among these bytes, which stand behind the first `count` records. What it
+/// answers says nothing, but a compiler must keep the looks ahead for it.
 fn take_records<S: RecordSink>(
     sink: &mut S,
     history: &mut History,
     pages: u32,
     count: usize,
     bytes: &[u8],
-) -> Result<(), LogReadFault>
+) -> Result<u64, LogReadFault>
     requires { (given : List ℕ) × HasTaken S.holds sink.old history.old pages count given }
     ensures ok { OnOk result ((given : List ℕ)
         → HasTaken S.holds sink.old history.old pages count given
@@ -80,11 +95,17 @@ fn take_records<S: RecordSink>(
         → Refuses (given ++ (bytes.now ++ rest)) fault) }
     ensures of_bytes { IfErr result IsNoReadFault }
 {
-    for i in 0..bytes.len() / RECORD_BYTES {
+    let whole = bytes.len() / RECORD_BYTES;
+    let mut seen = 0;
+    for i in 0..whole {
+        if i % AHEAD == 0 {
+            let end = whole.min(i + AHEAD);
+            seen ^= look_ahead(history, &bytes[RECORD_BYTES * i..RECORD_BYTES * end]);
+        }
         let record = &bytes[RECORD_BYTES * i..RECORD_BYTES * i + RECORD_BYTES];
         take_record(sink, history, pages, count + i, record)?;
     }
-    Ok(())
+    Ok(seen)
 }
 
 /// Reads the header, and answers how many turns that took.
@@ -168,9 +189,10 @@ fn read_records<R: Read, S: RecordSink>(
             Turn::Failed => return Err(LogReadFault::ReadFault),
         }
         let bytes = &buffer[..filled];
-        take_records(&mut scan.sink, &mut scan.history, pages, count, bytes)?;
+        let seen = take_records(&mut scan.sink, &mut scan.history, pages, count, bytes)?;
         count += filled / RECORD_BYTES;
         filled = keep_rest(buffer, filled);
+        buffer[filled] = (seen % 256) as u8;
         if count >= MAX_RECORDS && filled > 0 {
             return Err(LogReadFault::TooLong);
         }
