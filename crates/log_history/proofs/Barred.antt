@@ -1,5 +1,5 @@
 -- Who keeps a slot from a transaction: the claims say of its seat what the table says of it.
-use Rattle.std.proofs.Common.{◌≡◌, ◌≢◌, ◌∙◌, ◌<◌, ◌∷◌, ◌&&◌, ◌⊎◌, [], ℕ, zero, suc, Bool, true, false, not, List, Option, Some, None, map, length, get_or, set, cond, eqb, inl, inr, refl, sym, ap, subst, arith}
+use Rattle.std.proofs.Common.{◌≡◌, ◌≢◌, ◌∙◌, ◌<◌, ◌∷◌, ◌&&◌, [], ℕ, zero, suc, Bool, true, false, not, List, Option, Some, None, map, length, get_or, set, cond, eqb, inl, inr, refl, sym, ap, arith}
 use Rattle.std.proofs.lemmas.Bool.{and_from, and_right, cases_eq, eq-eqb, false≢true, ne_eqb}
 use Rattle.std.specs.List.{find}
 use Rattle.std.specs.Option.{option_map}

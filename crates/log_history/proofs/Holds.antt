@@ -1,14 +1,12 @@
 -- Claims, seat by seat and slot by slot.
-use Rattle.std.proofs.Common.{◌≡◌, ◌∙◌, ◌*◌, ◌%◌, ◌^◌, ◌<◌, ◌&&◌, ℕ, Bool, true, false, Option, Result, Ok, Err, cond, eqb, refl, sym, ap, ⊎_elim, arith}
+use Rattle.std.proofs.Common.{◌≡◌, ◌∙◌, ◌*◌, ◌%◌, ◌^◌, ◌<◌, ℕ, true, false, Result, Ok, Err, cond, eqb, sym, ap, ⊎_elim}
 use Rattle.std.proofs.lemmas.Bool.{cases_eq, eq-eqb, ne_eqb}
-use Rattle.std.proofs.lemmas.Bool.Decides.{nat_tests}
 use Rattle.std.proofs.lemmas.Nat.Bits.{bit_at_clear_other, bit_at_clear_same, bit_at_set_other, bit_at_set_same, bit_at-zero}
 use Rattle.std.specs.Int.{bit_at, bit_not}
 use Rattle.std.specs.Int.RustNames.{bit_or}
 use Rattle.std.specs.Result.{OnErr, OnOk}
 use lib.Bits.{bit_and}
 use mir.Syntax.{w64}
-use Rattle.log_history.specs.declared.claims.Claim.{Claim}
 use Rattle.log_history.specs.Claims.{hold_in, no_claim, no_hold}
 use Rattle.log_history.specs.SeatSet.{has_seat, no_seats}
 

@@ -1,5 +1,5 @@
 -- Claims as marks and adders hold them: what a change of one slot says of every seat.
-use Rattle.std.proofs.Common.{◌≡◌, ◌≢◌, ◌∙◌, ◌<◌, ◌&&◌, ◌^◌, ℕ, Bool, true, false, not, cond, eqb, inl, inr, refl, sym, ap, ap₂, subst, arith}
+use Rattle.std.proofs.Common.{◌≡◌, ◌≢◌, ◌∙◌, ◌<◌, ◌&&◌, ◌^◌, ℕ, Bool, true, false, cond, eqb, inl, inr, refl, sym, ap, ap₂, subst}
 use Rattle.std.proofs.lemmas.Bool.{and_parts, cases_Bool, cases_eq, eq-eqb, eqb-true, false_from_ne_true, false≢true, ne_eqb}
 use Rattle.std.proofs.lemmas.Nat.Bits.{bit_at-pow_other, bit_at-pow_same}
 use Rattle.std.specs.Int.{bit_at}
@@ -12,7 +12,7 @@ use Rattle.log_history.specs.declared.mark.Holder.TheVariants.{Nobody, One, Adde
 use Rattle.log_history.specs.declared.seat_set.SeatSet.{SeatSet}
 use Rattle.log_history.specs.declared.seat_set.TheConstants.{SEATS}
 use Rattle.log_history.specs.Adders.{seats_at}
-use Rattle.log_history.specs.Claims.{IsFreeFor, IsHeldByOther, IsWeaker, KeepsHolds, Refused, SetsHold, Taken, claim_at, claim_of, hold_at, hold_in, hold_with, no_claim, no_hold, seats_against}
+use Rattle.log_history.specs.Claims.{IsFreeFor, IsHeldByOther, IsWeaker, KeepsHolds, Refused, SetsHold, Taken, claim_of, hold_at, hold_in, hold_with, no_claim, no_hold, seats_against}
 use Rattle.log_history.specs.Marks.{holder_at}
 use Rattle.log_history.specs.SeatSet.{HasSome, has_seat, no_seats, only}
 use Rattle.log_history.proofs.Holds.{has_seat-no_seats, hold_in-no_claim}

@@ -3,7 +3,6 @@ use Rattle.std.specs.Prelude.{ℕ, ◌+◌, ◌*◌, nat_lt, slice_index_or, if�
 use Rattle.page_core.specs.declared.page.TheConstants.{SLOTS}
 use Rattle.log_history.specs.declared.mark.Holder.{Holder}
 use Rattle.log_history.specs.declared.mark.Holder.TheVariants.{Nobody}
-use Rattle.log_history.specs.declared.mark.Mark.{Mark}
 use Rattle.log_history.specs.declared.marks.Marks.{Marks}
 use Rattle.log_history.specs.Mark.{holder_of}
 

@@ -2,18 +2,81 @@
 
 ghost use Rattle.std.specs.Prelude.{ℕ, ◌≡◌, ◌<◌, ◌≤◌, ◌==◌, ◌&&◌, OnOk, OnErr, IfOk};
 ghost use Rattle.std.specs.Prelude.{if◌then◌else◌, slice_index_or, vec_len};
-ghost use Rattle.log_history.specs.Adders.{seats_at};
+ghost use Rattle.log_history.specs.Adders.{seats_at, seats_in};
 ghost use Rattle.log_history.specs.SeatSet.{no_seats};
 
+use crate::marks::place_of;
 use crate::seat_set::SeatSet;
 use page_core::{PageNo, SLOTS, SlotNo};
 use std::alloc::{AllocError, Global};
 
-/// The seats of those who add to one slot together. A page takes memory for them once it has such a
-/// slot. A look-up or a change reaches for one set, whatever the log.
+/// How many sets are made at once.
+const GROUP: usize = 8;
+
+/// Sets of seats by place, in groups of eight. A group takes memory once it has a seat.
+#[derive(Drop)]
+struct Groups {
+    groups: Vec<Option<Box<[SeatSet; GROUP]>>>,
+}
+
+impl Groups {
+    /// No set has a seat.
+    fn new(alloc: Global) -> Groups
+        ensures { (group place : ℕ) → seats_in result group place ≡ no_seats }
+    {
+        Groups {
+            groups: Vec::new(alloc),
+        }
+    }
+
+    /// The set at a place of a group.
+    fn seats(&self, group: usize, place: usize) -> SeatSet
+        ensures { result ≡ seats_in self.now group place }
+    {
+        if group >= self.groups.len() || place >= GROUP {
+            return SeatSet::new();
+        }
+        match &self.groups[group] {
+            Some(seats) => seats[place],
+            None => SeatSet::new(),
+        }
+    }
+
+    /// Puts these seats at a place of a group. Where it had none, this may need memory.
+    fn put(&mut self, group: usize, place: usize, seats: SeatSet) -> Result<(), AllocError>
+        requires { place < GROUP }
+        ensures put { OnOk result ((g p : ℕ) → seats_in self.new g p
+            ≡ (if group == g && place == p then seats else seats_in self.old g p)) }
+        ensures new_place { OnErr result (seats_in self.old group place ≡ no_seats) }
+        ensures err { OnErr result ((g p : ℕ) → seats_in self.new g p ≡ seats_in self.old g p) }
+    {
+        self.make_groups(group)?;
+        let alloc = *self.groups.allocator();
+        match &mut self.groups[group] {
+            Some(sets) => put_set(sets, place, seats),
+            None => self.groups[group] = Some(sets_with(alloc, place, seats)?),
+        }
+        Ok(())
+    }
+
+    /// Where this group is behind all others, it and those before it get no sets.
+    fn make_groups(&mut self, group: usize) -> Result<(), AllocError>
+        ensures ok { OnOk result (group < vec_len self.new.groups) }
+        ensures err { OnErr result (vec_len self.new.groups ≤ group) }
+        ensures same { (g p : ℕ) → seats_in self.new g p ≡ seats_in self.old g p }
+    {
+        while self.groups.len() <= group {
+            self.groups.push(None)?;
+        }
+        Ok(())
+    }
+}
+
+/// The seats of those who add to one slot together. A look-up or a change reaches for one set,
+/// whatever the log.
 #[derive(Drop)]
 pub struct Adders {
-    pages: Vec<Option<Box<[SeatSet; SLOTS]>>>,
+    groups: Groups,
 }
 
 impl Adders {
@@ -22,7 +85,7 @@ impl Adders {
         ensures { (page slot : ℕ) → seats_at result page slot ≡ no_seats }
     {
         Adders {
-            pages: Vec::new(alloc),
+            groups: Groups::new(alloc),
         }
     }
 
@@ -30,15 +93,11 @@ impl Adders {
     pub fn seats(&self, page: PageNo, slot: SlotNo) -> SeatSet
         ensures { result ≡ seats_at self.now page slot }
     {
-        let page = page.0 as usize;
-        let slot = slot.0 as usize;
-        if page >= self.pages.len() || slot >= SLOTS {
+        if slot.0 as usize >= SLOTS {
             return SeatSet::new();
         }
-        match &self.pages[page] {
-            Some(seats) => seats[slot],
-            None => SeatSet::new(),
-        }
+        let place = place_of(page, slot);
+        self.groups.seats(place / GROUP, place % GROUP)
     }
 
     /// Puts these seats on a slot. Where it had none, this may need memory, and is refused on a slot
@@ -49,54 +108,35 @@ impl Adders {
         ensures new_slot { OnErr result (seats_at self.old page slot ≡ no_seats) }
         ensures err { OnErr result ((p s : ℕ) → seats_at self.new p s ≡ seats_at self.old p s) }
     {
-        let page = page.0 as usize;
-        let slot = slot.0 as usize;
-        if slot >= SLOTS {
+        if slot.0 as usize >= SLOTS {
             return Err(AllocError);
         }
-        self.make_pages(page)?;
-        let alloc = *self.pages.allocator();
-        match &mut self.pages[page] {
-            Some(sets) => put_set(sets, slot, seats),
-            None => self.pages[page] = Some(sets_with(alloc, slot, seats)?),
-        }
-        Ok(())
-    }
-
-    /// Where this page is behind all others, it and those before it get no sets.
-    fn make_pages(&mut self, page: usize) -> Result<(), AllocError>
-        ensures ok { OnOk result (page < vec_len self.new.pages) }
-        ensures err { OnErr result (vec_len self.new.pages ≤ page) }
-        ensures same { (p s : ℕ) → seats_at self.new p s ≡ seats_at self.old p s }
-    {
-        while self.pages.len() <= page {
-            self.pages.push(None)?;
-        }
-        Ok(())
+        let place = place_of(page, slot);
+        self.groups.put(place / GROUP, place % GROUP, seats)
     }
 }
 
-fn put_set(sets: &mut [SeatSet; SLOTS], slot: usize, seats: SeatSet)
-    requires { slot < SLOTS }
-    ensures { (s : ℕ) → slice_index_or sets.new s no_seats
-        ≡ (if slot == s then seats else slice_index_or sets.old s no_seats) }
+fn put_set(sets: &mut [SeatSet; GROUP], place: usize, seats: SeatSet)
+    requires { place < GROUP }
+    ensures { (p : ℕ) → slice_index_or sets.new p no_seats
+        ≡ (if place == p then seats else slice_index_or sets.old p no_seats) }
 {
-    sets[slot] = seats;
+    sets[place] = seats;
 }
 
-/// The sets of a page of which one slot has these seats.
+/// The sets of a group of which one place has these seats.
 #[cold]
 #[inline(never)]
 fn sets_with(
     alloc: Global,
-    slot: usize,
+    place: usize,
     seats: SeatSet,
-) -> Result<Box<[SeatSet; SLOTS]>, AllocError>
-    requires { slot < SLOTS }
-    ensures { IfOk result (λ sets. (s : ℕ) → slice_index_or sets.value s no_seats
-        ≡ (if slot == s then seats else no_seats)) }
+) -> Result<Box<[SeatSet; GROUP]>, AllocError>
+    requires { place < GROUP }
+    ensures { IfOk result (λ sets. (p : ℕ) → slice_index_or sets.value p no_seats
+        ≡ (if place == p then seats else no_seats)) }
 {
-    let mut sets = [SeatSet::new(); SLOTS];
-    put_set(&mut sets, slot, seats);
+    let mut sets = [SeatSet::new(); GROUP];
+    put_set(&mut sets, place, seats);
     Ok(Box::new(alloc, sets)?)
 }

@@ -3,4 +3,4 @@ use Rattle.log_history.proofs.AdderSets.{one_changed}
 use Rattle.log_history.proofs.adders.put_set.Goals as goal
 
 pub returns : goal.returns
-returns c = λ s. one_changed c.args.sets.now c.args.slot s c.args.seats (omega arith)
+returns c = λ s. one_changed c.args.sets.now c.args.place s c.args.seats (omega arith)

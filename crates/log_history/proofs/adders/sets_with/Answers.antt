@@ -7,5 +7,5 @@ pub returns : goal.returns
 returns c = λ s.
     ap (λ sets. get_or sets s no_seats) c.in_ok-new.ensures.ok
     ∙ c.put_set.ensures s
-    ∙ ap (λ none. cond (eqb c.args.slot s) c.args.seats (get_or (replicate 62 none) s no_seats)) c.new-sets.ensures
-    ∙ ap (cond (eqb c.args.slot s) c.args.seats) (none_in 62 s)
+    ∙ ap (λ none. cond (eqb c.args.place s) c.args.seats (get_or (replicate 8 none) s no_seats)) c.new-sets.ensures
+    ∙ ap (cond (eqb c.args.place s) c.args.seats) (none_in 8 s)

@@ -1,4 +1,4 @@
-use Rattle.std.proofs.Common.{◌≡◌, ◌∙◌, ap, ap₂, cond, eqb, true, false, sym}
+use Rattle.std.proofs.Common.{◌∙◌, ap, ap₂, cond, eqb, sym}
 use Rattle.page_core.specs.declared.change.ChangeKind.TheVariants as kind
 use Rattle.log_history.specs.declared.claims.Hold.{Hold}
 use Rattle.log_history.specs.Claims.{no_hold}

@@ -1,8 +1,6 @@
 use Rattle.std.proofs.Common.{◌≡◌, ◌++◌, ◌∷◌, [], subst, sym, arith}
 use Rattle.std.proofs.lemmas.Grind.{common_steps}
 use Rattle.page_core.specs.declared.change.ChangeKind.{ChangeKind}
-use Rattle.log_history.specs.declared.claims.Hold.{Hold}
-use Rattle.log_history.specs.declared.open_entry.Pending.{Pending}
 use Rattle.log_history.specs.Claims.{SetsHold, Taken, hold_with}
 use Rattle.log_history.specs.OpenEntry.{IsHeld}
 use Rattle.log_history.proofs.Pendings.{held-push}

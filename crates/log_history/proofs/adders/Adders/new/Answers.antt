@@ -1,12 +1,12 @@
-use Rattle.std.specs.Prelude.{Box}
-use Rattle.std.proofs.Common.{List, [], ◌∙◌, ap, zero-le, Global}
-use Rattle.log_history.specs.declared.seat_set.SeatSet.{SeatSet}
+use Rattle.std.proofs.Common.{◌+◌, ◌*◌, ◌/◌, ◌%◌, ◌∙◌, ap, cond}
+use lib.Dec.{ltb}
 use Rattle.log_history.specs.Adders.{seats_at}
-use Rattle.log_history.proofs.AdderSets.{no_page, slot_seats}
+use Rattle.log_history.specs.SeatSet.{no_seats}
+use Rattle.log_history.proofs.AdderSets.{none_either}
 use Rattle.log_history.proofs.adders.Adders.new.Goals as goal
 
 pub returns : goal.returns
 unfolding seats_at
 returns c = λ page slot.
-    ap (λ pages. slot_seats (λ b. b.value) pages page slot) c.new.ensures.items
-    ∙ no_page (λ (b : Box (List SeatSet) Global). b.value) [] page slot zero-le
+    ap (λ seats. cond (ltb slot 62) seats no_seats) (c.new.ensures ((62 * page + slot) / 8) ((62 * page + slot) % 8))
+    ∙ none_either (ltb slot 62)

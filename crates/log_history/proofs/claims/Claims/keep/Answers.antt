@@ -1,4 +1,3 @@
-use Rattle.std.proofs.Common.{◌∙◌}
 use Rattle.log_history.specs.declared.mark.Holder.TheVariants.{One}
 use Rattle.log_history.specs.Adders.{seats_at}
 use Rattle.log_history.specs.Claims.{hold_with, no_hold}

@@ -1,4 +1,4 @@
-use Rattle.std.proofs.Common.{◌∙◌, ap, cond, eqb, false, refl, sym}
+use Rattle.std.proofs.Common.{◌∙◌, ap, cond, eqb, false, refl}
 use Rattle.std.proofs.lemmas.Bool.{not-false, not-true}
 use Rattle.log_history.specs.SeatSet.{has_seat}
 use Rattle.log_history.proofs.Holds.{sure_ok}

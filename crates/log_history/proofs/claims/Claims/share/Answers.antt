@@ -1,6 +1,5 @@
 use Rattle.std.proofs.Common.{◌∙◌, ap, cond, eqb, refl, true}
 use Rattle.page_core.specs.declared.change.ChangeKind.{ChangeKind}
-use Rattle.page_core.specs.declared.change.ChangeKind.TheVariants as kind
 use Rattle.log_history.specs.declared.mark.Holder.TheVariants.{One}
 use Rattle.log_history.specs.Adders.{seats_at}
 use Rattle.log_history.specs.SeatSet.{has_seat}

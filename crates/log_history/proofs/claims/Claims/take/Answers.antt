@@ -1,8 +1,7 @@
-use Rattle.std.proofs.Common.{◌∙◌, ap, sym}
-use Rattle.log_history.specs.declared.claims.Claims.{Claims}
+use Rattle.std.proofs.Common.{sym}
 use Rattle.log_history.specs.declared.mark.Holder.TheVariants.{Nobody, One}
 use Rattle.log_history.specs.Adders.{seats_at}
-use Rattle.log_history.specs.Claims.{Taken, no_hold}
+use Rattle.log_history.specs.Claims.{no_hold}
 use Rattle.log_history.proofs.Holds.{hold_in-no_claim}
 use Rattle.log_history.proofs.Taken.{free-nobody, from_nobody, same_seats, taken}
 use Rattle.log_history.proofs.claims.Claims.take.Goals as goal

@@ -1,4 +1,4 @@
-use Rattle.std.proofs.Common.{◌∙◌, ◌+◌, ◌*◌, ◌<◌, ◌≤◌, length, sym, arith}
+use Rattle.std.proofs.Common.{◌∙◌, sym, arith}
 use Rattle.log_history.specs.Marks.{holder_at}
 use Rattle.log_history.proofs.SlotMarks.{slot_behind, slot_past, slot_there}
 use Rattle.log_history.proofs.marks.Marks.holder.Goals as goal

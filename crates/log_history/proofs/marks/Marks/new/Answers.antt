@@ -1,6 +1,4 @@
-use Rattle.std.proofs.Common.{◌∙◌, ap, cond, sym}
-use lib.Dec.{ltb}
-use Rattle.log_history.specs.declared.mark.Holder.TheVariants.{Nobody}
+use Rattle.std.proofs.Common.{◌∙◌, ap}
 use Rattle.log_history.specs.Marks.{holder_at}
 use Rattle.log_history.proofs.SlotMarks.{slot_holder, no_slot}
 use Rattle.log_history.proofs.marks.Marks.new.Goals as goal

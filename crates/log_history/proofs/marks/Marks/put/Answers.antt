@@ -1,4 +1,4 @@
-use Rattle.std.proofs.Common.{◌≡◌, ◌∙◌, ◌+◌, ◌*◌, ◌<◌, ◌≤◌, ◌&&◌, ap, cond, eqb, set, length, arith}
+use Rattle.std.proofs.Common.{◌≡◌, ◌∙◌, ◌+◌, ◌*◌, ◌<◌, ◌&&◌, ap, cond, eqb, set, length, arith}
 use Rattle.log_history.specs.Marks.{holder_at}
 use Rattle.log_history.specs.declared.marks.Marks.{Marks}
 use Rattle.log_history.proofs.Holds.{on_err_from}

@@ -1,4 +1,4 @@
-use Rattle.std.proofs.Common.{◌≡◌, ◌≤◌, ◌++◌, ◌∷◌, [], ap, sym, subst, arith, ◌∙◌}
+use Rattle.std.proofs.Common.{◌≡◌, ◌++◌, ◌∷◌, [], ap, sym, subst, arith, ◌∙◌}
 use Rattle.std.proofs.lemmas.Grind.{common_steps}
 use Rattle.log_history.specs.OpenList.{IsSeated, entries_of}
 use Rattle.log_history.proofs.Seatings.{entries-add, lacks-one, length-entries, next-seat, nobody-on, on-seat, seated-add}

@@ -1,4 +1,4 @@
-use Rattle.std.proofs.Common.{◌∙◌, ◌<◌, Some, ap, get_or, length, sym, take, arith}
+use Rattle.std.proofs.Common.{◌∙◌, ◌<◌, Some, ap, get_or, length, sym}
 use Rattle.std.proofs.lemmas.List.{get_or_default}
 use lib.Dec.{leb}
 use Rattle.std.specs.List.{find}

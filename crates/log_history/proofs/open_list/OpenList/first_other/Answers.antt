@@ -1,4 +1,4 @@
-use Rattle.std.proofs.Common.{◌≡◌, ◌∙◌, ◌&&◌, Bool, Some, not, eqb, ap, get_or, sym, take}
+use Rattle.std.proofs.Common.{◌≡◌, ◌∙◌, ◌&&◌, Bool, Some, not, eqb, ap, get_or, sym}
 use Rattle.std.proofs.lemmas.Bool.{and_from, and_right}
 use Rattle.std.specs.List.{find}
 use Rattle.std.specs.Option.{option_map}

@@ -1,6 +1,3 @@
-use Rattle.std.proofs.Common.{[], sym, subst}
-use Rattle.log_history.specs.OpenList.{IsSeated}
-use Rattle.log_history.specs.SeatSet.{no_seats}
 use Rattle.log_history.proofs.Seatings.{seated-none}
 use Rattle.log_history.proofs.open_list.OpenList.new.Goals as goal
 

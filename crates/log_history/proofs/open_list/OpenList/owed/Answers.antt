@@ -1,4 +1,4 @@
-use Rattle.std.proofs.Common.{◌∙◌, ap, sym, min, take}
+use Rattle.std.proofs.Common.{◌∙◌, ap, min}
 use Rattle.std.specs.List.{sum_by}
 use Rattle.log_history.specs.OpenEntry.{entry_view}
 use Rattle.log_history.specs.OpenList.{entries_in}

@@ -1,4 +1,4 @@
-use Rattle.std.proofs.Common.{◌∙◌, ap, sym, eqb, take}
+use Rattle.std.proofs.Common.{◌∙◌, ap, sym, eqb}
 use Rattle.std.specs.List.{find}
 use Rattle.log_history.specs.declared.open_entry.OpenEntry.{OpenEntry}
 use Rattle.log_history.specs.OpenList.{entries_in}

@@ -1,6 +1,5 @@
-use Rattle.std.proofs.Common.{◌≡◌, ◌∙◌, List, map, ap, refl, sym, false, true}
+use Rattle.std.proofs.Common.{◌∙◌, ap, refl, sym}
 use Rattle.std.proofs.lemmas.Bool.{false≢true}
-use Rattle.log_history.specs.OpenEntry.{entry_view}
 use Rattle.log_history.specs.OpenList.{entries_in}
 use Rattle.log_history.specs.Table.{Entry, IsActiveEntry, Table, entry_after, with_entry}
 use Rattle.log_records.specs.declared.record.Record.TheVariants.{Abort}

@@ -1,8 +1,7 @@
-use Rattle.std.proofs.Common.{◌≡◌, ◌∙◌, List, map, ap, refl, sym, false, true}
+use Rattle.std.proofs.Common.{◌∙◌, ap, refl, sym}
 use Rattle.std.proofs.lemmas.Bool.{false≢true}
-use Rattle.log_history.specs.OpenEntry.{entry_view}
 use Rattle.log_history.specs.OpenList.{entries_in}
-use Rattle.log_history.specs.Table.{Entry, IsChained, Table, entry_after, with_entry}
+use Rattle.log_history.specs.Table.{IsChained, Table, entry_after, with_entry}
 use Rattle.std.specs.Option.{IsSomeAnd}
 use Rattle.log_history.specs.Linked.{Compensates}
 use Rattle.log_history.specs.Transactions.{last_of}
