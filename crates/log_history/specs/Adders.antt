@@ -18,5 +18,6 @@ seats_in groups group place =
 -- the seats of a slot; one that no page has, has none
 unfoldable pub seats_at : Adders → ℕ → ℕ → SeatSet
 seats_at adders page slot =
-    if nat_lt slot SLOTS then seats_in adders.groups ((SLOTS * page + slot) / GROUP) ((SLOTS * page + slot) % GROUP)
+    if nat_lt slot SLOTS then seats_in adders.groups
+    ((SLOTS * page + slot) / GROUP) ((SLOTS * page + slot) % GROUP)
     else no_seats

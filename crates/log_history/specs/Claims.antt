@@ -67,7 +67,8 @@ claim_of (One seat kind.Set) seats = record { against_sets = only seat; against_
 claim_of Adders seats = record { against_sets = seats; against_adds = no_seats }
 
 abbrev pub claim_at : Claims → ℕ → ℕ → Claim
-claim_at claims page slot = claim_of (holder_at claims.marks page slot) (seats_at claims.adders page slot)
+claim_at claims page slot =
+    claim_of (holder_at claims.marks page slot) (seats_at claims.adders page slot)
 
 abbrev pub hold_at : Claims → ℕ → ℕ → ℕ → Hold
 hold_at claims page slot seat = hold_in (claim_at claims page slot) seat

@@ -9,5 +9,6 @@ use Rattle.log_history.specs.Mark.{holder_of}
 -- who holds a slot; nobody holds one that no page has
 unfoldable pub holder_at : Marks → ℕ → ℕ → Holder
 holder_at marks page slot =
-    if nat_lt slot SLOTS then holder_of (slice_index_or marks.marks.items (SLOTS * page + slot) (record { byte = 0 }))
+    if nat_lt slot SLOTS then holder_of
+    (slice_index_or marks.marks.items (SLOTS * page + slot) (record { byte = 0 }))
     else Nobody

@@ -17,8 +17,8 @@ entries_of order seats = filter_map (slice_get seats) order
 abbrev pub entries_in : OpenList → List OpenEntry
 entries_in list = entries_of list.order.items list.seats.items
 
--- each seat of the order is there, and no two of its places have one; each entry knows its seat; and
--- the seats of the order are those that are taken
+-- each seat of the order is there, and no two of its places have one; each entry knows its seat;
+-- and the seats of the order are those that are taken
 pub record IsSeated (order : List ℕ) (seats : List OpenEntry) (taken : SeatSet) : Type 0 where
   pub few : length seats ≤ SEATS
   pub own : (s : ℕ) (d : OpenEntry) → s < length seats → (slice_index_or seats s d).seat ≡ s
@@ -44,7 +44,8 @@ pub record Sits (order : List ℕ) (seats : List OpenEntry) (txn seat : ℕ) : T
 pub record TakesSeat (old new : List OpenEntry) (txn seat lsn : ℕ) : Type 0 where
   pub entry : OpenEntry
   pub begun : IsBegun entry txn seat lsn
-  pub seats : new ≡ (if nat_lt seat (length old) then slice_set old seat entry else old ++ entry ∷ [])
+  pub seats : new
+      ≡ (if nat_lt seat (length old) then slice_set old seat entry else old ++ entry ∷ [])
 
 -- it becomes the last one, on a seat that nobody had
 pub record Adds (old new : List OpenEntry) (txn lsn : ℕ) : Type 0 where

@@ -100,8 +100,8 @@ impl Adders {
         self.groups.seats(place / GROUP, place % GROUP)
     }
 
-    /// Puts these seats on a slot. Where it had none, this may need memory, and is refused on a slot
-    /// that no page has.
+    /// Puts these seats on a slot. Where it had none, this may need memory, and is refused on a
+    /// slot that no page has.
     pub fn put(&mut self, page: PageNo, slot: SlotNo, seats: SeatSet) -> Result<(), AllocError>
         ensures put { OnOk result ((p s : ℕ) → seats_at self.new p s
             ≡ (if page == p && slot == s then seats else seats_at self.old p s)) }

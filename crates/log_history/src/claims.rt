@@ -3,7 +3,8 @@
 ghost use Rattle.std.specs.Prelude.{ℕ, ◌≡◌, ◌≢◌, ◌<◌, ◌==◌, IfOk, IsTrue, OnErr};
 ghost use Rattle.std.specs.Prelude.{if◌then◌else◌};
 ghost use Rattle.log_history.specs.declared.seat_set.SeatSet.{SeatSet};
-ghost use Rattle.log_history.specs.Claims.{IsWeaker, KeepsHolds, SetsHold, Takes, claim_at, claim_of};
+ghost use Rattle.log_history.specs.Claims.{IsWeaker, KeepsHolds, SetsHold, Takes, claim_at};
+ghost use Rattle.log_history.specs.Claims.{claim_of};
 ghost use Rattle.log_history.specs.Claims.{hold_at, hold_in, hold_with, no_claim, no_hold};
 ghost use Rattle.log_history.specs.Claims.{seats_against};
 ghost use Rattle.log_history.specs.Mark.{HasSeat};
