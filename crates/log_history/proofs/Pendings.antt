@@ -12,7 +12,7 @@ use Rattle.log_history.specs.declared.claims.Hold.{Hold}
 use Rattle.log_history.specs.declared.open_entry.Pending.{Pending}
 use Rattle.log_history.specs.declared.pending_change.PendingChange.{PendingChange}
 use Rattle.log_history.specs.declared.seat_set.TheConstants.{SEATS}
-use Rattle.log_history.specs.Claims.{IsWeaker, KeepsHolds, SetsHold, hold_at, hold_with}
+use Rattle.log_history.specs.Claims.{IsWeaker, SetsHold, hold_at, hold_with}
 use Rattle.log_history.specs.OpenEntry.{AreStacked, IsHeld, changes_of, hold_by}
 use Rattle.log_history.specs.Transactions.{is_add, keeps_out}
 
@@ -186,12 +186,3 @@ held-weaker before seat ps q held =
     (and_from (eqb page page) (eqb slot slot) (eq-eqb page page refl) (eq-eqb slot slot refl))) in
     subst (λ x. IsWeaker x (hold_at before page slot seat)) (sym was)
     (subst (IsWeaker h) now (weaker-with h (kind_of q.change.change) (sets_of (changes_of ps) page slot)))
-
--- ---- claims that stay
-
-pub held-same : (before after : Claims) (seat : ℕ) (ps : List Pending) → IsHeld before seat ps
-    → KeepsHolds before after → IsHeld after seat ps
-held-same before after seat ps held same = record {
-  stacked = held.stacked;
-  held = λ page slot. same page slot seat ∙ held.held page slot;
-}
