@@ -56,6 +56,7 @@ impl Checkpoints {
     ghost use Rattle.log_history.specs.CheckpointTable.{MayClose, MayNoteCheckpoint};
     ghost use Rattle.log_history.specs.CheckpointTable.{add_pages, noted_checkpoint};
     ghost use Rattle.log_history.specs.Transactions.{without_last};
+    ghost use Rattle.log_records.specs.Record.{IsOfTransaction};
     ghost use Rattle.std.specs.Option.{option_map};
 
     /// Before the first record: no checkpoint is open.
@@ -156,6 +157,17 @@ impl Checkpoints {
             Record::EndChkpt { .. } => self.current = None,
             _ => {}
         }
+        Ok(())
+    }
+
+    /// Takes a transaction's record as the next one. An `Err` comes where memory is refused, and
+    /// changes nothing.
+    pub fn note_page(&mut self, next: &Record) -> Result<(), AllocError>
+        requires { IsOfTransaction next.now }
+        ensures ok { OnOk result (self.new ≡ noted_checkpoint self.old next.now) }
+        ensures err { OnErr result (self.new ≡ self.old) }
+    {
+        self.changed.push(page_of(next))?;
         Ok(())
     }
 
