@@ -23,7 +23,7 @@ use Rattle.log_records.proofs.Logs.{range_in, length-log, header_of_log, record_
 use Rattle.log_store.proofs.Faults.{AreFirst, whole_records, first_chain, first_record, first_too_long, first_torn}
 use Rattle.log_records.proofs.Records.{record_length}
 use Rattle.log_history.proofs.Histories.{linked_push}
-use Rattle.log_store.proofs.Inputs.{refuses_all, none_held, none_in_read, of_input}
+use Rattle.log_store.proofs.Inputs.{refuses_all, none_held, none_in_read}
 
 -- ---- what a log's bytes have, however they go on
 
