@@ -55,6 +55,7 @@ INPUTS = [
     Input("interleaved", "interleaved", 1048576, 65536),
     Input("rollback", "rollback", 1048576, 65536),
     Input("checkpoints", "checkpoints", 1048576, 65536),
+    Input("mixed", "mixed", 1048576, 65536),
     Input("small", "uniform", 65536, 1024),
 ]
 

@@ -1,9 +1,7 @@
 -- The first entry that passes a test has the least number of those that do.
-use Rattle.std.proofs.Common.{zero, suc, add-one, ◌+◌, take, ◌≡◌, ◌≢◌, ◌∙◌, ◌<◌, ◌≤◌, ◌∷◌, [], ℕ, Bool, ◌||◌, true, false, List, Option, Some, None, map, length, get_or, cond, eqb, min, refl, sym, ap, subst, arith}
+use Rattle.std.proofs.Common.{zero, suc, add-one, ◌+◌, take, ◌≡◌, ◌≢◌, ◌∙◌, ◌<◌, ◌∷◌, [], ℕ, Bool, true, false, List, Option, Some, None, map, length, get_or, cond, min, refl, ap, arith}
 use Rattle.std.proofs.lemmas.List.Elements.{All-head, All-tail}
-use Rattle.std.proofs.lemmas.List.{length-map}
-use Rattle.std.proofs.lemmas.Map.Steps.{le-length_from_below}
-use Rattle.std.specs.List.{All, AllByRecursion, filter, find, list_any}
+use Rattle.std.specs.List.{All, AllByRecursion, filter, find}
 use Rattle.std.specs.Option.{IfSome, option_map, option_map_or}
 use Rattle.log_history.specs.declared.open_entry.OpenEntry.{OpenEntry}
 use Rattle.log_history.specs.OpenEntry.{entry_view}
@@ -53,19 +51,6 @@ least-first p q (x ∷ xs) r a =
     (All-head (λ e. p (entry_view e) ≡ q e) x xs a)
     ∙ chosen (q x) x (map (λ e. e.txn) vs) (find q xs)
     (least-first p q xs r.1 (All-tail (λ e. p (entry_view e) ≡ q e) x xs a)) (above x.txn x.seat q xs r.0)
-
--- ---- seats
-
-any-seat : (s : ℕ) (xs : List OpenEntry) → list_any (λ e. eqb s e.seat) xs ≡ list_any (eqb s) (map (λ e. e.seat) xs)
-any-seat s [] = refl
-any-seat s (x ∷ xs) = ap (λ b. eqb s x.seat || b) (any-seat s xs)
-
--- where every seat is taken, there are as many entries
-pub taken-all : (n : ℕ) (xs : List OpenEntry) → ((s : ℕ) → s < n → list_any (λ e. eqb s e.seat) xs ≡ true)
-    → n ≤ length xs
-taken-all n xs h =
-    let many = le-length_from_below (map (λ e. e.seat) xs) n (λ s l. sym (any-seat s xs) ∙ h s l) in
-    subst (λ m. n ≤ m) (length-map xs (λ (e : OpenEntry). e.seat)) many
 
 -- ---- the first that passes, in a loop
 

@@ -1,6 +1,7 @@
 -- What the records so far make says whether the next one may follow.
 use Rattle.std.proofs.Common.{◌≡◌, ℕ, ◌<◌, ◌∷◌, [], List, get_or, map, sym, ap, subst, subst₂, ◌∙◌, ◌↔◌, arith}
 use Rattle.std.specs.Prelude.{slice_index}
+use Rattle.std.proofs.lemmas.List.{map-id}
 use Rattle.std.proofs.lemmas.List.FromFn.{get_or-map-range_with_len}
 use Rattle.page_core.specs.declared.page.Page.{Page}
 use Rattle.page_core.specs.Change.{Replaces}
@@ -16,7 +17,7 @@ use Rattle.log_history.specs.Table.{MayNote, Table, noted}
 use Rattle.log_history.proofs.Checks.{goes_with_checkpoint, may_note, names_number}
 use Rattle.log_history.proofs.CheckpointTables.{checkpoint_table_of_push, goes_as_noted}
 use Rattle.log_history.specs.CheckpointTable.{CheckpointTable, MayNoteCheckpoint, noted_checkpoint}
-use Rattle.log_records.specs.Record.{IsRecord}
+use Rattle.log_records.specs.Record.{IsOfCheckpoint, IsRecord}
 use Rattle.log_history.proofs.Checks.{may_follow as table_allows}
 use Rattle.log_records.proofs.Images.{redo_all-append}
 use Rattle.log_history.proofs.Steps.{table_of_push}
@@ -93,3 +94,28 @@ made_next log made new r linked of may e = record {
   pages = ap (λ (m : Made). m.pages) e ∙ ap (map (λ page. with_record page r)) of.pages
       ∙ redo_all-append log.records (r ∷ []) log.pages;
 }
+
+-- ---- a record of a checkpoint changes neither the transactions nor the pages
+
+same_pages : (made : Made) (checkpoints : CheckpointTable)
+    → (record made { checkpoints = checkpoints; pages = map (λ page. page) made.pages })
+    ≡ (record made { checkpoints = checkpoints })
+same_pages made checkpoints =
+    ap (λ pages. let m : Made = record made { checkpoints = checkpoints; pages = pages } in m) (map-id made.pages)
+
+pub after_checkpoint : (made : Made) (r : Record) → IsOfCheckpoint r
+    → (NamesNumberOn made.pages r)
+    × (followed made r ≡ (record made { checkpoints = noted_checkpoint made.checkpoints r }))
+after_checkpoint made (BeginChkpt lsn) is = (tt, same_pages made (noted_checkpoint made.checkpoints (BeginChkpt lsn)))
+after_checkpoint made (ChkptPages lsn begin pages) is =
+    (tt, same_pages made (noted_checkpoint made.checkpoints (ChkptPages lsn begin pages)))
+after_checkpoint made (ChkptTxns lsn begin txn state last undo) is =
+    (tt, same_pages made (noted_checkpoint made.checkpoints (ChkptTxns lsn begin txn state last undo)))
+after_checkpoint made (EndChkpt lsn begin redo) is =
+    (tt, same_pages made (noted_checkpoint made.checkpoints (EndChkpt lsn begin redo)))
+after_checkpoint made (Begin lsn txn) is = absurd is
+after_checkpoint made (Update lsn txn prev page slot change) is = absurd is
+after_checkpoint made (Comp lsn txn prev undo_next page slot change) is = absurd is
+after_checkpoint made (Commit lsn txn prev) is = absurd is
+after_checkpoint made (Abort lsn txn prev) is = absurd is
+after_checkpoint made (End lsn txn prev) is = absurd is

@@ -1,19 +1,14 @@
 -- Claims, seat by seat and slot by slot.
-use Rattle.std.proofs.Common.{◌≡◌, ◌∙◌, ◌*◌, ◌%◌, ◌^◌, ◌<◌, ◌&&◌, ℕ, Bool, true, false, Option, Result, Ok, Err, cond, eqb, refl, sym, ap, ⊎_elim, arith}
+use Rattle.std.proofs.Common.{◌≡◌, ◌∙◌, ◌*◌, ◌%◌, ◌^◌, ◌<◌, ℕ, true, false, Result, Ok, Err, cond, eqb, sym, ap, ⊎_elim}
 use Rattle.std.proofs.lemmas.Bool.{cases_eq, eq-eqb, ne_eqb}
-use Rattle.std.proofs.lemmas.Bool.Decides.{nat_tests}
 use Rattle.std.proofs.lemmas.Nat.Bits.{bit_at_clear_other, bit_at_clear_same, bit_at_set_other, bit_at_set_same, bit_at-zero}
-use Rattle.std.specs.BTreeMap.{BTreeMap, get, is_at}
-use Rattle.std.specs.Cmp.{tied_then}
 use Rattle.std.specs.Int.{bit_at, bit_not}
 use Rattle.std.specs.Int.RustNames.{bit_or}
-use Rattle.std.specs.Option.{unwrap_or}
-use Rattle.std.specs.Ordering.{is_eq, nat_cmp}
 use Rattle.std.specs.Result.{OnErr, OnOk}
 use lib.Bits.{bit_and}
 use mir.Syntax.{w64}
-use Rattle.log_history.specs.declared.claims.Claim.{Claim}
-use Rattle.log_history.specs.Claims.{has_seat, hold_in, no_claim, no_hold, no_seats, place_cmp}
+use Rattle.log_history.specs.Claims.{hold_in, no_claim, no_hold}
+use Rattle.log_history.specs.SeatSet.{has_seat, no_seats}
 
 -- ---- bits
 
@@ -37,29 +32,7 @@ without_bit n k i within below = ⊎_elim
     ∙ sym (ap (λ t. cond t false (eqb (bit_at n i) 1)) (ne_eqb i k ne)))
     (cases_eq i k)
 
--- ---- a look-up
-
-is_eq-nat_cmp : (x y : ℕ) → is_eq (nat_cmp x y) ≡ eqb x y
-is_eq-nat_cmp x y = grind (arith, nat_tests)
-
-pub is_at-place : (page slot p s : ℕ) → is_at (place_cmp (page, slot)) (p, s) ≡ (eqb page p && eqb slot s)
-is_at-place page slot p s =
-    sym (tied_then (nat_cmp page p) (nat_cmp slot s))
-    ∙ ap (λ b. b && is_eq (nat_cmp slot s)) (is_eq-nat_cmp page p) ∙ ap (λ b. eqb page p && b) (is_eq-nat_cmp slot s)
-
-unwrap_or-cond : (b : Bool) (x y : Option Claim)
-    → unwrap_or (cond b x y) no_claim ≡ cond b (unwrap_or x no_claim) (unwrap_or y no_claim)
-unwrap_or-cond true x y = refl
-unwrap_or-cond false x y = refl
-
-pub claim_at-update : (m n : BTreeMap (ℕ × ℕ) Claim) (page slot : ℕ) (w : Option Claim)
-    → ((q : ℕ × ℕ) → get place_cmp n q ≡ cond (is_at (place_cmp (page, slot)) q) w (get place_cmp m q)) → (p s : ℕ)
-    → unwrap_or (get place_cmp n (p, s)) no_claim
-    ≡ cond (eqb page p && eqb slot s) (unwrap_or w no_claim) (unwrap_or (get place_cmp m (p, s)) no_claim)
-claim_at-update m n page slot w h p s =
-    ap (λ o. unwrap_or o no_claim) (h (p, s))
-    ∙ ap (λ b. unwrap_or (cond b w (get place_cmp m (p, s))) no_claim) (is_at-place page slot p s)
-    ∙ unwrap_or-cond (eqb page p && eqb slot s) w (get place_cmp m (p, s))
+-- ---- claims
 
 pub hold_in-no_claim : (seat : ℕ) → hold_in no_claim seat ≡ no_hold
 unfolding has_seat

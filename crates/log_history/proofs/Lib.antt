@@ -1,4 +1,6 @@
+pub mod AdderSets
 pub mod AtEnd
+pub mod Barred
 pub mod Begun
 pub mod Chains
 pub mod CheckpointTables
@@ -16,8 +18,12 @@ pub mod Pushes
 pub mod Ranks
 pub mod Room
 pub mod Rows
+pub mod Seatings
 pub mod Settled
+pub mod SlotMarks
 pub mod Slots
 pub mod Steps
+pub mod Stored
+pub mod Taken
 pub mod Tracked
 pub mod Undone

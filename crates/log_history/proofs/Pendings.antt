@@ -1,6 +1,6 @@
 -- Pending changes, and what they keep out.
-use Rattle.std.proofs.Common.{◌≡◌, ◌∙◌, ◌<◌, ◌&&◌, ◌||◌, ◌++◌, ◌∷◌, [], ℕ, Bool, true, false, not, List, cond, eqb, refl, sym, ap, append_assoc, append-nil}
-use Rattle.std.proofs.lemmas.Bool.{and_from, and_parts, eq-eqb, eqb-true, true≢false}
+use Rattle.std.proofs.Common.{◌≡◌, ◌∙◌, ◌<◌, ◌&&◌, ◌||◌, ◌++◌, ◌∷◌, [], ℕ, Bool, true, false, not, List, cond, eqb, refl, sym, ap, subst, append_assoc, append-nil}
+use Rattle.std.proofs.lemmas.Bool.{and_from, and_parts, eq-eqb, eqb-true}
 use Rattle.std.proofs.lemmas.List.{map-append}
 use Rattle.std.proofs.lemmas.List.Folds.{list_any-append}
 use Rattle.std.specs.List.{list_any}
@@ -12,7 +12,7 @@ use Rattle.log_history.specs.declared.claims.Hold.{Hold}
 use Rattle.log_history.specs.declared.open_entry.Pending.{Pending}
 use Rattle.log_history.specs.declared.pending_change.PendingChange.{PendingChange}
 use Rattle.log_history.specs.declared.seat_set.TheConstants.{SEATS}
-use Rattle.log_history.specs.Claims.{hold_at, hold_with, no_hold}
+use Rattle.log_history.specs.Claims.{IsWeaker, SetsHold, hold_at, hold_with}
 use Rattle.log_history.specs.OpenEntry.{AreStacked, IsHeld, changes_of, hold_by}
 use Rattle.log_history.specs.Transactions.{is_add, keeps_out}
 
@@ -72,12 +72,6 @@ stacked-pop below (p ∷ ps) q s =
     )
 
 -- ---- the claims with it
-
--- what a claim's change says of every seat
-abbrev pub SetsHold : Claims → Claims → ℕ → ℕ → ℕ → Hold → Type 0
-SetsHold before after page slot seat hold =
-    (p s other : ℕ) → other < SEATS
-    → hold_at after p s other ≡ cond ((eqb page p && eqb slot s) && eqb other seat) hold (hold_at before p s other)
 
 -- of one seat
 own : (before after : Claims) (page slot seat : ℕ) (hold : Hold) → seat < SEATS
@@ -152,18 +146,43 @@ held-pop before after seat ps q within held set =
           (before-push before seat ps q held page slot);
     }
 
-some_kept : (h : Hold) (k : ChangeKind) → hold_with h k ≡ no_hold → ⊥
-some_kept h kind.Set e = true≢false (ap (λ (x : Hold). x.against_sets) e)
-some_kept h kind.Add e = true≢false (ap (λ (x : Hold). x.against_sets) e)
+-- ---- what a transaction may fall back to
 
--- a transaction with a pending change on a slot keeps something out there
-pub held-some : (before : Claims) (seat : ℕ) (ps : List Pending) (q : Pending) → IsHeld before seat (ps ++ q ∷ [])
-    → hold_at before q.change.page q.change.slot seat ≡ no_hold → ⊥
-held-some before seat ps q held none =
+-- what keeps Adds out keeps Sets out
+adds_are_sets : (cs : List PendingChange) (page slot : ℕ) → list_any (keeps_out page slot kind.Add) cs ≡ true
+    → list_any (keeps_out page slot kind.Set) cs ≡ true
+adds_are_sets [] page slot some = some
+adds_are_sets (c ∷ cs) page slot some =
+    by_first (eqb c.page page && eqb c.slot slot) (is_add (kind_of c.change)) (list_any (keeps_out page slot kind.Add) cs)
+    (list_any (keeps_out page slot kind.Set) cs) (adds_are_sets cs page slot) some
+  where
+    by_first : (here add adds sets : Bool) → (adds ≡ true → sets ≡ true)
+        → ((here && not (true && add)) || adds) ≡ true
+        → ((here && not (false && add)) || sets) ≡ true
+    by_first true add adds sets rest e = refl
+    by_first false add adds sets rest e = rest e
+
+sets_of : (cs : List PendingChange) (page slot : ℕ) → (hold_by cs page slot).against_adds ≡ true
+    → (hold_by cs page slot).against_sets ≡ true
+unfolding hold_by
+sets_of cs page slot = adds_are_sets cs page slot
+
+weaker-with : (h : Hold) (k : ChangeKind) → (h.against_adds ≡ true → h.against_sets ≡ true)
+    → IsWeaker h (hold_with h k)
+weaker-with h kind.Set sets = record { than_some = refl; than_adds = λ adds. refl; sets = sets }
+weaker-with h kind.Add sets = record { than_some = refl; than_adds = λ adds. adds; sets = sets }
+
+-- what a transaction kept out of a slot before its last change there
+pub held-weaker : (before : Claims) (seat : ℕ) (ps : List Pending) (q : Pending) → IsHeld before seat (ps ++ q ∷ [])
+    → IsWeaker q.before (hold_at before q.change.page q.change.slot seat)
+held-weaker before seat ps q held =
     let page = q.change.page in
     let slot = q.change.slot in
-    let with_it = hold_with (hold_by (changes_of ps) page slot) (kind_of q.change.change) in
-    some_kept (hold_by (changes_of ps) page slot) (kind_of q.change.change)
-    (sym (ap (λ b. cond b with_it (hold_by (changes_of ps) page slot))
-    (and_from (eqb page page) (eqb slot slot) (eq-eqb page page refl) (eq-eqb slot slot refl)))
-    ∙ sym (before-push before seat ps q held page slot) ∙ none)
+    let h = hold_by (changes_of ps) page slot in
+    let was : q.before ≡ h = (stacked-pop [] ps q held.stacked).1 in
+    let now : hold_with h (kind_of q.change.change) ≡ hold_at before page slot seat =
+    sym (before-push before seat ps q held page slot
+    ∙ ap (λ b. cond b (hold_with h (kind_of q.change.change)) h)
+    (and_from (eqb page page) (eqb slot slot) (eq-eqb page page refl) (eq-eqb slot slot refl))) in
+    subst (λ x. IsWeaker x (hold_at before page slot seat)) (sym was)
+    (subst (IsWeaker h) now (weaker-with h (kind_of q.change.change) (sets_of (changes_of ps) page slot)))

@@ -1,5 +1,5 @@
 -- Open transactions in the order of their numbers: what a change of one leaves of the others.
-use Rattle.std.proofs.Common.{◌≡◌, ◌≢◌, ◌∙◌, ◌<◌, ◌++◌, ◌∷◌, [], ℕ, zero, suc, Bool, true, false, not, List, Some, map, length, get_or, set, cond, eqb, refl, sym, ap, subst, arith}
+use Rattle.std.proofs.Common.{◌≡◌, ◌≢◌, ◌∙◌, ◌<◌, ◌++◌, ◌∷◌, ◌⊎◌, [], inl, inr, ℕ, zero, suc, Bool, true, false, not, List, Some, map, length, get_or, set, cond, eqb, refl, sym, ap, subst, arith}
 use Rattle.std.proofs.lemmas.Bool.{eq-eqb, eqb-true, ne_eqb}
 use Rattle.std.proofs.lemmas.List.{get_or-map, map-set, set-get_or}
 use Rattle.std.specs.List.{AllByRecursion, filter, find, remove}
@@ -55,6 +55,24 @@ keys-set xs i d e l t s =
     ∙ ap (λ (n : ℕ). let p : ℕ × ℕ = ((get_or xs i d).txn, n) in p) s in
     map-set key_of xs i e ∙ ap (λ k. set (map key_of xs) i k) (same ∙ sym (get_or-map key_of xs i d (0, 0) l))
     ∙ set-get_or (map key_of xs) i (0, 0)
+
+-- two places with one number or one seat are the same
+pub one-of : (xs : List OpenEntry) (i j : ℕ) (d : OpenEntry) → AreRanked (map key_of xs) → i < length xs
+    → j < length xs
+    → ((get_or xs i d).txn ≡ (get_or xs j d).txn) ⊎ ((get_or xs i d).seat ≡ (get_or xs j d).seat) → i ≡ j
+one-of [] i j d r li lj same = absurd (omega arith)
+one-of (x ∷ xs) zero zero d r li lj same = refl
+one-of (x ∷ xs) zero (suc j) d r li lj (inl same) =
+    let after = all-at (λ k. (x.txn < k.0) × (k.1 ≢ x.seat)) xs j d r.0 (omega arith) in
+    let below : x.txn < x.txn = subst (λ n. x.txn < n) (sym same) after.0 in absurd (omega arith)
+one-of (x ∷ xs) zero (suc j) d r li lj (inr same) =
+    absurd ((all-at (λ k. (x.txn < k.0) × (k.1 ≢ x.seat)) xs j d r.0 (omega arith)).1 (sym same))
+one-of (x ∷ xs) (suc i) zero d r li lj (inl same) =
+    let after = all-at (λ k. (x.txn < k.0) × (k.1 ≢ x.seat)) xs i d r.0 (omega arith) in
+    let below : x.txn < x.txn = subst (λ n. x.txn < n) same after.0 in absurd (omega arith)
+one-of (x ∷ xs) (suc i) zero d r li lj (inr same) =
+    absurd ((all-at (λ k. (x.txn < k.0) × (k.1 ≢ x.seat)) xs i d r.0 (omega arith)).1 same)
+one-of (x ∷ xs) (suc i) (suc j) d r li lj same = ap suc (one-of xs i j d r.1 (omega arith) (omega arith) same)
 
 -- ---- what a contract sees of them
 

@@ -1,14 +1,11 @@
 -- The table of open transactions: what each change keeps.
 use Rattle.std.proofs.Common.{zero, suc, ◌≡◌, ◌≢◌, ◌∙◌, ◌<◌, ◌≤◌, ◌+◌, ◌++◌, ◌∷◌, [], ℕ, Bool, true, false, ◌&&◌, not, List, Option, Some, None, map, length, get_or, set, drop, take, cond, eqb, refl, sym, ap, subst, ⊎_elim, arith}
-use Rattle.std.proofs.lemmas.Bool.{cases_eq, eq-eqb, eqb-true, false≢true, ltb-false, ltb-true, ne_eqb, or_parts}
+use Rattle.std.proofs.lemmas.Bool.{cases_eq, eq-eqb, false≢true, ne_eqb, or_parts}
 use Rattle.std.proofs.lemmas.List.{get_or-map, get_or-set_same, length-set, map-append, map-set, set-get_or}
 use Rattle.std.proofs.lemmas.List.Elements.{All-nil, All-append, All-drop, All-push, All-set, All-take}
-use Rattle.std.proofs.lemmas.List.Folds.{find_at}
-use Rattle.std.proofs.lemmas.List.Quantifiers.{position-Some}
-use Rattle.std.proofs.lemmas.Option.{slice_get-get_or, slice_get_past}
-use Rattle.std.specs.List.{AllByRecursion, filter, find, list_any, position, position_or_len, remove, slice_get}
+use Rattle.std.specs.List.{AllByRecursion, filter, find, list_any, remove}
 use Rattle.std.specs.Option.{IsSome, MatchOption, option_map}
-use lib.Dec.{leb, ltb}
+use lib.Dec.{leb}
 use Rattle.page_core.specs.declared.change.ChangeKind.{ChangeKind}
 use Rattle.page_core.specs.declared.change.ChangeKind.TheVariants as kinds
 use Rattle.log_history.specs.declared.claims.Claim.{Claim}
@@ -16,10 +13,11 @@ use Rattle.log_history.specs.declared.claims.Claims.{Claims}
 use Rattle.log_history.specs.declared.claims.Hold.{Hold}
 use Rattle.log_history.specs.declared.open_entry.OpenEntry.{OpenEntry}
 use Rattle.log_history.specs.declared.seat_set.TheConstants.{SEATS}
-use Rattle.log_history.specs.Claims.{claim_at, has_seat, hold_at, hold_in, no_claim, seats_against}
+use Rattle.log_history.specs.Claims.{claim_at, hold_at, hold_in, no_claim, seats_against}
+use Rattle.log_history.specs.SeatSet.{has_seat}
 use Rattle.log_history.specs.OpenEntry.{AreStacked, IsHeld, KeepsSeat, changes_of, entry_view, hold_among, hold_by}
-use Rattle.log_history.specs.OpenTransactions.{AreRanked, IsSound, Tracks, key_of}
-use Rattle.log_history.specs.Table.{Entry, Table, entry_in, holder_in}
+use Rattle.log_history.specs.OpenTransactions.{AreRanked, IsSoundEntry, Tracks, key_of}
+use Rattle.log_history.specs.Table.{Entry, holder_in}
 use Rattle.log_history.specs.Transactions.{keeps_out}
 use Rattle.log_records.specs.Least.{least}
 use Rattle.log_history.specs.TxnState.{next_in}
@@ -45,7 +43,7 @@ tracks-set {begun} {before} {xs} after i d e t l k =
     record {
       ranked = subst AreRanked (sym keys) t.ranked;
       reached = subst (λ ks. AllByRecursion (λ j. j.0 ≤ begun) ks) (sym keys) t.reached;
-      sound = All-set IsSound xs i e (subst (λ n. n < SEATS) (sym k.seat) (t.sound i d l).0, k.held.stacked) t.sound;
+      sound = All-set IsSoundEntry xs i e (subst (λ n. n < SEATS) (sym k.seat) (t.sound i d l).0, k.held.stacked) t.sound;
       held = λ page slot seat within. (⊎_elim
           (λ same. ap (λ n. hold_at after page slot n) (sym same) ∙ k.held.held page slot
           ∙ sym (ap (λ b. cond b (hold_by (changes_of e.pending.items) page slot) (hold_among xs page slot seat))
@@ -85,7 +83,7 @@ tracks-push {begun} {claims} {xs} e t next within free none =
       reached = subst (λ ks. AllByRecursion (λ j. j.0 ≤ begun + 1) ks) (sym keys)
           (all-push (λ j. j.0 ≤ begun + 1) (map key_of xs) (key_of e) (above begun (map key_of xs) t.reached)
           (let last : e.txn ≤ begun + 1 = omega arith in last));
-      sound = All-push IsSound xs e t.sound (within, subst (λ ps. AreStacked [] ps) (sym none) tt);
+      sound = All-push IsSoundEntry xs e t.sound (within, subst (λ ps. AreStacked [] ps) (sym none) tt);
       held = λ page slot seat inside. t.held page slot seat inside ∙ sym (hold-push xs e page slot seat none);
     }
 
@@ -97,8 +95,8 @@ pub tracks-remove : {begun : ℕ} {claims : Claims} {xs : List OpenEntry} (i : �
 tracks-remove {begun} {claims} {xs} i d t l none = record {
   ranked = ranked-remove xs i t.ranked l;
   reached = all-remove (λ j. j.0 ≤ begun) xs i t.reached l;
-  sound = All-append IsSound (take i xs) (drop (suc i) xs) (All-take IsSound i xs t.sound)
-      (All-drop IsSound (suc i) xs t.sound);
+  sound = All-append IsSoundEntry (take i xs) (drop (suc i) xs) (All-take IsSoundEntry i xs t.sound)
+      (All-drop IsSoundEntry (suc i) xs t.sound);
   held = λ page slot seat inside. t.held page slot seat inside
       ∙ sym (hold-remove xs i d page slot seat t.ranked l none);
 }
@@ -115,18 +113,14 @@ pushed : (b : Bool) (x : OpenEntry) (o : Option OpenEntry)
 pushed true x o = refl
 pushed false x o = refl
 
-find-view : (q : Entry → Bool) (xs : List OpenEntry)
+pub find-view : (q : Entry → Bool) (xs : List OpenEntry)
     → find q (map entry_view xs) ≡ option_map entry_view (find (λ e. q (entry_view e)) xs)
 find-view q [] = refl
 find-view q (x ∷ xs) =
     ap (λ o. cond (q (entry_view x)) (Some (entry_view x)) o) (find-view q xs)
     ∙ pushed (q (entry_view x)) x (find (λ e. q (entry_view e)) xs)
 
-some-place : (b : Bool) (n i : ℕ) → cond b (Some n) None ≡ Some i → (b ≡ true) × (n ≡ i)
-some-place true n i e = (refl, cc)
-some-place false n i e = cc
-
-no-place : (b : Bool) (n : ℕ) → cond b (Some n) None ≡ None → b ≡ false
+pub no-place : (b : Bool) (n : ℕ) → cond b (Some n) None ≡ None → b ≡ false
 no-place true n e = cc
 no-place false n e = refl
 
@@ -137,52 +131,9 @@ pub record IsAt (xs : List OpenEntry) (i t : ℕ) (x : OpenEntry) : Type 0 where
   pub txn : x.txn ≡ t
   pub found : find (λ v. eqb v.txn t) (map entry_view xs) ≡ Some (entry_view x)
 
-pub found-first : (p : OpenEntry → Bool) (xs : List OpenEntry) (i : ℕ) (d : OpenEntry) → Some i ≡ position p xs
-    → (i < length xs) × (find p xs ≡ Some (get_or xs i d))
-found-first p xs i d e =
-    let n = position_or_len p xs in
-    let parts = some-place (ltb n (length xs)) n i (sym e) in
-    let within : n < length xs = ltb-true n (length xs) parts.0 in
-    let here : i < length xs = subst (λ m. m < length xs) parts.1 within in
-    (here, find_at p xs ∙ ap (slice_get xs) parts.1 ∙ slice_get-get_or xs i d here)
-
-pub found-none : (p : OpenEntry → Bool) (xs : List OpenEntry) → None ≡ position p xs → find p xs ≡ None
-found-none p xs e =
-    let n = position_or_len p xs in
-    let past : length xs ≤ n = ltb-false n (length xs) (no-place (ltb n (length xs)) n (sym e)) in
-    find_at p xs ∙ slice_get_past xs n past
-
-pub placed : (t : ℕ) (xs ys : List OpenEntry) (i : ℕ) (x : OpenEntry) → ys ≡ xs
-    → Some i ≡ position (λ e. eqb e.txn t) ys → x ≡ get_or xs i x → IsAt xs i t x
-placed t xs ys i x same e there =
-    let at : Some i ≡ position (λ e. eqb e.txn t) xs = e ∙ ap (position (λ e. eqb e.txn t)) same in
-    let parts = position-Some (λ e. eqb e.txn t) xs i x (sym at) in
-    let says = found-first (λ e. eqb e.txn t) xs i x at in
-    record {
-      within = parts.0;
-      there = sym there;
-      txn = eqb-true x.txn t (ap (λ (e : OpenEntry). eqb e.txn t) there ∙ parts.1);
-      found = find-view (λ v. eqb v.txn t) xs ∙ ap (option_map entry_view) says.1
-          ∙ ap (λ e. Some (entry_view e)) (sym there);
-    }
-
-pub missing : (q : Entry → Bool) (xs ys : List OpenEntry) → ys ≡ xs → None ≡ position (λ e. q (entry_view e)) ys
-    → find q (map entry_view xs) ≡ None
-missing q xs ys same e =
-    find-view q xs ∙ ap (option_map entry_view)
-    (found-none (λ e. q (entry_view e)) xs (e ∙ ap (position (λ e. q (entry_view e))) same))
-
-is-there : {X : Type 0} (o : Option X) → IsSome o → o ≡ None → ⊥
+pub is-there : {X : Type 0} (o : Option X) → IsSome o → o ≡ None → ⊥
 is-there (Some x) s e = cc
 is-there None s e = false≢true s
-
--- an open transaction has a place
-pub never : (begun t : ℕ) (xs ys : List OpenEntry) (table : Table)
-    → (record { begun = begun; entries = map entry_view xs }) ≡ table
-    → IsSome (entry_in table t) → ys ≡ xs → None ≡ position (λ e. eqb e.txn t) ys → ⊥
-never begun t xs ys table is there same e =
-    is-there (entry_in table t) there (ap (λ (v : Table). entry_in v t) (sym is)
-    ∙ missing (λ v. eqb v.txn t) xs ys same e)
 
 -- ---- a change of the entry at a place
 
@@ -190,9 +141,6 @@ module _ {begun i t : ℕ} {xs : List OpenEntry} {x : OpenEntry} {before : Claim
     (tracks : Tracks begun before xs) where
   pub held-at : IsHeld before x.seat x.pending.items
   held-at = subst (λ (e : OpenEntry). IsHeld before e.seat e.pending.items) at.there (tracks-at i x tracks at.within)
-
-  pub seat-at : x.seat < SEATS
-  seat-at = subst (λ (e : OpenEntry). e.seat < SEATS) at.there (tracks.sound i x at.within).0
 
   pub tracks-put : (after : Claims) (e : OpenEntry) → KeepsSeat x e before after → Tracks begun after (set xs i e)
   tracks-put after e k = tracks-set after i x e tracks at.within
@@ -210,17 +158,6 @@ module _ {begun i t : ℕ} {xs : List OpenEntry} {x : OpenEntry} {before : Claim
       ∙ ap (λ v. set (map entry_view xs) i v)
       (is ∙ ap entry_view (sym at.there) ∙ sym (get_or-map entry_view xs i x (entry_view x) at.within))
       ∙ set-get_or (map entry_view xs) i (entry_view x)
-
-  -- an entry whose pending changes stay
-  pub tracks-alone : (e : OpenEntry) → e.txn ≡ x.txn → e.seat ≡ x.seat → e.pending.items ≡ x.pending.items
-      → Tracks begun before (set xs i e)
-  tracks-alone e txn seat items = tracks-put before e (record {
-    txn = txn;
-    seat = seat;
-    held = subst (λ ps. IsHeld before e.seat ps) (sym items)
-        (subst (λ n. IsHeld before n x.pending.items) (sym seat) held-at);
-    others = λ page slot other within ne. refl;
-  })
 
   -- an entry that goes
   pub tracks-drop : (after : Claims) (e : OpenEntry) → KeepsSeat x e before after → e.pending.items ≡ []
@@ -262,7 +199,7 @@ pub tracks-nil : (claims : Claims) → ((page slot : ℕ) → claim_at claims pa
 tracks-nil claims none = record {
   ranked = tt;
   reached = tt;
-  sound = All-nil IsSound;
+  sound = All-nil IsSoundEntry;
   held = λ page slot seat within. ap (λ k. hold_in k seat) (none page slot) ∙ hold_in-no_claim seat;
 }
 

@@ -29,11 +29,6 @@ pub record CheckpointTable : Type 0 where
   pub changed : List ℕ
   pub current : Option Current
 
--- the table, and how many records more there is room for
-pub record WithRoom : Type 0 where
-  pub table : CheckpointTable
-  pub room : ℕ
-
 -- ---- the table of a log
 
 abbrev pub page_of : Record → ℕ

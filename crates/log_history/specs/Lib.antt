@@ -1,3 +1,4 @@
+pub mod Adders
 pub mod Checked
 pub mod Checkpoint
 pub mod CheckpointTable
@@ -6,8 +7,12 @@ pub mod Committed
 pub mod Growth
 pub mod History
 pub mod Linked
+pub mod Mark
+pub mod Marks
 pub mod OpenEntry
+pub mod OpenList
 pub mod OpenTransactions
+pub mod SeatSet
 pub mod Table
 pub mod Transactions
 pub mod TxnState

@@ -1,14 +1,16 @@
 -- An open transaction as the table stores it.
-use Rattle.std.specs.Prelude.{ℕ, ◌≡◌, ◌≢◌, ◌<◌, ◌==◌, List, [], ◌∷◌, ◌++◌, map, if◌then◌else◌}
+use Rattle.std.specs.Prelude.{ℕ, ◌≡◌, ◌≢◌, ◌<◌, ◌==◌, Bool, true, false, List, [], ◌∷◌, ◌++◌, map}
+use Rattle.std.specs.Prelude.{if◌then◌else◌}
 use Rattle.std.specs.List.{list_any}
 use Rattle.page_core.specs.declared.change.ChangeKind.TheVariants as kind
+use Rattle.page_core.specs.Change.{kind_of}
 use Rattle.log_history.specs.declared.claims.Claims.{Claims}
 use Rattle.log_history.specs.declared.claims.Hold.{Hold}
 use Rattle.log_history.specs.declared.open_entry.OpenEntry.{OpenEntry}
 use Rattle.log_history.specs.declared.open_entry.Pending.{Pending}
 use Rattle.log_history.specs.declared.pending_change.PendingChange.{PendingChange}
 use Rattle.log_history.specs.declared.seat_set.TheConstants.{SEATS}
-use Rattle.log_history.specs.Claims.{hold_at, no_hold}
+use Rattle.log_history.specs.Claims.{IsFreeFor, IsHeldByOther, claim_at, hold_at, no_hold}
 use Rattle.log_history.specs.Table.{Entry}
 use Rattle.log_history.specs.Transactions.{keeps_out}
 
@@ -24,6 +26,16 @@ entry_view e = record {
   aborted = e.aborted;
   pending = changes_of e.pending.items;
 }
+
+-- an entry with only its Begin
+pub record IsBegun (e : OpenEntry) (txn seat lsn : ℕ) : Type 0 where
+  pub txn_is : e.txn ≡ txn
+  pub seat_is : e.seat ≡ seat
+  pub first_is : e.first ≡ lsn
+  pub last_is : e.last ≡ lsn
+  pub active : e.rolling ≡ false
+  pub not_aborted : e.aborted ≡ false
+  pub none_pending : e.pending.items ≡ []
 
 -- what these pending changes keep out of a slot
 unfoldable pub hold_by : List PendingChange → ℕ → ℕ → Hold
@@ -48,6 +60,26 @@ abbrev pub KeepsOtherSeats : ℕ → Claims → Claims → Type 0
 KeepsOtherSeats seat before after =
     (page slot other : ℕ) → other < SEATS → other ≢ seat
     → hold_at after page slot other ≡ hold_at before page slot other
+
+-- a change becomes the last pending one, unless another transaction keeps it out
+abbrev pub Pushes : Claims → List Pending → List Pending → ℕ → PendingChange → Bool → Type 0
+Pushes before old new seat c true =
+    IsFreeFor (claim_at before c.page c.slot) (kind_of c.change) seat
+    × (changes_of new ≡ changes_of old ++ c ∷ [])
+Pushes before old new seat c false =
+    IsHeldByOther (claim_at before c.page c.slot) (kind_of c.change) seat × (new ≡ old)
+
+-- the same of an entry
+abbrev pub Updates : Claims → OpenEntry → OpenEntry → PendingChange → Bool → Type 0
+Updates before old new c true =
+    IsFreeFor (claim_at before c.page c.slot) (kind_of c.change) old.seat
+    × (entry_view new ≡ record (entry_view old) {
+      last = c.lsn;
+      pending = changes_of old.pending.items ++ c ∷ [];
+    })
+Updates before old new c false =
+    IsHeldByOther (claim_at before c.page c.slot) (kind_of c.change) old.seat
+    × (entry_view new ≡ entry_view old)
 
 -- an entry changes, and the claims of its seat with it
 pub record KeepsSeat (old new : OpenEntry) (before after : Claims) : Type 0 where

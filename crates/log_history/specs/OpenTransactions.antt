@@ -1,11 +1,15 @@
 -- The open transactions as the table stores them.
-use Rattle.std.specs.Prelude.{ℕ, ◌≡◌, ◌≢◌, ◌<◌, ◌≤◌, List, [], ◌∷◌, map}
+use Rattle.std.specs.Prelude.{ℕ, ◌≡◌, ◌≢◌, ◌<◌, ◌≤◌, Bool, true, false, List, [], ◌∷◌, map}
 use Rattle.std.specs.List.{All, AllByRecursion}
 use Rattle.log_history.specs.declared.claims.Claims.{Claims}
 use Rattle.log_history.specs.declared.open_entry.OpenEntry.{OpenEntry}
+use Rattle.log_history.specs.declared.open_list.OpenList.{OpenList}
+use Rattle.log_records.specs.declared.record.Record.{Record}
 use Rattle.log_history.specs.declared.seat_set.TheConstants.{SEATS}
 use Rattle.log_history.specs.Claims.{hold_at}
 use Rattle.log_history.specs.OpenEntry.{AreStacked, hold_among}
+use Rattle.log_history.specs.OpenList.{IsSound, entries_in}
+use Rattle.log_history.specs.Table.{MayNote, Table, noted}
 
 -- the number of a transaction, and its seat
 abbrev pub key_of : OpenEntry → ℕ × ℕ
@@ -16,13 +20,23 @@ abbrev pub AreRanked : List (ℕ × ℕ) → Type 0
 AreRanked [] = Unit {0}
 AreRanked (k ∷ ks) = AllByRecursion (λ j. (k.0 < j.0) × (j.1 ≢ k.1)) ks × AreRanked ks
 
-abbrev pub IsSound : OpenEntry → Type 0
-IsSound e = (e.seat < SEATS) × AreStacked [] e.pending.items
+abbrev pub IsSoundEntry : OpenEntry → Type 0
+IsSoundEntry e = (e.seat < SEATS) × AreStacked [] e.pending.items
 
 -- the entries are in order, and the claims say what they keep out
 pub record Tracks (begun : ℕ) (claims : Claims) (entries : List OpenEntry) : Type 0 where
   pub ranked : AreRanked (map key_of entries)
   pub reached : AllByRecursion (λ k. k.0 ≤ begun) (map key_of entries)
-  pub sound : All IsSound entries
+  pub sound : All IsSoundEntry entries
   pub held : (page slot seat : ℕ) → seat < SEATS
       → hold_at claims page slot seat ≡ hold_among entries page slot seat
+
+-- the table stores them on seats
+pub record IsStored (begun : ℕ) (claims : Claims) (list : OpenList) : Type 0 where
+  pub seated : IsSound list
+  pub tracks : Tracks begun claims (entries_in list)
+
+-- a record is noted if it may come next, and else nothing changes
+abbrev pub NotesIfMay : Table → Table → Record → Bool → Type 0
+NotesIfMay old new r true = MayNote old r × (new ≡ noted old r)
+NotesIfMay old new r false = ¬ MayNote old r × (new ≡ old)

@@ -1,8 +1,7 @@
 //! The checkpoints of a log that is read: what decides whether a checkpoint's record may follow.
 
 ghost use Rattle.std.specs.Prelude.{◌≡◌, ◌↔◌, ◌<◌, ◌/◌, ◌-◌, [], min, slice_get, Some, None};
-ghost use Rattle.std.specs.Prelude.{◌++◌, ◌∷◌, IfSome, IsSomeAnd, IsTrue, OnOk, vec_len};
-ghost use Rattle.std.specs.Vec.{vec_capacity};
+ghost use Rattle.std.specs.Prelude.{IfSome, IsSomeAnd, IsTrue, OnErr, OnOk};
 ghost use Rattle.std.specs.List.{AllByRecursion, fold};
 ghost use Rattle.log_history.specs.CheckpointTable.{AreChanges, last_page_of, page_of};
 ghost use Rattle.log_records.specs.DirtyPage.{entries_of};
@@ -35,25 +34,20 @@ pub struct Checkpoints {
 }
 
 impl Model for Checkpoints {
-    ghost use Rattle.std.specs.Prelude.{◌-◌, min, vec_len};
-    ghost use Rattle.std.specs.Option.{option_map};
-    ghost use Rattle.std.specs.Vec.{vec_capacity};
-    ghost use Rattle.log_history.specs.CheckpointTable.{WithRoom};
+    ghost use Rattle.log_history.specs.CheckpointTable.{CheckpointTable};
 
-    ghost Value = { WithRoom };
+    ghost Value = { CheckpointTable };
+
+    ghost use Rattle.std.specs.Option.{option_map};
 
     ghost view = { λ t. record {
-      table = record {
-        changed = t.changed.items;
-        current = option_map (λ c. record {
-          begin = c.begin;
-          last_page = c.last_page;
-          redo = c.redo;
-          txns = t.txns.items;
-        }) t.current;
-      };
-      room = min (vec_capacity t.changed - vec_len t.changed)
-          (vec_capacity t.txns - vec_len t.txns);
+      changed = t.changed.items;
+      current = option_map (λ c. record {
+        begin = c.begin;
+        last_page = c.last_page;
+        redo = c.redo;
+        txns = t.txns.items;
+      }) t.current;
     } };
 }
 
@@ -61,11 +55,13 @@ impl Checkpoints {
     ghost use Rattle.log_history.specs.CheckpointTable.{MayAddPages, MayAddTxn};
     ghost use Rattle.log_history.specs.CheckpointTable.{MayClose, MayNoteCheckpoint};
     ghost use Rattle.log_history.specs.CheckpointTable.{add_pages, noted_checkpoint};
+    ghost use Rattle.log_history.specs.Transactions.{without_last};
+    ghost use Rattle.log_records.specs.Record.{IsOfTransaction};
     ghost use Rattle.std.specs.Option.{option_map};
 
     /// Before the first record: no checkpoint is open.
     pub fn new(alloc: Global) -> Checkpoints
-        ensures { result.table ≡ record { changed = []; current = None } }
+        ensures { result ≡ record { changed = []; current = None } }
     {
         Checkpoints {
             changed: Vec::new(alloc),
@@ -76,7 +72,7 @@ impl Checkpoints {
 
     /// The record may come next, as far as the checkpoints say.
     pub fn may_note(&self, txns: &OpenTransactions, next: &Record) -> bool
-        ensures { IsTrue result ↔ MayNoteCheckpoint txns.now self.now.table next.now }
+        ensures { IsTrue result ↔ MayNoteCheckpoint txns.now self.now next.now }
     {
         match *next {
             Record::BeginChkpt { .. } => self.current.is_none(),
@@ -90,7 +86,7 @@ impl Checkpoints {
     }
 
     fn may_add_pages(&self, begin: Lsn, pages: &DirtyPages) -> bool
-        ensures { IsTrue result ↔ IsSomeAnd self.now.table.current (MayAddPages begin pages.now) }
+        ensures { IsTrue result ↔ IsSomeAnd self.now.current (MayAddPages begin pages.now) }
     {
         match self.current {
             Some(open) => {
@@ -101,7 +97,7 @@ impl Checkpoints {
     }
 
     fn may_add_txn(&self, begin: Lsn, txn: TxnNo) -> bool
-        ensures { IsTrue result ↔ IsSomeAnd self.now.table.current (MayAddTxn begin txn) }
+        ensures { IsTrue result ↔ IsSomeAnd self.now.current (MayAddTxn begin txn) }
     {
         match self.current {
             Some(open) => open.begin == begin.0
@@ -114,7 +110,7 @@ impl Checkpoints {
     }
 
     fn may_close(&self, txns: &OpenTransactions, begin: Lsn, redo: Lsn) -> bool
-        ensures { IsTrue result ↔ IsSomeAnd self.now.table.current (MayClose txns.now begin redo) }
+        ensures { IsTrue result ↔ IsSomeAnd self.now.current (MayClose txns.now begin redo) }
     {
         match self.current {
             Some(open) => open.begin == begin.0
@@ -126,8 +122,8 @@ impl Checkpoints {
 
     /// The open checkpoint has these pages too.
     fn add_pages(&mut self, pages: &DirtyPages)
-        ensures { self.new.table ≡ record self.old.table {
-          current = option_map (add_pages pages.now) self.old.table.current;
+        ensures { self.new ≡ record self.old {
+          current = option_map (add_pages pages.now) self.old.current;
         } }
     {
         if let Some(open) = self.current {
@@ -135,21 +131,14 @@ impl Checkpoints {
         }
     }
 
-    /// Makes room for one record more. An `Err` comes where it is refused.
-    pub fn make_room(&mut self) -> Result<(), AllocError>
-        ensures room { OnOk result (0 < self.new.room) }
-        ensures same { self.new.table ≡ self.old.table }
+    /// Takes the record as the next one. An `Err` comes where memory is refused, and changes
+    /// nothing.
+    pub fn note(&mut self, next: &Record) -> Result<(), AllocError>
+        ensures ok { OnOk result (self.new ≡ noted_checkpoint self.old next.now) }
+        ensures err { OnErr result (self.new ≡ self.old) }
     {
-        self.changed.reserve(1)?;
-        self.txns.reserve(1)
-    }
-
-    /// Takes the record as the next one. It takes no memory, since `make_room` has made its room.
-    pub fn note(&mut self, next: &Record)
-        requires { 0 < self.old.room }
-        ensures { self.new.table ≡ noted_checkpoint self.old.table next.now }
-    {
-        push_within(&mut self.changed, page_of(next));
+        self.txns.reserve(1)?;
+        self.changed.push(page_of(next))?;
         match *next {
             Record::BeginChkpt { lsn } => {
                 self.txns.clear();
@@ -160,20 +149,33 @@ impl Checkpoints {
                 });
             }
             Record::ChkptPages { pages, .. } => self.add_pages(&pages),
-            Record::ChkptTxns { txn, .. } => push_within(&mut self.txns, txn.0),
+            Record::ChkptTxns { txn, .. } => {
+                if self.txns.push(txn.0).is_err() {
+                    unreachable!();
+                }
+            }
             Record::EndChkpt { .. } => self.current = None,
             _ => {}
         }
+        Ok(())
     }
-}
 
-/// Puts a number behind the others, where there is room for it.
-fn push_within(numbers: &mut Vec<u32>, number: u32)
-    requires { vec_len numbers.old < vec_capacity numbers.old }
-    ensures { numbers.new.items ≡ numbers.old.items ++ number ∷ [] }
-{
-    if numbers.push(number).is_err() {
-        unreachable!();
+    /// Takes a transaction's record as the next one. An `Err` comes where memory is refused, and
+    /// changes nothing.
+    pub fn note_page(&mut self, next: &Record) -> Result<(), AllocError>
+        requires { IsOfTransaction next.now }
+        ensures ok { OnOk result (self.new ≡ noted_checkpoint self.old next.now) }
+        ensures err { OnErr result (self.new ≡ self.old) }
+    {
+        self.changed.push(page_of(next))?;
+        Ok(())
+    }
+
+    /// Takes back the last record that was noted, which is a transaction's.
+    pub fn take_back(&mut self)
+        ensures { self.new ≡ record self.old { changed = without_last self.old.changed } }
+    {
+        let _ = self.changed.pop();
     }
 }
 

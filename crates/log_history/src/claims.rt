@@ -1,14 +1,21 @@
 //! Which open transactions keep others from a slot, by their seats.
 
-ghost use Rattle.std.specs.Prelude.{ℕ, ◌≡◌, ◌<◌, ◌==◌, ◌&&◌, ◌↔◌, IsTrue, OnOk, OnErr};
+ghost use Rattle.std.specs.Prelude.{ℕ, ◌≡◌, ◌≢◌, ◌<◌, ◌==◌, IfOk, IsTrue, OnErr};
 ghost use Rattle.std.specs.Prelude.{if◌then◌else◌};
-ghost use Rattle.log_history.specs.Claims.{claim_at, hold_at, hold_in, hold_with, no_claim};
-ghost use Rattle.log_history.specs.Claims.{no_hold, seats_against};
+ghost use Rattle.log_history.specs.declared.seat_set.SeatSet.{SeatSet};
+ghost use Rattle.log_history.specs.Claims.{IsWeaker, KeepsHolds, SetsHold, Takes, claim_at};
+ghost use Rattle.log_history.specs.Claims.{claim_of};
+ghost use Rattle.log_history.specs.Claims.{hold_at, hold_in, hold_with, no_claim, no_hold};
+ghost use Rattle.log_history.specs.Claims.{seats_against};
+ghost use Rattle.log_history.specs.Mark.{HasSeat};
+ghost use Rattle.log_history.specs.Marks.{holder_at};
 
+use crate::adders::Adders;
+use crate::mark::Holder;
+use crate::marks::Marks;
 use crate::seat_set::{SEATS, SeatSet};
 use page_core::{ChangeKind, PageNo, SlotNo};
 use std::alloc::{AllocError, Global};
-use std::collections::BTreeMap;
 
 /// From which changes of a slot a transaction keeps the others.
 #[derive(Clone, Copy, Debug, PartialEq, Eq)]
@@ -28,19 +35,14 @@ impl Hold {
         }
     }
 
-    /// With one more pending change of this kind on the slot.
-    pub fn with(self, kind: ChangeKind) -> Hold
-        ensures { result ≡ hold_with self kind }
+    /// A transaction with pending changes of this kind on the slot; where it is `Set`, with Adds
+    /// beside, too.
+    pub fn by(kind: ChangeKind) -> Hold
+        ensures { result ≡ hold_with no_hold kind }
     {
-        match kind {
-            ChangeKind::Set => Hold {
-                against_sets: true,
-                against_adds: true,
-            },
-            ChangeKind::Add => Hold {
-                against_sets: true,
-                against_adds: self.against_adds,
-            },
+        Hold {
+            against_sets: true,
+            against_adds: kind == ChangeKind::Set,
         }
     }
 }
@@ -53,21 +55,33 @@ pub struct Claim {
 }
 
 impl Claim {
-    /// No transaction keeps another from the slot.
-    pub fn new() -> Claim
-        ensures { result ≡ no_claim }
+    /// What a holder keeps out, where these are the seats of the slot's adders.
+    fn of(holder: Holder, adders: SeatSet) -> Claim
+        requires { HasSeat holder }
+        ensures { result ≡ claim_of holder adders }
     {
-        Claim {
-            against_sets: SeatSet::new(),
-            against_adds: SeatSet::new(),
+        let nobody = SeatSet::new();
+        match holder {
+            Holder::Nobody => Claim {
+                against_sets: nobody,
+                against_adds: nobody,
+            },
+            Holder::One { seat, kind } => {
+                let one = SeatSet::only(seat);
+                let against_adds = match kind {
+                    ChangeKind::Add => nobody,
+                    ChangeKind::Set => one,
+                };
+                Claim {
+                    against_sets: one,
+                    against_adds,
+                }
+            }
+            Holder::Adders => Claim {
+                against_sets: adders,
+                against_adds: nobody,
+            },
         }
-    }
-
-    /// No transaction keeps another from the slot.
-    pub fn is_empty(self) -> bool
-        ensures { IsTrue result ↔ (self ≡ no_claim) }
-    {
-        self.against_sets.is_empty() && self.against_adds.is_empty()
     }
 
     /// The seats that keep changes of this kind out.
@@ -79,36 +93,15 @@ impl Claim {
             ChangeKind::Add => self.against_adds,
         }
     }
-
-    /// What the transaction of this seat keeps out.
-    pub fn hold(self, seat: u8) -> Hold
-        requires { seat < SEATS }
-        ensures { result ≡ hold_in self seat }
-    {
-        Hold {
-            against_sets: self.against_sets.contains(seat),
-            against_adds: self.against_adds.contains(seat),
-        }
-    }
-
-    /// The claim where the transaction of this seat keeps this out.
-    pub fn with(self, seat: u8, hold: Hold) -> Claim
-        requires { seat < SEATS }
-        ensures { (other : ℕ) → other < SEATS
-            → hold_in result other ≡ (if other == seat then hold else hold_in self other) }
-    {
-        Claim {
-            against_sets: self.against_sets.with(seat, hold.against_sets),
-            against_adds: self.against_adds.with(seat, hold.against_adds),
-        }
-    }
 }
 
-/// The claims on all slots. Slots that nobody holds take no room. A look-up or a change goes down
-/// a balanced tree, so no order of records makes it slow.
+/// The claims on all slots. Nearly always the mark of a slot says all: nobody holds it, or one
+/// transaction. Only where several add to a slot, their seats are kept beside it. Either way it is
+/// found by its place, so no log makes a look-up longer.
 #[derive(Drop)]
 pub struct Claims {
-    by_slot: BTreeMap<(u32, u16), Claim>,
+    marks: Marks,
+    adders: Adders,
 }
 
 impl Claims {
@@ -117,7 +110,8 @@ impl Claims {
         ensures { (page slot : ℕ) → claim_at result page slot ≡ no_claim }
     {
         Claims {
-            by_slot: BTreeMap::new(alloc),
+            marks: Marks::new(alloc),
+            adders: Adders::new(alloc),
         }
     }
 
@@ -125,48 +119,185 @@ impl Claims {
     pub fn claim(&self, page: PageNo, slot: SlotNo) -> Claim
         ensures { result ≡ claim_at self.now page slot }
     {
-        match self.by_slot.get(&(page.0, slot.0)) {
-            Some(claim) => *claim,
-            None => Claim::new(),
-        }
+        Claim::of(self.marks.holder(page, slot), self.adders.seats(page, slot))
     }
 
-    /// Puts this claim on a slot. Only a slot with no claim before can run out of memory.
-    fn put(&mut self, page: PageNo, slot: SlotNo, claim: Claim) -> Result<(), AllocError>
-        ensures put { OnOk result ((p s : ℕ)
-            → claim_at self.new p s
-            ≡ (if page == p && slot == s then claim else claim_at self.old p s)) }
-        ensures new_slot { OnErr result (claim_at self.old page slot ≡ no_claim) }
-        ensures err { OnErr result ((p s : ℕ) → claim_at self.new p s ≡ claim_at self.old p s) }
-    {
-        let place = (page.0, slot.0);
-        if claim.is_empty() {
-            let _ = self.by_slot.remove(&place);
-            return Ok(());
-        }
-        self.by_slot.insert(place, claim)?;
-        Ok(())
+    /// Reaches for what a change of a slot looks at first, so that it comes from memory.
+    pub fn look(&self, page: PageNo, slot: SlotNo) -> u8 {
+        self.marks.look(page, slot)
     }
 
-    /// Says what the transaction of a seat keeps out of a slot whose claim is this. Only a
-    /// transaction that kept nothing out can run out of memory.
-    pub fn set_hold(
+    /// Takes a slot for one more pending change of the transaction of this seat, and answers what
+    /// the transaction kept out before; None where another one keeps the change out. Where there is
+    /// no memory for it, nothing changes; so it is on a slot that no page has.
+    pub fn take(
         &mut self,
         page: PageNo,
         slot: SlotNo,
-        claim: Claim,
         seat: u8,
-        hold: Hold,
-    ) -> Result<(), AllocError>
-        requires claim { claim ≡ claim_at self.old page slot }
-        requires seat { seat < SEATS }
-        ensures set { OnOk result ((p s other : ℕ) → other < SEATS
-            → hold_at self.new p s other ≡ (if (page == p && slot == s) && other == seat then hold
-            else hold_at self.old p s other)) }
-        ensures new_hold { OnErr result (hold_at self.old page slot seat ≡ no_hold) }
-        ensures err { OnErr result ((p s other : ℕ)
-            → hold_at self.new p s other ≡ hold_at self.old p s other) }
+        kind: ChangeKind,
+    ) -> Result<Option<Hold>, AllocError>
+        requires { seat < SEATS }
+        ensures ok { IfOk result (Takes self.old self.new page slot seat kind) }
+        ensures err { OnErr result (KeepsHolds self.old self.new) }
     {
-        self.put(page, slot, claim.with(seat, hold))
+        match self.marks.holder(page, slot) {
+            Holder::Nobody => {
+                self.marks.put(page, slot, Holder::One { seat, kind })?;
+                Ok(Some(Hold::new()))
+            }
+            Holder::One {
+                seat: holder,
+                kind: held,
+            } => {
+                if holder == seat {
+                    self.keep(page, slot, seat, held, kind)
+                } else {
+                    self.share(page, slot, seat, holder, held, kind)
+                }
+            }
+            Holder::Adders => self.join(page, slot, seat, kind),
+        }
+    }
+
+    /// Takes a slot that the transaction holds by itself.
+    fn keep(
+        &mut self,
+        page: PageNo,
+        slot: SlotNo,
+        seat: u8,
+        held: ChangeKind,
+        kind: ChangeKind,
+    ) -> Result<Option<Hold>, AllocError>
+        requires seat { seat < SEATS }
+        requires held { holder_at self.old.marks page slot ≡ Holder.One seat held }
+        ensures ok { IfOk result (Takes self.old self.new page slot seat kind) }
+        ensures err { OnErr result (KeepsHolds self.old self.new) }
+    {
+        let kind = stronger(held, kind);
+        self.marks.put(page, slot, Holder::One { seat, kind })?;
+        Ok(Some(Hold::by(held)))
+    }
+
+    /// Takes a slot that another transaction holds by itself: the two may only add to it.
+    fn share(
+        &mut self,
+        page: PageNo,
+        slot: SlotNo,
+        seat: u8,
+        holder: u8,
+        held: ChangeKind,
+        kind: ChangeKind,
+    ) -> Result<Option<Hold>, AllocError>
+        requires seat { seat < SEATS }
+        requires holder { holder < SEATS }
+        requires other { holder ≢ seat }
+        requires held { holder_at self.old.marks page slot ≡ Holder.One holder held }
+        ensures ok { IfOk result (Takes self.old self.new page slot seat kind) }
+        ensures err { OnErr result (KeepsHolds self.old self.new) }
+    {
+        match (held, kind) {
+            (ChangeKind::Add, ChangeKind::Add) => {
+                let both = SeatSet::only(holder).with(seat, true);
+                self.adders.put(page, slot, both)?;
+                self.marks.put(page, slot, Holder::Adders)?;
+                Ok(Some(Hold::new()))
+            }
+            _ => Ok(None),
+        }
+    }
+
+    /// Takes a slot that others may add to.
+    fn join(
+        &mut self,
+        page: PageNo,
+        slot: SlotNo,
+        seat: u8,
+        kind: ChangeKind,
+    ) -> Result<Option<Hold>, AllocError>
+        requires seat { seat < SEATS }
+        requires held { holder_at self.old.marks page slot ≡ Holder.Adders }
+        ensures ok { IfOk result (Takes self.old self.new page slot seat kind) }
+        ensures err { OnErr result (KeepsHolds self.old self.new) }
+    {
+        let adders = self.adders.seats(page, slot);
+        let before = Hold {
+            against_sets: adders.contains(seat),
+            against_adds: false,
+        };
+        match kind {
+            ChangeKind::Add => {
+                self.adders.put(page, slot, adders.with(seat, true))?;
+                Ok(Some(before))
+            }
+            ChangeKind::Set => {
+                if !adders.with(seat, false).is_empty() {
+                    return Ok(None);
+                }
+                self.marks.put(page, slot, Holder::One { seat, kind })?;
+                Ok(Some(before))
+            }
+        }
+    }
+
+    /// The transaction of this seat has one pending change less on a slot, and keeps out again what
+    /// it kept out before that change.
+    pub fn release(&mut self, page: PageNo, slot: SlotNo, seat: u8, before: Hold)
+        requires seat { seat < SEATS }
+        requires weaker { IsWeaker before (hold_at self.old page slot seat) }
+        ensures { SetsHold self.old self.new page slot seat before }
+    {
+        match self.marks.holder(page, slot) {
+            Holder::Adders => self.leave(page, slot, seat, before),
+            _ => {
+                let _ = self.marks.put(page, slot, holder_by(seat, before));
+            }
+        }
+    }
+
+    /// The same of a slot that others may add to.
+    fn leave(&mut self, page: PageNo, slot: SlotNo, seat: u8, before: Hold)
+        requires seat { seat < SEATS }
+        requires held { holder_at self.old.marks page slot ≡ Holder.Adders }
+        requires weaker { IsWeaker before (hold_at self.old page slot seat) }
+        ensures { SetsHold self.old self.new page slot seat before }
+    {
+        if !before.against_sets {
+            let adders = self.adders.seats(page, slot).with(seat, false);
+            let _ = self.adders.put(page, slot, adders);
+        }
+    }
+}
+
+/// What changes of these two kinds together come to.
+fn stronger(held: ChangeKind, kind: ChangeKind) -> ChangeKind
+    ensures { hold_with no_hold result ≡ hold_with (hold_with no_hold held) kind }
+{
+    match (held, kind) {
+        (ChangeKind::Add, ChangeKind::Add) => ChangeKind::Add,
+        _ => ChangeKind::Set,
+    }
+}
+
+/// Who holds a slot of which this transaction alone keeps something out, namely this.
+fn holder_by(seat: u8, hold: Hold) -> Holder
+    requires seat { seat < SEATS }
+    requires sets { IsTrue hold.against_adds → IsTrue hold.against_sets }
+    ensures seat { HasSeat result }
+    ensures hold { (seats : SeatSet) (other : ℕ) → other < SEATS
+        → hold_in (claim_of result seats) other ≡ (if other == seat then hold else no_hold) }
+{
+    if hold.against_adds {
+        Holder::One {
+            seat,
+            kind: ChangeKind::Set,
+        }
+    } else if hold.against_sets {
+        Holder::One {
+            seat,
+            kind: ChangeKind::Add,
+        }
+    } else {
+        Holder::Nobody
     }
 }

@@ -9,7 +9,7 @@ ghost use Rattle.log_history.specs.History.{NamesNumberOn};
 use crate::checkpoints::Checkpoints;
 use crate::open_transactions::OpenTransactions;
 use log_records::{Record, redo_on_its_page};
-use page_core::{Change, Page, formatted_pages};
+use page_core::{Change, Page, PageNo, SlotNo, formatted_pages};
 use std::alloc::{AllocError, Global};
 use std::marker::Model;
 
@@ -30,7 +30,7 @@ impl Model for History {
 
     ghost view = { λ history. record {
       table = history.txns;
-      checkpoints = history.checkpoints.table;
+      checkpoints = history.checkpoints;
       pages = history.pages.items;
     } };
 
@@ -41,7 +41,7 @@ impl History {
     ghost use Rattle.std.specs.Prelude.{◌≡◌, [], length, IfOk, IsTrue, OnErr};
     ghost use Rattle.log_history.specs.History.{IsMadeOf, MayComeNext, followed};
     ghost use Rattle.log_records.specs.Log.{IsWithin};
-    ghost use Rattle.log_records.specs.Record.{IsRecord};
+    ghost use Rattle.log_records.specs.Record.{IsOfCheckpoint, IsOfTransaction, IsRecord};
 
     /// What the empty log of so many pages makes: no transaction, and formatted pages. An `Err`
     /// comes where memory for the pages is refused.
@@ -62,6 +62,17 @@ impl History {
         &self.pages
     }
 
+    /// Reaches for what a change of a slot looks at, so that it comes from memory. For a slot that
+    /// is not there it does nothing. What it answers says nothing, but a compiler must keep the
+    /// look for it.
+    pub fn look(&self, page: PageNo, slot: SlotNo) -> u64 {
+        let seen = match self.pages.get(page.0 as usize) {
+            Some(page) => page.lsn.0 ^ *page.slots.get(slot.0 as usize).unwrap_or(&0),
+            None => 0,
+        };
+        seen ^ self.txns.look(page, slot) as u64
+    }
+
     /// Takes the next record if it may come next, and answers whether it may. Where it may not,
     /// nothing changes. An `Err` comes where room for the tables is refused, and changes nothing
     /// either.
@@ -74,15 +85,54 @@ impl History {
         ensures same { IfOk result (λ may. ¬ IsTrue may → self.new ≡ self.old) }
         ensures err { OnErr result (self.new ≡ self.old) }
     {
-        if !self.txns.may_note(next)
-            || !self.checkpoints.may_note(&self.txns, next)
-            || !names_number_on(&self.pages, next)
-        {
+        match *next {
+            Record::BeginChkpt { .. }
+            | Record::ChkptPages { .. }
+            | Record::ChkptTxns { .. }
+            | Record::EndChkpt { .. } => self.follow_checkpoint(next),
+            _ => self.follow_transaction(next),
+        }
+    }
+
+    /// The same of a checkpoint's record, which changes no page.
+    fn follow_checkpoint(&mut self, next: &Record) -> Result<bool, AllocError>
+        requires valid { IsRecord next.now }
+        requires kind { IsOfCheckpoint next.now }
+        ensures taken { IfOk result (λ may. IsTrue may
+            → MayComeNext self.old next.now × (self.new ≡ followed self.old next.now)) }
+        ensures refused { IfOk result (λ may. MayComeNext self.old next.now → IsTrue may) }
+        ensures same { IfOk result (λ may. ¬ IsTrue may → self.new ≡ self.old) }
+        ensures err { OnErr result (self.new ≡ self.old) }
+    {
+        if !self.txns.may_note(next) || !self.checkpoints.may_note(&self.txns, next) {
             return Ok(false);
         }
-        self.checkpoints.make_room()?;
-        self.txns.note(next)?;
-        self.checkpoints.note(next);
+        self.checkpoints.note(next)?;
+        Ok(true)
+    }
+
+    /// The same of a transaction's record.
+    fn follow_transaction(&mut self, next: &Record) -> Result<bool, AllocError>
+        requires valid { IsRecord next.now }
+        requires within { IsWithin (length self.old.pages) next.now }
+        requires kind { IsOfTransaction next.now }
+        ensures taken { IfOk result (λ may. IsTrue may
+            → MayComeNext self.old next.now × (self.new ≡ followed self.old next.now)) }
+        ensures refused { IfOk result (λ may. MayComeNext self.old next.now → IsTrue may) }
+        ensures same { IfOk result (λ may. ¬ IsTrue may → self.new ≡ self.old) }
+        ensures err { OnErr result (self.new ≡ self.old) }
+    {
+        if !names_number_on(&self.pages, next) {
+            return Ok(false);
+        }
+        self.checkpoints.note_page(next)?;
+        match self.txns.note_if_may(next) {
+            Ok(true) => {}
+            refused => {
+                self.checkpoints.take_back();
+                return refused;
+            }
+        }
         redo_on_its_page(&mut self.pages, next);
         Ok(true)
     }

@@ -1,11 +1,14 @@
 //! The transactions of a log, and the chain that their records make: which record may follow.
 #![tactic(auto)]
 
+mod adders;
 mod checkpoint_laws;
 mod checkpoints;
 mod claims;
 mod history;
 mod history_laws;
+mod mark;
+mod marks;
 mod open_entry;
 mod open_list;
 mod open_transactions;

@@ -1,8 +1,9 @@
 //! One open transaction: its numbers, and its pending changes as a stack.
 
-ghost use Rattle.std.specs.Prelude.{◌≡◌, ◌<◌, ◌++◌, ◌∷◌, ◌↔◌, [], IsTrue, OnOk, OnErr, false};
+ghost use Rattle.std.specs.Prelude.{◌≡◌, ◌<◌, ◌↔◌, [], IfOk, IsSomeAnd, IsTrue, OnErr};
 ghost use Rattle.log_history.specs.Linked.{Compensates};
-ghost use Rattle.log_history.specs.OpenEntry.{IsHeld, KeepsOtherSeats, changes_of};
+ghost use Rattle.log_history.specs.OpenEntry.{IsBegun, IsHeld, KeepsOtherSeats, Pushes};
+ghost use Rattle.log_history.specs.OpenEntry.{changes_of};
 ghost use Rattle.log_history.specs.Transactions.{without_last};
 
 use crate::claims::{Claims, Hold};
@@ -33,32 +34,29 @@ pub struct OpenEntry {
     pub pending: Vec<Pending>,
 }
 
-/// Adds a pending change, and says what it keeps out. An `Err` changes nothing.
+/// Adds a pending change and takes its slot, unless another transaction keeps it out. Answers
+/// whether it did. An `Err` changes nothing.
 fn push_pending(
     pending: &mut Vec<Pending>,
     claims: &mut Claims,
     seat: u8,
     change: PendingChange,
-) -> Result<(), AllocError>
+) -> Result<bool, AllocError>
     requires seat { seat < SEATS }
     requires held { IsHeld claims.old seat pending.old.items }
-    ensures ok { OnOk result
-        (changes_of pending.new.items ≡ changes_of pending.old.items ++ change ∷ []) }
+    ensures ok { IfOk result (Pushes claims.old pending.old.items pending.new.items seat change) }
     ensures err { OnErr result (pending.new.items ≡ pending.old.items) }
     ensures held { IsHeld claims.new seat pending.new.items }
     ensures others { KeepsOtherSeats seat claims.old claims.new }
 {
-    let claim = claims.claim(change.page, change.slot);
-    let before = claim.hold(seat);
-    pending.push(Pending { change, before })?;
-    let hold = before.with(change.change.kind());
-    match claims.set_hold(change.page, change.slot, claim, seat, hold) {
-        Ok(()) => Ok(()),
-        Err(error) => {
-            let _ = pending.pop();
-            Err(error)
-        }
-    }
+    // With room for it, the push cannot fail.
+    pending.reserve(1)?;
+    let kind = change.change.kind();
+    let Some(before) = claims.take(change.page, change.slot, seat, kind)? else {
+        return Ok(false);
+    };
+    let _ = pending.push(Pending { change, before });
+    Ok(true)
 }
 
 /// Takes the last pending change away, and what it kept out.
@@ -71,8 +69,7 @@ fn pop_pending(pending: &mut Vec<Pending>, claims: &mut Claims, seat: u8)
 {
     if let Some(last) = pending.pop() {
         let change = last.change;
-        let claim = claims.claim(change.page, change.slot);
-        let _ = claims.set_hold(change.page, change.slot, claim, seat, last.before);
+        claims.release(change.page, change.slot, seat, last.before);
     }
 }
 
@@ -91,26 +88,39 @@ fn drain_pending(pending: &mut Vec<Pending>, claims: &mut Claims, seat: u8)
 
 impl OpenEntry {
     ghost use Rattle.std.specs.Prelude.{min, true};
-    ghost use Rattle.log_history.specs.OpenEntry.{KeepsSeat, entry_view};
+    ghost use Rattle.log_history.specs.OpenEntry.{IsBegun, KeepsSeat, Updates, entry_view};
     ghost use Rattle.log_history.specs.TxnState.{state_of};
-    ghost use Rattle.log_history.specs.Table.{owed_by_entry};
+    ghost use Rattle.log_history.specs.Table.{IsActiveEntry, IsChained, owed_by_entry};
     ghost use Rattle.log_history.specs.Transactions.{last_of};
 
-    /// The transaction makes a change: its Update has this change's LSN. An `Err` changes nothing.
-    pub fn update(&mut self, claims: &mut Claims, change: PendingChange) -> Result<(), AllocError>
+    /// A transaction begins on this seat, where another one sat.
+    pub fn begin(&mut self, txn: TxnNo, seat: u8, lsn: Lsn)
+        ensures { IsBegun self.new txn seat lsn }
+    {
+        self.txn = txn;
+        self.seat = seat;
+        self.first = lsn;
+        self.last = lsn;
+        self.rolling = false;
+        self.aborted = false;
+        self.pending.clear();
+    }
+
+    /// The transaction makes a change, unless another one keeps it out: its Update has this
+    /// change's LSN. Answers whether it did. An `Err` changes nothing.
+    pub fn update(&mut self, claims: &mut Claims, change: PendingChange) -> Result<bool, AllocError>
         requires seat { self.old.seat < SEATS }
         requires held { IsHeld claims.old self.old.seat self.old.pending.items }
-        ensures ok { OnOk result (entry_view self.new ≡ record (entry_view self.old) {
-          last = change.lsn;
-          pending = (entry_view self.old).pending ++ change ∷ [];
-        }) }
+        ensures ok { IfOk result (Updates claims.old self.old self.new change) }
         ensures err { OnErr result (entry_view self.new ≡ entry_view self.old) }
         ensures kept { KeepsSeat self.old self.new claims.old claims.new }
     {
         let lsn = change.lsn;
-        push_pending(&mut self.pending, claims, self.seat, change)?;
-        self.last = lsn;
-        Ok(())
+        let may = push_pending(&mut self.pending, claims, self.seat, change)?;
+        if may {
+            self.last = lsn;
+        }
+        Ok(may)
     }
 
     /// The transaction takes its last pending change back, by a compensation record of this LSN.
@@ -142,6 +152,41 @@ impl OpenEntry {
         self.last = lsn;
         self.rolling = true;
         self.aborted = true;
+    }
+
+    /// It does not roll back, and this is the LSN of its last record.
+    pub fn is_active(&self, prev: Lsn) -> bool
+        ensures { IsTrue result ↔ IsActiveEntry prev (entry_view self.now) }
+    {
+        self.last == prev && !self.rolling
+    }
+
+    /// This is the LSN of its last record, and the change takes its last pending change back.
+    pub fn may_compensate(
+        &self,
+        prev: Lsn,
+        undo_next: Lsn,
+        page: PageNo,
+        slot: SlotNo,
+        change: Change,
+    ) -> bool
+        ensures { IsTrue result ↔ (IsChained prev (entry_view self.now)
+            × IsSomeAnd (last_of (entry_view self.now).pending)
+            (Compensates undo_next page slot change)) }
+    {
+        self.last == prev
+            && match self.last_pending() {
+                Some(last) => compensates(undo_next, page, slot, change, &last),
+                None => false,
+            }
+    }
+
+    /// This is the LSN of its last record, and all its changes are taken back.
+    pub fn may_end(&self, prev: Lsn) -> bool
+        ensures { IsTrue result ↔ (IsChained prev (entry_view self.now)
+            × ((entry_view self.now).pending ≡ [])) }
+    {
+        self.last == prev && self.pending.is_empty()
     }
 
     /// Its numbers.
@@ -186,11 +231,7 @@ impl OpenEntry {
 
 /// An open transaction with only its Begin.
 pub fn begun_entry(alloc: Global, txn: TxnNo, seat: u8, lsn: Lsn) -> OpenEntry
-    ensures txn { result.txn ≡ txn }
-    ensures seat { result.seat ≡ seat }
-    ensures lsn { (result.first ≡ lsn) × (result.last ≡ lsn) }
-    ensures rolling { (result.rolling ≡ false) × (result.aborted ≡ false) }
-    ensures pending { result.pending.items ≡ [] }
+    ensures { IsBegun result txn seat lsn }
 {
     OpenEntry {
         txn,

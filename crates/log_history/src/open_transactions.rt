@@ -1,21 +1,22 @@
 //! The table of open transactions.
 
-ghost use Rattle.std.specs.Prelude.{ℕ, ◌≡◌, ◌↔◌, min, IsTrue, IsSome, IsSomeAnd, OnOk, OnErr};
+ghost use Rattle.std.specs.Prelude.{ℕ, ◌≡◌, ◌↔◌, min, IfOk, IsTrue, IsSomeAnd, OnOk, OnErr};
 ghost use Rattle.std.specs.Prelude.{MatchOption, None, [], length};
 ghost use Rattle.std.specs.Option.{option_and_then, option_map};
 ghost use Rattle.log_history.specs.Growth.{MayGrow};
-ghost use Rattle.page_core.specs.declared.change.Change.{Change};
 ghost use Rattle.log_history.specs.Linked.{Compensates};
 ghost use Rattle.log_history.specs.CheckpointTable.{HasOldEntries};
 ghost use Rattle.log_history.specs.Table.{IsEntryNow};
 ghost use Rattle.log_history.specs.Table.{IsActiveEntry, IsChained, MayNote, entry_in, holder_in};
-ghost use Rattle.log_history.specs.Table.{noted, owed_in, with_entry, without_entry};
+ghost use Rattle.log_history.specs.Table.{noted, owed_in};
+ghost use Rattle.log_history.specs.OpenTransactions.{NotesIfMay};
 ghost use Rattle.log_history.specs.Transactions.{last_of};
-ghost use Rattle.log_records.specs.declared.record.Record.TheVariants.{Begin, Update, Comp, Abort};
+ghost use Rattle.log_records.specs.declared.record.Record.TheVariants.{Begin, Update, Comp, Commit};
+ghost use Rattle.log_records.specs.declared.record.Record.TheVariants.{Abort, End};
 
 use crate::claims::Claims;
-use crate::open_entry::{OpenEntry, begun_entry, compensates};
-use crate::open_list::{are_among, first_other, free_seat, owed_by, place_from, place_of};
+use crate::open_entry::compensates;
+use crate::open_list::OpenList;
 use crate::pending_change::PendingChange;
 use crate::txn_state::TxnState;
 use log_records::{MAX_OPEN, Record, TxnPhase};
@@ -28,7 +29,7 @@ use std::marker::Model;
 #[derive(Drop)]
 pub struct OpenTransactions {
     begun: u32,
-    entries: Vec<OpenEntry>,
+    list: OpenList,
     claims: Claims,
 }
 
@@ -39,11 +40,12 @@ impl Model for OpenTransactions {
 
     ghost use Rattle.std.specs.Prelude.{map};
     ghost use Rattle.log_history.specs.OpenEntry.{entry_view};
-    ghost use Rattle.log_history.specs.OpenTransactions.{Tracks};
+    ghost use Rattle.log_history.specs.OpenList.{entries_in};
+    ghost use Rattle.log_history.specs.OpenTransactions.{IsStored};
 
-    ghost view = { λ t. record { begun = t.begun; entries = map entry_view t.entries.items } };
+    ghost view = { λ t. record { begun = t.begun; entries = map entry_view (entries_in t.list) } };
 
-    ghost invariant = { λ t. Tracks t.begun t.claims t.entries.items };
+    ghost invariant = { λ t. IsStored t.begun t.claims t.list };
 }
 
 impl OpenTransactions {
@@ -55,7 +57,7 @@ impl OpenTransactions {
     {
         OpenTransactions {
             begun: 0,
-            entries: Vec::new(alloc),
+            list: OpenList::new(alloc),
             claims: Claims::new(alloc),
         }
     }
@@ -71,7 +73,7 @@ impl OpenTransactions {
     pub fn open_count(&self) -> usize
         ensures { result ≡ length self.now.entries }
     {
-        self.entries.len()
+        self.list.len()
     }
 
     /// The least other open transaction that holds a slot against a change of this kind by `txn`;
@@ -80,15 +82,21 @@ impl OpenTransactions {
         ensures { result ≡ holder_in self.now page slot kind txn }
     {
         let seats = self.claims.claim(page, slot).against(kind);
-        first_other(&self.entries, seats, txn)
+        self.list.first_other(seats, txn)
+    }
+
+    /// Reaches for what a change of a slot looks at first, so that it comes from memory. What it
+    /// answers says nothing, but a compiler must keep the look for it.
+    pub fn look(&self, page: PageNo, slot: SlotNo) -> u8 {
+        self.claims.look(page, slot)
     }
 
     /// The numbers of an open transaction; None where it is not open.
     pub fn state(&self, txn: TxnNo) -> Option<TxnState>
         ensures { result ≡ option_map state_of (entry_in self.now txn) }
     {
-        match place_of(&self.entries, txn) {
-            Some(place) => Some(self.entries[place].state()),
+        match self.list.seat_of(txn) {
+            Some(seat) => Some(self.list.seats[seat as usize].state()),
             None => None,
         }
     }
@@ -98,8 +106,8 @@ impl OpenTransactions {
         ensures { MatchOption (entry_in self.now txn) (result ≡ None)
             (λ e. result ≡ last_of e.pending) }
     {
-        match place_of(&self.entries, txn) {
-            Some(place) => self.entries[place].last_pending(),
+        match self.list.seat_of(txn) {
+            Some(seat) => self.list.seats[seat as usize].last_pending(),
             None => None,
         }
     }
@@ -109,8 +117,8 @@ impl OpenTransactions {
         ensures { result ≡ option_map state_of
             (option_and_then (entry_in self.now) (next_in self.now from)) }
     {
-        match place_from(&self.entries, from) {
-            Some(place) => Some(self.entries[place].state()),
+        match self.list.first_from(from) {
+            Some(seat) => Some(self.list.seats[seat as usize].state()),
             None => None,
         }
     }
@@ -121,7 +129,7 @@ impl OpenTransactions {
     pub fn owed(&self) -> u64
         ensures { result ≡ min (owed_in self.now) u64.MAX }
     {
-        owed_by(&self.entries)
+        self.list.owed()
     }
 
     /// The record may come next, as far as the transactions say (ARIES, section 3). Whether a Set
@@ -131,7 +139,7 @@ impl OpenTransactions {
     {
         match *next {
             Record::Begin { txn, .. } => {
-                txn.0 as u64 == self.begun as u64 + 1 && self.entries.len() < MAX_OPEN
+                txn.0 as u64 == self.begun as u64 + 1 && self.list.len() < MAX_OPEN
             }
             Record::Update {
                 txn,
@@ -201,7 +209,7 @@ impl OpenTransactions {
     pub fn began_before_are_among(&self, lsn: Lsn, txns: &[u32]) -> bool
         ensures { IsTrue result ↔ HasOldEntries self.now lsn txns.now }
     {
-        are_among(&self.entries, lsn, txns)
+        self.list.are_among(lsn, txns)
     }
 
     /// The change takes the transaction's last pending change back.
@@ -236,6 +244,17 @@ impl OpenTransactions {
         ensures err { OnErr result (self.new ≡ self.old) }
         ensures growth { OnErr result (MayGrow next.now) }
     {
+        let _ = self.note_if_may(next)?;
+        Ok(())
+    }
+
+    /// Takes the record as the next one if it may come next, as `may_note` says, and answers
+    /// whether it may. Memory and time are as for `note`.
+    pub fn note_if_may(&mut self, next: &Record) -> Result<bool, AllocError>
+        ensures ok { IfOk result (NotesIfMay self.old self.new next.now) }
+        ensures err { OnErr result (self.new ≡ self.old) }
+        ensures growth { OnErr result (MayGrow next.now) }
+    {
         match *next {
             Record::Begin { lsn, txn } => self.begin(lsn, txn),
             Record::Update {
@@ -255,95 +274,127 @@ impl OpenTransactions {
                     change,
                 },
             ),
-            Record::Comp { lsn, txn, .. } => {
-                self.compensate(lsn, txn);
-                Ok(())
+            Record::Comp {
+                lsn,
+                txn,
+                prev,
+                undo_next,
+                page,
+                slot,
+                change,
+            } => Ok(self.compensate(lsn, txn, prev, undo_next, page, slot, change)),
+            Record::Commit { txn, prev, .. } => Ok(self.commit(txn, prev)),
+            Record::Abort { lsn, txn, prev } => Ok(self.abort(lsn, txn, prev)),
+            Record::End { txn, prev, .. } => Ok(self.end(txn, prev)),
+            Record::ChkptTxns {
+                txn,
+                state,
+                last,
+                undo_next,
+                ..
+            } => Ok(self.is_now(txn, state, last, undo_next)),
+            Record::BeginChkpt { .. } | Record::ChkptPages { .. } | Record::EndChkpt { .. } => {
+                Ok(true)
             }
-            Record::Abort { lsn, txn, .. } => {
-                self.abort(lsn, txn);
-                Ok(())
-            }
-            Record::Commit { txn, .. } | Record::End { txn, .. } => {
-                self.close(txn);
-                Ok(())
-            }
-            Record::BeginChkpt { .. }
-            | Record::ChkptPages { .. }
-            | Record::ChkptTxns { .. }
-            | Record::EndChkpt { .. } => Ok(()),
         }
     }
 
     /// A transaction begins.
-    fn begin(&mut self, lsn: Lsn, txn: TxnNo) -> Result<(), AllocError>
-        requires { MayNote self.old (Begin lsn txn) }
-        ensures ok { OnOk result (self.new ≡ noted self.old (Begin lsn txn)) }
+    fn begin(&mut self, lsn: Lsn, txn: TxnNo) -> Result<bool, AllocError>
+        ensures ok { IfOk result (NotesIfMay self.old self.new (Begin lsn txn)) }
         ensures err { OnErr result (self.new ≡ self.old) }
     {
-        let seat = free_seat(&self.entries);
-        let alloc = *self.entries.allocator();
-        self.entries.push(begun_entry(alloc, txn, seat, lsn))?;
+        if txn.0 as u64 != self.begun as u64 + 1 || self.list.len() >= MAX_OPEN {
+            return Ok(false);
+        }
+        self.list.add(txn, lsn)?;
         self.begun = txn.0;
-        Ok(())
+        Ok(true)
     }
 
     /// A transaction makes a change.
-    fn update(&mut self, txn: TxnNo, change: PendingChange) -> Result<(), AllocError>
-        requires { IsSome (entry_in self.old txn) }
-        ensures ok { OnOk result (self.new ≡ with_entry self.old txn
+    fn update(&mut self, txn: TxnNo, change: PendingChange) -> Result<bool, AllocError>
+        ensures ok { IfOk result (NotesIfMay self.old self.new
             (Update change.lsn txn change.prev change.page change.slot change.change)) }
         ensures err { OnErr result (self.new ≡ self.old) }
     {
-        match place_of(&self.entries, txn) {
-            Some(place) => {
-                let entry = &mut self.entries[place];
-                entry.update(&mut self.claims, change)
-            }
-            None => Ok(()),
+        let Some(seat) = self.list.seat_of(txn) else {
+            return Ok(false);
+        };
+        let entry = &mut self.list.seats[seat as usize];
+        if !entry.is_active(change.prev) {
+            return Ok(false);
         }
+        entry.update(&mut self.claims, change)
     }
 
     /// A transaction takes its last pending change back.
-    fn compensate(&mut self, lsn: Lsn, txn: TxnNo)
-        requires { IsSome (entry_in self.old txn) }
-        ensures { (prev undo_next page slot : ℕ) (change : Change) →
-            self.new ≡ with_entry self.old txn (Comp lsn txn prev undo_next page slot change) }
+    fn compensate(
+        &mut self,
+        lsn: Lsn,
+        txn: TxnNo,
+        prev: Lsn,
+        undo_next: Lsn,
+        page: PageNo,
+        slot: SlotNo,
+        change: Change,
+    ) -> bool
+        ensures { NotesIfMay self.old self.new (Comp lsn txn prev undo_next page slot change)
+            result }
     {
-        match place_of(&self.entries, txn) {
-            Some(place) => {
-                let entry = &mut self.entries[place];
-                entry.compensate(&mut self.claims, lsn);
-            }
-            None => {}
+        let Some(seat) = self.list.seat_of(txn) else {
+            return false;
+        };
+        let entry = &mut self.list.seats[seat as usize];
+        if !entry.may_compensate(prev, undo_next, page, slot, change) {
+            return false;
         }
+        entry.compensate(&mut self.claims, lsn);
+        true
     }
 
     /// A transaction begins to roll back.
-    fn abort(&mut self, lsn: Lsn, txn: TxnNo)
-        requires { IsSome (entry_in self.old txn) }
-        ensures { (prev : ℕ) → self.new ≡ with_entry self.old txn (Abort lsn txn prev) }
+    fn abort(&mut self, lsn: Lsn, txn: TxnNo, prev: Lsn) -> bool
+        ensures { NotesIfMay self.old self.new (Abort lsn txn prev) result }
     {
-        match place_of(&self.entries, txn) {
-            Some(place) => {
-                let entry = &mut self.entries[place];
-                entry.abort(lsn);
-            }
-            None => {}
+        let Some(seat) = self.list.seat_of(txn) else {
+            return false;
+        };
+        let entry = &mut self.list.seats[seat as usize];
+        if !entry.is_active(prev) {
+            return false;
         }
+        entry.abort(lsn);
+        true
     }
 
-    /// A transaction is open no more.
-    fn close(&mut self, txn: TxnNo)
-        requires { IsSome (entry_in self.old txn) }
-        ensures { self.new ≡ without_entry self.old txn }
+    /// A transaction ends, and its changes are to last.
+    fn commit(&mut self, txn: TxnNo, prev: Lsn) -> bool
+        ensures { (lsn : ℕ) → NotesIfMay self.old self.new (Commit lsn txn prev) result }
     {
-        match place_of(&self.entries, txn) {
-            Some(place) => {
-                let entry = &mut self.entries[place];
-                entry.release(&mut self.claims);
-                let _ = self.entries.remove(place);
-            }
-            None => {}
+        let Some(seat) = self.list.seat_of(txn) else {
+            return false;
+        };
+        let entry = &mut self.list.seats[seat as usize];
+        if !entry.is_active(prev) {
+            return false;
         }
+        entry.release(&mut self.claims);
+        self.list.remove(seat);
+        true
+    }
+
+    /// A transaction ends whose changes are all taken back.
+    fn end(&mut self, txn: TxnNo, prev: Lsn) -> bool
+        ensures { (lsn : ℕ) → NotesIfMay self.old self.new (End lsn txn prev) result }
+    {
+        let Some(seat) = self.list.seat_of(txn) else {
+            return false;
+        };
+        if !self.list.seats[seat as usize].may_end(prev) {
+            return false;
+        }
+        self.list.remove(seat);
+        true
     }
 }

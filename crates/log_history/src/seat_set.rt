@@ -1,7 +1,8 @@
 //! Sets of seats: each open transaction has a seat, and no two have the same.
 
-ghost use Rattle.std.specs.Prelude.{ℕ, ◌≡◌, ◌<◌, ◌==◌, ◌↔◌, IsTrue, if◌then◌else◌};
-ghost use Rattle.log_history.specs.Claims.{has_seat, no_seats};
+ghost use Rattle.std.specs.Prelude.{ℕ, ◌≡◌, ◌<◌, ◌==◌, ◌↔◌, false, true, IsFalse, IsTrue};
+ghost use Rattle.std.specs.Prelude.{if◌then◌else◌};
+ghost use Rattle.log_history.specs.SeatSet.{HasSome, LacksOne, has_seat, no_seats, only};
 
 /// How many seats there are: one for each transaction that may be open.
 pub const SEATS: u8 = 64;
@@ -20,11 +21,30 @@ impl SeatSet {
         SeatSet { bits: 0 }
     }
 
+    /// The set of one seat.
+    pub fn only(seat: u8) -> SeatSet
+        requires { seat < SEATS }
+        ensures { result ≡ only seat }
+    {
+        SeatSet { bits: 1 << seat }
+    }
+
     /// The set has no seat.
     pub fn is_empty(self) -> bool
-        ensures { IsTrue result ↔ (self ≡ no_seats) }
+        ensures empty { IsTrue result ↔ (self ≡ no_seats) }
+        ensures some { IsFalse result → HasSome self }
     {
         self.bits == 0
+    }
+
+    /// The lowest seat that the set lacks, if it lacks one.
+    pub fn first_absent(self) -> u8
+        requires { LacksOne self }
+        ensures within { result < SEATS }
+        ensures absent { has_seat self result ≡ false }
+        ensures below { (other : ℕ) → other < result → has_seat self other ≡ true }
+    {
+        self.bits.trailing_ones() as u8
     }
 
     /// The seat is in the set.

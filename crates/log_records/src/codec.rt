@@ -197,6 +197,7 @@ fn if_spelled(record: Record, fields: &Fields) -> Option<Record>
     }
 }
 
+#[inline(always)]
 fn is_record(record: &Record) -> bool
     ensures { IsTrue result ↔ IsRecord «record».now }
 {

@@ -25,7 +25,7 @@ pub use header::{encode_header, page_count};
 pub use laws::{logs_are_spelled_apart, records_are_spelled_apart};
 pub use limits::{HEADER_BYTES, MAX_LOG_BYTES, MAX_OPEN, MAX_RECORDS, RECORD_BYTES};
 pub use page_change::PageChange;
-pub use place::record_at;
+pub use place::{named_slot, record_at};
 pub use record::Record;
 pub use txn_phase::TxnPhase;
 pub use volume::redo_on_its_page;

@@ -9,7 +9,8 @@ ghost use Rattle.log_records.specs.Log.{IsWithin, StandsAt};
 use crate::codec::decode;
 use crate::limits::RECORD_BYTES;
 use crate::record::Record;
-use page_core::Lsn;
+use page_core::field::{u16_at, u32_at};
+use page_core::{Lsn, PageNo, SlotNo};
 
 /// The record that these bytes are at this LSN of a log of so many pages, if they are one.
 pub fn record_at(bytes: &[u8], at: Lsn, pages: u32) -> Option<Record>
@@ -24,6 +25,14 @@ pub fn record_at(bytes: &[u8], at: Lsn, pages: u32) -> Option<Record>
     } else {
         None
     }
+}
+
+/// The page and the slot that these bytes name, if they are a record that changes one. It looks at
+/// nothing else, so they may be no record.
+pub fn named_slot(bytes: &[u8]) -> (PageNo, SlotNo)
+    requires { length bytes.now ≡ RECORD_BYTES }
+{
+    (PageNo(u32_at(bytes, 24)), SlotNo(u16_at(bytes, 28)))
 }
 
 fn is_within(pages: u32, entry: &Record) -> bool

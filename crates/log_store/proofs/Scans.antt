@@ -18,12 +18,13 @@ use Rattle.log_records.specs.Log.{Log, StandsAt, SpellsLog, HasHeader, header_by
 use Rattle.log_history.specs.History.{IsMadeOf, Made}
 use Rattle.log_history.specs.Linked.{IsLinked, MayFollow}
 use Rattle.log_store.specs.Fault.{IsFirstFault, Refuses, HoldsNoFault, GaveNoFault}
-use Rattle.log_store.specs.Scan.{HasRead, HasTaken}
+use Rattle.log_store.specs.Scan.{HasTaken}
 use Rattle.log_records.proofs.Logs.{range_in, length-log, header_of_log, record_of_log}
 use Rattle.log_store.proofs.Faults.{AreFirst, whole_records, first_chain, first_record, first_too_long, first_torn}
 use Rattle.log_records.proofs.Records.{record_length}
-use Rattle.log_store.proofs.Inputs.{refuses_all, none_held, none_in_read, of_input}
 use Rattle.log_history.proofs.AtEnd.{valid_next}
+use Rattle.log_history.proofs.Histories.{linked_push}
+use Rattle.log_store.proofs.Inputs.{refuses_all, none_held, none_in_read}
 
 -- ---- what a log's bytes have, however they go on
 
@@ -106,89 +107,59 @@ spells_next log r given unit spells few stands e = record {
       ∙ flat_map_more record_bytes (header_bytes log.pages) log.records r;
 }
 
--- ---- the records that were read since the sink took some
+-- ---- what the sink took
 
-pub read_none : {S : Type 0} (holds : S → Log → Type 0) (sink : S) (made : Made) (pages count : ℕ) (given : List ℕ)
-    → (taken : HasTaken holds sink made pages count given) → HasRead taken.log [] made pages count given
-read_none holds sink made pages count given taken = let log = taken.log in let spells = taken.spells in record {
-  spells = subst (λ (all : List Record). SpellsLog (record log { records = all }) given)
-      (sym (append-nil log.records)) spells;
-  linked = subst IsLinked (sym (append-nil log.records)) taken.linked;
-  made_of = subst (λ (all : List Record). IsMadeOf (record log { records = all }) made)
-      (sym (append-nil log.records)) taken.made_of;
-  pages_are = taken.pages_are;
-  count_is = omega (arith, taken.count_is);
-}
+module _ {S : Type 0} (holds : S → Log → Type 0) (sink : S) (made : Made) (pages count : ℕ) (given : List ℕ)
+    (taken : HasTaken holds sink made pages count given) where
+  -- the place of the next record
+  stands_next : (r : Record) → StandsAt pages (64 * (count + 1)) r
+      → StandsAt taken.log.pages (lsn_of (length taken.log.records)) r
+  stands_next r stands =
+      let place : 64 * (count + 1) ≡ lsn_of (length taken.log.records) = omega (arith, taken.count_is) in
+      subst (λ (n : ℕ). StandsAt n (lsn_of (length taken.log.records)) r) (sym taken.pages_are)
+      (subst (λ (n : ℕ). StandsAt pages n r) place stands)
 
-pub read_next : (log : Log) (rs : List Record) (r : Record) (old new : Made) (pages count : ℕ) (given unit : List ℕ)
-    → HasRead log rs old pages count given → count < 1048576 → StandsAt pages (64 * (count + 1)) r
-    → unit ≡ record_bytes r
-    → IsLinked ((log.records ++ rs) ++ r ∷ []) → IsMadeOf (with_next (with_next log rs) (r ∷ [])) new
-    → HasRead log (rs ++ r ∷ []) new pages (count + 1) (given ++ unit)
-read_next log rs r old new pages count given unit read few stands e linked made =
-    let so_far = with_next log rs in
-    let long : length so_far.records ≡ count = length-append log.records rs ∙ read.count_is in
-    let place : 64 * (count + 1) ≡ lsn_of (length so_far.records) = omega (arith, long) in
-    record {
-      spells = subst (λ (all : List Record). SpellsLog (record log { records = all }) (given ++ unit))
-          (append_assoc log.records rs (r ∷ []))
-          (spells_next so_far r given unit read.spells (omega (arith, long))
-          (subst (λ (n : ℕ). StandsAt n (lsn_of (length so_far.records)) r) (sym read.pages_are)
-          (subst (λ (n : ℕ). StandsAt pages n r) place stands)) e);
-      linked = subst IsLinked (append_assoc log.records rs (r ∷ [])) linked;
-      made_of = subst (λ (all : List Record). IsMadeOf (record log { records = all }) new)
-          (append_assoc log.records rs (r ∷ [])) made;
-      pages_are = read.pages_are;
-      count_is = omega (arith, length_push rs r, read.count_is);
-    }
+  pub valid_with : (r : Record) → count < 1048576 → StandsAt pages (64 * (count + 1)) r
+      → IsLog (with_next taken.log (r ∷ []))
+  valid_with r few stands =
+      valid_next taken.log r taken.spells.valid (omega (arith, taken.count_is)) (stands_next r stands)
 
-pub read_too_long : (log : Log) (rs : List Record) (made : Made) (pages count : ℕ) (given more : List ℕ)
-    → HasRead log rs made pages count given
-    → 1048576 ≤ count → 0 < length more → IsFirstFault (given ++ more) TooLong
-read_too_long log rs made pages count given more read full some =
-    too_long (with_next log rs) given more read.spells read.linked
-    (omega (arith, length-append log.records rs, read.count_is)) some
+  pub taken_next : (after : S) (new : Made) (r : Record) (unit : List ℕ) → count < 1048576
+      → StandsAt pages (64 * (count + 1)) r → unit ≡ record_bytes r → MayFollow taken.log.records r
+      → IsMadeOf (with_next taken.log (r ∷ [])) new → holds after (with_next taken.log (r ∷ []))
+      → HasTaken holds after new pages (count + 1) (given ++ unit)
+  taken_next after new r unit few stands e may of held = record {
+    log = with_next taken.log (r ∷ []);
+    held = held;
+    spells = spells_next taken.log r given unit taken.spells (omega (arith, taken.count_is)) (stands_next r stands) e;
+    linked = linked_push taken.log.records r taken.linked may;
+    made_of = of;
+    pages_are = taken.pages_are;
+    count_is = omega (arith, length_push taken.log.records r, taken.count_is);
+  }
 
-pub read_bad_record : (log : Log) (rs : List Record) (made : Made) (pages count : ℕ) (given unit rest : List ℕ)
-    → HasRead log rs made pages count given → count < 1048576
-    → length unit ≡ 64 → ((r : Record) → StandsAt pages (64 * (count + 1)) r → unit ≡ record_bytes r → ⊥)
-    → IsFirstFault (given ++ (unit ++ rest)) (BadRecord (64 * (count + 1)))
-read_bad_record log rs made pages count given unit rest read few wide none =
-    let so_far = with_next log rs in
-    let long : length so_far.records ≡ count = length-append log.records rs ∙ read.count_is in
-    let place : lsn_of (length so_far.records) ≡ 64 * (count + 1) = omega (arith, long) in
-    subst (λ (n : ℕ). IsFirstFault (given ++ (unit ++ rest)) (BadRecord n)) place
-    (bad_record so_far given unit rest read.spells read.linked (omega (arith, long)) wide
-    (λ r stands e. none r (subst (λ (n : ℕ). StandsAt n (64 * (count + 1)) r) read.pages_are
-    (subst (λ (n : ℕ). StandsAt log.pages n r) place stands)) e))
+  pub taken_too_long : (more : List ℕ) → 1048576 ≤ count → 0 < length more → IsFirstFault (given ++ more) TooLong
+  taken_too_long more full some =
+      too_long taken.log given more taken.spells taken.linked (omega (arith, taken.count_is)) some
 
-pub read_bad_chain : (log : Log) (rs : List Record) (r : Record) (made : Made) (pages count : ℕ)
-    (given unit rest : List ℕ)
-    → HasRead log rs made pages count given → count < 1048576 → StandsAt pages (64 * (count + 1)) r
-    → unit ≡ record_bytes r
-    → ¬ MayFollow (log.records ++ rs) r → IsFirstFault (given ++ (unit ++ rest)) (BadChain (64 * (count + 1)))
-read_bad_chain log rs r made pages count given unit rest read few stands e breaks =
-    let so_far = with_next log rs in
-    let long : length so_far.records ≡ count = length-append log.records rs ∙ read.count_is in
-    let place : 64 * (count + 1) ≡ lsn_of (length so_far.records) = omega (arith, long) in
-    subst (λ (n : ℕ). IsFirstFault (given ++ (unit ++ rest)) (BadChain n)) (sym place)
-    (bad_chain so_far r given unit rest read.spells read.linked (omega (arith, long))
-    (subst (λ (n : ℕ). StandsAt n (lsn_of (length so_far.records)) r) (sym read.pages_are)
-    (subst (λ (n : ℕ). StandsAt pages n r) place stands))
-    e breaks)
+  pub taken_bad_record : (unit rest : List ℕ) → count < 1048576 → length unit ≡ 64
+      → ((r : Record) → StandsAt pages (64 * (count + 1)) r → unit ≡ record_bytes r → ⊥)
+      → IsFirstFault (given ++ (unit ++ rest)) (BadRecord (64 * (count + 1)))
+  taken_bad_record unit rest few wide none =
+      let place : lsn_of (length taken.log.records) ≡ 64 * (count + 1) = omega (arith, taken.count_is) in
+      subst (λ (n : ℕ). IsFirstFault (given ++ (unit ++ rest)) (BadRecord n)) place
+      (bad_record taken.log given unit rest taken.spells taken.linked (omega (arith, taken.count_is)) wide
+      (λ r stands e. none r (subst (λ (n : ℕ). StandsAt n (64 * (count + 1)) r) taken.pages_are
+      (subst (λ (n : ℕ). StandsAt taken.log.pages n r) place stands)) e))
 
-pub taken_next : {S : Type 0} (holds : S → Log → Type 0) (sink : S) (log : Log) (rs : List Record) (made : Made)
-    (pages count : ℕ) (given : List ℕ)
-    → HasRead log rs made pages count given → holds sink (with_next log rs) → HasTaken holds sink made pages count given
-taken_next holds sink log rs made pages count given read held = record {
-  log = with_next log rs;
-  held = held;
-  spells = read.spells;
-  linked = read.linked;
-  made_of = read.made_of;
-  pages_are = read.pages_are;
-  count_is = length-append log.records rs ∙ read.count_is;
-}
+  pub taken_bad_chain : (r : Record) (unit rest : List ℕ) → count < 1048576 → StandsAt pages (64 * (count + 1)) r
+      → unit ≡ record_bytes r → ¬ MayFollow taken.log.records r
+      → IsFirstFault (given ++ (unit ++ rest)) (BadChain (64 * (count + 1)))
+  taken_bad_chain r unit rest few stands e breaks =
+      let place : lsn_of (length taken.log.records) ≡ 64 * (count + 1) = omega (arith, taken.count_is) in
+      subst (λ (n : ℕ). IsFirstFault (given ++ (unit ++ rest)) (BadChain n)) place
+      (bad_chain taken.log r given unit rest taken.spells taken.linked (omega (arith, taken.count_is))
+      (stands_next r stands) e breaks)
 
 -- ---- what follows the whole records
 

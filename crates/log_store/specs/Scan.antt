@@ -1,19 +1,8 @@
 -- A log that is read a part at a time.
-use Rattle.std.specs.Prelude.{ℕ, ◌≡◌, ◌+◌, List, ◌++◌, length}
-use Rattle.log_records.specs.declared.record.Record.{Record}
+use Rattle.std.specs.Prelude.{ℕ, ◌≡◌, List, length}
 use Rattle.log_history.specs.History.{IsMadeOf, Made}
 use Rattle.log_history.specs.Linked.{IsLinked}
-use Rattle.log_records.specs.Log.{Log, SpellsLog, with_next}
-
--- the log with these records behind its own is linked, and has so many pages and records; this is
--- what it makes, and these are its bytes
-pub record HasRead (log : Log) (rs : List Record) (made : Made) (pages count : ℕ)
-    (given : List ℕ) : Type 0 where
-  pub spells : SpellsLog (with_next log rs) given
-  pub linked : IsLinked (log.records ++ rs)
-  pub made_of : IsMadeOf (with_next log rs) made
-  pub pages_are : log.pages ≡ pages
-  pub count_is : length log.records + length rs ≡ count
+use Rattle.log_records.specs.Log.{Log, SpellsLog}
 
 -- the sink holds what it makes of a linked log of so many pages and records, which makes this and
 -- has these bytes

@@ -7,12 +7,12 @@ ghost use Rattle.log_history.specs.History.{IsMadeOf};
 ghost use Rattle.log_history.specs.Linked.{IsLinked};
 ghost use Rattle.log_records.specs.Log.{IsLog, Log, SpellsLog, header_bytes};
 ghost use Rattle.log_store.specs.Fault.{Refuses, GaveNoFault, IsNoReadFault};
-ghost use Rattle.log_store.specs.Scan.{HasAll, HasRead, HasTaken};
+ghost use Rattle.log_store.specs.Scan.{HasAll, HasTaken};
 
 use crate::fault::LogReadFault;
 use crate::sink::RecordSink;
 use log_history::History;
-use log_records::{HEADER_BYTES, MAX_RECORDS, RECORD_BYTES, Record, page_count, record_at};
+use log_records::{HEADER_BYTES, MAX_RECORDS, RECORD_BYTES, named_slot, page_count, record_at};
 use page_core::{LSN_STEP, Lsn, MAX_TURNS, Turn, keep_from, read_more, zeros};
 use std::alloc::Global;
 use std::io::Read;
@@ -27,22 +27,35 @@ pub struct Scan<S> {
 /// How many bytes it is asked for at once, at most.
 const BUFFER_BYTES: usize = 262_144;
 
-/// Puts a record behind those that were read since the sink took some, if it may follow them.
-fn push_record(
-    records: &mut Vec<Record>,
+/// How many records are looked at ahead.
+const AHEAD: usize = 32;
+
+/// Looks at the slots that these records name, right or wrong, so that all of them come from memory
+/// at the same time.
+fn look_ahead(history: &History, bytes: &[u8]) -> u64 {
+    let mut seen = 0;
+    for i in 0..bytes.len() / RECORD_BYTES {
+        let (page, slot) = named_slot(&bytes[RECORD_BYTES * i..RECORD_BYTES * i + RECORD_BYTES]);
+        seen ^= history.look(page, slot);
+    }
+    seen
+}
+
+/// Takes the next record, which stands behind the first `count`, if it may follow them.
+fn take_record<S: RecordSink>(
+    sink: &mut S,
     history: &mut History,
     pages: u32,
     count: usize,
     bytes: &[u8],
 ) -> Result<(), LogReadFault>
     requires whole { length bytes.now ≡ RECORD_BYTES }
-    requires so_far { (log : Log) × ((given : List ℕ)
-        × HasRead log records.old.items history.old pages count given) }
-    ensures ok { OnOk result ((log : Log) (given : List ℕ)
-        → HasRead log records.old.items history.old pages count given
-        → HasRead log records.new.items history.new pages (count + 1) (given ++ bytes.now)) }
-    ensures first { IfErr result (λ fault. (log : Log) (given rest : List ℕ)
-        → HasRead log records.old.items history.old pages count given
+    requires so_far { (given : List ℕ) × HasTaken S.holds sink.old history.old pages count given }
+    ensures ok { OnOk result ((given : List ℕ)
+        → HasTaken S.holds sink.old history.old pages count given
+        → HasTaken S.holds sink.new history.new pages (count + 1) (given ++ bytes.now)) }
+    ensures first { IfErr result (λ fault. (given rest : List ℕ)
+        → HasTaken S.holds sink.old history.old pages count given
         → Refuses (given ++ (bytes.now ++ rest)) fault) }
     ensures of_bytes { IfErr result IsNoReadFault }
 {
@@ -56,19 +69,18 @@ fn push_record(
     if !history.follow(&record)? {
         return Err(LogReadFault::BadChain(at));
     }
-    Ok(records.push(record)?)
+    Ok(sink.take(&[record])?)
 }
 
-/// Takes the whole records among these bytes, which stand behind the first `count` records. The
-/// sink gets them all at once.
+/// Takes the whole records among these bytes, which stand behind the first `count` records. What it
+/// answers says nothing, but a compiler must keep the looks ahead for it.
 fn take_records<S: RecordSink>(
     sink: &mut S,
-    records: &mut Vec<Record>,
     history: &mut History,
     pages: u32,
     count: usize,
     bytes: &[u8],
-) -> Result<(), LogReadFault>
+) -> Result<u64, LogReadFault>
     requires { (given : List ℕ) × HasTaken S.holds sink.old history.old pages count given }
     ensures ok { OnOk result ((given : List ℕ)
         → HasTaken S.holds sink.old history.old pages count given
@@ -79,12 +91,17 @@ fn take_records<S: RecordSink>(
         → Refuses (given ++ (bytes.now ++ rest)) fault) }
     ensures of_bytes { IfErr result IsNoReadFault }
 {
-    records.clear();
-    for i in 0..bytes.len() / RECORD_BYTES {
+    let whole = bytes.len() / RECORD_BYTES;
+    let mut seen = 0;
+    for i in 0..whole {
+        if i % AHEAD == 0 {
+            let end = whole.min(i + AHEAD);
+            seen ^= look_ahead(history, &bytes[RECORD_BYTES * i..RECORD_BYTES * end]);
+        }
         let record = &bytes[RECORD_BYTES * i..RECORD_BYTES * i + RECORD_BYTES];
-        push_record(records, history, pages, count + i, record)?;
+        take_record(sink, history, pages, count + i, record)?;
     }
-    Ok(sink.take(records)?)
+    Ok(seen)
 }
 
 /// Reads the header, and answers how many turns that took.
@@ -119,7 +136,6 @@ fn read_records<R: Read, S: RecordSink>(
     pages: u32,
     turns: u32,
     buffer: &mut [u8],
-    records: &mut Vec<Record>,
 ) -> Result<(), LogReadFault>
     requires room { 128 ≤ length buffer.old }
     requires taken { HasTaken S.holds scan.old.sink scan.old.history pages 0 (header_bytes pages) }
@@ -141,16 +157,10 @@ fn read_records<R: Read, S: RecordSink>(
             Turn::Failed => return Err(LogReadFault::ReadFault),
         }
         let bytes = &buffer[..filled];
-        take_records(
-            &mut scan.sink,
-            records,
-            &mut scan.history,
-            pages,
-            count,
-            bytes,
-        )?;
+        let seen = take_records(&mut scan.sink, &mut scan.history, pages, count, bytes)?;
         count += filled / RECORD_BYTES;
         filled = keep_rest(buffer, filled);
+        buffer[filled] = (seen % 256) as u8;
         if count >= MAX_RECORDS && filled > 0 {
             return Err(LogReadFault::TooLong);
         }
@@ -217,14 +227,6 @@ pub fn scan_log<R: Read, S: RecordSink + Drop>(
         history: History::start(alloc, pages)?,
     };
     let mut buffer = zeros(alloc, BUFFER_BYTES)?;
-    let mut records = Vec::with_capacity(alloc, BUFFER_BYTES / RECORD_BYTES)?;
-    read_records(
-        reader,
-        &mut scan,
-        pages,
-        MAX_TURNS - turns,
-        &mut buffer,
-        &mut records,
-    )?;
+    read_records(reader, &mut scan, pages, MAX_TURNS - turns, &mut buffer)?;
     Ok(scan)
 }

@@ -1,14 +1,20 @@
-use Rattle.std.proofs.Common.{◌∙◌, ap, sym, subst}
-use Rattle.log_history.specs.Claims.{hold_in, hold_with}
+use Rattle.std.proofs.Common.{◌≡◌, ◌++◌, ◌∷◌, [], subst, sym, arith}
+use Rattle.std.proofs.lemmas.Grind.{common_steps}
+use Rattle.page_core.specs.declared.change.ChangeKind.{ChangeKind}
+use Rattle.log_history.specs.Claims.{SetsHold, Taken, hold_with}
 use Rattle.log_history.specs.OpenEntry.{IsHeld}
-use Rattle.log_history.proofs.Pendings.{SetsHold, held-push}
+use Rattle.log_history.proofs.Pendings.{held-push}
 use Rattle.log_history.proofs.open_entry.push_pending.Goals as goal
 
-pub returns-in-Ok-clause-held : goal.returns-in-Ok-clause-held
-returns-in-Ok-clause-held c =
-    subst (λ ps. IsHeld c.set_hold.new.self c.args.seat ps) (sym c.in_ok-push.ensures.items)
-    (held-push c.args.claims.now c.set_hold.new.self c.args.seat c.args.pending.now.items c.args.change c.hold-before.result
-    c.requires.seat c.requires.held
-    (c.hold-before.ensures ∙ ap (λ k. hold_in k c.args.seat) c.claim-claim.ensures)
-    (subst (λ h. SetsHold c.args.claims.now c.set_hold.new.self c.args.change.page c.args.change.slot c.args.seat h)
-    (c.with-hold.ensures ∙ ap (λ k. hold_with c.hold-before.result k) c.kind.ensures) c.in-Ok.ensures.set))
+pub returns-clause-held : goal.returns-clause-held
+returns-clause-held c =
+    let change = c.args.change in
+    let before = c.in-Some.before in
+    let taken : Taken c.args.claims.now c.take.new.self change.page change.slot c.args.seat c.kind-kind.result before =
+    rw c.in-Some.is at c.in_ok-before.ensures.ok in
+    let items : c.push.new.self.items ≡ c.args.pending.now.items ++ record { change = change; before = before } ∷ [] = grind (arith, common_steps) in
+    subst (λ ps. IsHeld c.take.new.self c.args.seat ps) (sym items)
+    (held-push c.args.claims.now c.take.new.self c.args.seat c.args.pending.now.items change before
+    c.requires.seat c.requires.held taken.was
+    (subst (λ (k : ChangeKind). SetsHold c.args.claims.now c.take.new.self change.page change.slot c.args.seat
+    (hold_with before k)) c.kind-kind.ensures taken.sets))

@@ -1,8 +1,8 @@
-use Rattle.std.proofs.Common.{◌≡◌, ℕ, ◌+◌, ◌*◌, ◌/◌, ◌<◌, ◌++◌, List, [], length, take, drop, sym, ap, subst, ◌∙◌}
+use Rattle.std.proofs.Common.{◌≡◌, ℕ, ◌+◌, ◌*◌, ◌/◌, ◌%◌, ◌<◌, ◌++◌, List, [], length, set, take, drop, sym, ap, subst, ◌∙◌}
 use Rattle.std.proofs.Common.{arith, inl, inr}
 use Rattle.std.specs.Io.KnownBytes.{Consumes}
 use Rattle.std.proofs.lemmas.List.{append_assoc, append-nil, nil_from_length, length-take, length-drop}
-use Rattle.std.proofs.lemmas.List.{take-append-drop}
+use Rattle.std.proofs.lemmas.List.{take-append-drop, take-set}
 use Rattle.std.proofs.lemmas.Bool.{cases_lt}
 use Rattle.std.proofs.lemmas.Result.{err_from_is_err_and}
 use Rattle.log_store.specs.declared.fault.LogReadFault.TheVariants.{Torn, TooLong}
@@ -74,19 +74,19 @@ returns-in-Failed-clause-unread g c =
       ),
     )
 
-pub returns-in_err-take_records-clause-first : goal.returns-in_err-take_records-clause-first
-returns-in_err-take_records-clause-first g c =
+pub returns-in_err-seen-clause-first : goal.returns-in_err-seen-clause-first
+returns-in_err-seen-clause-first g c =
     let p = err_from_is_err_and c.from_residual.result c.from_residual.ensures.1 in
     let header = header_bytes c.args.pages in
     let inv = c.loop.invariant in
     let read = inv.so_far.0 in
     let t = inv.so_far.1.0 in
     let bytes = take (c.loop.filled + c.in-More.more) c.read_more.new.buffer in
-    let fault = c.in_err-take_records.field-0.0 in
+    let fault = c.in_err-seen.field-0.0 in
     rw (p.1, p.2)
     (of_input _ _ (read ++ bytes) (λ rest. Refuses (header ++ rest) fault) (c.in-More.ensures.1 _ read inv.so_far.1.1)
     (λ rest end. regrouped header read bytes rest (λ input. Refuses input fault)
-    (c.in_err-take_records.ensures.first (header ++ read) rest t)))
+    (c.in_err-seen.ensures.first (header ++ read) rest t)))
 
 pub returns-then-filled-gt0-clause-first : goal.returns-then-filled-gt0-clause-first
 returns-then-filled-gt0-clause-first g c =
@@ -105,7 +105,7 @@ returns-then-filled-gt0-clause-first g c =
     (c.loop.count + filled / 64)) (append_assoc header read (take whole bytes))
     (subst (λ (k : ℕ). HasTaken g.S.RecordSink.holds c.take_records.new.sink c.take_records.new.history c.args.pages
     (c.loop.count + k / 64) ((header ++ read) ++ take (64 * (k / 64)) bytes)) width
-    (c.in_ok-take_records.ensures.ok (header ++ read) inv.so_far.1.0)) in
+    (c.in_ok-seen.ensures.ok (header ++ read) inv.so_far.1.0)) in
     let count = t.count_is in
     let full = c.if-count-ge-MAX_RECORDS.true in
     let both : read ++ bytes ≡ further ++ pending =
@@ -132,7 +132,7 @@ loop-preserved g c =
     let filled = c.loop.filled + c.in-More.more in
     let whole = 64 * (filled / 64) in
     let bytes = take filled c.read_more.new.buffer in
-    let t = c.in_ok-take_records.ensures.ok (header ++ read) inv.so_far.1.0 in
+    let t = c.in_ok-seen.ensures.ok (header ++ read) inv.so_far.1.0 in
     let n = length bytes in
     let width : length bytes ≡ filled = omega (arith, length-take filled c.read_more.new.buffer, c.in-More.ensures.0) in
     let taken : HasTaken g.S.RecordSink.holds c.take_records.new.sink c.take_records.new.history c.args.pages
@@ -141,11 +141,13 @@ loop-preserved g c =
     (c.loop.count + filled / 64)) (append_assoc header read (take whole bytes))
     (subst (λ (k : ℕ). HasTaken g.S.RecordSink.holds c.take_records.new.sink c.take_records.new.history c.args.pages
     (c.loop.count + k / 64) ((header ++ read) ++ take (64 * (k / 64)) bytes)) width t) in
+    let kept = c.keep_rest-filled.result in
     let both : read ++ bytes ≡ (read ++ take whole bytes)
-    ++ take c.keep_rest-filled.result c.keep_rest-filled.new.buffer =
+    ++ take kept (set c.keep_rest-filled.new.buffer kept (c.in_ok-seen.seen % 256)) =
     ap (λ (bs : List ℕ). read ++ bs) (sym (take-append-drop whole bytes))
     ∙ sym (append_assoc read (take whole bytes) (drop whole bytes))
-    ∙ ap (λ (bs : List ℕ). (read ++ take whole bytes) ++ bs) (sym c.keep_rest-filled.ensures.rest) in
+    ∙ ap (λ (bs : List ℕ). (read ++ take whole bytes) ++ bs) (sym (take-set c.keep_rest-filled.new.buffer kept _
+    ∙ c.keep_rest-filled.ensures.rest)) in
     record {
       short = c.keep_rest-filled.ensures.short;
       few = λ full. elim c.else-count-ge-MAX_RECORDS.branch [

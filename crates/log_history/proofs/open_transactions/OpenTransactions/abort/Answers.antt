@@ -1,27 +1,47 @@
-use Rattle.std.proofs.Common.{◌∙◌, ap, sym}
-use Rattle.log_history.specs.Table.{Table, entry_after, with_entry}
+use Rattle.std.proofs.Common.{◌∙◌, ap, refl, sym}
+use Rattle.std.proofs.lemmas.Bool.{false≢true}
+use Rattle.log_history.specs.OpenList.{entries_in}
+use Rattle.log_history.specs.Table.{Entry, IsActiveEntry, Table, entry_after, with_entry}
 use Rattle.log_records.specs.declared.record.Record.TheVariants.{Abort}
-use Rattle.log_history.proofs.Tracked.{IsAt, never, placed, tracks-alone, view-put}
+use Rattle.log_history.proofs.Stored.{keeps-alone, nobody-here, said-here, says-here, seated-put, tracks-seat, view-changed, view-stays}
 use Rattle.log_history.proofs.open_transactions.OpenTransactions.abort.Goals as goal
 
-pub invariant_of-self : goal.invariant_of-self
-invariant_of-self c =
-    let at : IsAt c.self.inside.entries.items c.in-Some.place c.args.txn c.index_mut-entry.result.now
-    = placed c.args.txn c.self.inside.entries.items c.deref.result.now c.in-Some.place c.index_mut-entry.result.now
-    c.deref.ensures.value c.in-Some.ensures c.index_mut-entry.ensures.value in
-    tracks-alone at c.self.invariant c.abort.new.self (ap (λ v. v.txn) c.abort.ensures.entry) c.abort.ensures.same.0
-    c.abort.ensures.same.1
+pub returns-in_default : goal.returns-in_default
+returns-in_default c = (
+  nobody-here c.self.inside.begun c.args.txn (entries_in c.self.inside.list) c.args.self.now (IsActiveEntry c.args.prev)
+      c.self.view_is (c.seat_of.ensures.none c.in_default.is),
+  refl,
+)
 
-pub returns-in-Some : goal.returns-in-Some
-returns-in-Some c = λ prev.
-    let at : IsAt c.self.inside.entries.items c.in-Some.place c.args.txn c.index_mut-entry.result.now
-    = placed c.args.txn c.self.inside.entries.items c.deref.result.now c.in-Some.place c.index_mut-entry.result.now
-    c.deref.ensures.value c.in-Some.ensures c.index_mut-entry.ensures.value in
-    ap (λ es. let v : Table = record { begun = c.self.inside.begun; entries = es } in v)
-    (sym (view-put at c.self.invariant (λ v. entry_after v
-    (Abort c.args.lsn c.args.txn prev)) c.abort.new.self c.abort.ensures.entry))
-    ∙ ap (λ (v : Table). with_entry v c.args.txn (Abort c.args.lsn c.args.txn prev)) c.self.view_is
+pub returns-then-not-is_active : goal.returns-then-not-is_active
+returns-then-not-is_active c = (
+  λ some. false≢true (sym c.if-not-is_active.true ∙ c.is_active.ensures.1
+      (said-here c.self.invariant c.in-Some.ensures.found c.index_mut-entry.ensures.value c.args.self.now c.self.view_is
+      (IsActiveEntry c.args.prev) some)),
+  ap (λ es. let v : Table = record { begun = c.self.inside.begun; entries = es } in v)
+      (view-stays c.self.invariant c.in-Some.ensures.found c.index_mut-entry.ensures.value c.index_mut-entry.result.now
+      refl)
+      ∙ c.self.view_is,
+)
 
-pub returns-in-None : goal.returns-in-None
-returns-in-None c = absurd (never c.self.inside.begun c.args.txn c.self.inside.entries.items c.deref.result.now c.args.self.now c.self.view_is
-    c.requires c.deref.ensures.value c.in-None.ensures)
+pub invariant_of-self-2 : goal.invariant_of-self-2
+invariant_of-self-2 c =
+    let is = c.abort.ensures in
+    record {
+      seated = seated-put c.self.invariant c.in-Some.ensures.found c.index_mut-entry.ensures.value c.abort.new.self
+          is.same.0;
+      tracks = tracks-seat c.self.invariant c.in-Some.ensures.found c.index_mut-entry.ensures.value c.abort.new.self
+          c.self.inside.claims
+          (keeps-alone c.self.invariant c.in-Some.ensures.found c.index_mut-entry.ensures.value c.abort.new.self
+          (ap (λ (v : Entry). v.txn) is.entry) is.same.0 is.same.1);
+    }
+
+pub returns : goal.returns
+returns c = (
+  says-here c.self.invariant c.in-Some.ensures.found c.index_mut-entry.ensures.value c.args.self.now c.self.view_is
+      (IsActiveEntry c.args.prev) (c.is_active.ensures.0 c.if-not-is_active.false),
+  ap (λ es. let v : Table = record { begun = c.self.inside.begun; entries = es } in v)
+      (sym (view-changed c.self.invariant c.in-Some.ensures.found c.index_mut-entry.ensures.value c.abort.new.self
+      (λ v. entry_after v (Abort c.args.lsn c.args.txn c.args.prev)) c.abort.ensures.entry))
+      ∙ ap (λ (v : Table). with_entry v c.args.txn (Abort c.args.lsn c.args.txn c.args.prev)) c.self.view_is,
+)

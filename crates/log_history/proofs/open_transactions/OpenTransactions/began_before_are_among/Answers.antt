@@ -1,6 +1,6 @@
-use Rattle.std.proofs.Common.{◌<◌, Contains, All, sym, subst}
-use Rattle.log_history.specs.declared.open_entry.OpenEntry.{OpenEntry}
+use Rattle.std.proofs.Common.{◌<◌, Contains, sym, subst}
 use Rattle.log_history.specs.CheckpointTable.{HasOldEntries}
+use Rattle.log_history.specs.OpenList.{entries_in}
 use Rattle.log_history.specs.Table.{Entry, Table}
 use Rattle.log_history.proofs.CheckpointTables.{all-viewed}
 use Rattle.log_history.proofs.open_transactions.OpenTransactions.began_before_are_among.Goals as goal
@@ -8,10 +8,8 @@ use Rattle.log_history.proofs.open_transactions.OpenTransactions.began_before_ar
 pub returns : goal.returns
 returns c =
     let P : Entry → Type 0 = λ e. e.first < c.args.lsn → Contains c.args.txns.now e.txn in
-    let entries = c.self.inside.entries.items in
-    let Q : OpenEntry → Type 0 = λ e. e.first < c.args.lsn → Contains c.args.txns.now e.txn in
-    let viewed = all-viewed P entries in
+    let viewed = all-viewed P (entries_in c.self.inside.list) in
     let Old : Table → Type 0 = λ t. HasOldEntries t c.args.lsn c.args.txns.now in (
-      λ yes. subst Old c.self.view_is (viewed.0 (subst (All Q) c.deref.ensures.value (c.are_among.ensures.0 yes))),
-      λ old. c.are_among.ensures.1 (subst (All Q) (sym c.deref.ensures.value) (viewed.1 (subst Old (sym c.self.view_is) old))),
+      λ yes. subst Old c.self.view_is (viewed.0 (c.are_among.ensures.0 yes)),
+      λ old. c.are_among.ensures.1 (viewed.1 (subst Old (sym c.self.view_is) old)),
     )

@@ -1,34 +1,61 @@
-use Rattle.std.proofs.Common.{◌∙◌, ap, sym}
-use Rattle.log_history.specs.Table.{Table, entry_after, with_entry}
+use Rattle.std.proofs.Common.{◌∙◌, ap, refl, sym}
+use Rattle.std.proofs.lemmas.Bool.{false≢true}
+use Rattle.log_history.specs.OpenList.{entries_in}
+use Rattle.log_history.specs.Table.{IsChained, Table, entry_after, with_entry}
+use Rattle.std.specs.Option.{IsSomeAnd}
+use Rattle.log_history.specs.Linked.{Compensates}
+use Rattle.log_history.specs.Transactions.{last_of}
 use Rattle.log_records.specs.declared.record.Record.TheVariants.{Comp}
-use Rattle.log_history.proofs.Tracked.{IsAt, held-at, never, placed, tracks-put, view-put}
+use Rattle.log_history.proofs.Stored.{at-seat, nobody-here, said-here, says-here, seated-put, tracks-seat, view-changed, view-stays}
+use Rattle.log_history.proofs.Tracked.{held-at}
 use Rattle.log_history.proofs.open_transactions.OpenTransactions.compensate.Goals as goal
+
+pub returns-in_default : goal.returns-in_default
+returns-in_default c = (
+  nobody-here c.self.inside.begun c.args.txn (entries_in c.self.inside.list) c.args.self.now
+      (λ e. IsChained c.args.prev e
+      × IsSomeAnd (last_of e.pending) (Compensates c.args.undo_next c.args.page c.args.slot c.args.change))
+      c.self.view_is (c.seat_of.ensures.none c.in_default.is),
+  refl,
+)
+
+pub returns-then-not-may_compensate : goal.returns-then-not-may_compensate
+returns-then-not-may_compensate c = (
+  λ some. false≢true (sym c.if-not-may_compensate.true ∙ c.may_compensate.ensures.1
+      (said-here c.self.invariant c.in-Some.ensures.found c.index_mut-entry.ensures.value c.args.self.now c.self.view_is
+      (λ e. IsChained c.args.prev e
+      × IsSomeAnd (last_of e.pending) (Compensates c.args.undo_next c.args.page c.args.slot c.args.change)) some)),
+  ap (λ es. let v : Table = record { begun = c.self.inside.begun; entries = es } in v)
+      (view-stays c.self.invariant c.in-Some.ensures.found c.index_mut-entry.ensures.value c.index_mut-entry.result.now
+      refl)
+      ∙ c.self.view_is,
+)
 
 pub compensate-requires-clause-held : goal.compensate-requires-clause-held
 compensate-requires-clause-held c =
-    let at : IsAt c.self.inside.entries.items c.in-Some.place c.args.txn c.index_mut-entry.result.now
-    = placed c.args.txn c.self.inside.entries.items c.deref.result.now c.in-Some.place c.index_mut-entry.result.now
-    c.deref.ensures.value c.in-Some.ensures c.index_mut-entry.ensures.value in
-    held-at at c.self.invariant
+    held-at (at-seat c.self.invariant c.in-Some.ensures.found c.index_mut-entry.ensures.value) c.self.invariant.tracks
 
-pub invariant_of-self : goal.invariant_of-self
-invariant_of-self c =
-    let at : IsAt c.self.inside.entries.items c.in-Some.place c.args.txn c.index_mut-entry.result.now
-    = placed c.args.txn c.self.inside.entries.items c.deref.result.now c.in-Some.place c.index_mut-entry.result.now
-    c.deref.ensures.value c.in-Some.ensures c.index_mut-entry.ensures.value in
-    tracks-put at c.self.invariant c.compensate.new.claims c.compensate.new.self c.compensate.ensures.kept
+pub invariant_of-self-2 : goal.invariant_of-self-2
+invariant_of-self-2 c =
+    let kept = c.compensate.ensures.kept in
+    record {
+      seated = seated-put c.self.invariant c.in-Some.ensures.found c.index_mut-entry.ensures.value
+          c.compensate.new.self kept.seat;
+      tracks = tracks-seat c.self.invariant c.in-Some.ensures.found c.index_mut-entry.ensures.value
+          c.compensate.new.self c.compensate.new.claims kept;
+    }
 
-pub returns-in-Some : goal.returns-in-Some
-returns-in-Some c = λ prev undo_next page slot change.
-    let at : IsAt c.self.inside.entries.items c.in-Some.place c.args.txn c.index_mut-entry.result.now
-    = placed c.args.txn c.self.inside.entries.items c.deref.result.now c.in-Some.place c.index_mut-entry.result.now
-    c.deref.ensures.value c.in-Some.ensures c.index_mut-entry.ensures.value in
-    ap (λ es. let v : Table = record { begun = c.self.inside.begun; entries = es } in v)
-    (sym (view-put at c.self.invariant (λ v. entry_after v
-    (Comp c.args.lsn c.args.txn prev undo_next page slot change)) c.compensate.new.self c.compensate.ensures.entry))
-    ∙ ap (λ (v : Table). with_entry v c.args.txn
-    (Comp c.args.lsn c.args.txn prev undo_next page slot change)) c.self.view_is
-
-pub returns-in-None : goal.returns-in-None
-returns-in-None c = absurd (never c.self.inside.begun c.args.txn c.self.inside.entries.items c.deref.result.now c.args.self.now c.self.view_is
-    c.requires c.deref.ensures.value c.in-None.ensures)
+pub returns : goal.returns
+returns c = (
+  says-here c.self.invariant c.in-Some.ensures.found c.index_mut-entry.ensures.value c.args.self.now c.self.view_is
+      (λ e. IsChained c.args.prev e
+      × IsSomeAnd (last_of e.pending) (Compensates c.args.undo_next c.args.page c.args.slot c.args.change))
+      (c.may_compensate.ensures.0 c.if-not-may_compensate.false),
+  ap (λ es. let v : Table = record { begun = c.self.inside.begun; entries = es } in v)
+      (sym (view-changed c.self.invariant c.in-Some.ensures.found c.index_mut-entry.ensures.value c.compensate.new.self
+      (λ v. entry_after v
+      (Comp c.args.lsn c.args.txn c.args.prev c.args.undo_next c.args.page c.args.slot c.args.change))
+      c.compensate.ensures.entry))
+      ∙ ap (λ (v : Table). with_entry v c.args.txn
+      (Comp c.args.lsn c.args.txn c.args.prev c.args.undo_next c.args.page c.args.slot c.args.change)) c.self.view_is,
+)

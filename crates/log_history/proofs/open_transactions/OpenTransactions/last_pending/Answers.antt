@@ -1,15 +1,15 @@
-use Rattle.std.proofs.Common.{◌≡◌, ◌∙◌, None, ap, sym, eqb, refl}
+use Rattle.std.proofs.Common.{◌≡◌, ◌∙◌, None, ap, sym, refl}
 use Rattle.log_history.specs.OpenEntry.{entry_view}
+use Rattle.log_history.specs.OpenList.{entries_in}
 use Rattle.log_history.specs.Table.{Table, entry_in}
 use Rattle.log_history.specs.Transactions.{last_of}
-use Rattle.log_history.proofs.Tracked.{IsAt, match_none, match_some, missing, placed}
+use Rattle.log_history.proofs.Stored.{at-seat, missing-txn}
+use Rattle.log_history.proofs.Tracked.{match_none, match_some}
 use Rattle.log_history.proofs.open_transactions.OpenTransactions.last_pending.Goals as goal
 
 pub returns-in-Some : goal.returns-in-Some
 returns-in-Some c =
-    let at : IsAt c.self.inside.entries.items c.in-Some.place c.args.txn c.index.result.now
-    = placed c.args.txn c.self.inside.entries.items c.deref.result.now c.in-Some.place c.index.result.now c.deref.ensures.value
-    c.in-Some.ensures c.index.ensures in
+    let at = at-seat c.self.invariant c.in-Some.ensures.found c.index.ensures in
     match_some (entry_in c.args.self.now c.args.txn) (entry_view c.index.result.now) (c.last_pending.result ≡ None)
     (λ e. c.last_pending.result ≡ last_of e.pending)
     (ap (λ (v : Table). entry_in v c.args.txn) (sym c.self.view_is) ∙ at.found) c.last_pending.ensures
@@ -18,5 +18,5 @@ pub returns-in-None : goal.returns-in-None
 returns-in-None c =
     match_none (entry_in c.args.self.now c.args.txn) (None ≡ None) (λ e. None ≡ last_of e.pending)
     (ap (λ (v : Table). entry_in v c.args.txn) (sym c.self.view_is)
-    ∙ missing (λ v. eqb v.txn c.args.txn) c.self.inside.entries.items c.deref.result.now c.deref.ensures.value c.in-None.ensures)
+    ∙ missing-txn c.args.txn (entries_in c.self.inside.list) (c.seat_of.ensures.none c.in-None.is))
     refl

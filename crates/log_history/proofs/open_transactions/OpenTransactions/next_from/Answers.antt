@@ -1,12 +1,14 @@
 use Rattle.std.proofs.Common.{ℕ, ◌≡◌, ◌∙◌, Some, None, map, ap, sym}
 use lib.Dec.{leb}
-use Rattle.std.specs.List.{find, position}
+use Rattle.std.specs.List.{find}
 use Rattle.std.specs.Option.{option_and_then, option_map}
 use Rattle.log_history.specs.declared.open_entry.OpenEntry.{OpenEntry}
 use Rattle.log_history.specs.OpenEntry.{entry_view}
+use Rattle.log_history.specs.OpenList.{entries_in}
 use Rattle.log_history.specs.Table.{Table, entry_in}
 use Rattle.log_history.specs.TxnState.{next_in, state_of}
-use Rattle.log_history.proofs.Tracked.{entry-there, found-first, found-none, least-next}
+use Rattle.log_history.proofs.Stored.{found-at}
+use Rattle.log_history.proofs.Tracked.{entry-there, least-next}
 use Rattle.log_history.proofs.open_transactions.OpenTransactions.next_from.Goals as goal
 
 -- what is known of the next one says the state
@@ -18,26 +20,22 @@ told table from x next here =
 
 pub returns-in-Some : goal.returns-in-Some
 returns-in-Some c =
-    let xs = c.self.inside.entries.items in
+    let xs = entries_in c.self.inside.list in
     let x = c.index.result.now in
-    let at : Some c.in-Some.place ≡ position (λ e. leb c.args.from e.txn) xs
-    = c.in-Some.ensures ∙ ap (position (λ (e : OpenEntry). leb c.args.from e.txn)) c.deref.ensures.value in
-    let first = found-first (λ e. leb c.args.from e.txn) xs c.in-Some.place x at in
+    let first : find (λ e. leb c.args.from e.txn) xs ≡ Some x = c.in-Some.ensures.first x ∙ ap Some (sym c.index.ensures) in
+    let at = found-at (λ e. leb c.args.from e.txn) xs x first in
     let table : Table = record { begun = c.self.inside.begun; entries = map entry_view xs } in
     ap Some c.state.ensures
     ∙ told table c.args.from x
-    (least-next c.args.from c.self.invariant ∙ ap (option_map (λ (e : OpenEntry). e.txn)) first.1
-    ∙ ap (λ (e : OpenEntry). Some e.txn) (sym c.index.ensures))
-    (entry-there c.in-Some.place x c.self.invariant first.0 c.index.ensures)
+    (least-next c.args.from c.self.invariant.tracks ∙ ap (option_map (λ (e : OpenEntry). e.txn)) first)
+    (entry-there at.0 x c.self.invariant.tracks at.1.0 at.1.1)
     ∙ ap (λ (v : Table). option_map state_of (option_and_then (entry_in v) (next_in v c.args.from))) c.self.view_is
 
 pub returns-in-None : goal.returns-in-None
 returns-in-None c =
-    let xs = c.self.inside.entries.items in
-    let none : find (λ e. leb c.args.from e.txn) xs ≡ None
-    = found-none (λ e. leb c.args.from e.txn) xs
-    (c.in-None.ensures ∙ ap (position (λ (e : OpenEntry). leb c.args.from e.txn)) c.deref.ensures.value) in
+    let xs = entries_in c.self.inside.list in
+    let none : find (λ e. leb c.args.from e.txn) xs ≡ None = c.first_from.ensures.none c.in-None.is in
     let table : Table = record { begun = c.self.inside.begun; entries = map entry_view xs } in
     ap (λ o. option_map state_of (option_and_then (entry_in table) o))
-    (sym (least-next c.args.from c.self.invariant ∙ ap (option_map (λ (e : OpenEntry). e.txn)) none))
+    (sym (least-next c.args.from c.self.invariant.tracks ∙ ap (option_map (λ (e : OpenEntry). e.txn)) none))
     ∙ ap (λ (v : Table). option_map state_of (option_and_then (entry_in v) (next_in v c.args.from))) c.self.view_is

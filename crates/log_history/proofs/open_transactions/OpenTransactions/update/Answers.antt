@@ -1,48 +1,58 @@
-use Rattle.std.proofs.Common.{◌∙◌, ap, sym}
-use Rattle.log_history.specs.Table.{Table, entry_after, with_entry}
-use Rattle.log_records.specs.declared.record.Record.TheVariants.{Update}
-use Rattle.log_history.proofs.Tracked.{IsAt, held-at, never, placed, tracks-put, view-put, view-same}
-use Rattle.std.proofs.lemmas.Result.{on_err_weaker, on_ok_weaker}
+use Rattle.std.proofs.Common.{◌∙◌, ap, refl, sym}
+use Rattle.std.proofs.lemmas.Bool.{false≢true}
+use Rattle.std.proofs.lemmas.Result.{IfOk-weaker, on_err_weaker}
+use Rattle.log_history.specs.OpenEntry.{Updates}
+use Rattle.log_history.specs.OpenList.{entries_in}
+use Rattle.log_history.specs.Table.{IsActiveEntry, Table}
+use Rattle.log_history.proofs.Barred.{notes-update}
+use Rattle.log_history.proofs.Stored.{at-seat, nobody-here, said-here, seated-put, tracks-seat, view-stays}
+use Rattle.log_history.proofs.Tracked.{held-at}
 use Rattle.log_history.proofs.open_transactions.OpenTransactions.update.Goals as goal
+
+pub returns-in_default-clause-ok : goal.returns-in_default-clause-ok
+returns-in_default-clause-ok c = (
+  λ may. nobody-here c.self.inside.begun c.args.txn (entries_in c.self.inside.list) c.args.self.now
+      (IsActiveEntry c.args.change.prev) c.self.view_is (c.seat_of.ensures.none c.in_default.is) may.0,
+  refl,
+)
+
+pub returns-then-not-is_active-clause-ok : goal.returns-then-not-is_active-clause-ok
+returns-then-not-is_active-clause-ok c = (
+  λ may. false≢true (sym c.if-not-is_active.true ∙ c.is_active.ensures.1
+      (said-here c.self.invariant c.in-Some.ensures.found c.index_mut-entry.ensures.value c.args.self.now c.self.view_is
+      (IsActiveEntry c.args.change.prev) may.0)),
+  ap (λ es. let v : Table = record { begun = c.self.inside.begun; entries = es } in v)
+      (view-stays c.self.invariant c.in-Some.ensures.found c.index_mut-entry.ensures.value c.index_mut-entry.result.now
+      refl)
+      ∙ c.self.view_is,
+)
 
 pub update-requires-clause-held : goal.update-requires-clause-held
 update-requires-clause-held c =
-    let at : IsAt c.self.inside.entries.items c.in-Some.place c.args.txn c.index_mut-entry.result.now
-    = placed c.args.txn c.self.inside.entries.items c.deref.result.now c.in-Some.place c.index_mut-entry.result.now
-    c.deref.ensures.value c.in-Some.ensures c.index_mut-entry.ensures.value in
-    held-at at c.self.invariant
+    held-at (at-seat c.self.invariant c.in-Some.ensures.found c.index_mut-entry.ensures.value) c.self.invariant.tracks
 
-pub invariant_of-self : goal.invariant_of-self
-invariant_of-self c =
-    let at : IsAt c.self.inside.entries.items c.in-Some.place c.args.txn c.index_mut-entry.result.now
-    = placed c.args.txn c.self.inside.entries.items c.deref.result.now c.in-Some.place c.index_mut-entry.result.now
-    c.deref.ensures.value c.in-Some.ensures c.index_mut-entry.ensures.value in
-    tracks-put at c.self.invariant c.update.new.claims c.update.new.self c.update.ensures.kept
+pub invariant_of-self-2 : goal.invariant_of-self-2
+invariant_of-self-2 c =
+    let kept = c.update.ensures.kept in
+    record {
+      seated = seated-put c.self.invariant c.in-Some.ensures.found c.index_mut-entry.ensures.value c.update.new.self
+          kept.seat;
+      tracks = tracks-seat c.self.invariant c.in-Some.ensures.found c.index_mut-entry.ensures.value c.update.new.self
+          c.update.new.claims kept;
+    }
 
-pub returns-in-Some-clause-ok : goal.returns-in-Some-clause-ok
-returns-in-Some-clause-ok c =
-    let at : IsAt c.self.inside.entries.items c.in-Some.place c.args.txn c.index_mut-entry.result.now
-    = placed c.args.txn c.self.inside.entries.items c.deref.result.now c.in-Some.place c.index_mut-entry.result.now
-    c.deref.ensures.value c.in-Some.ensures c.index_mut-entry.ensures.value in
-    on_ok_weaker c.update.result (λ is.
-    ap (λ es. let v : Table = record { begun = c.self.inside.begun; entries = es } in v)
-    (sym (view-put at c.self.invariant (λ v. entry_after v
-    (Update c.args.change.lsn c.args.txn c.args.change.prev c.args.change.page c.args.change.slot c.args.change.change)) c.update.new.self is))
-    ∙ ap (λ (v : Table). with_entry v c.args.txn
-    (Update c.args.change.lsn c.args.txn c.args.change.prev c.args.change.page c.args.change.slot c.args.change.change)) c.self.view_is)
+pub returns-clause-ok : goal.returns-clause-ok
+returns-clause-ok c =
+    IfOk-weaker c.update.result
+    (Updates c.self.inside.claims c.index_mut-entry.result.now c.update.new.self c.args.change) _
+    (notes-update c.self.invariant c.in-Some.ensures.found c.index_mut-entry.ensures.value c.args.self.now
+    c.self.view_is c.update.new.self c.args.change (c.is_active.ensures.0 c.if-not-is_active.false))
     c.update.ensures.ok
 
-pub returns-in-Some-clause-err : goal.returns-in-Some-clause-err
-returns-in-Some-clause-err c =
-    let at : IsAt c.self.inside.entries.items c.in-Some.place c.args.txn c.index_mut-entry.result.now
-    = placed c.args.txn c.self.inside.entries.items c.deref.result.now c.in-Some.place c.index_mut-entry.result.now
-    c.deref.ensures.value c.in-Some.ensures c.index_mut-entry.ensures.value in
-    on_err_weaker c.update.result (λ is.
+pub returns-clause-err : goal.returns-clause-err
+returns-clause-err c =
+    on_err_weaker c.update.result (λ same.
     ap (λ es. let v : Table = record { begun = c.self.inside.begun; entries = es } in v)
-    (view-same at c.self.invariant c.update.new.self is)
+    (view-stays c.self.invariant c.in-Some.ensures.found c.index_mut-entry.ensures.value c.update.new.self same)
     ∙ c.self.view_is)
     c.update.ensures.err
-
-pub returns-in-None-clause-ok : goal.returns-in-None-clause-ok
-returns-in-None-clause-ok c = absurd (never c.self.inside.begun c.args.txn c.self.inside.entries.items c.deref.result.now c.args.self.now c.self.view_is
-    c.requires c.deref.ensures.value c.in-None.ensures)

@@ -1,5 +1,5 @@
 use Rattle.std.proofs.Common.{◌∙◌, ap, cond, eqb, sym}
-use Rattle.log_history.specs.Claims.{has_seat}
+use Rattle.log_history.specs.SeatSet.{has_seat}
 use Rattle.log_history.proofs.Holds.{with_bit, without_bit}
 use Rattle.log_history.proofs.seat_set.SeatSet.with.Goals as goal
 

@@ -1,0 +1,175 @@
+-- The table of open transactions on its seats: what each change keeps.
+use Rattle.std.proofs.Common.{◌≡◌, ◌∙◌, ◌<◌, ◌+◌, ◌∷◌, [], ℕ, Bool, List, Option, None, Some, map, length, get_or, set, cond, eqb, inl, inr, not, refl, sym, ap, subst, arith}
+use Rattle.std.proofs.lemmas.Bool.{cases_lt}
+use Rattle.std.proofs.lemmas.List.{get_or-set_same, length-set, set-get_or}
+use Rattle.std.proofs.lemmas.List.Folds.{find_at}
+use Rattle.std.proofs.lemmas.Option.{get_or_from_slice_get, slice_get_past}
+use Rattle.std.specs.List.{filter, find, list_any, position_or_len, remove, slice_get}
+use Rattle.std.specs.Option.{IsSomeAnd, option_map}
+use Rattle.log_history.specs.declared.claims.Claims.{Claims}
+use Rattle.log_history.specs.declared.open_entry.OpenEntry.{OpenEntry}
+use Rattle.log_history.specs.declared.open_entry.Pending.{Pending}
+use Rattle.log_history.specs.declared.open_list.OpenList.{OpenList}
+use Rattle.log_history.specs.OpenEntry.{IsHeld, KeepsSeat, changes_of, entry_view}
+use Rattle.log_history.specs.declared.seat_set.TheConstants.{SEATS}
+use Rattle.log_history.specs.OpenList.{Adds, IsSeated, IsSound, Sits, entries_in, entries_of}
+use Rattle.log_history.specs.OpenTransactions.{IsStored, Tracks}
+use Rattle.log_history.specs.Table.{Entry, Table, entry_in}
+use Rattle.log_history.proofs.Seatings.{entries-remove, entries-set, seated-set, sits-at}
+use Rattle.log_history.proofs.Tracked.{IsAt, entry-there, find-view, held-at, is-there, tracks-drop, tracks-push, tracks-put, view-drop, view-put, view-same}
+
+-- what a search finds has a place
+pub found-at : (q : OpenEntry → Bool) (xs : List OpenEntry) (x : OpenEntry) → find q xs ≡ Some x
+    → (i : ℕ) × ((i < length xs) × (x ≡ get_or xs i x))
+found-at q xs x found =
+    let n = position_or_len q xs in
+    let at : slice_get xs n ≡ Some x = sym (find_at q xs) ∙ found in
+    elim (cases_lt n (length xs)) [
+      | inl below ↦ (n, (below, sym (get_or_from_slice_get xs n x x at)))
+      | inr above ↦ absurd (is-there (Some x) refl (sym at ∙ slice_get_past xs n above))
+    ]
+
+pub no-changes : (ps : List Pending) → changes_of ps ≡ [] → ps ≡ []
+no-changes [] none = refl
+no-changes (p ∷ ps) none = cc
+
+-- a number that no entry has
+pub missing-txn : (txn : ℕ) (xs : List OpenEntry) → find (λ e. eqb e.txn txn) xs ≡ None
+    → find (λ v. eqb v.txn txn) (map entry_view xs) ≡ None
+missing-txn txn xs none = find-view (λ v. eqb v.txn txn) xs ∙ ap (option_map entry_view) none
+
+module _ {begun txn seat : ℕ} {claims : Claims} {list : OpenList} {x : OpenEntry}
+    (stored : IsStored begun claims list)
+    (sits : Sits list.order.items list.seats.items txn seat) (there : x ≡ get_or list.seats.items seat x) where
+  pub at-seat : IsAt (entries_in list) sits.place txn x
+  at-seat =
+      let at = sits-at list.order.items list.seats.items list.taken txn seat x stored.seated sits in
+      let here : get_or (entries_in list) sits.place x ≡ x = at.1 ∙ sym there in
+      let is : x.txn ≡ txn = ap (λ (e : OpenEntry). e.txn) there ∙ sits.txn_is x in
+      record {
+        within = at.0;
+        there = here;
+        txn = is;
+        found = ap (λ n. find (λ v. eqb v.txn n) (map entry_view (entries_in list))) (sym is)
+            ∙ entry-there sits.place x stored.tracks at.0 (sym here);
+      }
+
+  pub seat-is : x.seat ≡ seat
+  seat-is = ap (λ (e : OpenEntry). e.seat) there ∙ stored.seated.own seat x sits.below
+
+  pub same-seats : list.seats.items ≡ set list.seats.items seat x
+  same-seats =
+      sym (ap (λ (y : OpenEntry). set list.seats.items seat y) there ∙ set-get_or list.seats.items seat x)
+
+  -- nothing changes
+  pub keeps-itself : KeepsSeat x x claims claims
+  keeps-itself = record {
+    txn = refl;
+    seat = refl;
+    held = held-at at-seat stored.tracks;
+    others = λ page slot other within apart. refl;
+  }
+
+  -- no pending change is new or gone
+  pub keeps-alone : (e : OpenEntry) → e.txn ≡ x.txn → e.seat ≡ x.seat → e.pending.items ≡ x.pending.items
+      → KeepsSeat x e claims claims
+  keeps-alone e same_txn same_seat same_items = record {
+    txn = same_txn;
+    seat = same_seat;
+    held = subst (λ ps. IsHeld claims e.seat ps) (sym same_items)
+        (subst (λ n. IsHeld claims n x.pending.items) (sym same_seat) (held-at at-seat stored.tracks));
+    others = λ page slot other within apart. refl;
+  }
+
+  -- the entry on the seat changes
+  module _ (e : OpenEntry) where
+    pub entries-put : entries_of list.order.items (set list.seats.items seat e) ≡ set (entries_in list) sits.place e
+    entries-put =
+        entries-set list.order.items list.seats.items list.taken sits.place seat e stored.seated sits.within
+        sits.seat_is
+
+    pub seated-put : e.seat ≡ x.seat → IsSeated list.order.items (set list.seats.items seat e) list.taken
+    seated-put same =
+        seated-set list.order.items list.seats.items list.taken seat e stored.seated sits.below (same ∙ seat-is)
+
+    pub tracks-seat : (after : Claims) → KeepsSeat x e claims after
+        → Tracks begun after (entries_of list.order.items (set list.seats.items seat e))
+    tracks-seat after kept = subst (Tracks begun after) (sym entries-put) (tracks-put at-seat stored.tracks after e kept)
+
+    pub view-changed : (g : Entry → Entry) → entry_view e ≡ g (entry_view x)
+        → map (λ v. cond (eqb v.txn txn) (g v) v) (map entry_view (entries_in list))
+        ≡ map entry_view (entries_of list.order.items (set list.seats.items seat e))
+    view-changed g is = view-put at-seat stored.tracks g e is ∙ ap (map entry_view) (sym entries-put)
+
+    pub view-stays : entry_view e ≡ entry_view x
+        → map entry_view (entries_of list.order.items (set list.seats.items seat e)) ≡ map entry_view (entries_in list)
+    view-stays same = ap (map entry_view) entries-put ∙ view-same at-seat stored.tracks e same
+
+    pub sits-still : Sits list.order.items (set list.seats.items seat e) e.txn seat
+    sits-still = record {
+      place = sits.place;
+      within = sits.within;
+      seat_is = sits.seat_is;
+      below = omega (arith, sits.below, length-set list.seats.items seat e);
+      txn_is = λ d. ap (λ (y : OpenEntry). y.txn) (get_or-set_same list.seats.items seat e d sits.below);
+    }
+
+    -- and its transaction is open no more
+    module _ (gone : OpenList) (order_is : gone.order.items ≡ remove list.order.items sits.place)
+        (seats_are : gone.seats.items ≡ set list.seats.items seat e) where
+      pub entries-gone : entries_in gone ≡ remove (set (entries_in list) sits.place e) sits.place
+      entries-gone =
+          ap (λ os. entries_of os gone.seats.items) order_is ∙ ap (entries_of (remove list.order.items sits.place)) seats_are
+          ∙ entries-remove list.order.items (set list.seats.items seat e) sits.place e
+          (λ k lt. omega (arith, stored.seated.there k lt, length-set list.seats.items seat e)) sits.within
+          ∙ ap (λ xs. remove xs sits.place) entries-put
+
+      pub stored-gone : (after : Claims) → KeepsSeat x e claims after → e.pending.items ≡ [] → IsSound gone
+          → IsStored begun after gone
+      stored-gone after kept none sound = record {
+        seated = sound;
+        tracks = subst (Tracks begun after) (sym entries-gone) (tracks-drop at-seat stored.tracks after e kept none);
+      }
+
+      pub view-gone : e.txn ≡ x.txn → e.seat ≡ x.seat
+          → filter (λ v. not (eqb v.txn txn)) (map entry_view (entries_in list)) ≡ map entry_view (entries_in gone)
+      view-gone same_txn same_seat =
+          view-drop at-seat stored.tracks e same_txn same_seat ∙ ap (map entry_view) (sym entries-gone)
+
+  -- ---- what the table says of the transaction
+
+  module _ (table : Table) (is : (record { begun = begun; entries = map entry_view (entries_in list) }) ≡ table) where
+    pub entry-here : entry_in table txn ≡ Some (entry_view x)
+    entry-here = ap (λ (v : Table). entry_in v txn) (sym is) ∙ at-seat.found
+
+    pub says-here : (P : Entry → Type 0) → P (entry_view x) → IsSomeAnd (entry_in table txn) P
+    says-here P p = subst (λ o. IsSomeAnd o P) (sym entry-here) p
+
+    pub said-here : (P : Entry → Type 0) → IsSomeAnd (entry_in table txn) P → P (entry_view x)
+    said-here P p = subst (λ o. IsSomeAnd o P) entry-here p
+
+-- ---- nobody has the number
+
+none-and : (P : Entry → Type 0) → (o : Option Entry) → o ≡ None → IsSomeAnd o P → ⊥
+none-and P None is p = p
+none-and P (Some v) is p = cc
+
+pub nobody-here : (begun txn : ℕ) (xs : List OpenEntry) (table : Table) (P : Entry → Type 0)
+    → (record { begun = begun; entries = map entry_view xs }) ≡ table
+    → find (λ e. eqb e.txn txn) xs ≡ None → IsSomeAnd (entry_in table txn) P → ⊥
+nobody-here begun txn xs table P is none some =
+    none-and P (entry_in table txn) (ap (λ (v : Table). entry_in v txn) (sym is) ∙ missing-txn txn xs none) some
+
+-- ---- one more
+
+pub stored-add : {begun : ℕ} {claims : Claims} {list : OpenList} (now : OpenList) (txn lsn : ℕ)
+    → IsStored begun claims list → IsSound now → Adds (entries_in list) (entries_in now) txn lsn → txn ≡ begun + 1
+    → IsStored (begun + 1) claims now
+stored-add {begun} {claims} {list} now txn lsn stored sound adds next = record {
+  seated = sound;
+  tracks = subst (Tracks (begun + 1) claims) (sym adds.entries)
+      (tracks-push adds.entry stored.tracks (adds.begun.txn_is ∙ next)
+      (subst (λ n. n < SEATS) (sym adds.begun.seat_is) adds.within)
+      (ap (λ n. list_any (λ (f : OpenEntry). eqb n f.seat) (entries_in list)) adds.begun.seat_is ∙ adds.free)
+      adds.begun.none_pending);
+}

@@ -1,0 +1,20 @@
+use Rattle.std.proofs.Common.{sym}
+use Rattle.log_history.specs.declared.mark.Holder.TheVariants.{Nobody, One}
+use Rattle.log_history.specs.Adders.{seats_at}
+use Rattle.log_history.specs.Claims.{no_hold}
+use Rattle.log_history.proofs.Holds.{hold_in-no_claim}
+use Rattle.log_history.proofs.Taken.{free-nobody, from_nobody, same_seats, taken}
+use Rattle.log_history.proofs.claims.Claims.take.Goals as goal
+
+pub returns-in_ok-put-in-Nobody-clause-ok : goal.returns-in_ok-put-in-Nobody-clause-ok
+returns-in_ok-put-in-Nobody-clause-ok c =
+    let before = c.args.self.now in
+    let page = c.args.page in
+    let slot = c.args.slot in
+    let seat = c.args.seat in
+    let there = seats_at before.adders page slot in
+    rw c.new.ensures
+    (taken before (record { marks = c.put.new.self; adders = before.adders }) page slot seat c.args.kind no_hold Nobody
+    (One seat c.args.kind) there (sym c.in-Nobody.ensures.holder) (free-nobody there c.args.kind seat)
+    (sym (hold_in-no_claim seat)) c.in_ok-put-in-Nobody.ensures.put (same_seats before page slot)
+    (λ other within. from_nobody seat c.args.kind there other))

@@ -1,0 +1,42 @@
+use Rattle.std.proofs.Common.{◌∙◌, ◌<◌, Some, ap, get_or, length, sym}
+use Rattle.std.proofs.lemmas.List.{get_or_default}
+use lib.Dec.{leb}
+use Rattle.std.specs.List.{find}
+use Rattle.log_history.specs.declared.open_entry.OpenEntry.{OpenEntry}
+use Rattle.log_history.specs.OpenList.{entries_in}
+use Rattle.log_history.proofs.Firsts.{find-first, find-more}
+use Rattle.log_history.proofs.Seatings.{below-seats, ge-leb, meets, met-all}
+use Rattle.log_history.proofs.open_list.OpenList.first_from.Goals as goal
+
+pub returns-then-ge-clause-first : goal.returns-then-ge-clause-first
+returns-then-ge-clause-first c = λ d.
+    let list = c.args.self.now in
+    let x = c.index.result.now in
+    let here = meets list.order.items c.deref-seat-items.result.now list.seats.items list.taken c.loop-seat.seat-index x
+    c.requires c.deref-seat-items.ensures.value c.loop-seat-test.true c.index.ensures in
+    let seat = get_or c.deref-seat-items.result.now c.loop-seat.seat-index 0 in
+    let below : seat < length list.seats.items =
+    below-seats list.order.items c.deref-seat-items.result.now list.seats.items list.taken c.loop-seat.seat-index
+    c.requires c.deref-seat-items.ensures.value c.loop-seat-test.true in
+    find-first (λ e. leb c.args.from e.txn) (entries_in list) c.loop-seat.seat-index x here.0 c.loop-seat.invariant
+    (ap (λ (e : OpenEntry). leb c.args.from e.txn) here.1 ∙ sym (ge-leb x.txn c.args.from) ∙ sym c.ge.ensures
+    ∙ c.if-ge.true)
+    ∙ ap Some (here.1 ∙ c.index.ensures ∙ get_or_default list.seats.items seat x d below)
+
+pub loop-seat-preserved : goal.loop-seat-preserved
+loop-seat-preserved c =
+    let list = c.args.self.now in
+    let x = c.index.result.now in
+    let here = meets list.order.items c.deref-seat-items.result.now list.seats.items list.taken c.loop-seat.seat-index x
+    c.requires c.deref-seat-items.ensures.value c.loop-seat-test.true c.index.ensures in
+    find-more (λ e. leb c.args.from e.txn) (entries_in list) c.loop-seat.seat-index x here.0 c.loop-seat.invariant
+    (ap (λ (e : OpenEntry). leb c.args.from e.txn) here.1 ∙ sym (ge-leb x.txn c.args.from) ∙ sym c.ge.ensures
+    ∙ c.if-ge.false)
+
+pub returns-clause-none : goal.returns-clause-none
+returns-clause-none c = λ none.
+    let list = c.args.self.now in
+    ap (λ xs. find (λ e. leb c.args.from e.txn) xs)
+    (sym (met-all list.order.items c.deref-seat-items.result.now list.seats.items list.taken c.loop-seat.seat-index
+    c.requires c.deref-seat-items.ensures.value c.loop-seat-test.false))
+    ∙ c.loop-seat.invariant
