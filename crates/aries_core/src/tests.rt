@@ -4,6 +4,7 @@ ghost use Rattle.std.specs.Prelude.{◌≤◌, ◌≡◌};
 ghost use Rattle.page_core.specs.Volume.{formatted_pages};
 ghost use Rattle.log_records.specs.Log.{IsPageCount};
 
+mod checkpoints;
 mod devices;
 mod rows;
 mod stores;
@@ -106,6 +107,22 @@ fn written(lsn: u64) -> Reply {
     Ok(Answer::Written(Lsn(lsn)))
 }
 
+fn more() -> Reply {
+    Ok(Answer::More)
+}
+
+fn done() -> Reply {
+    Ok(Answer::Done)
+}
+
+fn point(begin: u64, end: u64, redo: u64) -> Reply {
+    Ok(Answer::Point {
+        begin: Lsn(begin),
+        end: Lsn(end),
+        redo: Lsn(redo),
+    })
+}
+
 fn busy(txn: u32) -> Reply {
     Err(Refusal::SlotBusy(TxnNo(txn)))
 }
@@ -168,6 +185,9 @@ fn refusals_have_texts(rt: HostRuntime) -> Result<(), Fail> {
         (Refusal::NotDirty, "E10 NotDirty"),
         (Refusal::WriteBegun, "E11 WriteBegun"),
         (Refusal::NoWrite, "E12 NoWrite"),
+        (Refusal::CkptOpen, "E13 CkptOpen"),
+        (Refusal::NoCkpt, "E14 NoCkpt"),
+        (Refusal::GatherLeft, "E15 GatherLeft"),
         (Refusal::StoreFault, "E22 StoreFault"),
         (Refusal::LogFault, "E23 LogFault"),
         (Refusal::CommitUnsure(Lsn(192)), "E26 CommitUnsure 192"),

@@ -28,7 +28,7 @@ const COMPENSATION: [u64; 8] = [
 ];
 
 /// Asserts the replies both ways, on devices that have room for a record for each event.
-fn assert_row(
+pub(super) fn assert_row(
     rt: &impl Abort,
     alloc: Global,
     pages: u32,
