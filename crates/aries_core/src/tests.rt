@@ -3,6 +3,7 @@
 ghost use Rattle.std.specs.Prelude.{◌≡◌};
 ghost use Rattle.log_records.specs.Log.{IsPageCount};
 
+mod checkpoints;
 mod devices;
 mod rows;
 mod stores;
@@ -105,6 +106,22 @@ fn written(lsn: u64) -> Reply {
     Ok(Answer::Written(Lsn(lsn)))
 }
 
+fn more() -> Reply {
+    Ok(Answer::More)
+}
+
+fn done() -> Reply {
+    Ok(Answer::Done)
+}
+
+fn point(begin: u64, end: u64, redo: u64) -> Reply {
+    Ok(Answer::Point {
+        begin: Lsn(begin),
+        end: Lsn(end),
+        redo: Lsn(redo),
+    })
+}
+
 fn busy(txn: u32) -> Reply {
     Err(Refusal::SlotBusy(TxnNo(txn)))
 }
@@ -197,6 +214,21 @@ fn refusals_by_a_store_have_texts(rt: HostRuntime) -> Result<(), Fail> {
     assert_text(&rt, alloc, Refusal::LogFault, "E23 LogFault")?;
     let unsure = Refusal::CommitUnsure(Lsn(192));
     assert_text(&rt, alloc, unsure, "E26 CommitUnsure 192")
+}
+
+#[test]
+fn refusals_of_checkpoints_and_copies_have_texts(rt: HostRuntime) -> Result<(), Fail> {
+    let alloc = rt.alloc();
+    assert_text(&rt, alloc, Refusal::CkptOpen, "E13 CkptOpen")?;
+    assert_text(&rt, alloc, Refusal::NoCkpt, "E14 NoCkpt")?;
+    assert_text(&rt, alloc, Refusal::GatherLeft, "E15 GatherLeft")?;
+    assert_text(&rt, alloc, Refusal::NoMaster, "E16 NoMaster")?;
+    assert_text(&rt, alloc, Refusal::NoCopy, "E17 NoCopy")?;
+    assert_text(&rt, alloc, Refusal::CopyNotOpen, "E18 CopyNotOpen")?;
+    assert_text(&rt, alloc, Refusal::CopyNotComplete, "E19 CopyNotComplete")?;
+    assert_text(&rt, alloc, Refusal::PageDecided, "E20 PageDecided")?;
+    assert_text(&rt, alloc, Refusal::PagesLeft(PageNo(7)), "E21 PagesLeft 7")?;
+    assert_text(&rt, alloc, Refusal::TooManyCopies, "E25 TooManyCopies")
 }
 
 #[test]

@@ -1,8 +1,9 @@
 //! What is on a log's device, where one of its calls fails.
 
 use super::{
-    abort, add, began, call, commit, ended, engine_on, forced, logged, play_on, read, set,
-    setup_of, undid, undo, value,
+use super::{
+    abort, add, began, call, commit, done, ended, engine_on, forced, logged, more, play_on, point,
+    read, set, setup_of, undid, undo, value,
 };
 use crate::{Engine, Event, PlayFault, Refusal, Reply, play};
 use log_store::{FaultyDevice, MemDevice, read_log};
@@ -139,6 +140,42 @@ fn each_call_fails_beside_another_transaction(rt: HostRuntime) -> Result<(), Fai
     for k in 7..9 {
         let row = one_beside_another(forced(192), logged(320), unsure(448));
         assert_row(&rt, rt.alloc(), &row, k, 7)?;
+    }
+    Ok(())
+}
+
+/// A checkpoint is closed where its end is not forced, and the next one gathers what it did.
+fn checkpoints() -> [(Event, Reply); 16] {
+    [
+        (Event::Begin, began(1, 64)),
+        (set(1, 0, 0, 5), logged(128)),
+        (Event::CkptBegin, logged(192)),
+        (Event::CkptGather, more()),
+        (Event::CkptGather, more()),
+        (Event::CkptGather, more()),
+        (Event::CkptGather, done()),
+        (Event::CkptEnd, Err(Refusal::LogFault)),
+        (Event::CkptEnd, Err(Refusal::NoCkpt)),
+        (Event::CkptGather, Err(Refusal::NoCkpt)),
+        (Event::CkptBegin, logged(448)),
+        (Event::CkptGather, more()),
+        (Event::CkptGather, more()),
+        (Event::CkptGather, more()),
+        (Event::CkptGather, done()),
+        (Event::CkptEnd, point(448, 640, 128)),
+    ]
+}
+
+#[test]
+fn each_call_at_the_end_of_a_checkpoint_fails(rt: HostRuntime) -> Result<(), Fail> {
+    let alloc = rt.alloc();
+    let row = checkpoints();
+    for k in 2..8 {
+        assert_row(&rt, alloc, &row, k, 7)?;
+        let device = FaultyDevice::new(MemDevice::new(alloc, row.len())?, k);
+        let mut engine = engine_on(alloc, 1, device)?;
+        call(&rt, &mut engine, &row[..8])?;
+        assert_eq!(rt; engine.master(), None);
     }
     Ok(())
 }

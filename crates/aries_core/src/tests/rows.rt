@@ -77,8 +77,8 @@ fn assert_called(
     Ok(())
 }
 
-/// Asserts the replies both ways.
-fn assert_row(
+/// Asserts the replies both ways, on devices that have room for a record for each event.
+pub(super) fn assert_row(
     rt: &impl Abort,
     alloc: Global,
     pages: u32,

@@ -1,0 +1,278 @@
+//! Checkpoints: rows of calls, their bytes, and what stands where a device or a store fails.
+
+ghost use Rattle.std.specs.Prelude.{◌≡◌, IfOk};
+ghost use Rattle.page_core.specs.Volume.{formatted_pages};
+
+use super::rows::assert_row;
+use super::{
+    began, call_row, commit, done, logged, more, point, read, set, value, write_begin, write_end,
+    writing, written,
+};
+use crate::{Event, Refusal, Reply};
+use log_store::{MASTER_BYTES, Master, MemDevice, encode_master};
+use page_core::Lsn;
+use page_store::{FaultyStore, MemStore};
+use std::alloc::Global;
+use std::process::Abort;
+use std::test::Fail;
+
+/// A dirty page and an open transaction are gathered.
+fn of_one_page() -> [(Event, Reply); 8] {
+    [
+        (Event::Begin, began(1, 64)),
+        (set(1, 0, 0, 5), logged(128)),
+        (Event::CkptBegin, logged(192)),
+        (Event::CkptGather, more()),
+        (Event::CkptGather, more()),
+        (Event::CkptGather, more()),
+        (Event::CkptGather, done()),
+        (Event::CkptEnd, point(192, 384, 128)),
+    ]
+}
+
+/// The records of that checkpoint, from 192 on, each eight bytes as one number.
+const RECORDS: [[u64; 8]; 4] = [
+    [
+        0x0700_0000_0000_0000,
+        0,
+        0,
+        0,
+        0,
+        0,
+        0,
+        0xc000_0000_0000_0000,
+    ],
+    [
+        0x0800_0000_0000_0000,
+        0xc000_0000_0000_0000,
+        0x0100_0000_0000_0000,
+        0x8000_0000_0000_0000,
+        0,
+        0,
+        0,
+        0x0001_0000_0000_0000,
+    ],
+    [
+        0x0900_0000_0000_0000,
+        0xc000_0000_0000_0000,
+        0x0000_0000_0100_0000,
+        0x0100_0000_8000_0000,
+        0x0000_0000_8000_0000,
+        0,
+        0,
+        0x4001_0000_0000_0000,
+    ],
+    [
+        0x0a00_0000_0000_0000,
+        0xc000_0000_0000_0000,
+        0,
+        0x8000_0000_0000_0000,
+        0,
+        0,
+        0,
+        0x8001_0000_0000_0000,
+    ],
+];
+
+/// And its master, whose further bytes are 0.
+const MASTER: [u64; 3] = [
+    0x4149_4d47_4d53_5431,
+    0xc000_0000_0000_0000,
+    0x8001_0000_0000_0000,
+];
+
+#[test]
+fn a_dirty_page_is_gathered(rt: HostRuntime) -> Result<(), Fail> {
+    assert_row(&rt, rt.alloc(), 1, &of_one_page())
+}
+
+/// Asserts that these LSNs are spelled as that master.
+fn assert_master(rt: &impl Abort, begin: Lsn, end: Lsn) {
+    let master = encode_master(&Master { begin, end });
+    assert_eq!(rt; master.len(), MASTER_BYTES);
+    for (part, number) in master.chunks_exact(8).zip(&MASTER) {
+        assert_eq!(rt; part, number.to_be_bytes().as_slice());
+    }
+    assert!(rt; master[24..].iter().all(|byte| *byte == 0));
+}
+
+#[test]
+fn a_checkpoint_has_these_bytes(rt: HostRuntime) -> Result<(), Fail> {
+    let alloc = rt.alloc();
+    let (store, device) = (MemStore::new(alloc, 1)?, MemDevice::new(alloc, 8)?);
+    let engine = call_row(&rt, alloc, 1, store, device, &of_one_page())?;
+    let bytes = engine.log.device().bytes();
+    assert_eq!(rt; bytes.len(), 448);
+    for (part, number) in bytes[192..].chunks_exact(8).zip(RECORDS.iter().flatten()) {
+        assert_eq!(rt; part, number.to_be_bytes().as_slice());
+    }
+    assert!(rt; engine.master().is_some());
+    if let Some(point) = engine.master() {
+        assert_master(&rt, point.begin, point.end);
+    }
+    Ok(())
+}
+
+/// The page is dirtied when the cursor has passed it.
+#[test]
+fn a_page_changes_behind_the_cursor(rt: HostRuntime) -> Result<(), Fail> {
+    let row = [
+        (Event::Begin, began(1, 64)),
+        (Event::CkptBegin, logged(128)),
+        (Event::CkptGather, more()),
+        (set(1, 0, 0, 5), logged(192)),
+        (Event::CkptGather, more()),
+        (Event::CkptGather, done()),
+        (Event::CkptEnd, point(128, 320, 128)),
+    ];
+    assert_row(&rt, rt.alloc(), 1, &row)
+}
+
+#[test]
+fn a_page_changed_during_a_write_is_gathered(rt: HostRuntime) -> Result<(), Fail> {
+    let row = [
+        (Event::Begin, began(1, 64)),
+        (set(1, 0, 0, 5), logged(128)),
+        (write_begin(0), writing(128)),
+        (set(1, 0, 0, 6), logged(192)),
+        (write_end(0), written(128)),
+        (Event::CkptBegin, logged(256)),
+        (Event::CkptGather, more()),
+        (Event::CkptGather, more()),
+        (Event::CkptGather, more()),
+        (Event::CkptGather, done()),
+        (Event::CkptEnd, point(256, 448, 192)),
+    ];
+    assert_row(&rt, rt.alloc(), 1, &row)
+}
+
+#[test]
+fn a_checkpoint_is_asked_for_out_of_turn(rt: HostRuntime) -> Result<(), Fail> {
+    let row = [
+        (Event::CkptGather, Err(Refusal::NoCkpt)),
+        (Event::CkptEnd, Err(Refusal::NoCkpt)),
+        (Event::CkptBegin, logged(64)),
+        (Event::CkptGather, more()),
+        (Event::CkptGather, done()),
+        (Event::CkptGather, done()),
+        (Event::CkptEnd, point(64, 128, 64)),
+        (Event::Begin, began(1, 192)),
+        (set(1, 0, 0, 5), logged(256)),
+        (Event::CkptBegin, logged(320)),
+        (Event::CkptGather, more()),
+        (Event::CkptEnd, Err(Refusal::GatherLeft)),
+        (Event::CkptBegin, Err(Refusal::CkptOpen)),
+        (commit(1), logged(448)),
+    ];
+    assert_row(&rt, rt.alloc(), 1, &row)
+}
+
+fn four_dirty_pages() -> [(Event, Reply); 7] {
+    [
+        (Event::Begin, began(1, 64)),
+        (set(1, 0, 0, 1), logged(128)),
+        (set(1, 1, 0, 1), logged(192)),
+        (set(1, 2, 0, 1), logged(256)),
+        (set(1, 3, 0, 1), logged(320)),
+        (Event::CkptBegin, logged(384)),
+        (Event::CkptGather, more()),
+    ]
+}
+
+/// Asserts the replies of a row that goes on where four pages are dirty and three are gathered.
+fn assert_goes_on(rt: &impl Abort, alloc: Global, rest: &[(Event, Reply)]) -> Result<(), Fail> {
+    let mut row = Vec::new(alloc);
+    for &pair in &four_dirty_pages() {
+        row.push(pair)?;
+    }
+    for &pair in rest {
+        row.push(pair)?;
+    }
+    assert_row(rt, alloc, 4, &row)
+}
+
+#[test]
+fn three_pages_go_into_a_record(rt: HostRuntime) -> Result<(), Fail> {
+    let rest = [
+        (Event::CkptGather, more()),
+        (Event::CkptGather, more()),
+        (Event::CkptGather, more()),
+        (Event::CkptGather, done()),
+        (Event::CkptEnd, point(384, 640, 128)),
+    ];
+    assert_goes_on(&rt, rt.alloc(), &rest)
+}
+
+/// The fourth page is clean when its turn comes, so its step appends nothing.
+#[test]
+fn a_page_is_written_before_its_turn(rt: HostRuntime) -> Result<(), Fail> {
+    let rest = [
+        (write_begin(3), writing(320)),
+        (write_end(3), written(320)),
+        (Event::CkptGather, more()),
+        (Event::CkptGather, more()),
+        (Event::CkptGather, done()),
+        (Event::CkptEnd, point(384, 576, 128)),
+    ];
+    assert_goes_on(&rt, rt.alloc(), &rest)
+}
+
+/// A store of one page whose first call fails.
+fn failing_store(alloc: Global) -> Result<FaultyStore, Fail>
+    ensures { IfOk result (λ store. store.pages ≡ formatted_pages 1) }
+{
+    Ok(FaultyStore::new(alloc, MemStore::new(alloc, 1)?, 1)?)
+}
+
+/// A write fails before its page is gathered, and the page is gathered as it was.
+#[test]
+fn a_page_that_was_not_stored_is_gathered(rt: HostRuntime) -> Result<(), Fail> {
+    let alloc = rt.alloc();
+    let row = [
+        (Event::Begin, began(1, 64)),
+        (set(1, 0, 0, 5), logged(128)),
+        (write_begin(0), writing(128)),
+        (Event::CkptBegin, logged(192)),
+        (write_end(0), Err(Refusal::StoreFault)),
+        (Event::CkptGather, more()),
+        (write_end(0), written(128)),
+        (Event::CkptGather, more()),
+        (Event::CkptGather, more()),
+        (Event::CkptGather, done()),
+        (Event::CkptEnd, point(192, 384, 128)),
+        (read(0, 0), value(5)),
+    ];
+    let device = MemDevice::new(alloc, row.len())?;
+    let engine = call_row(&rt, alloc, 1, failing_store(alloc)?, device, &row)?;
+    assert_eq!(rt; engine.master().map(|point| point.redo), Some(Lsn(128)));
+    Ok(())
+}
+
+/// A checkpoint over 65,536 pages of which the first so many are dirty.
+fn assert_large(rt: &impl std::process::Abort, alloc: Global, dirty: u32) -> Result<(), Fail> {
+    let mut row = Vec::new(alloc);
+    row.push((Event::Begin, began(1, 64)))?;
+    let mut lsn = 128;
+    for page in 0..dirty.min(65_536) {
+        row.push((set(1, page, 0, 1), logged(lsn)))?;
+        lsn += 64;
+    }
+    let begin = lsn;
+    row.push((Event::CkptBegin, logged(begin)))?;
+    let records = dirty.min(65_536).div_ceil(3);
+    for _ in 0..records + 2 {
+        row.push((Event::CkptGather, more()))?;
+    }
+    row.push((Event::CkptGather, done()))?;
+    let end = begin + 64 * (records as u64 + 2);
+    let redo = if dirty == 0 { begin } else { 128 };
+    row.push((Event::CkptEnd, point(begin, end, redo)))?;
+    assert_row(rt, alloc, 65_536, &row)
+}
+
+#[test]
+fn many_pages_are_looked_at(rt: HostRuntime) -> Result<(), Fail> {
+    assert_large(&rt, rt.alloc(), 0)?;
+    assert_large(&rt, rt.alloc(), 1)?;
+    assert_large(&rt, rt.alloc(), 65_536)
+}
