@@ -145,7 +145,7 @@ failed_gather : (old : EngineState) (why : Refusal) (new : EngineState) → Fail
 failed_gather old OutOfMemory new fails = fails.1
 failed_gather old why new fails = absurd fails
 
-master_of_step : (old : EngineState) (event : Event) (reply : Result Answer Refusal) (new : EngineState)
+pub master_of_step : (old : EngineState) (event : Event) (reply : Result Answer Refusal) (new : EngineState)
     → Step old event reply new → new.master ≡ with_point old.master event reply
 master_of_step old event.CkptBegin (Ok reply) new step = same_master old new _ step.2 refl
 master_of_step old event.CkptGather (Ok reply) new step =
@@ -159,6 +159,12 @@ master_of_step old event.CkptEnd (Err why) new (inl both) = same_master old new 
 master_of_step old event.CkptEnd (Err why) new (inr both) = failed_point old why new both.1
 master_of_step old event reply new step =
     (keeps_ckpts old event reply new tt step).master ∙ sym (same_if_beside old.master event reply tt)
+
+-- a master stays one, or another takes its place
+pub has_point : (point : Option Point) (event : Event) (reply : Result Answer Refusal) → IsSome point
+    → IsSome (with_point point event reply)
+has_point point event.CkptEnd (Ok (answer.Point begin last redo)) has = refl
+has_point point event reply has = has
 
 pub master_of_run : (old : EngineState) (events : List Event) (replies : List (Result Answer Refusal))
     (new : EngineState) → Run old events replies new → new.master ≡ point_from old.master events replies

@@ -1,7 +1,7 @@
 -- The image copies of an engine after a step.
 use Rattle.std.proofs.Common.{◌≡◌, ℕ, zero, suc, ◌+◌, ◌<◌, ◌≤◌, ◌++◌, ◌⊎◌, List, [], ◌∷◌, length, get_or, set, refl, sym, ap, subst}
 use Rattle.std.proofs.Common.{◌∙◌, arith, inl, inr}
-use Rattle.std.specs.Prelude.{Option, Some, None, IfSome, Result, Ok, Err}
+use Rattle.std.specs.Prelude.{Option, Some, None, IfSome, IsSome, Result, Ok, Err}
 use Rattle.std.specs.List.{All}
 use Rattle.std.specs.Option.{option_map_or}
 use Rattle.std.proofs.Math.ListN.{get_or-eq_default}
@@ -27,14 +27,15 @@ use Rattle.aries_core.specs.declared.event.Event.{Event}
 use Rattle.aries_core.specs.declared.event.Event.TheVariants as event
 use Rattle.aries_core.specs.declared.refusal.Refusal.{Refusal}
 use Rattle.aries_core.specs.declared.refusal.Refusal.TheVariants.{CommitUnsure, LogFault, OutOfMemory, StoreFault}
-use Rattle.aries_core.specs.EngineState.{EngineState, IsFit, IsMasterOf, effect, image_of, log_of, stored_page, with_copies}
+use Rattle.aries_core.specs.EngineState.{EngineState, HaveMaster, IsFit, IsMasterOf, effect, image_of, log_of, stored_page, with_copies}
 use Rattle.aries_core.specs.EventFits.{EventFits}
 use Rattle.aries_core.specs.Refusal.{refusal}
 use Rattle.aries_core.specs.Step.{Fails, Step}
 use Rattle.aries_core.proofs.Beside.{Stores, StoresNone, StoresOne, redo_before_end, stores}
+use Rattle.aries_core.proofs.CkptLaws.{has_point, master_of_step}
 use Rattle.aries_core.proofs.Forces.{Forces}
 use Rattle.aries_core.proofs.Gathers.{ckpt_end_has, closed_part, gather_has}
-use Rattle.aries_core.proofs.Refusals.{drop_passes, inc_passes, seal_passes, take_passes}
+use Rattle.aries_core.proofs.Refusals.{drop_passes, full_passes, inc_passes, seal_passes, take_passes}
 use Rattle.aries_core.proofs.Stands.{stands}
 use Rattle.aries_core.proofs.Steps.{Grows, Stays, stored_or_not}
 use Rattle.aries_core.proofs.Writes.{PageStep}
@@ -43,7 +44,7 @@ use Rattle.aries_core.proofs.Writes.{PageStep}
 pub data CopyStep (old new : EngineState) : Type 0 where
   LeavesCopies : new.copies ≡ old.copies → CopyStep old new
   ChangesCopies : (copies : List CopyState) → AreCopied old.log old.forced_end old.stored copies
-      → new ≡ with_copies old copies → CopyStep old new
+      → IsSome old.master → new ≡ with_copies old copies → CopyStep old new
 
 -- ---- a copy begins
 
@@ -140,16 +141,22 @@ answered old event.CkptGather new fit none is =
     leaves old new _ is (gather_has (λ s. s.copies ≡ old.copies) old refl (λ left. refl) (λ r left. refl))
 answered old event.CkptEnd new fit none is =
     leaves old new _ is (ckpt_end_has (λ s. s.copies ≡ old.copies) old refl (λ c. refl))
-answered old event.CopyFull new fit none is = ChangesCopies _ (opens old Full _ fit tt) is
+answered old event.CopyFull new fit none is = ChangesCopies _ (opens old Full _ fit tt) (full_passes old none) is
 answered old (event.CopyInc parent) new fit none is =
-    ChangesCopies _ (opens old (Inc parent) _ fit (has_parent old parent fit none)) is
-answered old (event.Take copy page) new fit none is = ChangesCopies _ (takes old copy page fit none) is
+    let there = inc_passes old parent none in
+    ChangesCopies _ (opens old (Inc parent) _ fit (has_parent old parent fit none))
+    (fit.noted parent there.0 (ap copy_in there.1)) is
+answered old (event.Take copy page) new fit none is =
+    let passes = take_passes old copy page none in
+    ChangesCopies _ (takes old copy page fit none) (fit.noted copy passes.view (ap copy_in passes.is_read)) is
 answered old (event.Seal copy) new fit none is =
     let there = seal_passes old copy none in
-    ChangesCopies _ (copied_sealed old.log old.forced_end old.stored old.copies copy there.0 fit.copied there.1) is
+    ChangesCopies _ (copied_sealed old.log old.forced_end old.stored old.copies copy there.0 fit.copied there.1)
+    (fit.noted copy there.0 (ap copy_in there.1)) is
 answered old (event.DropCopy copy) new fit none is =
     let there = drop_passes old copy none in
-    ChangesCopies _ (copied_dropped old.log old.forced_end old.stored old.copies copy there.0 fit.copied there.1) is
+    ChangesCopies _ (copied_dropped old.log old.forced_end old.stored old.copies copy there.0 fit.copied there.1)
+    (fit.noted copy there.0 (ap copy_in there.1)) is
 
 failed : (old : EngineState) (event : Event) (why : Refusal) (new : EngineState) → Fails old event why new
     → CopyStep old new
@@ -207,5 +214,18 @@ copies_fit old event reply new fit numbers forces pages kind step = by_step (cop
         (copied_forced new.log old.forced_end new.forced_end new.stored old.copies forces.no_less
         (copied_by_log old event reply new new.stored fit numbers kind
         (copied_by_store old new fit (stores old new fit pages))))
-    by_step (ChangesCopies copies are is) =
+    by_step (ChangesCopies copies are some is) =
         subst (λ (s : EngineState). AreCopied s.log s.forced_end s.stored s.copies) (sym is) are
+
+-- where there is a copy, a checkpoint is complete
+pub noted_fit : (old : EngineState) (event : Event) (reply : Result Answer Refusal) (new : EngineState) → IsFit old
+    → Step old event reply new → HaveMaster new.master new.copies
+noted_fit old event reply new fit step = by_step (copy_step old event reply new fit step)
+  where
+    stays : IsSome old.master → IsSome new.master
+    stays has = subst (λ (o : Option Point). IsSome o) (sym (master_of_step old event reply new step)) (has_point old.master event reply has)
+
+    by_step : CopyStep old new → HaveMaster new.master new.copies
+    by_step (LeavesCopies same) = λ id copy is.
+        stays (fit.noted id copy (ap (λ (cs : List CopyState). copy_in (state_of cs id)) (sym same) ∙ is))
+    by_step (ChangesCopies copies are some is) = λ id copy has. stays some

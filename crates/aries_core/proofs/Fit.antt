@@ -25,13 +25,13 @@ use Rattle.aries_core.specs.declared.event.Answer.{Answer}
 use Rattle.aries_core.specs.declared.event.Event.{Event}
 use Rattle.aries_core.specs.declared.refusal.Refusal.{Refusal}
 use Rattle.aries_core.specs.Call.{Calls}
-use Rattle.aries_core.specs.EngineState.{EngineState, IsFit, appended, end, log_of, new_state}
+use Rattle.aries_core.specs.EngineState.{EngineState, HaveMaster, IsFit, appended, end, log_of, new_state}
 use Rattle.aries_core.specs.EventFits.{EventFits}
 use Rattle.aries_core.specs.Run.{Run}
 use Rattle.aries_core.specs.Step.{Step}
 use Rattle.aries_core.proofs.Beside.{gathered_later}
 use Rattle.aries_core.proofs.CkptFits.{FitsCkpts, ckpts_fit, master_now}
-use Rattle.aries_core.proofs.CopySteps.{copies_fit}
+use Rattle.aries_core.proofs.CopySteps.{copies_fit, noted_fit}
 use Rattle.aries_core.proofs.Follows.{follows}
 use Rattle.aries_core.proofs.Forces.{EndsAtRecord, Forces, forces}
 use Rattle.aries_core.proofs.Rooms.{room_grows}
@@ -59,8 +59,8 @@ goes_on old event reply new forces (inr grows) = record {
 
 fit_stays : (old : EngineState) (event : Event) (reply : Result Answer Refusal) (new : EngineState) → IsFit old
     → EndsAtRecord new → PagesFit new → FitsCkpts new
-    → AreCopied new.log new.forced_end new.stored new.copies → Stays old event reply new → IsFit new
-fit_stays old event reply new fit forced pages ckpts copied stays = record {
+    → AreCopied new.log new.forced_end new.stored new.copies → HaveMaster new.master new.copies → Stays old event reply new → IsFit new
+fit_stays old event reply new fit forced pages ckpts copied noted stays = record {
   valid = rw (stays.pages, stays.log) fit.valid;
   linked = rw stays.log fit.linked;
   room = rw stays.log fit.room;
@@ -71,6 +71,7 @@ fit_stays old event reply new fit forced pages ckpts copied stays = record {
   gathered = ckpts.gathered;
   master = ckpts.master;
   copied = copied;
+  noted = noted;
 }
 
 room_push : (rs : List Record) (r : Record)
@@ -110,12 +111,13 @@ fit_appended s r fit calls =
       gathered = gathered_later (log_of s) r s.stored s.left fit.valid fit.linked calls.of_transaction may at.lsn fit.gathered;
       master = master_now s r fit at.lsn;
       copied = copied_later s.log r s.forced_end s.stored s.copies (forced_low s r fit at.lsn) fit.copied;
+      noted = fit.noted;
     }
 
 fit_grows : (old : EngineState) (event : Event) (reply : Result Answer Refusal) (new : EngineState) → IsFit old
     → EventFits event → EndsAtRecord new → PagesFit new → FitsCkpts new
-    → AreCopied new.log new.forced_end new.stored new.copies → Grows old event reply new → IsFit new
-fit_grows old event reply new fit numbers forced pages ckpts copied grows =
+    → AreCopied new.log new.forced_end new.stored new.copies → HaveMaster new.master new.copies → Grows old event reply new → IsFit new
+fit_grows old event reply new fit numbers forced pages ckpts copied noted grows =
     let r = grows.r in
     let may = follows old event r fit grows.accepted grows.made in
     let whole = room_grows old event r fit grows.accepted grows.made in
@@ -132,6 +134,7 @@ fit_grows old event reply new fit numbers forced pages ckpts copied grows =
       gathered = ckpts.gathered;
       master = ckpts.master;
       copied = copied;
+      noted = noted;
     }
 
 pub fit_of_step : (old : EngineState) (event : Event) (reply : Result Answer Refusal) (new : EngineState) → IsFit old
@@ -144,9 +147,10 @@ fit_of_step old event reply new fit numbers step =
     let pages = pages_fit old new fit goes stored in
     let ckpts = ckpts_fit old event reply new fit numbers forces stored kind step in
     let copied = copies_fit old event reply new fit numbers forces stored kind step in
+    let noted = noted_fit old event reply new fit step in
     elim kind [
-      | inl stays ↦ fit_stays old event reply new fit forces.at_record pages ckpts copied stays
-      | inr grows ↦ fit_grows old event reply new fit numbers forces.at_record pages ckpts copied grows
+      | inl stays ↦ fit_stays old event reply new fit forces.at_record pages ckpts copied noted stays
+      | inr grows ↦ fit_grows old event reply new fit numbers forces.at_record pages ckpts copied noted grows
     ]
 
 pub fit_of_run : (old : EngineState) (events : List Event) (replies : List (Result Answer Refusal)) (new : EngineState)
@@ -220,6 +224,7 @@ new_is_fit pages count = record {
   gathered = tt;
   master = tt;
   copied = no_copies (new_state pages);
+  noted = λ id copy is. absurd (none_some copy (ap copy_in (sym (no_copy id)) ∙ is));
 }
   where
     room_of_none : (n : ℕ) → n ≤ 0

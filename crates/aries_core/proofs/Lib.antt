@@ -17,6 +17,7 @@ pub mod PageLaws
 pub mod Plays
 pub mod PoolStates
 pub mod Refusals
+pub mod Retires
 pub mod Rooms
 pub mod Runs
 pub mod Stands

@@ -1,6 +1,6 @@
 -- What an event that is not refused has passed.
 use Rattle.std.proofs.Common.{◌≡◌, ℕ, ◌+◌, ◌<◌, ◌≤◌, ◌⊎◌, Bool, true, false, ◌&&◌, not, length, refl, sym, ap, ◌∙◌, inl, inr}
-use Rattle.std.specs.Prelude.{Option, Some, None, is_none, is_some, nat_le}
+use Rattle.std.specs.Prelude.{Option, Some, None, IsSome, is_none, is_some, nat_le}
 use Rattle.std.specs.Option.{option_map, option_or}
 use Rattle.std.proofs.lemmas.Option.{cond_some, same_Some}
 use Rattle.std.proofs.lemmas.Bool.{not-false, leb-false, ltb-false, ltb-true}
@@ -11,6 +11,7 @@ use Rattle.log_records.specs.declared.limits.TheConstants.{MAX_OPEN, MAX_RECORDS
 use Rattle.log_records.specs.declared.record.Record.{Record}
 use Rattle.log_history.specs.Checkpoint.{Checkpoint, open_checkpoint}
 use Rattle.log_history.specs.Transactions.{holder, is_open, is_rolling, open_in, owed}
+use Rattle.fuzzy_ckpt.specs.declared.point.Point.{Point}
 use Rattle.copy_vault.specs.declared.fault.CopyFault.{CopyFault}
 use Rattle.copy_vault.specs.declared.fault.CopyFault.TheVariants as fault
 use Rattle.copy_vault.specs.Copy.{CopyView}
@@ -424,3 +425,10 @@ take_passes s copy page none =
       is_read = there.1;
       within = leb-false _ _ (not_refused _ _ rest.0);
     }
+
+master_if : (o : Option Point) → is_none o ≡ false → IsSome o
+master_if None e = cc
+master_if (Some point) e = refl
+
+pub full_passes : (s : EngineState) → refusal s event.CopyFull ≡ None → IsSome s.master
+full_passes s none = master_if s.master (not_refused _ _ (none_of_both (refused_if (is_none s.master) NoMaster) _ none).0)

@@ -78,6 +78,7 @@ force_kept stored it new table pool ckpts kept same no_less ends =
             fit.master);
         copied = rw same (copied_forced it.log.records it.forced_end new.forced_end (stored pool.store) ckpts.copies no_less
             fit.copied);
+        noted = fit.noted;
       };
       table_of_log = rw same kept.table_of_log;
       pool_of_log = rw same kept.pool_of_log;

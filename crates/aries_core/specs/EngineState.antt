@@ -1,7 +1,7 @@
 -- What an engine is, and what an accepted call makes of it.
 use Rattle.std.specs.Prelude.{ℕ, ◌≡◌, ◌+◌, ◌<◌, ◌≤◌, List, [], ◌∷◌, ◌++◌, length, max}
 use Rattle.std.specs.Prelude.{replicate, slice_index, slice_index_or, slice_set, take, Option, Some}
-use Rattle.std.specs.Prelude.{None, IfSome, if◌then◌else◌}
+use Rattle.std.specs.Prelude.{IsSome, None, IfSome, if◌then◌else◌}
 use Rattle.std.specs.List.{All}
 use Rattle.std.specs.Option.{option_map, option_map_or}
 use Rattle.page_core.specs.declared.change.Change.{Change}
@@ -23,6 +23,7 @@ use Rattle.log_history.specs.Linked.{IsLinked, number_in}
 use Rattle.log_records.specs.Log.{IsLog, Log, lsn_of}
 use Rattle.log_history.specs.Transactions.{begun, last_lsn, last_of, owed, pending}
 use Rattle.log_history.specs.Table.{Table}
+use Rattle.log_store.specs.declared.master.Master.{Master}
 use Rattle.log_store.specs.WrittenLog.{WrittenLog, end_up_to}
 use Rattle.txn_table.specs.TxnTable.{IsTableOf}
 use Rattle.fuzzy_ckpt.specs.declared.point.Point.{Point}
@@ -32,9 +33,10 @@ use Rattle.copy_vault.specs.declared.copy_id.CopyKind.{CopyKind}
 use Rattle.copy_vault.specs.declared.copy_id.CopyKind.TheVariants.{Full, Inc}
 use Rattle.copy_vault.specs.declared.copy_id.Decision.{Decision}
 use Rattle.copy_vault.specs.declared.copy_id.Decision.TheVariants.{Taken, Kept}
+use Rattle.copy_vault.specs.Copy.{CopyView}
 use Rattle.copy_vault.specs.Vault.{CopyState, answer_in, decided, opened, sealed, state_of}
 use Rattle.copy_vault.specs.Vault.{taken_in, without}
-use Rattle.copy_coverage.specs.Copied.{AreCopied}
+use Rattle.copy_coverage.specs.Copied.{AreCopied, copy_in}
 use Rattle.aries_core.specs.declared.event.Answer.{Answer}
 use Rattle.aries_core.specs.declared.event.Answer.TheVariants as answer
 use Rattle.aries_core.specs.declared.event.Event.{Event}
@@ -287,6 +289,10 @@ effect s (event.DropCopy copy) = record {
   state = with_copies s (without s.copies copy);
 }
 
+-- the master record of a complete checkpoint
+abbrev pub master_record : Point → Master
+master_record point = record { begin = point.begin; end = point.end }
+
 -- ---- the invariant
 
 -- each page of the volume has its place in each list
@@ -316,6 +322,11 @@ pub record IsMasterOf (rs : List Record) (stored : List Page) (forced_end : ℕ)
   pub forced : point.end < forced_end
   pub covered : AllCover rs stored point.redo
 
+-- a copy begins only where a checkpoint is complete
+abbrev pub HaveMaster : Option Point → List CopyState → Type 0
+HaveMaster master copies = (id : ℕ) (copy : CopyView) → copy_in (state_of copies id) ≡ Some copy
+    → IsSome master
+
 -- what holds of every engine, whatever calls came and whatever its devices did
 pub record IsFit (s : EngineState) : Type 0 where
   pub valid : IsLog (log_of s)
@@ -328,6 +339,7 @@ pub record IsFit (s : EngineState) : Type 0 where
   pub gathered : IfSome (open_checkpoint s.log) (IsGathering s.log s.stored s.left)
   pub master : IfSome s.master (IsMasterOf s.log s.stored s.forced_end)
   pub copied : AreCopied s.log s.forced_end s.stored s.copies
+  pub noted : HaveMaster s.master s.copies
 
 -- ---- the engine, its store and its device
 

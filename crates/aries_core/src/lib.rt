@@ -11,6 +11,7 @@ mod open_ckpt;
 mod page_writes;
 mod played;
 mod refusal;
+mod retire;
 mod setup;
 
 pub use ckpt_laws::{

@@ -1,0 +1,40 @@
+-- What an engine leaves is what it kept.
+use Rattle.std.proofs.Common.{◌≡◌, ℕ, ◌<◌, List, refl, sym, ap, subst, ◌∙◌}
+use Rattle.std.specs.Prelude.{Option, Some, None, IfSome, IsSome}
+use Rattle.std.specs.Option.{option_map}
+use Rattle.page_core.specs.declared.page.Page.{Page}
+use Rattle.log_records.specs.declared.record.Record.{Record}
+use Rattle.log_records.specs.Log.{Log}
+use Rattle.log_store.specs.declared.master.Master.{Master}
+use Rattle.fuzzy_ckpt.specs.declared.point.Point.{Point}
+use Rattle.copy_coverage.specs.Copied.{copy_in}
+use Rattle.copy_coverage.specs.Retired.{IsMasterOf, IsRetired, RetiredView}
+use Rattle.copy_coverage.proofs.Copied.{restorable}
+use Rattle.aries_core.specs.EngineState.{EngineState, IsFit, log_of, master_record}
+use Rattle.aries_core.specs.EngineState as engine
+
+named : (rs : List Record) (stored : List Page) (forced_end : ℕ) (point : Option Point)
+    → IfSome point (engine.IsMasterOf rs stored forced_end)
+    → IfSome (option_map master_record point) (IsMasterOf rs forced_end)
+named rs stored forced_end None has = tt
+named rs stored forced_end (Some point) has = record { complete = has.complete; forced = has.forced }
+
+mapped : (point : Option Point) → IsSome point → IsSome (option_map master_record point)
+mapped None has = has
+mapped (Some point) has = refl
+
+pub left_by : (s : EngineState) → IsFit s → IsRetired (record {
+    log = log_of s;
+    forced_end = s.forced_end;
+    master = option_map master_record s.master;
+    copies = s.copies;
+})
+left_by s fit = record {
+  valid = fit.valid;
+  linked = fit.linked;
+  room = fit.room;
+  forced = fit.forced;
+  master = named s.log s.stored s.forced_end s.master fit.master;
+  copies = restorable (log_of s) s.forced_end s.stored s.copies fit.counted.stored fit.copied;
+  noted = λ id copy is. mapped s.master (fit.noted id copy (ap copy_in is));
+}
