@@ -32,7 +32,8 @@ pub begin_may : (s : EngineState) (p : ℕ) → p < s.pages → is_some (image_o
     → is_none (rec_lsn_of s p) ≡ false → refusal s (event.WriteBegin p) ≡ None
 begin_may s p within idle dirty = rw (lt-leb s.pages p within, idle, dirty) refl
 
-none_by_some : {X : Type 0} (o : Option X) (b : Bool) → is_some o ≡ b → is_none o ≡ (elim b as (λ (b : Bool). Bool) [ true ↦ false | false ↦ true ])
+none_by_some : {X : Type 0} (o : Option X) (b : Bool) → is_some o ≡ b → is_none o ≡ (elim b as (λ
+    (b : Bool). Bool) [ true ↦ false | false ↦ true ])
 none_by_some None b e = ap (λ (b : Bool). elim b as (λ (b : Bool). Bool) [ true ↦ false | false ↦ true ]) e
 none_by_some (Some x) b e = ap (λ (b : Bool). elim b as (λ (b : Bool). Bool) [ true ↦ false | false ↦ true ]) e
 
@@ -90,7 +91,8 @@ ended_is stored it pool after ckpts p q store states =
     rw (store, written, writing) refl
 
 pub repeated_is : {S D : Type 0} (stored : S → List Page) (it : WrittenLog D) (pool after : PoolView S)
-    (ckpts : CkptsView) (p : ℕ) (q : Page) → stored after.store ≡ set (stored pool.store) p q → after.states ≡ pool.states
+    (ckpts : CkptsView) (p : ℕ) (q : Page) → stored after.store ≡ set (stored pool.store) p q
+    → after.states ≡ pool.states
     → (engine_view stored it after ckpts).state ≡ with_stored (engine_view stored it pool ckpts).state p q
 repeated_is stored it pool after ckpts p q store states = rw (store, states) refl
 

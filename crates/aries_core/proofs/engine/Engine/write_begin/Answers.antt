@@ -37,7 +37,8 @@ call g c =
     let within : p < length it.pool.states = omega arith in
     let forced = said c.force_to.result _ (sym c.is_err.ensures.value ∙ c.if-is_err.false) c.force_to.ensures.forced in
     let number = c.in-Ok.ensures.numbered in
-    begun stored it.log c.force_to.new.self it.txns it.pool c.write_begin.new.self (ckpts_view it.master it.session) p c.write_begin.result q
+    begun stored it.log c.force_to.new.self it.txns it.pool c.write_begin.new.self
+    (ckpts_view it.master it.session) p c.write_begin.result q
     c.self.invariant none within (c.in-Ok.ensures.image (log_of s) c.self.invariant.pool_of_log)
     c.write_begin.ensures.lsn c.force_to.ensures.same
     (forced ∙ ap (λ (x : Page). max it.log.forced_end (end_up_to it.log.log x.lsn)) c.page.ensures)
