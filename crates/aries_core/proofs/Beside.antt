@@ -1,5 +1,5 @@
 -- The open checkpoint and the master, while transactions and writes of pages go on beside them.
-use Rattle.std.proofs.Common.{◌≡◌, ℕ, ◌<◌, ◌≤◌, ◌++◌, ◌⊎◌, List, [], ◌∷◌, length, get_or, set, refl, sym, ap, subst, ◌∙◌, arith, inl, inr}
+use Rattle.std.proofs.Common.{◌≡◌, ℕ, ◌<◌, ◌≤◌, ◌++◌, List, [], ◌∷◌, length, get_or, set, refl, sym, ap, subst, ◌∙◌, arith, inl, inr}
 use Rattle.std.specs.Prelude.{Option, Some, None, IfSome, Result, Ok, Err}
 use Rattle.std.proofs.lemmas.List.{append_assoc, get_or_at, length-append}
 use Rattle.std.proofs.lemmas.Option.{same_Some}
@@ -14,7 +14,6 @@ use Rattle.log_history.specs.Checkpoint.{Checkpoint, IsCompleteCheckpoint, open_
 use Rattle.log_history.specs.Linked.{IsLinked, MayFollow}
 use Rattle.log_history.specs.Transactions.{last_of, pending}
 use Rattle.fuzzy_ckpt.specs.declared.point.Point.{Point}
-use Rattle.fuzzy_ckpt.specs.Ckpt.{AllCover}
 use Rattle.fuzzy_ckpt.proofs.Covers.{all_later, all_written, behind_later, behind_written}
 use Rattle.fuzzy_ckpt.proofs.Opens.{ckpt_kept, open_same}
 use Rattle.aries_core.specs.declared.event.Answer.{Answer}
@@ -206,7 +205,8 @@ redo_before_end log begin end is valid =
     let k = length is.before in
     let r = EndChkpt end begin is.redo in
     let there : k < length rs = omega (arith, ap length is.ended, length-append is.before (r ∷ is.behind)) in
-    let at : get_or rs k r ≡ r = ap (λ (xs : List Record). get_or xs k r) is.ended ∙ get_or_at is.before r is.behind r k refl in
+    let at : get_or rs k r ≡ r = ap (λ (xs : List Record). get_or xs k r) is.ended
+    ∙ get_or_at is.before r is.behind r k refl in
     let stands = subst (StandsAt log.pages (lsn_of k)) at (valid.records k r there) in
     stands.valid.2.earlier
 

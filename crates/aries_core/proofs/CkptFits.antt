@@ -1,10 +1,8 @@
 -- The open checkpoint and the master after a step.
-use Rattle.std.proofs.Common.{◌≡◌, ℕ, ◌<◌, ◌≤◌, ◌++◌, ◌⊎◌, List, [], ◌∷◌, length, refl, sym, ap, subst, ◌∙◌, arith, inl, inr}
+use Rattle.std.proofs.Common.{◌≡◌, ℕ, ◌≤◌, ◌++◌, ◌⊎◌, List, [], ◌∷◌, length, refl, sym, ap, subst, ◌∙◌, arith, inl, inr}
 use Rattle.std.specs.Prelude.{Option, Some, None, IfSome, IsSomeAnd, Result, Ok, Err}
 use Rattle.std.proofs.lemmas.List.{length_push}
-use Rattle.std.proofs.lemmas.List.Elements.{All-nil}
 use Rattle.page_core.specs.declared.page.Page.{Page}
-use Rattle.log_records.specs.declared.dirty_page.DirtyPage.{DirtyPage}
 use Rattle.log_records.specs.declared.record.Record.{Record}
 use Rattle.log_records.specs.declared.record.Record.TheVariants.{BeginChkpt}
 use Rattle.log_records.specs.Log.{lsn_of}
@@ -17,7 +15,7 @@ use Rattle.aries_core.specs.declared.event.Event.{Event}
 use Rattle.aries_core.specs.declared.event.Event.TheVariants as event
 use Rattle.aries_core.specs.declared.refusal.Refusal.{Refusal}
 use Rattle.aries_core.specs.declared.refusal.Refusal.TheVariants.{LogFault, OutOfMemory}
-use Rattle.aries_core.specs.EngineState.{EngineState, IsFit, IsGathering, IsMasterOf, appended, begin_ckpt_record, closed, effect, end, end_ckpt_record, forced_to, gathering, log_of, point_of, with_master}
+use Rattle.aries_core.specs.EngineState.{EngineState, IsFit, IsGathering, IsMasterOf, begin_ckpt_record, closed, effect, end, end_ckpt_record, forced_to, log_of, point_of}
 use Rattle.aries_core.specs.EventFits.{EventFits}
 use Rattle.aries_core.specs.Gather.{none_left, pages_left, session_of}
 use Rattle.aries_core.specs.Refusal.{refusal}
@@ -46,11 +44,13 @@ forced_within s fit = let k = fit.forced.0 in let le = fit.forced.1 in let is = 
 -- the master with one more record
 pub master_now : (s : EngineState) (r : Record) → IsFit s → own_lsn r ≡ end s
     → IfSome s.master (IsMasterOf (s.log ++ r ∷ []) s.stored s.forced_end)
-master_now s r fit own = master_later (log_of s) r s.stored s.forced_end s.master fit.valid own (forced_within s fit) fit.master
+master_now s r fit own = master_later (log_of s) r s.stored s.forced_end s.master fit.valid own
+    (forced_within s fit) fit.master
 
 -- ---- a checkpoint begins
 
-begun_gathered : (rs : List Record) (stored : List Page) (lsn : ℕ) → AreGathered (rs ++ BeginChkpt lsn ∷ []) stored pages_left
+begun_gathered : (rs : List Record) (stored : List Page) (lsn : ℕ) → AreGathered
+    (rs ++ BeginChkpt lsn ∷ []) stored pages_left
 begun_gathered rs stored lsn =
     subst (λ (o : Option Checkpoint). IfSome o (IsGathering (rs ++ BeginChkpt lsn ∷ []) stored pages_left))
     (sym (open_push rs (BeginChkpt lsn)))
@@ -172,7 +172,8 @@ ckpts_fit old event.CkptBegin (Ok answer) new fit numbers forces pages kind step
       gathered = begun_gathered old.log old.stored (end old);
       master = master_now old (begin_ckpt_record old) fit refl;
     })
-ckpts_fit old event.CkptGather (Ok answer) new fit numbers forces pages kind step = gathered_fit old new fit step.0 step.2
+ckpts_fit old event.CkptGather
+    (Ok answer) new fit numbers forces pages kind step = gathered_fit old new fit step.0 step.2
 ckpts_fit old event.CkptEnd (Ok answer) new fit numbers forces pages kind step = ended_fit old new fit step.0 step.2
 ckpts_fit old event.CkptBegin (Err why) new fit numbers forces pages kind (inl both) =
     subst FitsCkpts (sym both.1) (ckpts_now old fit)
@@ -188,7 +189,8 @@ ckpts_fit old event.CkptEnd (Err why) new fit numbers forces pages kind (inl bot
     subst FitsCkpts (sym both.1) (ckpts_now old fit)
 ckpts_fit old event.CkptEnd (Err OutOfMemory) new fit numbers forces pages kind (inr both) =
     subst FitsCkpts (sym both.1.1) (ckpts_now old fit)
-ckpts_fit old event.CkptEnd (Err LogFault) new fit numbers forces pages kind (inr both) = unforced_fit old new fit both.1
+ckpts_fit old event.CkptEnd (Err LogFault) new fit numbers forces pages kind
+    (inr both) = unforced_fit old new fit both.1
 ckpts_fit old event.CkptEnd (Err why) new fit numbers forces pages kind (inr both) = absurd both.1
 ckpts_fit old event reply new fit numbers forces pages kind step =
     beside_fit old event reply new fit numbers tt forces pages kind step

@@ -1,5 +1,5 @@
 -- Laws of checkpoints, of steps and of whole runs.
-use Rattle.std.proofs.Common.{◌≡◌, ℕ, ◌<◌, ◌≤◌, ◌↔◌, ◌⊎◌, ◌++◌, Bool, true, false, not, List, [], ◌∷◌, length, get_or, refl, sym, ap, subst, subst₂, ◌∙◌, arith, inl, inr}
+use Rattle.std.proofs.Common.{◌≡◌, ℕ, ◌<◌, ◌≤◌, ◌↔◌, ◌++◌, Bool, true, false, not, List, [], ◌∷◌, get_or, refl, sym, ap, subst, subst₂, ◌∙◌, arith, inl, inr}
 use Rattle.std.specs.Prelude.{Option, Some, None, IfSome, IsSome, IsSomeAnd, Result, Ok, Err, is_none, is_some}
 use Rattle.std.proofs.lemmas.List.{length_push}
 use Rattle.page_core.specs.declared.page.Page.{Page}
@@ -15,13 +15,12 @@ use Rattle.aries_core.specs.declared.event.Event.TheVariants as event
 use Rattle.aries_core.specs.declared.refusal.Refusal.{Refusal}
 use Rattle.aries_core.specs.declared.refusal.Refusal.TheVariants.{CkptOpen, GatherLeft, LogFault, LogFull, NoCkpt, OutOfMemory}
 use Rattle.aries_core.specs.CkptReplies.{gather_from, point_from, with_gather, with_point}
-use Rattle.aries_core.specs.EngineState.{EngineState, IsFit, IsMasterOf, closed, effect, end, end_ckpt_record}
+use Rattle.aries_core.specs.EngineState.{EngineState, IsFit, IsMasterOf, effect, end, end_ckpt_record}
 use Rattle.aries_core.specs.Gather.{is_done}
 use Rattle.aries_core.specs.Refusal.{has_no_room, or_else, refused_if, refusal}
 use Rattle.aries_core.specs.Run.{Run}
 use Rattle.aries_core.specs.Step.{Fails, Step}
 use Rattle.aries_core.proofs.Beside.{IsBeside, keeps_ckpts, of_transaction}
-use Rattle.aries_core.proofs.Follows.{none_is_not_some}
 use Rattle.aries_core.proofs.Gathers.{PassesPages, PassesTxns, TakesPages, TakesTxn, WasDone, ckpt_end_is, closed_part}
 use Rattle.aries_core.proofs.Gathers.{gather_case, gather_has, passes_pages, passes_txns, takes_pages, takes_txn, was_done}
 use Rattle.aries_core.proofs.Refusals.{ckpt_end_passes, gather_passes}
@@ -54,13 +53,15 @@ point_is_master old begin at redo new step =
     let passes = ckpt_end_passes old step.0 in
     let c = passes.ckpt in
     let outcome = ckpt_end_is old c passes.still_open in
-    let said : answer.Point begin at redo ≡ answer.Point c.begin (end old) (redo_point c) = step.1 ∙ ap (λ o. o.answer) outcome in
+    let said : answer.Point begin at redo ≡ answer.Point c.begin (end old) (redo_point c) = step.1
+    ∙ ap (λ o. o.answer) outcome in
     let same_begin : begin ≡ c.begin = cc in
     let same_end : at ≡ end old = cc in
     let same_redo : redo ≡ redo_point c = cc in
     let state = step.2 ∙ ap (λ o. o.state) outcome in
     let forced_is = ap (λ (s : EngineState). s.forced_end) state in (
-      subst (λ (o : Option Checkpoint). IsSomeAnd o (λ x. (begin ≡ x.begin) × (redo ≡ redo_point x))) (sym passes.still_open)
+      subst (λ (o : Option Checkpoint). IsSomeAnd o (λ x. (begin ≡ x.begin) × (redo ≡ redo_point x)))
+          (sym passes.still_open)
           (same_begin, same_redo),
       rw (same_begin, same_end, same_redo) (ap (λ (s : EngineState). s.log) state),
       omega (arith, same_end, forced_is, length_push old.log (end_ckpt_record old c)),
@@ -152,9 +153,11 @@ master_of_step old event.CkptGather (Ok reply) new step =
     same_master old new _ step.2 (gather_has (λ s. s.master ≡ old.master) old refl (λ left. refl) (λ r left. refl))
 master_of_step old event.CkptEnd (Ok reply) new step = ended_point old reply new step.0 step.1 step.2
 master_of_step old event.CkptBegin (Err why) new (inl both) = same_master old new old both.1 refl
-master_of_step old event.CkptBegin (Err why) new (inr both) = same_master old new old (failed_begin old why new both.1) refl
+master_of_step old event.CkptBegin (Err why) new (inr both) = same_master old new old
+    (failed_begin old why new both.1) refl
 master_of_step old event.CkptGather (Err why) new (inl both) = same_master old new old both.1 refl
-master_of_step old event.CkptGather (Err why) new (inr both) = same_master old new old (failed_gather old why new both.1) refl
+master_of_step old event.CkptGather (Err why) new (inr both) = same_master old new old
+    (failed_gather old why new both.1) refl
 master_of_step old event.CkptEnd (Err why) new (inl both) = same_master old new old both.1 refl
 master_of_step old event.CkptEnd (Err why) new (inr both) = failed_point old why new both.1
 master_of_step old event reply new step =
@@ -281,19 +284,23 @@ beside_tells old event reply new done beside tells step =
 told_step : (old : EngineState) (event : Event) (reply : Result Answer Refusal) (new : EngineState) (done : Bool)
     → Tells old done → Step old event reply new → Tells new (with_gather done event reply)
 told_step old event.CkptBegin (Ok reply) new done tells step = λ some. ap (λ (s : EngineState). is_done s.left) step.2
-told_step old event.CkptGather (Ok reply) new done tells step = gather_tells old done reply new tells step.0 step.1 step.2
+told_step old event.CkptGather
+    (Ok reply) new done tells step = gather_tells old done reply new tells step.0 step.1 step.2
 told_step old event.CkptEnd (Ok reply) new done tells step =
     let passes = ckpt_end_passes old step.0 in
     let c = passes.ckpt in
     let log_is = ap (λ (s : EngineState). s.log) (step.2 ∙ ap (λ o. o.state) (ckpt_end_is old c passes.still_open)) in
     none_tells new done (ap open_checkpoint log_is ∙ open_push old.log (end_ckpt_record old c))
 told_step old event.CkptBegin (Err why) new done tells (inl both) = same_tells old new done tells both.1
-told_step old event.CkptBegin (Err why) new done tells (inr both) = same_tells old new done tells (failed_begin old why new both.1)
+told_step old event.CkptBegin (Err why) new done tells (inr both) = same_tells old new done tells
+    (failed_begin old why new both.1)
 told_step old event.CkptGather (Err why) new done tells (inl both) = same_tells old new done tells both.1
-told_step old event.CkptGather (Err why) new done tells (inr both) = same_tells old new done tells (failed_gather old why new both.1)
+told_step old event.CkptGather (Err why) new done tells (inr both) = same_tells old new done tells
+    (failed_gather old why new both.1)
 told_step old event.CkptEnd (Err why) new done tells (inl both) = same_tells old new done tells both.1
 told_step old event.CkptEnd (Err OutOfMemory) new done tells (inr both) = same_tells old new done tells both.1.1
-told_step old event.CkptEnd (Err LogFault) new done tells (inr both) = none_tells new done (unforced_at old new both.1).1
+told_step old event.CkptEnd (Err LogFault) new done tells (inr both) = none_tells new done
+    (unforced_at old new both.1).1
 told_step old event.CkptEnd (Err why) new done tells (inr both) = absurd both.1
 told_step old event reply new done tells step = beside_tells old event reply new done tt tells step
 

@@ -108,7 +108,8 @@ fit_appended s r fit calls =
       };
       stored = stored_later s.log (r ∷ []) s.stored s.written s.writing fit.stored;
       stable = record { pages = fit.stable.pages; images = fit.stable.images };
-      gathered = gathered_later (log_of s) r s.stored s.left fit.valid fit.linked calls.of_transaction may at.lsn fit.gathered;
+      gathered = gathered_later
+          (log_of s) r s.stored s.left fit.valid fit.linked calls.of_transaction may at.lsn fit.gathered;
       master = master_now s r fit at.lsn;
       copied = copied_later s.log r s.forced_end s.stored s.copies (forced_low s r fit at.lsn) fit.copied;
       noted = fit.noted;

@@ -16,7 +16,7 @@ use Rattle.log_records.specs.Log.{StandsAt}
 use Rattle.log_history.specs.Checkpoint.{Checkpoint, checkpoint_after, open_checkpoint, redo_point, with_pages, with_txn}
 use Rattle.log_history.specs.Linked.{HasOldTxns, MayEnd, MayFollow}
 use Rattle.log_history.specs.Transactions.{last_of}
-use Rattle.fuzzy_ckpt.specs.Ckpt.{AreCovered, CkptView, IsCkptOf, Phase, gathered, in_pages, in_txns}
+use Rattle.fuzzy_ckpt.specs.Ckpt.{AreCovered, CkptView, IsCkptOf, Phase, in_pages, in_txns}
 use Rattle.fuzzy_ckpt.specs.Steps.{last_page, pages_of, past_pages}
 use Rattle.fuzzy_ckpt.proofs.Ends.{end_stands}
 use Rattle.fuzzy_ckpt.proofs.Opens.{open_push}
@@ -134,7 +134,8 @@ pages_passed s c fit is finds =
     subst (λ (o : Option Checkpoint). IfSome o (IsGathering s.log s.stored txns_left)) (sym is) (record {
       ckpt = subst (λ p. IsCkptOf s.log (view p)) at (none_kept s.log (view_of c) now.ckpt);
       covered = subst (λ p. AreCovered s.log s.stored (view p)) at
-          (none_covered (log_of s) s.stored s.written s.writing (view_of c) fit.valid (sym fit.counted.written) fit.stored
+          (none_covered (log_of s) s.stored s.written s.writing (view_of c) fit.valid
+          (sym fit.counted.written) fit.stored
           now.covered none 0);
     })
 
@@ -172,7 +173,8 @@ txn_gathered s c t fit is finds =
     let view : Phase → CkptView Phase = λ phase. record { begin = c.begin; redo = redo_point c; phase = phase } in
     opened s r c (with_txn t c) txns_left is refl (record {
       ckpt = subst (λ p. IsCkptOf (s.log ++ r ∷ []) (view p)) at found.kept;
-      covered = λ p d lt passed. txns_cover (log_of s) (txn_view c) s.stored r fit.valid now.ckpt refl now.covered p d lt;
+      covered = λ p d lt passed. txns_cover (log_of s)
+          (txn_view c) s.stored r fit.valid now.ckpt refl now.covered p d lt;
     })
 
 pub txns_passed : (s : EngineState) (c : Checkpoint) → IsFit s → open_checkpoint s.log ≡ Some c
@@ -186,7 +188,8 @@ txns_passed s c fit is finds =
 
 -- ---- the end
 
-pub end_ckpt_follows : (s : EngineState) (c : Checkpoint) → IsFit s → open_checkpoint s.log ≡ Some c → s.left ≡ none_left
+pub end_ckpt_follows : (s : EngineState) (c : Checkpoint) → IsFit s → open_checkpoint s.log ≡ Some c
+    → s.left ≡ none_left
     → MayFollow s.log (end_ckpt_record s c)
 end_ckpt_follows s c fit is done =
     let now = gathering_of s c none_left fit is done in

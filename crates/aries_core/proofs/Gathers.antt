@@ -14,7 +14,7 @@ use Rattle.fuzzy_ckpt.specs.Steps.{Gathering, gather_step, pages_of, past_pages,
 use Rattle.aries_core.specs.declared.event.Answer.TheVariants as answer
 use Rattle.aries_core.specs.declared.event.Event.TheVariants as event
 use Rattle.aries_core.specs.declared.refusal.Refusal.TheVariants.{LogFault}
-use Rattle.aries_core.specs.EngineState.{EngineState, IsGathering, Outcome, appended, ckpt_end_effect, closed, effect, end, gather_effect, gathered_record, gathering, next_step, point_of}
+use Rattle.aries_core.specs.EngineState.{EngineState, IsGathering, Outcome, appended, ckpt_end_effect, closed, effect, end, gather_effect, gathered_record, gathering, next_step}
 use Rattle.aries_core.specs.Step.{Fails, ForcedPart}
 use Rattle.aries_core.specs.Gather.{Left, behind_pages, behind_txns, left_of, none_left, pages_left, session_of, txns_left}
 
@@ -80,7 +80,8 @@ does : (s : EngineState) (c : Checkpoint) (step : Gathering) → open_checkpoint
 does s c step still_open is = record {
   made = ap (λ o. option_map_or (λ c. (next_step s c).next) o None) still_open ∙ ap (λ g. g.next) is;
   outcome =
-      ap (λ o. option_map_or (λ c. gather_effect s (next_step s c)) o (record { answer = answer.Done; state = s })) still_open
+      ap (λ o. option_map_or (λ c. gather_effect s (next_step s c)) o
+      (record { answer = answer.Done; state = s })) still_open
       ∙ ap (gather_effect s) is;
 }
 

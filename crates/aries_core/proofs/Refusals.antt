@@ -330,7 +330,8 @@ pub ckpt_end_full : (s : EngineState) → refusal s event.CkptEnd ≡ Some LogFu
 ckpt_end_full s full =
     let both = second_of_both (ckpt_refusal s) _ LogFull (not_of_one _ NoCkpt LogFull (λ same. (cc))) full in
     let some = some_by_test (open_checkpoint s.log) (not_refused _ _ both.0) in
-    let rest = second_of_both (refused_if _ GatherLeft) _ LogFull (not_of_one _ GatherLeft LogFull (λ same. (cc))) both.1 in
+    let rest = second_of_both (refused_if _ GatherLeft) _ LogFull (not_of_one _ GatherLeft LogFull (λ same.
+    (cc))) both.1 in
     record {
       ckpt = some.0;
       still_open = some.1;

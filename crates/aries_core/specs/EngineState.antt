@@ -45,8 +45,8 @@ use Rattle.aries_core.specs.Gather.{Left, is_done, left_of, pages_left, session_
 
 -- the page count of the volume, the log, the LSN below which each record is on the device, and the
 -- last complete checkpoint below it; the stored pages; of each page the LSN of its last write, and
--- the image that is being written; what is left for the gather of the checkpoint that is open in the
--- log (the dirty pages, where none is); and the image copies in order of their ids
+-- the image that is being written; what is left for the gather of the open checkpoint (all, where
+-- none is open); and the image copies in order of their ids
 pub record EngineState : Type 0 where
   pub pages : ℕ
   pub log : List Record
@@ -306,8 +306,8 @@ pub record AreStable (s : EngineState) : Type 0 where
   pub pages : All (λ page. page.lsn < s.forced_end) s.stored
   pub images : (p : ℕ) → IfSome (image_of s p) (λ image. image.lsn < s.forced_end)
 
--- what lies behind the cursor of the open checkpoint: the log has it, and no stored page there lacks
--- a change below the redo point so far
+-- what lies behind the cursor of the open checkpoint: the log has it, and no stored page there
+-- lacks a change below the redo point so far
 pub record IsGathering (rs : List Record) (stored : List Page) (left : Left)
     (c : Checkpoint) : Type 0 where
   pub ckpt : IsCkptOf rs (session_of left c)

@@ -1,5 +1,6 @@
 -- When a call is refused, and what is printed of a refusal.
-use Rattle.std.specs.Prelude.{ℕ, ◌+◌, ◌++◌, ◌&&◌, nat_le, nat_lt, Bool, not, List, length, Option, Some}
+use Rattle.std.specs.Prelude.{ℕ, ◌+◌, ◌++◌, ◌&&◌, nat_le, nat_lt, Bool, not, List, length, Option}
+use Rattle.std.specs.Prelude.{Some}
 use Rattle.std.specs.Prelude.{is_some, is_none}
 use Rattle.std.specs.Prelude.{None, if◌then◌else◌, codes, true}
 use Rattle.std.specs.Fmt.{decimal}

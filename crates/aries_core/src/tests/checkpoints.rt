@@ -249,23 +249,22 @@ fn a_page_that_was_not_stored_is_gathered(rt: HostRuntime) -> Result<(), Fail> {
 }
 
 /// A checkpoint over 65,536 pages of which the first so many are dirty.
-fn assert_large(rt: &impl std::process::Abort, alloc: Global, dirty: u32) -> Result<(), Fail> {
+fn assert_large(rt: &impl Abort, alloc: Global, dirty: u32) -> Result<(), Fail> {
+    let count = dirty.min(65_536);
     let mut row = Vec::new(alloc);
     row.push((Event::Begin, began(1, 64)))?;
-    let mut lsn = 128;
-    for page in 0..dirty.min(65_536) {
-        row.push((set(1, page, 0, 1), logged(lsn)))?;
-        lsn += 64;
+    for page in 0..count {
+        row.push((set(1, page, 0, 1), logged(128 + 64 * page as u64)))?;
     }
-    let begin = lsn;
+    let begin = 128 + 64 * count as u64;
     row.push((Event::CkptBegin, logged(begin)))?;
-    let records = dirty.min(65_536).div_ceil(3);
+    let records = count.div_ceil(3);
     for _ in 0..records + 2 {
         row.push((Event::CkptGather, more()))?;
     }
     row.push((Event::CkptGather, done()))?;
     let end = begin + 64 * (records as u64 + 2);
-    let redo = if dirty == 0 { begin } else { 128 };
+    let redo = if count == 0 { begin } else { 128 };
     row.push((Event::CkptEnd, point(begin, end, redo)))?;
     assert_row(rt, alloc, 65_536, &row)
 }

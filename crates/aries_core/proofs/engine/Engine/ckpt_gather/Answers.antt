@@ -26,7 +26,9 @@ invariant_of-self g c =
     let none : refusal (engine_view stored it.log it.pool ckpts).state event.CkptGather ≡ None =
     subst (λ (v : EngineView g.row.S.Denot g.row.D.Denot). refusal v.state event.CkptGather ≡ None)
     (sym c.self.view_is) c.in_ok-find_gather.ensures.open in
-    (ckpt_gathered stored it.log c.gather.new.log it.txns it.pool ckpts _ (view_of c.in-Some.session) (view_of c.in-Ok.session)
+    (ckpt_gathered stored it.log c.gather.new.log it.txns it.pool ckpts _ (view_of c.in-Some.session)
+    (view_of c.in-Ok.session)
     (if is_done (left_of (view_of c.in-Ok.session).phase) then answer.Done else answer.More) c.self.invariant none
-    (ap (option_map view_of) (sym c.take.ensures.value ∙ c.in-Some.is)) c.in-Ok.ensures.logged c.gather.ensures.forced_end
+    (ap (option_map view_of) (sym c.take.ensures.value
+    ∙ c.in-Some.is)) c.in-Ok.ensures.logged c.gather.ensures.forced_end
     refl c.in-Ok.ensures.gathered refl).kept

@@ -28,7 +28,8 @@ invariant_of-result g c =
       pool_of_log =
           subst (λ (l : Log). IsPoolOf stored l c.in-Ok.pool) (sym c.in-Ok-new.ensures.empty)
           (c.in-Ok.ensures.empty n c.requires.formatted);
-      session_of_log = sym (ap (λ (l : Log). option_map (session_of pages_left) (open_checkpoint l.records)) c.in-Ok-new.ensures.empty);
+      session_of_log = sym (ap (λ (l : Log). option_map (session_of pages_left)
+          (open_checkpoint l.records)) c.in-Ok-new.ensures.empty);
     }
 
 pub returns-in-Ok-new-clause-empty : goal.returns-in-Ok-new-clause-empty
