@@ -24,10 +24,10 @@ mapped None has = has
 mapped (Some point) has = refl
 
 pub left_by : (s : EngineState) → IsFit s → IsRetired (record {
-    log = log_of s;
-    forced_end = s.forced_end;
-    master = option_map master_record s.master;
-    copies = s.copies;
+  log = log_of s;
+  forced_end = s.forced_end;
+  master = option_map master_record s.master;
+  copies = s.copies;
 })
 left_by s fit = record {
   valid = fit.valid;
