@@ -1,5 +1,5 @@
 -- What an engine leaves.
-use Rattle.std.specs.Prelude.{ℕ, ◌≡◌, ◌+◌, ◌<◌, ◌≤◌, List, length, take, Option, IfSome}
+use Rattle.std.specs.Prelude.{ℕ, ◌≡◌, ◌+◌, ◌<◌, ◌≤◌, List, length, take, Option, IfSome, IsSome}
 use Rattle.log_records.specs.declared.limits.TheConstants.{MAX_RECORDS}
 use Rattle.log_records.specs.declared.record.Record.{Record}
 use Rattle.log_records.specs.Log.{IsLog, Log, lsn_of}
@@ -7,7 +7,8 @@ use Rattle.log_history.specs.Checkpoint.{IsCompleteCheckpoint}
 use Rattle.log_history.specs.Linked.{IsLinked}
 use Rattle.log_history.specs.Transactions.{owed}
 use Rattle.log_store.specs.declared.master.Master.{Master}
-use Rattle.copy_vault.specs.Vault.{CopyState}
+use Rattle.copy_vault.specs.Copy.{CopyView}
+use Rattle.copy_vault.specs.Vault.{CopyState, complete, state_of}
 use Rattle.copy_coverage.specs.Copied.{AreRestorable}
 
 -- its log, and the LSN below which each record was forced; its last complete checkpoint; and its
@@ -35,3 +36,5 @@ pub record IsRetired (it : RetiredView) : Type 0 where
   pub forced : (k : ℕ) × (k ≤ length it.log.records) × (it.forced_end ≡ lsn_of k)
   pub master : IfSome it.master (IsMasterOf it.log.records it.forced_end)
   pub copies : AreRestorable it.log it.forced_end it.copies
+  -- a copy begins where a checkpoint did, and is complete only once that one is
+  pub noted : (id : ℕ) (copy : CopyView) → state_of it.copies id ≡ complete copy → IsSome it.master
