@@ -36,4 +36,5 @@ pub record IsRetired (it : RetiredView) : Type 0 where
   pub forced : (k : ℕ) × (k ≤ length it.log.records) × (it.forced_end ≡ lsn_of k)
   pub master : IfSome it.master (IsMasterOf it.log.records it.forced_end)
   pub copies : AreRestorable it.log it.forced_end it.copies
+  -- a copy begins where a checkpoint did, and is complete only once that one is
   pub noted : (id : ℕ) (copy : CopyView) → state_of it.copies id ≡ complete copy → IsSome it.master

@@ -79,7 +79,8 @@ impl Retired {
 
     /// The last complete checkpoint, if there was one.
     pub fn master(&self) -> Option<Master>
-        ensures { result ≡ self.now.master }
+        ensures master { result ≡ self.now.master }
+        ensures kept { IsRetired self.now }
     {
         self.master
     }

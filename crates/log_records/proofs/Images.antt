@@ -66,7 +66,7 @@ pub image_from-more : (page : Page) (rs : List Record) (i : ℕ) (d : Record) �
 image_from-more page rs i d lt = ap (image_from page) (take_more rs i d lt)
     ∙ image_from-append page (take i rs) (get_or rs i d ∷ [])
 
-number-image_from : (page : Page) (rs : List Record) → (image_from page rs).number ≡ page.number
+pub number-image_from : (page : Page) (rs : List Record) → (image_from page rs).number ≡ page.number
 number-image_from page [] = refl
 number-image_from page (r ∷ rs) = number-image_from (with_record page r) rs ∙ number-with_record page r
 

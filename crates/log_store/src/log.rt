@@ -203,7 +203,7 @@ impl<D: LogDevice> Log<D> {
             forced: _,
             device,
         } = self;
-        (LogImage::of(pages, records), device)
+        (LogImage::from_records(pages, records), device)
     }
 
     /// Forces the first record that is not forced.

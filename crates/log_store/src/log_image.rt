@@ -27,8 +27,8 @@ impl Model for LogImage {
 }
 
 impl LogImage {
-    /// A log of these records.
-    pub(crate) fn of(pages: u32, records: Vec<Record>) -> LogImage
+    /// A log of these records, the oldest first, over a volume of so many pages.
+    pub fn from_records(pages: u32, records: Vec<Record>) -> LogImage
         requires { IsLog (record { pages = pages; records = records.items }) }
         ensures { result ≡ record { pages = pages; records = records.items } }
     {
@@ -56,6 +56,14 @@ impl LogImage {
         ensures { self.new ≡ record self.old { records = take count self.old.records } }
     {
         self.records.truncate(count);
+    }
+
+    /// Its parts: how many pages the volume has, and the records.
+    pub fn into_parts(self) -> (u32, Vec<Record>)
+        ensures parts { (result.0 ≡ self.pages) × (result.1.items ≡ self.records) }
+        ensures valid { IsLog self }
+    {
+        (self.pages, self.records)
     }
 }
 

@@ -8,3 +8,4 @@ pub mod Pages
 pub mod Phases
 pub mod Rising
 pub mod Valid
+pub mod Resumed

@@ -1,6 +1,7 @@
 //! A log, its master record and its pages after redo.
 
-ghost use Rattle.std.specs.Prelude.{◌≡◌, ◌↔◌, ◌+◌, ◌<◌, ◌≤◌, length, IfOk, IfErr, IsTrue};
+ghost use Rattle.std.specs.Prelude.{◌≡◌, ◌↔◌, ◌+◌, ◌<◌, ◌≤◌, length, map, IfOk, IfErr, IsTrue};
+ghost use Rattle.log_records.specs.Coverage.{resume};
 ghost use Rattle.log_records.specs.declared.limits.TheConstants.{MAX_RECORDS};
 ghost use Rattle.log_history.specs.Linked.{IsLinked};
 ghost use Rattle.log_history.specs.Table.{table_of};
@@ -9,7 +10,8 @@ ghost use Rattle.loser_undo.specs.Recovery.{IsRecovery};
 
 use log_records::{MAX_RECORDS, Record};
 use log_store::Master;
-use page_core::Page;
+use page_core::{Lsn, Page};
+use page_redo::redo_pages;
 use std::alloc::{AllocError, Global};
 use std::marker::Model;
 use txn_table::TxnTable;
@@ -92,6 +94,16 @@ impl Redone {
             }),
             Err(_) => Err((records, pages)),
         }
+    }
+
+    /// Redoes the log from a redo point on: on each page the records at or above that point that
+    /// are above the page's LSN (ARIES, section 6.2). It takes no memory.
+    pub fn redo_from(&mut self, from: Lsn)
+        ensures { self.new ≡ record self.old {
+          pages = map (λ page. resume page self.old.log.records from) self.old.pages;
+        } }
+    {
+        redo_pages(&mut self.pages, &self.records, from);
     }
 
     /// How many pages the volume has.

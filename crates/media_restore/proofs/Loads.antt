@@ -1,8 +1,8 @@
 -- What is loaded of a copy, and what redo makes of it.
-use Rattle.std.proofs.Common.{◌≡◌, ℕ, suc, ◌+◌, ◌-◌, ◌*◌, ◌/◌, ◌<◌, ◌≤◌, List, [], ◌∷◌, ◌++◌, length, get_or, map, take, refl, sym, ap, subst}
-use Rattle.std.proofs.Common.{◌∙◌, arith, inl, inr, min}
-use Rattle.std.specs.Prelude.{Option, Some, None, IfSome, nat_lt, true, false, Bool, if◌then◌else◌}
-use Rattle.std.specs.List.{AllByRecursion, filter, range_with_len}
+use Rattle.std.proofs.Common.{◌≡◌, ℕ, suc, ◌+◌, ◌-◌, ◌<◌, ◌≤◌, List, ◌∷◌, ◌++◌, length, get_or, map, take, refl, sym, ap, subst}
+use Rattle.std.proofs.Common.{◌∙◌, arith, min}
+use Rattle.std.specs.Prelude.{Option, Some, None, IfSome, IsSome, nat_lt, true, false, Bool, if◌then◌else◌}
+use Rattle.std.specs.List.{AllByRecursion, filter}
 use Rattle.std.proofs.Math.Seq.{get_or-append_right, take-append-add}
 use Rattle.std.proofs.lemmas.Bool.{ltb-false}
 use Rattle.std.proofs.lemmas.List.{get_or-map, length-append, length-map, same_lists, take_min}
@@ -11,39 +11,24 @@ use Rattle.page_core.specs.declared.page.Page.{Page}
 use Rattle.page_core.specs.Volume.{AreNumbered}
 use Rattle.log_records.specs.declared.record.Record.{Record}
 use Rattle.log_records.specs.Coverage.{is_resumed, resume}
-use Rattle.log_records.specs.Image.{image, image_from, redo_all, with_record}
+use Rattle.log_records.specs.Image.{image, redo_all}
 use Rattle.log_records.specs.Log.{IsLog, Log, lsn_of}
 use Rattle.log_records.specs.Record.{own_lsn}
 use Rattle.log_records.specs.declared.record.Record.TheVariants.{EndChkpt}
-use Rattle.log_records.proofs.Images.{number-image, number-with_record}
+use Rattle.log_records.proofs.Images.{number-image, number-image_from}
 use Rattle.log_history.specs.Checkpoint.{IsCompleteCheckpoint}
 use Rattle.log_history.proofs.Histories.{linked-take}
 use Rattle.log_store.specs.declared.master.Master.{Master}
 use Rattle.copy_vault.specs.Chain.{IsChain, IsChainOf, content, contents, last_redo, page_count}
 use Rattle.copy_vault.specs.Copy.{CopyView}
-use Rattle.copy_vault.specs.Vault.{complete, state_of}
+use Rattle.copy_vault.specs.Vault.{CopyState, complete, dropped, reading, state_of}
 use Rattle.copy_coverage.specs.Kept.{IsKeptOf}
 use Rattle.copy_coverage.specs.Retired.{IsMasterOf, IsRetired, RetiredView}
 use Rattle.copy_coverage.proofs.Chains.{restored_of_members}
 use Rattle.copy_coverage.proofs.Kept.{prefix_is_log}
-use Rattle.loser_undo.specs.Redone.{IsVolumeOf, NamesCheckpoint}
 use Rattle.media_restore.specs.declared.fault.LoadFault.{LoadFault}
 use Rattle.media_restore.specs.declared.fault.LoadFault.TheVariants.{CutTooShort}
-use Rattle.media_restore.specs.Load.{copy_refusal, cut_refusal, first_of, forced_count, kept_log, load_refusal}
-
--- ---- redo leaves the pages' numbers
-
-number-image_from : (page : Page) (rs : List Record) → (image_from page rs).number ≡ page.number
-number-image_from page [] = refl
-number-image_from page (r ∷ rs) = number-image_from (with_record page r) rs ∙ number-with_record page r
-
-pub numbered_resumed : (pages : List Page) (rs : List Record) (from : ℕ) → AreNumbered pages
-    → AreNumbered (map (λ page. resume page rs from) pages)
-numbered_resumed pages rs from numbers = λ k d lt.
-    let below : k < length pages = omega (arith, length-map pages (λ page. resume page rs from)) in
-    let page = get_or pages k d in
-    ap (λ (q : Page). q.number) (get_or-map (λ page. resume page rs from) pages k d d below)
-    ∙ number-image_from page (filter (is_resumed from page.lsn) rs) ∙ numbers k d below
+use Rattle.media_restore.specs.Load.{IsLoaded, copy_refusal, cut_refusal, first_of, forced_count, kept_log, load_refusal}
 
 -- ---- the kept log
 
@@ -90,16 +75,25 @@ complete_in log n begin end valid le is lt =
       begun = is.begun;
     }
 
-pub master_of : (it : RetiredView) (cut : ℕ) (master : Option Master) → IsRetired it → it.master ≡ master
+pub checkpoint_of : (it : RetiredView) (cut : ℕ) (master : Master) → IsRetired it → it.master ≡ Some master
     → IsKeptOf it.log it.forced_end (kept_log it.log cut)
-    → IfSome master (NamesCheckpoint (kept_log it.log cut).records)
-master_of it cut None retired is kept = tt
-master_of it cut (Some master) retired is kept =
+    → IsCompleteCheckpoint (kept_log it.log cut).records master.begin master.end
+checkpoint_of it cut master retired is kept =
     let named = subst (λ (o : Option Master). IfSome o (IsMasterOf it.log.records it.forced_end)) is retired.master in
     let below = named.forced in
     let high = kept.forced in
     subst (λ (log : Log). IsCompleteCheckpoint log.records master.begin master.end) (sym kept.made)
     (complete_in it.log kept.count master.begin master.end retired.valid kept.within named.complete (omega arith))
+
+-- what is not refused is complete, and so has a master record
+pub noted_in : (it : RetiredView) (id : ℕ) → IsRetired it → copy_refusal (state_of it.copies id) ≡ None
+    → IsSome it.master
+noted_in it id retired fine = by_state (state_of it.copies id) refl fine
+  where
+    by_state : (state : CopyState) → state_of it.copies id ≡ state → copy_refusal state ≡ None → IsSome it.master
+    by_state (reading copy) is e = cc
+    by_state (complete copy) is e = retired.noted id copy is
+    by_state dropped is e = cc
 
 -- ---- the pages
 
@@ -157,17 +151,24 @@ all_restored it cut id members retired chain of_id kept =
 
 -- ---- all of it
 
-pub loaded_volume : (it : RetiredView) (cut id : ℕ) (members : List CopyView) → IsRetired it → IsChain members
-    → IsChainOf it.copies id members → cut_refusal it cut ≡ None
-    → IsVolumeOf (kept_log it.log cut) it.master (contents members)
-loaded_volume it cut id members retired chain of_id fine =
+pub loaded : (it : RetiredView) (cut id : ℕ) (master : Master) (members : List CopyView) → IsRetired it
+    → it.master ≡ Some master → IsChain members → IsChainOf it.copies id members → cut_refusal it cut ≡ None
+    → IsLoaded (record {
+      log = kept_log it.log cut;
+      master = master;
+      pages = contents members;
+      redo = last_redo members;
+    })
+loaded it cut id master members retired is chain of_id fine =
     let kept = kept_of it cut retired fine in record {
-      valid = subst IsLog (sym kept.made) (prefix_is_log it.log kept.count retired.valid kept.within);
-      linked = linked-take it.log.records retired.linked cut;
-      checkpoint = master_of it cut it.master retired refl kept;
-      counted = length-map-range_with_len (content members) 0 (page_count members)
-          ∙ count_of it id members retired chain of_id;
-      numbered = numbered_contents it cut id members retired chain of_id kept;
+      is = record {
+        valid = subst IsLog (sym kept.made) (prefix_is_log it.log kept.count retired.valid kept.within);
+        linked = linked-take it.log.records retired.linked cut;
+        count = length-map-range_with_len (content members) 0 (page_count members)
+            ∙ count_of it id members retired chain of_id;
+        numbered = numbered_contents it cut id members retired chain of_id kept;
+      };
+      checkpoint = checkpoint_of it cut master retired is kept;
     }
 
 first_none : (a b : Option LoadFault) → first_of a b ≡ None → (a ≡ None) × (b ≡ None)
@@ -180,13 +181,3 @@ cut_is_fine it id cut e = (first_none (copy_refusal (state_of it.copies id)) (cu
 pub copy_is_fine : (it : RetiredView) (id cut : ℕ) → load_refusal it id cut ≡ None
     → copy_refusal (state_of it.copies id) ≡ None
 copy_is_fine it id cut e = (first_none (copy_refusal (state_of it.copies id)) (cut_refusal it cut) e).0
-
-pub volume_resumed : (log : Log) (master : Option Master) (pages : List Page) (from : ℕ)
-    → IsVolumeOf log master pages → IsVolumeOf log master (map (λ page. resume page log.records from) pages)
-volume_resumed log master pages from is = record {
-  valid = is.valid;
-  linked = is.linked;
-  checkpoint = is.checkpoint;
-  counted = length-map pages (λ page. resume page log.records from) ∙ is.counted;
-  numbered = numbered_resumed pages log.records from is.numbered;
-}

@@ -1,13 +1,14 @@
 -- What is loaded of a copy, and when that is refused.
-use Rattle.std.specs.Prelude.{ℕ, ◌≡◌, ◌+◌, ◌-◌, ◌*◌, ◌/◌, ◌⊎◌, List, length, take, Option, Some, None, IfSome, min}
+use Rattle.std.specs.Prelude.{ℕ, ◌≡◌, ◌-◌, ◌/◌, ◌⊎◌, List, length, take, Option, Some, None, min}
 use Rattle.std.specs.Prelude.{nat_lt, if◌then◌else◌}
 use Rattle.page_core.specs.declared.numbers.TheConstants.{LSN_STEP}
 use Rattle.page_core.specs.declared.page.Page.{Page}
-use Rattle.page_core.specs.Volume.{AreNumbered}
 use Rattle.log_records.specs.Log.{Log}
+use Rattle.log_history.specs.Checkpoint.{IsCompleteCheckpoint}
 use Rattle.log_store.specs.declared.master.Master.{Master}
 use Rattle.copy_vault.specs.Vault.{CopyState, complete, dropped, reading, state_of}
 use Rattle.copy_coverage.specs.Retired.{RetiredView}
+use Rattle.loser_undo.specs.Recovery.{IsRecovery}
 use Rattle.media_restore.specs.declared.fault.LoadFault.{LoadFault}
 use Rattle.media_restore.specs.declared.fault.LoadFault.TheVariants.{NoCopy, CopyNotComplete}
 use Rattle.media_restore.specs.declared.fault.LoadFault.TheVariants.{CutTooShort, OutOfMemory}
@@ -15,9 +16,15 @@ use Rattle.media_restore.specs.declared.fault.LoadFault.TheVariants.{CutTooShort
 -- the log, its last complete checkpoint, the loaded pages, and where redo begins
 pub record LoadedView : Type 0 where
   pub log : Log
-  pub master : Option Master
+  pub master : Master
   pub pages : List Page
   pub redo : ℕ
+
+-- the log is linked, the pages are as many as it says, in order of their numbers, and the master
+-- record names a complete checkpoint of the log
+pub record IsLoaded (it : LoadedView) : Type 0 where
+  pub is : IsRecovery (record { log = it.log; master = it.master; pages = it.pages })
+  pub checkpoint : IsCompleteCheckpoint it.log.records it.master.begin it.master.end
 
 -- the log of which `cut` records are kept, or all
 abbrev pub kept_log : Log → ℕ → Log

@@ -1,6 +1,6 @@
 //! The load of a copy.
 
-ghost use Rattle.std.specs.Prelude.{◌≡◌, ◌≤◌, length, map, min, take, IfOk, IfErr, OnOk, OnErr, None};
+ghost use Rattle.std.specs.Prelude.{◌≡◌, ◌≤◌, length, map, min, take, IfOk, IfErr, OnOk, OnErr, None, Some};
 ghost use Rattle.log_records.specs.Coverage.{resume};
 ghost use Rattle.log_records.specs.Image.{redo_all};
 ghost use Rattle.copy_vault.specs.Chain.{IsChain, IsChainOf, contents, last_redo};
@@ -16,6 +16,7 @@ use crate::fault::LoadFault;
 use crate::loaded::Loaded;
 use copy_coverage::Retired;
 use copy_vault::{Chain, CopyId, Vault};
+use log_store::Master;
 use page_core::{LSN_STEP, Lsn, Page, PageNo};
 use std::alloc::{AllocError, Global};
 
@@ -29,7 +30,7 @@ pub fn load(
     cut: usize,
 ) -> Result<Loaded, (Retired, LoadFault)>
     ensures log { IfOk result (λ it. it.log ≡ kept_log retired.log cut) }
-    ensures master { IfOk result (λ it. it.master ≡ retired.master) }
+    ensures master { IfOk result (λ it. retired.master ≡ Some it.master) }
     ensures chain { IfOk result (λ it. (members : List CopyView) × IsChain members
         × IsChainOf retired.copies copy members × (it.pages ≡ contents members)
         × (it.redo ≡ last_redo members)) }
@@ -48,10 +49,21 @@ pub fn load(
         Ok(loaded) => loaded,
         Err(_) => return Err((retired, LoadFault::OutOfMemory)),
     };
-    let master = retired.master();
+    let master = noted_master(&retired, copy);
     let mut log = retired.into_log();
     log.keep_first(cut);
     Ok(Loaded::new(log, master, pages, redo))
+}
+
+/// The master record, which is there since a copy is complete.
+fn noted_master(retired: &Retired, copy: CopyId) -> Master
+    requires { copy_refusal (state_of retired.now.copies copy) ≡ None }
+    ensures { retired.now.master ≡ Some result }
+{
+    let Some(master) = retired.master() else {
+        unreachable!()
+    };
+    master
 }
 
 /// The refusal that needs no memory, if there is one.

@@ -1,14 +1,15 @@
 //! A copy that is loaded, and the redo of its log.
 
-ghost use Rattle.std.specs.Prelude.{◌≡◌, map, IfOk, IsOk};
+ghost use Rattle.std.specs.Prelude.{◌≡◌, map, IfErr, IfOk};
 ghost use Rattle.log_records.specs.Coverage.{resume};
-ghost use Rattle.loser_undo.specs.Redone.{IsVolumeOf};
+ghost use Rattle.media_restore.specs.Load.{IsLoaded};
+ghost use Rattle.media_restore.specs.declared.fault.RedoFault.TheVariants.{OutOfMemory};
 
 use crate::fault::RedoFault;
 use log_store::{LogImage, Master};
 use loser_undo::Redone;
 use page_core::{Lsn, Page};
-use page_redo::redo_pages;
+use std::alloc::Global;
 use std::marker::Model;
 
 /// A copy that is loaded: the kept log, its last complete checkpoint, the pages that the copy's
@@ -17,14 +18,13 @@ use std::marker::Model;
 #[derive(Drop)]
 pub struct Loaded {
     log: LogImage,
-    master: Option<Master>,
+    master: Master,
     pages: Vec<Page>,
     redo: Lsn,
 }
 
 impl Model for Loaded {
-    ghost use Rattle.loser_undo.specs.Redone.{IsVolumeOf};
-    ghost use Rattle.media_restore.specs.Load.{LoadedView};
+    ghost use Rattle.media_restore.specs.Load.{IsLoaded, LoadedView};
 
     ghost Value = { LoadedView };
 
@@ -35,13 +35,23 @@ impl Model for Loaded {
       redo = it.redo;
     } };
 
-    ghost invariant = { λ it. IsVolumeOf it.log it.master it.pages.items };
+    ghost invariant = { λ it. IsLoaded (record {
+      log = it.log;
+      master = it.master;
+      pages = it.pages.items;
+      redo = it.redo;
+    }) };
 }
 
 impl Loaded {
     /// A copy that is loaded, of its parts.
-    pub(crate) fn new(log: LogImage, master: Option<Master>, pages: Vec<Page>, redo: Lsn) -> Loaded
-        requires { IsVolumeOf log master pages.items }
+    pub(crate) fn new(log: LogImage, master: Master, pages: Vec<Page>, redo: Lsn) -> Loaded
+        requires { IsLoaded (record {
+          log = log;
+          master = master;
+          pages = pages.items;
+          redo = redo;
+        }) }
         ensures { result ≡ record {
           log = log;
           master = master;
@@ -60,9 +70,16 @@ impl Loaded {
     /// The kept log.
     pub fn log(&self) -> &LogImage
         ensures log { result.now ≡ self.now.log }
-        ensures volume { IsVolumeOf self.now.log self.now.master self.now.pages }
+        ensures loaded { IsLoaded self.now }
     {
         &self.log
+    }
+
+    /// Where the last complete checkpoint of what was retired stands. The kept log has it too.
+    pub fn master(&self) -> Master
+        ensures { result ≡ self.now.master }
+    {
+        self.master
     }
 
     /// The pages as the copy's chain has them, in order of their numbers.
@@ -79,22 +96,33 @@ impl Loaded {
         self.redo
     }
 
-    /// Redoes the log from the redo point on: on each page the records that are above its LSN. It
-    /// takes no memory yet, and so is never refused.
-    pub fn redo(self) -> Result<Redone, (Loaded, RedoFault)>
+    /// Redoes the log from the redo point on: on each page the records that are above its LSN. The
+    /// memory that undo needs later is asked for first; an `Err` comes where it is refused, and
+    /// gives all back as it was.
+    pub fn redo(self, alloc: Global) -> Result<Redone, (Loaded, RedoFault)>
         ensures log { IfOk result (λ it. it.log ≡ self.log) }
         ensures master { IfOk result (λ it. it.master ≡ self.master) }
         ensures pages { IfOk result (λ it. it.pages
             ≡ map (λ page. resume page self.log.records self.redo) self.pages) }
-        ensures ok { IsOk result }
+        ensures err { IfErr result (λ e. (e.0 ≡ self) × (e.1 ≡ OutOfMemory)) }
     {
         let Loaded {
             log,
             master,
-            mut pages,
+            pages,
             redo,
         } = self;
-        redo_pages(&mut pages, &log, redo);
-        Ok(Redone::new(log, master, pages))
+        let Master { begin, end } = master;
+        let (page_count, records) = log.into_parts();
+        let (records, pages) = match Redone::new(alloc, page_count, records, master, pages) {
+            Ok(mut redone) => {
+                redone.redo_from(redo);
+                return Ok(redone);
+            }
+            Err(given_back) => given_back,
+        };
+        let log = LogImage::from_records(page_count, records);
+        let loaded = Loaded::new(log, Master { begin, end }, pages, redo);
+        Err((loaded, RedoFault::OutOfMemory))
     }
 }

@@ -1,15 +1,12 @@
 use Rattle.std.proofs.Common.{◌≡◌, ◌∙◌, ℕ, List, map, sym, ap, subst}
-use Rattle.std.specs.Prelude.{Option, None}
 use Rattle.page_core.specs.declared.page.Page.{Page}
 use Rattle.log_records.specs.Coverage.{resume}
 use Rattle.log_records.specs.Image.{redo_all}
 use Rattle.log_records.specs.Log.{Log}
-use Rattle.log_store.specs.declared.master.Master.{Master}
 use Rattle.copy_vault.specs.Chain.{IsChainOf, contents}
 use Rattle.copy_vault.specs.Vault.{CopyState}
-use Rattle.loser_undo.specs.Redone.{IsVolumeOf}
-use Rattle.media_restore.specs.Load.{LoadedView, kept_log}
-use Rattle.media_restore.proofs.Loads.{all_restored, cut_is_fine, kept_of, loaded_volume}
+use Rattle.media_restore.specs.Load.{IsLoaded, LoadedView, kept_log}
+use Rattle.media_restore.proofs.Loads.{all_restored, cut_is_fine, kept_of, loaded}
 use Rattle.media_restore.proofs.copy_load.load.Goals as goal
 
 pub new-requires : goal.new-requires
@@ -19,15 +16,19 @@ new-requires c =
     let fine = cut_is_fine it c.args.copy c.args.cut (sym c.refusal_of.ensures.refusal ∙ c.in_default.is) in
     let found = c.in-Ok.ensures.chain in
     let members = found.0 in
+    let master = c.noted_master-master.result in
     let of_id : IsChainOf it.copies c.args.copy members =
     subst (λ (copies : List CopyState). IsChainOf copies c.args.copy members) c.vault.ensures found.2 in
     let log : c.keep_first.new.self ≡ kept_log it.log c.args.cut =
     c.keep_first.ensures ∙ ap (λ (log : Log). kept_log log c.args.cut) c.into_log-log.ensures in
-    subst (λ (log : Log). IsVolumeOf log c.master-master.result c.in-Ok.loaded.0.items) (sym log)
-    (subst (λ (master : Option Master). IsVolumeOf (kept_log it.log c.args.cut) master c.in-Ok.loaded.0.items)
-    (sym c.master-master.ensures)
-    (subst (IsVolumeOf (kept_log it.log c.args.cut) it.master) (sym found.3)
-    (loaded_volume it c.args.cut c.args.copy members retired found.1 of_id fine)))
+    let pages = c.in-Ok.loaded.0.items in
+    let redo = c.in-Ok.loaded.1 in
+    subst (λ (log : Log). IsLoaded (record { log = log; master = master; pages = pages; redo = redo })) (sym log)
+    (subst (λ (ps : List Page). IsLoaded (record { log = kept_log it.log c.args.cut; master = master; pages = ps; redo = redo }))
+    (sym found.3)
+    (subst (λ (from : ℕ). IsLoaded (record { log = kept_log it.log c.args.cut; master = master; pages = contents members; redo = from }))
+    (sym found.4)
+    (loaded it c.args.cut c.args.copy master members retired c.noted_master-master.ensures found.1 of_id fine)))
 
 pub returns-clause-restores : goal.returns-clause-restores
 returns-clause-restores c =
