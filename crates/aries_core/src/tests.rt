@@ -4,6 +4,7 @@ ghost use Rattle.std.specs.Prelude.{◌≡◌};
 ghost use Rattle.log_records.specs.Log.{IsPageCount};
 
 mod checkpoints;
+mod copies;
 mod devices;
 mod rows;
 mod stores;
@@ -147,6 +148,17 @@ fn call<S: PageStore, D: LogDevice>(
     for &(event, reply) in row {
         assert_eq!(rt; engine.apply(event), reply, "{event:?}");
     }
+}
+
+/// The row that these parts make.
+fn joined(alloc: Global, parts: &[&[(Event, Reply)]]) -> Result<Vec<(Event, Reply)>, Fail> {
+    let mut row = Vec::new(alloc);
+    for &part in parts {
+        for &pair in part {
+            row.push(pair)?;
+        }
+    }
+    Ok(row)
 }
 
 /// The events of a row.

@@ -1,23 +1,23 @@
 //! Checkpoints: rows of calls, their bytes, and what stands where a device or a store fails.
 
-ghost use Rattle.std.specs.Prelude.{◌≡◌, IfOk};
-ghost use Rattle.page_core.specs.Volume.{formatted_pages};
+ghost use Rattle.std.specs.Prelude.{◌≤◌};
 
-use super::rows::assert_row;
+use super::rows::{assert_parts, assert_row};
+use super::stores::call_over;
 use super::{
-    began, call_row, commit, done, logged, more, point, read, set, value, write_begin, write_end,
-    writing, written,
+    began, call, commit, done, engine_on, logged, more, point, read, set, value, write_begin,
+    write_end, writing, written,
 };
-use crate::{Event, Refusal, Reply};
+use crate::{Engine, Event, Refusal, Reply};
 use log_store::{MASTER_BYTES, Master, MemDevice, encode_master};
 use page_core::Lsn;
-use page_store::{FaultyStore, MemStore};
+use page_store::MemStore;
 use std::alloc::Global;
 use std::process::Abort;
 use std::test::Fail;
 
 /// A dirty page and an open transaction are gathered.
-fn of_one_page() -> [(Event, Reply); 8] {
+pub(super) fn of_one_page() -> [(Event, Reply); 8] {
     [
         (Event::Begin, began(1, 64)),
         (set(1, 0, 0, 5), logged(128)),
@@ -96,11 +96,8 @@ fn assert_master(rt: &impl Abort, begin: Lsn, end: Lsn) {
     assert!(rt; master[24..].iter().all(|byte| *byte == 0));
 }
 
-#[test]
-fn a_checkpoint_has_these_bytes(rt: HostRuntime) -> Result<(), Fail> {
-    let alloc = rt.alloc();
-    let (store, device) = (MemStore::new(alloc, 1)?, MemDevice::new(alloc, 8)?);
-    let engine = call_row(&rt, alloc, 1, store, device, &of_one_page())?;
+/// Asserts that the log's device ends with the records, and that the master is that one.
+fn assert_bytes(rt: &impl Abort, engine: &Engine<MemStore, MemDevice>) {
     let bytes = engine.log.device().bytes();
     assert_eq!(rt; bytes.len(), 448);
     for (part, number) in bytes[192..].chunks_exact(8).zip(RECORDS.iter().flatten()) {
@@ -108,15 +105,22 @@ fn a_checkpoint_has_these_bytes(rt: HostRuntime) -> Result<(), Fail> {
     }
     assert!(rt; engine.master().is_some());
     if let Some(point) = engine.master() {
-        assert_master(&rt, point.begin, point.end);
+        assert_master(rt, point.begin, point.end);
     }
+}
+
+#[test]
+fn a_checkpoint_has_these_bytes(rt: HostRuntime) -> Result<(), Fail> {
+    let device = MemDevice::new(rt.alloc(), 8)?;
+    let mut engine = engine_on(rt.alloc(), 1, device)?;
+    call(&rt, &mut engine, &of_one_page());
+    assert_bytes(&rt, &engine);
     Ok(())
 }
 
 /// The page is dirtied when the cursor has passed it.
-#[test]
-fn a_page_changes_behind_the_cursor(rt: HostRuntime) -> Result<(), Fail> {
-    let row = [
+pub(super) fn behind_the_cursor() -> [(Event, Reply); 7] {
+    [
         (Event::Begin, began(1, 64)),
         (Event::CkptBegin, logged(128)),
         (Event::CkptGather, more()),
@@ -124,13 +128,17 @@ fn a_page_changes_behind_the_cursor(rt: HostRuntime) -> Result<(), Fail> {
         (Event::CkptGather, more()),
         (Event::CkptGather, done()),
         (Event::CkptEnd, point(128, 320, 128)),
-    ];
-    assert_row(&rt, rt.alloc(), 1, &row)
+    ]
 }
 
 #[test]
-fn a_page_changed_during_a_write_is_gathered(rt: HostRuntime) -> Result<(), Fail> {
-    let row = [
+fn a_page_changes_behind_the_cursor(rt: HostRuntime) -> Result<(), Fail> {
+    assert_row(&rt, rt.alloc(), 1, &behind_the_cursor())
+}
+
+/// The page is dirty from its second change on.
+pub(super) fn changed_during_a_write() -> [(Event, Reply); 11] {
+    [
         (Event::Begin, began(1, 64)),
         (set(1, 0, 0, 5), logged(128)),
         (write_begin(0), writing(128)),
@@ -142,8 +150,12 @@ fn a_page_changed_during_a_write_is_gathered(rt: HostRuntime) -> Result<(), Fail
         (Event::CkptGather, more()),
         (Event::CkptGather, done()),
         (Event::CkptEnd, point(256, 448, 192)),
-    ];
-    assert_row(&rt, rt.alloc(), 1, &row)
+    ]
+}
+
+#[test]
+fn a_page_changed_during_a_write_is_gathered(rt: HostRuntime) -> Result<(), Fail> {
+    assert_row(&rt, rt.alloc(), 1, &changed_during_a_write())
 }
 
 #[test]
@@ -181,14 +193,7 @@ fn four_dirty_pages() -> [(Event, Reply); 7] {
 
 /// Asserts the replies of a row that goes on where four pages are dirty and three are gathered.
 fn assert_goes_on(rt: &impl Abort, alloc: Global, rest: &[(Event, Reply)]) -> Result<(), Fail> {
-    let mut row = Vec::new(alloc);
-    for &pair in &four_dirty_pages() {
-        row.push(pair)?;
-    }
-    for &pair in rest {
-        row.push(pair)?;
-    }
-    assert_row(rt, alloc, 4, &row)
+    assert_parts(rt, alloc, 4, &[&four_dirty_pages(), rest])
 }
 
 #[test]
@@ -217,18 +222,9 @@ fn a_page_is_written_before_its_turn(rt: HostRuntime) -> Result<(), Fail> {
     assert_goes_on(&rt, rt.alloc(), &rest)
 }
 
-/// A store of one page whose first call fails.
-fn failing_store(alloc: Global) -> Result<FaultyStore, Fail>
-    ensures { IfOk result (λ store. store.pages ≡ formatted_pages 1) }
-{
-    Ok(FaultyStore::new(alloc, MemStore::new(alloc, 1)?, 1)?)
-}
-
 /// A write fails before its page is gathered, and the page is gathered as it was.
-#[test]
-fn a_page_that_was_not_stored_is_gathered(rt: HostRuntime) -> Result<(), Fail> {
-    let alloc = rt.alloc();
-    let row = [
+fn not_stored() -> [(Event, Reply); 12] {
+    [
         (Event::Begin, began(1, 64)),
         (set(1, 0, 0, 5), logged(128)),
         (write_begin(0), writing(128)),
@@ -241,37 +237,62 @@ fn a_page_that_was_not_stored_is_gathered(rt: HostRuntime) -> Result<(), Fail> {
         (Event::CkptGather, done()),
         (Event::CkptEnd, point(192, 384, 128)),
         (read(0, 0), value(5)),
-    ];
-    let device = MemDevice::new(alloc, row.len())?;
-    let engine = call_row(&rt, alloc, 1, failing_store(alloc)?, device, &row)?;
+    ]
+}
+
+#[test]
+fn a_page_that_was_not_stored_is_gathered(rt: HostRuntime) -> Result<(), Fail> {
+    let engine = call_over(&rt, rt.alloc(), 1, &not_stored())?;
     assert_eq!(rt; engine.master().map(|point| point.redo), Some(Lsn(128)));
     Ok(())
 }
 
-/// A checkpoint over 65,536 pages of which the first so many are dirty.
-fn assert_large(rt: &impl Abort, alloc: Global, dirty: u32) -> Result<(), Fail> {
-    let count = dirty.min(65_536);
+/// A transaction that changes so many pages.
+fn changed_pages(alloc: Global, dirty: u32) -> Result<Vec<(Event, Reply)>, Fail>
+    requires { dirty ≤ 65536 }
+{
     let mut row = Vec::new(alloc);
     row.push((Event::Begin, began(1, 64)))?;
-    for page in 0..count {
-        row.push((set(1, page, 0, 1), logged(128 + 64 * page as u64)))?;
+    for page in 0..dirty {
+        row.push((set(1, page, 0, 1), logged(64 * (page as u64 + 2))))?;
     }
-    let begin = 128 + 64 * count as u64;
+    Ok(row)
+}
+
+/// A checkpoint that begins at this LSN, with so many records of dirty pages.
+fn large(alloc: Global, begin: u64, records: u32, redo: u64) -> Result<Vec<(Event, Reply)>, Fail>
+    requires begin { begin ≤ 4194432 }
+    requires records { records ≤ 21846 }
+{
+    let mut row = Vec::new(alloc);
     row.push((Event::CkptBegin, logged(begin)))?;
-    let records = count.div_ceil(3);
     for _ in 0..records + 2 {
         row.push((Event::CkptGather, more()))?;
     }
     row.push((Event::CkptGather, done()))?;
     let end = begin + 64 * (records as u64 + 2);
-    let redo = if count == 0 { begin } else { 128 };
     row.push((Event::CkptEnd, point(begin, end, redo)))?;
-    assert_row(rt, alloc, 65_536, &row)
+    Ok(row)
 }
 
 #[test]
-fn many_pages_are_looked_at(rt: HostRuntime) -> Result<(), Fail> {
-    assert_large(&rt, rt.alloc(), 0)?;
-    assert_large(&rt, rt.alloc(), 1)?;
-    assert_large(&rt, rt.alloc(), 65_536)
+fn a_large_volume_has_no_dirty_page(rt: HostRuntime) -> Result<(), Fail> {
+    let changes = changed_pages(rt.alloc(), 0)?;
+    let gather = large(rt.alloc(), 128, 0, 128)?;
+    assert_parts(&rt, rt.alloc(), 65_536, &[&changes, &gather])
+}
+
+#[test]
+fn a_large_volume_has_a_dirty_page(rt: HostRuntime) -> Result<(), Fail> {
+    let changes = changed_pages(rt.alloc(), 1)?;
+    let gather = large(rt.alloc(), 192, 1, 128)?;
+    assert_parts(&rt, rt.alloc(), 65_536, &[&changes, &gather])
+}
+
+/// 65,536 pages go into 21,846 records.
+#[test]
+fn each_page_of_a_large_volume_is_dirty(rt: HostRuntime) -> Result<(), Fail> {
+    let changes = changed_pages(rt.alloc(), 65_536)?;
+    let gather = large(rt.alloc(), 4_194_432, 21_846, 128)?;
+    assert_parts(&rt, rt.alloc(), 65_536, &[&changes, &gather])
 }

@@ -1,7 +1,6 @@
 //! What is on a log's device, where one of its calls fails.
 
 use super::{
-use super::{
     abort, add, began, call, commit, done, ended, engine_on, forced, logged, more, play_on, point,
     read, set, setup_of, undid, undo, value,
 };
@@ -166,16 +165,27 @@ fn checkpoints() -> [(Event, Reply); 16] {
     ]
 }
 
+/// Makes the calls up to the first end of a checkpoint on a device whose `k`-th call fails, and
+/// asserts that no checkpoint is complete then.
+fn assert_no_master(
+    rt: &impl Abort,
+    alloc: Global,
+    row: &[(Event, Reply)],
+    k: u64,
+) -> Result<(), Fail> {
+    let device = failing_device(alloc, row.len(), k)?;
+    let mut engine = engine_on(alloc, 1, device)?;
+    call(rt, &mut engine, row);
+    assert_eq!(rt; engine.master(), None);
+    Ok(())
+}
+
 #[test]
 fn each_call_at_the_end_of_a_checkpoint_fails(rt: HostRuntime) -> Result<(), Fail> {
-    let alloc = rt.alloc();
     let row = checkpoints();
     for k in 2..8 {
-        assert_row(&rt, alloc, &row, k, 7)?;
-        let device = FaultyDevice::new(MemDevice::new(alloc, row.len())?, k);
-        let mut engine = engine_on(alloc, 1, device)?;
-        call(&rt, &mut engine, &row[..8])?;
-        assert_eq!(rt; engine.master(), None);
+        assert_row(&rt, rt.alloc(), &row, k, 7)?;
+        assert_no_master(&rt, rt.alloc(), &row[..8], k)?;
     }
     Ok(())
 }

@@ -3,8 +3,8 @@
 ghost use Rattle.log_records.specs.Log.{IsPageCount};
 
 use super::{
-    abort, add, began, busy, call, commit, ended, engine_on, forced, logged, play_on, read, set,
-    undid, undo, value, write_begin, write_end, writing, written,
+    abort, add, began, busy, call, commit, ended, engine_on, forced, joined, logged, play_on, read,
+    set, undid, undo, value, write_begin, write_end, writing, written,
 };
 use crate::{Engine, Event, Refusal, Reply};
 use log_store::MemDevice;
@@ -88,6 +88,19 @@ pub(super) fn assert_row(
 {
     let played = played(rt, alloc, pages, row)?;
     assert_called(rt, alloc, pages, row, &played)
+}
+
+/// Asserts the replies of a row that is given in parts, both ways.
+pub(super) fn assert_parts(
+    rt: &impl Abort,
+    alloc: Global,
+    pages: u32,
+    parts: &[&[(Event, Reply)]],
+) -> Result<(), Fail>
+    requires { IsPageCount pages }
+{
+    let row = joined(alloc, parts)?;
+    assert_row(rt, alloc, pages, &row)
 }
 
 #[test]

@@ -72,7 +72,7 @@ fn failing_store(alloc: Global, k: u64) -> Result<FaultyStore, Fail>
 }
 
 /// Makes the calls of a row over such a store, and asserts their replies.
-fn call_over(
+pub(super) fn call_over(
     rt: &impl Abort,
     alloc: Global,
     k: u64,
@@ -107,7 +107,7 @@ fn a_store_fails(rt: HostRuntime) -> Result<(), Fail> {
 }
 
 /// Plays the events of a row over such a store, and asserts their replies.
-fn play_over(
+pub(super) fn play_over(
     rt: &impl Abort,
     alloc: Global,
     k: u64,
