@@ -1,16 +1,14 @@
 //! The load of a copy.
 
-ghost use Rattle.std.specs.Prelude.{◌≡◌, ◌≤◌, length, map, min, take, IfOk, IfErr, OnOk, OnErr, None, Some};
+ghost use Rattle.std.specs.Prelude.{◌≡◌, List, map, IfOk, IfErr, OnOk, OnErr, None, Some};
 ghost use Rattle.log_records.specs.Coverage.{resume};
 ghost use Rattle.log_records.specs.Image.{redo_all};
 ghost use Rattle.copy_vault.specs.Chain.{IsChain, IsChainOf, contents, last_redo};
 ghost use Rattle.copy_vault.specs.Copy.{CopyView};
 ghost use Rattle.copy_coverage.specs.Retired.{IsRetired};
-ghost use Rattle.media_restore.specs.Load.{LoadRefuses, copy_refusal, cut_refusal, forced_count};
-ghost use Rattle.media_restore.specs.Load.{kept_log, load_refusal};
+ghost use Rattle.media_restore.specs.Load.{LoadRefuses, copy_refusal, kept_log, load_refusal};
 ghost use Rattle.copy_vault.specs.Vault.{state_of};
 ghost use Rattle.media_restore.specs.declared.fault.LoadFault.TheVariants.{OutOfMemory};
-ghost use Rattle.std.specs.Prelude.{List};
 
 use crate::fault::LoadFault;
 use crate::loaded::Loaded;
@@ -20,9 +18,9 @@ use log_store::Master;
 use page_core::{LSN_STEP, Lsn, Page, PageNo};
 use std::alloc::{AllocError, Global};
 
-/// Loads a complete copy with those that it stands on, and keeps the first `cut` records of the log,
-/// or all where there are fewer. Refusals in order: `NoCopy`, `CopyNotComplete`, `CutTooShort`,
-/// `OutOfMemory`; what was retired is given back then.
+/// Loads a complete copy with those that it stands on, and keeps the first `cut` records of the
+/// log, or all where there are fewer. Refusals in order: `NoCopy`, `CopyNotComplete`,
+/// `CutTooShort`, `OutOfMemory`; what was retired is given back then.
 pub fn load(
     alloc: Global,
     retired: Retired,

@@ -97,8 +97,8 @@ impl Loaded {
     }
 
     /// Redoes the log from the redo point on: on each page the records that are above its LSN. The
-    /// memory that undo needs later is asked for first; an `Err` comes where it is refused, and
-    /// gives all back as it was.
+    /// memory for the table of the open transactions is asked for first. An `Err` comes where it is
+    /// refused, and gives all back as it was.
     pub fn redo(self, alloc: Global) -> Result<Redone, (Loaded, RedoFault)>
         ensures log { IfOk result (λ it. it.log ≡ self.log) }
         ensures master { IfOk result (λ it. it.master ≡ self.master) }

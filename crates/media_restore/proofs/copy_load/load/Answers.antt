@@ -23,11 +23,11 @@ new-requires c =
     c.keep_first.ensures ∙ ap (λ (log : Log). kept_log log c.args.cut) c.into_log-log.ensures in
     let pages = c.in-Ok.loaded.0.items in
     let redo = c.in-Ok.loaded.1 in
-    subst (λ (log : Log). IsLoaded (record { log = log; master = master; pages = pages; redo = redo })) (sym log)
-    (subst (λ (ps : List Page). IsLoaded (record { log = kept_log it.log c.args.cut; master = master; pages = ps; redo = redo }))
-    (sym found.3)
-    (subst (λ (from : ℕ). IsLoaded (record { log = kept_log it.log c.args.cut; master = master; pages = contents members; redo = from }))
-    (sym found.4)
+    let made : Log → List Page → ℕ → Type 0 =
+    λ log ps from. IsLoaded (record { log = log; master = master; pages = ps; redo = from }) in
+    subst (λ (log : Log). made log pages redo) (sym log)
+    (subst (λ (ps : List Page). made (kept_log it.log c.args.cut) ps redo) (sym found.3)
+    (subst (made (kept_log it.log c.args.cut) (contents members)) (sym found.4)
     (loaded it c.args.cut c.args.copy master members retired c.noted_master-master.ensures found.1 of_id fine)))
 
 pub returns-clause-restores : goal.returns-clause-restores
