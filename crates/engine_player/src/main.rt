@@ -3,6 +3,7 @@
 #![tactic(auto)]
 
 use aries_core::{Answer, Engine, Event, Refusal, Reply, Setup, play};
+use copy_vault::CopyId;
 use log_store::MemDevice;
 use page_core::{Lsn, PageNo, SlotNo, TxnNo};
 use page_store::MemStore;
@@ -42,9 +43,18 @@ fn logged(lsn: u64) -> Reply {
     Ok(Answer::Logged(Lsn(lsn)))
 }
 
-fn row() -> [(Event, Reply); 18] {
+fn point(begin: u64, end: u64, redo: u64) -> Reply {
+    Ok(Answer::Point {
+        begin: Lsn(begin),
+        end: Lsn(end),
+        redo: Lsn(redo),
+    })
+}
+
+fn row() -> [(Event, Reply); 29] {
     let one = TxnNo(1);
     let page = PageNo(0);
+    let (full, inc) = (CopyId(1), CopyId(2));
     [
         (Event::Begin, began(1, 64)),
         (set(1, 5), logged(128)),
@@ -63,7 +73,21 @@ fn row() -> [(Event, Reply); 18] {
         (Event::UndoStep(one), Err(Refusal::NoTxn)),
         (set(2, 9), logged(640)),
         (Event::Commit(TxnNo(2)), logged(704)),
-        (Event::Force, Ok(Answer::Forced(Lsn(768)))),
+        (Event::CkptBegin, logged(768)),
+        (Event::CkptGather, Ok(Answer::More)),
+        (Event::CkptGather, Ok(Answer::More)),
+        (Event::CkptGather, Ok(Answer::Done)),
+        (Event::CkptEnd, point(768, 896, 448)),
+        (Event::CopyFull, Ok(Answer::Copied(full))),
+        (
+            Event::Take { copy: full, page },
+            Ok(Answer::Taken(Lsn(320))),
+        ),
+        (Event::Seal(full), Ok(Answer::Sealed(1))),
+        (Event::CopyInc(full), Ok(Answer::Copied(inc))),
+        (Event::Take { copy: inc, page }, Ok(Answer::Kept)),
+        (Event::Seal(inc), Ok(Answer::Sealed(0))),
+        (Event::Force, Ok(Answer::Forced(Lsn(960)))),
     ]
 }
 
@@ -86,12 +110,12 @@ fn call(engine: &mut Engine<MemStore, MemDevice>, event: &Event) -> (Reply, bool
 /// Has a new transaction change each slot, so that all that an engine keeps of it grows.
 fn change_each_slot(engine: &mut Engine<MemStore, MemDevice>) -> Option<bool> {
     let (begun, mut again) = call(engine, &Event::Begin);
-    if begun != began(3, 768) {
+    if begun != began(3, 960) {
         return None;
     }
     for slot in 0..62 {
         let (given, was_refused) = call(engine, &add(3, slot, 1));
-        if given != logged(832 + 64 * slot as u64) {
+        if given != logged(1024 + 64 * slot as u64) {
             return None;
         }
         again = again || was_refused;
