@@ -1,3 +1,4 @@
+pub mod NextLogs
 pub mod Bits
 pub mod Columns
 pub mod Dirty
