@@ -1,4 +1,4 @@
--- The session of a checkpoint that is open, whatever it gathers, with what else media recovery needs.
+-- The session of an open checkpoint, whatever it gathers, and what else media recovery needs.
 use Rattle.std.specs.Prelude.{List, Option}
 use Rattle.std.specs.Option.{option_map}
 use Rattle.copy_vault.specs.Vault.{CopyState}

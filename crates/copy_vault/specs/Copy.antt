@@ -87,8 +87,8 @@ AreDecidedBelow end pages = (p : ℕ) → p < end → ¬ (decision_at pages p �
 abbrev pub KeepsOfParent : CopyKind → List PageDecision → Type 0
 KeepsOfParent kind pages = kind ≡ Full → (p : ℕ) → ¬ (decision_at pages p ≡ kept)
 
--- what is decided of the pages makes a copy complete: something of each page, each taken page stands
--- at its number, and a full copy took every page
+-- what is decided of the pages makes a copy complete: something of each page, each taken page
+-- stands at its number, and a full copy took every page
 pub record IsComplete (kind : CopyKind) (pages : List PageDecision) : Type 0 where
   pub decided : AreDecidedBelow (length pages) pages
   pub in_place : AreInPlace pages

@@ -2,7 +2,8 @@
 use Rattle.std.specs.Prelude.{ℕ, ◌≡◌, ◌≤◌, ◌<◌, Bool, List, length}
 use Rattle.copy_vault.specs.declared.copy_id.CopyKind.{CopyKind}
 use Rattle.copy_vault.specs.declared.copy_id.CopyKind.TheVariants.{Full}
-use Rattle.copy_vault.specs.Copy.{CopyView, PageDecision, undecided, decision_at, AreDecidedBelow, AreInPlace}
+use Rattle.copy_vault.specs.Copy.{CopyView, PageDecision, undecided, decision_at}
+use Rattle.copy_vault.specs.Copy.{AreDecidedBelow, AreInPlace}
 use Rattle.copy_vault.specs.Copy.{KeepsOfParent}
 
 -- what is read so far, the LSN from which on a page is taken, and whether there is room for a page

@@ -24,8 +24,8 @@ pub data CopyState : Type 0 where
   complete : (copy : CopyView) → CopyState
   dropped : CopyState
 
--- the copy of an id, in the list of copies in order of their ids, which count from 1; an id that was
--- not given yet is as one whose copy was dropped
+-- the copy of an id, in the list of copies in order of their ids, which count from 1; an id that
+-- was not given yet is as one whose copy was dropped
 abbrev pub state_of : List CopyState → ℕ → CopyState
 state_of copies zero = dropped
 state_of copies (suc k) = slice_index_or copies k dropped
@@ -197,4 +197,5 @@ IsKept copies id entry.Dropped = Unit {0}
 -- what is kept of each copy, and there are no more than ids
 pub record IsVault (entries : List Entry) : Type 0 where
   pub few : length entries ≤ MAX_COPIES
-  pub each : (k : ℕ) → IsKept (map state_in entries) (k + 1) (slice_index_or entries k entry.Dropped)
+  pub each : (k : ℕ)
+      → IsKept (map state_in entries) (k + 1) (slice_index_or entries k entry.Dropped)

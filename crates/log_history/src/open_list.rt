@@ -1,6 +1,7 @@
 //! The open transactions in the order of their numbers.
 
-ghost use Rattle.std.specs.Prelude.{ℕ, ◌≡◌, ◌<◌, ◌≤◌, ◌==◌, ◌&&◌, ◌↔◌, [], not, length, min, nat_le};
+ghost use Rattle.std.specs.Prelude.{ℕ, ◌≡◌, ◌<◌, ◌≤◌, ◌==◌, ◌&&◌, ◌↔◌, [], not, length, min};
+ghost use Rattle.std.specs.Prelude.{nat_le};
 ghost use Rattle.std.specs.Prelude.{None, Some, IfSome, OnOk, OnErr, slice_index, slice_index_or};
 ghost use Rattle.std.specs.Prelude.{Contains, IsTrue};
 ghost use Rattle.std.specs.List.{All, find, position, remove, sum_by};
