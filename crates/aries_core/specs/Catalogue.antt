@@ -1,6 +1,6 @@
 -- What the image copies are, and when a call on them is refused, by events and replies alone.
-use Rattle.std.specs.Prelude.{ℕ, zero, suc, ◌-◌, ◌++◌, nat_le, Bool, true, false, not, List, [], ◌∷◌}
-use Rattle.std.specs.Prelude.{length, map, replicate, slice_index_or, slice_set}
+use Rattle.std.specs.Prelude.{ℕ, zero, suc, ◌-◌, ◌++◌, nat_le, Bool, true, false, not}
+use Rattle.std.specs.Prelude.{List, [], ◌∷◌, length, map, replicate, slice_index_or, slice_set}
 use Rattle.std.specs.Prelude.{Option, Some, None, Result, Ok}
 use Rattle.std.specs.List.{position}
 use Rattle.std.specs.Option.{option_map}
@@ -74,7 +74,7 @@ abbrev pub completed : Entry → Entry
 completed (being_read kind marks) = is_complete kind marks
 completed entry = entry
 
--- an accepted call on copies gives an id to a copy, decides of a page, completes a copy, or drops it
+-- an accepted call on copies gives one an id, decides of a page, completes a copy, or drops it
 abbrev pub with_copy_event : ℕ → List Entry → Event → Result Answer Refusal → List Entry
 with_copy_event pages entries event.CopyFull (Ok answer) = with_next_copy entries Full pages
 with_copy_event pages entries (event.CopyInc parent) (Ok answer) =
