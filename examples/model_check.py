@@ -16,6 +16,7 @@ import sys
 import tempfile
 from collections import Counter
 from concurrent.futures import ProcessPoolExecutor
+from functools import lru_cache
 from itertools import repeat
 from pathlib import Path
 
@@ -33,6 +34,7 @@ SEEDS_IN_A_TASK = 20
 SPOILED_IN_A_RUN = 4
 MOST_PAGES_SPOILED = 1000
 MOST_SECONDS = 300
+MEMORY = "/dev/shm"  # a folder in memory, where the system has one
 
 
 class Failure(Exception):
@@ -149,9 +151,14 @@ def check_copy(checker, name, ran, copy):
     checker.check(f"{name}, restore of copy {copy.number}", wanted, ["restore", *given.words()])
 
 
+@lru_cache(maxsize=None)
+def files_of_another(seed):
+    script = random_script(seed)
+    return run(script.text, script.pages).files
+
+
 def check_spoiled(checker, name, ran, seed):
-    draw, other = Draw(seed), random_script(1 + seed % 7)
-    others = run(other.text, other.pages).files
+    draw, others = Draw(seed), files_of_another(1 + seed % 7)
     for _ in range(SPOILED_IN_A_RUN):
         given = Given(ran.files, ran.engine.chain(draw.one_of(ran.engine.complete_copies()).number))
         spoil(draw, given, others)
@@ -271,7 +278,7 @@ CHECKS = {"rows": check_rows, "longest": check_longest, "devices": check_devices
 
 def check_all(program, task):
     """The counts of one task: the name of a check, or some seeds."""
-    with tempfile.TemporaryDirectory() as folder:
+    with tempfile.TemporaryDirectory(dir=MEMORY if os.access(MEMORY, os.W_OK) else None) as folder:
         checker = Checker(program, folder)
         checker.empty_folder()
         try:
