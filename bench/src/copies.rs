@@ -101,9 +101,7 @@ impl Copies {
     }
 
     /// Each complete copy by its id, as the header and the pages of its archive.
-    pub fn archives(
-        &self,
-    ) -> impl Iterator<Item = (usize, [u8; ARCHIVE_HEADER_SIZE], &[Page])> {
+    pub fn archives(&self) -> impl Iterator<Item = (usize, [u8; ARCHIVE_HEADER_SIZE], &[Page])> {
         let complete = |(_, copy): &(usize, &Copy)| copy.state == State::Complete;
         let copies = (1..).zip(&self.copies).filter(complete);
         copies.map(|(id, copy)| (id, copy.header(id), copy.taken.as_slice()))

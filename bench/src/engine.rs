@@ -384,13 +384,7 @@ impl Engine {
         self.copies.take(copy, page, &self.stored)
     }
 
-    fn claim(
-        &mut self,
-        seat: u8,
-        page: u32,
-        slot: u8,
-        kind: ChangeKind,
-    ) -> Result<Held, Refusal> {
+    fn claim(&mut self, seat: u8, page: u32, slot: u8, kind: ChangeKind) -> Result<Held, Refusal> {
         let place = place(page as u16, slot);
         let against = self.claims.against(place, seat, kind);
         if against != 0 {

@@ -8,6 +8,7 @@ pub mod engine;
 pub mod random;
 pub mod redo;
 pub mod script;
+pub mod workload;
 
 use std::fmt;
 use std::io::{self, ErrorKind, Read};

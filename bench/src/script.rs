@@ -3,6 +3,7 @@
 use crate::chains::ChangeKind;
 use crate::copies::Source;
 use crate::engine::{Answer, Engine};
+use std::fmt;
 use std::str::FromStr;
 
 pub const LONGEST_SCRIPT: usize = 1 << 24;
@@ -107,4 +108,36 @@ fn number<'a, N: FromStr>(words: &mut impl Iterator<Item = &'a str>) -> Option<N
     let word = words.next()?;
     let is_number = word.len() <= MOST_DIGITS && word.bytes().all(|byte| byte.is_ascii_digit());
     is_number.then(|| word.parse().ok()).flatten()
+}
+
+/// The line of the event.
+impl fmt::Display for Event {
+    fn fmt(&self, out: &mut fmt::Formatter) -> fmt::Result {
+        match self {
+            Event::Begin => write!(out, "begin"),
+            Event::Change(kind, transaction, page, slot, number) => {
+                let word = if *kind == ChangeKind::Set {
+                    "set"
+                } else {
+                    "add"
+                };
+                write!(out, "{word} {transaction} {page} {slot} {number}")
+            }
+            Event::Read(page, slot) => write!(out, "read {page} {slot}"),
+            Event::Commit(transaction) => write!(out, "commit {transaction}"),
+            Event::Abort(transaction) => write!(out, "abort {transaction}"),
+            Event::Undo(transaction) => write!(out, "undo {transaction}"),
+            Event::Force => write!(out, "force"),
+            Event::CheckpointBegin => write!(out, "ckpt"),
+            Event::Gather => write!(out, "gather"),
+            Event::CheckpointEnd => write!(out, "endckpt"),
+            Event::WriteBegin(page) => write!(out, "wbegin {page}"),
+            Event::WriteEnd(page) => write!(out, "wend {page}"),
+            Event::Copy(Source::All) => write!(out, "full"),
+            Event::Copy(Source::After(parent)) => write!(out, "inc {parent}"),
+            Event::Take(copy, page) => write!(out, "take {copy} {page}"),
+            Event::Seal(copy) => write!(out, "seal {copy}"),
+            Event::Drop(copy) => write!(out, "drop {copy}"),
+        }
+    }
 }

@@ -363,7 +363,7 @@ impl Generator {
     }
 
     fn update(&mut self, chosen: usize, change: Change, lsn: u64) -> Record {
-        let number = self.random.next();
+        let number = self.random.number();
         let old = self.make(&change, number);
         let (before, undo) = match change.kind {
             ChangeKind::Set => (old, old),

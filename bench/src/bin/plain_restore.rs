@@ -52,7 +52,11 @@ fn run(log: &OsString, master: &OsString, archives: &[OsString]) -> Result<(), F
         chain.add(&fs::read(archive)?)?;
     }
     let records = log.len() / RECORD_SIZE - 1;
-    let owed: usize = read.chains.open_transactions().map(|open| open.owed()).sum();
+    let owed: usize = read
+        .chains
+        .open_transactions()
+        .map(|open| open.owed())
+        .sum();
     if records + owed > MOST_RECORDS {
         return Err(Fault::LogFull.into());
     }
@@ -93,7 +97,10 @@ fn record_at(log: &[u8], lsn: u64) -> Option<&[u8]> {
 fn resume(pages: &mut [Page], log: &[u8], redo_point: u64) {
     let first = log.len().min(redo_point as usize).max(HEADER_SIZE);
     let page_count = pages.len() as u32;
-    for (lsn, bytes) in (first..).step_by(RECORD_SIZE).zip(log[first..].chunks(RECORD_SIZE)) {
+    for (lsn, bytes) in (first..)
+        .step_by(RECORD_SIZE)
+        .zip(log[first..].chunks(RECORD_SIZE))
+    {
         let Some(change) = redo::change_of(bytes, page_count) else {
             continue;
         };
@@ -118,7 +125,11 @@ fn undo(pages: &mut [Page], read: &Redo, end: u64) {
     }
     changes.sort_unstable_by_key(|(pending, _)| std::cmp::Reverse(pending.lsn));
     for (pending, index) in changes {
-        redo::apply(&mut pages[usize::from(pending.undo.page)], &pending.undo, lsn);
+        redo::apply(
+            &mut pages[usize::from(pending.undo.page)],
+            &pending.undo,
+            lsn,
+        );
         left[index] -= 1;
         lsn += RECORD_SIZE as u64 * if left[index] == 0 { 2 } else { 1 };
     }
