@@ -85,8 +85,8 @@ class Files(NamedTuple):
         said = folder / "names"
         run([tools["generate_files"], str(self.pages), str(self.copies), "1", str(folder)], os.devnull, said, self)
         paths = [folder / name for name in said.read_text().split()]
-        size = sum(path.stat().st_size for path in paths)
-        return Job(self, Path(os.devnull), paths[0].stat().st_size // RECORD_SIZE - 1, size, ["restore", *map(str, paths)],
+        sizes = [path.stat().st_size for path in paths]
+        return Job(self, Path(os.devnull), sizes[0] // RECORD_SIZE - 1, sum(sizes), ["restore", *map(str, paths)],
                    tools["plain_restore"], output_size=PAGE_SIZE * self.pages)
 
 

@@ -242,7 +242,7 @@ def spelt(draw, lines):
         words = line.split()
         if draw.below(5) == 0:
             words = [f"{word:0>{len(word) + draw.below(21 - len(word))}}" if word.isdigit() else word for word in words]
-        text += draw.one_of([" ", " ", "   "]).join(words) + draw.one_of(["\n", "\n", "\r\n"])
+        text += draw.one_of([" ", " ", "   "]).join(words) + draw.one_of(["\n", "\n", "\r\n", "  \n", " \r\n"])
     if draw.below(3) == 0:
         text = text.removesuffix("\n").removesuffix("\r")
     return text.encode()
@@ -256,7 +256,8 @@ BAD_LINES = [
     "take 1", "take 1 0 0", "seal", "drop", "repair 1 0", "save 1", "undoto 1 64", "extend 3", "restore", "restore 1",
     "restore 1 all all", "restore all", "restore all 1", "restore 1 All", "restore 1 18446744073709551616",
     "restore 4294967296 all", "restore 1 -1", "begin\tnow", "set\t1 0 0 5", "begin,", "begin # now", "hello",
-    "0", "set 1 0 0 0x5", "set 1 0 0 \u0665", "set 1 0 0 5.0", "begin\r", "\ufeffbegin", "\u00e9", ";",
+    " ", "   \r", " # begin", "begin\r ", "restore 1 all\nbegin", "restore 1 all\nrestore 1 all",
+    "restore 1 all\n#\n ", "restore 1 all\n\nhello", "0", "set 1 0 0 0x5", "set 1 0 0 \u0665", "set 1 0 0 5.0", "begin\r", "\ufeffbegin", "\u00e9", ";",
 ]
 
 
