@@ -257,7 +257,8 @@ BAD_LINES = [
     "restore 1 all all", "restore all", "restore all 1", "restore 1 All", "restore 1 18446744073709551616",
     "restore 4294967296 all", "restore 1 -1", "begin\tnow", "set\t1 0 0 5", "begin,", "begin # now", "hello",
     " ", "   \r", " # begin", "begin\r ", "restore 1 all\nbegin", "restore 1 all\nrestore 1 all",
-    "restore 1 all\n#\n ", "restore 1 all\n\nhello", "0", "set 1 0 0 0x5", "set 1 0 0 \u0665", "set 1 0 0 5.0", "begin\r", "\ufeffbegin", "\u00e9", ";",
+    "restore 1 all\n#\n ", "restore 1 all\n\nhello", "0", "set 1 0 0 0x5", "set 1 0 0 \u0665", "set 1 0 0 5.0",
+    "begin\r", "\ufeffbegin", "\u00e9", ";",
 ]
 
 
