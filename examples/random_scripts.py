@@ -36,7 +36,7 @@ class Play:
         self.events = []
         slots = draw.one_of([1, 1, 2, 3, 8])
         self.places = [(self.page(), draw.one_of([0, 1, 3, 61, draw.below(SLOTS)])) for _ in range(slots)]
-        self.patience = draw.one_of([2, 8, 30])  # of one who has something open
+        self.patience = draw.one_of([1, 2, 8, 30])  # of one who has something open
         self.mistakes = draw.one_of([0, 0, 0.02, 0.3])
 
     def page(self):
@@ -168,12 +168,14 @@ def mistakes(play):
 def actors(play):
     """Some actors, each with the weight by which it is chosen."""
     draw = play.draw
-    chosen = [transactions(play) for _ in range(draw.one_of([1, 2, 3, 8, 70]))]
-    chosen += [checkpoints(play), *(writers(play) for _ in range(draw.one_of([0, 1, 3])))]
+    chosen = [transactions(play) for _ in range(draw.one_of([1, 2, 3, 8, 8, 70]))]
+    chosen += [writers(play) for _ in range(draw.one_of([0, 1, 1, 3]))]
     chosen += [copies(play) for _ in range(1 + draw.below(draw.one_of([1, 2, MOST_COPIES_READ])))]
     chosen += [forcing(play)] * draw.below(2)
     chosen += [mistakes(play)] if play.mistakes else []
-    return [[actor, None, draw.one_of([1, 3, 9])] for actor in chosen]
+    most = max(1, len(chosen) // 2)
+    return [[checkpoints(play), None, draw.one_of([1, 3, 9, 9 * most])],
+            *([actor, None, draw.one_of([1, 3, 9])] for actor in chosen)]
 
 
 def random_script(seed):
@@ -183,7 +185,7 @@ def random_script(seed):
     entries = actors(play)
     for entry in entries:
         turns += [entry] * entry[2]
-    wanted = draw.one_of([5, 40, 120, 120, 250, 400]) + (3 * play.pages if play.pages > 100 else 0)
+    wanted = draw.one_of([5, 40, 120, 200, 300, 500]) + (3 * play.pages if play.pages > 100 else 0)
     for _ in range(6 * wanted):
         if len(play.events) >= wanted:
             break
@@ -225,9 +227,10 @@ def restore_line(play):
         number = draw.one_of(complete)
     else:
         number = draw.one_of([0, 1, len(engine.copies), len(engine.copies) + 1, 2**32 - 1])
-    unforced = len(engine.log) - engine.forced
-    cut = draw.one_of(["all", "all", engine.forced, engine.forced - 1, len(engine.log), len(engine.log) + 1, 0, BIG,
-                       engine.forced + draw.below(unforced + 1), engine.forced + draw.below(unforced + 1)])
+    forced, count = engine.forced, len(engine.log)
+    between = forced + draw.below(count - forced + 1)
+    cut = draw.one_of(["all", "all", between, between, between, forced, forced - 1, forced - 1,
+                       forced - draw.below(3), draw.one_of([0, count, count + 1, BIG])])
     return f"restore {number} {cut if cut == 'all' else max(cut, 0)}"
 
 
