@@ -34,11 +34,12 @@ SEEDS_IN_A_TASK = 20
 SPOILED_IN_A_RUN = 4
 MOST_PAGES_SPOILED = 1000
 MOST_SECONDS = 300
+MOST_SHOWN = 20  # of the differences
 MEMORY = "/dev/shm"  # a folder in memory, where the system has one
 
 
 class Failure(Exception):
-    """What is missing or wrong, in one line."""
+    """What is missing, or wrong in the model, in one line."""
 
 
 class Checker:
@@ -47,6 +48,7 @@ class Checker:
     def __init__(self, program, folder):
         self.program, self.folder, self.saved = program, Path(folder), Path(folder) / "saved"
         self.counts = Counter()
+        self.differences = []
 
     def answer(self, words, text=b""):
         source = self.folder / "input"
@@ -70,7 +72,7 @@ class Checker:
             return
         given = self.answer(words, text)
         if given != wanted:
-            raise Failure(f"{what}: {difference(given, wanted, text)}")
+            self.differences.append(f"{what}: {difference(given, wanted, text)}")
 
     def check_run(self, what, script, wanted):
         """Runs the script, and leaves what it saves in the folder."""
@@ -80,7 +82,9 @@ class Checker:
             return
         given = {path.name: path.read_bytes() for path in self.saved.iterdir()}
         if given != wanted.files:
-            raise Failure(f"{what}: {difference_of_files(given, wanted.files)}")
+            self.differences.append(f"{what}: {difference_of_files(given, wanted.files)}")
+            self.empty_folder()
+            self.write(wanted.files)
 
     def check_files(self, what, wanted, words, changed, files):
         """Restores with changed files in the folder, and leaves it as it was, with these files."""
@@ -245,12 +249,12 @@ def check_devices(checker):
     with open("/dev/full", "wb") as full, open(checker.folder / "input", "rb") as source:
         done = subprocess.run([checker.program, *words], stdin=source, stdout=full, stderr=subprocess.PIPE)
     if (done.returncode, done.stderr) != (2, b"E29 WriteFault 0\n"):
-        raise Failure(f"an output that is full: status {done.returncode} and {done.stderr!r}")
+        checker.differences.append(f"an output that is full: status {done.returncode} and {done.stderr!r}")
     folder = os.open(checker.saved, os.O_RDONLY)
     done = subprocess.run([checker.program, *words], stdin=folder, capture_output=True)
     os.close(folder)
     if (done.returncode, done.stdout, done.stderr) != (2, b"", b"imgcopy: input\n"):
-        raise Failure(f"an input that cannot be read: status {done.returncode} and {done.stderr!r}")
+        checker.differences.append(f"an input that cannot be read: status {done.returncode} and {done.stderr!r}")
 
 
 WRONG_WORDS = [
@@ -268,7 +272,7 @@ def check_words(checker):
             continue
         given = checker.answer(words.split())
         if given.status != 2 or given.output or not given.error:
-            raise Failure(f"the words '{words}': status {given.status}, {given.output!r} and {given.error!r}")
+            checker.differences.append(f"the words '{words}': {given}")
 
 
 # All of it
@@ -277,7 +281,7 @@ CHECKS = {"rows": check_rows, "longest": check_longest, "devices": check_devices
 
 
 def check_all(program, task):
-    """The counts of one task: the name of a check, or some seeds."""
+    """The counts of answers and the differences of one task: the name of a check, or some seeds."""
     with tempfile.TemporaryDirectory(dir=MEMORY if os.access(MEMORY, os.W_OK) else None) as folder:
         checker = Checker(program, folder)
         checker.empty_folder()
@@ -286,17 +290,18 @@ def check_all(program, task):
                 CHECKS[part](checker) if isinstance(part, str) else check_seed(checker, part)
         except subprocess.TimeoutExpired:
             raise Failure(f"{part}: the program has not ended after {MOST_SECONDS} seconds") from None
-        return checker.counts
+        return checker.counts, checker.differences
 
 
 def compare(program, count, first):
     seeds = range(first, first + count)
     tasks = [*CHECKS, *(seeds[at:at + SEEDS_IN_A_TASK] for at in range(0, count, SEEDS_IN_A_TASK))]
-    counts = Counter()
+    counts, differences = Counter(), []
     with ProcessPoolExecutor(os.cpu_count()) as pool:
-        for counted in pool.map(check_all, repeat(program), tasks):
+        for counted, different in pool.map(check_all, repeat(program), tasks):
             counts += counted
-    return counts
+            differences += different
+    return counts, differences
 
 
 def main(arguments):
@@ -308,7 +313,10 @@ def main(arguments):
         if program is None and arguments[0] != "--model":
             raise Failure(f"there is no program {arguments[0]}")
         count, first = [*map(int, arguments[1:]), *(COUNT, 1)[len(arguments) - 1:]]
-        counts = compare(program and os.path.abspath(program), count, first)
+        counts, differences = compare(program and os.path.abspath(program), count, first)
+        if differences:
+            print(*differences[:MOST_SHOWN], sep="\n")
+            raise Failure(f"{len(differences)} of {counts.total()} answers are not as defined")
     except (Failure, OSError) as failure:
         sys.exit(f"model_check.py: {failure}")
     parts = ", ".join(f"{counts[name]} of {name}" for name in ("run", "redo", "restore", "words"))
