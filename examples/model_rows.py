@@ -88,7 +88,7 @@ PARTS = {
 
 
 class Row(NamedTuple):
-    """`files` has the first bytes of saved files, in words of hexadecimal digits; zeros follow to the given size."""
+    """`files` has some bytes of the files that are saved, by their offsets, in hexadecimal digits."""
 
     name: str
     pages: int
