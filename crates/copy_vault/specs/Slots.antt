@@ -5,6 +5,7 @@ use Rattle.page_core.specs.declared.page.Page.{Page}
 use Rattle.copy_vault.specs.declared.slots.Slot.{Slot}
 use Rattle.copy_vault.specs.declared.slots.Slot.TheVariants.{Undecided, Taken, Kept}
 use Rattle.copy_vault.specs.Copy.{PageDecision, undecided, taken, kept, taken_count}
+use Rattle.copy_vault.specs.Copy.{undecided_count}
 
 -- what a slot says of its page
 abbrev pub decision_in : Slot → PageDecision
@@ -16,10 +17,12 @@ decision_in Kept = kept
 abbrev pub decisions_in : List Slot → List PageDecision
 decisions_in slots = map decision_in slots
 
--- there are no more pages than page numbers fit, and so many of them were taken
-pub record IsCounted (pages : List PageDecision) (taken : ℕ) : Type 0 where
+-- there are no more pages than page numbers fit; so many of them were taken, and of so many nothing
+-- is decided
+pub record IsCounted (pages : List PageDecision) (taken left : ℕ) : Type 0 where
   pub few : length pages < 2 ^ 32
   pub counted : taken ≡ taken_count pages
+  pub left_is : left ≡ undecided_count pages
 
 -- the page that is lent, if there is one
 abbrev pub page_list : Option (Bor Page) → List Page

@@ -3,7 +3,7 @@
 ghost use Rattle.std.specs.Prelude.{◌≡◌, ◌<◌, ◌^◌, ◌↔◌, length, replicate, slice_set};
 ghost use Rattle.std.specs.Prelude.{◌+◌, ◌++◌, ◌∷◌, [], IfOk, IsTrue, OnOk};
 ghost use Rattle.copy_vault.specs.Copy.{PageDecision, undecided, taken, kept, decision_at};
-ghost use Rattle.copy_vault.specs.Copy.{page_of, taken_count};
+ghost use Rattle.copy_vault.specs.Copy.{page_of, taken_count, undecided_count};
 ghost use Rattle.copy_vault.specs.Slots.{page_list};
 
 use page_core::{Page, PageNo};
@@ -23,6 +23,8 @@ pub enum Slot {
 pub struct Slots {
     slots: Vec<Slot>,
     taken: u32,
+    /// Of how many pages nothing is decided.
+    left: u32,
 }
 
 impl Model for Slots {
@@ -34,7 +36,7 @@ impl Model for Slots {
 
     ghost view = { λ it. decisions_in it.slots.items };
 
-    ghost invariant = { λ it. IsCounted (decisions_in it.slots.items) it.taken };
+    ghost invariant = { λ it. IsCounted (decisions_in it.slots.items) it.taken it.left };
 }
 
 impl Slots {
@@ -46,7 +48,11 @@ impl Slots {
         for _ in 0..count {
             slots.push(Slot::Undecided)?;
         }
-        Ok(Slots { slots, taken: 0 })
+        Ok(Slots {
+            slots,
+            taken: 0,
+            left: count,
+        })
     }
 
     /// No slots yet, with room for so many.
@@ -56,6 +62,7 @@ impl Slots {
         Ok(Slots {
             slots: Vec::with_capacity(alloc, count as usize)?,
             taken: 0,
+            left: 0,
         })
     }
 
@@ -103,6 +110,13 @@ impl Slots {
         self.taken
     }
 
+    /// Of how many pages nothing is decided.
+    pub fn left(&self) -> u32
+        ensures { result ≡ undecided_count self.now }
+    {
+        self.left
+    }
+
     /// Whether nothing is decided of this page.
     pub fn is_undecided(&self, number: PageNo) -> bool
         requires { number < length self.now }
@@ -119,6 +133,7 @@ impl Slots {
     {
         self.slots[number.0 as usize] = Slot::Taken(place);
         self.taken += 1;
+        self.left -= 1;
     }
 
     /// Keeps what the parent has of a page.
@@ -128,5 +143,6 @@ impl Slots {
         ensures { self.new ≡ slice_set self.old number kept }
     {
         self.slots[number.0 as usize] = Slot::Kept;
+        self.left -= 1;
     }
 }
