@@ -13,7 +13,6 @@ use Rattle.page_core.specs.declared.page.Page.{Page}
 use Rattle.std.proofs.lemmas.Bool.{cases_lt, lt-ltb, le-ltb}
 use Rattle.copy_vault.specs.Copy.{PageDecision, undecided, taken, kept, page_of, taken_count, decision_at}
 use Rattle.copy_vault.specs.Copy.{AreDecidedBelow, is_undecided, least_undecided, to_decide, undecided_count}
-use Rattle.copy_vault.specs.Slots.{IsCounted}
 
 -- how many pages a decision adds
 abbrev weight : PageDecision → ℕ
@@ -59,27 +58,6 @@ pub left_set : (pages : List PageDecision) (p : ℕ) (d : PageDecision) → p < 
 left_set pages p d lt none made =
     let before : to_decide (get_or pages p undecided) ≡ 1 = ap to_decide none in
     omega (arith, sum_by-set to_decide pages p d undecided lt, before, made)
-
-pub counted_set : (pages : List PageDecision) (count left p : ℕ) (d : PageDecision) → IsCounted pages count left
-    → p < length pages → decision_at pages p ≡ undecided → to_decide d ≡ 0
-    → IsCounted (slice_set pages p d) (count + length (page_of d)) (left - 1)
-counted_set pages count left p d counted lt none made = record {
-  few = omega (arith, counted.few, length-set pages p d);
-  counted = omega (arith, counted.counted, count_set pages p d lt none);
-  left_is = omega (arith, counted.left_is, left_set pages p d lt none made);
-}
-
--- there is one to decide
-pub left_some : (pages : List PageDecision) (count left p : ℕ) → IsCounted pages count left
-    → p < length pages → decision_at pages p ≡ undecided → 1 ≤ left
-left_some pages count left p counted lt none = omega (arith, counted.left_is, left_set pages p kept lt none refl)
-
--- with one page more there are still no more than page numbers
-pub count_fits : (pages : List PageDecision) (count left p : ℕ) (page : Page) → IsCounted pages count left
-    → p < length pages → decision_at pages p ≡ undecided → count + 1 < 2 ^ 32
-count_fits pages count left p page counted lt none =
-    let after = counted_set pages count left p (taken page) counted lt none refl in
-    omega (arith, after.few, after.counted, count_within (slice_set pages p (taken page)))
 
 -- nothing is decided of any page
 pub left_none : (n : ℕ) → undecided_count (replicate n undecided) ≡ n

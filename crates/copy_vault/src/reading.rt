@@ -8,6 +8,7 @@ ghost use Rattle.copy_vault.specs.declared.copy_id.CopyKind.TheVariants.{Full};
 
 use crate::complete::CompleteCopy;
 use crate::copy_id::{CopyId, CopyKind, Decision};
+use crate::pages::CopyPages;
 use crate::slots::Slots;
 use page_core::{Lsn, Page, PageNo};
 use std::alloc::{AllocError, Global};
@@ -172,7 +173,8 @@ impl ReadingCopy {
         if self.slots.left() > 0 {
             return Err(self);
         }
-        Ok(CompleteCopy::new(self.id, self.kind, self.begin, self.redo, self.slots))
+        let pages = CopyPages::marked(self.slots);
+        Ok(CompleteCopy::new(self.id, self.kind, self.begin, self.redo, pages))
     }
 }
 

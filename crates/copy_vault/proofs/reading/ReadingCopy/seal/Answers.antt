@@ -1,5 +1,5 @@
-use Rattle.std.proofs.Common.{◌≡◌, ◌<◌, ◌∙◌, sym, ap, arith}
-use Rattle.copy_vault.specs.Copy.{least_undecided, undecided_count}
+use Rattle.std.proofs.Common.{◌≡◌, ◌<◌, ◌∙◌, sym, ap, subst, arith}
+use Rattle.copy_vault.specs.Copy.{IsComplete, least_undecided, undecided_count}
 use Rattle.copy_vault.specs.Reading.{ReadingView}
 use Rattle.copy_vault.proofs.Decisions.{all_decided, none_counted, none_left}
 use Rattle.copy_vault.proofs.reading.ReadingCopy.seal.Goals as goal
@@ -17,7 +17,9 @@ new-requires c =
     let pages = c.self.inside.slots in
     let inv = c.self.invariant in
     let none : undecided_count pages ≡ 0 = omega (arith, c.left.ensures) in
-    record { decided = all_decided pages none; in_place = inv.in_place; keeps = inv.keeps }
+    let whole : IsComplete c.self.inside.kind pages =
+    record { decided = all_decided pages none; in_place = inv.in_place; keeps = inv.keeps } in
+    subst (IsComplete c.self.inside.kind) (sym c.marked-pages.ensures) whole
 
 pub returns-clause-all : goal.returns-clause-all
 returns-clause-all c =
