@@ -31,27 +31,21 @@ entry_of (entry ∷ table) word =
 
 -- the calls without numbers
 abbrev pub plain_calls : List (List ℕ × Event)
-plain_calls =
-    (codes "begin", Begin)
-    ∷ (codes "force", Force)
-    ∷ (codes "ckpt", CkptBegin)
-    ∷ (codes "gather", CkptGather)
-    ∷ (codes "endckpt", CkptEnd)
-    ∷ (codes "full", CopyFull)
-    ∷ []
+plain_calls = (codes "begin", Begin) ∷ (codes "force", Force) ∷ (codes "full", CopyFull) ∷ []
 
--- the calls of a transaction, a page or a copy
-abbrev pub calls_of_one : List (List ℕ × (ℕ → Event))
-calls_of_one =
-    (codes "commit", Commit)
-    ∷ (codes "abort", Abort)
-    ∷ (codes "undo", UndoStep)
-    ∷ (codes "wbegin", WriteBegin)
-    ∷ (codes "wend", WriteEnd)
-    ∷ (codes "inc", CopyInc)
-    ∷ (codes "seal", Seal)
-    ∷ (codes "drop", DropCopy)
-    ∷ []
+abbrev pub checkpoint_calls : List (List ℕ × Event)
+checkpoint_calls =
+    (codes "ckpt", CkptBegin) ∷ (codes "gather", CkptGather) ∷ (codes "endckpt", CkptEnd) ∷ []
+
+-- the calls of a transaction, of a page and of a copy
+abbrev pub txn_calls : List (List ℕ × (ℕ → Event))
+txn_calls = (codes "commit", Commit) ∷ (codes "abort", Abort) ∷ (codes "undo", UndoStep) ∷ []
+
+abbrev pub page_calls : List (List ℕ × (ℕ → Event))
+page_calls = (codes "wbegin", WriteBegin) ∷ (codes "wend", WriteEnd) ∷ []
+
+abbrev pub copy_calls : List (List ℕ × (ℕ → Event))
+copy_calls = (codes "inc", CopyInc) ∷ (codes "seal", Seal) ∷ (codes "drop", DropCopy) ∷ []
 
 -- the calls that change a slot: transaction, page, slot and number
 abbrev pub changes : List (List ℕ × (ℕ → ℕ → ℕ → ℕ → Event))
@@ -80,11 +74,23 @@ args_of (a ∷ b ∷ c ∷ d ∷ []) = do
   Some (Four a b c d)
 args_of other = None
 
+-- the first one that is there
+abbrev pub or_else : Option Event → Option Event → Option Event
+or_else None next = next
+or_else (Some event) next = Some event
+
+abbrev pub call_of_none : List ℕ → Option Event
+call_of_none name = or_else (entry_of plain_calls name) (entry_of checkpoint_calls name)
+
+abbrev pub called : Option (ℕ → Event) → ℕ → Option Event
+called None number = None
+called (Some call) number = Some (call number)
+
 abbrev pub call_of_one : List ℕ → ℕ → Option Event
 call_of_one name number = do
-  call ← entry_of calls_of_one name
   number ← in_u32 number
-  Some (call number)
+  or_else (called (entry_of txn_calls name) number)
+      (or_else (called (entry_of page_calls name) number) (called (entry_of copy_calls name) number))
 
 -- a page and a slot, or a copy and a page
 abbrev pub call_of_two : List ℕ → ℕ → ℕ → Option Event
@@ -114,7 +120,7 @@ change_of name txn page slot number = do
   Some (change txn page slot number)
 
 abbrev pub call_of : List ℕ → Args → Option Event
-call_of name Nothing = entry_of plain_calls name
+call_of name Nothing = call_of_none name
 call_of name (One number) = call_of_one name number
 call_of name (Two first second) = call_of_two name first second
 call_of name (Four txn page slot number) = change_of name txn page slot number

@@ -1,8 +1,9 @@
 //! The call that a line names.
 
 ghost use Rattle.std.specs.Prelude.{◌≡◌};
-ghost use Rattle.event_script.specs.Script.{args_of, call_of, call_of_one, call_of_two, change_of};
-ghost use Rattle.event_script.specs.Script.{entry_of, plain_calls};
+ghost use Rattle.event_script.specs.Script.{args_of, call_of, call_of_none, call_of_one, call_of_two};
+ghost use Rattle.event_script.specs.Script.{called, change_of, checkpoint_calls, copy_calls, entry_of};
+ghost use Rattle.event_script.specs.Script.{page_calls, plain_calls, txn_calls};
 ghost use Rattle.event_script.specs.Words.{words_of};
 
 use crate::number::number_of;
@@ -12,7 +13,7 @@ use copy_vault::CopyId;
 use page_core::{PageNo, SlotNo, TxnNo};
 
 /// The numbers behind a call's name.
-#[derive(Clone, Copy, Debug, PartialEq, Eq)]
+#[derive(Clone, Copy)]
 pub(crate) enum Args {
     Nothing,
     One(u64),
@@ -43,14 +44,80 @@ pub(crate) fn args_of(bytes: &[u8]) -> Option<Args>
 fn plain_call(name: &[u8]) -> Option<Event>
     ensures { result ≡ entry_of plain_calls name.now }
 {
-    match name {
-        b"begin" => Some(Event::Begin),
-        b"force" => Some(Event::Force),
-        b"ckpt" => Some(Event::CkptBegin),
-        b"gather" => Some(Event::CkptGather),
-        b"endckpt" => Some(Event::CkptEnd),
-        b"full" => Some(Event::CopyFull),
-        _ => None,
+    if name == b"begin".as_slice() {
+        Some(Event::Begin)
+    } else if name == b"force".as_slice() {
+        Some(Event::Force)
+    } else if name == b"full".as_slice() {
+        Some(Event::CopyFull)
+    } else {
+        None
+    }
+}
+
+fn checkpoint_call(name: &[u8]) -> Option<Event>
+    ensures { result ≡ entry_of checkpoint_calls name.now }
+{
+    if name == b"ckpt".as_slice() {
+        Some(Event::CkptBegin)
+    } else if name == b"gather".as_slice() {
+        Some(Event::CkptGather)
+    } else if name == b"endckpt".as_slice() {
+        Some(Event::CkptEnd)
+    } else {
+        None
+    }
+}
+
+fn call_of_none(name: &[u8]) -> Option<Event>
+    ensures { result ≡ call_of_none name.now }
+{
+    match plain_call(name) {
+        Some(event) => Some(event),
+        None => checkpoint_call(name),
+    }
+}
+
+fn call_of_txn(name: &[u8], number: u32) -> Option<Event>
+    ensures { result ≡ called (entry_of txn_calls name.now) number }
+{
+    let txn = TxnNo(number);
+    if name == b"commit".as_slice() {
+        Some(Event::Commit(txn))
+    } else if name == b"abort".as_slice() {
+        Some(Event::Abort(txn))
+    } else if name == b"undo".as_slice() {
+        Some(Event::UndoStep(txn))
+    } else {
+        None
+    }
+}
+
+fn call_of_page(name: &[u8], number: u32) -> Option<Event>
+    ensures { result ≡ called (entry_of page_calls name.now) number }
+{
+    let page = PageNo(number);
+    if name == b"wbegin".as_slice() {
+        Some(Event::WriteBegin(page))
+    } else if name == b"wend".as_slice() {
+        Some(Event::WriteEnd(page))
+    } else {
+        None
+    }
+}
+
+fn call_of_copy(name: &[u8], number: u32) -> Option<Event>
+    ensures { result ≡ called (entry_of copy_calls name.now) number }
+{
+    let copy = CopyId(number);
+    if name == b"inc".as_slice() {
+        Some(Event::CopyInc(copy))
+    } else if name == b"seal".as_slice() {
+        Some(Event::Seal(copy))
+    } else if name == b"drop".as_slice() {
+        Some(Event::DropCopy(copy))
+    } else {
+        None
     }
 }
 
@@ -58,16 +125,12 @@ fn call_of_one(name: &[u8], number: u64) -> Option<Event>
     ensures { result ≡ call_of_one name.now number }
 {
     let number = u32::try_from(number).ok()?;
-    match name {
-        b"commit" => Some(Event::Commit(TxnNo(number))),
-        b"abort" => Some(Event::Abort(TxnNo(number))),
-        b"undo" => Some(Event::UndoStep(TxnNo(number))),
-        b"wbegin" => Some(Event::WriteBegin(PageNo(number))),
-        b"wend" => Some(Event::WriteEnd(PageNo(number))),
-        b"inc" => Some(Event::CopyInc(CopyId(number))),
-        b"seal" => Some(Event::Seal(CopyId(number))),
-        b"drop" => Some(Event::DropCopy(CopyId(number))),
-        _ => None,
+    if let Some(event) = call_of_txn(name, number) {
+        return Some(event);
+    }
+    match call_of_page(name, number) {
+        Some(event) => Some(event),
+        None => call_of_copy(name, number),
     }
 }
 
@@ -116,7 +179,7 @@ pub(crate) fn call_of(name: &[u8], args: Args) -> Option<Event>
     ensures { result ≡ call_of name.now args }
 {
     match args {
-        Args::Nothing => plain_call(name),
+        Args::Nothing => call_of_none(name),
         Args::One(number) => call_of_one(name, number),
         Args::Two(first, second) => call_of_two(name, first, second),
         Args::Four(txn, page, slot, number) => change_of(name, txn, page, slot, number),

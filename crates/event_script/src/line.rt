@@ -12,7 +12,7 @@ use aries_core::Event;
 use copy_vault::CopyId;
 
 /// What a line says.
-#[derive(Clone, Copy, Debug, PartialEq, Eq)]
+#[derive(Clone, Copy)]
 pub(crate) enum Line {
     /// Nothing: it is empty, or a comment.
     Skipped,
@@ -24,7 +24,7 @@ pub(crate) enum Line {
 fn cut_of(word: &[u8]) -> Option<Option<u64>>
     ensures { result ≡ cut_of word.now }
 {
-    if word == b"all" {
+    if word == b"all".as_slice() {
         return Some(None);
     }
     Some(Some(number_of(word)?))
@@ -54,7 +54,7 @@ pub(crate) fn line_of(line: &[u8]) -> Option<Line>
         return Some(Line::Skipped);
     }
     let (name, rest) = next_word(text)?;
-    if name == b"restore" {
+    if name == b"restore".as_slice() {
         return Some(Line::Restore(restore_of(rest)?));
     }
     Some(Line::Call(call_of(name, args_of(rest)?)?))

@@ -1,8 +1,9 @@
 //! The reading of a script.
 
-ghost use Rattle.std.specs.Prelude.{◌≡◌, ◌≤◌, ◌+◌, length, IfOk, IfErr, OnOk, IfSome, Some, IsUtf8};
+ghost use Rattle.std.specs.Prelude.{ℕ, ◌≡◌, List, [], ◌∷◌, ◌++◌, IfOk, IfErr, OnOk, IfSome};
+ghost use Rattle.std.specs.Prelude.{if◌then◌else◌};
 ghost use Rattle.std.specs.Io.KnownBytes.{IsAtEnd};
-ghost use Rattle.event_script.specs.Script.{IsFirstBad, said_in};
+ghost use Rattle.event_script.specs.Script.{said_in};
 ghost use Rattle.event_script.specs.Read.{IsText, Refuses};
 ghost use Rattle.event_script.specs.Words.{lines_of};
 
@@ -15,7 +16,12 @@ use std::alloc::{AllocError, Global};
 use std::io::Read;
 
 /// Takes what a line says into the script so far, and tells whether it may stand there.
-fn take_line(script: &mut Script, line: &[u8]) -> Result<bool, AllocError> {
+fn take_line(script: &mut Script, line: &[u8]) -> Result<bool, AllocError>
+    ensures { IfOk result (λ fits. (lines : List (List ℕ))
+        → said_in lines ≡ Some (script.old.events.items, script.old.restore)
+        → said_in (lines ++ (line.now ∷ []))
+        ≡ (if fits then Some (script.new.events.items, script.new.restore) else None)) }
+{
     let Some(said) = line_of(line) else {
         return Ok(false);
     };
@@ -35,6 +41,7 @@ fn take_line(script: &mut Script, line: &[u8]) -> Result<bool, AllocError> {
 
 /// Reads the lines of a script.
 fn script_in(alloc: Global, input: &[u8]) -> Result<Script, ScriptFault>
+    requires { IsText input.now }
     ensures found { IfOk result (λ script.
         said_in (lines_of input.now) ≡ Some (script.events.items, script.restore)) }
     ensures first { IfErr result (Refuses input.now) }
@@ -43,16 +50,15 @@ fn script_in(alloc: Global, input: &[u8]) -> Result<Script, ScriptFault>
         events: Vec::new(alloc),
         restore: None,
     };
-    let mut rest = input;
-    for number in 1..=u64::MAX {
-        let (line, behind) = next_line(rest);
+    let mut left = Some(input);
+    let mut number = 0;
+    while let Some(text) = left {
+        let (line, behind) = next_line(text);
+        number += 1;
         if !take_line(&mut script, line)? {
             return Err(ScriptFault::BadLine(number));
         }
-        match behind {
-            Some(behind) => rest = behind,
-            None => return Ok(script),
-        }
+        left = behind;
     }
     Ok(script)
 }

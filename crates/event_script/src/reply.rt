@@ -8,6 +8,7 @@ use std::fmt;
 pub struct ReplyLine(pub Reply);
 
 /// An answer as its line is printed.
+#[derive(Clone, Copy)]
 struct AnswerLine(Answer);
 
 impl fmt::Display for ReplyLine {

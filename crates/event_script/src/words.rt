@@ -1,11 +1,15 @@
 //! The lines of a script and the words of a line.
 
-ghost use Rattle.std.specs.Prelude.{◌≡◌, ◌∷◌, [], MatchOption, length, drop, ◌≤◌, ◌<◌};
-ghost use Rattle.event_script.specs.Words.{has_bytes, lines_of, pieces_at, without_return};
-ghost use Rattle.event_script.specs.Words.{words_of};
+ghost use Rattle.std.specs.Prelude.{ℕ, ◌≡◌, ◌≢◌, ◌<◌, ◌≤◌, ◌∷◌, [], IfSome, MatchOption, length};
+ghost use Rattle.std.specs.Prelude.{slice_index};
+ghost use Rattle.event_script.specs.Words.{lines_of, without_return, words_of};
 
 /// How many bytes stand before the first one of this kind, or in all where there is none.
-fn count_before(bytes: &[u8], parting: u8) -> usize {
+fn count_before(bytes: &[u8], parting: u8) -> usize
+    ensures within { result ≤ length bytes.now }
+    ensures none { (k : ℕ) → k < result → slice_index bytes.now k ≢ parting }
+    ensures there { result < length bytes.now → slice_index bytes.now result ≡ parting }
+{
     for (i, byte) in bytes.iter().enumerate() {
         if *byte == parting {
             return i;
@@ -15,7 +19,11 @@ fn count_before(bytes: &[u8], parting: u8) -> usize {
 }
 
 /// How many spaces stand in front.
-fn count_spaces(bytes: &[u8]) -> usize {
+fn count_spaces(bytes: &[u8]) -> usize
+    ensures within { result ≤ length bytes.now }
+    ensures spaces { (k : ℕ) → k < result → slice_index bytes.now k ≡ 32 }
+    ensures other { result < length bytes.now → slice_index bytes.now result ≢ 32 }
+{
     for (i, byte) in bytes.iter().enumerate() {
         if *byte != b' ' {
             return i;
@@ -39,8 +47,9 @@ pub(crate) fn next_word(bytes: &[u8]) -> Option<(&[u8], &[u8])>
 
 /// The first line, and what stands behind its line feed, if it has one.
 pub(crate) fn next_line(bytes: &[u8]) -> (&[u8], Option<&[u8]>)
-    ensures { MatchOption result.1 (lines_of bytes.now ≡ result.0.now ∷ [])
+    ensures parts { MatchOption result.1 (lines_of bytes.now ≡ result.0.now ∷ [])
         (λ rest. lines_of bytes.now ≡ result.0.now ∷ lines_of rest.now) }
+    ensures shorter { IfSome result.1 (λ rest. length rest.now < length bytes.now) }
 {
     let end = count_before(bytes, b'\n');
     if end == bytes.len() {
@@ -53,8 +62,8 @@ pub(crate) fn next_line(bytes: &[u8]) -> (&[u8], Option<&[u8]>)
 pub(crate) fn before_return(line: &[u8]) -> &[u8]
     ensures { result.now ≡ without_return line.now }
 {
-    match line {
-        [text @ .., b'\r'] => text,
-        _ => line,
+    match line.split_last() {
+        Some((last, text)) => if *last == b'\r' { text } else { line },
+        None => line,
     }
 }
