@@ -1,2 +1,5 @@
+pub mod Archives
 pub mod Groups
 pub mod Loads
+pub mod Masters
+pub mod Restored

@@ -1,1 +1,4 @@
+pub mod Files
+pub mod FilesArchives
+pub mod FilesFault
 pub mod Load

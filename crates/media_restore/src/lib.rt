@@ -3,10 +3,16 @@
 
 mod copy_load;
 mod fault;
+mod files;
+mod files_archives;
+mod files_fault;
+mod files_master;
 mod loaded;
 mod volume_output;
 
 pub use copy_load::load;
 pub use fault::{LoadFault, RedoFault};
+pub use files::restore_files;
+pub use files_fault::RestoreFault;
 pub use loaded::Loaded;
 pub use volume_output::write_volume;
