@@ -16,3 +16,6 @@ pub use files::restore_files;
 pub use files_fault::RestoreFault;
 pub use loaded::Loaded;
 pub use volume_output::write_volume;
+
+#[cfg(test)]
+mod files_tests;

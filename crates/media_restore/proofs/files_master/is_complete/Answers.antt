@@ -17,8 +17,7 @@ pub returns : goal.returns
 returns c =
     let rs = c.args.records.now in
     let begin = c.args.master.now.begin in
-    let end = c.args.master.now.end in
-    (
+    let end = c.args.master.now.end in (
       λ yes. cc,
       λ whole.
           let has = end-of_complete rs begin end whole in

@@ -1,9 +1,10 @@
-use Rattle.std.proofs.Common.{◌≡◌, ◌+◌, ℕ, List, [], length, take, refl, arith}
+use Rattle.std.proofs.Common.{◌+◌, [], take, refl, arith}
+use Rattle.std.proofs.KnownBytes.{Consumes-nil}
 use Rattle.std.proofs.lemmas.List.{length-take}
 use Rattle.log_store.specs.declared.master.Master.{Master}
 use Rattle.log_store.specs.Master.{SpellsMaster}
 use Rattle.page_core.proofs.Inputs.{of_input}
-use Rattle.media_restore.proofs.Masters.{IsFoundIn, found_at_end, none_at_end, none_begins, none_in_nothing, nothing_taken, still_short}
+use Rattle.media_restore.proofs.Masters.{IsFoundIn, found_at_end, none_at_end, none_begins, none_in_nothing, still_short}
 use Rattle.media_restore.proofs.files_master.spelled_master.Goals as goal
 
 pub returns-in-End-clause-ok : goal.returns-in-End-clause-ok
@@ -29,7 +30,7 @@ returns-then-is_misspelt-clause-err g c =
 pub loop-init : goal.loop-init
 loop-init g c = record {
   short = omega arith;
-  taken = nothing_taken (g.M.Read.remaining c.args.reader.now);
+  taken = Consumes-nil (g.M.Read.remaining c.args.reader.now);
   right = none_in_nothing;
 }
 
