@@ -18,7 +18,8 @@ spell_push : (inputs : List (Option (List ℕ))) (copies : List CopyView) (this 
 spell_push [] [] this copy so_far here = (here, tt)
 spell_push [] (c ∷ copies) this copy so_far here = absurd so_far
 spell_push (i ∷ inputs) [] this copy so_far here = absurd so_far
-spell_push (i ∷ inputs) (c ∷ copies) this copy so_far here = (so_far.0, spell_push inputs copies this copy so_far.1 here)
+spell_push (i ∷ inputs) (c ∷ copies) this copy so_far here =
+    (so_far.0, spell_push inputs copies this copy so_far.1 here)
 
 -- the archives up to here spell copies that fit, and the next one has to be of this kind
 pub record ReadUpTo (inputs : List (Option (List ℕ))) (pages k : ℕ) (kind : CopyKind) (copies : List CopyView)

@@ -1,5 +1,6 @@
 -- The pages that are restored of a chain and a log.
-use Rattle.std.proofs.Common.{◌≡◌, ◌∙◌, ℕ, ◌<◌, ◌≤◌, ◌⊎◌, List, [], ◌∷◌, length, map, refl, sym, ap, subst, arith, inl, inr}
+use Rattle.std.proofs.Common.{◌≡◌, ◌∙◌, ℕ, ◌<◌, ◌≤◌, ◌⊎◌, List, [], ◌∷◌, length, map}
+use Rattle.std.proofs.Common.{refl, sym, ap, subst, arith, inl, inr}
 use Rattle.std.specs.Prelude.{Option, Result, Ok, Err, IfOk, IfErr, OnOk}
 use Rattle.std.proofs.KnownBytes.{Keeps-refl}
 use Rattle.std.proofs.lemmas.List.{get_or-map, length-map, same_lists}
@@ -28,7 +29,8 @@ use Rattle.loser_undo.specs.Recovery.{HasCommitted, IsRecovery, IsWhole, Recover
 use Rattle.media_restore.specs.declared.files_fault.RestoreFault.{RestoreFault}
 use Rattle.media_restore.specs.declared.files_fault.RestoreFault.TheVariants.{OutOfMemory, LogFull, WriteFault}
 use Rattle.media_restore.specs.declared.files_fault.RestoreFault.TheVariants.{BadHeader, BadRecord, Torn, ReadFault}
-use Rattle.media_restore.specs.declared.files_fault.RestoreFault.TheVariants.{TooLong, BadChain, BadArchive, ChainBroken}
+use Rattle.media_restore.specs.declared.files_fault.RestoreFault.TheVariants.{TooLong, BadChain, BadArchive}
+use Rattle.media_restore.specs.declared.files_fault.RestoreFault.TheVariants.{ChainBroken}
 use Rattle.media_restore.specs.declared.files_fault.RestoreFault.TheVariants.{CountDiffers}
 use Rattle.media_restore.specs.Files.{AreCovering, AreSound, Files, HasParts, IsOfLog, IsOfMaster, IsRestored, Leaves}
 use Rattle.media_restore.specs.Files.{Refused, most_records, redone_of}

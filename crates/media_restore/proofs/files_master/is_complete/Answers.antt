@@ -10,8 +10,10 @@ returns-then-is_its_end c =
     let i = c.loop-entry.entry-index in
     let has = c.if-is_its_end.ensures.0 refl in
     let lt : i < length rs = omega arith in
-    let there = subst (λ (r : Record). get_or rs i r ≡ r) has.1 (sym c.entry-item.is) in
-    (λ yes. complete-of_end rs c.args.master.now.begin c.args.master.now.end has.0 c.requires (i, lt, there), λ whole. refl)
+    let there = subst (λ (r : Record). get_or rs i r ≡ r) has.1 (sym c.entry-item.is) in (
+      λ yes. complete-of_end rs c.args.master.now.begin c.args.master.now.end has.0 c.requires (i, lt, there),
+      λ whole. refl,
+    )
 
 pub returns : goal.returns
 returns c =
