@@ -8,3 +8,6 @@ mod loaded;
 pub use copy_load::load;
 pub use fault::{LoadFault, RedoFault};
 pub use loaded::Loaded;
+
+#[cfg(test)]
+mod tests;
