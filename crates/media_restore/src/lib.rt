@@ -17,6 +17,8 @@ pub use fault::{LoadFault, RedoFault, Refused};
 pub use files::restore_files;
 pub use files_fault::RestoreFault;
 pub use loaded::Loaded;
+pub use rebuilt::{Rebuilt, rebuild, recover};
+pub use volume_output::write_volume;
 
 #[cfg(test)]
 mod files_tests;
