@@ -2,9 +2,12 @@
 
 use super::rows::Row;
 use super::shown::{Shown, assert_pages, back_to, comp, end, less};
-use super::{fault_of, loaded_of, redone_of, retired_of, undone_of};
-use crate::LoadFault;
+use super::{device_of, fault_of, loaded_of, redone_of, retired_of, store_of, undone_of};
+use crate::{LoadFault, Refused, rebuild};
+use aries_core::Setup;
+use copy_vault::CopyId;
 use log_records::Record;
+use loser_undo::Undone;
 use std::alloc::Global;
 use std::process::Abort;
 use std::test::Fail;
@@ -22,6 +25,52 @@ struct Restored {
 
 fn copy_of(row: Row, copy: u32, cut: usize) -> Restored {
     Restored { row, copy, cut }
+}
+
+/// What comes of the events of a row, played as one list with the restore after them. The replies
+/// are asserted.
+fn rebuilt_of(
+    rt: &impl Abort,
+    alloc: Global,
+    given: Restored,
+) -> Result<Result<Undone, Refused>, Fail> {
+    let Restored { row, copy, cut } = given;
+    let (pages, faults) = (row.pages(), row.faults());
+    let calls = row.calls(alloc)?;
+    let mut events = Vec::with_capacity(alloc, calls.len())?;
+    for &(event, _) in &calls {
+        events.push(event)?;
+    }
+    let store = store_of(alloc, pages, faults.store)?;
+    let device = device_of(alloc, calls.len(), faults.device)?;
+    let setup = Setup {
+        pages,
+        frames: pages,
+    };
+    let rebuilt = rebuild(alloc, setup, store, device, &events, CopyId(copy), cut)?;
+    assert_eq!(rt; rebuilt.replies.len(), calls.len());
+    for (given, &(event, reply)) in rebuilt.replies.iter().zip(&calls) {
+        assert_eq!(rt; *given, reply, "{event:?}");
+    }
+    Ok(rebuilt.outcome)
+}
+
+/// Restores a copy by one call with the events of its row, and asserts what is restored.
+fn assert_rebuilt(
+    rt: &impl Abort,
+    alloc: Global,
+    given: Restored,
+    pages: &[Shown],
+    appended: &[Record],
+) -> Result<(), Fail> {
+    let Ok(undone) = rebuilt_of(rt, alloc, given)? else {
+        return Err(Fail::new("the copy is not restored"));
+    };
+    assert_pages(rt, undone.pages(), pages);
+    let records = undone.records();
+    let count = records.len().saturating_sub(appended.len());
+    assert_eq!(rt; records.get(count..).unwrap_or(&[]), appended);
+    Ok(())
 }
 
 /// Restores a copy, and asserts what redo makes, what undo makes, and what undo appends.
@@ -44,7 +93,7 @@ fn assert_restored(
     assert_pages(rt, after_undo.pages(), undone);
     let behind = after_undo.records().get(count..).unwrap_or(&[]);
     assert_eq!(rt; behind, appended, "{row:?}, copy {copy}, cut {cut}");
-    Ok(())
+    assert_rebuilt(rt, alloc, given, undone, appended)
 }
 
 /// The transactions have committed, so undo has nothing to do.
@@ -171,8 +220,10 @@ fn assert_refused(
     let Restored { row, copy, cut } = given;
     let calls = row.calls(alloc)?;
     let retired = retired_of(rt, alloc, row.pages(), row.faults(), &calls)?;
-    let given = fault_of(alloc, retired, copy, cut);
-    assert_eq!(rt; given, Some(fault), "{row:?}, copy {copy}, cut {cut}");
+    let found = fault_of(alloc, retired, copy, cut);
+    assert_eq!(rt; found, Some(fault), "{row:?}, copy {copy}, cut {cut}");
+    let refused = rebuilt_of(rt, alloc, given)?.err();
+    assert_eq!(rt; refused, Some(Refused::Load(fault)), "{row:?}, copy {copy}, cut {cut}");
     Ok(())
 }
 
