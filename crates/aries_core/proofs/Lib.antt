@@ -1,8 +1,11 @@
 pub mod Appends
 pub mod Beside
 pub mod Calls
+pub mod Catalogues
 pub mod CkptCalls
+pub mod Commits
 pub mod CopyCalls
+pub mod CopyRefusals
 pub mod CopySteps
 pub mod CkptFits
 pub mod CkptLaws

@@ -23,7 +23,7 @@ use Rattle.aries_core.proofs.Steps.{stays_or_grows}
 
 -- ---- the forced end
 
-forced_end_from : (old : EngineState) (events : List Event) (replies : List (Result Answer Refusal)) (new : EngineState)
+pub forced_end_from : (old : EngineState) (events : List Event) (replies : List (Result Answer Refusal)) (new : EngineState)
     → EndsAtRecord old → Run old events replies new → old.forced_end ≤ new.forced_end
 forced_end_from old [] [] new ends is = rw is (omega arith)
 forced_end_from old (event ∷ events) (reply ∷ replies) new ends run =

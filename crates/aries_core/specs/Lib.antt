@@ -1,5 +1,7 @@
 pub mod Accepted
+pub mod AnsweredCommits
 pub mod Call
+pub mod Catalogue
 pub mod CkptReplies
 pub mod EngineState
 pub mod EventFits

@@ -6,11 +6,13 @@ ghost use Rattle.std.specs.List.{All};
 ghost use Rattle.log_records.specs.declared.limits.TheConstants.{MAX_RECORDS};
 ghost use Rattle.log_records.specs.declared.record.Record.{Record};
 ghost use Rattle.log_records.specs.declared.record.Record.TheVariants as log;
-ghost use Rattle.log_records.specs.Log.{IsPageCount};
+ghost use Rattle.log_records.specs.Log.{IsPageCount, Log};
 ghost use Rattle.log_history.specs.Transactions.{is_open, last_lsn, owed};
 ghost use Rattle.log_history.specs.Work.{work};
+ghost use Rattle.copy_coverage.specs.Kept.{IsKeptOf};
 ghost use Rattle.aries_core.specs.Accepted.{accepted};
-ghost use Rattle.aries_core.specs.EngineState.{EngineState, IsFit, effect, new_state};
+ghost use Rattle.aries_core.specs.AnsweredCommits.{StandsIn, answered_commits};
+ghost use Rattle.aries_core.specs.EngineState.{EngineState, IsFit, effect, log_of, new_state};
 ghost use Rattle.aries_core.specs.EngineState.{page_now, rec_lsn_of};
 ghost use Rattle.aries_core.specs.Written.{written_by};
 ghost use Rattle.log_records.specs.Coverage.{Covers};
@@ -78,6 +80,19 @@ pub fn an_answered_commit_is_forced()
         → Step old (event.Commit txn) (Ok (answer.Logged lsn)) new
         → (new.log ≡ old.log ++ log.Commit lsn txn (last_lsn old.log txn) ∷ [])
         × (lsn < new.forced_end) }
+{}
+
+/// Of each Commit that was answered in a run the record stands at its LSN, and is forced: so it
+/// stands in each log that a crash may leave.
+pub fn answered_commits_are_kept()
+    ensures forced { (pages : ℕ) (events : List Event) (replies : List (Result Answer Refusal))
+        (new : EngineState) → Run (new_state pages) events replies new
+        → All (λ commit. StandsIn new.log commit × (commit.lsn < new.forced_end))
+        (answered_commits events replies) }
+    ensures kept { (pages : ℕ) (events : List Event) (replies : List (Result Answer Refusal))
+        (new : EngineState) (kept : Log) → Run (new_state pages) events replies new
+        → IsKeptOf (log_of new) new.forced_end kept
+        → All (StandsIn kept.records) (answered_commits events replies) }
 {}
 
 /// At CommitUnsure the Commit stands at the end of the log, not counted as forced, and its

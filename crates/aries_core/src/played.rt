@@ -1,9 +1,10 @@
 //! Plays a list of calls.
 
-ghost use Rattle.std.specs.Prelude.{◌≡◌, ◌<◌, ◌≤◌, All, Any, IfOk, IfErr};
+ghost use Rattle.std.specs.Prelude.{◌≡◌, ◌<◌, ◌≤◌, All, Any, IfOk, IfErr, map};
 ghost use Rattle.log_records.specs.Log.{IsPageCount};
 ghost use Rattle.log_history.specs.Work.{work};
 ghost use Rattle.aries_core.specs.Accepted.{accepted};
+ghost use Rattle.aries_core.specs.Catalogue.{catalogue, entry_of};
 ghost use Rattle.aries_core.specs.EngineState.{IsFit, new_state};
 ghost use Rattle.aries_core.specs.Run.{Run};
 ghost use Rattle.aries_core.specs.Step.{IsByDevice, IsByStore, IsFaultReply};
@@ -48,6 +49,8 @@ pub fn play<S: PageStore + Drop, D: LogDevice + Drop>(
         work it.engine.state.log ≡ accepted events.now it.replies.items) }
     ensures written { IfOk result (λ it.
         it.engine.state.written ≡ written_by setup.pages events.now it.replies.items) }
+    ensures catalogue { IfOk result (λ it. map entry_of it.engine.state.copies
+        ≡ catalogue setup.pages events.now it.replies.items) }
     ensures fit { IfOk result (λ it. IsFit it.engine.state) }
 
     // A reply tells of a fault of the device just where there was one.

@@ -5,10 +5,11 @@ use Rattle.std.specs.Prelude.{Option, Some, None, IfSome, IsSome, nat_lt, true, 
 use Rattle.std.specs.List.{AllByRecursion, filter}
 use Rattle.std.proofs.Math.Seq.{get_or-append_right, take-append-add}
 use Rattle.std.proofs.lemmas.Bool.{ltb-false}
-use Rattle.std.proofs.lemmas.List.{get_or-map, length-append, length-map, same_lists, take_min}
+use Rattle.std.proofs.lemmas.List.{get_or-map, length-append, length-map, length-take, same_lists, take-take, take_min}
 use Rattle.std.proofs.lemmas.List.FromFn.{get_or-map-range_with_len, length-map-range_with_len}
 use Rattle.page_core.specs.declared.page.Page.{Page}
 use Rattle.page_core.specs.Volume.{AreNumbered}
+use Rattle.log_records.specs.declared.limits.TheConstants.{MAX_RECORDS}
 use Rattle.log_records.specs.declared.record.Record.{Record}
 use Rattle.log_records.specs.Coverage.{is_resumed, resume}
 use Rattle.log_records.specs.Image.{image, redo_all}
@@ -17,13 +18,14 @@ use Rattle.log_records.specs.Record.{own_lsn}
 use Rattle.log_records.specs.declared.record.Record.TheVariants.{EndChkpt}
 use Rattle.log_records.proofs.Images.{number-image, number-image_from}
 use Rattle.log_history.specs.Checkpoint.{IsCompleteCheckpoint}
+use Rattle.log_history.specs.Transactions.{owed}
 use Rattle.log_history.proofs.Histories.{linked-take}
 use Rattle.log_store.specs.declared.master.Master.{Master}
 use Rattle.copy_vault.specs.Chain.{IsChain, IsChainOf, content, contents, last_redo, page_count}
 use Rattle.copy_vault.specs.Copy.{CopyView}
 use Rattle.copy_vault.specs.Vault.{CopyState, complete, dropped, reading, state_of}
 use Rattle.copy_coverage.specs.Kept.{IsKeptOf}
-use Rattle.copy_coverage.specs.Retired.{IsMasterOf, IsRetired, RetiredView}
+use Rattle.copy_coverage.specs.Retired.{HasRoom, IsMasterOf, IsRetired, RetiredView}
 use Rattle.copy_coverage.proofs.Chains.{restored_of_members}
 use Rattle.copy_coverage.proofs.Kept.{prefix_is_log}
 use Rattle.media_restore.specs.declared.fault.LoadFault.{LoadFault}
@@ -35,22 +37,34 @@ use Rattle.media_restore.specs.Load.{IsLoaded, copy_refusal, cut_refusal, first_
 small_cut : (kept forced : ℕ) → (if nat_lt kept forced then Some (CutTooShort forced) else None) ≡ None → forced ≤ kept
 small_cut kept forced e = by_test (nat_lt kept forced) refl e
   where
-    by_test : (b : Bool) → nat_lt kept forced ≡ b → (if b then Some (CutTooShort forced) else None) ≡ None → forced ≤ kept
+    by_test : (b : Bool) → nat_lt kept forced ≡ b → (if b then Some (CutTooShort forced) else None) ≡ None
+        → forced ≤ kept
     by_test true is e = cc
     by_test false is e = ltb-false kept forced is
 
-pub kept_of : (it : RetiredView) (cut : ℕ) → IsRetired it → cut_refusal it cut ≡ None
+-- a cut of what was retired is not refused
+abbrev pub MayCut : RetiredView → ℕ → Type 0
+MayCut it cut = cut_refusal it.forced_end (length it.log.records) cut ≡ None
+
+pub kept_of : (it : RetiredView) (cut : ℕ) → IsRetired it → MayCut it cut
     → IsKeptOf it.log it.forced_end (kept_log it.log cut)
 kept_of it cut retired fine =
     let rs = it.log.records in
     let end = retired.forced.2 in
-    let enough = small_cut (min cut (length rs)) (forced_count it) fine in
+    let enough = small_cut (min cut (length rs)) (forced_count it.forced_end) fine in
     record {
       count = min cut (length rs);
       within = omega arith;
       forced = omega arith;
       made = ap (λ (xs : List Record). record it.log { records = xs }) (sym (take_min cut rs));
     }
+
+pub room_of : (it : RetiredView) (cut : ℕ) → IsRetired it → HasRoom (kept_log it.log cut).records
+room_of it cut retired = λ n le.
+    let rs = it.log.records in
+    let short = length-take cut rs in
+    let same : take n (take cut rs) ≡ take n rs = take-take n cut rs (omega arith) in
+    subst (λ (xs : List Record). length xs + owed xs ≤ MAX_RECORDS) (sym same) (retired.room n (omega arith))
 
 complete_in : (log : Log) (n begin end : ℕ) → IsLog log → n ≤ length log.records
     → IsCompleteCheckpoint log.records begin end → end < lsn_of n → IsCompleteCheckpoint (take n log.records) begin end
@@ -126,8 +140,10 @@ pub numbered_contents : (it : RetiredView) (cut id : ℕ) (members : List CopyVi
     → AreNumbered (contents members)
 numbered_contents it cut id members retired chain of_id kept = λ k d lt.
     let count = count_of it id members retired chain of_id in
-    let below : k < page_count members = omega (arith, length-map-range_with_len (content members) 0 (page_count members)) in
-    ap (λ (q : Page). q.number) (get_or-map-range_with_len (content members) 0 (page_count members) k k d below (omega arith))
+    let below : k < page_count members =
+    omega (arith, length-map-range_with_len (content members) 0 (page_count members)) in
+    ap (λ (q : Page). q.number)
+    (get_or-map-range_with_len (content members) 0 (page_count members) k k d below (omega arith))
     ∙ content_number it cut id members k retired chain of_id kept (omega arith)
 
 pub all_restored : (it : RetiredView) (cut id : ℕ) (members : List CopyView) → IsRetired it → IsChain members
@@ -152,7 +168,7 @@ all_restored it cut id members retired chain of_id kept =
 -- ---- all of it
 
 pub loaded : (it : RetiredView) (cut id : ℕ) (master : Master) (members : List CopyView) → IsRetired it
-    → it.master ≡ Some master → IsChain members → IsChainOf it.copies id members → cut_refusal it cut ≡ None
+    → it.master ≡ Some master → IsChain members → IsChainOf it.copies id members → MayCut it cut
     → IsLoaded (record {
       log = kept_log it.log cut;
       master = master;
@@ -175,9 +191,11 @@ first_none : (a b : Option LoadFault) → first_of a b ≡ None → (a ≡ None)
 first_none None b e = (refl, e)
 first_none (Some fault) b e = cc
 
-pub cut_is_fine : (it : RetiredView) (id cut : ℕ) → load_refusal it id cut ≡ None → cut_refusal it cut ≡ None
-cut_is_fine it id cut e = (first_none (copy_refusal (state_of it.copies id)) (cut_refusal it cut) e).1
+pub cut_is_fine : (it : RetiredView) (id cut : ℕ) → load_refusal it id cut ≡ None → MayCut it cut
+cut_is_fine it id cut e =
+    (first_none (copy_refusal (state_of it.copies id)) (cut_refusal it.forced_end (length it.log.records) cut) e).1
 
 pub copy_is_fine : (it : RetiredView) (id cut : ℕ) → load_refusal it id cut ≡ None
     → copy_refusal (state_of it.copies id) ≡ None
-copy_is_fine it id cut e = (first_none (copy_refusal (state_of it.copies id)) (cut_refusal it cut) e).0
+copy_is_fine it id cut e =
+    (first_none (copy_refusal (state_of it.copies id)) (cut_refusal it.forced_end (length it.log.records) cut) e).0

@@ -1,1 +1,3 @@
+pub mod Fault
 pub mod Load
+pub mod Rebuild

@@ -30,9 +30,9 @@ pub record IsLoaded (it : LoadedView) : Type 0 where
 abbrev pub kept_log : Log → ℕ → Log
 kept_log log cut = record log { records = take cut log.records }
 
--- how many records were forced
-abbrev pub forced_count : RetiredView → ℕ
-forced_count it = it.forced_end / LSN_STEP - 1
+-- how many records lie below a forced end
+abbrev pub forced_count : ℕ → ℕ
+forced_count forced_end = forced_end / LSN_STEP - 1
 
 -- of a copy
 abbrev pub copy_refusal : CopyState → Option LoadFault
@@ -40,11 +40,11 @@ copy_refusal (reading copy) = Some CopyNotComplete
 copy_refusal (complete copy) = None
 copy_refusal dropped = Some NoCopy
 
--- of a cut, where the log has so many records
-abbrev pub cut_refusal : RetiredView → ℕ → Option LoadFault
-cut_refusal it cut =
-    if nat_lt (min cut (length it.log.records)) (forced_count it)
-    then Some (CutTooShort (forced_count it)) else None
+-- of a cut, where the log has so many records and is forced so far
+abbrev pub cut_refusal : ℕ → ℕ → ℕ → Option LoadFault
+cut_refusal forced_end count cut =
+    let forced = forced_count forced_end in
+    if nat_lt (min cut count) forced then Some (CutTooShort forced) else None
 
 -- the first refusal that is there
 abbrev pub first_of : Option LoadFault → Option LoadFault → Option LoadFault
@@ -53,7 +53,9 @@ first_of (Some fault) next = Some fault
 
 -- the refusal that needs no memory
 abbrev pub load_refusal : RetiredView → ℕ → ℕ → Option LoadFault
-load_refusal it id cut = first_of (copy_refusal (state_of it.copies id)) (cut_refusal it cut)
+load_refusal it id cut =
+    first_of (copy_refusal (state_of it.copies id))
+    (cut_refusal it.forced_end (length it.log.records) cut)
 
 -- the load is refused for this, or is not and memory ran out
 abbrev pub LoadRefuses : Option LoadFault → LoadFault → Type 0

@@ -4,7 +4,9 @@
 mod copy_load;
 mod fault;
 mod loaded;
+mod rebuilt;
 
 pub use copy_load::load;
-pub use fault::{LoadFault, RedoFault};
+pub use fault::{LoadFault, RedoFault, Refused};
 pub use loaded::Loaded;
+pub use rebuilt::{Rebuilt, rebuild, recover};

@@ -4,6 +4,7 @@ use Rattle.aries_core.specs.declared.event.Event.{Event}
 use Rattle.aries_core.specs.EngineState.{IsFit, EngineView, new_state}
 use Rattle.aries_core.specs.Step.{IsByDevice, IsByStore}
 use Rattle.aries_core.proofs.Calls.{work_of_run}
+use Rattle.aries_core.proofs.Catalogues.{copies_of_run}
 use Rattle.aries_core.proofs.PageLaws.{written_of_run}
 use Rattle.aries_core.proofs.Plays.{by_device, by_store, run_push, tells_push}
 use Rattle.aries_core.proofs.played.play.Goals as goal
@@ -49,4 +50,11 @@ returns-clause-written g c =
     let so_far = c.loop-event.invariant in
     let all : take c.loop-event.event-index c.args.events.now ≡ c.args.events.now = take_all _ _ (omega arith) in
     written_of_run (new_state c.args.setup.pages) c.args.events.now c.loop-event.replies.items
+    c.loop-event.engine.state (rw all at so_far.run)
+
+pub returns-clause-catalogue : goal.returns-clause-catalogue
+returns-clause-catalogue g c =
+    let so_far = c.loop-event.invariant in
+    let all : take c.loop-event.event-index c.args.events.now ≡ c.args.events.now = take_all _ _ (omega arith) in
+    copies_of_run (new_state c.args.setup.pages) c.args.events.now c.loop-event.replies.items
     c.loop-event.engine.state (rw all at so_far.run)

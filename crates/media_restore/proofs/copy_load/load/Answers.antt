@@ -5,8 +5,10 @@ use Rattle.log_records.specs.Image.{redo_all}
 use Rattle.log_records.specs.Log.{Log}
 use Rattle.copy_vault.specs.Chain.{IsChainOf, contents}
 use Rattle.copy_vault.specs.Vault.{CopyState}
+use Rattle.copy_coverage.specs.Kept.{IsKeptOf}
+use Rattle.copy_coverage.specs.Retired.{HasRoom}
 use Rattle.media_restore.specs.Load.{IsLoaded, LoadedView, kept_log}
-use Rattle.media_restore.proofs.Loads.{all_restored, cut_is_fine, kept_of, loaded}
+use Rattle.media_restore.proofs.Loads.{all_restored, cut_is_fine, kept_of, loaded, room_of}
 use Rattle.media_restore.proofs.copy_load.load.Goals as goal
 
 pub new-requires : goal.new-requires
@@ -51,3 +53,20 @@ returns-clause-restores c =
     (subst (λ (from : ℕ). map (λ page. resume page (kept_log it.log c.args.cut).records from) (contents members)
     ≡ redo_all (kept_log it.log c.args.cut).records it.log.pages) (sym found.4)
     (all_restored it c.args.cut c.args.copy members retired found.1 of_id (kept_of it c.args.cut retired fine)))))
+
+pub returns-clause-kept : goal.returns-clause-kept
+returns-clause-kept c =
+    let it = c.args.retired in
+    let fine = cut_is_fine it c.args.copy c.args.cut (sym c.refusal_of.ensures.refusal ∙ c.in_default.is) in
+    let log : c.keep_first.new.self ≡ kept_log it.log c.args.cut =
+    c.keep_first.ensures ∙ ap (λ (log : Log). kept_log log c.args.cut) c.into_log-log.ensures in
+    subst (λ (it' : LoadedView). IsKeptOf it.log it.forced_end it'.log) (sym c.new.ensures)
+    (subst (IsKeptOf it.log it.forced_end) (sym log) (kept_of it c.args.cut c.refusal_of.ensures.kept fine))
+
+pub returns-clause-room : goal.returns-clause-room
+returns-clause-room c =
+    let it = c.args.retired in
+    let log : c.keep_first.new.self ≡ kept_log it.log c.args.cut =
+    c.keep_first.ensures ∙ ap (λ (log : Log). kept_log log c.args.cut) c.into_log-log.ensures in
+    subst (λ (it' : LoadedView). HasRoom it'.log.records) (sym c.new.ensures)
+    (subst (λ (log : Log). HasRoom log.records) (sym log) (room_of it c.args.cut c.refusal_of.ensures.kept))

@@ -1,0 +1,12 @@
+use Rattle.aries_core.proofs.CopyRefusals.{drop_by_catalogue, full_by_catalogue, inc_by_catalogue}
+use Rattle.aries_core.proofs.CopyRefusals.{seal_by_catalogue, take_by_catalogue}
+use Rattle.aries_core.proofs.copy_laws.copies_are_refused_by_the_catalogue.Goals as goal
+
+pub returns : goal.returns
+returns c = record {
+  full = full_by_catalogue;
+  inc = inc_by_catalogue;
+  take = take_by_catalogue;
+  seal = seal_by_catalogue;
+  drop = drop_by_catalogue;
+}

@@ -1,0 +1,35 @@
+//! Laws of image copies, for those who read the contracts.
+
+ghost use Rattle.std.specs.Prelude.{ℕ, ◌≡◌, List, Result, is_some, map};
+ghost use Rattle.aries_core.specs.Catalogue.{catalogue, catalogue_refusal, entry_of};
+ghost use Rattle.aries_core.specs.EngineState.{EngineState, new_state};
+ghost use Rattle.aries_core.specs.Refusal.{refusal};
+ghost use Rattle.aries_core.specs.Run.{Run};
+ghost use Rattle.aries_core.specs.declared.event.Answer.{Answer};
+ghost use Rattle.aries_core.specs.declared.event.Event.{Event};
+ghost use Rattle.aries_core.specs.declared.event.Event.TheVariants as event;
+ghost use Rattle.aries_core.specs.declared.refusal.Refusal.{Refusal};
+
+/// Which copies there are, of which kind, what each has decided of each page, and which are
+/// complete or dropped, events and replies alone say.
+pub fn the_copies_are_those_answered()
+    ensures { (pages : ℕ) (events : List Event) (replies : List (Result Answer Refusal))
+        (new : EngineState) → Run (new_state pages) events replies new
+        → map entry_of new.copies ≡ catalogue pages events replies }
+{}
+
+/// And so they say when a call on copies is refused, with the one word more whether a checkpoint is
+/// complete: of the copies, no refusal needs more than their entries.
+pub fn copies_are_refused_by_the_catalogue()
+    ensures full { (s : EngineState) → refusal s event.CopyFull
+        ≡ catalogue_refusal (is_some s.master) s.pages (map entry_of s.copies) event.CopyFull }
+    ensures inc { (s : EngineState) (parent : ℕ) → let call = event.CopyInc parent in refusal s call
+        ≡ catalogue_refusal (is_some s.master) s.pages (map entry_of s.copies) call }
+    ensures take { (s : EngineState) (copy page : ℕ) → let call = event.Take copy page in
+        refusal s call
+        ≡ catalogue_refusal (is_some s.master) s.pages (map entry_of s.copies) call }
+    ensures seal { (s : EngineState) (copy : ℕ) → let call = event.Seal copy in refusal s call
+        ≡ catalogue_refusal (is_some s.master) s.pages (map entry_of s.copies) call }
+    ensures drop { (s : EngineState) (copy : ℕ) → let call = event.DropCopy copy in refusal s call
+        ≡ catalogue_refusal (is_some s.master) s.pages (map entry_of s.copies) call }
+{}

@@ -1,0 +1,121 @@
+//! A restore from its load to its undo, and a list of events with the restore after it.
+
+ghost use Rattle.std.specs.Prelude.{◌≡◌, ◌<◌, ◌≤◌, Any, IfErr, IfOk, OnOk, None, Some};
+ghost use Rattle.log_records.specs.Log.{IsPageCount};
+ghost use Rattle.copy_coverage.specs.Kept.{IsKeptOf};
+ghost use Rattle.copy_coverage.specs.Retired.{HasRoom};
+ghost use Rattle.loser_undo.specs.Recovery.{IsWhole};
+ghost use Rattle.aries_core.specs.EngineState.{EngineState};
+ghost use Rattle.aries_core.specs.Step.{IsByDevice, IsByStore, IsFaultReply};
+ghost use Rattle.page_core.specs.Volume.{formatted_pages};
+ghost use Rattle.media_restore.specs.Load.{kept_log, load_refusal};
+ghost use Rattle.media_restore.specs.Rebuild.{IsRebuilt, IsRestored, RestoreRefuses};
+
+use crate::copy_load::load;
+use crate::fault::Refused;
+use aries_core::{Event, PlayFault, Played, Reply, Setup, play};
+use copy_coverage::Retired;
+use copy_vault::CopyId;
+use log_store::LogDevice;
+use loser_undo::{Redone, Undone, undo_all};
+use page_store::PageStore;
+use std::alloc::Global;
+
+/// What came of a list of events, and of the restore after it.
+#[derive(Drop)]
+pub struct Rebuilt {
+    /// A reply for each event, in their order.
+    pub replies: Vec<Reply>,
+    /// The volume as it was restored, with its log, or why there is none.
+    pub outcome: Result<Undone, Refused>,
+}
+
+/// Plays a list of events from a new engine on, and restores a volume of what the engine leaves
+/// then: of its log the first `cut` records, or all where there are fewer, and of its image copies
+/// the one of this id, with those that it stands on.
+///
+/// A fault comes before the first event, as that of `play`. The outcome is as that of `recover`.
+pub fn rebuild<S: PageStore + Drop, D: LogDevice + Drop>(
+    alloc: Global,
+    setup: Setup,
+    store: S,
+    device: D,
+    events: &[Event],
+    copy: CopyId,
+    cut: usize,
+) -> Result<Rebuilt, PlayFault>
+    requires pages { IsPageCount setup.pages }
+    requires frames { setup.pages ≤ setup.frames }
+    requires formatted { S.stored store ≡ formatted_pages setup.pages }
+
+    ensures rebuilt { IfOk result (λ it. (e : EngineState)
+        × IsRebuilt setup.pages events.now copy cut it.replies.items it.outcome e) }
+
+    // A reply tells of a fault of the device, or of the store, only where there was one.
+    ensures failure { IfOk result (λ it. Any (IsFaultReply IsByDevice) it.replies.items
+        → (left : D) × (D.failures device < D.failures left)) }
+    ensures store_failure { IfOk result (λ it. Any (IsFaultReply IsByStore) it.replies.items
+        → (left : S) × (S.failures store < S.failures left)) }
+
+    ensures cause { IfErr result (λ why. why ≡ PlayFault.LogFault
+        → (left : D) × (D.failures device < D.failures left)) }
+{
+    let Played { replies, engine } = play(alloc, setup, store, device, events)?;
+    let outcome = recover(alloc, engine.retire(), copy, cut);
+    Ok(Rebuilt { replies, outcome })
+}
+
+/// Restores a volume of what an engine left (ARIES, section 8): loads a complete copy with those
+/// that it stands on, keeps the first `cut` records of the log, or all where there are fewer,
+/// redoes these from the copy's redo point on, and undoes the transactions that are open at their
+/// end.
+///
+/// Refusals in order: `NoCopy`, `CopyNotComplete`, `CutTooShort`, and then `OutOfMemory` of any of
+/// the three steps. The log is never full: an engine keeps room for all records of undo. What was
+/// retired is dropped at a refusal.
+pub fn recover(alloc: Global, retired: Retired, copy: CopyId, cut: usize) -> Result<Undone, Refused>
+    ensures master { IfOk result (λ it. retired.master ≡ Some it.master) }
+    ensures kept { OnOk result
+        (IsKeptOf retired.log retired.forced_end (kept_log retired.log cut)) }
+    ensures restored { IfOk result (λ it. IsRestored (kept_log retired.log cut) it) }
+    ensures ok { OnOk result (load_refusal retired copy cut ≡ None) }
+    ensures err { IfErr result (λ why. RestoreRefuses (load_refusal retired copy cut) why) }
+{
+    let redone = redo_copy(alloc, retired, copy, cut)?;
+    undo(redone)
+}
+
+/// Loads a copy, and redoes the kept log over it: the pages are then those that this log makes.
+fn redo_copy(alloc: Global, retired: Retired, copy: CopyId, cut: usize) -> Result<Redone, Refused>
+    ensures log { IfOk result (λ it. it.log ≡ kept_log retired.log cut) }
+    ensures master { IfOk result (λ it. retired.master ≡ Some it.master) }
+    ensures kept { OnOk result
+        (IsKeptOf retired.log retired.forced_end (kept_log retired.log cut)) }
+    ensures room { IfOk result (λ it. HasRoom it.log.records) }
+    ensures whole { IfOk result (λ it. IsWhole it) }
+    ensures ok { OnOk result (load_refusal retired copy cut ≡ None) }
+    ensures err { IfErr result (λ why. RestoreRefuses (load_refusal retired copy cut) why) }
+{
+    let loaded = match load(alloc, retired, copy, cut) {
+        Ok(loaded) => loaded,
+        Err((_, fault)) => return Err(Refused::Load(fault)),
+    };
+    match loaded.redo(alloc) {
+        Ok(redone) => Ok(redone),
+        Err((_, fault)) => Err(Refused::Redo(fault)),
+    }
+}
+
+/// Undoes the transactions that are open at the end of a log that has room for that.
+fn undo(redone: Redone) -> Result<Undone, Refused>
+    requires room { HasRoom redone.log.records }
+    requires whole { IsWhole redone }
+    ensures master { IfOk result (λ it. it.master ≡ redone.master) }
+    ensures restored { IfOk result (λ it. IsRestored redone.log it) }
+    ensures err { IfErr result (λ why. RestoreRefuses None why) }
+{
+    match undo_all(redone) {
+        Ok(undone) => Ok(undone),
+        Err((_, fault)) => Err(Refused::Undo(fault)),
+    }
+}
