@@ -1,2 +1,4 @@
 pub mod Command
+pub mod Fault
+pub mod Run
 pub mod Stream

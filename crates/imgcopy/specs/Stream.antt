@@ -52,7 +52,7 @@ reported (log.Torn at) = fault.Torn at
 reported log.ReadFault = fault.ReadFault
 reported log.TooLong = fault.TooLong
 
--- what a fault says, and what stands after it
+-- what a fault says, and what stands after it; no other fault comes of a log
 abbrev pub Leaves : Option (List ℕ) → Option (List ℕ) → Option (List ℕ) → Fault → Type 0
 Leaves input old new fault.OutOfMemory = Keeps old new
 Leaves input old new (fault.WriteFault done) = WritesPart input old new done
@@ -62,3 +62,4 @@ Leaves input old new (fault.BadChain at) = WritesNone input old new (log.BadChai
 Leaves input old new (fault.Torn at) = WritesNone input old new (log.Torn at)
 Leaves input old new fault.ReadFault = WritesNone input old new log.ReadFault
 Leaves input old new fault.TooLong = WritesNone input old new log.TooLong
+Leaves input old new other = ⊥
