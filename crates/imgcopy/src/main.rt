@@ -4,6 +4,7 @@
 ghost use Rattle.std.specs.Prelude.{◌≡◌, IfErr, OnOk};
 ghost use Rattle.std.specs.Process.{exit_status};
 
+mod arguments;
 mod command;
 mod fault;
 mod stream;
@@ -28,6 +29,11 @@ fn main(rt: HostRuntime) -> ExitCode {
         Ok(Command::Redo) => {
             let done = redo_stream(rt.alloc(), &mut rt.stdin(), &mut io::writer(&rt));
             status_of(&rt, done)
+        }
+        // The words of these are read, and that is all so far.
+        Ok(Command::Run { .. } | Command::Restore { .. }) => {
+            let _ = rt.eprintln(&"error: this command does nothing yet");
+            ExitCode::from(FAULT_STATUS)
         }
         Err(fault) => {
             let _ = rt.eprint(&fault);
