@@ -1,8 +1,8 @@
 -- Archives that are read in their order.
-use Rattle.std.proofs.Common.{◌≡◌, ◌∙◌, ℕ, ◌+◌, ◌<◌, ◌≤◌, List, [], ◌∷◌, ◌++◌, length, get_or, set, take, drop, map}
+use Rattle.std.proofs.Common.{◌≡◌, ◌∙◌, ℕ, ◌+◌, ◌<◌, ◌≤◌, List, [], ◌∷◌, ◌++◌, length, get_or, set, take, drop}
 use Rattle.std.proofs.Common.{refl, sym, ap, subst, arith}
 use Rattle.std.specs.Prelude.{Option, IfSome}
-use Rattle.std.proofs.lemmas.List.{drop-set-lt, drop_more, get_or-drop, map-set, take-append-drop, take_all, take_more}
+use Rattle.std.proofs.lemmas.List.{drop-set-lt, drop_more, get_or-drop, take-append-drop, take_all, take_more}
 use Rattle.copy_vault.specs.declared.copy_id.CopyKind.{CopyKind}
 use Rattle.copy_vault.specs.declared.copy_id.CopyKind.TheVariants.{Full, Inc}
 use Rattle.copy_vault.specs.Archive.{SpellsCopy}
@@ -18,7 +18,8 @@ spell_push : (inputs : List (Option (List ℕ))) (copies : List CopyView) (this 
 spell_push [] [] this copy so_far here = (here, tt)
 spell_push [] (c ∷ copies) this copy so_far here = absurd so_far
 spell_push (i ∷ inputs) [] this copy so_far here = absurd so_far
-spell_push (i ∷ inputs) (c ∷ copies) this copy so_far here = (so_far.0, spell_push inputs copies this copy so_far.1 here)
+spell_push (i ∷ inputs) (c ∷ copies) this copy so_far here =
+    (so_far.0, spell_push inputs copies this copy so_far.1 here)
 
 -- the archives up to here spell copies that fit, and the next one has to be of this kind
 pub record ReadUpTo (inputs : List (Option (List ℕ))) (pages k : ℕ) (kind : CopyKind) (copies : List CopyView)

@@ -1,5 +1,5 @@
 -- The bytes of a master record, read to their end, and the checkpoint that it names.
-use Rattle.std.proofs.Common.{◌≡◌, ◌∙◌, ℕ, ◌+◌, ◌<◌, ◌≤◌, List, [], ◌++◌, length, refl, sym, ap, subst, arith, inl, inr}
+use Rattle.std.proofs.Common.{◌≡◌, ◌∙◌, ℕ, ◌<◌, ◌≤◌, List, [], ◌++◌, length, refl, sym, ap, subst, arith, inl, inr}
 use Rattle.std.specs.Prelude.{Option, Some, None, Result, Ok, Err, IfSome, IfOk, IfErr, IsTrue, false}
 use Rattle.std.proofs.lemmas.Bool.{cases_lt}
 use Rattle.std.specs.Io.KnownBytes.{Consumes, IsAtEnd}
@@ -29,10 +29,6 @@ none_begins found bytes rest m long only none is =
 pub record IsFoundIn (found : Option Master) (given : List ℕ) : Type 0 where
   pub right : IfSome found (λ m. SpellsMaster m given)
   pub only : (m : Master) → SpellsMaster m given → found ≡ Some m
-
-pub nothing_taken : (old : Option (List ℕ)) → Consumes old old []
-nothing_taken None = tt
-nothing_taken (Some bytes) = refl
 
 pub none_in_nothing : IsFoundIn None []
 none_in_nothing = record {

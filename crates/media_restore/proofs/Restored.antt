@@ -1,7 +1,8 @@
 -- The pages that are restored of a chain and a log.
-use Rattle.std.proofs.Common.{◌≡◌, ◌∙◌, ℕ, ◌+◌, ◌<◌, ◌≤◌, ◌⊎◌, List, [], ◌∷◌, length, map, refl, sym, ap, subst, arith, inl, inr}
-use Rattle.std.specs.Prelude.{Option, None, Some, Result, Ok, Err, IfOk, IfErr, OnOk}
-use Rattle.std.specs.Io.KnownBytes.{Keeps}
+use Rattle.std.proofs.Common.{◌≡◌, ◌∙◌, ℕ, ◌<◌, ◌≤◌, ◌⊎◌, List, [], ◌∷◌, length, map}
+use Rattle.std.proofs.Common.{refl, sym, ap, subst, arith, inl, inr}
+use Rattle.std.specs.Prelude.{Option, Result, Ok, Err, IfOk, IfErr, OnOk}
+use Rattle.std.proofs.KnownBytes.{Keeps-refl}
 use Rattle.std.proofs.lemmas.List.{get_or-map, length-map, same_lists}
 use Rattle.std.proofs.lemmas.List.FromFn.{get_or-map-range_with_len, length-map-range_with_len}
 use Rattle.page_core.specs.declared.page.Page.{Page}
@@ -28,12 +29,13 @@ use Rattle.loser_undo.specs.Recovery.{HasCommitted, IsRecovery, IsWhole, Recover
 use Rattle.media_restore.specs.declared.files_fault.RestoreFault.{RestoreFault}
 use Rattle.media_restore.specs.declared.files_fault.RestoreFault.TheVariants.{OutOfMemory, LogFull, WriteFault}
 use Rattle.media_restore.specs.declared.files_fault.RestoreFault.TheVariants.{BadHeader, BadRecord, Torn, ReadFault}
-use Rattle.media_restore.specs.declared.files_fault.RestoreFault.TheVariants.{TooLong, BadChain, BadArchive, ChainBroken}
+use Rattle.media_restore.specs.declared.files_fault.RestoreFault.TheVariants.{TooLong, BadChain, BadArchive}
+use Rattle.media_restore.specs.declared.files_fault.RestoreFault.TheVariants.{ChainBroken}
 use Rattle.media_restore.specs.declared.files_fault.RestoreFault.TheVariants.{CountDiffers}
 use Rattle.media_restore.specs.Files.{AreCovering, AreSound, Files, HasParts, IsOfLog, IsOfMaster, IsRestored, Leaves}
-use Rattle.media_restore.specs.Files.{LogRefused, MasterRefused, Refused, most_records, redone_of}
+use Rattle.media_restore.specs.Files.{Refused, most_records, redone_of}
 use Rattle.media_restore.specs.Files.{of_the_log, of_the_master, of_the_archives, of_undo, of_memory}
-use Rattle.media_restore.specs.FilesArchives.{AreOfChain, ArchiveRefused, ArchivesRefused}
+use Rattle.media_restore.specs.FilesArchives.{AreOfChain, ArchivesRefused}
 use Rattle.media_restore.specs.FilesFault as from
 
 -- ---- redo of the pages of a chain
@@ -187,21 +189,17 @@ no_write files done (of_the_archives log master is named refused) = no_archives 
 no_write files done (of_undo log master copies parts e full) = cc
 no_write files done (of_memory e) = cc
 
-keeps : (old : Option (List ℕ)) → Keeps old old
-keeps None = tt
-keeps (Some bytes) = refl
-
 pub leaves : (files : Files) (old : Option (List ℕ)) (fault : RestoreFault) → Refused files fault
     → Leaves files old old fault
-leaves files old OutOfMemory refused = (keeps old, refused)
-leaves files old LogFull refused = (keeps old, refused)
+leaves files old OutOfMemory refused = (Keeps-refl old, refused)
+leaves files old LogFull refused = (Keeps-refl old, refused)
 leaves files old (WriteFault done) refused = absurd (no_write files done refused)
-leaves files old BadHeader refused = (keeps old, refused)
-leaves files old (BadRecord at) refused = (keeps old, refused)
-leaves files old (Torn at) refused = (keeps old, refused)
-leaves files old ReadFault refused = (keeps old, refused)
-leaves files old TooLong refused = (keeps old, refused)
-leaves files old (BadChain at) refused = (keeps old, refused)
-leaves files old (BadArchive at) refused = (keeps old, refused)
-leaves files old (ChainBroken copy) refused = (keeps old, refused)
-leaves files old CountDiffers refused = (keeps old, refused)
+leaves files old BadHeader refused = (Keeps-refl old, refused)
+leaves files old (BadRecord at) refused = (Keeps-refl old, refused)
+leaves files old (Torn at) refused = (Keeps-refl old, refused)
+leaves files old ReadFault refused = (Keeps-refl old, refused)
+leaves files old TooLong refused = (Keeps-refl old, refused)
+leaves files old (BadChain at) refused = (Keeps-refl old, refused)
+leaves files old (BadArchive at) refused = (Keeps-refl old, refused)
+leaves files old (ChainBroken copy) refused = (Keeps-refl old, refused)
+leaves files old CountDiffers refused = (Keeps-refl old, refused)

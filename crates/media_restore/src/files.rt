@@ -23,12 +23,13 @@ use std::io::{Read, Write};
 /// How many pages are written at once.
 const BUFFER_PAGES: usize = 512;
 
-/// Restores a volume from files (ARIES, section 8): reads a log, its master record and the archives
-/// of a chain of copies, the full one first, redoes the log over the chain's pages from the redo
-/// point of the last copy on, undoes the transactions that are open at the log's end, and writes
-/// the bytes of the volume. Whoever wrote the files, and whether or not the copies lack a change:
-/// where they lack none below that redo point, the volume is that of the log after undo, and has
-/// what was committed.
+/// Restores a volume from files (ARIES, section 8), and writes its bytes. It reads a log, its master
+/// record and the archives of a chain of copies, the full one first, redoes the log over the pages
+/// of the chain from the redo point of the last copy on, and undoes the transactions that are open
+/// at the log's end.
+///
+/// It does so whoever wrote the files, and whatever their copies lack. Where these lack no change
+/// below that redo point, the volume is that of the log after undo, and has what was committed.
 ///
 /// The faults of the log come first, those of `read_log`; then those of the master record:
 /// `BadHeader` where its bytes spell none, `BadChain` where it names no complete checkpoint of the

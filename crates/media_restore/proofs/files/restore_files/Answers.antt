@@ -12,7 +12,8 @@ returns-in_err-undone-clause-err g c =
       archives = map g.A.Read.remaining c.args.archives.now;
     } in
     let p = err_from_is_err_and c.from_residual.result c.from_residual.ensures.1 in
-    rw (p.1, p.2) (leaves files (g.W.Write.contents c.args.writer.now) c.in_err-undone.field-0.0 c.in_err-undone.ensures.err)
+    rw (p.1, p.2)
+    (leaves files (g.W.Write.contents c.args.writer.now) c.in_err-undone.field-0.0 c.in_err-undone.ensures.err)
 
 pub returns-in-Ok-clause-ok : goal.returns-in-Ok-clause-ok
 returns-in-Ok-clause-ok g c =

@@ -16,7 +16,8 @@ returns-in_err-named-clause-err g c =
       linked = c.in_ok-image.ensures.linked;
       spelled = c.in_ok-image.ensures.found;
     } in
-    let why = subst (λ (rs : List Record). MasterRefused input rs fault) c.records.ensures.records c.in_err-named.ensures.err in
+    let why = subst (λ (rs : List Record). MasterRefused input rs fault) c.records.ensures.records
+    c.in_err-named.ensures.err in
     let p = err_from_is_err_and c.from_residual-in_err-named.result c.from_residual-in_err-named.ensures.1 in
     rw (p.1, p.2) (of_the_master image of_log why)
 
@@ -32,7 +33,8 @@ returns-in_err-pages-clause-err g c =
       linked = c.in_ok-image.ensures.linked;
       spelled = c.in_ok-image.ensures.found;
     } in
-    let of_master = subst (λ (rs : List Record). IsOfMaster input rs named) c.records.ensures.records c.in_ok-named.ensures.ok in
+    let of_master = subst (λ (rs : List Record). IsOfMaster input rs named) c.records.ensures.records
+    c.in_ok-named.ensures.ok in
     let why = subst (λ (n : ℕ). ArchivesRefused inputs n fault) c.pages.ensures.pages c.in_err-pages.ensures.err in
     let p = err_from_is_err_and c.from_residual-in_err-pages.result c.from_residual-in_err-pages.ensures.1 in
     rw (p.1, p.2) (of_the_archives image named of_log of_master why)
@@ -44,7 +46,8 @@ recovered-requires g c =
     let redo = c.in_ok-pages.redo in
     let inputs = map g.A.Read.remaining c.args.archives.now in
     let of_chain = subst (λ (n : ℕ). AreOfChain inputs n pages redo) c.pages.ensures.pages c.in_ok-pages.ensures.ok in
-    recovery_of image c.in_ok-named.named inputs pages redo c.records.ensures.valid c.in_ok-image.ensures.linked of_chain
+    recovery_of image c.in_ok-named.named inputs pages redo c.records.ensures.valid c.in_ok-image.ensures.linked
+    of_chain
 
 pub returns-clause-ok : goal.returns-clause-ok
 returns-clause-ok g c =
@@ -64,7 +67,8 @@ returns-clause-ok g c =
       linked = c.in_ok-image.ensures.linked;
       spelled = c.in_ok-image.ensures.found;
     } in
-    let of_master = subst (λ (rs : List Record). IsOfMaster input rs named) c.records.ensures.records c.in_ok-named.ensures.ok in
+    let of_master = subst (λ (rs : List Record). IsOfMaster input rs named) c.records.ensures.records
+    c.in_ok-named.ensures.ok in
     let of_chain = subst (λ (n : ℕ). AreOfChain inputs n pages redo) c.pages.ensures.pages c.in_ok-pages.ensures.ok in
     all_restored c.recovered.result files image named pages redo of_log of_master of_chain c.recovered.ensures.made
     c.recovered.ensures.room c.recovered.ensures.sound
@@ -87,7 +91,8 @@ returns-clause-err g c =
       linked = c.in_ok-image.ensures.linked;
       spelled = c.in_ok-image.ensures.found;
     } in
-    let of_master = subst (λ (rs : List Record). IsOfMaster input rs named) c.records.ensures.records c.in_ok-named.ensures.ok in
+    let of_master = subst (λ (rs : List Record). IsOfMaster input rs named) c.records.ensures.records
+    c.in_ok-named.ensures.ok in
     let of_chain = subst (λ (n : ℕ). AreOfChain inputs n pages redo) c.pages.ensures.pages c.in_ok-pages.ensures.ok in
     undo_or_memory c.recovered.result files image named of_chain.copies
     (record { of_log = of_log; of_master = of_master; of_archives = of_chain.of_archives; chain = of_chain.chain })

@@ -1,10 +1,9 @@
-use Rattle.std.proofs.Common.{◌≡◌, ◌∙◌, ◌+◌, ◌<◌, ◌≤◌, ◌++◌, ◌∷◌, [], ℕ, List, length, get_or, set, drop, map, sym, ap, subst, arith, inl, inr}
-use Rattle.std.specs.Prelude.{Option}
+use Rattle.std.proofs.Common.{◌≡◌, ◌∙◌, ◌+◌, ◌<◌, ℕ, List, length, get_or, drop, map, sym, ap, subst, arith, inl, inr}
 use Rattle.std.proofs.lemmas.List.{get_or-map, length-map, map-set}
 use Rattle.std.proofs.lemmas.Result.{err_from_is_err_and}
 use Rattle.copy_vault.specs.declared.copy_id.CopyKind.TheVariants.{Inc}
 use Rattle.copy_vault.specs.Copy.{CopyView}
-use Rattle.media_restore.proofs.Archives.{ReadUpTo, read_all, read_more, refused_at, same_behind, same_here}
+use Rattle.media_restore.proofs.Archives.{ReadUpTo, read_more, refused_at, same_behind, same_here}
 use Rattle.media_restore.proofs.files_archives.read_copies.Goals as goal
 
 pub returns-in_err-copy-clause-err : goal.returns-in_err-copy-clause-err

@@ -10,15 +10,16 @@ returns-then-is_its_end c =
     let i = c.loop-entry.entry-index in
     let has = c.if-is_its_end.ensures.0 refl in
     let lt : i < length rs = omega arith in
-    let there = subst (λ (r : Record). get_or rs i r ≡ r) has.1 (sym c.entry-item.is) in
-    (λ yes. complete-of_end rs c.args.master.now.begin c.args.master.now.end has.0 c.requires (i, lt, there), λ whole. refl)
+    let there = subst (λ (r : Record). get_or rs i r ≡ r) has.1 (sym c.entry-item.is) in (
+      λ yes. complete-of_end rs c.args.master.now.begin c.args.master.now.end has.0 c.requires (i, lt, there),
+      λ whole. refl,
+    )
 
 pub returns : goal.returns
 returns c =
     let rs = c.args.records.now in
     let begin = c.args.master.now.begin in
-    let end = c.args.master.now.end in
-    (
+    let end = c.args.master.now.end in (
       λ yes. cc,
       λ whole.
           let has = end-of_complete rs begin end whole in
