@@ -90,7 +90,8 @@ abbrev pub call_of_one : List ℕ → ℕ → Option Event
 call_of_one name number = do
   number ← in_u32 number
   or_else (called (entry_of txn_calls name) number)
-      (or_else (called (entry_of page_calls name) number) (called (entry_of copy_calls name) number))
+      (or_else (called (entry_of page_calls name) number)
+      (called (entry_of copy_calls name) number))
 
 -- a page and a slot, or a copy and a page
 abbrev pub call_of_two : List ℕ → ℕ → ℕ → Option Event

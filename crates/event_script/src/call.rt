@@ -1,9 +1,9 @@
 //! The call that a line names.
 
 ghost use Rattle.std.specs.Prelude.{◌≡◌};
-ghost use Rattle.event_script.specs.Script.{args_of, call_of, call_of_none, call_of_one, call_of_two};
-ghost use Rattle.event_script.specs.Script.{called, change_of, checkpoint_calls, copy_calls, entry_of};
-ghost use Rattle.event_script.specs.Script.{page_calls, plain_calls, txn_calls};
+ghost use Rattle.event_script.specs.Script.{args_of, call_of, call_of_none, call_of_one};
+ghost use Rattle.event_script.specs.Script.{call_of_two, called, change_of, checkpoint_calls};
+ghost use Rattle.event_script.specs.Script.{copy_calls, entry_of, page_calls, plain_calls, txn_calls};
 ghost use Rattle.event_script.specs.Words.{words_of};
 
 use crate::number::number_of;

@@ -10,7 +10,8 @@ const MAX_DIGITS: usize = 20;
 pub(crate) fn number_of(word: &[u8]) -> Option<u64>
     ensures { result ≡ number_of word.now }
 {
-    if word.is_empty() || word.len() > MAX_DIGITS {
+    let count = word.len();
+    if count == 0 || count > MAX_DIGITS {
         return None;
     }
     let mut number: u64 = 0;
