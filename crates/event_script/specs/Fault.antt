@@ -1,0 +1,10 @@
+-- What is printed where a script cannot be read.
+use Rattle.std.specs.Prelude.{ℕ, ◌++◌, List, codes}
+use Rattle.std.specs.Fmt.{decimal}
+use Rattle.event_script.specs.declared.fault.ScriptFault.{ScriptFault}
+use Rattle.event_script.specs.declared.fault.ScriptFault.TheVariants.{OutOfMemory, Input, BadLine}
+
+abbrev pub line_of_fault : ScriptFault → List ℕ
+line_of_fault OutOfMemory = codes "E1 OutOfMemory"
+line_of_fault Input = codes "imgcopy: input"
+line_of_fault (BadLine number) = codes "imgcopy: line " ++ decimal number

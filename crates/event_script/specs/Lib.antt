@@ -1,0 +1,5 @@
+pub mod Fault
+pub mod Read
+pub mod Reply
+pub mod Script
+pub mod Words

@@ -1,0 +1,187 @@
+//! The call that a line names.
+
+ghost use Rattle.std.specs.Prelude.{◌≡◌};
+ghost use Rattle.event_script.specs.Script.{args_of, call_of, call_of_none, call_of_one};
+ghost use Rattle.event_script.specs.Script.{call_of_two, called, change_of, checkpoint_calls};
+ghost use Rattle.event_script.specs.Script.{copy_calls, entry_of, page_calls, plain_calls, txn_calls};
+ghost use Rattle.event_script.specs.Words.{words_of};
+
+use crate::number::number_of;
+use crate::words::next_word;
+use aries_core::Event;
+use copy_vault::CopyId;
+use page_core::{PageNo, SlotNo, TxnNo};
+
+/// The numbers behind a call's name.
+#[derive(Clone, Copy)]
+pub(crate) enum Args {
+    Nothing,
+    One(u64),
+    Two(u64, u64),
+    Four(u64, u64, u64, u64),
+}
+
+/// The numbers in these bytes. No call has three, or more than four.
+pub(crate) fn args_of(bytes: &[u8]) -> Option<Args>
+    ensures { result ≡ args_of (words_of bytes.now) }
+{
+    let Some((a, rest)) = next_word(bytes) else {
+        return Some(Args::Nothing);
+    };
+    let Some((b, rest)) = next_word(rest) else {
+        return Some(Args::One(number_of(a)?));
+    };
+    let Some((c, rest)) = next_word(rest) else {
+        return Some(Args::Two(number_of(a)?, number_of(b)?));
+    };
+    let (d, rest) = next_word(rest)?;
+    if next_word(rest).is_some() {
+        return None;
+    }
+    Some(Args::Four(number_of(a)?, number_of(b)?, number_of(c)?, number_of(d)?))
+}
+
+fn plain_call(name: &[u8]) -> Option<Event>
+    ensures { result ≡ entry_of plain_calls name.now }
+{
+    if name == b"begin".as_slice() {
+        Some(Event::Begin)
+    } else if name == b"force".as_slice() {
+        Some(Event::Force)
+    } else if name == b"full".as_slice() {
+        Some(Event::CopyFull)
+    } else {
+        None
+    }
+}
+
+fn checkpoint_call(name: &[u8]) -> Option<Event>
+    ensures { result ≡ entry_of checkpoint_calls name.now }
+{
+    if name == b"ckpt".as_slice() {
+        Some(Event::CkptBegin)
+    } else if name == b"gather".as_slice() {
+        Some(Event::CkptGather)
+    } else if name == b"endckpt".as_slice() {
+        Some(Event::CkptEnd)
+    } else {
+        None
+    }
+}
+
+fn call_of_none(name: &[u8]) -> Option<Event>
+    ensures { result ≡ call_of_none name.now }
+{
+    match plain_call(name) {
+        Some(event) => Some(event),
+        None => checkpoint_call(name),
+    }
+}
+
+fn call_of_txn(name: &[u8], number: u32) -> Option<Event>
+    ensures { result ≡ called (entry_of txn_calls name.now) number }
+{
+    let txn = TxnNo(number);
+    if name == b"commit".as_slice() {
+        Some(Event::Commit(txn))
+    } else if name == b"abort".as_slice() {
+        Some(Event::Abort(txn))
+    } else if name == b"undo".as_slice() {
+        Some(Event::UndoStep(txn))
+    } else {
+        None
+    }
+}
+
+fn call_of_page(name: &[u8], number: u32) -> Option<Event>
+    ensures { result ≡ called (entry_of page_calls name.now) number }
+{
+    let page = PageNo(number);
+    if name == b"wbegin".as_slice() {
+        Some(Event::WriteBegin(page))
+    } else if name == b"wend".as_slice() {
+        Some(Event::WriteEnd(page))
+    } else {
+        None
+    }
+}
+
+fn call_of_copy(name: &[u8], number: u32) -> Option<Event>
+    ensures { result ≡ called (entry_of copy_calls name.now) number }
+{
+    let copy = CopyId(number);
+    if name == b"inc".as_slice() {
+        Some(Event::CopyInc(copy))
+    } else if name == b"seal".as_slice() {
+        Some(Event::Seal(copy))
+    } else if name == b"drop".as_slice() {
+        Some(Event::DropCopy(copy))
+    } else {
+        None
+    }
+}
+
+fn call_of_one(name: &[u8], number: u64) -> Option<Event>
+    ensures { result ≡ call_of_one name.now number }
+{
+    let number = u32::try_from(number).ok()?;
+    if let Some(event) = call_of_txn(name, number) {
+        return Some(event);
+    }
+    match call_of_page(name, number) {
+        Some(event) => Some(event),
+        None => call_of_copy(name, number),
+    }
+}
+
+fn call_of_two(name: &[u8], first: u64, second: u64) -> Option<Event>
+    ensures { result ≡ call_of_two name.now first second }
+{
+    let first = u32::try_from(first).ok()?;
+    match name {
+        b"read" => Some(Event::Read {
+            page: PageNo(first),
+            slot: SlotNo(u16::try_from(second).ok()?),
+        }),
+        b"take" => Some(Event::Take {
+            copy: CopyId(first),
+            page: PageNo(u32::try_from(second).ok()?),
+        }),
+        _ => None,
+    }
+}
+
+fn change_of(name: &[u8], txn: u64, page: u64, slot: u64, number: u64) -> Option<Event>
+    ensures { result ≡ change_of name.now txn page slot number }
+{
+    let txn = TxnNo(u32::try_from(txn).ok()?);
+    let page = PageNo(u32::try_from(page).ok()?);
+    let slot = SlotNo(u16::try_from(slot).ok()?);
+    match name {
+        b"set" => Some(Event::Set {
+            txn,
+            page,
+            slot,
+            number,
+        }),
+        b"add" => Some(Event::Add {
+            txn,
+            page,
+            slot,
+            amount: number,
+        }),
+        _ => None,
+    }
+}
+
+/// The call of this name with these numbers, if there is one, and each number fits.
+pub(crate) fn call_of(name: &[u8], args: Args) -> Option<Event>
+    ensures { result ≡ call_of name.now args }
+{
+    match args {
+        Args::Nothing => call_of_none(name),
+        Args::One(number) => call_of_one(name, number),
+        Args::Two(first, second) => call_of_two(name, first, second),
+        Args::Four(txn, page, slot, number) => change_of(name, txn, page, slot, number),
+    }
+}

@@ -1,0 +1,54 @@
+//! Why a script could not be read.
+
+ghost use Rattle.std.specs.Prelude.{◌≡◌};
+ghost use Rattle.event_script.specs.declared.fault.ScriptFault.TheVariants.{OutOfMemory};
+
+use std::alloc::{AllocError, AllocFailed};
+use std::error::Error;
+use std::fmt;
+
+/// Why a script could not be read. Its text is its line.
+#[derive(Clone, Copy, Debug, PartialEq, Eq)]
+pub enum ScriptFault {
+    /// Memory ran out.
+    OutOfMemory,
+    /// The script is longer than 16,777,216 bytes, is no UTF-8, or the reader failed or did not
+    /// come to an end. This is looked at before any line.
+    Input,
+    /// The line of this number is bad, and none before it is. Lines are counted from 1, with those
+    /// that are skipped.
+    BadLine(u64),
+}
+
+impl fmt::Display for ScriptFault {
+    ghost use Rattle.std.specs.Prelude.{Some};
+    ghost use Rattle.event_script.specs.Fault.{line_of_fault};
+
+    ghost output = { λ fault. Some (line_of_fault fault) };
+
+    fn fmt<W: fmt::Write>(&self, f: &mut fmt::Formatter<W>) -> fmt::Result {
+        match self {
+            ScriptFault::OutOfMemory => write!(f, "E1 OutOfMemory"),
+            ScriptFault::Input => write!(f, "imgcopy: input"),
+            ScriptFault::BadLine(number) => write!(f, "imgcopy: line {number}"),
+        }
+    }
+}
+
+impl Error for ScriptFault {}
+
+impl From<AllocError> for ScriptFault {
+    ghost from_gives = { λ _ e. e ≡ OutOfMemory };
+
+    fn from(_error: AllocError) -> ScriptFault {
+        ScriptFault::OutOfMemory
+    }
+}
+
+impl<T: Drop> From<AllocFailed<T>> for ScriptFault {
+    ghost from_gives = { λ _ e. e ≡ OutOfMemory };
+
+    fn from(_error: AllocFailed<T>) -> ScriptFault {
+        ScriptFault::OutOfMemory
+    }
+}
