@@ -1,10 +1,10 @@
 #!/usr/bin/env python3
-"""Measures `imgcopy redo` beside a plain Rust program and a bare copy, and prints a Markdown table.
+"""Measures imgcopy beside plain Rust programs and a bare copy, and prints a Markdown table.
 
 usage: run.py --imgcopy PROGRAM --tools FOLDER [--rounds N]
 
-FOLDER holds the built programs generate, plain_redo, bare_copy and peak_memory. README.md says what is measured and
-how.
+FOLDER holds the built programs of src/bin. README.md says what is measured and how. Of a command that the program does
+not have nothing is measured.
 """
 
 import argparse
@@ -13,6 +13,7 @@ import filecmp
 import os
 import shutil
 import signal
+import subprocess
 import sys
 import tempfile
 import time
@@ -21,26 +22,10 @@ from typing import NamedTuple
 
 sys.path.insert(0, str(Path(__file__).resolve().parent.parent / "examples"))
 
-from log_format import PAGE_SIZE, lsn_of
+from log_format import PAGE_SIZE, RECORD_SIZE, lsn_of
 
 MEGABYTE = 1e6
 ALLOWED_RATIO = 1.3
-
-
-class Input(NamedTuple):
-    name: str
-    shape: str
-    records: int
-    pages: int
-
-    def __str__(self):
-        return f"{self.name} of {self.records:,} records"
-
-    def log_size(self):
-        return log_size(self.records)
-
-    def allowed_memory(self):
-        return 2 * self.log_size() + PAGE_SIZE * self.pages
 
 
 def log_size(records):
@@ -48,16 +33,104 @@ def log_size(records):
     return lsn_of(records)
 
 
-INPUTS = [
-    *(Input("uniform", "uniform", records, 65536) for records in (65536, 131072, 262144, 524288, 1048576)),
-    Input("hot", "hot", 1048576, 1024),
-    Input("short", "short", 1048576, 65536),
-    Input("interleaved", "interleaved", 1048576, 65536),
-    Input("rollback", "rollback", 1048576, 65536),
-    Input("checkpoints", "checkpoints", 1048576, 65536),
-    Input("mixed", "mixed", 1048576, 65536),
-    Input("small", "uniform", 65536, 1024),
-]
+class Log(NamedTuple):
+    """A log that is redone."""
+
+    name: str
+    shape: str
+    count: int
+    pages: int
+
+    def __str__(self):
+        return f"{self.name} of {self.count:,} records"
+
+    def prepare(self, tools, folder):
+        options = {"records": self.count, "pages": self.pages, "shape": self.shape, "seed": 1}
+        arguments = [word for name, value in options.items() for word in (f"--{name}", str(value))]
+        run([tools["generate"], *arguments], os.devnull, folder / "log", self)
+        return Job(self, folder / "log", self.count, log_size(self.count), ["redo"], tools["plain_redo"],
+                   2 * log_size(self.count) + PAGE_SIZE * self.pages, PAGE_SIZE * self.pages)
+
+
+class Script(NamedTuple):
+    """A script that is run."""
+
+    name: str
+    shape: str
+    size: int
+    pages: int
+
+    def __str__(self):
+        return f"the script {self.name}"
+
+    def prepare(self, tools, folder):
+        words = ["--pages", str(self.pages), "--bytes", str(self.size), "--shape", self.shape, "--seed", "1"]
+        run([tools["generate_script"], *words], os.devnull, folder / "script", self)
+        text = (folder / "script").read_bytes()
+        return Job(self, folder / "script", text.count(b"\n"), len(text), ["run", "--pages", str(self.pages)],
+                   tools["plain_run"])
+
+
+class Files(NamedTuple):
+    """A log with a full copy and incremental ones, of which the last one is restored."""
+
+    name: str
+    copies: int
+    pages: int
+
+    def __str__(self):
+        return f"the files of {self.copies} copies"
+
+    def prepare(self, tools, folder):
+        said = folder / "names"
+        run([tools["generate_files"], str(self.pages), str(self.copies), "1", str(folder)], os.devnull, said, self)
+        paths = [folder / name for name in said.read_text().split()]
+        sizes = [path.stat().st_size for path in paths]
+        return Job(self, Path(os.devnull), sizes[0] // RECORD_SIZE - 1, sum(sizes), ["restore", *map(str, paths)],
+                   tools["plain_restore"], output_size=PAGE_SIZE * self.pages)
+
+
+class Job(NamedTuple):
+    """An input that was made: the file on standard input, how many records or events it has, how many bytes are read,
+    the words for imgcopy and for the plain program, and where they are known the memory that is allowed and the size
+    of the output."""
+
+    what: NamedTuple
+    source: Path
+    count: int
+    size: int
+    words: list
+    plain: str
+    allowed: int = None
+    output_size: int = None
+
+    def programs(self, imgcopy, tools):
+        programs = {"imgcopy": [imgcopy, *self.words], "plain": [self.plain, *self.words]}
+        return programs | ({"copy": [tools["bare_copy"]]} if self.words == ["redo"] else {})
+
+
+LONGEST_SCRIPT = 2**24
+INPUTS = {
+    "redo": [
+        *(Log("uniform", "uniform", records, 65536) for records in (65536, 131072, 262144, 524288, 1048576)),
+        Log("hot", "hot", 1048576, 1024),
+        Log("short", "short", 1048576, 65536),
+        Log("interleaved", "interleaved", 1048576, 65536),
+        Log("rollback", "rollback", 1048576, 65536),
+        Log("checkpoints", "checkpoints", 1048576, 65536),
+        Log("mixed", "mixed", 1048576, 65536),
+        Log("small", "uniform", 65536, 1024),
+    ],
+    "run": [Script("script", "accepted", LONGEST_SCRIPT, 65536), Script("refused", "refused", LONGEST_SCRIPT, 65536)],
+    "restore": [Files("restore", 3, 65536)],
+}
+
+# Words that a program takes just if it has the command, what it then says on standard error, and its status.
+TRIALS = {"run": (["run", "--pages", "1"], b"", 0), "restore": (["restore", "/dev/null", "/dev/null"], b"E30", 2)}
+TOOLS = ["generate", "generate_script", "generate_files", "plain_redo", "plain_run", "plain_restore", "bare_copy",
+         "peak_memory"]
+# More than the files of any input, with the volumes of two programs.
+NEEDED_ROOM = 512 * 2**20
 
 
 class Result(NamedTuple):
@@ -99,32 +172,28 @@ def wait(process):
     return status
 
 
-def measure(programs, an_input, tools, rounds, folder):
+def measure(job, programs, tools, rounds, folder):
     """The best time of each program, whose runs take turns, and its memory in a run of its own."""
-    log = folder / "log"
-    options = {"records": an_input.records, "pages": an_input.pages, "shape": an_input.shape, "seed": 1}
-    arguments = [word for name, value in options.items() for word in (f"--{name}", str(value))]
-    run([tools["generate"], *arguments], os.devnull, log, an_input)
-    check_same_volume(programs, an_input, log, folder)
+    check_same_output(job, programs, folder)
     seconds = {name: [] for name in programs}
     for _ in range(rounds):
         for name, command in programs.items():
-            seconds[name].append(run(command, log, os.devnull, an_input)[0])
-    memory = {name: int(run([tools["peak_memory"], *command], log, os.devnull, an_input)[1])
+            seconds[name].append(run(command, job.source, os.devnull, job.what)[0])
+    memory = {name: int(run([tools["peak_memory"], *command], job.source, os.devnull, job.what)[1])
               for name, command in programs.items()}
     return {name: Result(min(seconds[name]), memory[name]) for name in programs}
 
 
-def check_same_volume(programs, an_input, log, folder):
-    volumes = {name: folder / f"{name}.volume" for name in ("imgcopy", "plain")}
-    for name, volume in volumes.items():
-        run(programs[name], log, volume, an_input)
-    if volumes["plain"].stat().st_size != PAGE_SIZE * an_input.pages:
-        raise Failure(f"{an_input}: the volume has not {an_input.pages} pages")
-    if not filecmp.cmp(*volumes.values(), shallow=False):
-        raise Failure(f"{an_input}: imgcopy and the plain program give different volumes")
-    for volume in volumes.values():
-        volume.unlink()
+def check_same_output(job, programs, folder):
+    outputs = {name: folder / f"{name}.output" for name in ("imgcopy", "plain")}
+    for name, output in outputs.items():
+        run(programs[name], job.source, output, job.what)
+    if job.output_size not in (None, outputs["plain"].stat().st_size):
+        raise Failure(f"{job.what}: the output has not {job.output_size} bytes")
+    if not filecmp.cmp(*outputs.values(), shallow=False):
+        raise Failure(f"{job.what}: imgcopy and the plain program give different outputs")
+    for output in outputs.values():
+        output.unlink()
 
 
 def table(results):
@@ -132,19 +201,20 @@ def table(results):
                "met"]
     yield columns
     yield ["---" if name in ("input", "program", "met") else "---:" for name in columns]
-    for an_input, by_program in results.items():
+    for job, by_program in results:
         for name, result in by_program.items():
-            speed = an_input.log_size() / result.seconds / MEGABYTE
+            speed = job.size / result.seconds / MEGABYTE
             ratio = result.seconds / by_program["plain"].seconds
-            yield [an_input.name, f"{an_input.records:,}", f"{an_input.pages:,}", name, f"{result.seconds:.4f}",
+            yield [job.what.name, f"{job.count:,}", f"{job.what.pages:,}", name, f"{result.seconds:.4f}",
                    f"{speed:,.0f}", f"{ratio:.2f}", f"{result.memory / MEGABYTE:.1f}",
-                   *goals(name, ratio, result.memory, an_input.allowed_memory())]
+                   *goals(name, ratio, result.memory, job.allowed)]
 
 
 def goals(name, ratio, memory, allowed):
     if name != "imgcopy":
         return ["", ""]
-    return [f"{allowed / MEGABYTE:.1f}", "yes" if ratio <= ALLOWED_RATIO and memory <= allowed else "no"]
+    is_met = ratio <= ALLOWED_RATIO and (allowed is None or memory <= allowed)
+    return ["" if allowed is None else f"{allowed / MEGABYTE:.1f}", "yes" if is_met else "no"]
 
 
 def find_program(path):
@@ -157,22 +227,32 @@ def find_program(path):
 def find_folder():
     """A folder in memory, where the system has one, so that no disk is measured."""
     in_memory = "/dev/shm"
-    needed = max(an_input.log_size() + 2 * PAGE_SIZE * an_input.pages for an_input in INPUTS)
-    if os.access(in_memory, os.W_OK) and shutil.disk_usage(in_memory).free > needed:
+    if os.access(in_memory, os.W_OK) and shutil.disk_usage(in_memory).free > NEEDED_ROOM:
         return in_memory
     return None
 
 
+def has_command(imgcopy, name):
+    if name not in TRIALS:
+        return True
+    words, said, status = TRIALS[name]
+    done = subprocess.run([imgcopy, *words], stdin=subprocess.DEVNULL, capture_output=True)
+    return done.returncode == status and done.stderr.startswith(said)
+
+
 def benchmark(options):
-    tools = {name: find_program(os.path.join(options.tools, name))
-             for name in ("generate", "plain_redo", "bare_copy", "peak_memory")}
-    programs = {
-        "imgcopy": [find_program(options.imgcopy), "redo"],
-        "plain": [tools["plain_redo"], "redo"],
-        "copy": [tools["bare_copy"]],
-    }
-    with tempfile.TemporaryDirectory(dir=find_folder()) as folder:
-        results = {an_input: measure(programs, an_input, tools, options.rounds, Path(folder)) for an_input in INPUTS}
+    tools = {name: find_program(os.path.join(options.tools, name)) for name in TOOLS}
+    imgcopy = find_program(options.imgcopy)
+    results = []
+    for command, inputs in INPUTS.items():
+        if not has_command(imgcopy, command):
+            print(f"run.py: {command} is not measured: {options.imgcopy} does not have it", file=sys.stderr)
+            continue
+        for an_input in inputs:
+            with tempfile.TemporaryDirectory(dir=find_folder()) as folder:
+                job = an_input.prepare(tools, Path(folder))
+                programs = job.programs(imgcopy, tools)
+                results.append((job, measure(job, programs, tools, options.rounds, Path(folder))))
     print(f"{datetime.date.today()}, {os.cpu_count()} cores, best of {options.rounds}:\n")
     for cells in table(results):
         print(f"| {' | '.join(cells)} |")

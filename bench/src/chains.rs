@@ -30,19 +30,27 @@ pub struct Change {
 pub struct Seat(u8);
 
 #[derive(Default)]
-struct Transaction {
+pub struct Transaction {
     number: u32,
     first_lsn: u64,
     last_lsn: u64,
     is_rolling: bool,
-    pending: Vec<Pending>,
+    is_aborted: bool,
+    pub pending: Vec<Pending>,
+}
+
+impl Transaction {
+    /// How many records it may still need.
+    pub fn owed(&self) -> usize {
+        self.pending.len() + if self.is_aborted { 1 } else { 2 }
+    }
 }
 
 /// An Update that no Comp has taken back.
-struct Pending {
+pub struct Pending {
     /// The change that takes it back.
-    undo: Change,
-    lsn: u32,
+    pub undo: Change,
+    pub lsn: u32,
     previous: u32,
     held: Held,
 }
@@ -85,6 +93,7 @@ impl Chains {
         opened.first_lsn = lsn;
         opened.last_lsn = lsn;
         opened.is_rolling = false;
+        opened.is_aborted = false;
         Some(())
     }
 
@@ -141,6 +150,7 @@ impl Chains {
     pub fn abort(&mut self, seat: Seat) -> Option<()> {
         let open = &mut self.open[usize::from(seat.0)];
         let was_rolling = std::mem::replace(&mut open.is_rolling, true);
+        open.is_aborted = true;
         (!was_rolling).then_some(())
     }
 
@@ -176,10 +186,14 @@ impl Chains {
 
     /// The open transactions that began before an LSN.
     pub fn began_before(&self, lsn: u64) -> impl Iterator<Item = u32> + '_ {
-        let seats = (0..MOST_OPEN).filter(|seat| self.free_seats >> seat & 1 == 0);
-        let open = seats.map(|seat| &self.open[seat]);
+        let open = self.open_transactions();
         open.filter(move |open| open.first_lsn < lsn)
             .map(|open| open.number)
+    }
+
+    pub fn open_transactions(&self) -> impl Iterator<Item = &Transaction> {
+        let seats = (0..MOST_OPEN).filter(|seat| self.free_seats >> seat & 1 == 0);
+        seats.map(|seat| &self.open[seat])
     }
 
     fn close(&mut self, transaction: u32, seat: Seat) {

@@ -70,6 +70,22 @@ impl Claims {
         Some(Held(if had_it { ChangeKind::Add as u8 } else { FREE }))
     }
 
+    /// The seats of the transactions that keep out such a change, each as a bit.
+    pub fn against(&self, place: u32, seat: u8, kind: ChangeKind) -> u64 {
+        let byte = self.byte(place);
+        let seats = match byte {
+            FREE => 0,
+            SHARED => self.adders[&place],
+            _ => bit(byte & SEAT_BITS),
+        };
+        let is_kept_out = kind == ChangeKind::Set || byte & !SEAT_BITS == ChangeKind::Set as u8;
+        if is_kept_out {
+            seats & !bit(seat)
+        } else {
+            0
+        }
+    }
+
     #[inline]
     pub fn byte(&self, place: u32) -> u8 {
         *self.bytes.get(place as usize).unwrap_or(&FREE)

@@ -3,6 +3,15 @@
 pub mod chains;
 pub mod checkpoints;
 mod claims;
+pub mod copies;
+pub mod engine;
+pub mod random;
+pub mod redo;
+pub mod script;
+pub mod workload;
+
+use std::fmt;
+use std::io::{self, ErrorKind, Read};
 
 pub const MAGIC: &[u8; 8] = b"AIMGLOG1";
 pub const HEADER_SIZE: usize = 64;
@@ -34,3 +43,78 @@ pub const PAGE_FORMAT: u32 = 1;
 pub const FIRST_SLOT: usize = 16;
 pub const SLOTS: usize = 62;
 pub const MOST_PAGES: u32 = 1 << 16;
+
+pub type Page = [u8; PAGE_SIZE];
+
+/// Why an input is refused.
+pub enum Fault {
+    LogFull,
+    BadHeader,
+    BadRecord(usize),
+    Torn(usize),
+    TooLong,
+    BadChain(usize),
+    BadArchive(usize),
+    ChainBroken(u32),
+    CountDiffers,
+}
+
+impl Fault {
+    pub fn status(&self) -> u8 {
+        match self {
+            Fault::LogFull | Fault::ChainBroken(_) => 1,
+            _ => 2,
+        }
+    }
+}
+
+impl fmt::Display for Fault {
+    fn fmt(&self, out: &mut fmt::Formatter) -> fmt::Result {
+        match self {
+            Fault::LogFull => write!(out, "E8 LogFull"),
+            Fault::BadHeader => write!(out, "E30 BadHeader"),
+            Fault::BadRecord(at) => write!(out, "E31 BadRecord {at}"),
+            Fault::Torn(at) => write!(out, "E32 Torn {at}"),
+            Fault::TooLong => write!(out, "E34 TooLong"),
+            Fault::BadChain(at) => write!(out, "E35 BadChain {at}"),
+            Fault::BadArchive(at) => write!(out, "E36 BadArchive {at}"),
+            Fault::ChainBroken(copy) => write!(out, "E37 ChainBroken {copy}"),
+            Fault::CountDiffers => write!(out, "E38 CountDiffers"),
+        }
+    }
+}
+
+/// Reads until the buffer is full or the input ends, and says how much was read.
+pub fn fill(input: &mut impl Read, buffer: &mut [u8]) -> io::Result<usize> {
+    let mut filled = 0;
+    while filled < buffer.len() {
+        match input.read(&mut buffer[filled..]) {
+            Ok(0) => break,
+            Ok(count) => filled += count,
+            Err(error) if error.kind() == ErrorKind::Interrupted => {}
+            Err(error) => return Err(error),
+        }
+    }
+    Ok(filled)
+}
+
+pub fn formatted_volume(page_count: u32) -> Vec<Page> {
+    let mut volume = vec![[0; PAGE_SIZE]; page_count as usize];
+    for (number, page) in (0u32..).zip(&mut volume) {
+        page[0..4].copy_from_slice(&number.to_le_bytes());
+        page[4..8].copy_from_slice(&PAGE_FORMAT.to_le_bytes());
+    }
+    volume
+}
+
+pub fn words(bytes: &[u8]) -> [u64; 8] {
+    std::array::from_fn(|index| word(&bytes[8 * index..8 * index + 8]))
+}
+
+pub fn word(bytes: &[u8]) -> u64 {
+    u64::from_le_bytes(bytes.try_into().expect("a word has eight bytes"))
+}
+
+pub fn halves(word: u64) -> (u32, u32) {
+    (word as u32, (word >> 32) as u32)
+}

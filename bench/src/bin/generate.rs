@@ -1,6 +1,7 @@
 //! `generate --records N --pages P --shape SHAPE --seed S > log` writes a log to standard output, in which each record
 //! may follow those before it. The same arguments always give the same bytes. README.md says what the shapes are.
 
+use bench::random::Random;
 use bench::{
     ABORT, ADD, BEGIN, BEGIN_CHKPT, CHKPT_PAGES, CHKPT_TXNS, COMMIT, COMP, END, END_CHKPT,
     HEADER_SIZE, MAGIC, MOST_OPEN, MOST_PAGES, MOST_RECORDS, RECORD_SIZE, SET, SLOTS, UPDATE,
@@ -97,25 +98,6 @@ fn number(name: &str, text: &str, least: u64, most: u64) -> Result<u64, String> 
         _ => Err(format!(
             "{name} is {text:?}: a number from {least} to {most} is wanted"
         )),
-    }
-}
-
-/// The generator of random numbers known as SplitMix64.
-struct Random {
-    state: u64,
-}
-
-impl Random {
-    fn next(&mut self) -> u64 {
-        self.state = self.state.wrapping_add(0x9e37_79b9_7f4a_7c15);
-        let mut mixed = self.state;
-        mixed = (mixed ^ (mixed >> 30)).wrapping_mul(0xbf58_476d_1ce4_e5b9);
-        mixed = (mixed ^ (mixed >> 27)).wrapping_mul(0x94d0_49bb_1331_11eb);
-        mixed ^ (mixed >> 31)
-    }
-
-    fn below(&mut self, bound: u64) -> u64 {
-        ((u128::from(self.next()) * u128::from(bound)) >> 64) as u64
     }
 }
 
@@ -247,9 +229,7 @@ struct Generator {
 impl Generator {
     fn new(options: &Options) -> Generator {
         Generator {
-            random: Random {
-                state: options.seed,
-            },
+            random: Random::new(options.seed),
             shape: options.shape,
             records: options.records,
             pages: options.pages,
@@ -383,7 +363,7 @@ impl Generator {
     }
 
     fn update(&mut self, chosen: usize, change: Change, lsn: u64) -> Record {
-        let number = self.random.next();
+        let number = self.random.number();
         let old = self.make(&change, number);
         let (before, undo) = match change.kind {
             ChangeKind::Set => (old, old),

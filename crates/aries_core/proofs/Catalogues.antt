@@ -1,8 +1,9 @@
 -- The image copies of an engine, as events and replies alone tell of them.
-use Rattle.std.proofs.Common.{◌≡◌, ℕ, zero, suc, ◌-◌, ◌++◌, List, [], ◌∷◌, set, refl, sym, ap, ◌∙◌, inl, inr}
+use Rattle.std.proofs.Common.{◌≡◌, ℕ, zero, suc, ◌+◌, ◌-◌, ◌++◌, List, [], ◌∷◌, length, set, refl, sym, ap, ◌∙◌}
+use Rattle.std.proofs.Common.{arith, inl, inr}
 use Rattle.std.specs.Prelude.{Option, Some, None, Result, Ok, Err, map}
 use Rattle.std.proofs.Math.ListN.{get_or-map}
-use Rattle.std.proofs.lemmas.List.{map-append, map-set}
+use Rattle.std.proofs.lemmas.List.{length-map, map-append, map-set}
 use Rattle.page_core.specs.declared.page.Page.{Page}
 use Rattle.log_history.specs.declared.pending_change.PendingChange.{PendingChange}
 use Rattle.log_history.specs.Transactions.{last_of, pending}
@@ -15,6 +16,7 @@ use Rattle.copy_vault.specs.Vault.{CopyState, answer_in, complete, decided_in, d
 use Rattle.copy_vault.specs.Vault.{since_of, state_of, with_state}
 use Rattle.copy_vault.proofs.Decisions.{map-replicate}
 use Rattle.aries_core.specs.declared.event.Answer.{Answer}
+use Rattle.aries_core.specs.declared.event.Answer.TheVariants as answer
 use Rattle.aries_core.specs.declared.event.Event.{Event}
 use Rattle.aries_core.specs.declared.event.Event.TheVariants as event
 use Rattle.aries_core.specs.declared.refusal.Refusal.{Refusal}
@@ -22,7 +24,7 @@ use Rattle.aries_core.specs.declared.refusal.Refusal.TheVariants.{CommitUnsure, 
 use Rattle.aries_core.specs.Catalogue.{Entry, PageMark, answered_mark, being_read, catalogue_from, completed, entry_at}
 use Rattle.aries_core.specs.Catalogue.{entry_of, mark_of}
 use Rattle.aries_core.specs.Catalogue.{was_dropped, with_copy_event, with_entry, with_mark, with_next_copy}
-use Rattle.aries_core.specs.EngineState.{EngineState, effect, image_of, stored_page, take_answer}
+use Rattle.aries_core.specs.EngineState.{EngineState, effect, image_of, opened_copy, stored_page, take_answer}
 use Rattle.aries_core.specs.Run.{Run}
 use Rattle.aries_core.specs.Step.{Fails, Step}
 use Rattle.aries_core.proofs.Gathers.{ckpt_end_has, closed_part, gather_has}
@@ -160,6 +162,13 @@ copies_of_step old event (Err why) new (inl both) =
     same_copies old new old both.1 refl ∙ sym (not_answered old.pages (entries old.copies) event why)
 copies_of_step old event (Err why) new (inr both) =
     failed old event why new both.1 ∙ sym (not_answered old.pages (entries old.copies) event why)
+
+-- the id that a new copy gets
+pub next_id : (old : EngineState) (kind : CopyKind) (id : ℕ)
+    → answer.Copied id ≡ (opened_copy old kind).answer → id ≡ length (entries old.copies) + 1
+next_id old kind id given =
+    let same : id ≡ length old.copies + 1 = cc in
+    omega (arith, same, length-map old.copies entry_of)
 
 -- ---- a run
 

@@ -1,11 +1,13 @@
 //! Laws of image copies, for those who read the contracts.
 
-ghost use Rattle.std.specs.Prelude.{ℕ, ◌≡◌, List, Result, is_some, map};
+ghost use Rattle.std.specs.Prelude.{ℕ, ◌≡◌, ◌+◌, List, length, Result, Ok, is_some, map};
 ghost use Rattle.aries_core.specs.Catalogue.{catalogue, catalogue_refusal, entry_of};
 ghost use Rattle.aries_core.specs.EngineState.{EngineState, new_state};
 ghost use Rattle.aries_core.specs.Refusal.{refusal};
 ghost use Rattle.aries_core.specs.Run.{Run};
+ghost use Rattle.aries_core.specs.Step.{Step};
 ghost use Rattle.aries_core.specs.declared.event.Answer.{Answer};
+ghost use Rattle.aries_core.specs.declared.event.Answer.TheVariants as answer;
 ghost use Rattle.aries_core.specs.declared.event.Event.{Event};
 ghost use Rattle.aries_core.specs.declared.event.Event.TheVariants as event;
 ghost use Rattle.aries_core.specs.declared.refusal.Refusal.{Refusal};
@@ -18,8 +20,8 @@ pub fn the_copies_are_those_answered()
         → map entry_of new.copies ≡ catalogue pages events replies }
 {}
 
-/// And so they say when a call on copies is refused, with the one word more whether a checkpoint is
-/// complete: of the copies, no refusal needs more than their entries.
+/// When a call on copies is refused, their entries say, with whether a master is there and how many
+/// pages the volume has. The refusals are in the order of the checks.
 pub fn copies_are_refused_by_the_catalogue()
     ensures full { (s : EngineState) → refusal s event.CopyFull
         ≡ catalogue_refusal (is_some s.master) s.pages (map entry_of s.copies) event.CopyFull }
@@ -32,4 +34,14 @@ pub fn copies_are_refused_by_the_catalogue()
         ≡ catalogue_refusal (is_some s.master) s.pages (map entry_of s.copies) call }
     ensures drop { (s : EngineState) (copy : ℕ) → let call = event.DropCopy copy in refusal s call
         ≡ catalogue_refusal (is_some s.master) s.pages (map entry_of s.copies) call }
+{}
+
+/// The id that is answered to the begin of a copy is its place in the catalogue, counted from 1.
+pub fn a_copy_gets_the_next_id()
+    ensures full { (old : EngineState) (id : ℕ) (new : EngineState)
+        → Step old event.CopyFull (Ok (answer.Copied id)) new
+        → id ≡ length (map entry_of old.copies) + 1 }
+    ensures inc { (old : EngineState) (parent id : ℕ) (new : EngineState)
+        → Step old (event.CopyInc parent) (Ok (answer.Copied id)) new
+        → id ≡ length (map entry_of old.copies) + 1 }
 {}

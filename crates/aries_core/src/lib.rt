@@ -20,7 +20,9 @@ pub use ckpt_laws::{
     gather_left_is_exact, stored_pages_cover_the_redo_point, the_log_says_which_checkpoint_is_open,
     the_master_is_the_last_point_answered, the_master_names_a_complete_checkpoint,
 };
-pub use copy_laws::{copies_are_refused_by_the_catalogue, the_copies_are_those_answered};
+pub use copy_laws::{
+    a_copy_gets_the_next_id, copies_are_refused_by_the_catalogue, the_copies_are_those_answered,
+};
 pub use engine::Engine;
 pub use event::{Answer, Event, Gathered, Reply, Took, Undone};
 pub use laws::{

@@ -1,18 +1,18 @@
 -- What is decided of the pages of a copy, and how many were taken.
 use Rattle.std.proofs.Common.{◌≡◌, ℕ, ◌+◌, ◌^◌, ◌<◌, ◌≤◌, List, [], ◌∷◌, length, get_or, replicate, map, refl, ap}
-use Rattle.std.proofs.Common.{◌∙◌, arith, suc, zero, false, lit≤, ltb, cond}
+use Rattle.std.proofs.Common.{◌-◌, ◌∙◌, sym, arith, suc, zero, false, lit≤, ltb, cond, inl, inr}
 use Rattle.std.specs.Prelude.{Some, None, slice_set}
 use Rattle.std.specs.List.{sum_by, position_or_len}
 use Rattle.std.proofs.Math.ListN.{set}
 use Rattle.std.proofs.lemmas.List.{length-set}
 use Rattle.std.proofs.lemmas.List.Concat.{length-flat_map}
-use Rattle.std.proofs.lemmas.List.Sums.{sum_by-set, sum_by-cons, position_or_len_is}
+use Rattle.std.proofs.lemmas.List.Sums.{sum_by-set, sum_by-cons, position_or_len_is, fails_before_first}
+use Rattle.std.proofs.lemmas.Option.{none-some}
 use Rattle.std.proofs.lemmas.List.Folds.{sum_by-replicate}
 use Rattle.page_core.specs.declared.page.Page.{Page}
-use Rattle.std.proofs.lemmas.Bool.{lt-ltb, le-ltb}
+use Rattle.std.proofs.lemmas.Bool.{cases_lt, lt-ltb, le-ltb}
 use Rattle.copy_vault.specs.Copy.{PageDecision, undecided, taken, kept, page_of, taken_count, decision_at}
-use Rattle.copy_vault.specs.Copy.{AreDecidedBelow, is_undecided, least_undecided}
-use Rattle.copy_vault.specs.Slots.{IsCounted}
+use Rattle.copy_vault.specs.Copy.{AreDecidedBelow, is_undecided, least_undecided, to_decide, undecided_count}
 
 -- how many pages a decision adds
 abbrev weight : PageDecision → ℕ
@@ -51,20 +51,17 @@ count_set pages p d lt none =
       before,
     )
 
-pub counted_set : (pages : List PageDecision) (count p : ℕ) (d : PageDecision) → IsCounted pages count
-    → p < length pages → decision_at pages p ≡ undecided
-    → IsCounted (slice_set pages p d) (count + length (page_of d))
-counted_set pages count p d counted lt none = record {
-  few = omega (arith, counted.few, length-set pages p d);
-  counted = omega (arith, counted.counted, count_set pages p d lt none);
-}
+-- one page less is left
+pub left_set : (pages : List PageDecision) (p : ℕ) (d : PageDecision) → p < length pages
+    → decision_at pages p ≡ undecided → to_decide d ≡ 0
+    → undecided_count (slice_set pages p d) + 1 ≡ undecided_count pages
+left_set pages p d lt none made =
+    let before : to_decide (get_or pages p undecided) ≡ 1 = ap to_decide none in
+    omega (arith, sum_by-set to_decide pages p d undecided lt, before, made)
 
--- with one page more there are still no more than page numbers
-pub count_fits : (pages : List PageDecision) (count p : ℕ) (page : Page) → IsCounted pages count
-    → p < length pages → decision_at pages p ≡ undecided → count + 1 < 2 ^ 32
-count_fits pages count p page counted lt none =
-    let after = counted_set pages count p (taken page) counted lt none in
-    omega (arith, after.few, after.counted, count_within (slice_set pages p (taken page)))
+-- nothing is decided of any page
+pub left_none : (n : ℕ) → undecided_count (replicate n undecided) ≡ n
+left_none n = sum_by-replicate to_decide n undecided ∙ omega arith
 
 pub map-replicate : {X Y : Type 0} (f : X → Y) (n : ℕ) (x : X) → map f (replicate n x) ≡ replicate n (f x)
 map-replicate f zero x = refl
@@ -95,3 +92,35 @@ none_left pages all =
     let n = length pages in
     let first : position_or_len is_undecided pages ≡ n = first_is pages n (omega arith) all (λ lt. absurd (omega arith)) in
     ap (λ k. cond (ltb k n) (Some k) None) first ∙ ap (λ b. cond b (Some n) None) (le-ltb n n (omega arith))
+
+-- ---- whether a page is left
+
+-- where none is left, something is decided of each page
+pub all_decided : (pages : List PageDecision) → undecided_count pages ≡ 0 → AreDecidedBelow (length pages) pages
+all_decided pages none p lt e =
+    omega (arith, sum_by-set to_decide pages p kept undecided lt, ap to_decide e, none)
+
+adds_none : (d : PageDecision) → is_undecided d ≡ false → to_decide d ≡ 0
+adds_none undecided e = cc
+adds_none (taken page) e = refl
+adds_none kept e = refl
+
+count_of_none : (pages : List PageDecision)
+    → ((p : ℕ) → p < length pages → is_undecided (get_or pages p undecided) ≡ false) → undecided_count pages ≡ 0
+count_of_none [] all = refl
+count_of_none (d ∷ ds) all =
+    omega (
+      arith,
+      sum_by-cons to_decide d ds,
+      adds_none d (all 0 (omega arith)),
+      count_of_none ds (λ p lt. all (suc p) (omega arith)),
+    )
+
+-- where there is no least page, none is left
+pub none_counted : (pages : List PageDecision) → least_undecided pages ≡ None → undecided_count pages ≡ 0
+none_counted pages none = elim (cases_lt (position_or_len is_undecided pages) (length pages)) [
+  | inl lt ↦ let n = position_or_len is_undecided pages in
+      let some : least_undecided pages ≡ Some n = ap (λ b. cond b (Some n) None) (lt-ltb n (length pages) lt) in
+      absurd (none-some n (sym none ∙ some))
+  | inr past ↦ count_of_none pages (λ p lt. fails_before_first is_undecided pages p undecided (omega arith))
+]

@@ -3,7 +3,11 @@ pub mod Chains
 pub mod Decisions
 pub mod Fronts
 pub mod Headers
+pub mod Laid
+pub mod Marks
 pub mod OneFault
+pub mod Overlaid
 pub mod Parts
+pub mod RisingPages
 pub mod Vaults
 pub mod Writes

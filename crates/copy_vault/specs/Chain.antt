@@ -1,6 +1,5 @@
 -- A chain of image copies, and the pages that it has.
 use Rattle.std.specs.Prelude.{ℕ, ◌≡◌, ◌<◌, ◌⊎◌, List, [], ◌∷◌, ◌++◌, length, map}
-use Rattle.std.specs.Borrow.{Bor}
 use Rattle.std.specs.List.{AllByRecursion, flat_map, range_with_len}
 use Rattle.page_core.specs.declared.page.Page.{Page}
 use Rattle.page_core.specs.Page.{formatted}
@@ -10,6 +9,7 @@ use Rattle.copy_vault.specs.declared.copy_id.CopyKind.{CopyKind}
 use Rattle.copy_vault.specs.declared.copy_id.CopyKind.TheVariants.{Full, Inc}
 use Rattle.copy_vault.specs.Copy.{CopyView, IsComplete, decision_at, page_of}
 use Rattle.copy_vault.specs.Vault.{CopyState, complete, state_of}
+pub use Rattle.copy_vault.specs.Lent.{lent}
 
 -- the next copy is of the same volume, and this one is its parent
 pub record IsNext (copy next : CopyView) : Type 0 where
@@ -101,7 +101,3 @@ content members p = last_of (formatted p) (takings members p)
 -- all of them, in order of their numbers
 abbrev pub contents : List CopyView → List Page
 contents members = map (content members) (range_with_len 0 (page_count members))
-
--- what the references are to
-abbrev pub lent : {T : Type 0} → List (Bor T) → List T
-lent refs = map (λ r. r.now) refs

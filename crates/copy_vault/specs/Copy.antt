@@ -1,7 +1,7 @@
 -- An image copy: what it is of, and what it has decided of each page.
 use Rattle.std.specs.Prelude.{ℕ, ◌≡◌, ◌<◌, Bool, true, false, List, [], ◌∷◌, length, replicate}
 use Rattle.std.specs.Prelude.{slice_index_or, slice_set, Option, nat_lt, if◌then◌else◌}
-use Rattle.std.specs.List.{flat_map, position}
+use Rattle.std.specs.List.{flat_map, position, sum_by}
 use Rattle.page_core.specs.declared.page.Page.{Page}
 use Rattle.copy_vault.specs.declared.copy_id.CopyKind.{CopyKind}
 use Rattle.copy_vault.specs.declared.copy_id.CopyKind.TheVariants.{Full}
@@ -60,6 +60,16 @@ is_undecided kept = false
 -- the least page of which nothing is decided
 abbrev pub least_undecided : List PageDecision → Option ℕ
 least_undecided pages = position is_undecided pages
+
+-- 1 for a page of which nothing is decided
+abbrev pub to_decide : PageDecision → ℕ
+to_decide undecided = 1
+to_decide (taken page) = 0
+to_decide kept = 0
+
+-- of how many pages nothing is decided
+abbrev pub undecided_count : List PageDecision → ℕ
+undecided_count pages = sum_by to_decide pages
 
 -- the page, where it was taken
 abbrev pub page_of : PageDecision → List Page

@@ -5,6 +5,8 @@ pub mod ArchiveWrite
 pub mod Chain
 pub mod Copy
 pub mod FaultText
+pub mod Held
+pub mod Lent
 pub mod Reading
 pub mod Slots
 pub mod Vault

@@ -16,7 +16,7 @@ use Rattle.copy_vault.specs.declared.fault.CopyFault.TheVariants.{PagesLeft, Too
 use Rattle.copy_vault.specs.declared.vault.Entry.{Entry}
 use Rattle.copy_vault.specs.declared.vault.Entry.TheVariants as entry
 use Rattle.copy_vault.specs.Copy.{CopyView, PageDecision, new_copy, with_decision, decided_by}
-use Rattle.copy_vault.specs.Copy.{answer_of, least_undecided, taken_count}
+use Rattle.copy_vault.specs.Copy.{answer_of, decision_at, least_undecided, taken_count, undecided}
 
 -- a copy is being read, or is complete, or was dropped while it was read
 pub data CopyState : Type 0 where
@@ -138,6 +138,10 @@ abbrev pub pages_read : CopyState → List PageDecision
 pages_read (reading copy) = copy.pages
 pages_read (complete copy) = []
 pages_read dropped = []
+
+-- nothing is decided of this page of the copy, or it is not being read
+abbrev pub WaitsFor : CopyState → ℕ → Type 0
+WaitsFor state p = decision_at (pages_read state) p ≡ undecided
 
 -- the copy, where it is complete
 abbrev pub complete_of : CopyState → Option CopyView

@@ -1,6 +1,7 @@
 //! A chain of image copies.
 
-ghost use Rattle.std.specs.Prelude.{◌≡◌, ◌<◌, ◌↔◌, IfOk, IfErr, IfSome, IsTrue, OnOk, None};
+ghost use Rattle.std.specs.Prelude.{◌≡◌, ◌<◌, ◌↔◌, ◌∷◌, [], IfOk, IfErr, IfSome, IsTrue, OnOk};
+ghost use Rattle.std.specs.Prelude.{None};
 ghost use Rattle.std.specs.List.{AllByRecursion};
 ghost use Rattle.page_core.specs.Volume.{AreNumbered};
 ghost use Rattle.copy_vault.specs.Copy.{IsComplete};
@@ -99,18 +100,33 @@ impl<'a> Chain<'a> {
         unreachable!()
     }
 
-    /// All pages, in order of their numbers. It looks at each decision of its copies once at most.
+    /// All pages, in order of their numbers. It looks once at each page that a copy has.
     pub fn contents(&self, alloc: Global) -> Result<Vec<&Page>, AllocError>
         ensures contents { IfOk result (λ pages. lent pages.items ≡ contents self.now) }
         ensures numbered { OnOk result (AreNumbered (contents self.now)) }
     {
-        let count = self.pages();
-        let mut pages = Vec::with_capacity(alloc, count as usize)?;
-        for number in 0..count {
-            pages.push(self.content(PageNo(number)))?;
+        let mut pages = full_pages(alloc, self.members[0])?;
+        for i in 1..self.members.len() {
+            self.members[i].lay_over(&mut pages);
         }
         Ok(pages)
     }
+}
+
+/// The pages of a full copy, in order of their numbers.
+fn full_pages(alloc: Global, copy: &CompleteCopy) -> Result<Vec<&Page>, AllocError>
+    requires { copy.now.kind ≡ Full }
+    ensures { IfOk result (λ pages. lent pages.items ≡ contents (copy.now ∷ [])) }
+{
+    let count = copy.pages();
+    let mut pages = Vec::with_capacity(alloc, count as usize)?;
+    for number in 0..count {
+        let Some(page) = copy.page(PageNo(number)) else {
+            unreachable!()
+        };
+        pages.push(page)?;
+    }
+    Ok(pages)
 }
 
 /// The first copy that does not fit behind those before it.

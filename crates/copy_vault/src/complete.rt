@@ -3,11 +3,12 @@
 ghost use Rattle.std.specs.Prelude.{◌≡◌, ◌<◌, length, IfSome};
 ghost use Rattle.copy_vault.specs.Archive.{header_of};
 ghost use Rattle.copy_vault.specs.Copy.{IsComplete, decision_at, page_of, taken_count};
-ghost use Rattle.copy_vault.specs.Slots.{page_list};
+ghost use Rattle.copy_vault.specs.Lent.{lent};
+ghost use Rattle.copy_vault.specs.Slots.{AreLaidOver, page_list};
 
 use crate::copy_id::{CopyId, CopyKind};
 use crate::header::ArchiveHeader;
-use crate::slots::Slots;
+use crate::pages::CopyPages;
 use page_core::{Lsn, Page, PageNo};
 use std::marker::Model;
 
@@ -18,7 +19,7 @@ pub struct CompleteCopy {
     kind: CopyKind,
     begin: Lsn,
     redo: Lsn,
-    slots: Slots,
+    slots: CopyPages,
 }
 
 impl Model for CompleteCopy {
@@ -44,7 +45,7 @@ impl CompleteCopy {
         kind: CopyKind,
         begin: Lsn,
         redo: Lsn,
-        slots: Slots,
+        slots: CopyPages,
     ) -> CompleteCopy
         requires { IsComplete kind slots }
         ensures { result ≡ record {
@@ -132,9 +133,17 @@ impl CompleteCopy {
     }
 
     /// What is decided of each page.
-    pub(crate) fn slots(&self) -> &Slots
+    pub(crate) fn slots(&self) -> &CopyPages
         ensures { result.now ≡ self.now.pages }
     {
         &self.slots
+    }
+
+    /// Puts each page that the copy has in the place of the one that has its number.
+    pub(crate) fn lay_over<'a>(&'a self, pages: &mut [&'a Page])
+        requires { length self.now.pages ≡ length pages.old }
+        ensures { AreLaidOver self.now.pages (lent pages.old) (lent pages.new) }
+    {
+        self.slots.lay_over(pages);
     }
 }

@@ -12,9 +12,10 @@ use crate::archive_fault::ArchiveFault;
 use crate::complete::CompleteCopy;
 use crate::header::{ArchiveHeader, HEADER_BYTES};
 use crate::header_codec::decode_header;
-use crate::slots::Slots;
+use crate::pages::CopyPages;
+use crate::rising::RisingPages;
 use page_core::{MAX_TURNS, PAGE_BYTES, Page, Turn, keep_from, read_more, zeros};
-use std::alloc::{AllocError, Global};
+use std::alloc::Global;
 use std::io::Read;
 
 /// How many bytes a reader is asked for at once, at most.
@@ -28,24 +29,21 @@ fn page_offset(taken: u32) -> u64
 }
 
 /// Keeps what the parent has of each page that is not decided yet, up to this number.
-fn keep_up_to(slots: &mut Slots, header: &ArchiveHeader, end: u32) -> Result<(), AllocError>
+fn keep_up_to(slots: &mut RisingPages, header: &ArchiveHeader, end: u32)
     requires so_far { IsPart header.now slots.old }
     requires from { length slots.old ≤ end }
     requires within { end ≤ header.now.pages }
-    ensures part { OnOk result (IsPart header.now slots.new) }
-    ensures taken { OnOk result (taken_pages slots.new ≡ taken_pages slots.old) }
-    ensures count { OnOk result (length slots.new ≡ end) }
+    ensures part { IsPart header.now slots.new }
+    ensures taken { taken_pages slots.new ≡ taken_pages slots.old }
+    ensures count { length slots.new ≡ end }
 {
-    for _ in slots.count()..end {
-        slots.push_kept()?;
-    }
-    Ok(())
+    slots.keep_to(end);
 }
 
 /// Takes the page in these bytes, if it may follow those that were taken.
 fn push_page(
     alloc: Global,
-    slots: &mut Slots,
+    slots: &mut RisingPages,
     header: &ArchiveHeader,
     bytes: &[u8],
 ) -> Result<(), ArchiveFault>
@@ -69,7 +67,7 @@ fn push_page(
     if number < slots.count() || number >= header.pages {
         return Err(ArchiveFault::BadArchive(at));
     }
-    keep_up_to(slots, header, number)?;
+    keep_up_to(slots, header, number);
     slots.push_taken(Box::new(alloc, page)?)?;
     Ok(())
 }
@@ -77,7 +75,7 @@ fn push_page(
 /// Takes the whole pages among these bytes.
 fn take_pages(
     alloc: Global,
-    slots: &mut Slots,
+    slots: &mut RisingPages,
     header: &ArchiveHeader,
     bytes: &[u8],
 ) -> Result<(), ArchiveFault>
@@ -125,7 +123,7 @@ fn read_header<R: Read>(reader: &mut R, header: &mut [u8]) -> Result<u32, Archiv
 fn read_pages<R: Read>(
     alloc: Global,
     reader: &mut R,
-    slots: &mut Slots,
+    slots: &mut RisingPages,
     header: &ArchiveHeader,
     turns: u32,
     buffer: &mut [u8],
@@ -162,7 +160,7 @@ fn read_pages<R: Read>(
 }
 
 /// Whether an archive may end here, where so many bytes follow the pages that were taken.
-fn at_end(slots: &Slots, header: &ArchiveHeader, filled: usize) -> Result<(), ArchiveFault>
+fn at_end(slots: &RisingPages, header: &ArchiveHeader, filled: usize) -> Result<(), ArchiveFault>
     requires few { taken_count slots.now ≤ header.now.taken }
     ensures ok { OnOk result (filled ≡ 0) }
     ensures all { OnOk result (taken_count slots.now ≡ header.now.taken) }
@@ -191,7 +189,7 @@ fn read_copy<R: Read>(alloc: Global, reader: &mut R) -> Result<CompleteCopy, Arc
     let Some(header) = decode_header(&bytes) else {
         return Err(ArchiveFault::BadArchive(0));
     };
-    let mut slots = Slots::with_room(alloc, header.pages)?;
+    let mut slots = RisingPages::new(alloc);
     let mut buffer = zeros(alloc, BUFFER_BYTES)?;
     read_pages(
         alloc,
@@ -201,8 +199,9 @@ fn read_copy<R: Read>(alloc: Global, reader: &mut R) -> Result<CompleteCopy, Arc
         MAX_TURNS - turns,
         &mut buffer,
     )?;
-    keep_up_to(&mut slots, &header, header.pages)?;
-    Ok(CompleteCopy::new(header.id, header.kind, header.begin, header.redo, slots))
+    keep_up_to(&mut slots, &header, header.pages);
+    let pages = CopyPages::rising(slots);
+    Ok(CompleteCopy::new(header.id, header.kind, header.begin, header.redo, pages))
 }
 
 /// Reads an archive to the input's end.

@@ -8,6 +8,7 @@ ghost use Rattle.copy_vault.specs.declared.copy_id.CopyKind.TheVariants.{Full};
 
 use crate::complete::CompleteCopy;
 use crate::copy_id::{CopyId, CopyKind, Decision};
+use crate::pages::CopyPages;
 use crate::slots::Slots;
 use page_core::{Lsn, Page, PageNo};
 use std::alloc::{AllocError, Global};
@@ -23,7 +24,7 @@ pub struct ReadingCopy {
     redo: Lsn,
     since: Lsn,
     slots: Slots,
-    /// The least page of which nothing is decided, or the page count.
+    /// Something is decided of each page below this one.
     next: u32,
     /// Room for a page.
     room: Option<Box<Page>>,
@@ -99,11 +100,21 @@ impl ReadingCopy {
     pub fn undecided(&self) -> Option<PageNo>
         ensures { result ≡ least_undecided self.now.copy.pages }
     {
-        if self.next < self.slots.count() {
-            Some(PageNo(self.next))
+        let first = first_undecided(&self.slots, self.next);
+        if first < self.slots.count() {
+            Some(PageNo(first))
         } else {
             None
         }
+    }
+
+    /// The least page of which nothing is decided yet. No later search begins below it.
+    pub(crate) fn find_undecided(&mut self) -> Option<PageNo>
+        ensures found { result ≡ least_undecided self.old.copy.pages }
+        ensures same { self.new ≡ self.old }
+    {
+        self.next = first_undecided(&self.slots, self.next);
+        self.undecided()
     }
 
     /// Whether nothing is decided yet of this page.
@@ -140,19 +151,16 @@ impl ReadingCopy {
             ≡ with_decision self.old.copy number (decided_by result page.now) }
         ensures since { self.new.since ≡ self.old.since }
     {
-        let decision = if page.lsn.0 < self.since.0 {
+        if page.lsn.0 < self.since.0 {
             self.slots.keep(number);
-            Decision::Kept
-        } else {
-            let Some(mut place) = self.room.take() else {
-                unreachable!()
-            };
-            *place = page.copy();
-            self.slots.take(number, place);
-            Decision::Taken
+            return Decision::Kept;
+        }
+        let Some(mut place) = self.room.take() else {
+            unreachable!()
         };
-        self.next = first_undecided(&self.slots, self.next);
-        decision
+        *place = page.copy();
+        self.slots.take(number, place);
+        Decision::Taken
     }
 
     /// The copy, complete, if something is decided of each page. This takes no memory.
@@ -162,10 +170,11 @@ impl ReadingCopy {
         ensures err { IfErr result (λ it. it ≡ self) }
         ensures left { OnErr result (¬ (least_undecided self.copy.pages ≡ None)) }
     {
-        if self.next < self.slots.count() {
+        if self.slots.left() > 0 {
             return Err(self);
         }
-        Ok(CompleteCopy::new(self.id, self.kind, self.begin, self.redo, self.slots))
+        let pages = CopyPages::marked(self.slots);
+        Ok(CompleteCopy::new(self.id, self.kind, self.begin, self.redo, pages))
     }
 }
 

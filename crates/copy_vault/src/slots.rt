@@ -1,40 +1,47 @@
-//! What a copy has decided of each of its pages.
+//! What a copy has decided of each of its pages, while it is read.
 
-ghost use Rattle.std.specs.Prelude.{◌≡◌, ◌<◌, ◌^◌, ◌↔◌, length, replicate, slice_set};
-ghost use Rattle.std.specs.Prelude.{◌+◌, ◌++◌, ◌∷◌, [], IfOk, IsTrue, OnOk};
+ghost use Rattle.std.specs.Prelude.{◌≡◌, ◌<◌, ◌↔◌, length, replicate, slice_set, IfOk, IsTrue};
+ghost use Rattle.copy_vault.specs.Lent.{lent};
 ghost use Rattle.copy_vault.specs.Copy.{PageDecision, undecided, taken, kept, decision_at};
-ghost use Rattle.copy_vault.specs.Copy.{page_of, taken_count};
-ghost use Rattle.copy_vault.specs.Slots.{page_list};
+ghost use Rattle.copy_vault.specs.Copy.{page_of, taken_count, undecided_count};
+ghost use Rattle.copy_vault.specs.Slots.{AreLaidOver, page_list};
 
+use crate::places::lay_over;
 use page_core::{Page, PageNo};
 use std::alloc::{AllocError, Global};
 use std::marker::Model;
 
-/// What is decided of a page, and the page where it was taken.
-#[derive(Drop)]
-pub enum Slot {
+/// What is decided of a page, and where it stands among those that were taken.
+#[derive(Clone, Copy)]
+pub enum Mark {
     Undecided,
-    Taken(Box<Page>),
+    Taken(u32),
     Kept,
 }
 
-/// What is decided of each page of a copy. Slot `p` is that of page `p`.
+/// What is decided of each page of a copy that is read in any order.
 #[derive(Drop)]
 pub struct Slots {
-    slots: Vec<Slot>,
-    taken: u32,
+    /// Mark `p` is that of page `p`.
+    marks: Vec<Mark>,
+    /// The pages that were taken, in the order in which they were. There is room for all.
+    places: Vec<Box<Page>>,
+    /// Of how many pages nothing is decided.
+    left: u32,
 }
 
 impl Model for Slots {
     ghost use Rattle.std.specs.Prelude.{List};
+    ghost use Rattle.std.specs.Vec.{vec_capacity};
     ghost use Rattle.copy_vault.specs.Copy.{PageDecision};
-    ghost use Rattle.copy_vault.specs.Slots.{IsCounted, decisions_in};
+    ghost use Rattle.copy_vault.specs.Slots.{IsMarked, decisions_by, values};
 
     ghost Value = { List PageDecision };
 
-    ghost view = { λ it. decisions_in it.slots.items };
+    ghost view = { λ it. decisions_by (values it.places.items) it.marks.items };
 
-    ghost invariant = { λ it. IsCounted (decisions_in it.slots.items) it.taken };
+    ghost invariant = { λ it. IsMarked it.marks.items (values it.places.items) it.left
+        (vec_capacity it.places) };
 }
 
 impl Slots {
@@ -42,40 +49,16 @@ impl Slots {
     pub fn new(alloc: Global, count: u32) -> Result<Slots, AllocError>
         ensures { IfOk result (λ slots. slots ≡ replicate count undecided) }
     {
-        let mut slots = Vec::with_capacity(alloc, count as usize)?;
+        let places = Vec::with_capacity(alloc, count as usize)?;
+        let mut marks = Vec::with_capacity(alloc, count as usize)?;
         for _ in 0..count {
-            slots.push(Slot::Undecided)?;
+            marks.push(Mark::Undecided)?;
         }
-        Ok(Slots { slots, taken: 0 })
-    }
-
-    /// No slots yet, with room for so many.
-    pub fn with_room(alloc: Global, count: u32) -> Result<Slots, AllocError>
-        ensures { IfOk result (λ slots. slots ≡ []) }
-    {
         Ok(Slots {
-            slots: Vec::with_capacity(alloc, count as usize)?,
-            taken: 0,
+            marks,
+            places,
+            left: count,
         })
-    }
-
-    /// Keeps what the parent has of the next page.
-    pub fn push_kept(&mut self) -> Result<(), AllocError>
-        requires { length self.old + 1 < 2 ^ 32 }
-        ensures { OnOk result (self.new ≡ self.old ++ kept ∷ []) }
-    {
-        self.slots.push(Slot::Kept)?;
-        Ok(())
-    }
-
-    /// Takes the next page.
-    pub fn push_taken(&mut self, place: Box<Page>) -> Result<(), AllocError>
-        requires { length self.old + 1 < 2 ^ 32 }
-        ensures { OnOk result (self.new ≡ self.old ++ taken place.value ∷ []) }
-    {
-        self.slots.push(Slot::Taken(place))?;
-        self.taken += 1;
-        Ok(())
     }
 
     /// The page, if it was taken.
@@ -83,8 +66,8 @@ impl Slots {
         requires { number < length self.now }
         ensures { page_list result ≡ page_of (decision_at self.now number) }
     {
-        match &self.slots[number.0 as usize] {
-            Slot::Taken(page) => Some(page),
+        match self.marks[number.0 as usize] {
+            Mark::Taken(place) => Some(&self.places[place as usize]),
             _ => None,
         }
     }
@@ -93,14 +76,21 @@ impl Slots {
     pub fn count(&self) -> u32
         ensures { result ≡ length self.now }
     {
-        self.slots.len() as u32
+        self.marks.len() as u32
     }
 
     /// How many pages were taken.
     pub fn taken(&self) -> u32
         ensures { result ≡ taken_count self.now }
     {
-        self.taken
+        self.places.len() as u32
+    }
+
+    /// Of how many pages nothing is decided.
+    pub fn left(&self) -> u32
+        ensures { result ≡ undecided_count self.now }
+    {
+        self.left
     }
 
     /// Whether nothing is decided of this page.
@@ -108,17 +98,19 @@ impl Slots {
         requires { number < length self.now }
         ensures { IsTrue result ↔ (decision_at self.now number ≡ undecided) }
     {
-        matches!(self.slots[number.0 as usize], Slot::Undecided)
+        matches!(self.marks[number.0 as usize], Mark::Undecided)
     }
 
-    /// Takes a page.
+    /// Takes a page. This takes no memory.
     pub fn take(&mut self, number: PageNo, place: Box<Page>)
         requires there { number < length self.old }
         requires undecided { decision_at self.old number ≡ undecided }
+        requires numbered { place.value.number ≡ number }
         ensures { self.new ≡ slice_set self.old number (taken place.value) }
     {
-        self.slots[number.0 as usize] = Slot::Taken(place);
-        self.taken += 1;
+        self.marks[number.0 as usize] = Mark::Taken(self.places.len() as u32);
+        self.places.push_reserved(place);
+        self.left -= 1;
     }
 
     /// Keeps what the parent has of a page.
@@ -127,6 +119,15 @@ impl Slots {
         requires undecided { decision_at self.old number ≡ undecided }
         ensures { self.new ≡ slice_set self.old number kept }
     {
-        self.slots[number.0 as usize] = Slot::Kept;
+        self.marks[number.0 as usize] = Mark::Kept;
+        self.left -= 1;
+    }
+
+    /// Puts each page that was taken in the place of the one that has its number.
+    pub fn lay_over<'a>(&'a self, pages: &mut [&'a Page])
+        requires { length self.now ≡ length pages.old }
+        ensures { AreLaidOver self.now (lent pages.old) (lent pages.new) }
+    {
+        lay_over(&self.places, pages);
     }
 }

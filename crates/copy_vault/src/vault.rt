@@ -4,14 +4,13 @@ ghost use Rattle.std.specs.Prelude.{◌≡◌, ◌+◌, ◌<◌, [], length, IfO
 ghost use Rattle.std.specs.Prelude.{IfSome, IsSome, Some, None};
 ghost use Rattle.std.specs.Option.{option_map, option_map_or};
 ghost use Rattle.copy_vault.specs.Chain.{IsChain, IsChainOf};
-ghost use Rattle.copy_vault.specs.Copy.{undecided, decision_at};
 ghost use Rattle.copy_vault.specs.Reading.{ReadingView};
 ghost use Rattle.copy_vault.specs.Vault.{CopyState, HasRoom, OpenRefuses, answer_in, complete};
 ghost use Rattle.copy_vault.specs.Vault.{complete_of, complete_refusal, inc_refusal, pages_in};
 ghost use Rattle.copy_vault.specs.Vault.{decided, drop_refusal, dropped, open_refusal, opened};
 ghost use Rattle.copy_vault.specs.Vault.{pages_read, reading_of, seal_refusal, sealed, sealed_in};
 ghost use Rattle.copy_vault.specs.Vault.{HasParent, IsKept, IsOfId, since_of, state_in, state_of};
-ghost use Rattle.copy_vault.specs.Vault.{taken_in, without};
+ghost use Rattle.copy_vault.specs.Vault.{WaitsFor, taken_in, without};
 ghost use Rattle.copy_vault.specs.declared.copy_id.CopyKind.TheVariants.{Full, Inc};
 ghost use Rattle.copy_vault.specs.declared.vault.Entry.TheVariants as entry;
 
@@ -54,8 +53,8 @@ impl Entry {
                     *self = Entry::Complete(copy);
                     Ok(taken)
                 }
-                Err(copy) => {
-                    let Some(page) = copy.undecided() else {
+                Err(mut copy) => {
+                    let Some(page) = copy.find_undecided() else {
                         unreachable!()
                     };
                     *self = Entry::Reading(copy);
@@ -270,7 +269,7 @@ impl Vault {
     /// is at least the redo point of the copy's parent. This takes no memory.
     pub fn decide(&mut self, id: CopyId, number: PageNo, page: &Page) -> Decision
         requires there { number < length (pages_read (state_of self.old.copies id)) }
-        requires undecided { decision_at (pages_read (state_of self.old.copies id)) number ≡ undecided }
+        requires undecided { WaitsFor (state_of self.old.copies id) number }
         requires numbered { page.now.number ≡ number }
         requires room { HasRoom self.old id }
         ensures answer { result

@@ -12,7 +12,7 @@ use crate::archive_fault::ArchiveWriteFault;
 use crate::complete::CompleteCopy;
 use crate::header::{ArchiveHeader, HEADER_BYTES};
 use crate::header_codec::encode_header;
-use crate::slots::Slots;
+use crate::pages::CopyPages;
 use page_core::{PAGE_BYTES, Page, PageNo, write_out, zeros};
 use std::alloc::Global;
 use std::io::Write;
@@ -52,7 +52,7 @@ fn put_header(buffer: &mut [u8], header: &ArchiveHeader)
 
 /// Writes the bytes in front of the buffer, as many as a header has, and then those of each page
 /// that was taken. At `Err` so many bytes went out.
-fn write_pages<W: Write>(writer: &mut W, slots: &Slots, buffer: &mut [u8]) -> Result<(), u64>
+fn write_pages<W: Write>(writer: &mut W, slots: &CopyPages, buffer: &mut [u8]) -> Result<(), u64>
     requires { 1024 ≤ length buffer.old }
     ensures ok { OnOk result (Appends (W.contents writer.old) (W.contents writer.new)
         (take HEADER_BYTES buffer.old ++ volume_bytes (taken_pages slots.now))) }

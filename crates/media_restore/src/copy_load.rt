@@ -11,13 +11,14 @@ ghost use Rattle.media_restore.specs.Load.{LoadRefuses, copy_refusal, kept_log, 
 ghost use Rattle.copy_vault.specs.Vault.{state_of};
 ghost use Rattle.media_restore.specs.declared.fault.LoadFault.TheVariants.{OutOfMemory};
 
+use crate::copied::copied_pages;
 use crate::fault::LoadFault;
 use crate::loaded::Loaded;
 use copy_coverage::Retired;
-use copy_vault::{Chain, CopyId, Vault};
+use copy_vault::{CopyId, Vault};
 use log_store::Master;
-use page_core::{LSN_STEP, Lsn, Page, PageNo};
-use std::alloc::{AllocError, Global};
+use page_core::{LSN_STEP, Lsn, Page};
+use std::alloc::Global;
 
 /// Loads a complete copy with those that it stands on, and keeps the first `cut` records of the
 /// log, or all where there are fewer. Refusals in order: `NoCopy`, `CopyNotComplete`,
@@ -112,16 +113,4 @@ fn loaded_pages(alloc: Global, vault: &Vault, copy: CopyId) -> Result<(Vec<Page>
         .chain(alloc, copy)
         .map_err(|_| LoadFault::OutOfMemory)?;
     Ok((copied_pages(alloc, &chain)?, chain.redo()))
-}
-
-/// The pages of a chain, in order of their numbers.
-fn copied_pages(alloc: Global, chain: &Chain<'_>) -> Result<Vec<Page>, AllocError>
-    ensures { IfOk result (λ pages. pages.items ≡ contents chain.now) }
-{
-    let count = chain.pages();
-    let mut pages = Vec::with_capacity(alloc, count as usize)?;
-    for number in 0..count {
-        pages.push(chain.content(PageNo(number)).copy())?;
-    }
-    Ok(pages)
 }

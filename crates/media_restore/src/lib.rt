@@ -1,6 +1,7 @@
 //! Media recovery: a volume is made anew of image copies and the log (ARIES, section 8).
 #![tactic(auto)]
 
+mod copied;
 mod copy_load;
 mod fault;
 mod loaded;

@@ -1,20 +1,31 @@
-use Rattle.std.proofs.Common.{◌<◌, length, sym, ap, subst, ◌∙◌, arith}
-use Rattle.std.proofs.lemmas.List.{length_push}
-use Rattle.copy_vault.specs.Copy.{kept, taken_pages}
+use Rattle.std.proofs.Common.{◌-◌, length, replicate, sym, ap, subst, ◌∙◌, arith}
+use Rattle.std.proofs.lemmas.List.{length-append, length-replicate}
+use Rattle.copy_vault.specs.Copy.{PageDecision, kept, taken_pages}
 use Rattle.copy_vault.specs.ArchiveRead.{IsPart}
-use Rattle.copy_vault.proofs.Parts.{part_push_kept, taken_push_kept}
+use Rattle.copy_vault.proofs.RisingPages.{part_kept, taken_kept}
 use Rattle.copy_vault.proofs.read.keep_up_to.Goals as goal
 
-pub loop-preserved : goal.loop-preserved
-loop-preserved c =
-    let h = c.args.header.now in
-    let old = c.loop.slots in
-    let inv = c.loop.invariant in
-    let is = c.in_ok-push_kept.ensures in
-    let room = c.requires.within in
-    let below : length old < h.pages = omega (arith, inv.count, room) in
-    record {
-      part = subst (IsPart h) (sym is) (part_push_kept h old inv.part below);
-      taken = ap taken_pages is ∙ taken_push_kept old ∙ inv.taken;
-      count = omega (arith, ap length is, length_push old kept, inv.count);
-    }
+pub returns-clause-part : goal.returns-clause-part
+returns-clause-part c =
+    let old = c.args.slots.now in
+    let from = c.requires.from in
+    let within = c.requires.within in
+    subst (IsPart c.args.header.now) (sym c.keep_to.ensures)
+    (part_kept c.args.header.now (c.args.end - length old) old c.requires.so_far (omega arith))
+
+pub returns-clause-taken : goal.returns-clause-taken
+returns-clause-taken c =
+    let old = c.args.slots.now in
+    ap taken_pages c.keep_to.ensures ∙ taken_kept (c.args.end - length old) old
+
+pub returns-clause-count : goal.returns-clause-count
+returns-clause-count c =
+    let old = c.args.slots.now in
+    let from = c.requires.from in
+    let rest = replicate (c.args.end - length old) kept in
+    omega (
+      arith,
+      ap length c.keep_to.ensures,
+      length-append old rest,
+      length-replicate (c.args.end - length old) kept,
+    )

@@ -40,7 +40,7 @@ pub returns-clause-so_far : goal.returns-clause-so_far
 returns-clause-so_far c =
     let h = c.args.header.now in
     let mid = c.keep_up_to.new.slots in
-    let done = c.in_ok-keep_up_to.ensures in
+    let done = c.keep_up_to.ensures in
     let page = c.in-Ok.page in
     let number = ap (λ (p : Page). p.number) c.page.view_is in
     let few = c.if-taken-header.false in

@@ -1,9 +1,8 @@
-use Rattle.std.proofs.Common.{◌≡◌, map}
-use Rattle.std.specs.List.{range_with_len}
-use Rattle.copy_vault.specs.Chain.{content, lent}
+use Rattle.std.proofs.Common.{◌≡◌, take}
+use Rattle.copy_vault.specs.Chain.{contents, lent}
 use Rattle.copy_vault.proofs.chain.Chain.contents.Given as goal
 
-abbrev pub invariant-loop-number : goal.invariant-loop-number
-invariant-loop-number l = record {
-  so_far : lent l.pages.items ≡ map (content l.self) (range_with_len 0 l.number);
+abbrev pub invariant-loop-i : goal.invariant-loop-i
+invariant-loop-i l = record {
+  so_far : lent l.pages.items ≡ contents (take l.i l.self);
 }

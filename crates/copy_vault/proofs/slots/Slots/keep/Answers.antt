@@ -1,23 +1,32 @@
-use Rattle.std.proofs.Common.{◌≡◌, ◌<◌, ◌∙◌, List, length, sym, subst, add-zero}
-use Rattle.std.specs.Prelude.{slice_set}
-use Rattle.std.proofs.lemmas.List.{map-set}
-use Rattle.copy_vault.specs.declared.slots.Slot.TheVariants.{Kept}
-use Rattle.copy_vault.specs.Copy.{PageDecision, kept, undecided, decision_at}
-use Rattle.copy_vault.specs.Slots.{IsCounted, decision_in, decisions_in}
-use Rattle.copy_vault.proofs.Decisions.{counted_set}
+use Rattle.std.proofs.Common.{◌≡◌, ◌<◌, ◌∙◌, length, rules}
+use Rattle.std.specs.Vec.{vec_capacity}
+use Rattle.copy_vault.specs.Copy.{undecided, decision_at}
+use Rattle.copy_vault.specs.Slots.{decisions_by, values}
+use Rattle.copy_vault.proofs.Marks.{decisions_keep, marked_keep, some_left}
 use Rattle.copy_vault.proofs.slots.Slots.keep.Goals as goal
+
+pub overflow_sub-self : goal.overflow_sub-self
+overflow_sub-self c =
+    let marks = c.self.inside.marks.items in
+    let pages = values c.self.inside.places.items in
+    let n = c.number.inside.0 in
+    let there : n < length (decisions_by pages marks) = rw (c.number.view_is, c.self.view_is) c.requires.there in
+    let none : decision_at (decisions_by pages marks) n ≡ undecided =
+    rw (c.number.view_is, c.self.view_is) c.requires.undecided in
+    let some = some_left marks pages c.self.inside.left (vec_capacity c.self.inside.places) n c.self.invariant there none in
+    search rules
 
 pub invariant_of-self : goal.invariant_of-self
 invariant_of-self c =
-    let slots = c.self.inside.slots.items in
+    let marks = c.self.inside.marks.items in
+    let pages = values c.self.inside.places.items in
     let n = c.number.inside.0 in
-    let there : n < length (decisions_in slots) = rw (c.number.view_is, c.self.view_is) c.requires.there in
-    let none : decision_at (decisions_in slots) n ≡ undecided =
+    let there : n < length (decisions_by pages marks) = rw (c.number.view_is, c.self.view_is) c.requires.there in
+    let none : decision_at (decisions_by pages marks) n ≡ undecided =
     rw (c.number.view_is, c.self.view_is) c.requires.undecided in
-    subst (λ (ps : List PageDecision). IsCounted ps c.self.inside.taken) (sym (map-set decision_in slots n Kept))
-    (subst (IsCounted (slice_set (decisions_in slots) n kept)) (add-zero c.self.inside.taken) (counted_set (decisions_in slots) c.self.inside.taken n kept c.self.invariant there none))
+    marked_keep marks pages c.self.inside.left (vec_capacity c.self.inside.places) n c.self.invariant there none
 
 pub returns : goal.returns
 returns c =
-    map-set decision_in c.self.inside.slots.items c.number.inside.0 Kept
+    decisions_keep (values c.self.inside.places.items) c.self.inside.marks.items c.number.inside.0
     ∙ rw (c.number.view_is, c.self.view_is)

@@ -1,22 +1,28 @@
-use Rattle.std.proofs.Common.{◌≡◌, ◌<◌, ◌^◌, List, replicate, sym, subst, ap, ◌∙◌, arith}
-use Rattle.std.proofs.lemmas.List.{length-replicate}
-use Rattle.copy_vault.specs.declared.slots.Slot.TheVariants.{Undecided}
-use Rattle.copy_vault.specs.Copy.{PageDecision, undecided}
-use Rattle.copy_vault.specs.Slots.{IsCounted, decision_in, decisions_in}
-use Rattle.copy_vault.proofs.Decisions.{map-replicate, count_none}
+use Rattle.std.proofs.Common.{◌≡◌, ◌<◌, ◌^◌, ◌∙◌, List, [], replicate, sym, subst, ap, arith}
+use Rattle.std.specs.Vec.{vec_capacity}
+use Rattle.page_core.specs.declared.page.Page.{Page}
+use Rattle.copy_vault.specs.declared.slots.Mark.{Mark}
+use Rattle.copy_vault.specs.declared.slots.Mark.TheVariants.{Undecided}
+use Rattle.copy_vault.specs.Slots.{IsMarked, decisions_by, values}
+use Rattle.copy_vault.proofs.Marks.{marked_none, none_marked}
 use Rattle.copy_vault.proofs.slots.Slots.new.Goals as goal
 
 pub invariant_of-result : goal.invariant_of-result
 invariant_of-result c =
-    let n = c.loop.counter in
-    let all : decisions_in c.loop.slots.items ≡ replicate n undecided =
-    ap decisions_in c.loop.invariant ∙ map-replicate decision_in n Undecided in
+    let n = c.args.count in
+    let places = c.in_ok-places.places in
+    let room = vec_capacity places in
+    let end : c.loop.counter ≡ n = omega arith in
     let few : n < 2 ^ 32 = omega arith in
-    subst (λ (ps : List PageDecision). IsCounted ps 0) (sym all)
-    (record { few = omega (arith, few, length-replicate n undecided); counted = sym (count_none n) })
+    let marks = c.loop.invariant ∙ ap (λ k. replicate k Undecided) end in
+    let none = ap values c.in_ok-places.ensures.items in
+    subst (λ (ms : List Mark). IsMarked ms (values places.items) n room) (sym marks)
+    (subst (λ (ps : List Page). IsMarked (replicate n Undecided) ps n room) (sym none)
+    (marked_none n room few (omega (arith, c.in_ok-places.ensures.exact))))
 
 pub returns : goal.returns
 returns c =
     let end : c.loop.counter ≡ c.args.count = omega arith in
-    ap decisions_in c.loop.invariant ∙ map-replicate decision_in c.loop.counter Undecided
-    ∙ ap (λ n. replicate n undecided) end
+    let marks = c.loop.invariant ∙ ap (λ k. replicate k Undecided) end in
+    ap (λ (ps : List Page). decisions_by ps c.loop.marks.items) (ap values c.in_ok-places.ensures.items)
+    ∙ ap (decisions_by []) marks ∙ none_marked c.args.count

@@ -1,0 +1,125 @@
+//! `generate_script --pages P --bytes N --shape SHAPE --seed S > script` writes a script of nearly N bytes for a volume
+//! of P pages. In the shape `accepted` nearly all of its events are accepted, and in the shape `refused` all but the
+//! first hundred are refused.
+
+use bench::random::Random;
+use bench::script::{Event, LONGEST_SCRIPT};
+use bench::workload::Workload;
+use bench::{MOST_PAGES, SLOTS};
+use std::io::{self, BufWriter, Write};
+use std::process::ExitCode;
+
+/// No line of a script is longer.
+const LONGEST_LINE: usize = 64;
+
+/// How many transactions hold the slots that others are refused.
+const HOLDERS: u32 = 60;
+
+const COPIES: u32 = 100;
+
+struct Options {
+    pages: u32,
+    bytes: usize,
+    is_refused: bool,
+    seed: u64,
+}
+
+fn main() -> ExitCode {
+    let words: Vec<String> = std::env::args().skip(1).collect();
+    let Some(options) = options_of(&words) else {
+        eprintln!(
+            "usage: generate_script --pages P --bytes N --shape accepted|refused --seed S > script"
+        );
+        return ExitCode::from(1);
+    };
+    match write_script(&options) {
+        Ok(()) => ExitCode::SUCCESS,
+        Err(error) => {
+            eprintln!("generate_script: {error}");
+            ExitCode::from(1)
+        }
+    }
+}
+
+fn options_of(words: &[String]) -> Option<Options> {
+    let [pages_name, pages, bytes_name, bytes, shape_name, shape, seed_name, seed] = words else {
+        return None;
+    };
+    if [pages_name, bytes_name, shape_name, seed_name]
+        != ["--pages", "--bytes", "--shape", "--seed"]
+    {
+        return None;
+    }
+    let pages = pages
+        .parse()
+        .ok()
+        .filter(|count| (1..=MOST_PAGES).contains(count))?;
+    let bytes = bytes
+        .parse()
+        .ok()
+        .filter(|count| *count <= LONGEST_SCRIPT)?;
+    let is_refused = match shape.as_str() {
+        "accepted" => false,
+        "refused" => true,
+        _ => return None,
+    };
+    Some(Options {
+        pages,
+        bytes,
+        is_refused,
+        seed: seed.parse().ok()?,
+    })
+}
+
+fn write_script(options: &Options) -> io::Result<()> {
+    let mut out = BufWriter::with_capacity(1 << 20, io::stdout().lock());
+    let mut workload = Workload::new(options.pages, COPIES, options.seed);
+    let mut random = Random::new(options.seed);
+    let mut written = 0;
+    if options.is_refused {
+        written += write_holders(&mut out)?;
+    }
+    while written + LONGEST_LINE <= options.bytes {
+        let line = match options.is_refused {
+            true => refused_line(&mut random, options.pages),
+            false => format!("{}\n", workload.next_event().0),
+        };
+        out.write_all(line.as_bytes())?;
+        written += line.len();
+    }
+    out.flush()
+}
+
+/// Transactions that hold slots of page 0: the first one by Sets, and the others by Adds to one more.
+fn write_holders(out: &mut impl Write) -> io::Result<usize> {
+    let mut lines = String::new();
+    for transaction in 1..=HOLDERS {
+        lines += &format!("{}\n", Event::Begin);
+        match transaction {
+            1 => lines.extend((0..SLOTS - 1).map(|slot| format!("set 1 0 {slot} 1\n"))),
+            _ => lines += &format!("add {transaction} 0 {} 1\n", SLOTS - 1),
+        }
+    }
+    out.write_all(lines.as_bytes())?;
+    Ok(lines.len())
+}
+
+fn refused_line(random: &mut Random, pages: u32) -> String {
+    let transaction = 2 + random.below(u64::from(HOLDERS) - 1);
+    let slot = random.below(SLOTS as u64 - 1);
+    let page = random.below(u64::from(pages));
+    let last_slot = SLOTS - 1;
+    match random.below(12) {
+        0 => format!("set {transaction} 0 {slot} 5\n"),
+        1 => format!("add {transaction} 0 {slot} 5\n"),
+        2 | 3 => format!("set {transaction} 0 {last_slot} 5\n"),
+        4 => format!("set {transaction} {} 0 5\n", pages),
+        5 => format!("read {page} {SLOTS}\n"),
+        6 => format!("undo {transaction}\n"),
+        7 => format!("commit {}\n", transaction + 100),
+        8 => format!("wend {page}\n"),
+        9 => "endckpt\n".to_string(),
+        10 => format!("take 1 {page}\n"),
+        _ => "full\n".to_string(),
+    }
+}

@@ -1,0 +1,60 @@
+//! `plain_run run --pages N < script > replies` does what `imgcopy run` does, but for files and a last `restore`, in
+//! plain Rust.
+
+use bench::engine::Engine;
+use bench::script::{parse, LONGEST_SCRIPT};
+use bench::MOST_PAGES;
+use std::io::{self, BufWriter, Read, Write};
+use std::process::ExitCode;
+
+fn main() -> ExitCode {
+    let words: Vec<String> = std::env::args().skip(1).collect();
+    let page_count = match words.as_slice() {
+        [run, pages, number] if run == "run" && pages == "--pages" => number.parse().ok(),
+        _ => None,
+    };
+    let Some(page_count) = page_count.filter(|count| (1..=MOST_PAGES).contains(count)) else {
+        eprintln!("usage: plain_run run --pages N < script > replies");
+        return ExitCode::from(1);
+    };
+    match run(page_count) {
+        Ok(None) => ExitCode::SUCCESS,
+        Ok(Some(fault)) => {
+            eprintln!("imgcopy: {fault}");
+            ExitCode::from(2)
+        }
+        Err(error) => {
+            eprintln!("plain_run: {error}");
+            ExitCode::from(1)
+        }
+    }
+}
+
+/// Gives what is wrong with the script, if anything is.
+fn run(page_count: u32) -> io::Result<Option<String>> {
+    let mut script = Vec::new();
+    let most = LONGEST_SCRIPT as u64 + 1;
+    io::stdin().lock().take(most).read_to_end(&mut script)?;
+    let Some(script) = text(&script) else {
+        return Ok(Some("input".to_string()));
+    };
+    let events = match parse(script) {
+        Ok(events) => events,
+        Err(line) => return Ok(Some(format!("line {line}"))),
+    };
+    let mut out = BufWriter::with_capacity(1 << 16, io::stdout().lock());
+    let mut engine = Engine::new(page_count);
+    for event in events {
+        match event.play(&mut engine) {
+            Ok(reply) => writeln!(out, "{reply}")?,
+            Err(refusal) => writeln!(out, "{refusal}")?,
+        }
+    }
+    out.flush()?;
+    Ok(None)
+}
+
+fn text(script: &[u8]) -> Option<&str> {
+    let is_short = script.len() <= LONGEST_SCRIPT;
+    is_short.then(|| std::str::from_utf8(script).ok()).flatten()
+}

@@ -1,0 +1,272 @@
+//! Reads a log with all of its checks, and makes the volume that it gives.
+
+use crate::chains::{Chains, Change, ChangeKind};
+use crate::checkpoints::{self, Checkpoints};
+use crate::{
+    fill, formatted_volume, halves, word, words, Fault, Page, ABORT, ADD, BEGIN, BEGIN_CHKPT,
+    COMMIT, COMP, END, FIRST_SLOT, HEADER_SIZE, LONGEST_LOG, MAGIC, MOST_PAGES, RECORD_SIZE, SET,
+    SLOTS, UPDATE,
+};
+use std::io::{self, Read};
+
+const CHUNK_SIZE: usize = 1 << 18;
+
+/// How many records are looked at ahead.
+const AHEAD: usize = 32;
+
+struct Record {
+    transaction: u32,
+    previous: u64,
+    step: Step,
+}
+
+enum Step {
+    Begin,
+    Update { change: Change, before: u64 },
+    Comp { change: Change, undo_next: u64 },
+    Commit,
+    Abort,
+    End,
+}
+
+pub enum Failure {
+    Fault(Fault),
+    Io(io::Error),
+}
+
+impl From<Fault> for Failure {
+    fn from(fault: Fault) -> Failure {
+        Failure::Fault(fault)
+    }
+}
+
+impl From<io::Error> for Failure {
+    fn from(error: io::Error) -> Failure {
+        Failure::Io(error)
+    }
+}
+
+/// Reads a log by pieces, and keeps none of it.
+pub fn redo(mut log: impl Read) -> Result<Vec<Page>, Failure> {
+    let mut header = [0; HEADER_SIZE];
+    if fill(&mut log, &mut header)? < HEADER_SIZE {
+        return Err(Fault::BadHeader.into());
+    }
+    let page_count = read_header(&header).ok_or(Fault::BadHeader)?;
+    let mut redo = Redo::new(page_count);
+    let mut chunk = vec![0; CHUNK_SIZE];
+    loop {
+        let count = fill(&mut log, &mut chunk)?;
+        redo.take_chunk(&chunk[..count])?;
+        if count < CHUNK_SIZE {
+            return Ok(redo.volume);
+        }
+    }
+}
+
+/// Reads a log that is in memory.
+pub fn read(log: &[u8]) -> Result<Redo, Fault> {
+    let header = log.first_chunk().ok_or(Fault::BadHeader)?;
+    let mut redo = Redo::new(read_header(header).ok_or(Fault::BadHeader)?);
+    redo.take_chunk(&log[HEADER_SIZE..])?;
+    Ok(redo)
+}
+
+/// What the records until now leave.
+pub struct Redo {
+    lsn: usize,
+    pub page_count: u32,
+    pub volume: Vec<Page>,
+    pub chains: Chains,
+    checkpoints: Checkpoints,
+}
+
+impl Redo {
+    fn new(page_count: u32) -> Redo {
+        Redo {
+            lsn: HEADER_SIZE,
+            page_count,
+            volume: formatted_volume(page_count),
+            chains: Chains::new(page_count as usize),
+            checkpoints: Checkpoints::default(),
+        }
+    }
+
+    fn take_chunk(&mut self, chunk: &[u8]) -> Result<(), Fault> {
+        for records in chunk.chunks(AHEAD * RECORD_SIZE) {
+            self.touch(records);
+            for bytes in records.chunks(RECORD_SIZE) {
+                self.take_bytes(bytes)?;
+            }
+        }
+        Ok(())
+    }
+
+    /// Looks at the slots of these records, right or wrong, so that all of them come from memory at the same time.
+    fn touch(&self, records: &[u8]) {
+        let looks = records.chunks_exact(RECORD_SIZE).map(|bytes| {
+            let (number, slot) = halves(word(&bytes[24..32]));
+            let at = FIRST_SLOT + 8 * usize::from(slot as u8);
+            let page = self.volume.get(number as usize);
+            let claim = self.chains.claim(number as u16, slot as u8);
+            claim ^ page.map_or(0, |page| page[8] ^ page.get(at).unwrap_or(&0))
+        });
+        std::hint::black_box(looks.fold(0, |all, byte| all ^ byte));
+    }
+
+    #[inline]
+    fn take_bytes(&mut self, bytes: &[u8]) -> Result<(), Fault> {
+        if self.lsn == LONGEST_LOG {
+            return Err(Fault::TooLong);
+        }
+        if bytes.len() < RECORD_SIZE {
+            return Err(Fault::Torn(self.lsn));
+        }
+        if u32::from(bytes[0]) >= BEGIN_CHKPT {
+            return self.take_checkpoint(bytes);
+        }
+        let record =
+            read_record(bytes, self.lsn, self.page_count).ok_or(Fault::BadRecord(self.lsn))?;
+        self.take(&record).ok_or(Fault::BadChain(self.lsn))?;
+        self.lsn += RECORD_SIZE;
+        Ok(())
+    }
+
+    #[inline(never)]
+    fn take_checkpoint(&mut self, bytes: &[u8]) -> Result<(), Fault> {
+        let lsn = self.lsn as u64;
+        let record =
+            checkpoints::read(bytes, lsn, self.page_count).ok_or(Fault::BadRecord(self.lsn))?;
+        self.checkpoints
+            .take(&record, lsn, &self.chains)
+            .ok_or(Fault::BadChain(self.lsn))?;
+        self.lsn += RECORD_SIZE;
+        Ok(())
+    }
+
+    /// Makes the record's change, or gives `None` if the record may not follow those before it.
+    #[inline]
+    fn take(&mut self, record: &Record) -> Option<()> {
+        let (transaction, previous, lsn) = (record.transaction, record.previous, self.lsn as u64);
+        self.checkpoints.note(match &record.step {
+            Step::Update { change, .. } | Step::Comp { change, .. } => Some(change.page),
+            _ => None,
+        });
+        if let Step::Begin = record.step {
+            return self.chains.begin(transaction, lsn);
+        }
+        let seat = self.chains.go_on(transaction, previous, lsn)?;
+        match &record.step {
+            Step::Begin => unreachable!("a Begin was taken above"),
+            Step::Update { change, before } => {
+                self.chains.update(seat, previous, change, *before)?;
+                let replaced = self.apply(change);
+                ((change.kind == ChangeKind::Add) | (replaced == *before)).then_some(())
+            }
+            Step::Comp { change, undo_next } => {
+                self.chains.compensate(seat, change, *undo_next)?;
+                self.apply(change);
+                Some(())
+            }
+            Step::Commit => self.chains.commit(transaction, seat),
+            Step::Abort => self.chains.abort(seat),
+            Step::End => self.chains.end(transaction, seat),
+        }
+    }
+
+    #[inline]
+    fn apply(&mut self, change: &Change) -> u64 {
+        let page = &mut self.volume[usize::from(change.page)];
+        apply(page, change, self.lsn as u64)
+    }
+}
+
+/// Makes the change, and gives the slot's number before it.
+#[inline]
+pub fn apply(page: &mut Page, change: &Change, lsn: u64) -> u64 {
+    page[8..16].copy_from_slice(&lsn.to_le_bytes());
+    let at = FIRST_SLOT + 8 * usize::from(change.slot);
+    let slot = &mut page[at..at + 8];
+    let before = word(slot);
+    let base = if change.kind == ChangeKind::Add {
+        before
+    } else {
+        0
+    };
+    let after = base.wrapping_add(change.number);
+    slot.copy_from_slice(&after.to_le_bytes());
+    before
+}
+
+/// The change that this record of a linked log makes, if it makes one.
+#[inline]
+pub fn change_of(bytes: &[u8], page_count: u32) -> Option<Change> {
+    let (kind, _) = halves(word(&bytes[0..8]));
+    let is_change = kind == UPDATE || kind == COMP;
+    let change = || read_change(word(&bytes[24..32]), word(&bytes[40..48]), page_count);
+    is_change.then(change).flatten()
+}
+
+/// The page count, if these bytes are a header.
+fn read_header(header: &[u8; HEADER_SIZE]) -> Option<u32> {
+    let [magic, page_count, rest @ ..] = words(header);
+    let page_count = u32::try_from(page_count).ok()?;
+    let is_header = magic == u64::from_le_bytes(*MAGIC)
+        && (1..=MOST_PAGES).contains(&page_count)
+        && rest == [0; 6];
+    is_header.then_some(page_count)
+}
+
+/// The record, if these bytes are one at this LSN in a volume of this many pages.
+#[inline]
+fn read_record(bytes: &[u8], lsn: usize, page_count: u32) -> Option<Record> {
+    let [head, previous, undo_next, place, before, number, zero, own] = words(bytes);
+    let (kind, transaction) = halves(head);
+    if transaction == 0 || zero != 0 || own != lsn as u64 {
+        return None;
+    }
+    let no_change = place == 0 && before == 0 && number == 0;
+    let is_chained = is_before(previous, own) && (kind == COMP || undo_next == 0);
+    let step = match kind {
+        BEGIN if previous == 0 && undo_next == 0 && no_change => Step::Begin,
+        UPDATE if is_chained => Step::Update {
+            change: read_change(place, number, page_count)
+                .filter(|change| (change.kind == ChangeKind::Set) | (before == 0))?,
+            before,
+        },
+        COMP if is_chained && is_before(undo_next, own) && before == 0 => Step::Comp {
+            change: read_change(place, number, page_count)?,
+            undo_next,
+        },
+        COMMIT if is_chained && no_change => Step::Commit,
+        ABORT if is_chained && no_change => Step::Abort,
+        END if is_chained && no_change => Step::End,
+        _ => return None,
+    };
+    Some(Record {
+        transaction,
+        previous,
+        step,
+    })
+}
+
+/// Whether a record may stand at this LSN and before the other one.
+fn is_before(lsn: u64, own: u64) -> bool {
+    lsn >= HEADER_SIZE as u64 && lsn < own && lsn % RECORD_SIZE as u64 == 0
+}
+
+fn read_change(place: u64, number: u64, page_count: u32) -> Option<Change> {
+    let (page, slot_and_kind) = halves(place);
+    let (slot, kind) = (slot_and_kind as u16, (slot_and_kind >> 16) as u16);
+    let is_change = (kind == SET) | (kind == ADD);
+    (is_change && page < page_count && usize::from(slot) < SLOTS).then_some(Change {
+        page: page as u16,
+        slot: slot as u8,
+        kind: if kind == SET {
+            ChangeKind::Set
+        } else {
+            ChangeKind::Add
+        },
+        number,
+    })
+}

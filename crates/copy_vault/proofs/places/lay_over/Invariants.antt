@@ -1,0 +1,7 @@
+use Rattle.std.proofs.Common.{◌≡◌, take}
+use Rattle.copy_vault.specs.Chain.{lent}
+use Rattle.copy_vault.specs.Slots.{laid, values}
+use Rattle.copy_vault.proofs.places.lay_over.Given as goal
+
+abbrev pub invariant-loop-i : goal.invariant-loop-i
+invariant-loop-i l = lent l.pages ≡ laid (take l.i (values l.places)) (lent l.fn.pages)

@@ -1,0 +1,98 @@
+//! What a complete copy has decided of each of its pages.
+
+ghost use Rattle.std.specs.Prelude.{◌≡◌, ◌<◌, length};
+ghost use Rattle.copy_vault.specs.Lent.{lent};
+ghost use Rattle.copy_vault.specs.Copy.{decision_at, page_of, taken_count};
+ghost use Rattle.copy_vault.specs.Slots.{AreLaidOver, page_list};
+
+use crate::rising::RisingPages;
+use crate::slots::Slots;
+use page_core::{Page, PageNo};
+use std::marker::Model;
+
+/// How the decisions of a complete copy are held.
+#[derive(Drop)]
+pub enum Held {
+    /// As they were made while the volume was read.
+    Marked(Slots),
+    /// As they were read from an archive.
+    Rising(RisingPages),
+}
+
+/// What a complete copy has decided of each of its pages.
+#[derive(Drop)]
+pub struct CopyPages {
+    held: Held,
+}
+
+impl Model for CopyPages {
+    ghost use Rattle.std.specs.Prelude.{List};
+    ghost use Rattle.copy_vault.specs.Copy.{PageDecision};
+    ghost use Rattle.copy_vault.specs.Held.{decisions_in};
+
+    ghost Value = { List PageDecision };
+
+    ghost view = { λ it. decisions_in it.held };
+}
+
+impl CopyPages {
+    /// What was decided while the volume was read.
+    pub fn marked(slots: Slots) -> CopyPages
+        ensures { result ≡ slots }
+    {
+        CopyPages {
+            held: Held::Marked(slots),
+        }
+    }
+
+    /// What was read from an archive.
+    pub fn rising(pages: RisingPages) -> CopyPages
+        ensures { result ≡ pages }
+    {
+        CopyPages {
+            held: Held::Rising(pages),
+        }
+    }
+
+    /// The page, if it was taken.
+    pub fn page(&self, number: PageNo) -> Option<&Page>
+        requires { number < length self.now }
+        ensures { page_list result ≡ page_of (decision_at self.now number) }
+    {
+        match &self.held {
+            Held::Marked(slots) => slots.page(number),
+            Held::Rising(pages) => pages.page(number),
+        }
+    }
+
+    /// How many pages there are.
+    pub fn count(&self) -> u32
+        ensures { result ≡ length self.now }
+    {
+        match &self.held {
+            Held::Marked(slots) => slots.count(),
+            Held::Rising(pages) => pages.count(),
+        }
+    }
+
+    /// How many pages were taken.
+    pub fn taken(&self) -> u32
+        ensures { result ≡ taken_count self.now }
+    {
+        match &self.held {
+            Held::Marked(slots) => slots.taken(),
+            Held::Rising(pages) => pages.taken(),
+        }
+    }
+
+    /// Puts each page that was taken in the place of the one that has its number.
+    pub fn lay_over<'a>(&'a self, pages: &mut [&'a Page])
+        requires { length self.now ≡ length pages.old }
+        ensures { AreLaidOver self.now (lent pages.old) (lent pages.new) }
+    {
+        match &self.held {
+            Held::Marked(slots) => slots.lay_over(pages),
+            Held::Rising(rising) => rising.lay_over(pages),
+        }
+    }
+}

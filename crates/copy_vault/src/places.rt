@@ -1,0 +1,42 @@
+//! The pages that a copy took, each in a place of its own.
+
+ghost use Rattle.std.specs.Prelude.{ℕ, ◌≡◌, ◌<◌, ◌≤◌, length, slice_index_or};
+ghost use Rattle.page_core.specs.declared.page.Page.{Page};
+ghost use Rattle.copy_vault.specs.Lent.{lent};
+ghost use Rattle.copy_vault.specs.Slots.{NumbersRise, laid, values};
+
+use page_core::{Page, PageNo};
+
+/// Puts each page in the place of the one that has its number.
+pub fn lay_over<'a>(places: &'a [Box<Page>], pages: &mut [&'a Page])
+    requires { (k : ℕ) (d : Page) → k < length (values places.now)
+        → (slice_index_or (values places.now) k d).number < length pages.old }
+    ensures { lent pages.new ≡ laid (values places.now) (lent pages.old) }
+{
+    for i in 0..places.len() {
+        let place = &places[i];
+        pages[place.number.0 as usize] = place;
+    }
+}
+
+/// Where the first page stands that has at least this number, in a list where the numbers rise.
+pub fn first_from(places: &[Box<Page>], number: PageNo) -> usize
+    requires { NumbersRise (values places.now) }
+    ensures within { result ≤ length (values places.now) }
+    ensures before { (k : ℕ) (d : Page) → k < result
+        → (slice_index_or (values places.now) k d).number < number }
+    ensures at { (d : Page) → result < length (values places.now)
+        → number ≤ (slice_index_or (values places.now) result d).number }
+{
+    let mut from = 0;
+    let mut end = places.len();
+    while from < end {
+        let middle = from + (end - from) / 2;
+        if places[middle].number.0 < number.0 {
+            from = middle + 1;
+        } else {
+            end = middle;
+        }
+    }
+    from
+}

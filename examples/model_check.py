@@ -1,0 +1,327 @@
+#!/usr/bin/env python3
+"""Compares what a program answers to scripts, and to files that they save, with the model and with worked rows.
+
+usage: model_check.py PROGRAM [COUNT [FIRST]]
+       model_check.py --model [COUNT [FIRST]]     compares the model with the rows and with the definitions alone
+
+COUNT random scripts are made from the seeds FIRST and following, 500 from seed 1 where none is told. Each is run, and
+its files are redone and restored, right and spoiled. `random_scripts.py SEED` shows a script.
+"""
+
+import os
+import shutil
+import signal
+import subprocess
+import sys
+import tempfile
+from collections import Counter
+from concurrent.futures import ProcessPoolExecutor
+from functools import lru_cache
+from itertools import repeat
+from pathlib import Path
+
+import model_file_rows
+import model_rows
+from log_format import ADD, BEGIN, MOST_RECORDS, UPDATE, Change, Record, lsn_of
+from make import Draw
+from random_scripts import Script, bad_script, random_script
+from recovery_model import Answer, answer_of, encode_pages, redo_all, redo_file, restore_files, undo_records
+from script_model import LONGEST_SCRIPT, run
+from spoiled_files import Given, spoil
+
+COUNT = 500
+SEEDS_IN_A_TASK = 20
+SPOILED_IN_A_RUN = 4
+MOST_PAGES_SPOILED = 1000
+MOST_SECONDS = 300
+MOST_SHOWN = 20  # of the differences
+MEMORY = "/dev/shm"  # a folder in memory, where the system has one
+
+
+class Failure(Exception):
+    """What is missing, or wrong in the model, in one line."""
+
+
+class Checker:
+    """Runs a program in a folder of its own, and compares. Without a program it gives the model's own answers."""
+
+    def __init__(self, program, folder):
+        self.program, self.folder, self.saved = program, Path(folder), Path(folder) / "saved"
+        self.counts = Counter()
+        self.differences = []
+
+    def answer(self, words, text=b""):
+        source = self.folder / "input"
+        source.write_bytes(text)
+        with open(source, "rb") as standard_input:
+            done = subprocess.run([self.program, *words], stdin=standard_input, capture_output=True, cwd=self.saved,
+                                  timeout=MOST_SECONDS)
+        return Answer(done.returncode, done.stdout, done.stderr)
+
+    def empty_folder(self):
+        shutil.rmtree(self.saved, ignore_errors=True)
+        self.saved.mkdir()
+
+    def write(self, files):
+        for name, data in files.items():
+            (self.saved / name).write_bytes(data)
+
+    def check(self, what, wanted, words, text=b""):
+        self.counts[words[0]] += 1
+        if self.program is None:
+            return
+        given = self.answer(words, text)
+        if given != wanted:
+            self.differences.append(f"{what}: {difference(given, wanted, text)}")
+
+    def check_run(self, what, script, wanted):
+        """Runs the script, and leaves what it saves in the folder."""
+        self.empty_folder()
+        self.check(what, wanted.answer, [*run_words(script), "--save", "."], script.text)
+        if self.program is None:
+            return
+        given = {path.name: path.read_bytes() for path in self.saved.iterdir()}
+        if given != wanted.files:
+            self.differences.append(f"{what}: {difference_of_files(given, wanted.files)}")
+            self.empty_folder()
+            self.write(wanted.files)
+
+    def check_files(self, what, wanted, words, changed, files):
+        """Restores with changed files in the folder, and leaves it as it was, with these files."""
+        self.write(changed)
+        self.check(what, wanted, ["restore", *words])
+        for name in changed:
+            (self.saved / name).unlink()
+        self.write({name: files[name] for name in changed if name in files})
+
+
+def run_words(script):
+    return ["run", "--pages", str(script.pages)]
+
+
+def difference(given, wanted, text=b""):
+    """What differs, in one line: the first reply and its event, where the text of a script is told."""
+    if (given.status, given.error) != (wanted.status, wanted.error):
+        return f"status {given.status} and {given.error!r} in place of {wanted.status} and {wanted.error!r}"
+    if not text:
+        at = first_difference(given.output, wanted.output)
+        return f"the output differs at {at}, and has {len(given.output)} bytes in place of {len(wanted.output)}"
+    replies, wanted_replies = given.output.splitlines(), wanted.output.splitlines()
+    events = [line for line in text.splitlines() if line and not line.startswith(b"#")]
+    at = first_difference(replies, wanted_replies)
+    event = events[min(at, len(events) - 1)]
+    return f"reply {at + 1}, to {event!r}: {replies[at:at + 1]} in place of {wanted_replies[at:at + 1]}"
+
+
+def first_difference(one, other):
+    shorter = min(len(one), len(other))
+    return next((at for at in range(shorter) if one[at] != other[at]), shorter)
+
+
+def difference_of_files(given, wanted):
+    if sorted(given) != sorted(wanted):
+        return f"the files {sorted(given)} in place of {sorted(wanted)}"
+    name = next(name for name in sorted(wanted) if given[name] != wanted[name])
+    return f"the file {name} differs at {first_difference(given[name], wanted[name])}, and has" \
+           f" {len(given[name])} bytes in place of {len(wanted[name])}"
+
+
+# Random scripts
+
+def check_seed(checker, seed):
+    script = random_script(seed)
+    ran = run(script.text, script.pages)
+    name = f"script {seed} on {script.pages} pages"
+    checker.check_run(name, script, ran)
+    wanted = answer_of(redo_file, ran.files["log"])
+    if wanted.output != encode_pages(map(ran.engine.page, range(script.pages))):
+        raise Failure(f"{name}: the model's pages are not those that its log makes")
+    checker.check(f"{name}, redo", wanted, ["redo"], ran.files["log"])
+    for copy in ran.engine.complete_copies():
+        check_copy(checker, name, ran, copy)
+    if ran.engine.complete_copies() and script.pages < MOST_PAGES_SPOILED:
+        check_spoiled(checker, name, ran, seed)
+    if seed % 4 == 0:
+        script = bad_script(seed)
+        checker.check(f"bad script {seed}", run(script.text, script.pages).answer, run_words(script), script.text)
+
+
+def check_copy(checker, name, ran, copy):
+    """Restores the copy from its files. The log alone makes the same volume, by the headline of what is promised."""
+    given, log = Given(ran.files, ran.engine.chain(copy.number)), ran.engine.log
+    wanted = answer_of(restore_files, *given.contents())
+    if wanted.output != encode_pages(redo_all(log + undo_records(log), ran.engine.pages)):
+        raise Failure(f"{name}: the model restores copy {copy.number} to another volume than the log makes")
+    checker.check(f"{name}, restore of copy {copy.number}", wanted, ["restore", *given.words()])
+
+
+@lru_cache(maxsize=None)
+def files_of_another(seed):
+    script = random_script(seed)
+    return run(script.text, script.pages).files
+
+
+def check_spoiled(checker, name, ran, seed):
+    draw, others = Draw(seed), files_of_another(1 + seed % 7)
+    for _ in range(SPOILED_IN_A_RUN):
+        given = Given(ran.files, ran.engine.chain(draw.one_of(ran.engine.complete_copies()).number))
+        spoil(draw, given, others)
+        checker.check_files(f"{name}, files {' '.join(given.words())} spoiled by {', '.join(given.done)}",
+                            answer_of(restore_files, *given.contents()), given.words(), given.changed(ran.files),
+                            ran.files)
+
+
+# Worked rows
+
+def check_rows(checker):
+    saved = {}
+    for row in model_rows.ROWS:
+        script, wanted = Script(row.pages, row.script()), Answer(row.status, row.output())
+        ran = run(script.text, script.pages)
+        if ran.answer != wanted:
+            raise Failure(f"the model, {row.name}: {difference(ran.answer, wanted, script.text)}")
+        check_bytes_of(row, ran.files)
+        checker.check_run(row.name, script, ran)
+        saved[row.name] = ran.files
+    for row in model_file_rows.FILE_ROWS:
+        check_file_row(checker, row, saved[row.row])
+
+
+def check_bytes_of(row, files):
+    for name, parts in row.wanted_files().items():
+        for at, data in parts:
+            if files[name][at:at + len(data)] != data:
+                raise Failure(f"the model, {row.name}: the file {name} differs at {at}")
+    for (of_row, name), size in model_rows.SIZES.items():
+        if of_row == row.name and len(files[name]) != size:
+            raise Failure(f"the model, {row.name}: the file {name} has {len(files[name])} bytes in place of {size}")
+
+
+def check_file_row(checker, row, saved):
+    given = Given(row.files(saved), [])
+    given.log, given.master, *given.archives = row.names.split() if row.names != "redo" else ("log", "master")
+    wanted = Answer(row.status, row.volume(), b"") if row.status == 0 else \
+        Answer(row.status, error=f"{row.answer}\n".encode())
+    model = answer_of(redo_file, given.files["log"]) if row.names == "redo" else \
+        answer_of(restore_files, *given.contents())
+    if model != wanted:
+        raise Failure(f"the model, {row.name}: {difference(model, wanted)}")
+    checker.empty_folder()
+    checker.write(given.files)
+    if row.names == "redo":
+        checker.check(row.name, wanted, ["redo"], given.files["log"])
+    else:
+        checker.check(row.name, wanted, ["restore", *given.words()])
+
+
+# What is long, and what has a known answer without the model
+
+def check_longest(checker):
+    row = model_rows.ROOM
+    checker.check(row.name, Answer(0, row.output()), run_words(Script(1, b"")), row.script())
+    for size, wanted in ((LONGEST_SCRIPT, Answer(0)), (LONGEST_SCRIPT + 1, Answer(2, error=b"imgcopy: input\n"))):
+        checker.check(f"a comment of {size} bytes", wanted, run_words(Script(1, b"")), b"#" * size)
+    checker.empty_folder()
+    checker.write(full_log())
+    checker.check("a log without room for undo", Answer(1, error=b"E8 LogFull\n"),
+                  ["restore", "log", "master", "copy-1"])
+
+
+def full_log():
+    """An idle checkpoint with its copy, and a transaction whose Adds leave no room for their undo."""
+    idle = next(row for row in model_rows.ROWS if row.name == "an unforced tail is lost")
+    files = run(b"ckpt\ngather\ngather\nendckpt\nfull\ntake 1 0\nseal 1\n", idle.pages).files
+    records = [Record(BEGIN, 1, lsn=lsn_of(2)).encode()]
+    records += [Record(UPDATE, 1, lsn_of(index - 1), Change(0, 0, ADD, 0, 1), lsn=lsn_of(index)).encode()
+                for index in range(3, MOST_RECORDS)]
+    return files | {"log": files["log"] + b"".join(records)}
+
+
+def check_devices(checker):
+    """A folder that is missing, an input that cannot be read, and an output that is full."""
+    script = b"begin\nset 1 0 0 5\n"
+    words = run_words(Script(1, script))
+    checker.empty_folder()
+    checker.check("files in a folder that is missing", Answer(2, b"began 1 at 64\nlsn 128\n", b"E29 WriteFault 0\n"),
+                  [*words, "--save", "missing"], script)
+    if checker.program is None:
+        return
+    with open("/dev/full", "wb") as full, open(checker.folder / "input", "rb") as source:
+        done = subprocess.run([checker.program, *words], stdin=source, stdout=full, stderr=subprocess.PIPE)
+    if (done.returncode, done.stderr) != (2, b"E29 WriteFault 0\n"):
+        checker.differences.append(f"an output that is full: status {done.returncode} and {done.stderr!r}")
+    folder = os.open(checker.saved, os.O_RDONLY)
+    done = subprocess.run([checker.program, *words], stdin=folder, capture_output=True)
+    os.close(folder)
+    if (done.returncode, done.stdout, done.stderr) != (2, b"", b"imgcopy: input\n"):
+        checker.differences.append(f"an input that cannot be read: status {done.returncode} and {done.stderr!r}")
+
+
+WRONG_WORDS = [
+    "run", "run --pages", "run --pages 0", "run --pages 65537", "run --pages -1", "run --pages x", "run --pages 1 more",
+    "run --pages 1 --pages 1", "run --save .", "run --pages 1 --save", "restore", "restore log", "restore --log log",
+    "rerun", "run --help", "restore --help",
+]
+
+
+def check_words(checker):
+    """Wrong words: nothing on standard output, something on standard error, and status 2."""
+    for words in WRONG_WORDS:
+        checker.counts["words"] += 1
+        if checker.program is None:
+            continue
+        given = checker.answer(words.split())
+        if given.status != 2 or given.output or not given.error:
+            checker.differences.append(f"the words '{words}': {given}")
+
+
+# All of it
+
+CHECKS = {"rows": check_rows, "longest": check_longest, "devices": check_devices, "words": check_words}
+
+
+def check_all(program, task):
+    """The counts of answers and the differences of one task: the name of a check, or some seeds."""
+    with tempfile.TemporaryDirectory(dir=MEMORY if os.access(MEMORY, os.W_OK) else None) as folder:
+        checker = Checker(program, folder)
+        checker.empty_folder()
+        try:
+            for part in [task] if isinstance(task, str) else task:
+                CHECKS[part](checker) if isinstance(part, str) else check_seed(checker, part)
+        except subprocess.TimeoutExpired:
+            raise Failure(f"{part}: the program has not ended after {MOST_SECONDS} seconds") from None
+        return checker.counts, checker.differences
+
+
+def compare(program, count, first):
+    seeds = range(first, first + count)
+    tasks = [*CHECKS, *(seeds[at:at + SEEDS_IN_A_TASK] for at in range(0, count, SEEDS_IN_A_TASK))]
+    counts, differences = Counter(), []
+    with ProcessPoolExecutor(os.cpu_count()) as pool:
+        for counted, different in pool.map(check_all, repeat(program), tasks):
+            counts += counted
+            differences += different
+    return counts, differences
+
+
+def main(arguments):
+    try:
+        signal.signal(signal.SIGTERM, lambda *_: sys.exit("model_check.py: ended by a signal"))
+        if not 1 <= len(arguments) <= 3 or not all(number.isdigit() for number in arguments[1:]):
+            raise Failure("usage: model_check.py PROGRAM [COUNT [FIRST]], with --model in place of a program")
+        program = shutil.which(arguments[0])
+        if program is None and arguments[0] != "--model":
+            raise Failure(f"there is no program {arguments[0]}")
+        count, first = [*map(int, arguments[1:]), *(COUNT, 1)[len(arguments) - 1:]]
+        counts, differences = compare(program and os.path.abspath(program), count, first)
+        if differences:
+            print(*differences[:MOST_SHOWN], sep="\n")
+            raise Failure(f"{len(differences)} of {counts.total()} answers are not as defined")
+    except (Failure, OSError) as failure:
+        sys.exit(f"model_check.py: {failure}")
+    parts = ", ".join(f"{counts[name]} of {name}" for name in ("run", "redo", "restore", "words"))
+    print(f"ok model: {count} random scripts and all rows are as defined, by answers: {parts}")
+
+
+if __name__ == "__main__":
+    main(sys.argv[1:])
