@@ -1,0 +1,2 @@
+pub mod LogFile
+pub mod PageLines
