@@ -3,6 +3,7 @@
 
 mod log_fault;
 mod log_file;
+mod memory_play;
 mod page_lines;
 
 pub use log_fault::LogWriteFault;
