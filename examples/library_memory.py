@@ -1,12 +1,12 @@
 #!/usr/bin/env python3
-"""Refuses each allocation of the calls that the program does not make: `read_log`, and those of the engine.
+"""Refuses each allocation of what the program does not call: `read_log`, the engine, and media recovery.
 
 usage: library_memory.py LOG_READER ENGINE_PLAYER LIBRARY
 
 LIBRARY is refuse_memory.rs, built as a library for LD_PRELOAD, and the others are the programs of these crates. The one
 reads a log by `read_log` and tells what came of it, and goes to each example log as in memory.py. The other one makes
-calls of the engine, one by one and as a list, and makes a call again that was refused for want of memory: each has to
-get the reply that it has with all of its memory.
+calls of the engine, one by one and as a list, restores a copy, and makes a call again that was refused for want of
+memory: each has to get the reply that it has with all of its memory, and the pages have to be the same.
 """
 
 import os
@@ -53,7 +53,7 @@ def main(arguments):
         reading, playing = count_refused(*map(os.path.abspath, arguments))
     except (Failure, OSError) as failure:
         sys.exit(f"library_memory.py: {failure}")
-    print(f"ok library_memory: {reading} refused allocations of read_log are told, and {playing} of the engine")
+    print(f"ok library_memory: {reading} refused allocations of read_log are told, and {playing} of engine and restore")
 
 
 if __name__ == "__main__":

@@ -1,6 +1,7 @@
 //! Image copies: how they are taken, written as archives, read again, and linked to a chain.
 
-use crate::engine::{lsn_of, Answer, Master, Refusal, Reply};
+use crate::engine::{lsn_of, Master};
+use crate::replies::{Answer, Refusal, Reply};
 use crate::{formatted_volume, halves, word, Fault, Page, MOST_PAGES, PAGE_FORMAT, PAGE_SIZE};
 
 pub const ARCHIVE_HEADER_SIZE: usize = 64;

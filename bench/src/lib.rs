@@ -7,6 +7,7 @@ pub mod copies;
 pub mod engine;
 pub mod random;
 pub mod redo;
+pub mod replies;
 pub mod script;
 pub mod workload;
 

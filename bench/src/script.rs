@@ -2,7 +2,8 @@
 
 use crate::chains::ChangeKind;
 use crate::copies::Source;
-use crate::engine::{Answer, Engine};
+use crate::engine::Engine;
+use crate::replies::Answer;
 use std::fmt;
 use std::str::FromStr;
 

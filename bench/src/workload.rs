@@ -3,8 +3,9 @@
 
 use crate::chains::ChangeKind;
 use crate::copies::Source;
-use crate::engine::{Answer, Engine, Refusal, Reply};
+use crate::engine::Engine;
 use crate::random::Random;
+use crate::replies::{Answer, Refusal, Reply};
 use crate::script::Event;
 use crate::SLOTS;
 

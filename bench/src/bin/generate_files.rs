@@ -2,7 +2,8 @@
 //! owed, and as many copies of a volume of so many pages, all but the first one incremental. It saves them as
 //! `imgcopy run` does: as log, master and copy-1 and following. It says the names, in one line.
 
-use bench::engine::{Engine, Refusal};
+use bench::engine::Engine;
+use bench::replies::Refusal;
 use bench::workload::Workload;
 use bench::MOST_PAGES;
 use std::fs::{self, File};

@@ -1,11 +1,14 @@
-//! Makes calls of the engine, and again where one was refused for want of memory, and tells
-//! whether one was.
+//! Makes calls of the engine, and restores a copy that it made. A call that is refused for want of
+//! memory is made again. It tells whether one was.
 #![tactic(auto)]
 
 use aries_core::{Answer, Engine, Event, Refusal, Reply, Setup, play};
+use copy_coverage::Retired;
 use copy_vault::CopyId;
 use log_store::MemDevice;
-use page_core::{Lsn, PageNo, SlotNo, TxnNo};
+use loser_undo::{Redone, UndoFault, Undone, undo_all};
+use media_restore::{LoadFault, Loaded, RedoFault, load};
+use page_core::{Lsn, Page, PageNo, SlotNo, TxnNo};
 use page_store::MemStore;
 use std::alloc::Global;
 
@@ -144,10 +147,70 @@ fn call_each(engine: &mut Engine<MemStore, MemDevice>, row: &[(Event, Reply)]) -
     Some(change_each_slot(engine)? || again)
 }
 
-/// Makes the calls one by one, and tells whether one was made again; None at a wrong reply.
+/// Loads the last copy, and tells whether it was loaded again; None at another refusal.
+fn load_in_two(alloc: Global, retired: Retired) -> Option<(Loaded, bool)> {
+    match load(alloc, retired, CopyId(2), usize::MAX) {
+        Ok(loaded) => Some((loaded, false)),
+        Err((retired, LoadFault::OutOfMemory)) => {
+            let loaded = load(alloc, retired, CopyId(2), usize::MAX).ok()?;
+            Some((loaded, true))
+        }
+        Err(_) => None,
+    }
+}
+
+/// Redoes the log, and tells whether it was redone again.
+fn redo_in_two(alloc: Global, loaded: Loaded) -> Option<(Redone, bool)> {
+    match loaded.redo(alloc) {
+        Ok(redone) => Some((redone, false)),
+        Err((loaded, RedoFault::OutOfMemory)) => Some((loaded.redo(alloc).ok()?, true)),
+    }
+}
+
+/// Undoes the log, and tells whether it was undone again; None at another refusal.
+fn undo_in_two(redone: Redone) -> Option<(Undone, bool)> {
+    match undo_all(redone) {
+        Ok(undone) => Some((undone, false)),
+        Err((redone, UndoFault::OutOfMemory)) => Some((undo_all(redone).ok()?, true)),
+        Err(_) => None,
+    }
+}
+
+/// Whether there is one page, with this LSN, these numbers in its first two slots, and this one in
+/// each other slot.
+fn is_page(pages: &[Page], lsn: u64, front: [u64; 2], other: u64) -> bool {
+    let mut slots = [other; 62];
+    slots[0] = front[0];
+    slots[1] = front[1];
+    let page = Page {
+        number: PageNo(0),
+        lsn: Lsn(lsn),
+        slots,
+    };
+    pages.len() == 1 && pages[0] == page
+}
+
+/// Restores the last copy, and tells whether a call was made again; None at a wrong page.
+fn restore(alloc: Global, retired: Retired) -> Option<bool> {
+    let (loaded, load_again) = load_in_two(alloc, retired)?;
+    let (redone, redo_again) = redo_in_two(alloc, loaded)?;
+    if !is_page(redone.pages(), 4928, [10, 8], 1) {
+        return None;
+    }
+    let (undone, undo_again) = undo_in_two(redone)?;
+    if undone.records().len() != 140 || !is_page(undone.pages(), 8896, [9, 7], 0) {
+        return None;
+    }
+    Some(load_again || redo_again || undo_again)
+}
+
+/// Makes the calls one by one, restores a copy, and tells whether a call was made again; None at a
+/// wrong reply or page.
 fn call_row(alloc: Global, row: &[(Event, Reply)]) -> Option<bool> {
-    let (mut engine, again) = engine_in_two(alloc)?;
-    Some(call_each(&mut engine, row)? || again)
+    let (mut engine, made_again) = engine_in_two(alloc)?;
+    let called_again = call_each(&mut engine, row)?;
+    let restored_again = restore(alloc, engine.retire())?;
+    Some(made_again || called_again || restored_again)
 }
 
 fn events_of(alloc: Global, row: &[(Event, Reply)]) -> Option<Vec<Event>> {
@@ -218,7 +281,7 @@ fn main(rt: HostRuntime) {
         } else {
             "each call was made once"
         },
-        None => "a reply is wrong",
+        None => "a reply or a page is wrong",
     };
     let _ = rt.eprintln(text);
 }

@@ -1,3 +1,6 @@
 pub mod Fault
+pub mod Files
+pub mod FilesArchives
+pub mod FilesFault
 pub mod Load
 pub mod Rebuild

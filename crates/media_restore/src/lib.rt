@@ -4,10 +4,23 @@
 mod copied;
 mod copy_load;
 mod fault;
+mod files;
+mod files_archives;
+mod files_fault;
+mod files_master;
 mod loaded;
 mod rebuilt;
+mod volume_output;
 
 pub use copy_load::load;
 pub use fault::{LoadFault, RedoFault, Refused};
+pub use files::restore_files;
+pub use files_fault::RestoreFault;
 pub use loaded::Loaded;
 pub use rebuilt::{Rebuilt, rebuild, recover};
+pub use volume_output::write_volume;
+
+#[cfg(test)]
+mod files_tests;
+#[cfg(test)]
+mod tests;

@@ -1,0 +1,205 @@
+-- The pages that are restored of a chain and a log.
+use Rattle.std.proofs.Common.{◌≡◌, ◌∙◌, ℕ, ◌<◌, ◌≤◌, ◌⊎◌, List, [], ◌∷◌, length, map}
+use Rattle.std.proofs.Common.{refl, sym, ap, subst, arith, inl, inr}
+use Rattle.std.specs.Prelude.{Option, Result, Ok, Err, IfOk, IfErr, OnOk}
+use Rattle.std.proofs.KnownBytes.{Keeps-refl}
+use Rattle.std.proofs.lemmas.List.{get_or-map, length-map, same_lists}
+use Rattle.std.proofs.lemmas.List.FromFn.{get_or-map-range_with_len, length-map-range_with_len}
+use Rattle.page_core.specs.declared.page.Page.{Page}
+use Rattle.page_core.specs.Volume.{AreNumbered}
+use Rattle.log_records.specs.declared.limits.TheConstants.{MAX_RECORDS}
+use Rattle.log_records.specs.declared.record.Record.{Record}
+use Rattle.log_records.specs.Coverage.{resume}
+use Rattle.log_records.specs.Image.{image, image_from, redo_all}
+use Rattle.log_records.specs.Log.{IsLog, Log}
+use Rattle.log_records.proofs.Coverage.{resume_covering}
+use Rattle.log_history.specs.Linked.{IsLinked}
+use Rattle.log_store.specs.declared.fault.LogReadFault.{LogReadFault}
+use Rattle.log_store.specs.declared.fault.LogReadFault.TheVariants as log
+use Rattle.log_store.specs.declared.master.Master.{Master}
+use Rattle.copy_vault.specs.declared.archive_fault.ArchiveFault.{ArchiveFault}
+use Rattle.copy_vault.specs.declared.archive_fault.ArchiveFault.TheVariants as archive
+use Rattle.copy_vault.specs.declared.copy_id.CopyKind.TheVariants.{Full}
+use Rattle.copy_vault.specs.Chain.{FitFrom, IsChain, content, contents, last_redo, page_count}
+use Rattle.copy_vault.specs.Copy.{CopyView}
+use Rattle.copy_vault.proofs.Chains.{contents_numbered, some_members}
+use Rattle.loser_undo.specs.declared.fault.UndoFault.{UndoFault}
+use Rattle.loser_undo.specs.declared.fault.UndoFault.TheVariants as undo
+use Rattle.loser_undo.specs.Recovery.{HasCommitted, IsRecovery, IsWhole, Recovery, appended, undone}
+use Rattle.media_restore.specs.declared.files_fault.RestoreFault.{RestoreFault}
+use Rattle.media_restore.specs.declared.files_fault.RestoreFault.TheVariants.{OutOfMemory, LogFull, WriteFault}
+use Rattle.media_restore.specs.declared.files_fault.RestoreFault.TheVariants.{BadHeader, BadRecord, Torn, ReadFault}
+use Rattle.media_restore.specs.declared.files_fault.RestoreFault.TheVariants.{TooLong, BadChain, BadArchive}
+use Rattle.media_restore.specs.declared.files_fault.RestoreFault.TheVariants.{ChainBroken}
+use Rattle.media_restore.specs.declared.files_fault.RestoreFault.TheVariants.{CountDiffers}
+use Rattle.media_restore.specs.Files.{AreCovering, AreSound, Files, HasParts, IsOfLog, IsOfMaster, IsRestored, Leaves}
+use Rattle.media_restore.specs.Files.{Refused, most_records, redone_of}
+use Rattle.media_restore.specs.Files.{of_the_log, of_the_master, of_the_archives, of_undo, of_memory}
+use Rattle.media_restore.specs.FilesArchives.{AreOfChain, ArchivesRefused}
+use Rattle.media_restore.specs.FilesFault as from
+
+-- ---- redo of the pages of a chain
+
+pub covering_whole : (log : Log) (copies : List CopyView) → IsLog log → page_count copies ≡ log.pages
+    → AreCovering log copies → redone_of log copies ≡ redo_all log.records log.pages
+covering_whole log copies valid count covers =
+    let rs = log.records in
+    let n = page_count copies in
+    let f = λ (page : Page). resume page rs (last_redo copies) in
+    let long = length-map-range_with_len (content copies) 0 n in
+    same_lists (map f (contents copies)) (redo_all rs log.pages)
+    (length-map (contents copies) f ∙ long ∙ count ∙ sym (length-map-range_with_len (image rs) 0 log.pages))
+    (λ k d lt.
+    let below : k < n = omega (arith, length-map (contents copies) f, long) in
+    get_or-map f (contents copies) k d d (omega arith)
+    ∙ ap f (get_or-map-range_with_len (content copies) 0 n k k d below (omega arith))
+    ∙ resume_covering log k (content copies k) (last_redo copies) valid (covers k (omega arith))
+    ∙ sym (get_or-map-range_with_len (image rs) 0 log.pages k k d (omega arith) (omega arith)))
+
+pub count_in : (pages : ℕ) (copies : List CopyView) → FitFrom pages Full copies → IsChain copies
+    → page_count copies ≡ pages
+count_in pages [] fit chain = let some = some_members [] chain in absurd (omega arith)
+count_in pages (first ∷ more) fit chain = fit.0.same_count
+
+pub recovery_of : (log : Log) (master : Master) (inputs : List (Option (List ℕ))) (pages : List Page) (redo : ℕ)
+    → IsLog log → IsLinked log.records → AreOfChain inputs log.pages pages redo
+    → IsRecovery (record { log = log; master = master; pages = pages })
+recovery_of log master inputs pages redo valid linked of_chain =
+    let copies = of_chain.copies in
+    record {
+      valid = valid;
+      linked = linked;
+      count = ap length of_chain.made ∙ length-map-range_with_len (content copies) 0 (page_count copies)
+          ∙ count_in log.pages copies of_chain.of_archives.fit of_chain.chain;
+      numbered = subst AreNumbered (sym of_chain.made) (contents_numbered copies of_chain.chain);
+    }
+
+pub restored_of : (files : Files) (log : Log) (master : Master) (pages : List Page) (redo : ℕ) (it : List Page)
+    → IsOfLog files.log log → IsOfMaster files.master log.records master
+    → AreOfChain files.archives log.pages pages redo → most_records log ≤ MAX_RECORDS
+    → it ≡ map (λ page. image_from page (appended log)) (map (λ page. resume page log.records redo) pages)
+    → (map (λ page. resume page log.records redo) pages ≡ redo_all log.records log.pages → AreSound log it)
+    → IsRestored files it
+restored_of files log master pages redo it of_log of_master of_chain room made sound =
+    let copies = of_chain.copies in
+    let same : map (λ page. resume page log.records redo) pages ≡ redone_of log copies =
+    ap (λ (ps : List Page). map (λ page. resume page log.records redo) ps) of_chain.made
+    ∙ ap (λ (n : ℕ). map (λ page. resume page log.records n) (contents copies)) of_chain.last in
+    record {
+      log = log;
+      master = master;
+      copies = copies;
+      parts = record {
+        of_log = of_log;
+        of_master = of_master;
+        of_archives = of_chain.of_archives;
+        chain = of_chain.chain;
+      };
+      room = room;
+      made = made ∙ ap (map (λ page. image_from page (appended log))) same;
+      sound = λ covers. sound (same ∙ covering_whole log copies of_log.valid
+          (count_in log.pages copies of_chain.of_archives.fit of_chain.chain) covers);
+    }
+
+-- ---- undo
+
+pub redone_is : (log : Log) (master : Master) (pages : List Page) (redo count : ℕ) (records : List Record)
+    (old new : Recovery) → count ≡ log.pages → records ≡ log.records
+    → old ≡ record { log = record { pages = count; records = records }; master = master; pages = pages }
+    → new ≡ record old { pages = map (λ page. resume page old.log.records redo) old.pages }
+    → new ≡ record {
+      log = log;
+      master = master;
+      pages = map (λ page. resume page log.records redo) pages;
+    }
+redone_is log master pages redo count records old new same_count same_records is made =
+    let parts : ℕ → List Record → Recovery = λ n rs.
+    record { log = record { pages = n; records = rs }; master = master; pages = pages } in
+    let after : Recovery → Recovery = λ r. record r { pages = map (λ page. resume page r.log.records redo) r.pages } in
+    made ∙ ap after (is ∙ ap (λ (n : ℕ). parts n records) same_count ∙ ap (parts log.pages) same_records)
+
+pub sound_of : (r it new : Recovery) → new ≡ r → it ≡ undone new → (IsWhole new → IsWhole it)
+    → (IsWhole new → HasCommitted new.log.records it.pages)
+    → r.pages ≡ redo_all r.log.records r.log.pages → AreSound r.log it.pages
+sound_of r it new same made whole committed is =
+    let here : IsWhole new = subst IsWhole (sym same) is in
+    record {
+      whole = whole here ∙ ap (λ (x : Recovery). redo_all x.log.records x.log.pages) (made ∙ ap undone same);
+      committed = subst (λ (x : Recovery). HasCommitted x.log.records it.pages) same (committed here);
+    }
+
+pub undo_refused : (why : UndoFault) (log : Log) (fault : RestoreFault)
+    → (why ≡ undo.LogFull → MAX_RECORDS < most_records log) → fault ≡ from.of_undo why
+    → (fault ≡ OutOfMemory) ⊎ ((fault ≡ LogFull) × (MAX_RECORDS < most_records log))
+undo_refused undo.LogFull log fault full is = inr (is, full refl)
+undo_refused undo.OutOfMemory log fault full is = inl is
+
+-- ---- what is answered
+
+pub all_restored : (r : Result Recovery RestoreFault) (files : Files) (log : Log) (master : Master) (pages : List Page)
+    (redo : ℕ) → IsOfLog files.log log → IsOfMaster files.master log.records master
+    → AreOfChain files.archives log.pages pages redo
+    → IfOk r (λ it. it.pages ≡ map (λ page. image_from page (appended log))
+    (map (λ page. resume page log.records redo) pages)) → OnOk r (most_records log ≤ MAX_RECORDS)
+    → IfOk r (λ it. map (λ page. resume page log.records redo) pages ≡ redo_all log.records log.pages
+    → AreSound log it.pages) → IfOk r (λ it. IsRestored files it.pages)
+all_restored (Ok it) files log master pages redo of_log of_master of_chain made room sound =
+    restored_of files log master pages redo it.pages of_log of_master of_chain room made sound
+all_restored (Err e) files log master pages redo of_log of_master of_chain made room sound = tt
+
+pub undo_or_memory : (r : Result Recovery RestoreFault) (files : Files) (log : Log) (master : Master)
+    (copies : List CopyView) → HasParts files log master copies
+    → IfErr r (λ fault. (fault ≡ OutOfMemory) ⊎ ((fault ≡ LogFull) × (MAX_RECORDS < most_records log)))
+    → IfErr r (Refused files)
+undo_or_memory (Ok it) files log master copies parts why = tt
+undo_or_memory (Err e) files log master copies parts why = elim why [
+  | inl is ↦ of_memory is
+  | inr full ↦ of_undo log master copies parts full.0 full.1
+]
+
+-- the fault of the files is no fault of writing
+
+no_log : (why : LogReadFault) (done : ℕ) → ¬ (WriteFault done ≡ from.of_log why)
+no_log log.OutOfMemory done e = cc
+no_log log.BadHeader done e = cc
+no_log (log.BadRecord at) done e = cc
+no_log (log.BadChain at) done e = cc
+no_log (log.Torn at) done e = cc
+no_log log.ReadFault done e = cc
+no_log log.TooLong done e = cc
+
+no_archive : (why : ArchiveFault) (done : ℕ) → ¬ (WriteFault done ≡ from.of_archive why)
+no_archive archive.OutOfMemory done e = cc
+no_archive (archive.BadArchive at) done e = cc
+no_archive archive.CountDiffers done e = cc
+no_archive archive.ReadFault done e = cc
+
+no_archives : (inputs : List (Option (List ℕ))) (pages done : ℕ) → ¬ ArchivesRefused inputs pages (WriteFault done)
+no_archives inputs pages done (inl none) = let e = none.1 in cc
+no_archives inputs pages done (inr (inl first)) = elim first.refused [
+  | inl read ↦ no_archive read.0 done read.1
+  | inr misfit ↦ let e = misfit.1 in cc
+]
+no_archives inputs pages done (inr (inr e)) = cc
+
+no_write : (files : Files) (done : ℕ) → ¬ Refused files (WriteFault done)
+no_write files done (of_the_log refused) = no_log refused.why done refused.same
+no_write files done (of_the_master log is refused) = refused
+no_write files done (of_the_archives log master is named refused) = no_archives files.archives log.pages done refused
+no_write files done (of_undo log master copies parts e full) = cc
+no_write files done (of_memory e) = cc
+
+pub leaves : (files : Files) (old : Option (List ℕ)) (fault : RestoreFault) → Refused files fault
+    → Leaves files old old fault
+leaves files old OutOfMemory refused = (Keeps-refl old, refused)
+leaves files old LogFull refused = (Keeps-refl old, refused)
+leaves files old (WriteFault done) refused = absurd (no_write files done refused)
+leaves files old BadHeader refused = (Keeps-refl old, refused)
+leaves files old (BadRecord at) refused = (Keeps-refl old, refused)
+leaves files old (Torn at) refused = (Keeps-refl old, refused)
+leaves files old ReadFault refused = (Keeps-refl old, refused)
+leaves files old TooLong refused = (Keeps-refl old, refused)
+leaves files old (BadChain at) refused = (Keeps-refl old, refused)
+leaves files old (BadArchive at) refused = (Keeps-refl old, refused)
+leaves files old (ChainBroken copy) refused = (Keeps-refl old, refused)
+leaves files old CountDiffers refused = (Keeps-refl old, refused)

@@ -1,0 +1,43 @@
+use Rattle.std.proofs.Common.{map, sym, subst}
+use Rattle.std.proofs.lemmas.Result.{err_from_is_err_and}
+use Rattle.media_restore.specs.Files.{Files, IsRestored}
+use Rattle.media_restore.proofs.Restored.{leaves}
+use Rattle.media_restore.proofs.files.restore_files.Goals as goal
+
+pub returns-in_err-undone-clause-err : goal.returns-in_err-undone-clause-err
+returns-in_err-undone-clause-err g c =
+    let files : Files = record {
+      log = g.L.Read.remaining c.args.log.now;
+      master = g.M.Read.remaining c.args.master.now;
+      archives = map g.A.Read.remaining c.args.archives.now;
+    } in
+    let p = err_from_is_err_and c.from_residual.result c.from_residual.ensures.1 in
+    rw (p.1, p.2)
+    (leaves files (g.W.Write.contents c.args.writer.now) c.in_err-undone.field-0.0 c.in_err-undone.ensures.err)
+
+pub returns-in-Ok-clause-ok : goal.returns-in-Ok-clause-ok
+returns-in-Ok-clause-ok g c =
+    let files : Files = record {
+      log = g.L.Read.remaining c.args.log.now;
+      master = g.M.Read.remaining c.args.master.now;
+      archives = map g.A.Read.remaining c.args.archives.now;
+    } in
+    record {
+      pages = c.pages.result.now;
+      from = subst (IsRestored files) (sym c.pages.ensures) c.in_ok-undone.ensures.ok;
+      written = c.in-Ok.ensures.ok;
+    }
+
+pub returns-clause-err : goal.returns-clause-err
+returns-clause-err g c =
+    let files : Files = record {
+      log = g.L.Read.remaining c.args.log.now;
+      master = g.M.Read.remaining c.args.master.now;
+      archives = map g.A.Read.remaining c.args.archives.now;
+    } in
+    record {
+      pages = c.pages.result.now;
+      from = subst (IsRestored files) (sym c.pages.ensures) c.in_ok-undone.ensures.ok;
+      within = c.in-Err.ensures.within;
+      written = c.in-Err.ensures.err;
+    }

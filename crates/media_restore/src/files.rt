@@ -1,0 +1,124 @@
+//! The restore of a volume from files: of a log, a master record and the archives of a chain.
+
+ghost use Rattle.std.specs.Prelude.{◌≡◌, ◌<◌, ◌≤◌, ◌⊎◌, map, IfOk, IfErr, OnOk};
+ghost use Rattle.log_records.specs.Coverage.{resume};
+ghost use Rattle.log_records.specs.Image.{image_from, redo_all};
+ghost use Rattle.log_records.specs.declared.limits.TheConstants.{MAX_RECORDS};
+ghost use Rattle.loser_undo.specs.Recovery.{IsRecovery, appended};
+ghost use Rattle.media_restore.specs.Files.{AreSound, IsRestored, Leaves, Refused, WritesVolume};
+ghost use Rattle.media_restore.specs.Files.{most_records};
+ghost use Rattle.media_restore.specs.declared.files_fault.RestoreFault.TheVariants.{LogFull};
+ghost use Rattle.media_restore.specs.declared.files_fault.RestoreFault.TheVariants.{OutOfMemory};
+
+use crate::files_archives::read_chain;
+use crate::files_fault::RestoreFault;
+use crate::files_master::read_master;
+use crate::volume_output::write_volume;
+use log_store::{LogImage, Master, read_log};
+use loser_undo::{Redone, Undone, undo_all};
+use page_core::{Lsn, PAGE_BYTES, Page, zeros};
+use std::alloc::Global;
+use std::io::{Read, Write};
+
+/// How many pages are written at once.
+const BUFFER_PAGES: usize = 512;
+
+/// Restores a volume from files (ARIES, section 8), and writes its bytes. It reads a log, its master
+/// record and the archives of a chain of copies, the full one first, redoes the log over the pages
+/// of the chain from the redo point of the last copy on, and undoes the transactions that are open
+/// at the log's end.
+///
+/// It does so whoever wrote the files, and whatever their copies lack. Where these lack no change
+/// below that redo point, the volume is that of the log after undo, and has what was committed.
+///
+/// The faults of the log come first, those of `read_log`; then those of the master record:
+/// `BadHeader` where its bytes spell none, `BadChain` where it names no complete checkpoint of the
+/// log; then those of each archive, `ChainBroken` behind those of `read_archive`; then `LogFull`,
+/// and `OutOfMemory` where memory is refused. Until then nothing is written. `WriteFault` comes
+/// where the writer fails, takes nothing, or is interrupted 17 times in a row. The writer is not
+/// flushed. `ReadFault` comes where a reader fails or does not come to an end, and what it gave
+/// holds no fault, as `read_log` and `read_archive` say.
+pub fn restore_files<L: Read, M: Read, A: Read, W: Write>(
+    alloc: Global,
+    log: &mut L,
+    master: &mut M,
+    archives: &mut [A],
+    writer: &mut W,
+) -> Result<(), RestoreFault>
+    ensures ok { OnOk result (WritesVolume
+        (record {
+          log = L.remaining log.old;
+          master = M.remaining master.old;
+          archives = map (λ a. A.remaining a) archives.old;
+        })
+        (W.contents writer.old) (W.contents writer.new)) }
+    ensures err { IfErr result (Leaves
+        (record {
+          log = L.remaining log.old;
+          master = M.remaining master.old;
+          archives = map (λ a. A.remaining a) archives.old;
+        })
+        (W.contents writer.old) (W.contents writer.new)) }
+{
+    let undone = restored(alloc, log, master, archives)?;
+    let mut buffer = zeros(alloc, BUFFER_PAGES * PAGE_BYTES)?;
+    match write_volume(writer, undone.pages(), &mut buffer) {
+        Ok(()) => Ok(()),
+        Err(done) => Err(RestoreFault::WriteFault(done)),
+    }
+}
+
+/// Reads the files, and makes the pages of the volume.
+fn restored<L: Read, M: Read, A: Read>(
+    alloc: Global,
+    log: &mut L,
+    master: &mut M,
+    archives: &mut [A],
+) -> Result<Undone, RestoreFault>
+    ensures ok { IfOk result (λ it. IsRestored
+        (record {
+          log = L.remaining log.old;
+          master = M.remaining master.old;
+          archives = map (λ a. A.remaining a) archives.old;
+        }) it.pages) }
+    ensures err { IfErr result (Refused
+        (record {
+          log = L.remaining log.old;
+          master = M.remaining master.old;
+          archives = map (λ a. A.remaining a) archives.old;
+        })) }
+{
+    let image = read_log(alloc, log)?;
+    let named = read_master(master, image.records())?;
+    let (pages, redo) = read_chain(alloc, archives, image.pages())?;
+    recovered(alloc, image, named, pages, redo)
+}
+
+/// Redoes a log from a redo point on, and undoes the transactions that are open at its end.
+fn recovered(
+    alloc: Global,
+    log: LogImage,
+    master: Master,
+    pages: Vec<Page>,
+    redo: Lsn,
+) -> Result<Undone, RestoreFault>
+    requires { IsRecovery (record { log = log; master = master; pages = pages.items }) }
+    ensures made { IfOk result (λ it. it.pages ≡ map (λ page. image_from page (appended log))
+        (map (λ page. resume page log.records redo) pages.items)) }
+    ensures room { OnOk result (most_records log ≤ MAX_RECORDS) }
+    ensures sound { IfOk result (λ it.
+        map (λ page. resume page log.records redo) pages.items ≡ redo_all log.records log.pages
+        → AreSound log it.pages) }
+    ensures err { IfErr result (λ fault. (fault ≡ OutOfMemory)
+        ⊎ ((fault ≡ LogFull) × (MAX_RECORDS < most_records log))) }
+{
+    let (page_count, records) = log.into_parts();
+    let Ok(mut redone) = Redone::new(alloc, page_count, records, master, pages) else {
+        return Err(RestoreFault::OutOfMemory);
+    };
+    redone.redo_from(redo);
+    match undo_all(redone) {
+        Ok(undone) => Ok(undone),
+        Err((_, fault)) => Err(RestoreFault::from(fault)),
+    }
+}

@@ -1,0 +1,74 @@
+//! The archives of a chain, read in their order.
+
+ghost use Rattle.std.specs.Prelude.{◌≡◌, map, IfOk, IfErr, IfSome};
+ghost use Rattle.copy_vault.specs.Archive.{SpellsCopy};
+ghost use Rattle.copy_vault.specs.Chain.{Fits};
+ghost use Rattle.media_restore.specs.FilesArchives.{AreOfArchives, AreOfChain};
+ghost use Rattle.media_restore.specs.FilesArchives.{ArchiveRefused, ArchivesRefused};
+
+use crate::copied::copied_pages;
+use crate::files_fault::RestoreFault;
+use copy_vault::{Chain, CompleteCopy, CopyId, CopyKind, read_archive};
+use page_core::{Lsn, Page};
+use std::alloc::Global;
+use std::io::Read;
+
+/// Reads the archives of a chain in their order, and answers the pages that the chain has, in order
+/// of their numbers, and the redo point of its last copy. The copies themselves are let go.
+pub(crate) fn read_chain<A: Read>(
+    alloc: Global,
+    archives: &mut [A],
+    pages: u32,
+) -> Result<(Vec<Page>, Lsn), RestoreFault>
+    ensures ok { IfOk result (λ it.
+        AreOfChain (map (λ a. A.remaining a) archives.old) pages it.0.items it.1) }
+    ensures err { IfErr result
+        (ArchivesRefused (map (λ a. A.remaining a) archives.old) pages) }
+{
+    let copies = read_copies(alloc, archives, pages)?;
+    // They fit, so that memory is all that may be refused.
+    let chain = Chain::link(alloc, &copies, pages).map_err(|_| RestoreFault::OutOfMemory)?;
+    Ok((copied_pages(alloc, &chain)?, chain.redo()))
+}
+
+/// Reads archives in their order, each of a copy that fits behind those before it.
+fn read_copies<A: Read>(
+    alloc: Global,
+    archives: &mut [A],
+    pages: u32,
+) -> Result<Vec<CompleteCopy>, RestoreFault>
+    ensures ok { IfOk result (λ copies.
+        AreOfArchives (map (λ a. A.remaining a) archives.old) pages copies.items) }
+    ensures err { IfErr result
+        (ArchivesRefused (map (λ a. A.remaining a) archives.old) pages) }
+{
+    if archives.is_empty() {
+        return Err(RestoreFault::ChainBroken(CopyId(0)));
+    }
+    let mut copies = Vec::new(alloc);
+    let mut kind = CopyKind::Full;
+    for archive in archives.iter_mut() {
+        let copy = read_fitting(alloc, archive, pages, kind)?;
+        kind = CopyKind::Inc(copy.id());
+        copies.push(copy)?;
+    }
+    Ok(copies)
+}
+
+/// Reads the archive of a copy that has to be of this kind and of so many pages.
+fn read_fitting<A: Read>(
+    alloc: Global,
+    archive: &mut A,
+    pages: u32,
+    kind: CopyKind,
+) -> Result<CompleteCopy, RestoreFault>
+    ensures spelled { IfOk result (λ copy. IfSome (A.remaining archive.old) (SpellsCopy copy)) }
+    ensures fits { IfOk result (Fits pages kind) }
+    ensures err { IfErr result (ArchiveRefused (A.remaining archive.old) pages kind) }
+{
+    let copy = read_archive(alloc, archive)?;
+    if copy.kind() != kind || copy.pages() != pages {
+        return Err(RestoreFault::ChainBroken(copy.id()));
+    }
+    Ok(copy)
+}

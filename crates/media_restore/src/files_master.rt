@@ -1,0 +1,103 @@
+//! The master record of a log that is read.
+
+ghost use Rattle.std.specs.Prelude.{ℕ, ◌≡◌, ◌↔◌, ◌≤◌, IfOk, IfErr, IfSome, IsTrue, None, Some};
+ghost use Rattle.log_records.specs.declared.record.Record.TheVariants.{EndChkpt};
+ghost use Rattle.log_history.specs.Checkpoint.{IsCompleteCheckpoint};
+ghost use Rattle.log_history.specs.Linked.{IsLinked};
+ghost use Rattle.log_store.specs.Master.{SpellsMaster};
+ghost use Rattle.media_restore.specs.Files.{IsOfMaster, MasterRefused, NotSpelled};
+ghost use Rattle.media_restore.specs.declared.files_fault.RestoreFault.TheVariants.{BadHeader};
+
+use crate::files_fault::RestoreFault;
+use log_records::Record;
+use log_store::{MASTER_BYTES, Master, decode_master};
+use page_core::{MAX_TURNS, Turn, read_more};
+use std::io::Read;
+
+/// Reads a master record to the input's end, and sees that it names a complete checkpoint of a log
+/// with these records.
+pub(crate) fn read_master<M: Read>(
+    reader: &mut M,
+    records: &[Record],
+) -> Result<Master, RestoreFault>
+    requires { IsLinked records.now }
+    ensures ok { IfOk result (IsOfMaster (M.remaining reader.old) records.now) }
+    ensures err { IfErr result (MasterRefused (M.remaining reader.old) records.now) }
+{
+    let master = spelled_master(reader)?;
+    if !is_complete(records, &master) {
+        return Err(RestoreFault::BadChain(master.begin));
+    }
+    Ok(master)
+}
+
+/// Reads the bytes of a master record, and nothing behind them.
+fn spelled_master<M: Read>(reader: &mut M) -> Result<Master, RestoreFault>
+    ensures ok { IfOk result (λ master. IfSome (M.remaining reader.old) (SpellsMaster master)) }
+    ensures err { IfErr result (NotSpelled (M.remaining reader.old)) }
+{
+    let mut bytes = [0; MASTER_BYTES + 1];
+    let mut filled = 0;
+    let mut found = None;
+    for _ in 0..MAX_TURNS {
+        match read_more(reader, &mut bytes, filled) {
+            Turn::More(count) => filled += count,
+            Turn::End => return whole_master(found),
+            Turn::Failed => return Err(RestoreFault::ReadFault),
+        }
+        let next = decode_master(&bytes[..filled]);
+        if is_misspelt(filled, &next) {
+            return Err(RestoreFault::BadHeader);
+        }
+        found = next;
+    }
+    Err(RestoreFault::ReadFault)
+}
+
+/// What is answered where the input ends, and its bytes spell this master record, or none.
+fn whole_master(found: Option<Master>) -> Result<Master, RestoreFault>
+    ensures ok { IfOk result (λ master. found ≡ Some master) }
+    ensures err { IfErr result (λ fault. (fault ≡ BadHeader) × (found ≡ None)) }
+{
+    match found {
+        Some(master) => Ok(master),
+        None => Err(RestoreFault::BadHeader),
+    }
+}
+
+/// However the input goes on, it spells no master record: as many bytes or more were given, and
+/// they spell this one, or none.
+fn is_misspelt(filled: usize, found: &Option<Master>) -> bool
+    ensures { IsTrue result ↔ ((MASTER_BYTES ≤ filled) × (found.now ≡ None)) }
+{
+    filled >= MASTER_BYTES && found.is_none()
+}
+
+/// The checkpoint that a master record names is a complete one of a log with these records.
+fn is_complete(records: &[Record], master: &Master) -> bool
+    requires { IsLinked records.now }
+    ensures { IsTrue result
+        ↔ IsCompleteCheckpoint records.now master.now.begin master.now.end }
+{
+    for entry in records {
+        if is_its_end(entry, master) {
+            return true;
+        }
+    }
+    false
+}
+
+/// The record ends the checkpoint that a master record names.
+fn is_its_end(entry: &Record, master: &Master) -> bool
+    ensures { IsTrue result
+        ↔ ((redo : ℕ) × (entry.now ≡ EndChkpt master.now.end master.now.begin redo)) }
+{
+    match entry {
+        Record::EndChkpt {
+            lsn,
+            begin,
+            redo: _,
+        } => *lsn == master.end && *begin == master.begin,
+        _ => false,
+    }
+}
