@@ -1,7 +1,7 @@
 //! The pages that a chain of copies has.
 
 ghost use Rattle.std.specs.Prelude.{◌≡◌, IfOk};
-ghost use Rattle.copy_vault.specs.Chain.{contents};
+ghost use Rattle.copy_vault.specs.Chain.{contents, lent};
 
 use copy_vault::Chain;
 use page_core::Page;
@@ -11,6 +11,17 @@ use std::alloc::{AllocError, Global};
 pub(crate) fn copied_pages(alloc: Global, chain: &Chain<'_>) -> Result<Vec<Page>, AllocError>
     ensures { IfOk result (λ pages. pages.items ≡ contents chain.now) }
 {
-    let pages = chain.contents(alloc)?;
-    pages.iter().map(|page| page.copy()).collect(alloc)
+    let given = chain.contents(alloc)?;
+    copies_of(alloc, &given)
+}
+
+/// Copies of pages, in their order.
+fn copies_of(alloc: Global, given: &[&Page]) -> Result<Vec<Page>, AllocError>
+    ensures { IfOk result (λ pages. pages.items ≡ lent given.now) }
+{
+    let mut pages = Vec::with_capacity(alloc, given.len())?;
+    for page in given {
+        pages.push(page.copy())?;
+    }
+    Ok(pages)
 }

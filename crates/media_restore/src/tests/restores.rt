@@ -223,7 +223,11 @@ fn assert_refused(
     let found = fault_of(alloc, retired, copy, cut);
     assert_eq!(rt; found, Some(fault), "{row:?}, copy {copy}, cut {cut}");
     let refused = rebuilt_of(rt, alloc, given)?.err();
-    assert_eq!(rt; refused, Some(Refused::Load(fault)), "{row:?}, copy {copy}, cut {cut}");
+    assert_eq!(rt;
+        refused,
+        Some(Refused::Load(fault)),
+        "{row:?}, copy {copy}, cut {cut}"
+    );
     Ok(())
 }
 
