@@ -1,2 +1,3 @@
 mod Groups
+mod Runs
 mod Slots
