@@ -18,7 +18,8 @@ use Rattle.script_run.specs.Left.{IsLeftBy}
 use Rattle.script_run.specs.ReplyLines.{reply_lines}
 
 -- the input is a script of these events with this restore behind them
-pub record IsScript (events : List Event) (last : Option LastRestore) (input : List ℕ) : Type 0 where
+pub record IsScript (events : List Event) (last : Option LastRestore)
+    (input : List ℕ) : Type 0 where
   pub text : IsText input
   pub said : said_in (lines_of input) ≡ Some (events, last)
 

@@ -15,7 +15,8 @@ returns-in-Err-write_records-clause-err g c =
     let header = header_bytes log.pages in
     let records = flat_map record_bytes log.records in
     let done = c.in-Err-write_records.done in
-    let read : flat_map record_bytes c.records.result.now ≡ records = ap (flat_map record_bytes) c.records.ensures.records in
+    let read : flat_map record_bytes c.records.result.now ≡ records =
+    ap (flat_map record_bytes) c.records.ensures.records in
     let less : done < length records =
     subst (λ (bs : List ℕ). done < length bs) read c.in-Err-write_records.ensures.within in
     let old = g.W.Write.contents c.args.writer.now in
