@@ -354,7 +354,7 @@ pub record MediaView : Type 0 where
   pub session : Option (CkptView Phase)
   pub copies : List CopyState
 
--- what an engine is, by the log that it writes, the pool of its pages, its checkpoints and its copies
+-- what an engine is, by the log that it writes, the pool of its pages, its checkpoints and copies
 abbrev pub engine_view : {S D : Type 0} → (S → List Page) → WrittenLog D → PoolView S
     → MediaView → EngineView S D
 engine_view stored it pool ckpts = record {

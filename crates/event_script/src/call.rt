@@ -3,7 +3,8 @@
 ghost use Rattle.std.specs.Prelude.{◌≡◌};
 ghost use Rattle.event_script.specs.Script.{args_of, call_of, call_of_none, call_of_one};
 ghost use Rattle.event_script.specs.Script.{call_of_two, called, change_of, checkpoint_calls};
-ghost use Rattle.event_script.specs.Script.{copy_calls, entry_of, page_calls, plain_calls, txn_calls};
+ghost use Rattle.event_script.specs.Script.{copy_calls, entry_of, page_calls, plain_calls};
+ghost use Rattle.event_script.specs.Script.{txn_calls};
 ghost use Rattle.event_script.specs.Words.{words_of};
 
 use crate::number::number_of;

@@ -23,10 +23,10 @@ use std::io::{Read, Write};
 /// How many pages are written at once.
 const BUFFER_PAGES: usize = 512;
 
-/// Restores a volume from files (ARIES, section 8), and writes its bytes. It reads a log, its master
-/// record and the archives of a chain of copies, the full one first, redoes the log over the pages
-/// of the chain from the redo point of the last copy on, and undoes the transactions that are open
-/// at the log's end.
+/// Restores a volume from files (ARIES, section 8), and writes its bytes. It reads a log, its
+/// master record and the archives of a chain of copies, the full one first, redoes the log over the
+/// pages of the chain from the redo point of the last copy on, and undoes the transactions that are
+/// open at the log's end.
 ///
 /// It does so whoever wrote the files, and whatever their copies lack. Where these lack no change
 /// below that redo point, the volume is that of the log after undo, and has what was committed.
