@@ -26,7 +26,8 @@ pub record Comes (s : EngineState) (r : Record) : Type 0 where
   pub few : length s.log < MAX_RECORDS
   pub valid : IsLog (with_next (log_of s) (r ∷ []))
 
-pub comes : {S : Type 0} (stored : S → List Page) (s : EngineState) (table : Table) (pool : PoolView S) (ckpts : MediaView)
+pub comes : {S : Type 0} (stored : S → List Page) (s : EngineState) (table : Table)
+    (pool : PoolView S) (ckpts : MediaView)
     (r : Record) → IsKept stored s table pool ckpts → Calls s r → Comes s r
 comes stored s table pool ckpts r kept calls = record {
   may_follow = follows s calls.call r kept.fit calls.accepted calls.made;
@@ -45,12 +46,14 @@ kept_next stored s old new pool after ckpts r kept calls noted changed =
       fit = fit;
       table_of_log = record { linked = fit.linked; few = fit.valid.count; made = noted };
       pool_of_log = changed;
-      session_of_log = kept.session_of_log ∙ ap (option_map (session_of s.left)) (sym (open_same s.log r calls.of_transaction));
+      session_of_log = kept.session_of_log
+          ∙ ap (option_map (session_of s.left)) (sym (open_same s.log r calls.of_transaction));
     }
 
 -- the state by the log that is written and the pool
 pub appended_is : {S D : Type 0} (stored : S → List Page) (old mid new : WrittenLog D) (pool after : PoolView S)
-    (ckpts : MediaView) (r : Record) → mid.log ≡ old.log → mid.forced_end ≡ old.forced_end → new.log ≡ with_next mid.log (r ∷ [])
+    (ckpts : MediaView) (r : Record) → mid.log ≡ old.log → mid.forced_end ≡ old.forced_end
+        → new.log ≡ with_next mid.log (r ∷ [])
     → new.forced_end ≡ mid.forced_end → after.store ≡ pool.store → written_of after.states ≡ written_of pool.states
     → writing_of after.states ≡ writing_of pool.states
     → (engine_view stored new after ckpts).state ≡ appended (engine_view stored old pool ckpts).state r

@@ -1,5 +1,6 @@
 -- The calls that take a checkpoint: what they make of an engine that is in step with its log.
-use Rattle.std.proofs.Common.{◌≡◌, ℕ, ◌+◌, ◌<◌, ◌≤◌, ◌++◌, Bool, true, false, List, [], ◌∷◌, length, refl, sym, ap, subst, ◌∙◌, arith, inr}
+use Rattle.std.proofs.Common.{◌≡◌, ℕ, ◌+◌, ◌<◌, ◌≤◌, ◌++◌, Bool, true, false, List, [], ◌∷◌, length, refl, sym, ap}
+use Rattle.std.proofs.Common.{subst, ◌∙◌, arith, inr}
 use Rattle.std.specs.Prelude.{Option, Some, None, IsSomeAnd, Result, Ok, Err, if◌then◌else◌}
 use Rattle.std.specs.Option.{option_map, option_map_or}
 use Rattle.std.proofs.lemmas.Option.{same_Some}
@@ -26,7 +27,9 @@ use Rattle.aries_core.specs.declared.event.Event.{Event}
 use Rattle.aries_core.specs.declared.event.Event.TheVariants as event
 use Rattle.aries_core.specs.declared.refusal.Refusal.{Refusal}
 use Rattle.aries_core.specs.declared.refusal.Refusal.TheVariants.{LogFault, OutOfMemory}
-use Rattle.aries_core.specs.EngineState.{MediaView, EngineState, IsFit, IsKept, closed, effect, end, end_ckpt_record, engine_view, forced_to, gather_effect, gathered_record, log_of, next_step, point_of}
+use Rattle.aries_core.specs.EngineState.{MediaView, EngineState, IsFit, IsKept, closed, effect, end, end_ckpt_record}
+use Rattle.aries_core.specs.EngineState.{engine_view, forced_to, gather_effect, gathered_record, log_of, next_step}
+use Rattle.aries_core.specs.EngineState.{point_of}
 use Rattle.aries_core.specs.EventFits.{EventFits}
 use Rattle.aries_core.specs.Gather.{Left, is_done, left_of, none_left, pages_left, session_of, txns_left}
 use Rattle.aries_core.specs.Refusal.{refusal}
@@ -39,7 +42,8 @@ use Rattle.aries_core.proofs.Gathers.{at_left, ckpt_end_is, gather_case, pages_r
 use Rattle.aries_core.proofs.Refusals.{ckpt_begin_passes, ckpt_end_passes, gather_passes}
 
 -- what a call says of the state after it: it is a step, and the engine is in step with its log
-pub record CkptCalled {S D : Type 0} (stored : S → List Page) (it new : WrittenLog D) (table : Table) (pool : PoolView S)
+pub record CkptCalled {S D : Type 0} (stored : S → List Page) (it new : WrittenLog D)
+    (table : Table) (pool : PoolView S)
     (ckpts after : MediaView) (call : Event) (reply : Result Answer Refusal) : Type 0 where
   pub step : Step (engine_view stored it pool ckpts).state call reply (engine_view stored new pool after).state
   pub kept : IsKept stored (engine_view stored new pool after).state table pool after
@@ -84,7 +88,8 @@ ckpt_begun stored it new table pool ckpts after lsn kept none logged forced is a
     let r = BeginChkpt (end_of it.log.records) in
     let passes = ckpt_begin_passes s none in
     let room = passes.room in
-    let state : (engine_view stored new pool after).state ≡ (effect s event.CkptBegin).state = rw (is, logged, forced) refl in
+    let state : (engine_view stored new pool after).state
+        ≡ (effect s event.CkptBegin).state = rw (is, logged, forced) refl in
     with_record stored it new table pool ckpts after event.CkptBegin (Ok (answer.Logged lsn)) r kept tt
     (none, ap answer.Logged at, state) logged tt passes.idle (omega arith)
     (rw (is, logged) (ap (option_map (session_of pages_left)) (sym (open_push it.log.records r))))
@@ -96,7 +101,8 @@ abbrev LeavesSession : EngineState → Gathering → Type 0
 LeavesSession s g = HasSession (with_step (log_of s) g.next).records (Some g.ckpt)
 
 opened : (s : EngineState) (c : Checkpoint) (left : Left) (r : Record) → open_checkpoint s.log ≡ Some c
-    → option_map (session_of left) (open_checkpoint (s.log ++ r ∷ [])) ≡ option_map (session_of left) (checkpoint_after (Some c) r)
+    → option_map (session_of left) (open_checkpoint (s.log ++ r ∷ []))
+        ≡ option_map (session_of left) (checkpoint_after (Some c) r)
 opened s c left r is =
     ap (option_map (session_of left)) (open_push s.log r ∙ ap (λ (o : Option Checkpoint). checkpoint_after o r) is)
 
@@ -114,7 +120,8 @@ session_after s c fit is =
           ∙ sym (ap (option_map (session_of txns_left)) is))
       | TakesTxn t finds ↦
           subst (LeavesSession s) (sym (at_left s c txns_left finds.left ∙ ap (with_txn s c) finds.found))
-          (ap (λ n. Some (view (in_txns n))) (sym (cursor_after_txn c t)) ∙ sym (opened s c txns_left (txn_entry s c t) is))
+          (ap (λ n. Some (view (in_txns n))) (sym (cursor_after_txn c t))
+              ∙ sym (opened s c txns_left (txn_entry s c t) is))
       | PassesTxns finds ↦
           subst (LeavesSession s) (sym (at_left s c txns_left finds.left ∙ ap (with_txn s c) finds.found))
           (sym (ap (option_map (session_of none_left)) is))
@@ -199,13 +206,15 @@ ckpt_gathered stored it new table pool ckpts after v w reply kept none has logge
     let ckpt : w ≡ g.ckpt = left ∙ ap (λ (x : Gathering). x.ckpt) same in
     let now : after ≡ record ckpts { session = Some g.ckpt } = is ∙ ap (λ x. record ckpts { session = Some x }) ckpt in
     let outcome : effect s event.CkptGather ≡ gather_effect s g =
-    ap (λ o. option_map_or (λ x. gather_effect s (next_step s x)) o (record { answer = answer.Done; state = s })) passes.still_open in
+    ap (λ o. option_map_or (λ x. gather_effect s (next_step s x)) o
+        (record { answer = answer.Done; state = s })) passes.still_open in
     let state : (engine_view stored new pool after).state ≡ (effect s event.CkptGather).state =
     gathered_state stored it new pool ckpts after g.next g.ckpt next forced now ∙ ap (λ o. o.state) (sym outcome) in
     let answered : reply ≡ (effect s event.CkptGather).answer =
     said ∙ ap (λ (x : CkptView Phase). if is_done (left_of x.phase) then answer.Done else answer.More) ckpt
     ∙ ap (λ o. o.answer) (sym outcome) in
-    let made : gathered_record s ≡ g.next = ap (λ o. option_map_or (λ x. (next_step s x).next) o None) passes.still_open in
+    let made : gathered_record s
+        ≡ g.next = ap (λ o. option_map_or (λ x. (next_step s x).next) o None) passes.still_open in
     gathered_kept stored it new table pool ckpts after (Ok reply) g.next kept none (none, answered, state) made next
     (rw (now, next) (session_after s c kept.fit passes.still_open))
 
@@ -236,7 +245,8 @@ ckpt_ended stored it new table pool ckpts after v point kept none has logged for
     let answered : answer.Point point.begin point.end point.redo ≡ (effect s event.CkptEnd).answer =
     rw (outcome, named) refl in
     let room = passes.room in
-    with_record stored it new table pool ckpts after event.CkptEnd (Ok (answer.Point point.begin point.end point.redo)) r
+    with_record stored it new table pool ckpts after event.CkptEnd
+        (Ok (answer.Point point.begin point.end point.redo)) r
     kept tt (none, answered, state) next tt (end_ckpt_follows s c kept.fit passes.still_open passes.done) (omega arith)
     (rw (is, next) (ap (option_map (session_of pages_left)) (sym (open_push it.log.records r))))
 
@@ -259,7 +269,8 @@ ckpt_unforced stored it new table pool ckpts after v kept none has failed is =
     let at : new.forced_end ≡ lsn_of k = failed.at_record.2 in
     let short = failed.short in
     let longer = ap (λ (l : Log). length l.records) next in
-    let state : (engine_view stored new pool after).state ≡ forced_to (closed s c) (lsn_of k) = rw (is, next, at) refl in
+    let state : (engine_view stored new pool after).state
+        ≡ forced_to (closed s c) (lsn_of k) = rw (is, next, at) refl in
     let part : ForcedPart (end (closed s c)) (closed s c) (engine_view stored new pool after).state = record {
       reached = (k, omega (arith, at, short, longer), state);
       no_less = failed.rising;

@@ -15,12 +15,14 @@ use Rattle.aries_core.specs.declared.event.Event.{Event}
 use Rattle.aries_core.specs.declared.event.Event.TheVariants as event
 use Rattle.aries_core.specs.declared.refusal.Refusal.{Refusal}
 use Rattle.aries_core.specs.declared.refusal.Refusal.TheVariants.{LogFault, OutOfMemory}
-use Rattle.aries_core.specs.EngineState.{EngineState, IsFit, IsGathering, IsMasterOf, begin_ckpt_record, closed, effect, end, end_ckpt_record, forced_to, log_of, point_of}
+use Rattle.aries_core.specs.EngineState.{EngineState, IsFit, IsGathering, IsMasterOf, begin_ckpt_record, closed, effect}
+use Rattle.aries_core.specs.EngineState.{end, end_ckpt_record, forced_to, log_of, point_of}
 use Rattle.aries_core.specs.EventFits.{EventFits}
 use Rattle.aries_core.specs.Gather.{none_left, pages_left, session_of}
 use Rattle.aries_core.specs.Refusal.{refusal}
 use Rattle.aries_core.specs.Step.{Fails, Step}
-use Rattle.aries_core.proofs.Beside.{CkptsFit, IsBeside, ckpts_later, ckpts_stored, keeps_ckpts, master_forced, master_later, of_transaction}
+use Rattle.aries_core.proofs.Beside.{CkptsFit, IsBeside, ckpts_later, ckpts_stored, keeps_ckpts, master_forced}
+use Rattle.aries_core.proofs.Beside.{master_later, of_transaction}
 use Rattle.aries_core.proofs.Follows.{follows}
 use Rattle.aries_core.proofs.Forces.{Forces}
 use Rattle.aries_core.proofs.Gathers.{AreGathered, PassesPages, PassesTxns, TakesPages, TakesTxn, WasDone, ckpt_end_is}

@@ -1,5 +1,6 @@
 -- Laws of checkpoints, of steps and of whole runs.
-use Rattle.std.proofs.Common.{◌≡◌, ℕ, ◌<◌, ◌≤◌, ◌↔◌, ◌++◌, Bool, true, false, not, List, [], ◌∷◌, get_or, refl, sym, ap, subst, subst₂, ◌∙◌, arith, inl, inr}
+use Rattle.std.proofs.Common.{◌≡◌, ℕ, ◌<◌, ◌≤◌, ◌↔◌, ◌++◌, Bool, true, false, not, List, [], ◌∷◌, get_or, refl, sym, ap}
+use Rattle.std.proofs.Common.{subst, subst₂, ◌∙◌, arith, inl, inr}
 use Rattle.std.specs.Prelude.{Option, Some, None, IfSome, IsSome, IsSomeAnd, Result, Ok, Err, is_none, is_some}
 use Rattle.std.proofs.lemmas.List.{length_push}
 use Rattle.page_core.specs.declared.page.Page.{Page}
@@ -13,7 +14,8 @@ use Rattle.aries_core.specs.declared.event.Answer.TheVariants as answer
 use Rattle.aries_core.specs.declared.event.Event.{Event}
 use Rattle.aries_core.specs.declared.event.Event.TheVariants as event
 use Rattle.aries_core.specs.declared.refusal.Refusal.{Refusal}
-use Rattle.aries_core.specs.declared.refusal.Refusal.TheVariants.{CkptOpen, GatherLeft, LogFault, LogFull, NoCkpt, OutOfMemory}
+use Rattle.aries_core.specs.declared.refusal.Refusal.TheVariants.{CkptOpen, GatherLeft, LogFault, LogFull, NoCkpt}
+use Rattle.aries_core.specs.declared.refusal.Refusal.TheVariants.{OutOfMemory}
 use Rattle.aries_core.specs.CkptReplies.{gather_from, point_from, with_gather, with_point}
 use Rattle.aries_core.specs.EngineState.{EngineState, IsFit, IsMasterOf, effect, end, end_ckpt_record}
 use Rattle.aries_core.specs.Gather.{is_done}
@@ -22,7 +24,8 @@ use Rattle.aries_core.specs.Run.{Run}
 use Rattle.aries_core.specs.Step.{Fails, Step}
 use Rattle.aries_core.proofs.Beside.{IsBeside, keeps_ckpts, of_transaction}
 use Rattle.aries_core.proofs.Gathers.{PassesPages, PassesTxns, TakesPages, TakesTxn, WasDone, ckpt_end_is, closed_part}
-use Rattle.aries_core.proofs.Gathers.{gather_case, gather_has, passes_pages, passes_txns, takes_pages, takes_txn, was_done}
+use Rattle.aries_core.proofs.Gathers.{gather_case, gather_has, passes_pages, passes_txns, takes_pages, takes_txn}
+use Rattle.aries_core.proofs.Gathers.{was_done}
 use Rattle.aries_core.proofs.Refusals.{ckpt_end_passes, gather_passes}
 use Rattle.aries_core.proofs.Steps.{stays_or_grows}
 

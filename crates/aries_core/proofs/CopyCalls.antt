@@ -1,5 +1,6 @@
 -- Calls that change the copies of an engine and nothing else.
-use Rattle.std.proofs.Common.{◌≡◌, ℕ, ◌+◌, ◌<◌, List, length, get_or, refl, sym, ap, subst, ◌∙◌, arith, not, true, false, Bool, cond}
+use Rattle.std.proofs.Common.{◌≡◌, ℕ, ◌+◌, ◌<◌, List, length, get_or, refl, sym, ap, subst, ◌∙◌, arith, not, true}
+use Rattle.std.proofs.Common.{false, Bool, cond}
 use Rattle.std.specs.Prelude.{Option, Some, None, Result, Ok, Err, is_none, nat_le}
 use Rattle.std.specs.Option.{option_map, option_map_or, option_or}
 use Rattle.std.specs.List.{slice_get}
@@ -15,15 +16,18 @@ use Rattle.copy_vault.specs.declared.copy_id.CopyKind.TheVariants.{Full, Inc}
 use Rattle.copy_vault.specs.declared.copy_id.Decision.{Decision}
 use Rattle.copy_vault.specs.declared.fault.CopyFault.{CopyFault}
 use Rattle.copy_vault.specs.Copy.{CopyView}
-use Rattle.copy_vault.specs.Vault.{CopyState, answer_in, complete, decided, drop_refusal, dropped, inc_refusal, open_refusal}
-use Rattle.copy_vault.specs.Vault.{opened, pages_in, pages_read, reading, reading_of, seal_refusal, sealed, state_of, taken_in, without}
+use Rattle.copy_vault.specs.Vault.{CopyState, answer_in, complete, decided, drop_refusal, dropped, inc_refusal}
+use Rattle.copy_vault.specs.Vault.{open_refusal}
+use Rattle.copy_vault.specs.Vault.{opened, pages_in, pages_read, reading, reading_of, seal_refusal, sealed, state_of}
+use Rattle.copy_vault.specs.Vault.{taken_in, without}
 use Rattle.copy_coverage.specs.Copied.{copy_in}
 use Rattle.aries_core.specs.declared.event.Answer.{Answer}
 use Rattle.aries_core.specs.declared.event.Answer.TheVariants as answer
 use Rattle.aries_core.specs.declared.event.Event.{Event}
 use Rattle.aries_core.specs.declared.event.Event.TheVariants as event
 use Rattle.aries_core.specs.declared.refusal.Refusal.{Refusal}
-use Rattle.aries_core.specs.EngineState.{EngineState, IsFit, IsKept, MediaView, engine_view, opened_copy, stored_page, take_answer, with_copies}
+use Rattle.aries_core.specs.EngineState.{EngineState, IsFit, IsKept, MediaView, engine_view, opened_copy, stored_page}
+use Rattle.aries_core.specs.EngineState.{take_answer, with_copies}
 use Rattle.aries_core.specs.EventFits.{EventFits}
 use Rattle.aries_core.specs.Refusal.{of_vault, refusal}
 use Rattle.aries_core.specs.Step.{Step}
@@ -60,7 +64,8 @@ full_step s copies pages id point master fine same given made = (
   rw master (no_fault (open_refusal s.copies) fine),
   ap answer.Copied given,
   ap (with_copies s) (made ∙ ap (λ (n : ℕ). opened s.copies Full n point.begin point.redo) same
-      ∙ ap (λ (o : Option Point). opened s.copies Full s.pages (option_map_or (λ p. p.begin) o 0) (option_map_or (λ p. p.redo) o 0))
+      ∙ ap (λ (o : Option Point). opened s.copies Full s.pages (option_map_or (λ p. p.begin) o 0)
+          (option_map_or (λ p. p.redo) o 0))
       (sym master)),
 )
 
@@ -121,7 +126,8 @@ some_reading dropped copy is = cc
 pub pages_of_reading : (s : EngineState) (id : ℕ) (copy : CopyView) → IsFit s
     → Some copy ≡ reading_of (state_of s.copies id) → length copy.pages ≡ s.pages
 pages_of_reading s id copy fit is =
-    (fit.copied.each id copy (ap copy_in (some_reading (state_of s.copies id) copy (sym is)))).whole ∙ fit.counted.stored
+    (fit.copied.each id copy
+        (ap copy_in (some_reading (state_of s.copies id) copy (sym is)))).whole ∙ fit.counted.stored
 
 -- a page that is to be taken is one of the copy's
 pub take_room : (s : EngineState) (copies : List CopyState) (copy p : ℕ) → IsFit s

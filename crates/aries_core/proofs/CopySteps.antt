@@ -1,5 +1,6 @@
 -- The image copies of an engine after a step.
-use Rattle.std.proofs.Common.{◌≡◌, ℕ, zero, suc, ◌+◌, ◌<◌, ◌≤◌, ◌++◌, ◌⊎◌, List, [], ◌∷◌, length, get_or, set, refl, sym, ap, subst}
+use Rattle.std.proofs.Common.{◌≡◌, ℕ, zero, suc, ◌+◌, ◌<◌, ◌≤◌, ◌++◌, ◌⊎◌, List, [], ◌∷◌, length, get_or, set, refl}
+use Rattle.std.proofs.Common.{sym, ap, subst}
 use Rattle.std.proofs.Common.{◌∙◌, arith, inl, inr}
 use Rattle.std.specs.Prelude.{Option, Some, None, IfSome, IsSome, Result, Ok, Err}
 use Rattle.std.specs.List.{All}
@@ -21,13 +22,15 @@ use Rattle.copy_vault.specs.declared.copy_id.CopyKind.TheVariants.{Full, Inc}
 use Rattle.copy_vault.specs.Copy.{CopyView}
 use Rattle.copy_vault.specs.Vault.{CopyState, HasParent, complete, decided, dropped, opened, sealed, state_of, without}
 use Rattle.copy_coverage.specs.Copied.{AreCopied, copy_in}
-use Rattle.copy_coverage.proofs.Copied.{copied_decided, copied_dropped, copied_forced, copied_later, copied_opened, copied_sealed, copied_stored}
+use Rattle.copy_coverage.proofs.Copied.{copied_decided, copied_dropped, copied_forced, copied_later, copied_opened}
+use Rattle.copy_coverage.proofs.Copied.{copied_sealed, copied_stored}
 use Rattle.aries_core.specs.declared.event.Answer.{Answer}
 use Rattle.aries_core.specs.declared.event.Event.{Event}
 use Rattle.aries_core.specs.declared.event.Event.TheVariants as event
 use Rattle.aries_core.specs.declared.refusal.Refusal.{Refusal}
 use Rattle.aries_core.specs.declared.refusal.Refusal.TheVariants.{CommitUnsure, LogFault, OutOfMemory, StoreFault}
-use Rattle.aries_core.specs.EngineState.{EngineState, HaveMaster, IsFit, IsMasterOf, effect, image_of, log_of, stored_page, with_copies}
+use Rattle.aries_core.specs.EngineState.{EngineState, HaveMaster, IsFit, IsMasterOf, effect, image_of, log_of}
+use Rattle.aries_core.specs.EngineState.{stored_page, with_copies}
 use Rattle.aries_core.specs.EventFits.{EventFits}
 use Rattle.aries_core.specs.Refusal.{refusal}
 use Rattle.aries_core.specs.Step.{Fails, Step}
@@ -67,13 +70,16 @@ covered_by s fit None is p d lt = none_below s.log p (get_or s.stored p d) (fit.
 covered_by s fit (Some point) is p d lt =
     (subst (λ (o : Option Point). IfSome o (IsMasterOf s.log s.stored s.forced_end)) is fit.master).covered p d lt
 
-opens : (s : EngineState) (kind : CopyKind) (begin : ℕ) → IsFit s → HasParent s.copies (length s.copies + 1) s.pages kind
-    → AreCopied s.log s.forced_end s.stored (opened s.copies kind s.pages begin (option_map_or (λ p. p.redo) s.master 0))
+opens : (s : EngineState) (kind : CopyKind) (begin : ℕ) → IsFit s
+    → HasParent s.copies (length s.copies + 1) s.pages kind
+    → AreCopied s.log s.forced_end s.stored
+        (opened s.copies kind s.pages begin (option_map_or (λ p. p.redo) s.master 0))
 opens s kind begin fit parent =
     let redo = option_map_or (λ p. p.redo) s.master 0 in
     subst (λ (n : ℕ). HasParent s.copies (length s.copies + 1) n kind
     → AreCopied s.log s.forced_end s.stored (opened s.copies kind n begin redo)) fit.counted.stored
-    (λ has. copied_opened s.log s.forced_end s.stored s.copies kind begin redo fit.copied has (early_redo s fit s.master refl)
+    (λ has. copied_opened s.log s.forced_end s.stored s.copies kind begin redo fit.copied has
+        (early_redo s fit s.master refl)
     (λ p d lt. covered_by s fit s.master refl p d lt))
     parent
 
@@ -112,12 +118,15 @@ takes s copy page fit none =
 
 undo_leaves : (old : EngineState) (txn : ℕ) (new : EngineState) (o : Option PendingChange)
     → last_of (pending old.log txn) ≡ o → new ≡ (effect old (event.UndoStep txn)).state → CopyStep old new
-undo_leaves old txn new None o is = let at : new ≡ _ = rw o at is in LeavesCopies (ap (λ (s : EngineState). s.copies) at)
-undo_leaves old txn new (Some p) o is = let at : new ≡ _ = rw o at is in LeavesCopies (ap (λ (s : EngineState). s.copies) at)
+undo_leaves old txn new None o is = let at : new
+    ≡ _ = rw o at is in LeavesCopies (ap (λ (s : EngineState). s.copies) at)
+undo_leaves old txn new (Some p) o is = let at : new
+    ≡ _ = rw o at is in LeavesCopies (ap (λ (s : EngineState). s.copies) at)
 
 write_end_leaves : (old : EngineState) (page : ℕ) (new : EngineState) (o : Option Page) → image_of old page ≡ o
     → new ≡ (effect old (event.WriteEnd page)).state → CopyStep old new
-write_end_leaves old page new None o is = let at : new ≡ _ = rw o at is in LeavesCopies (ap (λ (s : EngineState). s.copies) at)
+write_end_leaves old page new None o is = let at : new
+    ≡ _ = rw o at is in LeavesCopies (ap (λ (s : EngineState). s.copies) at)
 write_end_leaves old page new (Some image) o is =
     let at : new ≡ _ = rw o at is in LeavesCopies (ap (λ (s : EngineState). s.copies) at)
 
@@ -183,7 +192,8 @@ copy_step old event (Err why) new fit (inr both) = failed old event why new both
 -- where pages are stored
 copied_by_store : (old new : EngineState) → IsFit old → Stores old new
     → AreCopied old.log old.forced_end new.stored old.copies
-copied_by_store old new fit (StoresNone same) = subst (λ (ps : List Page). AreCopied old.log old.forced_end ps old.copies) (sym same) fit.copied
+copied_by_store old new fit (StoresNone same) = subst
+    (λ (ps : List Page). AreCopied old.log old.forced_end ps old.copies) (sym same) fit.copied
 copied_by_store old new fit (StoresOne n image d there writes is) =
     subst (λ (ps : List Page). AreCopied old.log old.forced_end ps old.copies) (sym is)
     (copied_stored old.log old.forced_end old.stored old.copies n image fit.copied there writes.past
@@ -223,7 +233,8 @@ pub noted_fit : (old : EngineState) (event : Event) (reply : Result Answer Refus
 noted_fit old event reply new fit step = by_step (copy_step old event reply new fit step)
   where
     stays : IsSome old.master → IsSome new.master
-    stays has = subst (λ (o : Option Point). IsSome o) (sym (master_of_step old event reply new step)) (has_point old.master event reply has)
+    stays has = subst (λ (o : Option Point). IsSome o) (sym (master_of_step old event reply new step))
+        (has_point old.master event reply has)
 
     by_step : CopyStep old new → HaveMaster new.master new.copies
     by_step (LeavesCopies same) = λ id copy is.

@@ -1,5 +1,6 @@
 -- Each engine is fit: a new one, and one after a step.
-use Rattle.std.proofs.Common.{◌≡◌, ℕ, zero, suc, get_or, replicate, ◌+◌, ◌<◌, ◌≤◌, ◌++◌, List, [], ◌∷◌, length, take, refl, sym, ap, ◌⊎◌, ◌∙◌, subst, arith, inl, inr}
+use Rattle.std.proofs.Common.{◌≡◌, ℕ, zero, suc, get_or, replicate, ◌+◌, ◌<◌, ◌≤◌, ◌++◌, List, [], ◌∷◌, length, take}
+use Rattle.std.proofs.Common.{refl, sym, ap, ◌⊎◌, ◌∙◌, subst, arith, inl, inr}
 use Rattle.std.specs.Prelude.{Option, Result, Some, None}
 use Rattle.std.proofs.lemmas.List.FromFn.{get_or-map-range_with_len, length-map-range_with_len}
 use Rattle.page_core.specs.declared.page.Page.{Page}
@@ -59,7 +60,8 @@ goes_on old event reply new forces (inr grows) = record {
 
 fit_stays : (old : EngineState) (event : Event) (reply : Result Answer Refusal) (new : EngineState) → IsFit old
     → EndsAtRecord new → PagesFit new → FitsCkpts new
-    → AreCopied new.log new.forced_end new.stored new.copies → HaveMaster new.master new.copies → Stays old event reply new → IsFit new
+    → AreCopied new.log new.forced_end new.stored new.copies → HaveMaster new.master new.copies
+        → Stays old event reply new → IsFit new
 fit_stays old event reply new fit forced pages ckpts copied noted stays = record {
   valid = rw (stays.pages, stays.log) fit.valid;
   linked = rw stays.log fit.linked;
@@ -117,7 +119,8 @@ fit_appended s r fit calls =
 
 fit_grows : (old : EngineState) (event : Event) (reply : Result Answer Refusal) (new : EngineState) → IsFit old
     → EventFits event → EndsAtRecord new → PagesFit new → FitsCkpts new
-    → AreCopied new.log new.forced_end new.stored new.copies → HaveMaster new.master new.copies → Grows old event reply new → IsFit new
+    → AreCopied new.log new.forced_end new.stored new.copies → HaveMaster new.master new.copies
+        → Grows old event reply new → IsFit new
 fit_grows old event reply new fit numbers forced pages ckpts copied noted grows =
     let r = grows.r in
     let may = follows old event r fit grows.accepted grows.made in

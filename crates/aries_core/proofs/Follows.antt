@@ -14,13 +14,17 @@ use Rattle.log_history.specs.Linked.{GoesOn, IsActive, MayFollow, number_in}
 use Rattle.log_history.specs.Transactions.{holder, last_lsn, last_of, pending}
 use Rattle.aries_core.specs.declared.event.Event.{Event}
 use Rattle.aries_core.specs.declared.event.Event.TheVariants as event
-use Rattle.aries_core.specs.EngineState.{EngineState, IsFit, abort_record, commit_record, comp_record, end, end_ckpt_record, end_record, next_txn, update_record}
+use Rattle.aries_core.specs.EngineState.{EngineState, IsFit, abort_record, commit_record, comp_record, end}
+use Rattle.aries_core.specs.EngineState.{end_ckpt_record, end_record, next_txn, update_record}
 use Rattle.aries_core.specs.Refusal.{refusal}
 use Rattle.aries_core.specs.Gather.{none_left}
-use Rattle.aries_core.proofs.Gathers.{FindsPages, FindsTxn, PassesPages, PassesTxns, TakesPages, TakesTxn, WasDone, gather_case}
-use Rattle.aries_core.proofs.Gathers.{pages_record, passes_pages, passes_txns, takes_pages, takes_txn, txn_entry, was_done}
+use Rattle.aries_core.proofs.Gathers.{FindsPages, FindsTxn, PassesPages, PassesTxns, TakesPages, TakesTxn, WasDone}
+use Rattle.aries_core.proofs.Gathers.{gather_case}
+use Rattle.aries_core.proofs.Gathers.{pages_record, passes_pages, passes_txns, takes_pages, takes_txn, txn_entry}
+use Rattle.aries_core.proofs.Gathers.{was_done}
 use Rattle.aries_core.proofs.GatherSteps.{end_ckpt_follows, pages_follow, txn_follows}
-use Rattle.aries_core.proofs.Refusals.{ActiveIn, RollsIn, active_passes, begin_passes, change_passes, ckpt_begin_passes, ckpt_end_passes}
+use Rattle.aries_core.proofs.Refusals.{ActiveIn, RollsIn, active_passes, begin_passes, change_passes, ckpt_begin_passes}
+use Rattle.aries_core.proofs.Refusals.{ckpt_end_passes}
 use Rattle.aries_core.proofs.Refusals.{gather_passes, undo_passes}
 use Rattle.aries_core.specs.Call.{record_for}
 

@@ -15,7 +15,9 @@ use Rattle.aries_core.specs.declared.event.Event.{Event}
 use Rattle.aries_core.specs.declared.event.Event.TheVariants as event
 use Rattle.aries_core.specs.declared.refusal.Refusal.{Refusal}
 use Rattle.aries_core.specs.declared.refusal.Refusal.TheVariants.{OutOfMemory, StoreFault, LogFault, CommitUnsure}
-use Rattle.aries_core.specs.EngineState.{EngineState, appended, closed, commit_record, comp_record, effect, end, end_ckpt_record, end_record, forced_through, forced_to, image_of, log_of, page_now}
+use Rattle.aries_core.specs.EngineState.{EngineState, appended, closed, commit_record, comp_record, effect, end}
+use Rattle.aries_core.specs.EngineState.{end_ckpt_record, end_record, forced_through, forced_to, image_of, log_of}
+use Rattle.aries_core.specs.EngineState.{page_now}
 use Rattle.aries_core.specs.Step.{Fails, ForcedPart, Step}
 use Rattle.aries_core.proofs.Gathers.{ckpt_end_has, closed_part, gather_has}
 use Rattle.aries_core.proofs.Steps.{stored_or_not}
@@ -138,12 +140,14 @@ failed_forces old (event.WriteEnd page) StoreFault new ends fails = elim (stored
   | inr stored ↦ subst (Forces old) (sym stored.2) (record { at_record = ends; no_less = omega arith })
 ]
 failed_forces old (event.Commit txn) (CommitUnsure lsn) new ends fails =
-    both_force old (appended old (commit_record old txn)) new (appended_forces old _ ends) (part_forces _ new _ (omega arith) fails.1)
+    both_force old (appended old (commit_record old txn)) new (appended_forces old _ ends)
+        (part_forces _ new _ (omega arith) fails.1)
 failed_forces old event.CkptEnd LogFault new ends fails =
     let part = closed_part old new fails in
     both_force old (closed old part.0) new (closed_forces old part.0 ends)
     (part_forces (closed old part.0) new _ (omega arith) part.2)
-failed_forces old (event.Take copy page) StoreFault new ends fails = subst (Forces old) (sym fails) (same_forces old ends)
+failed_forces old (event.Take copy page) StoreFault new ends fails = subst (Forces old) (sym fails)
+    (same_forces old ends)
 failed_forces old event why new ends fails = absurd fails
 
 pub forces : (old : EngineState) (event : Event) (reply : Result Answer Refusal) (new : EngineState) → EndsAtRecord old

@@ -1,6 +1,7 @@
 -- A log that one transaction fills: a Begin and 524,286 Adds, and then no Add and no Begin; but its Commit, and then a
 -- Begin again.
-use Rattle.std.proofs.Common.{◌≡◌, ℕ, zero, suc, ◌+◌, ◌<◌, ◌≤◌, Bool, true, false, not, eqb, ◌&&◌, ◌||◌, List, [], ◌∷◌, length, refl, ap, ◌∙◌, arith}
+use Rattle.std.proofs.Common.{◌≡◌, ℕ, zero, suc, ◌+◌, ◌<◌, ◌≤◌, Bool, true, false, not, eqb, ◌&&◌, ◌||◌, List, [], ◌∷◌}
+use Rattle.std.proofs.Common.{length, refl, ap, ◌∙◌, arith}
 use Rattle.std.specs.Prelude.{Option, Some, None, Ok, nat_le}
 use Rattle.std.specs.List.{filter, list_any, sum_by}
 use Rattle.std.specs.Option.{option_map}
@@ -10,14 +11,16 @@ use Rattle.page_core.specs.declared.change.Change.TheVariants.{Add}
 use Rattle.page_core.specs.declared.change.ChangeKind.TheVariants as kind
 use Rattle.log_records.specs.declared.limits.TheConstants.{MAX_OPEN, MAX_RECORDS}
 use Rattle.log_records.specs.Log.{IsPageCount}
-use Rattle.log_history.specs.Transactions.{holder, is_open, is_rolling, keeps_out, last_lsn, open_in, owed, owed_by, pending}
+use Rattle.log_history.specs.Transactions.{holder, is_open, is_rolling, keeps_out, last_lsn, open_in, owed, owed_by}
+use Rattle.log_history.specs.Transactions.{pending}
 use Rattle.log_records.specs.Least.{least}
 use Rattle.log_history.proofs.Pushes.{is_open_push_own, is_rolling_push, open_in_push_last, open_in_push_same}
 use Rattle.log_history.proofs.Room.{claimed_update}
 use Rattle.aries_core.specs.declared.event.Event.{Event}
 use Rattle.aries_core.specs.declared.event.Event.TheVariants as event
 use Rattle.aries_core.specs.declared.refusal.Refusal.{Refusal}
-use Rattle.aries_core.specs.declared.refusal.Refusal.TheVariants.{LogFull, NoTxn, PageOut, SlotBusy, TooManyTxns, TxnRolling}
+use Rattle.aries_core.specs.declared.refusal.Refusal.TheVariants.{LogFull, NoTxn, PageOut, SlotBusy, TooManyTxns}
+use Rattle.aries_core.specs.declared.refusal.Refusal.TheVariants.{TxnRolling}
 use Rattle.aries_core.specs.EngineState.{EngineState, IsFit, commit_record, effect, end, new_state, update_record}
 use Rattle.aries_core.specs.Refusal.{active_refusal, has_no_room, or_else, page_refusal, refused_if, refusal}
 use Rattle.aries_core.proofs.Fit.{fit_of_step, new_is_fit}

@@ -14,9 +14,11 @@ use Rattle.fuzzy_ckpt.specs.Steps.{Gathering, gather_step, pages_of, past_pages,
 use Rattle.aries_core.specs.declared.event.Answer.TheVariants as answer
 use Rattle.aries_core.specs.declared.event.Event.TheVariants as event
 use Rattle.aries_core.specs.declared.refusal.Refusal.TheVariants.{LogFault}
-use Rattle.aries_core.specs.EngineState.{EngineState, IsGathering, Outcome, appended, ckpt_end_effect, closed, effect, end, gather_effect, gathered_record, gathering, next_step}
+use Rattle.aries_core.specs.EngineState.{EngineState, IsGathering, Outcome, appended, ckpt_end_effect, closed, effect}
+use Rattle.aries_core.specs.EngineState.{end, gather_effect, gathered_record, gathering, next_step}
 use Rattle.aries_core.specs.Step.{Fails, ForcedPart}
-use Rattle.aries_core.specs.Gather.{Left, behind_pages, behind_txns, left_of, none_left, pages_left, session_of, txns_left}
+use Rattle.aries_core.specs.Gather.{Left, behind_pages, behind_txns, left_of, none_left, pages_left, session_of}
+use Rattle.aries_core.specs.Gather.{txns_left}
 
 -- what is said of the open checkpoint, if one is
 abbrev pub AreGathered : List Record → List Page → Left → Type 0

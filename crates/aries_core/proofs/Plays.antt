@@ -17,7 +17,8 @@ pub run_push : (old : EngineState) (events : List Event) (replies : List (Result
     (event : Event) (reply : Result Answer Refusal) (new : EngineState)
     → Run old events replies mid → Step mid event reply new
     → Run old (events ++ event ∷ []) (replies ++ reply ∷ []) new
-run_push old [] [] mid event reply new is step = (new, subst (λ (s : EngineState). Step s event reply new) is step, refl)
+run_push old [] [] mid event reply new is step =
+    (new, subst (λ (s : EngineState). Step s event reply new) is step, refl)
 run_push old (first ∷ events) (answered ∷ replies) mid event reply new run step =
     (run.0, run.1, run_push run.0 events replies mid event reply new run.2 step)
 run_push old [] (answered ∷ replies) mid event reply new run step = absurd run

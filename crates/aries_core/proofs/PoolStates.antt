@@ -1,17 +1,20 @@
 -- What the pool says of the engine's state.
-use Rattle.std.proofs.Common.{◌≡◌, ℕ, ◌<◌, ◌≤◌, Bool, true, false, List, [], ◌∷◌, zero, suc, length, replicate, set, map, refl, sym, ap, ◌∙◌, max}
+use Rattle.std.proofs.Common.{◌≡◌, ℕ, ◌<◌, ◌≤◌, Bool, true, false, List, [], ◌∷◌, zero, suc, length, replicate, set}
+use Rattle.std.proofs.Common.{map, refl, sym, ap, ◌∙◌, max}
 use Rattle.std.specs.Prelude.{Option, Some, None, is_none, is_some}
 use Rattle.std.proofs.lemmas.Bool.{le-leb, lt-leb}
 use Rattle.std.proofs.lemmas.List.{get_or-map, map-set, set-get_or}
 use Rattle.page_core.specs.declared.page.Page.{Page}
-use Rattle.buffer_pool.specs.Pool.{IsPoolOf, PoolView, new_pool, state_at, unwritten, with_state, write_begun, write_ended}
+use Rattle.buffer_pool.specs.Pool.{IsPoolOf, PoolView, new_pool, state_at, unwritten, with_state, write_begun}
+use Rattle.buffer_pool.specs.Pool.{write_ended}
 use Rattle.buffer_pool.specs.Pool.{writing_of, written_of}
 use Rattle.log_records.specs.Coverage.{rec_lsn}
 use Rattle.log_store.specs.WrittenLog.{WrittenLog, end_up_to}
 use Rattle.copy_vault.specs.Vault.{CopyState}
 use Rattle.aries_core.specs.declared.event.Event.TheVariants as event
 use Rattle.aries_core.specs.declared.refusal.Refusal.TheVariants.{NoWrite, NotDirty, PageOut, WriteBegun}
-use Rattle.aries_core.specs.EngineState.{MediaView, EngineState, begun_write, ended_write, engine_view, forced_through, image_of}
+use Rattle.aries_core.specs.EngineState.{MediaView, EngineState, begun_write, ended_write, engine_view, forced_through}
+use Rattle.aries_core.specs.EngineState.{image_of}
 use Rattle.aries_core.specs.EngineState.{new_state, rec_lsn_of, with_stored}
 use Rattle.page_core.specs.Volume.{formatted_pages}
 use Rattle.aries_core.specs.Refusal.{refusal}
@@ -33,7 +36,8 @@ pub begin_may : (s : EngineState) (p : ℕ) → p < s.pages → is_some (image_o
     → is_none (rec_lsn_of s p) ≡ false → refusal s (event.WriteBegin p) ≡ None
 begin_may s p within idle dirty = rw (lt-leb s.pages p within, idle, dirty) refl
 
-none_by_some : {X : Type 0} (o : Option X) (b : Bool) → is_some o ≡ b → is_none o ≡ (elim b as (λ (b : Bool). Bool) [ true ↦ false | false ↦ true ])
+none_by_some : {X : Type 0} (o : Option X) (b : Bool) → is_some o ≡ b
+    → is_none o ≡ (elim b as (λ (b : Bool). Bool) [ true ↦ false | false ↦ true ])
 none_by_some None b e = ap (λ (b : Bool). elim b as (λ (b : Bool). Bool) [ true ↦ false | false ↦ true ]) e
 none_by_some (Some x) b e = ap (λ (b : Bool). elim b as (λ (b : Bool). Bool) [ true ↦ false | false ↦ true ]) e
 
@@ -91,7 +95,8 @@ ended_is stored it pool after ckpts p q store states =
     rw (store, written, writing) refl
 
 pub repeated_is : {S D : Type 0} (stored : S → List Page) (it : WrittenLog D) (pool after : PoolView S)
-    (ckpts : MediaView) (p : ℕ) (q : Page) → stored after.store ≡ set (stored pool.store) p q → after.states ≡ pool.states
+    (ckpts : MediaView) (p : ℕ) (q : Page) → stored after.store ≡ set (stored pool.store) p q
+        → after.states ≡ pool.states
     → (engine_view stored it after ckpts).state ≡ with_stored (engine_view stored it pool ckpts).state p q
 repeated_is stored it pool after ckpts p q store states = rw (store, states) refl
 
@@ -107,7 +112,8 @@ map-replicate f zero x = refl
 map-replicate f (suc n) x = ap (λ ys. f x ∷ ys) (map-replicate f n x)
 
 pub new_is : {S D : Type 0} (stored : S → List Page) (it : WrittenLog D) (pool : PoolView S) (store : S) (n : ℕ)
-    (copies : List CopyState) → copies ≡ [] → it.log ≡ record { pages = n; records = [] } → it.forced_end ≡ 64 → pool ≡ new_pool store n
+    (copies : List CopyState) → copies ≡ [] → it.log ≡ record { pages = n; records = [] } → it.forced_end ≡ 64
+        → pool ≡ new_pool store n
     → stored store ≡ formatted_pages n
     → (engine_view stored it pool (record { master = None; session = None; copies = copies })).state ≡ new_state n
 new_is {S = S} stored it pool store n copies none log forced is formatted =

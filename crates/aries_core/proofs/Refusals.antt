@@ -1,5 +1,6 @@
 -- What an event that is not refused has passed.
-use Rattle.std.proofs.Common.{◌≡◌, ℕ, ◌+◌, ◌<◌, ◌≤◌, ◌⊎◌, Bool, true, false, ◌&&◌, not, length, refl, sym, ap, ◌∙◌, inl, inr}
+use Rattle.std.proofs.Common.{◌≡◌, ℕ, ◌+◌, ◌<◌, ◌≤◌, ◌⊎◌, Bool, true, false, ◌&&◌, not, length, refl, sym, ap, ◌∙◌, inl}
+use Rattle.std.proofs.Common.{inr}
 use Rattle.std.specs.Prelude.{Option, Some, None, IsSome, is_none, is_some, nat_le}
 use Rattle.std.specs.Option.{option_map, option_or}
 use Rattle.std.proofs.lemmas.Option.{cond_some, same_Some}
@@ -20,10 +21,14 @@ use Rattle.copy_vault.specs.Vault.{seal_refusal, state_of}
 use Rattle.aries_core.specs.declared.event.Event.{Event}
 use Rattle.aries_core.specs.declared.event.Event.TheVariants as event
 use Rattle.aries_core.specs.declared.refusal.Refusal.{Refusal}
-use Rattle.aries_core.specs.declared.refusal.Refusal.TheVariants.{CkptOpen, CommitUnsure, GatherLeft, LogFull, NoCkpt, NoMaster, NoTxn, PageDecided, NoWrite, NotDirty, NotRolling, PageOut, SlotBusy, SlotOut, TooManyTxns, TxnRolling, WriteBegun}
+use Rattle.aries_core.specs.declared.refusal.Refusal.TheVariants.{CkptOpen, CommitUnsure, GatherLeft, LogFull, NoCkpt}
+use Rattle.aries_core.specs.declared.refusal.Refusal.TheVariants.{NoMaster, NoTxn, PageDecided, NoWrite, NotDirty}
+use Rattle.aries_core.specs.declared.refusal.Refusal.TheVariants.{NotRolling, PageOut, SlotBusy, SlotOut, TooManyTxns}
+use Rattle.aries_core.specs.declared.refusal.Refusal.TheVariants.{TxnRolling, WriteBegun}
 use Rattle.aries_core.specs.EngineState.{EngineState, gathered_record, image_of, rec_lsn_of}
 use Rattle.aries_core.specs.Gather.{Left, is_done, none_left, pages_left, txns_left}
-use Rattle.aries_core.specs.Refusal.{active_refusal, change_refusal, ckpt_refusal, copy_refusal, of_vault, has_no_room, or_else, page_refusal, refused_if, refusal}
+use Rattle.aries_core.specs.Refusal.{active_refusal, change_refusal, ckpt_refusal, copy_refusal, of_vault, has_no_room}
+use Rattle.aries_core.specs.Refusal.{or_else, page_refusal, refused_if, refusal}
 
 -- ---- one test, and two
 
@@ -366,7 +371,8 @@ IsOfCopies other = ⊥
 
 pub copy_not_full : (s : EngineState) (event : Event) → IsOfCopies event → refusal s event ≡ Some LogFull → ⊥
 copy_not_full s event.CopyFull is full =
-    vault_not_full _ (second_of_both (refused_if _ NoMaster) _ LogFull (not_of_one _ NoMaster LogFull (λ same. (cc))) full).1
+    vault_not_full _ (second_of_both (refused_if _ NoMaster) _ LogFull
+        (not_of_one _ NoMaster LogFull (λ same. (cc))) full).1
 copy_not_full s (event.CopyInc parent) is full = vault_not_full _ full
 copy_not_full s (event.Take copy page) is full = take_not_full s copy page full
 copy_not_full s (event.Seal copy) is full = vault_not_full _ full
@@ -432,4 +438,5 @@ master_if None e = cc
 master_if (Some point) e = refl
 
 pub full_passes : (s : EngineState) → refusal s event.CopyFull ≡ None → IsSome s.master
-full_passes s none = master_if s.master (not_refused _ _ (none_of_both (refused_if (is_none s.master) NoMaster) _ none).0)
+full_passes s none = master_if s.master
+    (not_refused _ _ (none_of_both (refused_if (is_none s.master) NoMaster) _ none).0)

@@ -1,5 +1,6 @@
 -- The log has room for its records and for those that open transactions may still need.
-use Rattle.std.proofs.Common.{◌≡◌, ℕ, ◌+◌, ◌<◌, ◌≤◌, false, ◌++◌, List, [], ◌∷◌, length, refl, sym, subst, ◌∙◌, arith, inl, inr}
+use Rattle.std.proofs.Common.{◌≡◌, ℕ, ◌+◌, ◌<◌, ◌≤◌, false, ◌++◌, List, [], ◌∷◌, length, refl, sym, subst, ◌∙◌, arith}
+use Rattle.std.proofs.Common.{inl, inr}
 use Rattle.std.specs.Prelude.{Some, None, Ok}
 use Rattle.std.proofs.lemmas.List.{length_push, take_all}
 use Rattle.std.proofs.lemmas.Option.{same_Some}
@@ -15,13 +16,18 @@ use Rattle.log_history.proofs.Room.{claimed_aside, claimed_begin, claimed_push, 
 use Rattle.aries_core.specs.declared.event.Event.{Event}
 use Rattle.aries_core.specs.declared.event.Event.TheVariants as event
 use Rattle.aries_core.specs.declared.refusal.Refusal.TheVariants.{LogFull}
-use Rattle.aries_core.specs.EngineState.{EngineState, IsFit, Outcome, begin_ckpt_record, effect, end, end_ckpt_record, next_txn, update_record}
+use Rattle.aries_core.specs.EngineState.{EngineState, IsFit, Outcome, begin_ckpt_record, effect, end, end_ckpt_record}
+use Rattle.aries_core.specs.EngineState.{next_txn, update_record}
 use Rattle.aries_core.specs.Refusal.{refusal}
-use Rattle.aries_core.proofs.Follows.{add_follows, end_record_has, follows, gather_record_has, none_is_not_some, set_follows, undo_has}
+use Rattle.aries_core.proofs.Follows.{add_follows, end_record_has, follows, gather_record_has, none_is_not_some}
+use Rattle.aries_core.proofs.Follows.{set_follows, undo_has}
 use Rattle.aries_core.proofs.Gathers.{PassesPages, PassesTxns, TakesPages, TakesTxn, WasDone, ckpt_end_is, gather_case}
-use Rattle.aries_core.proofs.Gathers.{pages_record, passes_pages, passes_txns, takes_pages, takes_txn, txn_entry, was_done}
+use Rattle.aries_core.proofs.Gathers.{pages_record, passes_pages, passes_txns, takes_pages, takes_txn, txn_entry}
+use Rattle.aries_core.proofs.Gathers.{was_done}
 use Rattle.aries_core.proofs.Refusals.{GatherIsFull, HasRoom, ckpt_begin_full, ckpt_end_full, gather_full}
-use Rattle.aries_core.proofs.Refusals.{active_not_full, begin_full, begin_passes, change_full, change_passes, copy_not_full, ckpt_begin_passes, ckpt_end_passes, gather_passes, read_not_full, undo_not_full, write_begin_not_full, write_end_not_full}
+use Rattle.aries_core.proofs.Refusals.{active_not_full, begin_full, begin_passes, change_full, change_passes}
+use Rattle.aries_core.proofs.Refusals.{copy_not_full, ckpt_begin_passes, ckpt_end_passes, gather_passes, read_not_full}
+use Rattle.aries_core.proofs.Refusals.{undo_not_full, write_begin_not_full, write_end_not_full}
 use Rattle.aries_core.specs.Call.{record_for}
 use Rattle.aries_core.proofs.Steps.{stays_or_grows}
 

@@ -23,7 +23,8 @@ use Rattle.aries_core.proofs.Steps.{stays_or_grows}
 
 -- ---- the forced end
 
-pub forced_end_from : (old : EngineState) (events : List Event) (replies : List (Result Answer Refusal)) (new : EngineState)
+pub forced_end_from : (old : EngineState) (events : List Event)
+    (replies : List (Result Answer Refusal)) (new : EngineState)
     → EndsAtRecord old → Run old events replies new → old.forced_end ≤ new.forced_end
 forced_end_from old [] [] new ends is = rw is (omega arith)
 forced_end_from old (event ∷ events) (reply ∷ replies) new ends run =
@@ -111,7 +112,8 @@ failed_same old event why new no_fault no_store sure fails = absurd fails
 pub refused_same : (old : EngineState) (event : Event) (why : Refusal) (new : EngineState) → why ≢ LogFault
     → why ≢ StoreFault → ((lsn : ℕ) → why ≢ CommitUnsure lsn) → Step old event (Err why) new → new ≡ old
 refused_same old event why new no_fault no_store sure (inl both) = both.1
-refused_same old event why new no_fault no_store sure (inr both) = failed_same old event why new no_fault no_store sure both.1
+refused_same old event why new no_fault no_store sure (inr both) = failed_same old event why new
+    no_fault no_store sure both.1
 
 -- ---- what a step may choose
 

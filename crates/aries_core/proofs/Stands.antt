@@ -17,14 +17,17 @@ use Rattle.log_records.specs.Record.{IsBefore, IsChange, IsLsn, IsRecord, IsTxn}
 use Rattle.log_history.specs.Transactions.{is_open, last_lsn, last_of, pending}
 use Rattle.aries_core.specs.declared.event.Event.{Event}
 use Rattle.aries_core.specs.declared.event.Event.TheVariants as event
-use Rattle.aries_core.specs.EngineState.{EngineState, IsFit, abort_record, commit_record, comp_record, end, end_record, log_of, next_txn, update_record}
+use Rattle.aries_core.specs.EngineState.{EngineState, IsFit, abort_record, commit_record, comp_record, end, end_record}
+use Rattle.aries_core.specs.EngineState.{log_of, next_txn, update_record}
 use Rattle.aries_core.specs.EventFits.{EventFits}
 use Rattle.aries_core.specs.Refusal.{refusal}
 use Rattle.aries_core.proofs.Follows.{end_record_has, gather_record_has, undo_has}
-use Rattle.log_history.proofs.AtEnd.{StandsBefore, all_stand, last_lsn_is_before, last_pending, length_begun, lsn_is_lsn, open_is_txn, undo_fits, undo_has_no_before}
+use Rattle.log_history.proofs.AtEnd.{StandsBefore, all_stand, last_lsn_is_before, last_pending, length_begun}
+use Rattle.log_history.proofs.AtEnd.{lsn_is_lsn, open_is_txn, undo_fits, undo_has_no_before}
 use Rattle.aries_core.proofs.GatherSteps.{end_ckpt_stands, pages_stand, txn_stand}
 use Rattle.aries_core.proofs.Numbers.{number_fits}
-use Rattle.aries_core.proofs.Refusals.{ChangePasses, active_passes, change_passes, ckpt_end_passes, gather_passes, undo_passes}
+use Rattle.aries_core.proofs.Refusals.{ChangePasses, active_passes, change_passes, ckpt_end_passes, gather_passes}
+use Rattle.aries_core.proofs.Refusals.{undo_passes}
 use Rattle.aries_core.specs.Call.{record_for}
 
 abbrev pub StandsAtEnd : EngineState → Record → Type 0

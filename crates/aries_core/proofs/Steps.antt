@@ -15,7 +15,8 @@ use Rattle.aries_core.specs.declared.event.Event.TheVariants as event
 use Rattle.aries_core.specs.declared.refusal.Refusal.{Refusal}
 use Rattle.aries_core.specs.declared.refusal.Refusal.TheVariants.{OutOfMemory, StoreFault, LogFault, CommitUnsure}
 use Rattle.aries_core.specs.Accepted.{shown_call}
-use Rattle.aries_core.specs.EngineState.{EngineState, appended, comp_record, effect, end_ckpt_record, end_record, ended_write, image_of, with_stored}
+use Rattle.aries_core.specs.EngineState.{EngineState, appended, comp_record, effect, end_ckpt_record, end_record}
+use Rattle.aries_core.specs.EngineState.{ended_write, image_of, with_stored}
 use Rattle.aries_core.specs.Refusal.{refusal}
 use Rattle.aries_core.specs.Step.{Fails, MayBeStored, Step}
 use Rattle.aries_core.proofs.Gathers.{PassesPages, PassesTxns, TakesPages, TakesTxn, WasDone, ckpt_end_is, closed_part}
@@ -103,13 +104,15 @@ gather_stays_or_grows old answer new none is =
     elim (gather_case old c) [
       | TakesPages pages finds ↦
           let does = takes_pages old c pages still_open finds in
-          inr (grows old event.CkptGather (Ok answer) new _ _ (is ∙ ap (λ o. o.state) does.outcome) none does.made refl refl refl)
+          inr (grows old event.CkptGather (Ok answer) new _ _ (is ∙ ap (λ o. o.state) does.outcome) none
+              does.made refl refl refl)
       | PassesPages finds ↦
           let does = passes_pages old c still_open finds in
           inl (stays old event.CkptGather (Ok answer) new _ (is ∙ ap (λ o. o.state) does.outcome) refl refl refl)
       | TakesTxn t finds ↦
           let does = takes_txn old c t still_open finds in
-          inr (grows old event.CkptGather (Ok answer) new _ _ (is ∙ ap (λ o. o.state) does.outcome) none does.made refl refl refl)
+          inr (grows old event.CkptGather (Ok answer) new _ _ (is ∙ ap (λ o. o.state) does.outcome) none
+              does.made refl refl refl)
       | PassesTxns finds ↦
           let does = passes_txns old c still_open finds in
           inl (stays old event.CkptGather (Ok answer) new _ (is ∙ ap (λ o. o.state) does.outcome) refl refl refl)
@@ -199,7 +202,8 @@ failed old (event.WriteEnd page) StoreFault new none fails = elim (stored_or_not
 ]
 failed old event.CkptEnd LogFault new none fails =
     let part = closed_part old new fails in
-    inr (grows old event.CkptEnd (Err LogFault) new _ _ part.2.reached.2 none (made_at_end old part.0 part.1) refl refl refl)
+    inr (grows old event.CkptEnd (Err LogFault) new _ _ part.2.reached.2 none
+        (made_at_end old part.0 part.1) refl refl refl)
 failed old (event.Take copy page) StoreFault new none fails =
     inl (stays old (event.Take copy page) (Err StoreFault) new old fails refl refl refl)
 failed old event why new none fails = absurd fails

@@ -1,5 +1,6 @@
 -- The calls that write a page: what they make of an engine that is in step with its pool.
-use Rattle.std.proofs.Common.{◌≡◌, ℕ, ◌<◌, ◌≤◌, List, length, get_or, set, refl, sym, ap, subst, ◌∙◌, arith, max, inl, inr}
+use Rattle.std.proofs.Common.{◌≡◌, ℕ, ◌<◌, ◌≤◌, List, length, get_or, set, refl, sym, ap, subst, ◌∙◌, arith, max, inl}
+use Rattle.std.proofs.Common.{inr}
 use Rattle.std.specs.Prelude.{Option, Some, None, IfSome, Result, Ok, Err}
 use Rattle.page_core.specs.declared.page.Page.{Page}
 use Rattle.page_store.specs.Store.{StoresOrKeeps}
@@ -15,7 +16,8 @@ use Rattle.aries_core.specs.declared.event.Event.{Event}
 use Rattle.aries_core.specs.declared.event.Event.TheVariants as event
 use Rattle.aries_core.specs.declared.refusal.Refusal.{Refusal}
 use Rattle.aries_core.specs.declared.refusal.Refusal.TheVariants.{StoreFault}
-use Rattle.aries_core.specs.EngineState.{MediaView, IsKept, begun_write, effect, ended_write, engine_view, forced_through}
+use Rattle.aries_core.specs.EngineState.{MediaView, IsKept, begun_write, effect, ended_write, engine_view}
+use Rattle.aries_core.specs.EngineState.{forced_through}
 use Rattle.aries_core.specs.EventFits.{EventFits}
 use Rattle.copy_coverage.proofs.Copied.{copied_forced}
 use Rattle.aries_core.specs.Refusal.{refusal}
@@ -32,15 +34,18 @@ pub record Called {S D : Type 0} (stored : S → List Page) (it new : WrittenLog
   pub kept : IsKept stored (engine_view stored new after ckpts).state table after ckpts
 
 -- a step that leaves the log and the table
-called : {S D : Type 0} (stored : S → List Page) (it new : WrittenLog D) (table : Table) (pool after : PoolView S) (ckpts : MediaView)
-    (call : Event) (reply : Result Answer Refusal) → IsKept stored (engine_view stored it pool ckpts).state table pool ckpts
+called : {S D : Type 0} (stored : S → List Page) (it new : WrittenLog D) (table : Table)
+    (pool after : PoolView S) (ckpts : MediaView)
+    (call : Event) (reply : Result Answer Refusal)
+        → IsKept stored (engine_view stored it pool ckpts).state table pool ckpts
     → EventFits call → new.log ≡ it.log
     → Step (engine_view stored it pool ckpts).state call reply (engine_view stored new after ckpts).state
     → IsPoolOf stored it.log after → Called stored it new table pool after ckpts call reply
 called stored it new table pool after ckpts call reply kept fits same step is = record {
   step = step;
   kept = record {
-    fit = fit_of_step (engine_view stored it pool ckpts).state call reply (engine_view stored new after ckpts).state kept.fit fits
+    fit = fit_of_step (engine_view stored it pool ckpts).state call reply
+        (engine_view stored new after ckpts).state kept.fit fits
         step;
     table_of_log = rw same kept.table_of_log;
     pool_of_log = rw same is;
@@ -74,9 +79,11 @@ force_kept stored it new table pool ckpts kept same no_less ends =
           images = λ p. image_below (get_or (writing_of pool.states) p None) (fit.stable.images p);
         };
         gathered = rw same fit.gathered;
-        master = rw same (master_forced it.log.records (stored pool.store) it.forced_end new.forced_end ckpts.master no_less
+        master = rw same (master_forced it.log.records (stored pool.store) it.forced_end
+            new.forced_end ckpts.master no_less
             fit.master);
-        copied = rw same (copied_forced it.log.records it.forced_end new.forced_end (stored pool.store) ckpts.copies no_less
+        copied = rw same (copied_forced it.log.records it.forced_end new.forced_end
+            (stored pool.store) ckpts.copies no_less
             fit.copied);
         noted = fit.noted;
       };
@@ -92,7 +99,8 @@ force_kept stored it new table pool ckpts kept same no_less ends =
 
 -- ---- a write begins
 
-pub begun : {S D : Type 0} (stored : S → List Page) (it new : WrittenLog D) (table : Table) (pool after : PoolView S) (ckpts : MediaView)
+pub begun : {S D : Type 0} (stored : S → List Page) (it new : WrittenLog D) (table : Table)
+    (pool after : PoolView S) (ckpts : MediaView)
     (p lsn : ℕ) (q : Page) → IsKept stored (engine_view stored it pool ckpts).state table pool ckpts
     → refusal (engine_view stored it pool ckpts).state (event.WriteBegin p) ≡ None → p < length pool.states
     → q ≡ image it.log.records p → lsn ≡ q.lsn → new.log ≡ it.log
@@ -115,7 +123,8 @@ begun stored it new table pool after ckpts p lsn q kept none within now at same 
 of_image : (o : Option Page) (P : Page → Type 0) (q : Page) → o ≡ Some q → IfSome o P → P q
 of_image o P q is h = subst (λ (o : Option Page). IfSome o P) is h
 
-pub ended : {S D : Type 0} (stored : S → List Page) (it : WrittenLog D) (table : Table) (pool after : PoolView S) (ckpts : MediaView)
+pub ended : {S D : Type 0} (stored : S → List Page) (it : WrittenLog D) (table : Table)
+    (pool after : PoolView S) (ckpts : MediaView)
     (p lsn : ℕ) → IsKept stored (engine_view stored it pool ckpts).state table pool ckpts
     → refusal (engine_view stored it pool ckpts).state (event.WriteEnd p) ≡ None → p < length pool.states
     → IfSome (state_at pool p).writing (λ q. lsn ≡ q.lsn)
@@ -123,7 +132,8 @@ pub ended : {S D : Type 0} (stored : S → List Page) (it : WrittenLog D) (table
     → IfSome (state_at pool p).writing (λ q. after ≡ record (with_state pool p (write_ended (state_at pool p) q.lsn)) {
       store = after.store;
     })
-    → IsPoolOf stored it.log after → Called stored it it table pool after ckpts (event.WriteEnd p) (Ok (answer.Written lsn))
+    → IsPoolOf stored it.log after
+        → Called stored it it table pool after ckpts (event.WriteEnd p) (Ok (answer.Written lsn))
 ended stored it table pool after ckpts p lsn kept none within at store states of_log =
     let s = (engine_view stored it pool ckpts).state in
     let ends = write_end_passes s p none in
@@ -134,7 +144,8 @@ ended stored it table pool after ckpts p lsn kept none within at store states of
     of_image (state_at pool p).writing (λ q. stored after.store ≡ set (stored pool.store) p q) q here store in
     let is : after ≡ record (with_state pool p (write_ended (state_at pool p) q.lsn)) { store = after.store } =
     of_image (state_at pool p).writing
-    (λ q. after ≡ record (with_state pool p (write_ended (state_at pool p) q.lsn)) { store = after.store }) q here states in
+    (λ q. after ≡ record (with_state pool p (write_ended (state_at pool p) q.lsn))
+        { store = after.store }) q here states in
     let state : (engine_view stored it after ckpts).state ≡ ended_write s p q =
     ended_is stored it pool after ckpts p q stored_is (ap (λ v. v.states) is) in
     let effected : (engine_view stored it after ckpts).state ≡ (effect s (event.WriteEnd p)).state =
@@ -143,7 +154,8 @@ ended stored it table pool after ckpts p lsn kept none within at store states of
     called stored it it table pool after ckpts (event.WriteEnd p) (Ok (answer.Written lsn)) kept tt refl
     (none, said, effected) of_log
 
-pub repeated : {S D : Type 0} (stored : S → List Page) (it : WrittenLog D) (table : Table) (pool after : PoolView S) (ckpts : MediaView)
+pub repeated : {S D : Type 0} (stored : S → List Page) (it : WrittenLog D) (table : Table)
+    (pool after : PoolView S) (ckpts : MediaView)
     (p : ℕ) → IsKept stored (engine_view stored it pool ckpts).state table pool ckpts
     → refusal (engine_view stored it pool ckpts).state (event.WriteEnd p) ≡ None → p < length pool.states
     → IfSome (state_at pool p).writing (λ q. StoresOrKeeps (stored pool.store) p q (stored after.store))

@@ -289,13 +289,15 @@ ended_fit old new page fit goes ends =
         writing = ap length ends.writing ∙ length-set old.writing page None ∙ counted.writing ∙ sym goes.pages;
       };
       stored = rw (ends.log, ends.stored, ends.written, ends.writing)
-          (stored_ended old.log old.stored old.written old.writing page image fit.stored there known room ends.ends.there);
+          (stored_ended old.log old.stored old.written old.writing page image fit.stored there known
+              room ends.ends.there);
       stable = record {
         pages = rw ends.stored
             (All-set (λ page. page.lsn < new.forced_end) old.stored page image
             (image_later old new page fit goes ends.ends) (pages_later old new fit goes));
         images = λ p. rw ends.writing
-            (image_set old.writing page p None (λ image. image.lsn < new.forced_end) tt (images_later old new fit goes p));
+            (image_set old.writing page p None (λ image. image.lsn < new.forced_end) tt
+                (images_later old new fit goes p));
       };
     }
 

@@ -4,7 +4,8 @@ use Rattle.std.proofs.Common.{inl, inr, replicate}
 use Rattle.std.specs.Prelude.{Option, Some, None, MatchOption, is_some, if◌then◌else◌}
 use Rattle.std.specs.Option.{unwrap_or}
 use Rattle.std.proofs.lemmas.Bool.{cases_eq}
-use Rattle.std.proofs.lemmas.List.{get_or-map, get_or-set_other, get_or-set_same, get_or_read, get_or-replicate, length-map, length-replicate}
+use Rattle.std.proofs.lemmas.List.{get_or-map, get_or-set_other, get_or-set_same, get_or_read, get_or-replicate}
+use Rattle.std.proofs.lemmas.List.{length-map, length-replicate}
 use Rattle.std.proofs.lemmas.List.{length-set, same_lists, set-get_or}
 use Rattle.std.proofs.lemmas.List.FromFn.{get_or-map-range_with_len, length-map-range_with_len}
 use Rattle.page_core.specs.declared.page.Page.{Page}
@@ -72,10 +73,12 @@ set-states_of written rec_lsns images firsts n s lt_written lt_rec_lsns lt_image
     get_or-states_of written' rec_lsns' images' firsts' p d known' ∙ elim (cases_eq p n) [
       | inl same ↦
           ap (row written' rec_lsns' images' firsts') same
-          ∙ rw (get_or-set_same written n s.written 0 lt_written, get_or-set_same rec_lsns n s.rec_lsn None lt_rec_lsns, get_or-set_same images n s.writing None lt_images, get_or-set_same firsts n s.since None lt_firsts) refl
+          ∙ rw (get_or-set_same written n s.written 0 lt_written, get_or-set_same rec_lsns n s.rec_lsn None lt_rec_lsns,
+              get_or-set_same images n s.writing None lt_images, get_or-set_same firsts n s.since None lt_firsts) refl
           ∙ sym (ap (λ (k : ℕ). get_or (set states n s) k d) same ∙ get_or-set_same states n s d (omega arith))
       | inr other ↦
-          rw (get_or-set_other written n p s.written 0 other, get_or-set_other rec_lsns n p s.rec_lsn None other, get_or-set_other images n p s.writing None other, get_or-set_other firsts n p s.since None other) refl
+          rw (get_or-set_other written n p s.written 0 other, get_or-set_other rec_lsns n p s.rec_lsn None other,
+              get_or-set_other images n p s.writing None other, get_or-set_other firsts n p s.since None other) refl
           ∙ sym (get_or-set_other states n p s d other ∙ get_or-states_of written rec_lsns images firsts p d known)
     ])
 

@@ -1,5 +1,6 @@
 -- A log with one record more is a log.
-use Rattle.std.proofs.Common.{◌≡◌, ℕ, ◌+◌, ◌<◌, ◌≤◌, length, List, [], ◌∷◌, ◌++◌, get_or, sym, subst, ap, ◌∙◌, arith, inl, inr}
+use Rattle.std.proofs.Common.{◌≡◌, ℕ, ◌+◌, ◌<◌, ◌≤◌, length, List, [], ◌∷◌, ◌++◌, get_or, sym, subst, ap, ◌∙◌, arith}
+use Rattle.std.proofs.Common.{inl, inr}
 use Rattle.std.proofs.lemmas.Bool.{cases_lt}
 use Rattle.std.proofs.lemmas.List.{get_or_append_left, get_or_push, length_push}
 use Rattle.log_records.specs.declared.record.Record.{Record}
@@ -12,7 +13,8 @@ next_is_log log r valid few stands = record {
   count = omega (arith, length_push log.records r);
   records = λ i d lt. elim (cases_lt i (length log.records)) [
     | inl before ↦
-        subst (StandsAt log.pages (lsn_of i)) (sym (get_or_append_left log.records (r ∷ []) d i before)) (valid.records i d before)
+        subst (StandsAt log.pages (lsn_of i)) (sym (get_or_append_left log.records (r ∷ []) d i before))
+            (valid.records i d before)
     | inr at ↦
         let same : length log.records ≡ i = omega (arith, length_push log.records r) in
         subst (λ (n : ℕ). StandsAt log.pages (lsn_of n) (get_or (log.records ++ r ∷ []) n d)) same

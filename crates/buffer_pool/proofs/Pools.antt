@@ -7,7 +7,8 @@ use Rattle.std.specs.Option.{option_map_or}
 use Rattle.std.specs.Vec.{with_items}
 use Rattle.std.proofs.lemmas.Bool.{cases_eq, eq-eqb, ne_eqb}
 use Rattle.std.proofs.lemmas.List.{get_or-map, get_or-replicate, get_or-set_other, get_or-set_same, length-map}
-use Rattle.std.proofs.lemmas.List.{get_or_push, length-replicate, length-set, length_push, map-set, set-get_or, with_items_is}
+use Rattle.std.proofs.lemmas.List.{get_or_push, length-replicate, length-set, length_push, map-set, set-get_or}
+use Rattle.std.proofs.lemmas.List.{with_items_is}
 use Rattle.std.proofs.lemmas.List.Elements.{All-map, All-weaker}
 use Rattle.std.proofs.lemmas.List.FromFn.{get_or-map-range_with_len, length-map-range_with_len}
 use Rattle.page_core.specs.declared.page.Page.{Page}
@@ -24,7 +25,8 @@ use Rattle.log_records.proofs.Images.{image_from-append, number-image, number-wi
 use Rattle.page_store.specs.Store.{StoresOrKeeps}
 use Rattle.log_records.specs.Coverage.{AreStored, IsPast}
 use Rattle.log_records.proofs.Stored.{past_is_older, past_now, stored_begun, stored_ended, stored_failed, stored_later}
-use Rattle.buffer_pool.specs.Pool.{IsPoolOf, IsStateOf, IsWhole, PageState, PoolView, changed, new_pool, state_at, state_in, unwritten, with_state}
+use Rattle.buffer_pool.specs.Pool.{IsPoolOf, IsStateOf, IsWhole, PageState, PoolView, changed, new_pool, state_at}
+use Rattle.buffer_pool.specs.Pool.{state_in, unwritten, with_state}
 use Rattle.buffer_pool.specs.Pool.{write_begun, write_ended, writing_of, written_of}
 use Rattle.buffer_pool.proofs.States.{state_begun, state_changed, state_ended, state_new, state_same}
 
@@ -85,13 +87,15 @@ page_is_there stored_in log next pool c some valid is =
     let rs = log.records in
     let there : length rs < length (rs ++ next ∷ []) = omega (arith, length_push rs next) in
     let within : IsWithin log.pages next =
-    subst (IsWithin log.pages) (get_or_push rs next next (length rs) refl) (valid.records (length rs) next there).within in
+    subst (IsWithin log.pages) (get_or_push rs next next (length rs) refl)
+        (valid.records (length rs) next there).within in
     let below : c.page < log.pages = subst (λ (o : Option PageChange). IfSome o (λ x. x.page < log.pages)) some
     (change_within log.pages next within) in
     omega (arith, is.pages)
 
 -- what a pool is after a record more, if each state is
-later : {S : Type 0} (stored_in : S → List Page) (log : Log) (next : Record) (pool : PoolView S) (states : List PageState)
+later : {S : Type 0} (stored_in : S → List Page) (log : Log) (next : Record) (pool : PoolView S)
+    (states : List PageState)
     → IsLog (with_next log (next ∷ [])) → IsPoolOf stored_in log pool → length states ≡ length pool.states
     → written_of states ≡ written_of pool.states → writing_of states ≡ writing_of pool.states
     → ((p : ℕ) (d : PageState) → p < length states → IsStateOf (with_next log (next ∷ [])) p (get_or states p d))
@@ -102,7 +106,9 @@ later stored_in log next pool states valid is count written writing each = recor
   pages = is.pages ∙ sym count;
   resident = images_later log.records next pool.resident is.resident;
   states = each;
-  stored = rw (written, writing) (stored_later log.records (next ∷ []) (stored_in pool.store) (written_of pool.states) (writing_of pool.states) is.stored);
+  stored = rw (written, writing)
+      (stored_later log.records (next ∷ []) (stored_in pool.store) (written_of pool.states)
+          (writing_of pool.states) is.stored);
 }
 
 -- a record that changes no page
@@ -143,17 +149,20 @@ pool_changed stored_in log next pool c some valid is =
     ∙ ne_eqb n p (λ same. other (sym same)))
     (is.states p d lt)) there)
 
-pub changed_at : (before after : List PageState) (n lsn own : ℕ) → after ≡ set before n (changed (state_in before n) lsn)
+pub changed_at : (before after : List PageState) (n lsn own : ℕ)
+    → after ≡ set before n (changed (state_in before n) lsn)
     → lsn ≡ own → after ≡ set before n (changed (state_in before n) own)
 changed_at before after n lsn own e same = e ∙ ap (λ (k : ℕ). set before n (changed (state_in before n) k)) same
 
 -- the columns that a change leaves
-pub written_changed : (before after : List PageState) (n lsn : ℕ) → after ≡ set before n (changed (state_in before n) lsn)
+pub written_changed : (before after : List PageState) (n lsn : ℕ)
+    → after ≡ set before n (changed (state_in before n) lsn)
     → n < length before → written_of after ≡ written_of before
 written_changed before after n lsn e there =
     ap written_of e ∙ column_same (λ (s : PageState). s.written) before n (changed (state_in before n) lsn) there refl
 
-pub writing_changed : (before after : List PageState) (n lsn : ℕ) → after ≡ set before n (changed (state_in before n) lsn)
+pub writing_changed : (before after : List PageState) (n lsn : ℕ)
+    → after ≡ set before n (changed (state_in before n) lsn)
     → n < length before → writing_of after ≡ writing_of before
 writing_changed before after n lsn e there =
     ap writing_of e ∙ column_same (λ (s : PageState). s.writing) before n (changed (state_in before n) lsn) there refl
@@ -209,8 +218,10 @@ pool_kept stored_in log pool store same is = record {
 -- ---- a write begins
 
 pub pool_begun : {S : Type 0} (stored_in : S → List Page) (log : Log) (pool : PoolView S) (q : Page)
-    → q.number < length pool.states → q ≡ image log.records q.number → length (stored_in pool.store) ≡ length pool.states
-    → IsPoolOf stored_in log pool → IsPoolOf stored_in log (with_state pool q.number (write_begun (state_at pool q.number) q))
+    → q.number < length pool.states → q ≡ image log.records q.number
+        → length (stored_in pool.store) ≡ length pool.states
+    → IsPoolOf stored_in log pool
+        → IsPoolOf stored_in log (with_state pool q.number (write_begun (state_at pool q.number) q))
 pool_begun stored_in log pool q there now count is =
     let n = q.number in
     let states = pool.states in
@@ -232,7 +243,8 @@ pool_begun stored_in log pool q there now count is =
       states = states_set (IsStateOf log) states n new
           (state_begun log n old q is.valid now (is.states n unwritten there))
           (λ p d lt other. is.states p d lt) there;
-      stored = rw (column_same (λ (s : PageState). s.written) states n new there refl, map-set (λ (s : PageState). s.writing) states n new) begun;
+      stored = rw (column_same (λ (s : PageState). s.written) states n new there refl, map-set
+          (λ (s : PageState). s.writing) states n new) begun;
     }
 
 -- ---- a write ends
@@ -258,7 +270,8 @@ pool_ended stored_in log pool store n q there here count stores is =
       resident = is.resident;
       states = states_set (IsStateOf log) states n new (state_ended log n old q here (is.states n unwritten there))
           (λ p d lt other. is.states p d lt) there;
-      stored = rw (stores, map-set (λ (s : PageState). s.written) states n new, map-set (λ (s : PageState). s.writing) states n new) ended;
+      stored = rw (stores, map-set (λ (s : PageState). s.written) states n new, map-set
+          (λ (s : PageState). s.writing) states n new) ended;
     }
 
 -- ---- a write fails
@@ -328,7 +341,8 @@ pool_new stored_in store n count holds = record {
   states = λ p d lt.
       let below : p < n = omega (arith, length-replicate n unwritten) in
       rw (get_or-replicate n p unwritten d below) (state_new n p);
-  stored = rw (holds, map-replicate (λ (s : PageState). s.written) n unwritten, map-replicate (λ (s : PageState). s.writing) n unwritten) (stored_new n);
+  stored = rw (holds, map-replicate (λ (s : PageState). s.written) n unwritten, map-replicate
+      (λ (s : PageState). s.writing) n unwritten) (stored_new n);
 }
 
 -- ---- what is stored

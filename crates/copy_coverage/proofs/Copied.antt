@@ -1,11 +1,13 @@
 -- The copies of a volume go on with its log, its stored pages and one another.
-use Rattle.std.proofs.Common.{◌≡◌, ℕ, zero, suc, ◌+◌, ◌-◌, ◌<◌, ◌≤◌, List, [], ◌∷◌, ◌++◌, length, get_or, set, refl, sym, ap}
+use Rattle.std.proofs.Common.{◌≡◌, ℕ, zero, suc, ◌+◌, ◌-◌, ◌<◌, ◌≤◌, List, [], ◌∷◌, ◌++◌, length, get_or, set, refl}
+use Rattle.std.proofs.Common.{sym, ap}
 use Rattle.std.proofs.Common.{subst, ◌∙◌, arith, cond, inl, inr, replicate}
 use Rattle.std.specs.Prelude.{Option, Some, None, IfSome, Bool, true, false, nat_lt}
 use Rattle.std.proofs.lemmas.Bool.{cases_eq}
 use Rattle.std.proofs.Math.ListN.{get_or-eq_default}
 use Rattle.std.proofs.lemmas.Bool.{cases_lt, ltb-true}
-use Rattle.std.proofs.lemmas.List.{get_or-set_other, get_or-set_same, get_or_append_left, get_or_push, length-append, length-replicate, length-set}
+use Rattle.std.proofs.lemmas.List.{get_or-set_other, get_or-set_same, get_or_append_left, get_or_push, length-append}
+use Rattle.std.proofs.lemmas.List.{length-replicate, length-set}
 use Rattle.std.proofs.lemmas.List.{get_or-replicate}
 use Rattle.std.proofs.lemmas.List.Elements.{All-weaker}
 use Rattle.page_core.specs.declared.page.Page.{Page}
@@ -18,10 +20,12 @@ use Rattle.copy_vault.specs.declared.copy_id.CopyKind.{CopyKind}
 use Rattle.copy_vault.specs.declared.copy_id.CopyKind.TheVariants.{Full, Inc}
 use Rattle.copy_vault.specs.declared.copy_id.Decision.TheVariants.{Taken, Kept}
 use Rattle.copy_vault.specs.Copy.{CopyView, answer_of, decided_by, decision_at, new_copy, undecided, with_decision}
-use Rattle.copy_vault.specs.Vault.{CopyState, HasParent, complete, decided, decided_in, dropped, opened, reading, redo_of}
+use Rattle.copy_vault.specs.Vault.{CopyState, HasParent, complete, decided, decided_in, dropped, opened, reading}
+use Rattle.copy_vault.specs.Vault.{redo_of}
 use Rattle.copy_vault.specs.Vault.{sealed, sealed_in, since_of, state_of, with_state, without}
 use Rattle.copy_vault.proofs.Vaults.{GoesOn, goes_on_push, goes_on_set}
-use Rattle.copy_coverage.specs.Copied.{AreCopied, AreRestorable, IsCopyOf, IsCovered, StandsOn, page_in, copy_in, decided_over, page_in}
+use Rattle.copy_coverage.specs.Copied.{AreCopied, AreRestorable, IsCopyOf, IsCovered, StandsOn, page_in, copy_in}
+use Rattle.copy_coverage.specs.Copied.{decided_over, page_in}
 
 -- ---- the log goes on
 
@@ -155,7 +159,8 @@ copied_changed rs f stored old new id state changed are stands = record {
         }
     | inr other ↦
         let here = are.each j copy (ap copy_in (sym (changed.others j other)) ∙ is) in
-        record { whole = here.whole; early = here.early; parent = parent_on old new j (length stored) copy.kind changed.on here.parent }
+        record { whole = here.whole; early = here.early; parent = parent_on old new j (length stored) copy.kind
+            changed.on here.parent }
   ];
   read = λ j copy is p d lt. elim (cases_eq j id) [
     | inl same ↦ stands.read copy (sym changed.here ∙ ap (state_of new) (sym same) ∙ is) p d lt
@@ -165,11 +170,13 @@ copied_changed rs f stored old new id state changed are stands = record {
     | inl same ↦
         let now : copy_in state ≡ Some copy = ap copy_in (sym changed.here ∙ ap (state_of new) (sym same)) ∙ is in
         stands.covered copy older now
-        (stood_on old new (length stored) changed.on (λ i c h. (are.each i c h).parent) id copy.kind older (stands.each copy now).parent on) p
+        (stood_on old new (length stored) changed.on (λ i c h. (are.each i c h).parent) id copy.kind older
+            (stands.each copy now).parent on) p
     | inr other ↦
         let was : copy_in (state_of old j) ≡ Some copy = ap copy_in (sym (changed.others j other)) ∙ is in
         are.covered j copy older was
-        (stood_on old new (length stored) changed.on (λ i c h. (are.each i c h).parent) j copy.kind older (are.each j copy was).parent on) p
+        (stood_on old new (length stored) changed.on (λ i c h. (are.each i c h).parent) j copy.kind older
+            (are.each j copy was).parent on) p
   ];
 }
 
@@ -208,7 +215,8 @@ some_same : (a b : CopyView) → Some a ≡ Some b → a ≡ b
 some_same a b e = cc
 
 pub copied_opened : (rs : List Record) (f : ℕ) (stored : List Page) (copies : List CopyState) (kind : CopyKind)
-    (begin redo : ℕ) → AreCopied rs f stored copies → HasParent copies (length copies + 1) (length stored) kind → redo ≤ f
+    (begin redo : ℕ) → AreCopied rs f stored copies
+        → HasParent copies (length copies + 1) (length stored) kind → redo ≤ f
     → ((p : ℕ) (d : Page) → p < length stored → Covers rs p (get_or stored p d) redo)
     → AreCopied rs f stored (opened copies kind (length stored) begin redo)
 copied_opened rs f stored copies kind begin redo are parent early covers =
@@ -217,7 +225,8 @@ copied_opened rs f stored copies kind begin redo are parent early covers =
     (opened_changes copies (reading new)) are (record {
       each = λ copy is. subst (IsCopyOf (length stored) f copies (length copies + 1)) (some_same new copy is)
           (record { whole = length-replicate (length stored) undecided; early = early; parent = parent });
-      read = λ copy is p d lt. subst (λ (c : CopyView). Covers rs p (get_or stored p d) c.redo) (reading_same new copy is)
+      read = λ copy is p d lt. subst (λ (c : CopyView). Covers rs p (get_or stored p d) c.redo)
+          (reading_same new copy is)
           (covers p d lt);
       covered = λ copy older is on p.
           subst (λ (c : CopyView). IfSome (page_in (c ∷ older) p) (IsCovered rs f c.redo p)) (some_same new copy is)
@@ -297,7 +306,8 @@ copied_decided rs f stored copies id p copy page are is lt same stable =
     let decision = decided_by (answer_of since page) page in
     let next = with_decision copy p decision in
     let there : p < length copy.pages = omega (arith, (are.each id copy (ap copy_in is)).whole) in
-    let covers : Covers rs p page copy.redo = subst (λ (q : Page). Covers rs p q copy.redo) (sym same) (are.read id copy is p page lt) in
+    let covers : Covers rs p page copy.redo = subst (λ (q : Page). Covers rs p q copy.redo) (sym same)
+        (are.read id copy is p page lt) in
     let made : decided copies id p page ≡ with_state copies id (reading next) =
     ap (λ (s : CopyState). with_state copies id (decided_in copies s p page)) is in
     subst (AreCopied rs f stored) (sym made)
@@ -357,7 +367,8 @@ pub copied_dropped : (rs : List Record) (f : ℕ) (stored : List Page) (copies :
     (copy : CopyView) → AreCopied rs f stored copies → state_of copies id ≡ reading copy
     → AreCopied rs f stored (without copies id)
 copied_dropped rs f stored copies id copy are is =
-    copied_changed rs f stored copies (without copies id) id dropped (set_changes copies id copy dropped is) are (record {
+    copied_changed rs f stored copies (without copies id) id dropped
+        (set_changes copies id copy dropped is) are (record {
       each = λ c e. absurd (none_some c e);
       read = λ c e p d lt. absurd (dropped_not_reading c e);
       covered = λ c older e on p. absurd (none_some c e);

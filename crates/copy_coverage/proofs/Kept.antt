@@ -37,7 +37,8 @@ covers_kept log n p page bound valid le covers lt =
       past = record {
         count = m;
         within = omega (arith, length-take n rs);
-        made = past_is_named log p page valid covers.past ∙ ap (λ (xs : List Record). image xs p) (sym (take-take m n rs below));
+        made = past_is_named log p page valid covers.past
+            ∙ ap (λ (xs : List Record). image xs p) (sym (take-take m n rs below));
       };
       reached = of_each (λ lsn. lsn < bound → lsn ≤ page.lsn) p (take n rs)
           (All-take (λ r. changes p r ≡ true → own_lsn r < bound → own_lsn r ≤ page.lsn) n rs

@@ -21,7 +21,8 @@ use Rattle.copy_vault.specs.Copy.{CopyView, IsComplete, PageDecision, undecided,
 use Rattle.copy_vault.specs.Vault.{CopyState, HasParent, IsOfId, IsParent, complete, complete_refusal, state_of}
 use Rattle.copy_vault.proofs.Fronts.{all_push}
 use Rattle.copy_vault.specs.Chain.{FitFrom, Fits, IsBrokenAt, kind_after}
-use Rattle.copy_vault.specs.Chain.{Follow, IsChain, IsChainOf, IsNext, content, contents, last_of, last_redo, lent, page_count, takings}
+use Rattle.copy_vault.specs.Chain.{Follow, IsChain, IsChainOf, IsNext, content, contents, last_of, last_redo, lent}
+use Rattle.copy_vault.specs.Chain.{page_count, takings}
 
 all_append : {X : Type 0} (P : X → Type 0) (xs ys : List X) → AllByRecursion P xs → AllByRecursion P ys
     → AllByRecursion P (xs ++ ys)
@@ -91,7 +92,8 @@ some_members members chain = omega (arith, ap length chain.is)
 -- ---- the content of a page
 
 takings_more : (members : List CopyView) (k p : ℕ) (d : CopyView) → k < length members
-    → takings (drop k members) p ≡ page_of (decision_at (get_or members k d).pages p) ++ takings (drop (k + 1) members) p
+    → takings (drop k members) p ≡ page_of (decision_at (get_or members k d).pages p)
+        ++ takings (drop (k + 1) members) p
 takings_more members k p d lt = at_drop_more (λ (ms : List CopyView). takings ms p) members k d lt
 
 pub none_later : (members : List CopyView) (k p : ℕ) (d : CopyView) → k < length members
@@ -225,7 +227,8 @@ tail_whole copies id copy later tail whole full = record {
 
 -- ---- a copy and its parent
 
-pub known_here : (copies : List CopyState) (id : ℕ) (copy : CopyView) → IsOfId copies id copy → IsOfId copies copy.id copy
+pub known_here : (copies : List CopyState) (id : ℕ) (copy : CopyView) → IsOfId copies id copy
+    → IsOfId copies copy.id copy
 known_here copies id copy known = subst (λ n. IsOfId copies n copy) (sym known.id_is) known
 
 pub parent_of : (copies : List CopyState) (copy : CopyView) (parent : ℕ) → IsOfId copies copy.id copy

@@ -90,7 +90,8 @@ least_is pages n lt before at =
 pub none_left : (pages : List PageDecision) → AreDecidedBelow (length pages) pages → least_undecided pages ≡ None
 none_left pages all =
     let n = length pages in
-    let first : position_or_len is_undecided pages ≡ n = first_is pages n (omega arith) all (λ lt. absurd (omega arith)) in
+    let first : position_or_len is_undecided pages
+        ≡ n = first_is pages n (omega arith) all (λ lt. absurd (omega arith)) in
     ap (λ k. cond (ltb k n) (Some k) None) first ∙ ap (λ b. cond b (Some n) None) (le-ltb n n (omega arith))
 
 -- ---- whether a page is left

@@ -1,5 +1,6 @@
 -- Pages that are laid over others.
-use Rattle.std.proofs.Common.{◌≡◌, ◌≢◌, ℕ, ◌<◌, List, [], ◌∷◌, ◌++◌, length, get_or, refl, sym, ap, ◌∙◌, arith, suc, zero}
+use Rattle.std.proofs.Common.{◌≡◌, ◌≢◌, ℕ, ◌<◌, List, [], ◌∷◌, ◌++◌, length, get_or, refl, sym, ap, ◌∙◌, arith, suc}
+use Rattle.std.proofs.Common.{zero}
 use Rattle.std.proofs.Common.{inl, inr}
 use Rattle.std.specs.Prelude.{slice_set}
 use Rattle.std.proofs.lemmas.Bool.{cases_lt}
@@ -10,7 +11,8 @@ use Rattle.page_core.specs.declared.page.Page.{Page}
 use Rattle.copy_vault.specs.Copy.{PageDecision, undecided, taken, kept, decision_at}
 use Rattle.copy_vault.specs.Slots.{AreLaidOver, AreTaken, laid, taken_over}
 
-pub laid_push : (pages old : List Page) (page : Page) → laid (pages ++ page ∷ []) old ≡ slice_set (laid pages old) page.number page
+pub laid_push : (pages old : List Page) (page : Page)
+    → laid (pages ++ page ∷ []) old ≡ slice_set (laid pages old) page.number page
 laid_push [] old page = refl
 laid_push (x ∷ pages) old page = laid_push pages (slice_set old x.number x) page
 

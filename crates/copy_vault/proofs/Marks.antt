@@ -11,7 +11,8 @@ use Rattle.page_core.specs.declared.page.Page.{Page}
 use Rattle.page_core.specs.Page.{formatted}
 use Rattle.copy_vault.specs.declared.slots.Mark.{Mark}
 use Rattle.copy_vault.specs.declared.slots.Mark.TheVariants.{Undecided, Taken, Kept}
-use Rattle.copy_vault.specs.Copy.{PageDecision, undecided, taken, kept, decision_at, page_of, taken_count, undecided_count}
+use Rattle.copy_vault.specs.Copy.{PageDecision, undecided, taken, kept, decision_at, page_of, taken_count}
+use Rattle.copy_vault.specs.Copy.{undecided_count}
 use Rattle.copy_vault.specs.Slots.{AreInPlaceBy, AreTaken, AreWithin, IsMarked, decision_by, decisions_by}
 use Rattle.copy_vault.proofs.Decisions.{count_none, count_set, count_within, left_none, left_set, map-replicate}
 
@@ -145,7 +146,8 @@ marked_keep marks pages left room p old lt none =
       within = within_set marks p Kept (length pages) (length pages) old.within (omega arith) below
           (λ k e. absurd (not_kept k e));
       placed = placed_keep below;
-      stands = subst (AreTaken pages) (sym is) (λ k d here. stands_one ds p kept (get_or pages k d) none (old.stands k d here));
+      stands = subst (AreTaken pages) (sym is)
+          (λ k d here. stands_one ds p kept (get_or pages k d) none (old.stands k d here));
       fits = omega (arith, old.fits, length-set marks p Kept);
     }
   where
@@ -232,10 +234,12 @@ page_read pages marks n k page d lt at is =
     ap (λ (x : Page). x ∷ []) (is ∙ same_default pages k d (formatted 0) lt)
     ∙ sym (ap page_of (mark_read pages marks n ∙ ap (decision_by pages) at))
 
-pub marked_all : (marks : List Mark) (pages : List Page) (left room p : ℕ) (page : Page) → IsMarked marks pages left room
+pub marked_all : (marks : List Mark) (pages : List Page) (left room p : ℕ) (page : Page)
+    → IsMarked marks pages left room
     → decision_at (decisions_by pages marks) p ≡ taken page
     → (k : ℕ) × (k < length pages) × ((d : Page) → (get_or pages k d).number ≡ p)
-marked_all marks pages left room p page old e = named (get_or marks p Undecided) refl (sym (mark_read pages marks p) ∙ e)
+marked_all marks pages left room p page old e = named (get_or marks p Undecided) refl
+    (sym (mark_read pages marks p) ∙ e)
   where
     named : (m : Mark) → get_or marks p Undecided ≡ m → decision_by pages m ≡ taken page
         → (k : ℕ) × (k < length pages) × ((d : Page) → (get_or pages k d).number ≡ p)

@@ -146,7 +146,8 @@ bad_count bytes (inr bad) = record {
 
 -- ---- no two of them
 
-same_bad : (bytes : List ℕ) (m n : ℕ) → IsBadHeader bytes m ⊎ IsBadPage bytes m → IsBadHeader bytes n ⊎ IsBadPage bytes n
+same_bad : (bytes : List ℕ) (m n : ℕ) → IsBadHeader bytes m ⊎ IsBadPage bytes m
+    → IsBadHeader bytes n ⊎ IsBadPage bytes n
     → m ≡ n
 same_bad bytes m n (inl one) (inl two) = one.place ∙ sym two.place
 same_bad bytes m n (inl one) (inr two) = absurd (one.none two.header two.pages two.rest two.stops.begins)

@@ -4,7 +4,8 @@ use Rattle.std.proofs.Common.{replicate, refl, sym, ap, ◌∙◌, subst, arith,
 use Rattle.std.specs.List.{range_with_len}
 use Rattle.std.proofs.lemmas.Bool.{cases_lt, ne_eqb}
 use Rattle.std.proofs.lemmas.Bool.Decides.{eqb_tells}
-use Rattle.std.proofs.lemmas.List.{append-nil, append_assoc, ext_get_or, get_or_append_left, get_or-append_right, get_or_past}
+use Rattle.std.proofs.lemmas.List.{append-nil, append_assoc, ext_get_or, get_or_append_left, get_or-append_right}
+use Rattle.std.proofs.lemmas.List.{get_or_past}
 use Rattle.std.proofs.lemmas.List.{get_or_push, get_or-replicate, length-append, length-replicate, length_push}
 use Rattle.std.proofs.lemmas.List.FromFn.{get_or-map-range_with_len, length-map-range_with_len, map-range_with_len_more}
 use Rattle.page_core.specs.declared.page.Page.{Page}
@@ -73,12 +74,15 @@ rising_all pages count p page e =
     found_at pages p page (sym (decision_of pages count p lt) ∙ e)
 
 -- the place of a page that is looked up
-pub read_taken : (pages : List Page) (count k p : ℕ) (d : Page) → AreRising pages count → p < length (decisions_of pages count)
-    → k < length pages → (get_or pages k d).number ≡ p → decision_at (decisions_of pages count) p ≡ taken (get_or pages k d)
+pub read_taken : (pages : List Page) (count k p : ℕ) (d : Page) → AreRising pages count
+    → p < length (decisions_of pages count)
+    → k < length pages → (get_or pages k d).number ≡ p
+        → decision_at (decisions_of pages count) p ≡ taken (get_or pages k d)
 read_taken pages count k p d rising lt below is =
     decision_of pages count p (omega (arith, length_of pages count)) ∙ taken_at pages k p d rising.rising below is
 
-pub read_kept : (pages : List Page) (count k p : ℕ) (d : Page) → AreRising pages count → p < length (decisions_of pages count)
+pub read_kept : (pages : List Page) (count k p : ℕ) (d : Page) → AreRising pages count
+    → p < length (decisions_of pages count)
     → ((i : ℕ) → i < k → (get_or pages i d).number < p) → (k < length pages → p ≤ (get_or pages k d).number)
     → (k < length pages → (get_or pages k d).number ≢ p) → decision_at (decisions_of pages count) p ≡ kept
 read_kept pages count k p d rising lt before at ne =
@@ -111,7 +115,8 @@ kept_more pages count end rising le =
     (λ p lt. at p (omega (arith, length_of pages end)))
   where
     at : (p : ℕ) → p < end
-        → decision_at (decisions_of pages end) p ≡ decision_at (decisions_of pages count ++ replicate (end - count) kept) p
+        → decision_at (decisions_of pages end) p
+            ≡ decision_at (decisions_of pages count ++ replicate (end - count) kept) p
     at p lt = elim (cases_lt p count) [
       | inl below ↦ decision_of pages end p lt ∙ sym (decision_of pages count p below)
           ∙ sym (get_or_append_left (decisions_of pages count) (replicate (end - count) kept) undecided p
@@ -144,7 +149,8 @@ pub part_kept : (h : ArchiveHeader) (n : ℕ) (pages : List PageDecision) → Is
 part_kept h zero pages part within = subst (IsPart h) (sym (append-nil pages)) part
 part_kept h (suc n) pages part within =
     subst (IsPart h) (append_assoc pages (kept ∷ []) (replicate n kept))
-    (part_kept h n (pages ++ kept ∷ []) (part_push_kept h pages part (omega arith)) (omega (arith, length_push pages kept)))
+    (part_kept h n (pages ++ kept ∷ []) (part_push_kept h pages part (omega arith))
+        (omega (arith, length_push pages kept)))
 
 -- ---- a page more is taken
 
@@ -154,7 +160,8 @@ push_other [] x p ne = other_is x [] p ne
 push_other (page ∷ pages) x p ne =
     elim (eqb_tells page.number p) [
       | inl same ↦ here_is page (pages ++ x ∷ []) p same.1 ∙ sym (here_is page pages p same.1)
-      | inr other ↦ other_is page (pages ++ x ∷ []) p other.1 ∙ push_other pages x p ne ∙ sym (other_is page pages p other.1)
+      | inr other ↦ other_is page (pages ++ x ∷ []) p other.1 ∙ push_other pages x p ne
+          ∙ sym (other_is page pages p other.1)
     ]
 
 push_here : (pages : List Page) (x : Page) (p : ℕ) (d : Page) → x.number ≡ p

@@ -18,7 +18,8 @@ use Rattle.copy_vault.specs.declared.vault.Entry.TheVariants as entry
 use Rattle.copy_vault.specs.Copy.{CopyView, answer_of, decided_by, decision_at, undecided, with_decision}
 use Rattle.copy_vault.specs.Reading.{ReadingView}
 use Rattle.copy_vault.specs.Vault.{CopyState, reading, complete, dropped, state_of, since_of, redo_of}
-use Rattle.copy_vault.specs.Vault.{HasParent, IsOfId, IsKept, IsVault, state_in, with_state, answer_in, decided_in, decided}
+use Rattle.copy_vault.specs.Vault.{HasParent, IsOfId, IsKept, IsVault, state_in, with_state, answer_in, decided_in}
+use Rattle.copy_vault.specs.Vault.{decided}
 use Rattle.copy_vault.specs.Vault.{seal_refusal, drop_refusal, sealed_in, room_in, reading_of, pages_read}
 
 -- every copy that is complete stays as it is
@@ -106,7 +107,8 @@ vault_set entries k e vault lt none new =
         | inl lt ↦ subst (IsKept after (j + 1)) (sym (get_or-set_other entries k j e entry.Dropped (λ s. omega arith)))
             (kept_stays old after (j + 1) (get_or entries j entry.Dropped) on (vault.each j))
         | inr le ↦ elim (cases_lt k j) [
-          | inl lt ↦ subst (IsKept after (j + 1)) (sym (get_or-set_other entries k j e entry.Dropped (λ s. omega arith)))
+          | inl lt ↦ subst (IsKept after (j + 1))
+              (sym (get_or-set_other entries k j e entry.Dropped (λ s. omega arith)))
               (kept_stays old after (j + 1) (get_or entries j entry.Dropped) on (vault.each j))
           | inr ge ↦ let same : k ≡ j = omega arith in
               subst (λ n. IsKept after (n + 1) (get_or (slice_set entries k e) n entry.Dropped)) same
@@ -290,7 +292,8 @@ drop_keeps entries k old new (Err fault) vault lt is fine gone same =
 -- ---- a new copy
 
 pub kept_new : (entries : List Entry) (id : ℕ) (it : ReadingView) → it.copy.id ≡ id
-    → HasParent (map state_in entries) id (length it.copy.pages) it.copy.kind → it.since ≡ since_of (map state_in entries) it.copy.kind
+    → HasParent (map state_in entries) id (length it.copy.pages) it.copy.kind
+        → it.since ≡ since_of (map state_in entries) it.copy.kind
     → IsKept (map state_in entries) id (entry.Reading it)
 kept_new entries id it id_is parent since_is = (record { id_is = id_is; parent = parent }, since_is)
 

@@ -1,7 +1,11 @@
 -- The sets of seats of all pages, as one list.
-use Rattle.std.proofs.Common.{◌≡◌, ◌≢◌, ◌⊎◌, ◌∙◌, ◌<◌, ◌≤◌, ◌&&◌, ◌++◌, ◌∷◌, ◌+◌, ◌-◌, ◌*◌, ◌/◌, ◌%◌, ℕ, zero, suc, Bool, true, false, List, [], Option, Some, None, length, get_or, set, replicate, cond, eqb, inl, inr, refl, sym, ap, arith}
-use Rattle.std.proofs.lemmas.Bool.{and_from, and_parts, and_right, cases_Bool, cases_eq, cases_lt, eq-eqb, eqb-true, false≢true, le-ltb, lt-ltb, ne_eqb}
-use Rattle.std.proofs.lemmas.List.{get_or-append_right, get_or-replicate, get_or-set_other, get_or-set_same, get_or_append_left, get_or_default, get_or_past, length-replicate, set-get_or}
+use Rattle.std.proofs.Common.{◌≡◌, ◌≢◌, ◌⊎◌, ◌∙◌, ◌<◌, ◌≤◌, ◌&&◌, ◌++◌, ◌∷◌, ◌+◌, ◌-◌, ◌*◌, ◌/◌, ◌%◌, ℕ, zero, suc}
+use Rattle.std.proofs.Common.{Bool, true, false, List, [], Option, Some, None, length, get_or, set, replicate, cond}
+use Rattle.std.proofs.Common.{eqb, inl, inr, refl, sym, ap, arith}
+use Rattle.std.proofs.lemmas.Bool.{and_from, and_parts, and_right, cases_Bool, cases_eq, cases_lt, eq-eqb, eqb-true}
+use Rattle.std.proofs.lemmas.Bool.{false≢true, le-ltb, lt-ltb, ne_eqb}
+use Rattle.std.proofs.lemmas.List.{get_or-append_right, get_or-replicate, get_or-set_other, get_or-set_same}
+use Rattle.std.proofs.lemmas.List.{get_or_append_left, get_or_default, get_or_past, length-replicate, set-get_or}
 use Rattle.std.specs.Option.{option_map_or}
 use lib.Dec.{ltb}
 use Rattle.log_history.specs.declared.seat_set.SeatSet.{SeatSet}
@@ -61,7 +65,8 @@ module _ {B : Type 0} (sets : B → List SeatSet) where
       ∙ ap (λ v. sets_of v slot) (get_or_default pages page None o within ∙ sym there ∙ is))
 
   -- the same page again
-  pub same_again : (pages : List (Option B)) (page : ℕ) (o : Option B) → o ≡ get_or pages page o → set pages page o ≡ pages
+  pub same_again : (pages : List (Option B)) (page : ℕ) (o : Option B) → o ≡ get_or pages page o
+      → set pages page o ≡ pages
   same_again pages page o there = ap (set pages page) there ∙ set-get_or pages page o
 
   -- a page without sets more
@@ -97,7 +102,8 @@ module _ {B : Type 0} (sets : B → List SeatSet) where
       here : (s < 8) ⊎ (8 ≤ s) → seats_of after s ≡ cond (eqb slot s) seats (slot_seats pages page s)
       here (inl fits) =
           ap (λ b. cond b (sets_of after s) no_seats) (lt-ltb s 8 fits) ∙ says s fits
-          ∙ sym (ap (λ b. cond (eqb slot s) seats (cond b (sets_of (get_or pages page None) s) no_seats)) (lt-ltb s 8 fits))
+          ∙ sym (ap (λ b. cond (eqb slot s) seats
+              (cond b (sets_of (get_or pages page None) s) no_seats)) (lt-ltb s 8 fits))
       here (inr past) =
           let apart : slot ≢ s = omega arith in
           ap (λ b. cond b (sets_of after s) no_seats) (le-ltb s 8 past)

@@ -1,23 +1,27 @@
 -- What may stand at the end of a valid log: what is pending there, and the numbers of its open transactions.
-use Rattle.std.proofs.Common.{◌≡◌, refl, ℕ, ◌+◌, ◌-◌, ◌<◌, ◌≤◌, true, eqb, List, [], ◌∷◌, ◌++◌, length, get_or, map, subst, arith, below_more}
+use Rattle.std.proofs.Common.{◌≡◌, refl, ℕ, ◌+◌, ◌-◌, ◌<◌, ◌≤◌, true, eqb, List, [], ◌∷◌, ◌++◌, length, get_or, map}
+use Rattle.std.proofs.Common.{subst, arith, below_more}
 use Rattle.std.specs.Prelude.{Option, Some, None, IfSome}
 use Rattle.std.specs.List.{All}
 use Rattle.std.proofs.Math.Nat.{mul-mod_right}
 use Rattle.std.proofs.lemmas.List.{get_or_append_left, get_or_push, length-map, length_push}
-use Rattle.std.proofs.lemmas.List.Elements.{All-filter, All-get_or, All-head, All-map, All-nil, All-push, All-tail, All-take, All-weaker}
+use Rattle.std.proofs.lemmas.List.Elements.{All-filter, All-get_or, All-head, All-map, All-nil, All-push, All-tail}
+use Rattle.std.proofs.lemmas.List.Elements.{All-take, All-weaker}
 use Rattle.std.proofs.lemmas.Option.{get_or_from_slice_get, slice_get_within}
 use Rattle.page_core.specs.declared.change.Change.{Change}
 use Rattle.page_core.specs.declared.change.Change.TheVariants.{Set, Add}
 use Rattle.page_core.specs.Change.{undo_of}
 use Rattle.log_records.specs.declared.limits.TheConstants.{MAX_RECORDS}
 use Rattle.log_records.specs.declared.record.Record.{Record}
-use Rattle.log_records.specs.declared.record.Record.TheVariants.{Begin, Update, Comp, Commit, Abort, End, BeginChkpt, ChkptPages, ChkptTxns, EndChkpt}
+use Rattle.log_records.specs.declared.record.Record.TheVariants.{Begin, Update, Comp, Commit, Abort, End, BeginChkpt}
+use Rattle.log_records.specs.declared.record.Record.TheVariants.{ChkptPages, ChkptTxns, EndChkpt}
 use Rattle.log_records.specs.Log.{IsLog, IsWithin, Log, StandsAt, lsn_of, with_next}
 use Rattle.log_records.specs.Record.{HasNoBefore, IsBefore, IsChange, IsLsn, IsPageChange, IsRecord, IsTxn, own_lsn}
 use Rattle.log_records.proofs.Changes.{valid_change}
 use Rattle.log_history.specs.declared.pending_change.PendingChange.{PendingChange}
 use Rattle.log_history.specs.Linked.{IsLinked}
-use Rattle.log_history.specs.Transactions.{begun, is_open, last_lsn, last_of, last_or, pending, pending_from, records_of, txn_of, with_pending}
+use Rattle.log_history.specs.Transactions.{begun, is_open, last_lsn, last_of, last_or, pending, pending_from}
+use Rattle.log_history.specs.Transactions.{records_of, txn_of, with_pending}
 use Rattle.log_history.proofs.Begun.{begun_bounds, open_has_begun, some_from_begin}
 
 -- ---- what holds of each Update's change

@@ -1,5 +1,6 @@
 -- Who keeps a slot from a transaction: the claims say of its seat what the table says of it.
-use Rattle.std.proofs.Common.{◌≡◌, ◌≢◌, ◌∙◌, ◌<◌, ◌∷◌, ◌&&◌, [], ℕ, zero, suc, Bool, true, false, not, List, Option, Some, None, map, length, get_or, set, cond, eqb, inl, inr, refl, sym, ap, arith}
+use Rattle.std.proofs.Common.{◌≡◌, ◌≢◌, ◌∙◌, ◌<◌, ◌∷◌, ◌&&◌, [], ℕ, zero, suc, Bool, true, false, not, List, Option}
+use Rattle.std.proofs.Common.{Some, None, map, length, get_or, set, cond, eqb, inl, inr, refl, sym, ap, arith}
 use Rattle.std.proofs.lemmas.Bool.{and_from, and_right, cases_eq, eq-eqb, false≢true, ne_eqb}
 use Rattle.std.specs.List.{find}
 use Rattle.std.specs.Option.{option_map}
@@ -113,7 +114,8 @@ module _ {begun i t : ℕ} {xs : List OpenEntry} {x : OpenEntry} {claims : Claim
       let nobody : find is_holder xs ≡ None
       = no-number (find is_holder xs) (sym (least-holder page slot kind t tracks) ∙ none) in
       let apart : e.txn ≢ t = λ same. held.is_other (sym place.1.1
-      ∙ ap (λ n. (get_or xs n x).seat) (one-of xs place.0 i x tracks.ranked place.1.0 at.within (inl (same ∙ sym own-txn)))
+      ∙ ap (λ n. (get_or xs n x).seat)
+          (one-of xs place.0 i x tracks.ranked place.1.0 at.within (inl (same ∙ sym own-txn)))
       ∙ own-seat) in
       false≢true (sym (none-fails is_holder xs place.0 x place.1.0 nobody)
       ∙ and_from (not (eqb e.txn t)) (has_seat seats e.seat) (ap not (ne_eqb e.txn t apart))
@@ -149,5 +151,6 @@ module _ {begun txn seat : ℕ} {claims : Claims} {list : OpenList} {x : OpenEnt
       let at = at-seat stored sits there in (
         λ may. somebody-holds at stored.tracks c.page c.slot (kind_of c.change) up.0
             (ap (λ (v : Table). holder_in v c.page c.slot (kind_of c.change) txn) is ∙ may.1),
-        ap (λ es. let v : Table = record { begun = begun; entries = es } in v) (view-stays stored sits there e up.1) ∙ is,
+        ap (λ es. let v : Table = record { begun = begun; entries = es } in v)
+            (view-stays stored sits there e up.1) ∙ is,
       )

@@ -1,5 +1,6 @@
 -- The numbers of the transactions of a linked log.
-use Rattle.std.proofs.Common.{◌≡◌, ℕ, zero, suc, ◌+◌, ◌<◌, ◌≤◌, ◌⊎◌, true, false, ◌&&◌, not, eqb, List, [], ◌∷◌, ◌++◌, length, sym, refl, ap, subst, ◌∙◌, inl, inr, arith, eq-eqb, eqb-true, true≢false}
+use Rattle.std.proofs.Common.{◌≡◌, ℕ, zero, suc, ◌+◌, ◌<◌, ◌≤◌, ◌⊎◌, true, false, ◌&&◌, not, eqb, List, [], ◌∷◌, ◌++◌}
+use Rattle.std.proofs.Common.{length, sym, refl, ap, subst, ◌∙◌, inl, inr, arith, eq-eqb, eqb-true, true≢false}
 use Rattle.std.specs.Prelude.{Some, None}
 use Rattle.std.specs.List.{list_any, range_with_len}
 use Rattle.std.specs.List.Sorted.{IsStrictlyIncreasing}
@@ -9,12 +10,14 @@ use Rattle.std.proofs.lemmas.List.{map-id, length_push}
 use Rattle.std.proofs.lemmas.List.FromFn.{get_or-range_with_len, length-range_with_len, map-range_with_len_more}
 use Rattle.std.proofs.lemmas.List.Kept.{IsStrictlyIncreasing-filter}
 use Rattle.log_records.specs.declared.record.Record.{Record}
-use Rattle.log_records.specs.declared.record.Record.TheVariants.{Begin, Update, Comp, Commit, Abort, End, BeginChkpt, ChkptPages, ChkptTxns, EndChkpt}
+use Rattle.log_records.specs.declared.record.Record.TheVariants.{Begin, Update, Comp, Commit, Abort, End, BeginChkpt}
+use Rattle.log_records.specs.declared.record.Record.TheVariants.{ChkptPages, ChkptTxns, EndChkpt}
 use Rattle.log_history.specs.Transactions.{begun, begun_by, is_last, is_open, open_in, records_of, txn_of}
 use Rattle.log_history.specs.Linked.{IsLinked, MayFollow}
 use Rattle.log_history.proofs.Histories.{along_linked}
 use Rattle.log_history.proofs.Filters.{filter_some}
-use Rattle.log_history.proofs.Pushes.{begun_push, begun_push_none, has_begun, has_begun_push_begin, has_begun_push_none, has_begun_push_other, records_of_push_other}
+use Rattle.log_history.proofs.Pushes.{begun_push, begun_push_none, has_begun, has_begun_push_begin, has_begun_push_none}
+use Rattle.log_history.proofs.Pushes.{has_begun_push_other, records_of_push_other}
 
 -- ---- a record that may follow begins the next transaction, or is one of an open transaction, or of none
 

@@ -1,5 +1,6 @@
 -- Changes of one slot, one after another, each made of the number that the one before it left.
-use Rattle.std.proofs.Common.{◌≡◌, ℕ, ◌+◌, ◌-◌, ◌%◌, ◌^◌, ◌<◌, ◌≤◌, true, ◌&&◌, List, [], ◌∷◌, ◌++◌, get_or, All, sym, ap, subst, ◌∙◌, arith, le_of_lt, mod-eq_of_lt}
+use Rattle.std.proofs.Common.{◌≡◌, ℕ, ◌+◌, ◌-◌, ◌%◌, ◌^◌, ◌<◌, ◌≤◌, true, ◌&&◌, List, [], ◌∷◌, ◌++◌, get_or, All, sym}
+use Rattle.std.proofs.Common.{ap, subst, ◌∙◌, arith, le_of_lt, mod-eq_of_lt}
 use Rattle.std.proofs.lemmas.List.Elements.{All-head, All-tail}
 use Rattle.std.proofs.Math.Nat.{add-mod-mod, add-mod_right, mod-add-mod}
 use Rattle.std.proofs.Math.Bool.{and_comm}

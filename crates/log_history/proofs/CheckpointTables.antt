@@ -1,5 +1,6 @@
 -- The table of a log's checkpoints.
-use Rattle.std.proofs.Common.{◌≡◌, ◌↔◌, ℕ, suc, ◌-◌, ◌/◌, ◌<◌, true, false, List, [], ◌∷◌, ◌++◌, length, map, get_or, slice_get, refl, sym, ap, subst, ◌∙◌, arith, eqb, eqb-true, eq-eqb, All}
+use Rattle.std.proofs.Common.{◌≡◌, ◌↔◌, ℕ, suc, ◌-◌, ◌/◌, ◌<◌, true, false, List, [], ◌∷◌, ◌++◌, length, map, get_or}
+use Rattle.std.proofs.Common.{slice_get, refl, sym, ap, subst, ◌∙◌, arith, eqb, eqb-true, eq-eqb, All}
 use Rattle.std.specs.Prelude.{Option, Some, None, IsSomeAnd, IfSome, Contains, min}
 use Rattle.std.specs.List.{AllByRecursion}
 use Rattle.std.specs.Option.{option_map, option_map_or}
@@ -13,7 +14,8 @@ use Rattle.log_records.specs.declared.dirty_page.DirtyPages.{DirtyPages}
 use Rattle.log_records.specs.declared.dirty_page.DirtyPages.TheVariants.{One, Two, Three}
 use Rattle.log_records.specs.declared.page_change.PageChange.{PageChange}
 use Rattle.log_records.specs.declared.record.Record.{Record}
-use Rattle.log_records.specs.declared.record.Record.TheVariants.{Begin, Update, Comp, Commit, Abort, End, BeginChkpt, ChkptPages, ChkptTxns, EndChkpt}
+use Rattle.log_records.specs.declared.record.Record.TheVariants.{Begin, Update, Comp, Commit, Abort, End, BeginChkpt}
+use Rattle.log_records.specs.declared.record.Record.TheVariants.{ChkptPages, ChkptTxns, EndChkpt}
 use Rattle.log_records.specs.Coverage.{changes, changes_on}
 use Rattle.log_records.specs.DirtyPage.{entries_of}
 use Rattle.log_records.specs.Log.{IsLog, Log, lsn_of}
@@ -25,7 +27,9 @@ use Rattle.log_history.specs.OpenEntry.{entry_view}
 use Rattle.log_history.specs.declared.checkpoints.TheConstants.{NO_PAGE}
 use Rattle.log_history.specs.Checked.{GoesWithCheckpoint}
 use Rattle.log_history.specs.Checkpoint.{Checkpoint, checkpoint_after, open_checkpoint, with_pages}
-use Rattle.log_history.specs.CheckpointTable.{AreChanges, Current, MayAddPages, MayAddTxn, MayClose, MayNoteCheckpoint, add_pages, checkpoint_table_of, current_after, current_of, last_page_of, noted_checkpoint, page_of}
+use Rattle.log_history.specs.CheckpointTable.{AreChanges, Current, MayAddPages, MayAddTxn, MayClose, MayNoteCheckpoint}
+use Rattle.log_history.specs.CheckpointTable.{add_pages, checkpoint_table_of, current_after, current_of, last_page_of}
+use Rattle.log_history.specs.CheckpointTable.{noted_checkpoint, page_of}
 use Rattle.log_history.specs.Linked.{ArePagesNow, HasOldTxns, MayEnd, MayRecordPages, MayRecordTxn}
 use Rattle.log_history.specs.Table.{Entry, entry_of, table_of}
 use Rattle.log_history.specs.Transactions.{last_of, open_in}
@@ -179,14 +183,16 @@ txn_as_recorded begin txn c =
     (λ h. record { same = h.same; above = h.above }, λ h. record { same = h.same; above = h.above })
 
 -- what is asked of each open transaction is asked of its entry
-of_entries : (rs : List Record) (P : Entry → Type 0) → All (λ t. P (entry_of rs t)) (open_in rs) ↔ All P (table_of rs).entries
+of_entries : (rs : List Record) (P : Entry → Type 0)
+    → All (λ t. P (entry_of rs t)) (open_in rs) ↔ All P (table_of rs).entries
 of_entries rs P = (
   λ all k d lt.
       let long = length-map (open_in rs) (entry_of rs) in
       subst P (sym (get_or-map (entry_of rs) (open_in rs) k 0 d (omega (arith, long)))) (all k 0 (omega (arith, long))),
   λ all k d lt.
       let long = length-map (open_in rs) (entry_of rs) in
-      subst P (get_or-map (entry_of rs) (open_in rs) k d (entry_of rs 0) lt) (all k (entry_of rs 0) (omega (arith, long))),
+      subst P (get_or-map (entry_of rs) (open_in rs) k d (entry_of rs 0) lt)
+          (all k (entry_of rs 0) (omega (arith, long))),
 )
 
 close_as_ended : (rs : List Record) (begin redo : ℕ) (c : Checkpoint)

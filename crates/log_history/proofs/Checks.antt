@@ -1,5 +1,6 @@
 -- A table of the open transactions says which record may come next.
-use Rattle.std.proofs.Common.{◌≡◌, ℕ, ◌+◌, ◌<◌, Bool, true, false, cond, ◌&&◌, not, eqb, List, [], map, sym, refl, ap, subst, ◌∙◌}
+use Rattle.std.proofs.Common.{◌≡◌, ℕ, ◌+◌, ◌<◌, Bool, true, false, cond, ◌&&◌, not, eqb, List, [], map, sym, refl, ap}
+use Rattle.std.proofs.Common.{subst, ◌∙◌}
 use Rattle.std.specs.Prelude.{Some, None, IsSomeAnd}
 use Rattle.std.specs.List.{filter, list_any}
 use Rattle.std.specs.Option.{option_map}
@@ -11,11 +12,13 @@ use Rattle.page_core.specs.declared.change.ChangeKind.{ChangeKind}
 use Rattle.page_core.specs.Change.{kind_of}
 use Rattle.log_records.specs.declared.limits.TheConstants.{MAX_OPEN}
 use Rattle.log_records.specs.declared.record.Record.{Record}
-use Rattle.log_records.specs.declared.record.Record.TheVariants.{Begin, Update, Comp, Commit, Abort, End, BeginChkpt, ChkptPages, ChkptTxns, EndChkpt}
+use Rattle.log_records.specs.declared.record.Record.TheVariants.{Begin, Update, Comp, Commit, Abort, End, BeginChkpt}
+use Rattle.log_records.specs.declared.record.Record.TheVariants.{ChkptPages, ChkptTxns, EndChkpt}
 use Rattle.log_history.specs.Transactions.{begun, holder, is_open, keeps_out, last_of, open_in, owed}
 use Rattle.log_records.specs.Least.{least}
 use Rattle.log_history.specs.Linked.{Compensates, IsActive, MayFollow}
-use Rattle.log_history.specs.Table.{Entry, IsActiveEntry, IsChained, IsEntryNow, MayNote, entry_in, entry_of, holder_in, owed_by_entry, owed_in, table_of}
+use Rattle.log_history.specs.Table.{Entry, IsActiveEntry, IsChained, IsEntryNow, MayNote, entry_in, entry_of, holder_in}
+use Rattle.log_history.specs.Table.{owed_by_entry, owed_in, table_of}
 use Rattle.log_history.specs.Checked.{GoesWithCheckpoint, NamesNumber}
 use Rattle.log_history.proofs.Filters.{filter-map, find-filter, find-map}
 use Rattle.log_history.proofs.Pushes.{has_begun, has_ended}

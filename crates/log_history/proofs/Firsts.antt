@@ -1,5 +1,6 @@
 -- The first entry that passes a test has the least number of those that do.
-use Rattle.std.proofs.Common.{zero, suc, add-one, ◌+◌, take, ◌≡◌, ◌≢◌, ◌∙◌, ◌<◌, ◌∷◌, [], ℕ, Bool, true, false, List, Option, Some, None, map, length, get_or, cond, min, refl, ap, arith}
+use Rattle.std.proofs.Common.{zero, suc, add-one, ◌+◌, take, ◌≡◌, ◌≢◌, ◌∙◌, ◌<◌, ◌∷◌, [], ℕ, Bool, true, false, List}
+use Rattle.std.proofs.Common.{Option, Some, None, map, length, get_or, cond, min, refl, ap, arith}
 use Rattle.std.proofs.lemmas.List.Elements.{All-head, All-tail}
 use Rattle.std.specs.List.{All, AllByRecursion, filter, find}
 use Rattle.std.specs.Option.{IfSome, option_map, option_map_or}

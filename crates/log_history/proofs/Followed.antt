@@ -7,7 +7,8 @@ use Rattle.page_core.specs.declared.page.Page.{Page}
 use Rattle.page_core.specs.Change.{Replaces}
 use Rattle.page_core.specs.Page.{formatted}
 use Rattle.log_records.specs.declared.record.Record.{Record}
-use Rattle.log_records.specs.declared.record.Record.TheVariants.{Begin, Update, Comp, Commit, Abort, End, BeginChkpt, ChkptPages, ChkptTxns, EndChkpt}
+use Rattle.log_records.specs.declared.record.Record.TheVariants.{Begin, Update, Comp, Commit, Abort, End, BeginChkpt}
+use Rattle.log_records.specs.declared.record.Record.TheVariants.{ChkptPages, ChkptTxns, EndChkpt}
 use Rattle.log_history.specs.Checked.{GoesWithCheckpoint, NamesNumber}
 use Rattle.log_history.specs.History.{IsMadeOf, Made, MayComeNext, NamesNumberOn, followed, number_on}
 use Rattle.log_records.specs.Image.{image, redo_all, with_record}
@@ -88,7 +89,8 @@ may_come log made r of valid is within may = record {
 pub made_next : (log : Log) (made new : Made) (r : Record) → IsLinked log.records → IsMadeOf log made
     → MayFollow log.records r → new ≡ followed made r → IsMadeOf (with_next log (r ∷ [])) new
 made_next log made new r linked of may e = record {
-  table = ap (λ (m : Made). m.table) e ∙ ap (λ (t : Table). noted t r) of.table ∙ sym (table_of_push log.records r linked may);
+  table = ap (λ (m : Made). m.table) e ∙ ap (λ (t : Table). noted t r) of.table
+      ∙ sym (table_of_push log.records r linked may);
   checkpoints = ap (λ (m : Made). m.checkpoints) e ∙ ap (λ (t : CheckpointTable). noted_checkpoint t r) of.checkpoints
       ∙ sym (checkpoint_table_of_push log.records r);
   pages = ap (λ (m : Made). m.pages) e ∙ ap (map (λ page. with_record page r)) of.pages

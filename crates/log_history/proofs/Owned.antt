@@ -1,10 +1,12 @@
 -- The changes of a slot that are pending for a transaction.
-use Rattle.std.proofs.Common.{◌≡◌, ◌≢◌, ℕ, ◌+◌, ◌-◌, ◌<◌, ◌≤◌, Bool, true, false, ◌&&◌, not, eqb, List, [], ◌∷◌, ◌++◌, length, get_or, All, sym, refl, ap, subst, ◌∙◌, arith, eq-eqb, ne_eqb, eqb-true}
+use Rattle.std.proofs.Common.{◌≡◌, ◌≢◌, ℕ, ◌+◌, ◌-◌, ◌<◌, ◌≤◌, Bool, true, false, ◌&&◌, not, eqb, List, [], ◌∷◌, ◌++◌}
+use Rattle.std.proofs.Common.{length, get_or, All, sym, refl, ap, subst, ◌∙◌, arith, eq-eqb, ne_eqb, eqb-true}
 use Rattle.std.specs.Prelude.{None, IfSome, IsSomeAnd}
 use Rattle.std.specs.List.{filter, flat_map, list_any}
 use Rattle.std.proofs.lemmas.Bool.{and_parts, or_left, or_right}
 use Rattle.std.proofs.lemmas.List.{take_all, take_more}
-use Rattle.std.proofs.lemmas.List.Elements.{All-append, All-filter, All-head, All-map, All-nil, All-push, All-tail, All-take}
+use Rattle.std.proofs.lemmas.List.Elements.{All-append, All-filter, All-head, All-map, All-nil, All-push, All-tail}
+use Rattle.std.proofs.lemmas.List.Elements.{All-take}
 use Rattle.std.proofs.lemmas.List.Folds.{flat_map-map}
 use Rattle.std.proofs.lemmas.Option.{slice_get-get_or}
 use Rattle.std.proofs.Math.Bool.{and-true}
@@ -15,7 +17,8 @@ use Rattle.log_history.specs.declared.pending_change.PendingChange.{PendingChang
 use Rattle.log_records.specs.declared.record.Record.{Record}
 use Rattle.log_records.specs.declared.record.Record.TheVariants.{Update, Comp}
 use Rattle.log_records.specs.Record.{IsChange, change_of}
-use Rattle.log_history.specs.Transactions.{begun, holder, is_open, keeps_out, last_of, open_in, pending, pending_from, records_of, txn_of, with_pending, without_last}
+use Rattle.log_history.specs.Transactions.{begun, holder, is_open, keeps_out, last_of, open_in, pending, pending_from}
+use Rattle.log_history.specs.Transactions.{records_of, txn_of, with_pending, without_last}
 use Rattle.log_records.specs.Least.{least}
 use Rattle.log_history.proofs.Filters.{map_agree_but}
 use Rattle.log_history.proofs.Pushes.{pending_push, records_of_push_other}

@@ -1,5 +1,6 @@
 -- Pending changes, and what they keep out.
-use Rattle.std.proofs.Common.{◌≡◌, ◌∙◌, ◌<◌, ◌&&◌, ◌||◌, ◌++◌, ◌∷◌, [], ℕ, Bool, true, false, not, List, cond, eqb, refl, sym, ap, subst, append_assoc, append-nil}
+use Rattle.std.proofs.Common.{◌≡◌, ◌∙◌, ◌<◌, ◌&&◌, ◌||◌, ◌++◌, ◌∷◌, [], ℕ, Bool, true, false, not, List, cond, eqb}
+use Rattle.std.proofs.Common.{refl, sym, ap, subst, append_assoc, append-nil}
 use Rattle.std.proofs.lemmas.Bool.{and_from, and_parts, eq-eqb, eqb-true}
 use Rattle.std.proofs.lemmas.List.{map-append}
 use Rattle.std.proofs.lemmas.List.Folds.{list_any-append}
@@ -153,7 +154,8 @@ adds_are_sets : (cs : List PendingChange) (page slot : ℕ) → list_any (keeps_
     → list_any (keeps_out page slot kind.Set) cs ≡ true
 adds_are_sets [] page slot some = some
 adds_are_sets (c ∷ cs) page slot some =
-    by_first (eqb c.page page && eqb c.slot slot) (is_add (kind_of c.change)) (list_any (keeps_out page slot kind.Add) cs)
+    by_first (eqb c.page page && eqb c.slot slot) (is_add (kind_of c.change))
+        (list_any (keeps_out page slot kind.Add) cs)
     (list_any (keeps_out page slot kind.Set) cs) (adds_are_sets cs page slot) some
   where
     by_first : (here add adds sets : Bool) → (adds ≡ true → sets ≡ true)

@@ -1,5 +1,6 @@
 -- What one more record changes in what a log says of its transactions.
-use Rattle.std.proofs.Common.{◌≡◌, ◌≢◌, ℕ, ◌<◌, Bool, true, false, ◌&&◌, ◌||◌, not, eqb, List, [], ◌∷◌, ◌++◌, length, map, slice_get, inl, inr, sym, refl, ap, ap₂, ◌∙◌, ne_eqb, eq-eqb}
+use Rattle.std.proofs.Common.{◌≡◌, ◌≢◌, ℕ, ◌<◌, Bool, true, false, ◌&&◌, ◌||◌, not, eqb, List, [], ◌∷◌, ◌++◌, length}
+use Rattle.std.proofs.Common.{map, slice_get, inl, inr, sym, refl, ap, ap₂, ◌∙◌, ne_eqb, eq-eqb}
 use Rattle.std.specs.Prelude.{Some, None}
 use Rattle.std.specs.Option.{option_map_or, option_to_list}
 use Rattle.std.specs.List.{filter, list_any}
@@ -11,9 +12,12 @@ use Rattle.log_history.specs.declared.pending_change.PendingChange.{PendingChang
 use Rattle.log_records.specs.declared.record.Record.{Record}
 use Rattle.log_records.specs.declared.record.Record.TheVariants.{Begin}
 use Rattle.log_records.specs.Record.{own_lsn}
-use Rattle.log_history.specs.Transactions.{begun, begun_by, first_lsn, has_aborted, is_abort, is_last, is_open, is_rollback, is_rolling, last_lsn, last_or, open_in, pending, pending_from, records_of, txn_of, with_pending}
+use Rattle.log_history.specs.Transactions.{begun, begun_by, first_lsn, has_aborted, is_abort, is_last, is_open}
+use Rattle.log_history.specs.Transactions.{is_rollback, is_rolling, last_lsn, last_or, open_in, pending, pending_from}
+use Rattle.log_history.specs.Transactions.{records_of, txn_of, with_pending}
 use Rattle.log_history.specs.Work.{call_of, work}
-use Rattle.log_history.proofs.Filters.{filter-filter, filter_agree_but, filter_map_push, filter_push_in, filter_push_out, first_push, list_any_push}
+use Rattle.log_history.proofs.Filters.{filter-filter, filter_agree_but, filter_map_push, filter_push_in}
+use Rattle.log_history.proofs.Filters.{filter_push_out, first_push, list_any_push}
 
 -- ---- the records of a transaction
 

@@ -1,5 +1,7 @@
 -- How many records the open transactions of a linked log may still need, after one more record.
-use Rattle.std.proofs.Common.{◌≡◌, ◌≢◌, ℕ, zero, suc, ◌+◌, ◌-◌, ◌<◌, ◌≤◌, Bool, true, false, cond, ◌&&◌, ◌||◌, not, eqb, List, [], ◌∷◌, ◌++◌, length, sym, refl, ap, ap₂, ◌∙◌, inl, inr, arith, eq-eqb, ne_eqb, sum, sum_by, zero-add, le_of_eq}
+use Rattle.std.proofs.Common.{◌≡◌, ◌≢◌, ℕ, zero, suc, ◌+◌, ◌-◌, ◌<◌, ◌≤◌, Bool, true, false, cond, ◌&&◌, ◌||◌, not, eqb}
+use Rattle.std.proofs.Common.{List, [], ◌∷◌, ◌++◌, length, sym, refl, ap, ap₂, ◌∙◌, inl, inr, arith, eq-eqb, ne_eqb}
+use Rattle.std.proofs.Common.{sum, sum_by, zero-add, le_of_eq}
 use Rattle.std.specs.Prelude.{None, IsSomeAnd}
 use Rattle.std.specs.List.{filter, list_any, range_with_len}
 use Rattle.std.proofs.lemmas.Bool.{and_left, cases_eq, or_from, or_parts}
@@ -11,12 +13,17 @@ use Rattle.std.proofs.Math.Bool.{and_comm, or-false}
 use Rattle.page_core.specs.declared.change.Change.{Change}
 use Rattle.log_history.specs.declared.pending_change.PendingChange.{PendingChange}
 use Rattle.log_records.specs.declared.record.Record.{Record}
-use Rattle.log_records.specs.declared.record.Record.TheVariants.{Begin, Update, Comp, Commit, Abort, End, BeginChkpt, ChkptPages, ChkptTxns, EndChkpt}
-use Rattle.log_history.specs.Transactions.{begun, begun_by, has_aborted, is_abort, is_last, is_open, is_rollback, last_of, open_in, owed, owed_by, pending, pending_from, records_of, txn_of, with_pending, without_last}
+use Rattle.log_records.specs.declared.record.Record.TheVariants.{Begin, Update, Comp, Commit, Abort, End, BeginChkpt}
+use Rattle.log_records.specs.declared.record.Record.TheVariants.{ChkptPages, ChkptTxns, EndChkpt}
+use Rattle.log_history.specs.Transactions.{begun, begun_by, has_aborted, is_abort, is_last, is_open, is_rollback}
+use Rattle.log_history.specs.Transactions.{last_of, open_in, owed, owed_by, pending, pending_from, records_of, txn_of}
+use Rattle.log_history.specs.Transactions.{with_pending, without_last}
 use Rattle.log_history.specs.Linked.{IsLinked, MayFollow}
 use Rattle.log_history.proofs.Filters.{filter-filter, map_agree_but}
-use Rattle.log_history.proofs.Pushes.{has_aborted_push, has_begun, open_in_push_begin, open_in_push_last, open_in_push_same, pending_push, records_of_push_other, records_of_push_own}
-use Rattle.log_history.proofs.Begun.{begun_bounds, begun_is, next_is_new, none_before_begin, open_has_begun, zero_not_open}
+use Rattle.log_history.proofs.Pushes.{has_aborted_push, has_begun, open_in_push_begin, open_in_push_last}
+use Rattle.log_history.proofs.Pushes.{open_in_push_same, pending_push, records_of_push_other, records_of_push_own}
+use Rattle.log_history.proofs.Begun.{begun_bounds, begun_is, next_is_new, none_before_begin, open_has_begun}
+use Rattle.log_history.proofs.Begun.{zero_not_open}
 use Rattle.log_history.proofs.Steps.{not_among}
 
 -- ---- an open transaction stands once among the open ones

@@ -1,7 +1,11 @@
 -- The entries of a list of seats: what a change of one seat, one more seat and one less make of them.
-use Rattle.std.proofs.Common.{◌≡◌, ◌≢◌, ◌⊎◌, ◌∙◌, ◌<◌, ◌≤◌, ◌+◌, ◌++◌, ◌∷◌, ◌||◌, [], ℕ, zero, suc, Bool, true, false, List, Some, None, map, length, get_or, set, take, cond, eqb, min, inl, inr, refl, sym, ap, subst, add-one, zero-le, arith}
-use Rattle.std.proofs.lemmas.Bool.{cases_Bool, cases_eq, cases_lt, eq-eqb, eqb-true, false≢true, le-leb, le-ltb, lt-leb, lt-ltb, ltb-false, ne_eqb}
-use Rattle.std.proofs.lemmas.List.{get_or-map, get_or-set_other, get_or-set_same, get_or_append_left, get_or_push, length-map, length-set, length_push, same_lists, take_all}
+use Rattle.std.proofs.Common.{◌≡◌, ◌≢◌, ◌⊎◌, ◌∙◌, ◌<◌, ◌≤◌, ◌+◌, ◌++◌, ◌∷◌, ◌||◌, [], ℕ, zero, suc, Bool, true, false}
+use Rattle.std.proofs.Common.{List, Some, None, map, length, get_or, set, take, cond, eqb, min, inl, inr, refl, sym, ap}
+use Rattle.std.proofs.Common.{subst, add-one, zero-le, arith}
+use Rattle.std.proofs.lemmas.Bool.{cases_Bool, cases_eq, cases_lt, eq-eqb, eqb-true, false≢true, le-leb, le-ltb, lt-leb}
+use Rattle.std.proofs.lemmas.Bool.{lt-ltb, ltb-false, ne_eqb}
+use Rattle.std.proofs.lemmas.List.{get_or-map, get_or-set_other, get_or-set_same, get_or_append_left, get_or_push}
+use Rattle.std.proofs.lemmas.List.{length-map, length-set, length_push, same_lists, take_all}
 use Rattle.std.proofs.lemmas.List.Edits.{get_or-remove_above, get_or-remove_below, length-remove}
 use Rattle.std.proofs.lemmas.List.Elements.{filter_map-append}
 use Rattle.std.proofs.lemmas.List.Folds.{list_any_none}
@@ -125,7 +129,8 @@ pub on-seat : (old new : List OpenEntry) (s : ℕ) (e : OpenEntry) → length ol
     → new ≡ cond (ltb s (length old)) (set old s e) (old ++ e ∷ []) → IsOn old new s e
 on-seat old new s e few low most is = elim (cases_lt s (length old)) [
   | inl below ↦
-      subst (λ xs. IsOn old xs s e) (sym (is ∙ ap (λ b. cond b (set old s e) (old ++ e ∷ [])) (lt-ltb s (length old) below)))
+      subst (λ xs. IsOn old xs s e) (sym (is
+          ∙ ap (λ b. cond b (set old s e) (old ++ e ∷ [])) (lt-ltb s (length old) below)))
       (record {
         long = omega (arith, length-set old s e);
         few = omega (arith, length-set old s e);
@@ -135,7 +140,8 @@ on-seat old new s e few low most is = elim (cases_lt s (length old)) [
       })
   | inr above ↦
       let last : s ≡ length old = omega arith in
-      subst (λ xs. IsOn old xs s e) (sym (is ∙ ap (λ b. cond b (set old s e) (old ++ e ∷ [])) (le-ltb s (length old) above)))
+      subst (λ xs. IsOn old xs s e) (sym (is
+          ∙ ap (λ b. cond b (set old s e) (old ++ e ∷ [])) (le-ltb s (length old) above)))
       (record {
         long = omega (arith, length_push old e);
         few = omega (arith, length_push old e);
@@ -249,7 +255,8 @@ module _ (order : List ℕ) (seats : List OpenEntry) (taken now : SeatSet) (i s 
     | inl below ↦
         (k, (omega (arith, short), (omega arith, (get_or-remove_below order i 0 k below within, inl (below, refl)))))
     | inr above ↦
-        (k + 1, (omega (arith, short), (omega arith, (get_or-remove_above order i 0 k above within, inr (above, refl)))))
+        (k + 1, (omega (arith, short),
+            (omega arith, (get_or-remove_above order i 0 k above within, inr (above, refl)))))
   ]
 
   low : (k : ℕ) → k < length order → get_or order k 0 < SEATS

@@ -1,5 +1,6 @@
 -- The number in a slot is the committed one with the pending changes of the open transactions on top.
-use Rattle.std.proofs.Common.{◌≡◌, ◌≢◌, ℕ, ◌^◌, ◌<◌, true, false, ◌&&◌, not, eqb, List, [], ◌∷◌, ◌++◌, All, sym, refl, ap, subst, subst₂, ◌∙◌, inl, inr, append-nil, eq-eqb, true≢false}
+use Rattle.std.proofs.Common.{◌≡◌, ◌≢◌, ℕ, ◌^◌, ◌<◌, true, false, ◌&&◌, not, eqb, List, [], ◌∷◌, ◌++◌, All, sym, refl}
+use Rattle.std.proofs.Common.{ap, subst, subst₂, ◌∙◌, inl, inr, append-nil, eq-eqb, true≢false}
 use Rattle.std.specs.Prelude.{None}
 use Rattle.std.specs.List.{flat_map, list_any}
 use Rattle.std.proofs.lemmas.Bool.{and_left, cases_eq, eqb-false, not-true}
@@ -14,13 +15,15 @@ use Rattle.log_history.specs.Transactions.{begun, begun_by, is_last, is_open, op
 use Rattle.log_history.specs.Linked.{IsLinked, number_in}
 use Rattle.log_history.specs.Committed.{committed}
 use Rattle.log_history.proofs.Begun.{zero_not_open}
-use Rattle.log_history.proofs.Pushes.{has_begun, is_open_push_other, is_open_push_own, open_in_push_begin, open_in_push_last, open_in_push_same}
+use Rattle.log_history.proofs.Pushes.{has_begun, is_open_push_other, is_open_push_own, open_in_push_begin}
+use Rattle.log_history.proofs.Pushes.{open_in_push_last, open_in_push_same}
 use Rattle.log_history.proofs.Steps.{not_among}
 use Rattle.log_history.proofs.Room.{open_once}
 use Rattle.log_history.proofs.Chains.{Apart, AddsWith, Leads, apart_back, changed_by, changed_by_fits, leads-append}
 use Rattle.log_history.proofs.Slots.{changes_on}
 use Rattle.log_history.proofs.Fronts.{in_front, swap_ends}
-use Rattle.log_history.proofs.Owned.{HasChange, all_of_each, among_filter, flat_map_agree_but, own, own_push, own_push_other, own_valid, rest_of}
+use Rattle.log_history.proofs.Owned.{HasChange, all_of_each, among_filter, flat_map_agree_but, own, own_push}
+use Rattle.log_history.proofs.Owned.{own_push_other, own_valid, rest_of}
 
 -- ---- what is known of each slot
 

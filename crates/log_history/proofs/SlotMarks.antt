@@ -1,7 +1,11 @@
 -- The marks of all slots, as one list.
-use Rattle.std.proofs.Common.{◌≡◌, ◌≢◌, ◌⊎◌, ◌∙◌, ◌+◌, ◌-◌, ◌*◌, ◌<◌, ◌≤◌, ◌&&◌, ◌++◌, ℕ, Bool, true, false, List, [], Result, Ok, Err, is_ok, length, get_or, set, take, replicate, cond, eqb, inl, inr, refl, sym, ap, arith}
-use Rattle.std.proofs.lemmas.Bool.{and_from, and_parts, cases_Bool, cases_lt, eq-eqb, eqb-true, false≢true, le-ltb, lt-ltb}
-use Rattle.std.proofs.lemmas.List.{get_or-append_right, get_or-replicate, get_or-set_other, get_or-set_same, get_or_append_left, get_or_default, get_or_past, length-replicate, take_all}
+use Rattle.std.proofs.Common.{◌≡◌, ◌≢◌, ◌⊎◌, ◌∙◌, ◌+◌, ◌-◌, ◌*◌, ◌<◌, ◌≤◌, ◌&&◌, ◌++◌, ℕ, Bool, true, false, List, []}
+use Rattle.std.proofs.Common.{Result, Ok, Err, is_ok, length, get_or, set, take, replicate, cond, eqb, inl, inr, refl}
+use Rattle.std.proofs.Common.{sym, ap, arith}
+use Rattle.std.proofs.lemmas.Bool.{and_from, and_parts, cases_Bool, cases_lt, eq-eqb, eqb-true, false≢true, le-ltb}
+use Rattle.std.proofs.lemmas.Bool.{lt-ltb}
+use Rattle.std.proofs.lemmas.List.{get_or-append_right, get_or-replicate, get_or-set_other, get_or-set_same}
+use Rattle.std.proofs.lemmas.List.{get_or_append_left, get_or_default, get_or_past, length-replicate, take_all}
 use lib.Dec.{ltb}
 use Rattle.log_history.specs.declared.mark.Holder.{Holder}
 use Rattle.log_history.specs.declared.mark.Holder.TheVariants.{Nobody}
@@ -80,7 +84,8 @@ holder-put ms page slot mark holder says there within p s =
         (let page_is : page ≡ p = omega arith in
         let slot_is : slot ≡ s = omega arith in
         false≢true (sym other ∙ and_from (eqb page p) (eqb slot s) (eq-eqb page p page_is) (eq-eqb slot s slot_is))) in
-        ap (λ m. cond (ltb s 62) (holder_of m) Nobody) (get_or-set_other ms (62 * page + slot) (62 * p + s) mark no_mark apart)
+        ap (λ m. cond (ltb s 62) (holder_of m) Nobody)
+            (get_or-set_other ms (62 * page + slot) (62 * p + s) mark no_mark apart)
 
 pub no_slot : (page slot : ℕ) → slot_holder [] page slot ≡ Nobody
 no_slot page slot = elim (ltb slot 62) as (λ b. cond b (holder_in [] (62 * page + slot)) Nobody ≡ Nobody) [

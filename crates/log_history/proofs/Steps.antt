@@ -1,5 +1,7 @@
 -- The table of a log after one more record.
-use Rattle.std.proofs.Common.{◌≡◌, ◌≢◌, ℕ, ◌+◌, ◌<◌, Bool, true, false, cond, ◌||◌, not, eqb, List, [], ◌∷◌, ◌++◌, length, map, slice_get, sym, refl, ap, ap₂, ◌∙◌, inl, inr, arith, eq-eqb, ne_eqb, eqb-true}
+use Rattle.std.proofs.Common.{◌≡◌, ◌≢◌, ℕ, ◌+◌, ◌<◌, Bool, true, false, cond, ◌||◌, not, eqb, List, [], ◌∷◌, ◌++◌}
+use Rattle.std.proofs.Common.{length, map, slice_get, sym, refl, ap, ap₂, ◌∙◌, inl, inr, arith, eq-eqb, ne_eqb}
+use Rattle.std.proofs.Common.{eqb-true}
 use Rattle.std.specs.Option.{option_map_or}
 use Rattle.std.specs.Prelude.{None}
 use Rattle.std.specs.List.{filter, list_any}
@@ -10,13 +12,18 @@ use Rattle.std.proofs.Math.Path.{fun_ext}
 use Rattle.std.proofs.lemmas.Simd.{map-map}
 use Rattle.std.proofs.Math.Bool.{or-false, or-true}
 use Rattle.log_records.specs.declared.record.Record.{Record}
-use Rattle.log_records.specs.declared.record.Record.TheVariants.{Begin, Update, Comp, Commit, Abort, End, BeginChkpt, ChkptPages, ChkptTxns, EndChkpt}
+use Rattle.log_records.specs.declared.record.Record.TheVariants.{Begin, Update, Comp, Commit, Abort, End, BeginChkpt}
+use Rattle.log_records.specs.declared.record.Record.TheVariants.{ChkptPages, ChkptTxns, EndChkpt}
 use Rattle.log_records.specs.Record.{IsOfTransaction, own_lsn}
-use Rattle.log_history.specs.Transactions.{begun, begun_by, first_lsn, has_aborted, is_abort, is_last, is_open, is_rollback, is_rolling, last_or, open_in, pending, pending_from, records_of, txn_of, with_pending}
+use Rattle.log_history.specs.Transactions.{begun, begun_by, first_lsn, has_aborted, is_abort, is_last, is_open}
+use Rattle.log_history.specs.Transactions.{is_rollback, is_rolling, last_or, open_in, pending, pending_from, records_of}
+use Rattle.log_history.specs.Transactions.{txn_of, with_pending}
 use Rattle.log_history.specs.Linked.{IsLinked, MayFollow}
 use Rattle.log_history.specs.Table.{Entry, entry_after, entry_of, noted, table_of, with_entry, without_entry}
 use Rattle.log_history.proofs.Filters.{filter-map, map_agree_but}
-use Rattle.log_history.proofs.Pushes.{begun_push, begun_push_none, first_lsn_push, has_aborted_push, has_begun, is_rolling_push, last_lsn_push, open_in_push_begin, open_in_push_last, open_in_push_same, pending_push, records_of_push_other, records_of_push_own}
+use Rattle.log_history.proofs.Pushes.{begun_push, begun_push_none, first_lsn_push, has_aborted_push, has_begun}
+use Rattle.log_history.proofs.Pushes.{is_rolling_push, last_lsn_push, open_in_push_begin, open_in_push_last}
+use Rattle.log_history.proofs.Pushes.{open_in_push_same, pending_push, records_of_push_other, records_of_push_own}
 use Rattle.log_history.proofs.Begun.{next_is_new, none_before_begin, open_has_begun, some_from_begin, zero_not_open}
 
 -- ---- one entry
@@ -140,7 +147,8 @@ begin_noted rs lsn t new none = λ i. record { begun = count i; entries = entrie
 kept_noted : (rs : List Record) (r : Record) → IsOfTransaction r → begun_by r ≡ None → is_last r ≡ false
     → is_open rs (txn_of r) ≡ true
     → table_of (rs ++ r ∷ []) ≡ with_entry (table_of rs) (txn_of r) r
-kept_noted rs r of none more still = λ i. record { begun = ap length (begun_push_none rs r none) i; entries = entries i }
+kept_noted rs r of none more still = λ i. record
+    { begun = ap length (begun_push_none rs r none) i; entries = entries i }
   where
     entries : map (entry_of (rs ++ r ∷ [])) (open_in (rs ++ r ∷ []))
         ≡ map (λ e. cond (eqb e.txn (txn_of r)) (entry_after e r) e) (map (entry_of rs) (open_in rs))

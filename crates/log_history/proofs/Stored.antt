@@ -1,5 +1,6 @@
 -- The table of open transactions on its seats: what each change keeps.
-use Rattle.std.proofs.Common.{◌≡◌, ◌∙◌, ◌<◌, ◌+◌, ◌∷◌, [], ℕ, Bool, List, Option, None, Some, map, length, get_or, set, cond, eqb, inl, inr, not, refl, sym, ap, subst, arith}
+use Rattle.std.proofs.Common.{◌≡◌, ◌∙◌, ◌<◌, ◌+◌, ◌∷◌, [], ℕ, Bool, List, Option, None, Some, map, length, get_or, set}
+use Rattle.std.proofs.Common.{cond, eqb, inl, inr, not, refl, sym, ap, subst, arith}
 use Rattle.std.proofs.lemmas.Bool.{cases_lt}
 use Rattle.std.proofs.lemmas.List.{get_or-set_same, length-set, set-get_or}
 use Rattle.std.proofs.lemmas.List.Folds.{find_at}
@@ -16,7 +17,8 @@ use Rattle.log_history.specs.OpenList.{Adds, IsSeated, IsSound, Sits, entries_in
 use Rattle.log_history.specs.OpenTransactions.{IsStored, Tracks}
 use Rattle.log_history.specs.Table.{Entry, Table, entry_in}
 use Rattle.log_history.proofs.Seatings.{entries-remove, entries-set, seated-set, sits-at}
-use Rattle.log_history.proofs.Tracked.{IsAt, entry-there, find-view, held-at, is-there, tracks-drop, tracks-push, tracks-put, view-drop, view-put, view-same}
+use Rattle.log_history.proofs.Tracked.{IsAt, entry-there, find-view, held-at, is-there, tracks-drop, tracks-push}
+use Rattle.log_history.proofs.Tracked.{tracks-put, view-drop, view-put, view-same}
 
 -- what a search finds has a place
 pub found-at : (q : OpenEntry → Bool) (xs : List OpenEntry) (x : OpenEntry) → find q xs ≡ Some x
@@ -94,7 +96,8 @@ module _ {begun txn seat : ℕ} {claims : Claims} {list : OpenList} {x : OpenEnt
 
     pub tracks-seat : (after : Claims) → KeepsSeat x e claims after
         → Tracks begun after (entries_of list.order.items (set list.seats.items seat e))
-    tracks-seat after kept = subst (Tracks begun after) (sym entries-put) (tracks-put at-seat stored.tracks after e kept)
+    tracks-seat after kept = subst (Tracks begun after) (sym entries-put)
+        (tracks-put at-seat stored.tracks after e kept)
 
     pub view-changed : (g : Entry → Entry) → entry_view e ≡ g (entry_view x)
         → map (λ v. cond (eqb v.txn txn) (g v) v) (map entry_view (entries_in list))
@@ -119,7 +122,8 @@ module _ {begun txn seat : ℕ} {claims : Claims} {list : OpenList} {x : OpenEnt
         (seats_are : gone.seats.items ≡ set list.seats.items seat e) where
       pub entries-gone : entries_in gone ≡ remove (set (entries_in list) sits.place e) sits.place
       entries-gone =
-          ap (λ os. entries_of os gone.seats.items) order_is ∙ ap (entries_of (remove list.order.items sits.place)) seats_are
+          ap (λ os. entries_of os gone.seats.items) order_is
+              ∙ ap (entries_of (remove list.order.items sits.place)) seats_are
           ∙ entries-remove list.order.items (set list.seats.items seat e) sits.place e
           (λ k lt. omega (arith, stored.seated.there k lt, length-set list.seats.items seat e)) sits.within
           ∙ ap (λ xs. remove xs sits.place) entries-put

@@ -1,6 +1,8 @@
 -- Claims as marks and adders hold them: what a change of one slot says of every seat.
-use Rattle.std.proofs.Common.{◌≡◌, ◌≢◌, ◌∙◌, ◌<◌, ◌&&◌, ◌^◌, ℕ, Bool, true, false, cond, eqb, inl, inr, refl, sym, ap, ap₂, subst}
-use Rattle.std.proofs.lemmas.Bool.{and_parts, cases_Bool, cases_eq, eq-eqb, eqb-true, false_from_ne_true, false≢true, ne_eqb}
+use Rattle.std.proofs.Common.{◌≡◌, ◌≢◌, ◌∙◌, ◌<◌, ◌&&◌, ◌^◌, ℕ, Bool, true, false, cond, eqb, inl, inr, refl, sym, ap}
+use Rattle.std.proofs.Common.{ap₂, subst}
+use Rattle.std.proofs.lemmas.Bool.{and_parts, cases_Bool, cases_eq, eq-eqb, eqb-true, false_from_ne_true, false≢true}
+use Rattle.std.proofs.lemmas.Bool.{ne_eqb}
 use Rattle.std.proofs.lemmas.Nat.Bits.{bit_at-pow_other, bit_at-pow_same}
 use Rattle.std.specs.Int.{bit_at}
 use Rattle.page_core.specs.declared.change.ChangeKind.{ChangeKind}
@@ -12,7 +14,8 @@ use Rattle.log_history.specs.declared.mark.Holder.TheVariants.{Nobody, One, Adde
 use Rattle.log_history.specs.declared.seat_set.SeatSet.{SeatSet}
 use Rattle.log_history.specs.declared.seat_set.TheConstants.{SEATS}
 use Rattle.log_history.specs.Adders.{seats_at}
-use Rattle.log_history.specs.Claims.{IsFreeFor, IsHeldByOther, IsWeaker, KeepsHolds, Refused, SetsHold, Taken, claim_of, hold_at, hold_in, hold_with, no_claim, no_hold, seats_against}
+use Rattle.log_history.specs.Claims.{IsFreeFor, IsHeldByOther, IsWeaker, KeepsHolds, Refused, SetsHold, Taken, claim_of}
+use Rattle.log_history.specs.Claims.{hold_at, hold_in, hold_with, no_claim, no_hold, seats_against}
 use Rattle.log_history.specs.Marks.{holder_at}
 use Rattle.log_history.specs.SeatSet.{HasSome, has_seat, no_seats, only}
 use Rattle.log_history.proofs.Holds.{has_seat-no_seats, hold_in-no_claim}
@@ -69,7 +72,8 @@ sets-hold before after page slot seat holder seats hold marks adders says p s ot
   where
     by_place : (b : Bool)
         → (b ≡ true → hold_in (claim_of holder seats) other ≡ cond (eqb other seat) hold (hold_at before p s other))
-        → hold_in (claim_of (cond b holder (holder_at before.marks p s)) (cond b seats (seats_at before.adders p s))) other
+        → hold_in (claim_of (cond b holder (holder_at before.marks p s))
+            (cond b seats (seats_at before.adders p s))) other
         ≡ cond (b && eqb other seat) hold (hold_at before p s other)
     by_place true here = here refl
     by_place false here = refl
@@ -201,7 +205,8 @@ adds_hold b = record { against_sets = b; against_adds = false }
 
 pub of_adders : (seats : SeatSet) (seat : ℕ) → hold_in (claim_of Adders seats) seat ≡ adds_hold (has_seat seats seat)
 of_adders seats seat =
-    ap (λ b. let h : Hold = record { against_sets = has_seat seats seat; against_adds = b } in h) (has_seat-no_seats seat)
+    ap (λ b. let h : Hold = record { against_sets = has_seat seats seat; against_adds = b } in h)
+        (has_seat-no_seats seat)
 
 -- one adder more, and one less
 pub with_adder : (old new : SeatSet) (seat : ℕ) (b : Bool) (other : ℕ)

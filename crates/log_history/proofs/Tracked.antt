@@ -1,5 +1,7 @@
 -- The table of open transactions: what each change keeps.
-use Rattle.std.proofs.Common.{zero, suc, ◌≡◌, ◌≢◌, ◌∙◌, ◌<◌, ◌≤◌, ◌+◌, ◌++◌, ◌∷◌, [], ℕ, Bool, true, false, ◌&&◌, not, List, Option, Some, None, map, length, get_or, set, drop, take, cond, eqb, refl, sym, ap, subst, ⊎_elim, arith}
+use Rattle.std.proofs.Common.{zero, suc, ◌≡◌, ◌≢◌, ◌∙◌, ◌<◌, ◌≤◌, ◌+◌, ◌++◌, ◌∷◌, [], ℕ, Bool, true, false, ◌&&◌, not}
+use Rattle.std.proofs.Common.{List, Option, Some, None, map, length, get_or, set, drop, take, cond, eqb, refl, sym, ap}
+use Rattle.std.proofs.Common.{subst, ⊎_elim, arith}
 use Rattle.std.proofs.lemmas.Bool.{cases_eq, eq-eqb, false≢true, ne_eqb, or_parts}
 use Rattle.std.proofs.lemmas.List.{get_or-map, get_or-set_same, length-set, map-append, map-set, set-get_or}
 use Rattle.std.proofs.lemmas.List.Elements.{All-nil, All-append, All-drop, All-push, All-set, All-take}
@@ -23,7 +25,8 @@ use Rattle.log_records.specs.Least.{least}
 use Rattle.log_history.specs.TxnState.{next_in}
 use Rattle.log_history.proofs.Firsts.{cond_map, least-first}
 use Rattle.log_history.proofs.Holds.{hold_in-no_claim}
-use Rattle.log_history.proofs.Ranks.{find-place, all-push, all-remove, hold-at, hold-push, hold-remove, hold-set, keys-set, ranked-push, ranked-remove, view-remove, view-set}
+use Rattle.log_history.proofs.Ranks.{find-place, all-push, all-remove, hold-at, hold-push, hold-remove, hold-set}
+use Rattle.log_history.proofs.Ranks.{keys-set, ranked-push, ranked-remove, view-remove, view-set}
 
 -- ---- one of them
 
@@ -43,7 +46,8 @@ tracks-set {begun} {before} {xs} after i d e t l k =
     record {
       ranked = subst AreRanked (sym keys) t.ranked;
       reached = subst (λ ks. AllByRecursion (λ j. j.0 ≤ begun) ks) (sym keys) t.reached;
-      sound = All-set IsSoundEntry xs i e (subst (λ n. n < SEATS) (sym k.seat) (t.sound i d l).0, k.held.stacked) t.sound;
+      sound = All-set IsSoundEntry xs i e
+          (subst (λ n. n < SEATS) (sym k.seat) (t.sound i d l).0, k.held.stacked) t.sound;
       held = λ page slot seat within. (⊎_elim
           (λ same. ap (λ n. hold_at after page slot n) (sym same) ∙ k.held.held page slot
           ∙ sym (ap (λ b. cond b (hold_by (changes_of e.pending.items) page slot) (hold_among xs page slot seat))

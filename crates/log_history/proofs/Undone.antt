@@ -1,5 +1,7 @@
 -- A linked log in which no transaction is open has the committed number in each slot.
-use Rattle.std.proofs.Common.{◌≡◌, ◌≢◌, ℕ, ◌^◌, ◌<◌, Bool, true, false, cond, ◌&&◌, eqb, List, [], lit<, slice_index_or, ◌∷◌, ◌++◌, map, All, sym, refl, ap, ap₂, subst, subst₂, ◌∙◌, arith, append_assoc, append-nil, eqb-true}
+use Rattle.std.proofs.Common.{◌≡◌, ◌≢◌, ℕ, ◌^◌, ◌<◌, Bool, true, false, cond, ◌&&◌, eqb, List, [], lit<, slice_index_or}
+use Rattle.std.proofs.Common.{◌∷◌, ◌++◌, map, All, sym, refl, ap, ap₂, subst, subst₂, ◌∙◌, arith, append_assoc}
+use Rattle.std.proofs.Common.{append-nil, eqb-true}
 use Rattle.std.specs.Option.{option_map_or}
 use Rattle.std.specs.Prelude.{None}
 use Rattle.std.specs.List.{flat_map, list_any, range_with_len}
@@ -13,9 +15,11 @@ use Rattle.std.proofs.lemmas.List.FromFn.{fill_by_all}
 use Rattle.page_core.specs.Change.{Replaces, changed, kind_of, undo_of}
 use Rattle.log_history.specs.declared.pending_change.PendingChange.{PendingChange}
 use Rattle.log_records.specs.declared.record.Record.{Record}
-use Rattle.log_records.specs.declared.record.Record.TheVariants.{Begin, Update, Comp, Commit, Abort, End, BeginChkpt, ChkptPages, ChkptTxns, EndChkpt}
+use Rattle.log_records.specs.declared.record.Record.TheVariants.{Begin, Update, Comp, Commit, Abort, End, BeginChkpt}
+use Rattle.log_records.specs.declared.record.Record.TheVariants.{ChkptPages, ChkptTxns, EndChkpt}
 use Rattle.log_records.specs.Record.{IsChange, IsRecord, change_of}
-use Rattle.log_history.specs.Transactions.{begun_by, is_last, txn_of, is_open, keeps_out, open_in, pending, without_last}
+use Rattle.log_history.specs.Transactions.{begun_by, is_last, txn_of, is_open, keeps_out, open_in, pending}
+use Rattle.log_history.specs.Transactions.{without_last}
 use Rattle.log_records.specs.Image.{image}
 use Rattle.log_records.specs.Log.{IsLog, Log}
 use Rattle.log_history.specs.Linked.{Compensates, IsLinked, MayFollow, number_in}
@@ -23,7 +27,8 @@ use Rattle.log_history.specs.Committed.{Values, committed, with_changes, with_co
 use Rattle.log_history.proofs.Histories.{along_linked}
 use Rattle.log_history.proofs.Begun.{next_is_new, none_before_begin}
 use Rattle.log_history.proofs.Chains.{AddsWith, leads_to, Apart, Leads, changed_by, leads_pop, leads_push}
-use Rattle.log_history.proofs.Slots.{slots_of_image, after_change, apart_from_free, changes_on, changes_on-append, committed_push, is_on, number_in_push, with_changes_on}
+use Rattle.log_history.proofs.Slots.{slots_of_image, after_change, apart_from_free, changes_on, changes_on-append}
+use Rattle.log_history.proofs.Slots.{committed_push, is_on, number_in_push, with_changes_on}
 use Rattle.log_history.proofs.Fronts.{all_front}
 use Rattle.log_history.proofs.Owned.{HasChange, free_of, last_change, own, own_push, own_valid}
 use Rattle.log_history.proofs.Settled.{accounts_aside, Accounts, Explain, accounts_begun, accounts_ended, accounts_kept}
@@ -199,7 +204,8 @@ module _ (rs : List Record) (page slot : ℕ) (linked : IsLinked rs) (valid : Al
   accounts_push (Abort lsn t prev) may = accounts_abort lsn t prev may
   accounts_push (End lsn t prev) may = accounts_end lsn t prev may
   accounts_push (BeginChkpt lsn) may = accounts_of_none (BeginChkpt lsn) refl refl refl refl refl
-  accounts_push (ChkptPages lsn begin pages) may = accounts_of_none (ChkptPages lsn begin pages) refl refl refl refl refl
+  accounts_push (ChkptPages lsn begin pages) may = accounts_of_none (ChkptPages lsn begin pages)
+      refl refl refl refl refl
   accounts_push (ChkptTxns lsn begin t state last undo) may =
       accounts_of_none (ChkptTxns lsn begin t state last undo) refl refl refl refl refl
   accounts_push (EndChkpt lsn begin redo) may = accounts_of_none (EndChkpt lsn begin redo) refl refl refl refl refl

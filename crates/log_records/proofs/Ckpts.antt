@@ -7,7 +7,8 @@ use Rattle.log_records.specs.declared.dirty_page.DirtyPages.{DirtyPages}
 use Rattle.log_records.specs.declared.dirty_page.DirtyPages.TheVariants.{One, Two, Three}
 use Rattle.log_records.specs.declared.fields.TheConstants.{BEGIN_CHKPT, CHKPT_PAGES, CHKPT_TXNS, END_CHKPT}
 use Rattle.log_records.specs.declared.record.Record.{Record}
-use Rattle.log_records.specs.declared.record.Record.TheVariants.{Begin, Update, Comp, Commit, Abort, End, BeginChkpt, ChkptPages, ChkptTxns, EndChkpt}
+use Rattle.log_records.specs.declared.record.Record.TheVariants.{Begin, Update, Comp, Commit, Abort, End, BeginChkpt}
+use Rattle.log_records.specs.declared.record.Record.TheVariants.{ChkptPages, ChkptTxns, EndChkpt}
 use Rattle.log_records.specs.declared.txn_phase.TxnPhase.{TxnPhase}
 use Rattle.log_records.specs.declared.txn_phase.TxnPhase.TheVariants.{Active, Rolling}
 use Rattle.log_records.specs.CkptBytes.{ckpt_bytes, code_of, entry_bytes, pages_body, redo_body, txn_body}
@@ -85,7 +86,8 @@ two_is kind begin lsn at n pages bs x y same valid is reads =
     two_on kind begin lsn at n pages bs x y same valid is (count_is kind begin lsn n pages bs same reads)
 
 three_on : (kind begin lsn at n : ℕ) (pages : DirtyPages) (bs : List ℕ) (x y z : DirtyPage)
-    → bs ≡ ckpt_bytes kind begin (pages_body pages) lsn → AreDirtyPages at pages → ((n ≡ 1) → ⊥) → ((n ≡ 2) → ⊥) → n ≡ count_of pages
+    → bs ≡ ckpt_bytes kind begin (pages_body pages) lsn → AreDirtyPages at pages → ((n ≡ 1) → ⊥)
+        → ((n ≡ 2) → ⊥) → n ≡ count_of pages
     → ReadsEntry bs 20 24 32 x → ReadsEntry bs 32 36 44 y → ReadsEntry bs 44 48 56 z → Three x y z ≡ pages
 unfolding ckpt_bytes pages_body entry_bytes count_of
 three_on kind begin lsn at n (One a) bs x y z same valid one two count first second third = absurd (one count)
@@ -99,7 +101,8 @@ three_on kind begin lsn at n (Three a b c) bs x y z same valid one two count fir
     ) refl
 
 pub three_is : (kind begin lsn at n : ℕ) (pages : DirtyPages) (bs : List ℕ) (x y z : DirtyPage)
-    → bs ≡ ckpt_bytes kind begin (pages_body pages) lsn → AreDirtyPages at pages → ((n ≡ 1) → ⊥) → ((n ≡ 2) → ⊥) → Reads32 bs 16 20 n
+    → bs ≡ ckpt_bytes kind begin (pages_body pages) lsn → AreDirtyPages at pages → ((n ≡ 1) → ⊥)
+        → ((n ≡ 2) → ⊥) → Reads32 bs 16 20 n
     → ReadsEntry bs 20 24 32 x → ReadsEntry bs 32 36 44 y → ReadsEntry bs 44 48 56 z → Three x y z ≡ pages
 three_is kind begin lsn at n pages bs x y z same valid one two reads =
     three_on kind begin lsn at n pages bs x y z same valid one two (count_is kind begin lsn n pages bs same reads)
@@ -169,7 +172,8 @@ pages_answers bs at begin n pages o is reads begins entries wrote (ChkptPages ls
     written bs (ChkptPages at begin pages) (ChkptPages lsn b ps) o wrote (rw (sym own, x, y) refl) spells
 pages_answers bs at begin n pages o is reads begins entries wrote (BeginChkpt lsn) of own spells =
     let kind = kind_is n (BeginChkpt lsn) bs of spells.spelled reads in absurd (omega (arith, is, kind))
-pages_answers bs at begin n pages o is reads begins entries wrote (ChkptTxns lsn b txn state last undo_next) of own spells =
+pages_answers bs at begin n pages o is reads begins entries wrote
+    (ChkptTxns lsn b txn state last undo_next) of own spells =
     let kind = kind_is n (ChkptTxns lsn b txn state last undo_next) bs of spells.spelled reads in
     absurd (omega (arith, is, kind))
 pages_answers bs at begin n pages o is reads begins entries wrote (EndChkpt lsn b redo) of own spells =

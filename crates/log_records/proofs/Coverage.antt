@@ -4,7 +4,8 @@ use Rattle.std.proofs.Common.{length, get_or, take, drop, map, refl, sym, ap, su
 use Rattle.std.specs.Prelude.{Option, Some, None, nat_le, nat_lt, ◌&&◌, ◌==◌, if◌then◌else◌}
 use Rattle.std.specs.List.{All, Contains, filter}
 use Rattle.std.specs.Option.{option_map_or, unwrap_or}
-use Rattle.std.proofs.lemmas.List.{append-nil, get_or-drop, length-append, length-drop, map-append, take-append-drop, take-append-le, take_all}
+use Rattle.std.proofs.lemmas.List.{append-nil, get_or-drop, length-append, length-drop, map-append, take-append-drop}
+use Rattle.std.proofs.lemmas.List.{take-append-le, take_all}
 use Rattle.std.proofs.lemmas.List.Elements.{All-append, All-cons, All-head, All-more, All-nil, All-tail, All-weaker}
 use Rattle.std.proofs.lemmas.List.Elements.{All-contains_itself, All-filter, filter-append, filter_passes}
 use Rattle.std.proofs.lemmas.Bool.{cases_lt, le-leb, le-ltb, lt-leb, lt-ltb, ltb-false, ltb-true}
@@ -70,7 +71,8 @@ named log valid p (suc k) d le =
     let rs = log.records in
     let lt : k < length rs = omega arith in
     let next : k + 1 ≡ suc k = omega arith in
-    let by_change : (b : Bool) → changes p (get_or rs k d) ≡ b → IsNamed rs p (k + 1) = λ b. elim b as (λ (b : Bool). changes p (get_or rs k d) ≡ b → IsNamed rs p (k + 1)) [
+    let by_change : (b : Bool) → changes p (get_or rs k d) ≡ b
+        → IsNamed rs p (k + 1) = λ b. elim b as (λ (b : Bool). changes p (get_or rs k d) ≡ b → IsNamed rs p (k + 1)) [
       | true ↦ λ e.
           let lsn : (image (take (k + 1) rs) p).lsn ≡ 64 * (k + 1) =
           image-moved rs p k d lt e ∙ (valid.records k d lt).lsn in
@@ -344,7 +346,8 @@ of_those f P (n ∷ ns) all = by_test (of_those f P ns) (f n) refl
     by_test : (All P (filter f ns) → All (λ n. f n ≡ true → P n) ns) → (b : Bool) → f n ≡ b
         → All (λ n. f n ≡ true → P n) (n ∷ ns)
     by_test rest true e =
-        let here : All P (n ∷ filter f ns) = subst (λ (b : Bool). All P (cond b (n ∷ filter f ns) (filter f ns))) e all in
+        let here : All P (n ∷ filter f ns) = subst
+            (λ (b : Bool). All P (cond b (n ∷ filter f ns) (filter f ns))) e all in
         All-cons (λ n. f n ≡ true → P n) n ns (λ same. All-head P n (filter f ns) here)
         (rest (All-tail P n (filter f ns) here))
     by_test rest false e =
@@ -387,7 +390,8 @@ clean_is_image log p page written valid past reached e =
         by_test false test = let le : n ≤ written = ltb-false written n test in omega arith
 
 -- one change more, behind all others
-least-more : (ns : List ℕ) (last : ℕ) → All (λ n. n < last) ns → least (ns ++ last ∷ []) ≡ Some (unwrap_or (least ns) last)
+least-more : (ns : List ℕ) (last : ℕ) → All (λ n. n < last) ns
+    → least (ns ++ last ∷ []) ≡ Some (unwrap_or (least ns) last)
 least-more [] last all = refl
 least-more (n ∷ ns) last all =
     ap (λ (o : Option ℕ). Some (option_map_or (min n) o n)) (least-more ns last (All-tail (λ n. n < last) n ns all))
@@ -397,7 +401,8 @@ least-more (n ∷ ns) last all =
     by_rest None low = omega arith
     by_rest (Some k) low = refl
 
-changes_below : (log : Log) → IsLog log → (p : ℕ) → All (λ lsn. lsn < lsn_of (length log.records)) (changes_on log.records p)
+changes_below : (log : Log) → IsLog log → (p : ℕ)
+    → All (λ lsn. lsn < lsn_of (length log.records)) (changes_on log.records p)
 changes_below log valid p =
     of_each (λ lsn. lsn < lsn_of (length log.records)) p log.records
     (λ i d lt e. let own = (valid.records i d lt).lsn in omega arith)

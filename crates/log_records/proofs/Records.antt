@@ -1,5 +1,6 @@
 -- The numbers of a record that a log may have.
-use Rattle.std.proofs.Common.{◌≡◌, ℕ, ◌<◌, ◌^◌, List, ◌++◌, take, length, refl, sym, ap, ◌+◌, ◌∙◌, ◌⊎◌, inl, inr, arith, lit<}
+use Rattle.std.proofs.Common.{◌≡◌, ℕ, ◌<◌, ◌^◌, List, ◌++◌, take, length, refl, sym, ap, ◌+◌, ◌∙◌, ◌⊎◌, inl, inr, arith}
+use Rattle.std.proofs.Common.{lit<}
 use Rattle.std.specs.Prelude.{slice_range, ◌==◌, if◌then◌else◌}
 use Rattle.std.specs.Int.{w16, w32, w64, to_le_bytes, from_le_bytes}
 use Rattle.std.proofs.lemmas.List.{take_at}
@@ -9,7 +10,8 @@ use Rattle.page_core.specs.declared.change.Change.{Change}
 use Rattle.page_core.specs.declared.change.Change.TheVariants.{Set, Add}
 use Rattle.log_records.specs.declared.page_change.PageChange.{PageChange}
 use Rattle.log_records.specs.declared.record.Record.{Record}
-use Rattle.log_records.specs.declared.record.Record.TheVariants.{Begin, Update, Comp, Commit, Abort, End, BeginChkpt, ChkptPages, ChkptTxns, EndChkpt}
+use Rattle.log_records.specs.declared.record.Record.TheVariants.{Begin, Update, Comp, Commit, Abort, End, BeginChkpt}
+use Rattle.log_records.specs.declared.record.Record.TheVariants.{ChkptPages, ChkptTxns, EndChkpt}
 use Rattle.log_records.specs.declared.fields.Fields.{Fields}
 use Rattle.log_records.specs.declared.fields.TheConstants.{ABORT, BEGIN, COMMIT, COMP, END, SET, UPDATE}
 use Rattle.log_records.specs.declared.fields.TheConstants.{BEGIN_CHKPT, CHKPT_PAGES, CHKPT_TXNS, END_CHKPT}
@@ -22,7 +24,8 @@ use Rattle.log_records.specs.declared.txn_phase.TxnPhase.TheVariants.{Active, Ro
 use Rattle.log_records.specs.CkptBytes.{ckpt_bytes, code_of, entry_bytes, no_body, pages_body, redo_body, txn_body}
 use Rattle.log_records.specs.Fields.{AreInRange, fields_bytes, fields_of, fields_of_change, no_fields}
 use Rattle.log_records.proofs.Changes.{valid_change}
-use Rattle.log_records.specs.Record.{IsChange, IsDirtyPage, IsLsn, IsOfCheckpoint, IsOfTransaction, IsPageChange, IsRecord, IsTxn, own_lsn, record_bytes}
+use Rattle.log_records.specs.Record.{IsChange, IsDirtyPage, IsLsn, IsOfCheckpoint, IsOfTransaction, IsPageChange}
+use Rattle.log_records.specs.Record.{IsRecord, IsTxn, own_lsn, record_bytes}
 
 -- ---- they fit their bytes
 
@@ -279,9 +282,11 @@ read_again (Abort lsn txn prev) valid = of_fields (Abort lsn txn prev) tt valid
 read_again (End lsn txn prev) valid = of_fields (End lsn txn prev) tt valid
 read_again (BeginChkpt lsn) valid = ap BeginChkpt (from_le_bytes-to_le_bytes_8 lsn valid.fits)
 read_again (ChkptPages lsn begin (One a)) valid =
-    rw (entry_again lsn a valid.2, from_le_bytes-to_le_bytes_8 lsn valid.0.fits, from_le_bytes-to_le_bytes_8 begin valid.1.place.fits) refl
+    rw (entry_again lsn a valid.2, from_le_bytes-to_le_bytes_8 lsn valid.0.fits, from_le_bytes-to_le_bytes_8 begin
+        valid.1.place.fits) refl
 read_again (ChkptPages lsn begin (Two a b)) valid =
-    rw (entry_again lsn a valid.2.0, entry_again lsn b valid.2.1, from_le_bytes-to_le_bytes_8 lsn valid.0.fits, from_le_bytes-to_le_bytes_8 begin valid.1.place.fits) refl
+    rw (entry_again lsn a valid.2.0, entry_again lsn b valid.2.1, from_le_bytes-to_le_bytes_8 lsn valid.0.fits,
+        from_le_bytes-to_le_bytes_8 begin valid.1.place.fits) refl
 read_again (ChkptPages lsn begin (Three a b c)) valid =
     rw (
       entry_again lsn a valid.2.0,

@@ -14,7 +14,8 @@ use Rattle.log_store.specs.declared.fault.LogReadFault.TheVariants.{OutOfMemory,
 use Rattle.log_store.specs.declared.fault.LogReadFault.TheVariants.{ReadFault, TooLong}
 use Rattle.log_records.specs.declared.record.Record.{Record}
 use Rattle.log_records.specs.Record.{record_bytes}
-use Rattle.log_records.specs.Log.{IsLog, Log, StandsAt, SpellsLog, HasHeader, header_bytes, log_bytes, lsn_of, with_next}
+use Rattle.log_records.specs.Log.{IsLog, Log, StandsAt, SpellsLog, HasHeader, header_bytes, log_bytes, lsn_of}
+use Rattle.log_records.specs.Log.{with_next}
 use Rattle.log_history.specs.History.{IsMadeOf, Made}
 use Rattle.log_history.specs.Linked.{IsLinked, MayFollow}
 use Rattle.log_store.specs.Fault.{IsFirstFault, Refuses, HoldsNoFault, GaveNoFault}

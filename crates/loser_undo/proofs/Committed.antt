@@ -4,7 +4,8 @@ use Rattle.std.specs.List.{fold}
 use Rattle.log_records.specs.declared.record.Record.{Record}
 use Rattle.log_history.specs.Committed.{committed}
 use Rattle.log_history.proofs.Slots.{committed_push}
-use Rattle.loser_undo.specs.Undo.{LostChange, after_undo, comp_of, end_of, is_undone, lost_changes, spent, with_comp, with_end, taken_back}
+use Rattle.loser_undo.specs.Undo.{LostChange, after_undo, comp_of, end_of, is_undone, lost_changes, spent, with_comp}
+use Rattle.loser_undo.specs.Undo.{with_end, taken_back}
 
 committed_with_end : (rs : List Record) (t : ℕ) → committed (with_end rs t) ≡ committed rs
 committed_with_end rs t = committed_push rs (end_of rs t)

@@ -1,5 +1,6 @@
 -- The changes that undo takes back, in their order.
-use Rattle.std.proofs.Common.{◌≡◌, ℕ, ◌-◌, ◌<◌, Bool, true, false, cond, eq-eqb, ne_eqb, List, [], ◌∷◌, ◌++◌, length, map, sym, refl, ap, subst, subst₂, ◌∙◌, inl, inr, arith}
+use Rattle.std.proofs.Common.{◌≡◌, ℕ, ◌-◌, ◌<◌, Bool, true, false, cond, eq-eqb, ne_eqb, List, [], ◌∷◌, ◌++◌, length}
+use Rattle.std.proofs.Common.{map, sym, refl, ap, subst, subst₂, ◌∙◌, inl, inr, arith}
 use Rattle.std.specs.Prelude.{Some, None, reverse}
 use Rattle.std.specs.List.{All, AllByRecursion, AllPairs, cons_option, filter, filter_map}
 use Rattle.std.proofs.lemmas.Bool.{cases_eq}

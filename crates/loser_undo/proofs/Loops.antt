@@ -1,10 +1,13 @@
 -- The steps in which undo goes over a log make the log after undo.
-use Rattle.std.proofs.Common.{◌≡◌, ◌≢◌, ℕ, ◌+◌, ◌<◌, ◌≤◌, Bool, true, false, cond, ◌&&◌, eqb, List, [], ◌∷◌, ◌++◌, length, get_or, map, take, drop, sym, refl, ap, ap₂, subst, subst₂, ◌∙◌, inl, inr, arith, append_assoc, append-nil, eq-eqb, ne_eqb, ◌-◌}
+use Rattle.std.proofs.Common.{◌≡◌, ◌≢◌, ℕ, ◌+◌, ◌<◌, ◌≤◌, Bool, true, false, cond, ◌&&◌, eqb, List, [], ◌∷◌, ◌++◌}
+use Rattle.std.proofs.Common.{length, get_or, map, take, drop, sym, refl, ap, ap₂, subst, subst₂, ◌∙◌, inl, inr, arith}
+use Rattle.std.proofs.Common.{append_assoc, append-nil, eq-eqb, ne_eqb, ◌-◌}
 use Rattle.std.specs.Prelude.{Option, Some, None, reverse}
 use Rattle.std.specs.List.{All, AllByRecursion, filter, filter_map, fold, range_with_len}
 use Rattle.std.specs.Option.{option_and_then, option_map_or, option_to_list}
 use Rattle.std.proofs.lemmas.Bool.{cases_Bool}
-use Rattle.std.proofs.lemmas.List.{get_or_append_left, length-append, map-append, map-id, reverse-append, take_all, take-append-drop, take_more}
+use Rattle.std.proofs.lemmas.List.{get_or_append_left, length-append, map-append, map-id, reverse-append, take_all}
+use Rattle.std.proofs.lemmas.List.{take-append-drop, take_more}
 use Rattle.std.proofs.lemmas.List.Elements.{All-filter, All-map}
 use Rattle.std.proofs.lemmas.List.FromFn.{map-range_with_len_more}
 use Rattle.std.proofs.lemmas.List.Sums.{fold-append}
@@ -20,7 +23,8 @@ use Rattle.log_history.proofs.Begun.{begun-IsStrictlyIncreasing, begun_is}
 use Rattle.log_history.proofs.Filters.{filter_map_push}
 use Rattle.log_history.proofs.Pushes.{is_open_push_other}
 use Rattle.loser_undo.specs.Steps.{last_lost, with_end_if_spent, last_taken_back}
-use Rattle.loser_undo.specs.Undo.{LostChange, after_undo, end_of, is_lost, is_undone, lost_by, spent, with_end, taken_back}
+use Rattle.loser_undo.specs.Undo.{LostChange, after_undo, end_of, is_lost, is_undone, lost_by, spent, with_end}
+use Rattle.loser_undo.specs.Undo.{taken_back}
 use Rattle.loser_undo.proofs.Falling.{lost_lsns}
 use Rattle.loser_undo.proofs.Lost.{changes_of, of_txn}
 use Rattle.loser_undo.proofs.Phases.{Undoing, changes_of_own, last_of_push, one_undone, pending_other, undoing_begins}

@@ -1,5 +1,7 @@
 -- Undo keeps a log linked, and closes its open transactions.
-use Rattle.std.proofs.Common.{◌≡◌, ◌≢◌, ℕ, ◌-◌, ◌<◌, Bool, true, false, cond, ◌&&◌, ◌||◌, not, eqb, List, [], ◌∷◌, ◌++◌, length, map, sym, refl, ap, ap₂, subst, ◌∙◌, inl, inr, arith, eq-eqb, ne_eqb, eqb-true, true≢false}
+use Rattle.std.proofs.Common.{◌≡◌, ◌≢◌, ℕ, ◌-◌, ◌<◌, Bool, true, false, cond, ◌&&◌, ◌||◌, not, eqb, List, [], ◌∷◌, ◌++◌}
+use Rattle.std.proofs.Common.{length, map, sym, refl, ap, ap₂, subst, ◌∙◌, inl, inr, arith, eq-eqb, ne_eqb, eqb-true}
+use Rattle.std.proofs.Common.{true≢false}
 use Rattle.std.specs.Prelude.{Some, None, reverse}
 use Rattle.std.specs.List.{AllByRecursion, cons_option, filter, filter_map, fold, list_any}
 use Rattle.std.proofs.lemmas.Bool.{and_parts, cases_Bool, cases_eq, eqb-false, or_parts}
@@ -14,12 +16,15 @@ use Rattle.log_records.specs.declared.record.Record.TheVariants.{Update}
 use Rattle.log_records.specs.Log.{IsLog, Log}
 use Rattle.log_history.specs.declared.pending_change.PendingChange.{PendingChange}
 use Rattle.log_history.specs.Linked.{IsLinked, MayFollow}
-use Rattle.log_history.specs.Transactions.{begun, is_open, last_of, open_in, pending, pending_from, txn_of, without_last}
+use Rattle.log_history.specs.Transactions.{begun, is_open, last_of, open_in, pending, pending_from, txn_of}
+use Rattle.log_history.specs.Transactions.{without_last}
 use Rattle.log_history.proofs.Begun.{open_has_begun, open_in-IsStrictlyIncreasing}
 use Rattle.log_history.proofs.Filters.{filter_push_in, filter_push_out}
 use Rattle.log_history.proofs.Histories.{linked_push}
-use Rattle.log_history.proofs.Pushes.{is_open_push, is_open_push_other, is_open_push_own, pending_push, records_of_push_other}
-use Rattle.loser_undo.specs.Undo.{LostChange, after_undo, comp_of, end_of, is_lost, is_undone, lost_by, lost_changes, spent, with_comp, with_end, taken_back}
+use Rattle.log_history.proofs.Pushes.{is_open_push, is_open_push_other, is_open_push_own, pending_push}
+use Rattle.log_history.proofs.Pushes.{records_of_push_other}
+use Rattle.loser_undo.specs.Undo.{LostChange, after_undo, comp_of, end_of, is_lost, is_undone, lost_by, lost_changes}
+use Rattle.loser_undo.specs.Undo.{spent, with_comp, with_end, taken_back}
 use Rattle.loser_undo.proofs.Lost.{changes_of, of_txn, pending_is_lost}
 use Rattle.loser_undo.proofs.Rising.{IsRising, rising_from_increasing}
 

@@ -1,5 +1,6 @@
 -- The log after undo: its changes are valid, it fits where records plus owed ones do, and it begins with the log.
-use Rattle.std.proofs.Common.{◌≡◌, ℕ, ◌+◌, ◌<◌, ◌≤◌, Bool, true, false, cond, List, [], ◌∷◌, ◌++◌, length, map, take, sym, refl, ap, ◌∙◌, arith, append_assoc, append-nil}
+use Rattle.std.proofs.Common.{◌≡◌, ℕ, ◌+◌, ◌<◌, ◌≤◌, Bool, true, false, cond, List, [], ◌∷◌, ◌++◌, length, map, take}
+use Rattle.std.proofs.Common.{sym, refl, ap, ◌∙◌, arith, append_assoc, append-nil}
 use Rattle.std.specs.Prelude.{Some, IfSome}
 use Rattle.std.specs.List.{All, fold, range_with_len}
 use Rattle.std.proofs.lemmas.List.{length-take, length_push, take_at}
@@ -15,11 +16,13 @@ use Rattle.log_history.specs.declared.pending_change.PendingChange.{PendingChang
 use Rattle.log_history.specs.Committed.{committed}
 use Rattle.log_history.specs.Linked.{IsLinked, MayFollow, number_in}
 use Rattle.log_history.specs.Transactions.{is_open, last_lsn, last_of, open_in, owed, pending}
-use Rattle.log_history.proofs.AtEnd.{All-last_of, All-pending, last_lsn_is_before, last_pending, lsn_is_lsn, noted, open_is_txn, undo_fits, undo_has_no_before, valid_next}
+use Rattle.log_history.proofs.AtEnd.{All-last_of, All-pending, last_lsn_is_before, last_pending, lsn_is_lsn, noted}
+use Rattle.log_history.proofs.AtEnd.{open_is_txn, undo_fits, undo_has_no_before, valid_next}
 use Rattle.log_history.proofs.Owned.{HasChange}
 use Rattle.log_history.proofs.Room.{claimed, claimed_push}
 use Rattle.log_history.proofs.Undone.{changes_of_log, number_is_committed, slots_are_committed}
-use Rattle.loser_undo.specs.Undo.{LostChange, after_undo, comp_of, end_of, is_undone, lost_changes, spent, with_comp, with_end, taken_back}
+use Rattle.loser_undo.specs.Undo.{LostChange, after_undo, comp_of, end_of, is_undone, lost_changes, spent, with_comp}
+use Rattle.loser_undo.specs.Undo.{with_end, taken_back}
 use Rattle.loser_undo.proofs.Committed.{committed_stays}
 use Rattle.loser_undo.proofs.Phases.{Undoing, all_undone, none_open}
 

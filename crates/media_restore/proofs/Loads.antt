@@ -1,5 +1,6 @@
 -- What is loaded of a copy, and what redo makes of it.
-use Rattle.std.proofs.Common.{◌≡◌, ℕ, suc, ◌+◌, ◌-◌, ◌<◌, ◌≤◌, List, ◌∷◌, ◌++◌, length, get_or, map, take, refl, sym, ap, subst}
+use Rattle.std.proofs.Common.{◌≡◌, ℕ, suc, ◌+◌, ◌-◌, ◌<◌, ◌≤◌, List, ◌∷◌, ◌++◌, length, get_or, map, take, refl, sym}
+use Rattle.std.proofs.Common.{ap, subst}
 use Rattle.std.proofs.Common.{◌∙◌, arith, min}
 use Rattle.std.specs.Prelude.{Option, Some, None, IfSome, IsSome, nat_lt, true, false, Bool, if◌then◌else◌}
 use Rattle.std.specs.List.{AllByRecursion, filter}
@@ -30,7 +31,8 @@ use Rattle.copy_coverage.proofs.Chains.{restored_of_members}
 use Rattle.copy_coverage.proofs.Kept.{prefix_is_log}
 use Rattle.media_restore.specs.declared.fault.LoadFault.{LoadFault}
 use Rattle.media_restore.specs.declared.fault.LoadFault.TheVariants.{CutTooShort}
-use Rattle.media_restore.specs.Load.{IsLoaded, copy_refusal, cut_refusal, first_of, forced_count, kept_log, load_refusal}
+use Rattle.media_restore.specs.Load.{IsLoaded, copy_refusal, cut_refusal, first_of, forced_count, kept_log}
+use Rattle.media_restore.specs.Load.{load_refusal}
 
 -- ---- the kept log
 

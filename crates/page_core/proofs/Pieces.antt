@@ -58,7 +58,8 @@ grow xs front field b c le e d =
     rw (e, d, ← second, ← take-take b c xs le) split
 
 -- a front of the middle of three lists
-pub into : {X : Type 0} (a b c : List X) (m n : ℕ) → m ≡ length a → n ≤ length b → a ++ take n b ≡ take (m + n) (a ++ (b ++ c))
+pub into : {X : Type 0} (a b c : List X) (m n : ℕ) → m ≡ length a → n ≤ length b
+    → a ++ take n b ≡ take (m + n) (a ++ (b ++ c))
 into a b c m n start fits =
     let xs = a ++ (b ++ c) in
     let wide : m + n - m ≡ n = omega arith in

@@ -1,10 +1,12 @@
 -- Redo of a log on the pages of a volume, record by record, and what it comes to on each page.
-use Rattle.std.proofs.Common.{◌≡◌, ◌≢◌, ℕ, zero, suc, ◌+◌, ◌-◌, ◌*◌, ◌<◌, ◌≤◌, Bool, true, false, cond, List, [], ◌∷◌, ◌++◌}
+use Rattle.std.proofs.Common.{◌≡◌, ◌≢◌, ℕ, zero, suc, ◌+◌, ◌-◌, ◌*◌, ◌<◌, ◌≤◌, Bool, true, false, cond, List, [], ◌∷◌}
+use Rattle.std.proofs.Common.{◌++◌}
 use Rattle.std.proofs.Common.{length, get_or, set, map, take, drop, refl, sym, ap, subst, ◌∙◌, arith, inl, inr, min}
 use Rattle.std.specs.Prelude.{Some, None, ◌&&◌}
 use Rattle.std.specs.List.{All, filter}
 use Rattle.std.proofs.lemmas.Bool.{cases_eq, cases_lt, le-leb, lt-leb, lt-ltb, le-ltb}
-use Rattle.std.proofs.lemmas.List.{get_or-map, get_or-set_other, get_or-set_same, get_or_default, get_or-drop, length-map, length-set, length-drop}
+use Rattle.std.proofs.lemmas.List.{get_or-map, get_or-set_other, get_or-set_same, get_or_default, get_or-drop}
+use Rattle.std.proofs.lemmas.List.{length-map, length-set, length-drop}
 use Rattle.std.proofs.lemmas.List.{get_or-take, length-take, same_lists, take-append-drop, take_more}
 use Rattle.std.proofs.lemmas.List.Sums.{fold-append}
 use Rattle.std.proofs.lemmas.List.Elements.{All-head, All-tail, filter-append}
@@ -21,7 +23,8 @@ use Rattle.page_redo.specs.Redo.{is_above, redone_all, redone_by}
 
 -- ---- one record
 
-same_by_test : (b : Bool) (page : Page) (r : Record) → with_record page r ≡ page → cond b (with_record page r) page ≡ page
+same_by_test : (b : Bool) (page : Page) (r : Record) → with_record page r ≡ page
+    → cond b (with_record page r) page ≡ page
 same_by_test true page r e = e
 same_by_test false page r e = refl
 
@@ -140,7 +143,8 @@ rises_from log valid k (r ∷ rs) e =
 none_below : (rs : List Record) (from lsn : ℕ) → All (λ r. own_lsn r < from) rs → filter (is_resumed from lsn) rs ≡ []
 none_below [] from lsn all = refl
 none_below (r ∷ rs) from lsn all =
-    ap (λ (b : Bool). cond (b && is_above lsn r) (r ∷ filter (is_resumed from lsn) rs) (filter (is_resumed from lsn) rs))
+    ap (λ (b : Bool). cond (b && is_above lsn r) (r ∷ filter (is_resumed from lsn) rs)
+        (filter (is_resumed from lsn) rs))
     (lt-leb from (own_lsn r) (All-head (λ r. own_lsn r < from) r rs all))
     ∙ none_below rs from lsn (All-tail (λ r. own_lsn r < from) r rs all)
 
@@ -148,7 +152,8 @@ same_above : (rs : List Record) (from lsn : ℕ) → All (λ r. from ≤ own_lsn
     → filter (is_resumed from lsn) rs ≡ filter (is_above lsn) rs
 same_above [] from lsn all = refl
 same_above (r ∷ rs) from lsn all =
-    ap (λ (b : Bool). cond (b && is_above lsn r) (r ∷ filter (is_resumed from lsn) rs) (filter (is_resumed from lsn) rs))
+    ap (λ (b : Bool). cond (b && is_above lsn r) (r ∷ filter (is_resumed from lsn) rs)
+        (filter (is_resumed from lsn) rs))
     (le-leb from (own_lsn r) (All-head (λ r. from ≤ own_lsn r) r rs all))
     ∙ ap (λ (xs : List Record). cond (is_above lsn r) (r ∷ xs) xs)
     (same_above rs from lsn (All-tail (λ r. from ≤ own_lsn r) r rs all))
@@ -171,7 +176,8 @@ resumed log from k page valid low high le =
     omega arith in
     by_own_lsn page (drop k rs) (64 * k) (rises_from log valid k (drop k rs) refl)
     ∙ ap (image_from page) (sym (same_above (drop k rs) from lsn behind)
-    ∙ ap (λ (xs : List Record). xs ++ filter (is_resumed from lsn) (drop k rs)) (sym (none_below (take k rs) from lsn before))
+    ∙ ap (λ (xs : List Record). xs ++ filter (is_resumed from lsn) (drop k rs))
+        (sym (none_below (take k rs) from lsn before))
     ∙ sym (filter-append (is_resumed from lsn) (take k rs) (drop k rs))
     ∙ ap (filter (is_resumed from lsn)) (take-append-drop k rs))
 
@@ -226,6 +232,7 @@ pub within_part : (log : Log) (k : ℕ) → IsLog log
 within_part log k valid = λ i d lt.
     let rs = log.records in
     let n = length rs - k in
-    let long : length (take n (drop k rs)) ≡ min n (length rs - k) = length-take n (drop k rs) ∙ ap (min n) (length-drop k rs) in
+    let long : length (take n (drop k rs)) ≡ min n (length rs - k) = length-take n (drop k rs)
+        ∙ ap (min n) (length-drop k rs) in
     let below : i < n = omega arith in
     rw (get_or-take n (drop k rs) i d below, get_or-drop k rs i d) (valid.records (k + i) d (omega arith)).within

@@ -1,9 +1,11 @@
 -- What the table of a log says, in the log's words.
-use Rattle.std.proofs.Common.{◌≡◌, ℕ, ◌≤◌, ◌∷◌, [], Bool, true, false, cond, List, length, refl, sym, ap, subst, ◌∙◌, arith, min, inl, inr}
+use Rattle.std.proofs.Common.{◌≡◌, ℕ, ◌≤◌, ◌∷◌, [], Bool, true, false, cond, List, length, refl, sym, ap, subst, ◌∙◌}
+use Rattle.std.proofs.Common.{arith, min, inl, inr}
 use Rattle.std.specs.Prelude.{Option, Some, None, if◌then◌else◌, IfSome, filter, nat_le}
 use Rattle.std.specs.Option.{option_and_then, option_map, option_map_or}
 use Rattle.log_records.specs.declared.record.Record.{Record}
-use Rattle.log_records.specs.declared.record.Record.TheVariants.{Begin, Update, Comp, Commit, Abort, End, BeginChkpt, ChkptPages, ChkptTxns, EndChkpt}
+use Rattle.log_records.specs.declared.record.Record.TheVariants.{Begin, Update, Comp, Commit, Abort, End, BeginChkpt}
+use Rattle.log_records.specs.declared.record.Record.TheVariants.{ChkptPages, ChkptTxns, EndChkpt}
 use Rattle.log_history.specs.Table.{Entry, Table, entry_in, entry_of, table_of}
 use Rattle.log_history.specs.Transactions.{begun, is_open, last_of, pending, open_in}
 use Rattle.log_history.specs.TxnState.{state_of, next_in}
@@ -91,6 +93,7 @@ next_from_is rs table from of =
     ∙ at (next_open rs from) (next_is_open rs from)
   where
     at : (o : Option ℕ) → IfSome o (λ t. is_open rs t ≡ true)
-        → option_map state_of (option_and_then (entry_in (table_of rs)) o) ≡ option_map (λ t. state_of (entry_of rs t)) o
+        → option_map state_of (option_and_then (entry_in (table_of rs)) o)
+            ≡ option_map (λ t. state_of (entry_of rs t)) o
     at None h = refl
     at (Some t) h = ap (option_map state_of) (entry_in-table_of rs t ∙ ap (λ b. cond b (Some (entry_of rs t)) None) h)

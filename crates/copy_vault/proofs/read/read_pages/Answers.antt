@@ -105,7 +105,8 @@ returns-then-filled-gt0-clause-first g c =
     ap (λ (bs : List ℕ). read ++ bs) (sym (take-append-drop whole bytes))
     ∙ sym (append_assoc read (take whole bytes) pending) in
     let some = c.if-filled-gt0.true in
-    let full : h.taken ≤ length (taken_pages new) = let past = c.if-taken-header.true in omega (arith, c.taken.ensures) in
+    let full : h.taken ≤ length (taken_pages new) = let past = c.if-taken-header.true in omega
+        (arith, c.taken.ensures) in
     let long : 0 < length pending = omega (
       arith,
       length-drop whole bytes,

@@ -3,7 +3,8 @@ use Rattle.log_history.proofs.history_laws.numbers_are_committed_under_pending_c
 
 pub returns : goal.returns
 returns c = record {
-  pending = λ log page slot valid linked within. number_is log.records page slot within linked (changes_of_log log valid);
+  pending = λ log page slot valid linked within. number_is log.records page slot within linked
+      (changes_of_log log valid);
   closed = λ log page slot valid linked within.
       number_is_committed log.records page slot within linked (changes_of_log log valid);
 }

@@ -17,11 +17,13 @@ note-requires g c =
     let it = c.self.inside in
     let s = (engine_view g.S.PageStore.stored it.log it.pool (media_view it.master it.session it.vault.copies)).state in
     let calls : Calls s c.args.next =
-    subst (λ (v : EngineView g.row.S.Denot g.row.D.Denot). Calls v.state c.args.next) (sym c.self.view_is) c.requires in (
+    subst (λ (v : EngineView g.row.S.Denot g.row.D.Denot). Calls v.state c.args.next)
+        (sym c.self.view_is) c.requires in (
       s.log,
       (
         c.self.invariant.table_of_log,
-        (comes g.S.PageStore.stored s it.txns it.pool (media_view it.master it.session it.vault.copies) c.args.next c.self.invariant calls).may_follow,
+        (comes g.S.PageStore.stored s it.txns it.pool (media_view it.master it.session it.vault.copies) c.args.next
+            c.self.invariant calls).may_follow,
       ),
     )
 
@@ -32,7 +34,8 @@ append-requires-clause-stands g c =
     let calls : Calls s c.args.next =
     subst (λ (v : EngineView g.row.S.Denot g.row.D.Denot). Calls v.state c.args.next) (sym c.self.view_is) c.requires in
     subst (λ (l : Log). StandsAt l.pages (lsn_of (length l.records)) c.args.next) (sym c.make_room.ensures.same)
-    (comes g.S.PageStore.stored s it.txns it.pool (media_view it.master it.session it.vault.copies) c.args.next c.self.invariant calls).stands_at
+    (comes g.S.PageStore.stored s it.txns it.pool (media_view it.master it.session it.vault.copies) c.args.next
+        c.self.invariant calls).stands_at
 
 pub append-requires-clause-few : goal.append-requires-clause-few
 append-requires-clause-few g c =
@@ -40,7 +43,8 @@ append-requires-clause-few g c =
     let s = (engine_view g.S.PageStore.stored it.log it.pool (media_view it.master it.session it.vault.copies)).state in
     let calls : Calls s c.args.next =
     subst (λ (v : EngineView g.row.S.Denot g.row.D.Denot). Calls v.state c.args.next) (sym c.self.view_is) c.requires in
-    let few = (comes g.S.PageStore.stored s it.txns it.pool (media_view it.master it.session it.vault.copies) c.args.next c.self.invariant calls).few in
+    let few = (comes g.S.PageStore.stored s it.txns it.pool (media_view it.master it.session it.vault.copies)
+        c.args.next c.self.invariant calls).few in
     omega (arith, few, ap (λ (l : Log). length l.records) c.make_room.ensures.same)
 
 pub change-requires : goal.change-requires
@@ -48,11 +52,13 @@ change-requires g c =
     let it = c.self.inside in
     let s = (engine_view g.S.PageStore.stored it.log it.pool (media_view it.master it.session it.vault.copies)).state in
     let calls : Calls s c.args.next =
-    subst (λ (v : EngineView g.row.S.Denot g.row.D.Denot). Calls v.state c.args.next) (sym c.self.view_is) c.requires in (
+    subst (λ (v : EngineView g.row.S.Denot g.row.D.Denot). Calls v.state c.args.next)
+        (sym c.self.view_is) c.requires in (
       log_of s,
       (
         c.self.invariant.pool_of_log,
-        (comes g.S.PageStore.stored s it.txns it.pool (media_view it.master it.session it.vault.copies) c.args.next c.self.invariant calls).valid,
+        (comes g.S.PageStore.stored s it.txns it.pool (media_view it.master it.session it.vault.copies) c.args.next
+            c.self.invariant calls).valid,
       ),
     )
 
@@ -64,7 +70,8 @@ invariant_of-self-2 g c =
     let s = (engine_view stored it.log it.pool (media_view it.master it.session it.vault.copies)).state in
     let calls : Calls s r =
     subst (λ (v : EngineView g.row.S.Denot g.row.D.Denot). Calls v.state r) (sym c.self.view_is) c.requires in
-    let come = comes stored s it.txns it.pool (media_view it.master it.session it.vault.copies) r c.self.invariant calls in
+    let come = comes stored s it.txns it.pool (media_view it.master it.session it.vault.copies) r
+        c.self.invariant calls in
     let state = appended_is stored it.log c.make_room.new.self c.append.new.self it.pool c.change.new.self
     (media_view it.master it.session it.vault.copies) r
     c.make_room.ensures.same c.make_room.ensures.forced_end c.append.ensures.next c.append.ensures.forced_end
@@ -72,5 +79,7 @@ invariant_of-self-2 g c =
     let noted = said c.note.result _ (sym c.is_err-else-is_err.ensures.value ∙ c.if-is_err-2.false) c.note.ensures.ok
     s.log c.self.invariant.table_of_log come.may_follow in
     let changed = c.change.ensures.kept (log_of s) c.self.invariant.pool_of_log come.valid in
-    subst (λ (t : EngineState). IsKept stored t c.note.new.self c.change.new.self (media_view it.master it.session it.vault.copies)) (sym state)
-    (kept_next stored s it.txns c.note.new.self it.pool c.change.new.self (media_view it.master it.session it.vault.copies) r c.self.invariant calls noted changed)
+    subst (λ (t : EngineState). IsKept stored t c.note.new.self c.change.new.self
+        (media_view it.master it.session it.vault.copies)) (sym state)
+    (kept_next stored s it.txns c.note.new.self it.pool c.change.new.self
+        (media_view it.master it.session it.vault.copies) r c.self.invariant calls noted changed)

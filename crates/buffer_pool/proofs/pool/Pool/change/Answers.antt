@@ -5,7 +5,8 @@ use Rattle.page_core.specs.declared.page.Page.{Page}
 use Rattle.log_records.specs.Record.{own_lsn}
 use Rattle.log_records.specs.Log.{with_next}
 use Rattle.buffer_pool.specs.Pool.{IsPoolOf, PageState, PoolView, changed, state_in, written_of, writing_of}
-use Rattle.buffer_pool.proofs.Pools.{changed_at, frames_later, numbers_later, page_is_there, pool_changed, pool_same, whole_later, written_changed, writing_changed}
+use Rattle.buffer_pool.proofs.Pools.{changed_at, frames_later, numbers_later, page_is_there, pool_changed, pool_same}
+use Rattle.buffer_pool.proofs.Pools.{whole_later, written_changed, writing_changed}
 use Rattle.buffer_pool.proofs.pool.Pool.change.Goals as goal
 
 pub invariant_of-self : goal.invariant_of-self
@@ -16,7 +17,8 @@ invariant_of-self g c =
     frames_later it.frames c.deref_mut.result.now c.redo_on_its_page.new.pages next c.deref_mut.ensures.value
     c.redo_on_its_page.ensures in
     let n = c.in-Some.change.page in
-    whole_later (g.S.PageStore.stored it.store) it.frames.items (with_items it.frames c.redo_on_its_page.new.pages).items
+    whole_later (g.S.PageStore.stored it.store) it.frames.items
+        (with_items it.frames c.redo_on_its_page.new.pages).items
     it.states c.change-in-Some.new.self next c.self.invariant frames
     (ap (length {A = PageState}) c.change-in-Some.ensures
     ∙ length-set it.states n (changed (state_in it.states n) c.lsn.result))
@@ -28,7 +30,8 @@ invariant_of-self-in_default g c =
     let frames =
     frames_later it.frames c.deref_mut.result.now c.redo_on_its_page.new.pages next c.deref_mut.ensures.value
     c.redo_on_its_page.ensures in
-    whole_later (g.S.PageStore.stored it.store) it.frames.items (with_items it.frames c.redo_on_its_page.new.pages).items
+    whole_later (g.S.PageStore.stored it.store) it.frames.items
+        (with_items it.frames c.redo_on_its_page.new.pages).items
     it.states it.states next c.self.invariant frames refl
 
 pub returns-in-Some-clause-kept : goal.returns-in-Some-clause-kept
@@ -45,7 +48,8 @@ returns-in-Some-clause-kept g c = λ log of valid.
     frames_later it.frames c.deref_mut.result.now c.redo_on_its_page.new.pages next c.deref_mut.ensures.value
     c.redo_on_its_page.ensures in
     let states : c.change-in-Some.new.self ≡ set it.states n (changed (state_in it.states n) (own_lsn next)) =
-    changed_at it.states c.change-in-Some.new.self n c.lsn.result (own_lsn next) c.change-in-Some.ensures c.lsn.ensures in
+    changed_at it.states c.change-in-Some.new.self n c.lsn.result (own_lsn next)
+        c.change-in-Some.ensures c.lsn.ensures in
     subst (λ (ss : List PageState). IsPoolOf stored_in log'
     (record { store = it.store; resident = (with_items it.frames c.redo_on_its_page.new.pages).items; states = ss }))
     (sym states)
@@ -97,7 +101,8 @@ returns-in-Some-clause-written g c =
     (sym c.in-Some.ensures) c.requires.1.1 c.requires.1.0 in
     let states : it.states ≡ c.args.self.now.states = ap (λ (v : PoolView g.row.S.Denot). v.states) c.self.view_is in
     let here : n < length it.states = subst (λ (ss : List PageState). n < length ss) (sym states) there in
-    written_changed it.states c.change-in-Some.new.self n c.lsn.result c.change-in-Some.ensures here ∙ ap written_of states
+    written_changed it.states c.change-in-Some.new.self n c.lsn.result c.change-in-Some.ensures here
+        ∙ ap written_of states
 
 pub returns-in-Some-clause-writing : goal.returns-in-Some-clause-writing
 returns-in-Some-clause-writing g c =
@@ -107,4 +112,5 @@ returns-in-Some-clause-writing g c =
     (sym c.in-Some.ensures) c.requires.1.1 c.requires.1.0 in
     let states : it.states ≡ c.args.self.now.states = ap (λ (v : PoolView g.row.S.Denot). v.states) c.self.view_is in
     let here : n < length it.states = subst (λ (ss : List PageState). n < length ss) (sym states) there in
-    writing_changed it.states c.change-in-Some.new.self n c.lsn.result c.change-in-Some.ensures here ∙ ap writing_of states
+    writing_changed it.states c.change-in-Some.new.self n c.lsn.result c.change-in-Some.ensures here
+        ∙ ap writing_of states

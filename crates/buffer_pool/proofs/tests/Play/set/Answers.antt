@@ -17,6 +17,7 @@ invariant_of-self g c =
     let within : c.args.page < log.pages = search rules in
     let old : IsLog log = search rules in
     let stands : StandsAt log.pages (lsn_of (length log.records)) next = search rules in
-    let more : length (log.records ++ next ∷ []) ≡ c.self.inside.records + 1 = omega (arith, length_push log.records next, count) in
+    let more : length (log.records ++ next ∷ [])
+        ≡ c.self.inside.records + 1 = omega (arith, length_push log.records next, count) in
     let valid : IsLog (with_next log (next ∷ [])) = next_is_log log next old (omega arith) stands in
     (with_next log (next ∷ []), (c.change.ensures.kept log c.self.invariant.1.0 valid, more))

@@ -1,7 +1,8 @@
 use Rattle.std.proofs.Common.{◌<◌, reverse, length, sym, ap, subst, ◌∙◌, arith}
 use Rattle.copy_vault.specs.Vault.{state_of}
 use Rattle.copy_vault.specs.Chain.{IsChain, IsChainOf, lent}
-use Rattle.copy_vault.proofs.Chains.{IsTail, is_full, is_there, known_here, lent_back, next_of_parent, parent_of, reversed}
+use Rattle.copy_vault.proofs.Chains.{IsTail, is_full, is_there, known_here, lent_back, next_of_parent, parent_of}
+use Rattle.copy_vault.proofs.Chains.{reversed}
 use Rattle.copy_vault.proofs.Chains.{tail_more, tail_start, tail_whole}
 use Rattle.copy_vault.proofs.vault.Vault.chain.Goals as goal
 
@@ -45,7 +46,8 @@ loop-parent-preserved c =
       tail = subst (IsTail copies c.args.id other)
           (sym (ap (λ refs. reverse (lent refs)) c.in_ok-push.ensures.items
           ∙ lent_back c.loop-parent.members.items c.loop-parent.copy))
-          (tail_more copies c.args.id other copy (reverse (lent c.loop-parent.members.items)) c.loop-parent.invariant.tail
+          (tail_more copies c.args.id other copy (reverse (lent c.loop-parent.members.items))
+              c.loop-parent.invariant.tail
           c.in-Inc.ensures.complete next (ap (state_of copies) there.kept.id_is ∙ there.ok));
     }
 
@@ -56,7 +58,8 @@ new-requires c =
     let refs = c.loop-parent.members.items in
     let full = is_full copy.kind (λ parent e. c.in_default.not-Inc parent (c.kind.ensures.kind ∙ e)) in
     subst IsChain
-    (sym (ap lent (c.reverse.ensures.items ∙ ap reverse c.in_ok-push-2.ensures.items) ∙ reversed refs c.loop-parent.copy))
+    (sym (ap lent (c.reverse.ensures.items ∙ ap reverse c.in_ok-push-2.ensures.items)
+        ∙ reversed refs c.loop-parent.copy))
     (tail_whole copies c.args.id copy (reverse (lent refs)) c.loop-parent.invariant.tail c.kind.ensures.complete full)
 
 pub returns-clause-found : goal.returns-clause-found

@@ -1,6 +1,7 @@
 use Rattle.std.specs.Prelude.{Box, Option}
 use Rattle.std.specs.Box.{with_value}
-use Rattle.std.proofs.Common.{ℕ, List, Global, ◌∙◌, ◌≡◌, ◌<◌, ◌&&◌, None, Some, cond, eqb, get_or, set, length, ap, arith, sym}
+use Rattle.std.proofs.Common.{ℕ, List, Global, ◌∙◌, ◌≡◌, ◌<◌, ◌&&◌, None, Some, cond, eqb, get_or, set, length, ap}
+use Rattle.std.proofs.Common.{arith, sym}
 use Rattle.std.proofs.lemmas.List.{get_or_default}
 use Rattle.log_history.specs.declared.seat_set.SeatSet.{SeatSet}
 use Rattle.log_history.specs.Adders.{seats_in}

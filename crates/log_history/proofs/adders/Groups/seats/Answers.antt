@@ -4,7 +4,8 @@ use Rattle.log_history.specs.Adders.{seats_in}
 use Rattle.log_history.specs.SeatSet.{no_seats}
 use Rattle.log_history.proofs.AdderSets.{no_page, no_sets, no_slot, slot_there}
 use Rattle.log_history.proofs.adders.Groups.seats.Goals as goal
-use Rattle.log_history.proofs.adders.Groups.seats.Goals.{then-group-len-via-then-group-len, then-group-len-via-else-group-len+then-place-ge-GROUP}
+use Rattle.log_history.proofs.adders.Groups.seats.Goals.{then-group-len-via-then-group-len}
+use Rattle.log_history.proofs.adders.Groups.seats.Goals.{then-group-len-via-else-group-len+then-place-ge-GROUP}
 
 pub returns-then-group-len : goal.returns-then-group-len
 unfolding seats_in

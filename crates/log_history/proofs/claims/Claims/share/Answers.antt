@@ -20,13 +20,15 @@ returns-in_ok-put-in-Add-Add-2-clause-ok c =
 pub returns-in_default-clause-ok : goal.returns-in_default-clause-ok
 returns-in_default-clause-ok c =
     let before = c.args.self.now in
-    refused before before c.args.page c.args.slot c.args.seat c.args.kind (One c.args.holder c.args.held) c.requires.held
+    refused before before c.args.page c.args.slot c.args.seat c.args.kind
+        (One c.args.holder c.args.held) c.requires.held
     (held-one c.args.holder c.args.seat c.args.held c.args.kind (seats_at before.adders c.args.page c.args.slot)
     c.requires.holder c.requires.other (λ held adds. cc)) (λ p s other. refl)
 
 pub returns-in_default-2-clause-ok : goal.returns-in_default-2-clause-ok
 returns-in_default-2-clause-ok c =
     let before = c.args.self.now in
-    refused before before c.args.page c.args.slot c.args.seat c.args.kind (One c.args.holder c.args.held) c.requires.held
+    refused before before c.args.page c.args.slot c.args.seat c.args.kind
+        (One c.args.holder c.args.held) c.requires.held
     (held-one c.args.holder c.args.seat c.args.held c.args.kind (seats_at before.adders c.args.page c.args.slot)
     c.requires.holder c.requires.other (λ held adds. cc)) (λ p s other. refl)

@@ -11,13 +11,15 @@ returns-clause-taken c = λ yes.
     let after = after_checkpoint c.args.self.now r c.requires.kind in
     let old = c.self.inside in (
       record {
-        may_note = subst (λ (m : Made). MayNote m.table r) c.self.view_is (c.may_note.ensures.0 c.if-not-may_note.false);
+        may_note = subst (λ (m : Made). MayNote m.table r) c.self.view_is
+            (c.may_note.ensures.0 c.if-not-may_note.false);
         may_note_checkpoint = subst (λ (m : Made). MayNoteCheckpoint m.table m.checkpoints r) c.self.view_is
             (c.may_note-else-not-may_note.ensures.0 c.if-not-may_note-2.false);
         replaces = after.0;
       },
       ap (λ t. let m : Made = record { table = old.txns; checkpoints = t; pages = old.pages.items } in m)
           c.in_ok-note.ensures.ok
-          ∙ ap (λ (m : Made). let n : Made = record m { checkpoints = noted_checkpoint m.checkpoints r } in n) c.self.view_is
+          ∙ ap (λ (m : Made). let n : Made = record m
+              { checkpoints = noted_checkpoint m.checkpoints r } in n) c.self.view_is
           ∙ sym after.1,
     )

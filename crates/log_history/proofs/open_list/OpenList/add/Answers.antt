@@ -1,7 +1,8 @@
 use Rattle.std.proofs.Common.{◌≡◌, ◌++◌, ◌∷◌, [], ap, sym, subst, arith, ◌∙◌}
 use Rattle.std.proofs.lemmas.Grind.{common_steps}
 use Rattle.log_history.specs.OpenList.{IsSeated, entries_of}
-use Rattle.log_history.proofs.Seatings.{entries-add, lacks-one, length-entries, next-seat, nobody-on, on-seat, seated-add}
+use Rattle.log_history.proofs.Seatings.{entries-add, lacks-one, length-entries, next-seat, nobody-on, on-seat}
+use Rattle.log_history.proofs.Seatings.{seated-add}
 use Rattle.log_history.proofs.open_list.OpenList.add.Goals as goal
 
 pub first_absent-seat-requires : goal.first_absent-seat-requires
@@ -21,7 +22,8 @@ returns-clause-sound c =
     (next-seat list.order.items list.seats.items list.taken s sound says.within says.below) took.seats in
     let items : c.push.new.self.items ≡ list.order.items ++ s ∷ [] = grind (arith, common_steps) in
     subst (λ os. IsSeated os c.take_seat.new.seats.items c.with-self.result) (sym items)
-    (seated-add list.order.items list.seats.items c.take_seat.new.seats.items list.taken s took.entry sound says.absent on
+    (seated-add list.order.items list.seats.items c.take_seat.new.seats.items list.taken s
+        took.entry sound says.absent on
     c.with-self.result took.begun.seat_is c.with-self.ensures says.within)
 
 pub returns-clause-ok : goal.returns-clause-ok

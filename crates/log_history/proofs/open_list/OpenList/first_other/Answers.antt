@@ -9,7 +9,8 @@ use Rattle.log_history.proofs.Firsts.{find-first, find-more, find-none}
 use Rattle.log_history.proofs.Holds.{has_seat-no_seats}
 use Rattle.log_history.proofs.Seatings.{meets, met-all, own-seat}
 use Rattle.log_history.proofs.open_list.OpenList.first_other.Goals as goal
-use Rattle.log_history.proofs.open_list.OpenList.first_other.Goals.{else-ne-via-then-ne+else-contains, else-ne-via-else-ne}
+use Rattle.log_history.proofs.open_list.OpenList.first_other.Goals.{else-ne-via-then-ne+else-contains}
+use Rattle.log_history.proofs.open_list.OpenList.first_other.Goals.{else-ne-via-else-ne}
 
 pub returns-then-is_empty : goal.returns-then-is_empty
 returns-then-is_empty c =

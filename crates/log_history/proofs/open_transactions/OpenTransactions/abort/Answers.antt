@@ -3,7 +3,8 @@ use Rattle.std.proofs.lemmas.Bool.{false≢true}
 use Rattle.log_history.specs.OpenList.{entries_in}
 use Rattle.log_history.specs.Table.{Entry, IsActiveEntry, Table, entry_after, with_entry}
 use Rattle.log_records.specs.declared.record.Record.TheVariants.{Abort}
-use Rattle.log_history.proofs.Stored.{keeps-alone, nobody-here, said-here, says-here, seated-put, tracks-seat, view-changed, view-stays}
+use Rattle.log_history.proofs.Stored.{keeps-alone, nobody-here, said-here, says-here, seated-put, tracks-seat}
+use Rattle.log_history.proofs.Stored.{view-changed, view-stays}
 use Rattle.log_history.proofs.open_transactions.OpenTransactions.abort.Goals as goal
 
 pub returns-in_default : goal.returns-in_default

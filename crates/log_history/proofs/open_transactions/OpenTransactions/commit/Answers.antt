@@ -2,7 +2,8 @@ use Rattle.std.proofs.Common.{◌∙◌, ap, refl, sym}
 use Rattle.std.proofs.lemmas.Bool.{false≢true}
 use Rattle.log_history.specs.OpenList.{entries_in}
 use Rattle.log_history.specs.Table.{IsActiveEntry, Table, without_entry}
-use Rattle.log_history.proofs.Stored.{at-seat, nobody-here, said-here, says-here, sits-still, stored-gone, view-gone, view-stays}
+use Rattle.log_history.proofs.Stored.{at-seat, nobody-here, said-here, says-here, sits-still, stored-gone, view-gone}
+use Rattle.log_history.proofs.Stored.{view-stays}
 use Rattle.log_history.proofs.Tracked.{held-at}
 use Rattle.log_history.proofs.open_transactions.OpenTransactions.commit.Goals as goal
 

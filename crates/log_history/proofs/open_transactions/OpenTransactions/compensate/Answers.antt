@@ -6,7 +6,8 @@ use Rattle.std.specs.Option.{IsSomeAnd}
 use Rattle.log_history.specs.Linked.{Compensates}
 use Rattle.log_history.specs.Transactions.{last_of}
 use Rattle.log_records.specs.declared.record.Record.TheVariants.{Comp}
-use Rattle.log_history.proofs.Stored.{at-seat, nobody-here, said-here, says-here, seated-put, tracks-seat, view-changed, view-stays}
+use Rattle.log_history.proofs.Stored.{at-seat, nobody-here, said-here, says-here, seated-put, tracks-seat, view-changed}
+use Rattle.log_history.proofs.Stored.{view-stays}
 use Rattle.log_history.proofs.Tracked.{held-at}
 use Rattle.log_history.proofs.open_transactions.OpenTransactions.compensate.Goals as goal
 

@@ -2,7 +2,8 @@ use Rattle.std.proofs.Common.{◌≡◌, ◌∙◌, [], ap, refl, sym}
 use Rattle.std.proofs.lemmas.Bool.{false≢true}
 use Rattle.log_history.specs.OpenList.{entries_in}
 use Rattle.log_history.specs.Table.{IsChained, Table, without_entry}
-use Rattle.log_history.proofs.Stored.{keeps-itself, no-changes, nobody-here, said-here, same-seats, says-here, stored-gone, view-gone}
+use Rattle.log_history.proofs.Stored.{keeps-itself, no-changes, nobody-here, said-here, same-seats, says-here}
+use Rattle.log_history.proofs.Stored.{stored-gone, view-gone}
 use Rattle.log_history.proofs.open_transactions.OpenTransactions.end.Goals as goal
 
 pub returns-in_default : goal.returns-in_default

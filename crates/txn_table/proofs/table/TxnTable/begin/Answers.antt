@@ -9,10 +9,12 @@ overflow_add-result c =
     let rs = c.requires.0 in
     let of = c.requires.1 in
     let few = of.few in
-    let is : c.begun.result ≡ length (begun rs) = c.begun.ensures ∙ ap (λ (t : Table). t.begun) (c.self.view_is ∙ of.made) in
+    let is : c.begun.result ≡ length (begun rs) = c.begun.ensures
+        ∙ ap (λ (t : Table). t.begun) (c.self.view_is ∙ of.made) in
     omega (arith, few, begun_few rs, is)
 
 pub returns : goal.returns
 returns c = λ rs of.
-    let is : c.begun.result ≡ length (begun rs) = c.begun.ensures ∙ ap (λ (t : Table). t.begun) (c.self.view_is ∙ of.made) in
+    let is : c.begun.result ≡ length (begun rs) = c.begun.ensures
+        ∙ ap (λ (t : Table). t.begun) (c.self.view_is ∙ of.made) in
     omega arith
