@@ -1,22 +1,25 @@
 # make imgcopy    proves and builds the program, and leaves it at build/imgcopy
-# make demo       rebuilds a volume from the example log of four records, and shows its page
+# make demo       plays a day of a small database with image copies, loses its volume and restores it, and shows its pages
 # make test       all tests: the gate, which proves every crate and tries its tests, its programs and its must-fail
 #                 edits, and then what make check does, on the program that the gate has built
 # make check      compares the program's answers to the examples and to spoiled logs with the expected ones, also with
-#                 each of its allocations refused in turn; where rt is used, those of read_log and of the engine too, by
-#                 two programs of their own; and sees that the documents name what is there
+#                 each of its allocations refused in turn, and those to random scripts with a model of the engine;
+#                 where rt is used, those of read_log and of the engine too, by two programs of their own; and sees
+#                 that the documents name what is there
 # make bench      measures the program beside a plain Rust program, prints a table, and draws bench/times.svg
 # make examples   makes the example logs and their expected answers anew
 # make contracts  makes docs/CONTRACTS.md anew, from the sources
+# make install    puts the program and its manual page below PREFIX, by default /usr/local
 # make clean      removes build/, and keeps the proofs that rt keeps for itself
 #
-# IMGCOPY=PROGRAM has demo, check and bench run that program, and builds none.
+# IMGCOPY=PROGRAM has demo, check, bench and install take that program, and builds none.
 
 SHELL := /bin/bash
 BUILT := build/imgcopy
 IMGCOPY ?= $(BUILT)
 BENCH_PROGRAMS := build/bench/release
 ROUNDS ?= 5
+PREFIX ?= /usr/local
 
 ifeq ($(IMGCOPY),$(BUILT))
 PROGRAM := imgcopy
@@ -29,17 +32,14 @@ endif
 need = @command -v "$(1)" > /dev/null || { echo "make: the program '$(1)' is missing: $(2)" >&2; exit 1; }
 
 .DEFAULT_GOAL := imgcopy
-.PHONY: imgcopy demo test check bench examples contracts bench-programs clean
+.PHONY: imgcopy demo test check bench examples contracts bench-programs install clean
 .PHONY: need-rt need-python3 need-cargo need-rustc need-imgcopy
 
 imgcopy: need-rt
 	@tools/build.sh
 
 demo: need-python3 $(PROGRAM)
-	@mkdir -p build
-	@"$(IMGCOPY)" redo < examples/four_records.log > build/demo.volume || { rm -f build/demo.volume; exit 1; }
-	@echo "imgcopy redo < examples/four_records.log gives a volume of one page:"
-	@python3 examples/show_page.py build/demo.volume 0
+	@examples/day.sh "$(IMGCOPY)" build/day
 
 # The last line must be that of the script, so nothing follows it.
 test:
@@ -61,6 +61,11 @@ contracts: need-python3
 
 bench-programs: need-cargo need-rustc
 	@cargo build --quiet --release --offline --locked --manifest-path bench/Cargo.toml --target-dir build/bench
+
+install: $(PROGRAM)
+	@install -d "$(DESTDIR)$(PREFIX)/bin" "$(DESTDIR)$(PREFIX)/share/man/man1"
+	@install -m 755 "$(IMGCOPY)" "$(DESTDIR)$(PREFIX)/bin/imgcopy"
+	@install -m 644 docs/imgcopy.1 "$(DESTDIR)$(PREFIX)/share/man/man1/imgcopy.1"
 
 clean:
 	@rm -rf build

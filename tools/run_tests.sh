@@ -66,8 +66,10 @@ run_checks() {
     check contracts python3 -- python3 tools/contracts.py --check
     check documents python3 -- python3 tools/check_docs.py
     check examples "$program" python3 -- examples/check.sh "$program"
+    check day "$program" python3 -- examples/day.sh "$program" build/day
     check memory "$program" python3 rustc -- refuse_memory examples/memory.py "$program"
     check faults "$program" python3 -- python3 examples/faults.py "$program"
+    check model "$program" python3 -- python3 examples/model_check.py "$program"
     if "$uses_rt"; then
         check library_memory "$program" rt python3 rustc -- library_memory
     else

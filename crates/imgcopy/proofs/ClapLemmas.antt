@@ -1,11 +1,12 @@
 -- What an error of `clap` explains.
 use Rattle.std.proofs.Common.{◌≡◌, ◌≢◌, ◌⊎◌, ◌<◌, ℕ, true, List, length, slice_index_or, inl, inr, ap, subst, sym, ◌∙◌}
-use Rattle.std.specs.Prelude.{Result, Ok, Err, IfErr, IsErrAnd}
-use Rattle.clap.specs.Words.{App, HasKind, Text, fault_of, is_simple_and_free, kind_of}
+use Rattle.std.specs.Prelude.{Result, Ok, Err, IfErr, IsErrAnd, [], Option, Some, None}
+use Rattle.std.specs.Str.Parse.{ParsesUnsigned}
+use Rattle.std.proofs.lemmas.Option.{none-some, same_Some}
+use Rattle.clap.specs.Words.{App, HasKind, ReadsOne, Text, fault_of, is_simple_and_free, kind_of}
 use Rattle.clap.specs.declared.error.Error.{Error}
 use Rattle.clap.specs.declared.error.kind.ErrorKind.TheVariants as kind
-use Rattle.imgcopy.specs.Command.{Explains, Names, apps}
-use Rattle.imgcopy.specs.declared.command.Command.{Command}
+use Rattle.imgcopy.specs.Command.{Explains, IsRead, Names, apps}
 use Rattle.imgcopy.specs.declared.command.UsageFault.{UsageFault}
 use Rattle.imgcopy.specs.declared.command.UsageFault.TheVariants.{BadArguments, OutOfMemory}
 
@@ -26,7 +27,7 @@ explained k words app error fault lt at named (inr among) (inr other) =
 
 -- the same of a result that passes the error up, by the clause `kinds` of the parse; `given` is the
 -- command that clap was given
-pub passed_up : (k : ℕ) (words : List Text) (given app : App) (error : Error) (r : Result Command UsageFault)
+pub passed_up : {T : Type 0} (k : ℕ) (words : List Text) (given app : App) (error : Error) (r : Result T UsageFault)
     → k < length apps → slice_index_or apps k app ≡ app → given ≡ app → is_simple_and_free app ≡ true
     → Names words app → (is_simple_and_free given ≡ true → HasKind (fault_of given words) error)
     → IsErrAnd r (Becomes error) → IfErr r (Explains words)
@@ -34,3 +35,39 @@ passed_up k words given app error (Ok command) lt at same simple named kinds bec
 passed_up k words given app error (Err fault) lt at same simple named kinds becomes =
     explained k words app error fault lt at named
     (subst (λ a. HasKind (fault_of a words) error) same (kinds (ap is_simple_and_free same ∙ simple))) becomes
+
+-- ---- and what it says where a parse comes to an end
+
+-- a fault for want of memory alone
+memory_alone : (error : Error) (fault : UsageFault) → HasKind [] error → Becomes error fault → fault ≡ OutOfMemory
+memory_alone error fault has (inl memory) = memory.1
+memory_alone error fault (inl is) (inr other) = absurd (other.0 is)
+memory_alone error fault (inr among) (inr other) = absurd among
+
+-- words that a command takes are refused for memory alone
+pub for_memory : {T : Type 0} (words : List Text) (given app : App) (error : Error) (r : Result T UsageFault)
+    → given ≡ app → is_simple_and_free app ≡ true
+    → (is_simple_and_free given ≡ true → HasKind (fault_of given words) error)
+    → IsErrAnd r (Becomes error) → IfErr r (λ fault. fault_of app words ≡ [] → fault ≡ OutOfMemory)
+for_memory words given app error (Ok it) same simple kinds becomes = tt
+for_memory words given app error (Err fault) same simple kinds becomes = λ none.
+    memory_alone error fault
+    (subst (λ ks. HasKind ks error) (ap (λ a. fault_of a words) same ∙ none)
+    (kinds (ap is_simple_and_free same ∙ simple)))
+    becomes
+
+-- words that come through have no fault
+pub taken : (words : List Text) (given app : App) → given ≡ app → is_simple_and_free app ≡ true
+    → (is_simple_and_free given ≡ true → fault_of given words ≡ []) → fault_of app words ≡ []
+taken words given app same simple kinds =
+    subst (λ a. fault_of a words ≡ []) same (kinds (ap is_simple_and_free same ∙ simple))
+
+-- ---- the text of a number
+
+pub is_read : (E : Type 0) (G : Text → Result ℕ E → Type 0) (text : Text) (found : Option Text)
+    (r : Option ℕ) (number : ℕ)
+    → found ≡ Some text → ReadsOne G text r → ((u : Text) (x : Result ℕ E) → G u x → ParsesUnsigned 32 10 u x)
+    → r ≡ Some number → IsRead found number
+is_read E G text found None number is read parses same = absurd (none-some _ same)
+is_read E G text found (Some value) number is read parses same =
+    subst (λ o. IsRead o number) (sym is) (sym (parses text (Ok value) read).1 ∙ same_Some value number same)

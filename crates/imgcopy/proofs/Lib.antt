@@ -1,3 +1,3 @@
 mod ClapLemmas
 mod RedoLemmas
-pub mod Groups
+mod RequiredLemmas

@@ -1,9 +1,22 @@
 -- Which words give which command, and why others give none.
-use Rattle.std.specs.Prelude.{◌≡◌, ◌≢◌, ◌⊎◌, List, [], ◌∷◌, IsSomeAnd, Some, codes, slice_get}
+use Rattle.std.specs.Prelude.{◌≡◌, ◌≢◌, ◌⊎◌, ◌≤◌, ℕ, List, [], ◌∷◌, Option, IsSomeAnd, Some, codes}
+use Rattle.std.specs.Prelude.{false, map, option_map, pos, slice_get, true, unwrap_or}
 use Rattle.std.specs.List.{All, Any}
-use Rattle.clap.specs.Words.{App, IsAmong, Text, fault_of, kind_of, new_app}
+use Rattle.std.specs.Str.Parse.{digits_value, without_leading_plus}
+use Rattle.clap.specs.Built.{AddsArg, AddsInTurn, FitsChain, TakesValue}
+use Rattle.clap.specs.Lexer.{usize_max}
+use Rattle.clap.specs.Words.{Accepts, App, IsAmong, Rule, Text, all_of, args_of, fault_of}
+use Rattle.clap.specs.Words.{first_of, groups_of, kind_of, matches_of, new_app, new_rule, one_of}
+use Rattle.clap.specs.Words.{one_text, rule_of, with_rule, without_minus}
+use Rattle.clap.specs.declared.builder.arg.Arg.{Arg}
+use Rattle.clap.specs.declared.builder.command.Command.{Command as Parser}
+use Rattle.clap.specs.declared.builder.command.Command.TheViews.{out-Command as fields_of}
+use Rattle.clap.specs.declared.builder.action.ArgAction.TheVariants.{Append, Set}
+use Rattle.clap.specs.declared.builder.value_parser.ValueParser.{ValueParser}
+use Rattle.clap.specs.declared.builder.value_parser.ValueParser.TheVariants.{Signed}
+use Rattle.clap.specs.declared.parser.matches.Found.{Found}
 use Rattle.imgcopy.specs.declared.command.Command.{Command}
-use Rattle.imgcopy.specs.declared.command.Command.TheVariants.{Redo}
+use Rattle.imgcopy.specs.declared.command.Command.TheVariants.{Redo, Restore, Run}
 use Rattle.imgcopy.specs.declared.command.UsageFault.{UsageFault}
 use Rattle.imgcopy.specs.declared.command.UsageFault.TheVariants.{BadArguments, HelpAsked}
 use Rattle.imgcopy.specs.declared.command.UsageFault.TheVariants.{NoCommand, OutOfMemory}
@@ -13,9 +26,59 @@ use Rattle.imgcopy.specs.declared.command.UsageFault.TheVariants.{UnknownCommand
 abbrev pub redo_app : App
 redo_app = new_app (codes "redo")
 
+-- a number from 1 to 65,536
+abbrev pub pages_parser : ValueParser
+pages_parser = Signed (pos 1) (pos 65536)
+
+abbrev pub pages_rule : Rule
+pages_rule = record (new_rule (codes "pages")) {
+  long = Some (codes "pages");
+  action = Some Set;
+  value_names = 1;
+  parser = Some pages_parser;
+  required = true;
+}
+
+abbrev pub save_rule : Rule
+save_rule = record (new_rule (codes "save")) {
+  long = Some (codes "save");
+  action = Some Set;
+  value_names = 1;
+}
+
+-- `run --pages N [--save FOLDER]`
+abbrev pub run_app : App
+run_app = with_rule (with_rule (new_app (codes "run")) pages_rule) save_rule
+
+abbrev pub log_rule : Rule
+log_rule = record (new_rule (codes "log")) {
+  action = Some Set;
+  value_names = 1;
+  required = true;
+}
+
+abbrev pub master_rule : Rule
+master_rule = record (new_rule (codes "master")) {
+  action = Some Set;
+  value_names = 1;
+  required = true;
+}
+
+abbrev pub archive_rule : Rule
+archive_rule = record (new_rule (codes "archive")) {
+  action = Some Append;
+  range = Some (record { start_inclusive = 0; end_inclusive = usize_max });
+  value_names = 1;
+}
+
+-- `restore LOG MASTER [ARCHIVE]...`
+abbrev pub restore_app : App
+restore_app =
+    with_rule (with_rule (with_rule (new_app (codes "restore")) log_rule) master_rule) archive_rule
+
 -- each command, as clap reads it
 abbrev pub apps : List App
-apps = redo_app ∷ []
+apps = redo_app ∷ run_app ∷ restore_app ∷ []
 
 -- the first word is the name of the command
 abbrev pub Names : List Text → App → Type 0
@@ -29,9 +92,64 @@ IsTakenBy words app = Names words app × (fault_of app words ≡ [])
 abbrev pub IsTaken : List Text → Type 0
 IsTaken words = Any (IsTakenBy words) apps
 
--- the words give this command
+-- the text is a decimal number
+abbrev pub IsRead : Option Text → ℕ → Type 0
+IsRead text number =
+    IsSomeAnd text (λ digits. digits_value 10 (without_leading_plus digits) ≡ number)
+
+-- the words give this command, with the values that clap matches after its name
 abbrev pub Gives : List Text → Command → Type 0
 Gives words Redo = IsTakenBy words redo_app
+Gives words (Run pages save) = let rows = matches_of run_app words in
+    IsTakenBy words run_app × IsRead (one_of (codes "pages") rows) pages
+    × (option_map (λ name. name.now) save ≡ first_of (codes "save") rows)
+Gives words (Restore log master archives) = let rows = matches_of restore_app words in
+    IsTakenBy words restore_app × (first_of (codes "log") rows ≡ Some log.now)
+    × (first_of (codes "master") rows ≡ Some master.now)
+    × (map (λ name. name.now) archives.items ≡ unwrap_or (all_of (codes "archive") rows) [])
+
+-- a volume has 1 to 65,536 pages
+abbrev pub HasPages : Command → Type 0
+HasPages Redo = Unit {0}
+HasPages (Run pages save) = (1 ≤ pages) × (pages ≤ 65536)
+HasPages (Restore log master archives) = Unit {0}
+
+-- clap builds the command of these arguments, one after another
+pub record IsMadeOf (command : Parser) (arguments : List Arg) : Type 0 where
+  pub start : Parser
+  pub no_arguments : args_of start ≡ []
+  pub no_groups : groups_of start ≡ []
+  pub no_globals : (fields_of start).has_globals ≡ false
+  pub keeps : (fields_of start).subcommand_negates_reqs ≡ false
+  pub chain : AddsInTurn AddsArg start arguments command
+  pub fit : All FitsChain arguments
+
+-- the number of pages is required, and then a folder may be named
+pub record AsksForPages (command : Parser) : Type 0 where
+  pub pages : Arg
+  pub save : Arg
+  pub made : IsMadeOf command (pages ∷ save ∷ [])
+  pub pages_is : rule_of pages ≡ pages_rule
+  pub save_is : rule_of save ≡ save_rule
+  pub required : TakesValue pages
+  pub parsed : pages.value_parser ≡ Some pages_parser
+
+-- two files are required, and then more may be named
+pub record AsksForFiles (command : Parser) : Type 0 where
+  pub log : Arg
+  pub master : Arg
+  pub archive : Arg
+  pub made : IsMadeOf command (log ∷ master ∷ archive ∷ [])
+  pub log_is : rule_of log ≡ log_rule
+  pub master_is : rule_of master ≡ master_rule
+  pub archive_is : rule_of archive ≡ archive_rule
+  pub log_required : TakesValue log
+  pub master_required : TakesValue master
+
+-- what was found has a number of pages that clap let through
+abbrev pub PassesPages : Found → Type 0
+PassesPages found = (text : Text) × (one_text found (codes "pages") ≡ Some (without_minus text))
+    × Accepts false pages_parser text
 
 -- the words of `redo`, written out; `--` only ends the options
 abbrev pub IsRedo : List Text → Type 0

@@ -1,27 +1,48 @@
 //! The command line: the first word names a command, and `clap` reads the words after it.
-ghost use Rattle.std.specs.Prelude.{◌≡◌, ◌≢◌, ◌⊎◌, IfErr, IfOk, MatchResult, [], map};
-ghost use Rattle.clap.specs.Words.{app_of, fault_of, kind_of};
-ghost use Rattle.imgcopy.specs.Command.{Explains, Gives, IsRedo, IsTaken, Names, redo_app};
+ghost use Rattle.std.specs.Prelude.{◌≡◌, ◌≢◌, ◌≤◌, ◌⊎◌, IfErr, IfOk, MatchResult, Some, [], codes};
+ghost use Rattle.std.specs.Prelude.{is_some, map, option_map, true, unwrap_or};
+ghost use Rattle.clap.specs.Words.{fault_of, first_value, found_of, kind_of, matched_of, one_of};
+ghost use Rattle.clap.specs.Words.{raw_values, rows_of};
+ghost use Rattle.imgcopy.specs.Command.{Explains, Gives, HasPages, IsRead, IsRedo, IsTaken, Names};
+ghost use Rattle.imgcopy.specs.Command.{PassesPages, redo_app, restore_app, run_app};
 ghost use Rattle.imgcopy.specs.declared.command.UsageFault.TheVariants.{BadArguments, OutOfMemory};
 ghost use Rattle.clap.specs.declared.error.kind.ErrorKind.TheVariants as kind;
 
+use crate::arguments::{redo_matches, restore_matches, run_matches};
+use clap::ArgMatches;
 use clap::error::ErrorKind;
 use std::alloc::{AllocError, Global};
 use std::convert::AsStr;
 use thiserror::Error;
 
 /// What the program is told to do.
-#[derive(Clone, Copy, Debug, PartialEq, Eq)]
-pub enum Command {
+#[derive(Debug, Drop, PartialEq, Eq)]
+pub enum Command<'a> {
+    /// To redo the log on standard input.
     Redo,
+    /// To play the script on standard input on a volume of so many pages, 1 to 65,536. The log, the
+    /// master record and the copies go into the folder, if one is named.
+    Run {
+        pages: u32,
+        save: Option<&'a str>,
+    },
+    /// To restore a volume of these files: the log, its master record, and the archives of a chain
+    /// of copies, the full one first.
+    Restore {
+        log: &'a str,
+        master: &'a str,
+        archives: Vec<&'a str>,
+    },
 }
 
 const HELP: &str = "\
 Usage: imgcopy <COMMAND>
 
 Commands:
-  redo  Write the volume that the log on standard input makes
-  help  Print this help
+  redo     Write the volume that the log on standard input makes
+  run      Play the script on standard input on a formatted volume
+  restore  Write the volume that a log and image copies restore
+  help     Print this help
 
 For the arguments of a command, try 'imgcopy <COMMAND> --help'.
 ";
@@ -65,8 +86,12 @@ impl From<clap::Error> for UsageFault<'_> {
 }
 
 /// Reads the words of the command line that follow the program's name.
-pub fn command_of<'a, S: AsStr>(alloc: Global, words: &'a [S]) -> Result<Command, UsageFault<'a>>
+pub fn command_of<'a, S: AsStr>(
+    alloc: Global,
+    words: &'a [S],
+) -> Result<Command<'a>, UsageFault<'a>>
     ensures ok { IfOk result (Gives (map S.text words.now)) }
+    ensures pages { IfOk result HasPages }
     ensures only { IfErr result (λ fault.
         IsTaken (map S.text words.now) → fault ≡ UsageFault.OutOfMemory) }
     ensures explained { IfErr result (Explains (map S.text words.now)) }
@@ -82,12 +107,14 @@ pub fn command_of<'a, S: AsStr>(alloc: Global, words: &'a [S]) -> Result<Command
     };
     match name.as_str() {
         "redo" => redo_of(alloc, words),
+        "run" => run_of(alloc, words),
+        "restore" => restore_of(alloc, words),
         "help" | "--help" | "-h" => Err(UsageFault::HelpAsked),
         other => Err(UsageFault::UnknownCommand(other)),
     }
 }
 
-fn redo_of<'a, S: AsStr>(alloc: Global, words: &'a [S]) -> Result<Command, UsageFault<'a>>
+fn redo_of<'a, S: AsStr>(alloc: Global, words: &'a [S]) -> Result<Command<'a>, UsageFault<'a>>
     requires { Names (map S.text words.now) redo_app }
     ensures ok { IfOk result (Gives (map S.text words.now)) }
     ensures is_redo { IfOk result (λ command. command ≡ Command.Redo) }
@@ -95,17 +122,69 @@ fn redo_of<'a, S: AsStr>(alloc: Global, words: &'a [S]) -> Result<Command, Usage
         fault_of redo_app (map S.text words.now) ≡ [] → fault ≡ UsageFault.OutOfMemory) }
     ensures explained { IfErr result (Explains (map S.text words.now)) }
 {
-    redo_app(alloc)?.try_get_matches_from(words)?;
+    redo_matches(alloc, words)?;
     Ok(Command::Redo)
 }
 
-// Its usage shows the program's name before the command's.
-fn redo_app<'a>(alloc: Global) -> Result<clap::Command<'a>, AllocError>
-    ensures { IfOk result (λ command. app_of command ≡ redo_app) }
+fn run_of<'a, S: AsStr>(alloc: Global, words: &'a [S]) -> Result<Command<'a>, UsageFault<'a>>
+    requires { Names (map S.text words.now) run_app }
+    ensures ok { IfOk result (Gives (map S.text words.now)) }
+    ensures pages { IfOk result HasPages }
+    ensures is_run { IfOk result (λ command. command ≢ Command.Redo) }
+    ensures only { IfErr result (λ fault.
+        fault_of run_app (map S.text words.now) ≡ [] → fault ≡ UsageFault.OutOfMemory) }
+    ensures explained { IfErr result (Explains (map S.text words.now)) }
 {
-    clap::Command::new(alloc, "redo")
-        .about("Write the volume that the log on standard input makes, to standard output")
-        .bin_name("imgcopy redo")
+    let matches = run_matches(alloc, words)?;
+    let pages = pages_in(&matches);
+    let save = matches.get_str("save");
+    Ok(Command::Run { pages, save })
+}
+
+fn pages_in(matches: &ArgMatches<'_>) -> u32
+    requires { PassesPages (found_of matches.now) }
+    ensures least { 1 ≤ result }
+    ensures most { result ≤ 65536 }
+    ensures read { IsRead (one_of (codes "pages") (rows_of (found_of matches.now))) result }
+{
+    matches.get_one::<u32>("pages").unwrap()
+}
+
+fn restore_of<'a, S: AsStr>(alloc: Global, words: &'a [S]) -> Result<Command<'a>, UsageFault<'a>>
+    requires { Names (map S.text words.now) restore_app }
+    ensures ok { IfOk result (Gives (map S.text words.now)) }
+    ensures pages { IfOk result HasPages }
+    ensures is_restore { IfOk result (λ command. command ≢ Command.Redo) }
+    ensures only { IfErr result (λ fault.
+        fault_of restore_app (map S.text words.now) ≡ [] → fault ≡ UsageFault.OutOfMemory) }
+    ensures explained { IfErr result (Explains (map S.text words.now)) }
+{
+    let matches = restore_matches(alloc, words)?;
+    let log = value_in(&matches, "log");
+    let master = value_in(&matches, "master");
+    let archives = archives_in(alloc, &matches)?;
+    Ok(Command::Restore {
+        log,
+        master,
+        archives,
+    })
+}
+
+fn value_in<'a>(matches: &ArgMatches<'a>, id: &str) -> &'a str
+    requires { is_some (first_value (found_of matches.now) id.now) ≡ true }
+    ensures { first_value (found_of matches.now) id.now ≡ Some result.now }
+{
+    matches.get_str(id).unwrap()
+}
+
+fn archives_in<'a>(alloc: Global, matches: &ArgMatches<'a>) -> Result<Vec<&'a str>, AllocError>
+    ensures { IfOk result (λ names. map (λ name. name.now) names.items ≡ unwrap_or
+        (option_map raw_values (matched_of (found_of matches.now) (codes "archive"))) []) }
+{
+    match matches.get_strs("archive") {
+        Some(names) => names.to_vec(alloc),
+        None => Ok(Vec::new(alloc)),
+    }
 }
 
 #[cfg(test)]

@@ -1,23 +1,33 @@
-//! The program: its words, its input and output, and its status. `redo` is its one command so far.
+//! The program: its words, its input and output, and its status.
 #![tactic(auto)]
 
 ghost use Rattle.std.specs.Prelude.{◌≡◌, IfErr, OnOk};
 ghost use Rattle.std.specs.Process.{exit_status};
+ghost use Rattle.log_records.specs.Log.{IsPageCount};
+ghost use Rattle.imgcopy.specs.Status.{status_of_restore};
 
+mod arguments;
 mod command;
 mod fault;
+mod restore;
+mod save;
+mod status;
 mod stream;
 
+use aries_core::Setup;
 use command::{Command, command_of};
 use fault::Fault;
+use media_restore::RestoreFault;
+use restore::restore_volume;
+use save::save_files;
+use script_run::{FinishFault, Ran, finish_script, run_script};
+use status::{FAULT_STATUS, refused_status, restore_status};
+use std::fmt::Display;
 use std::io::ErrorKind;
 use std::process::ExitCode;
 use std::rt::Env;
 use std::{env, io};
 use stream::redo_stream;
-
-/// The status of a fault of the words, of the input, or of the output.
-const FAULT_STATUS: u8 = 2;
 
 fn main(rt: HostRuntime) -> ExitCode {
     let words = match words_of(&rt) {
@@ -29,9 +39,72 @@ fn main(rt: HostRuntime) -> ExitCode {
             let done = redo_stream(rt.alloc(), &mut rt.stdin(), &mut io::writer(&rt));
             status_of(&rt, done)
         }
+        Ok(Command::Run { pages, save }) => run(&rt, pages, save),
+        Ok(
+            Command::Restore {
+                log,
+                master,
+                archives,
+            },
+        ) => {
+            let mut output = io::writer(&rt);
+            let done = restore_volume(&rt, rt.alloc(), log, master, &archives, &mut output);
+            status_of_files(&rt, done)
+        }
         Err(fault) => {
             let _ = rt.eprint(&fault);
             ExitCode::from(FAULT_STATUS)
+        }
+    }
+}
+
+/// Plays the script on standard input, saves what it leaves, and does its last restore.
+fn run(rt: &HostRuntime, pages: u32, save: Option<&str>) -> ExitCode
+    requires { IsPageCount pages }
+{
+    let setup = Setup {
+        pages,
+        frames: pages,
+    };
+    match run_script(rt.alloc(), setup, &mut rt.stdin(), &mut io::writer(rt)) {
+        Ok(ran) => finish(rt, ran, save),
+        Err(fault) => told(rt, &fault),
+    }
+}
+
+/// Saves what a script left, and does its last restore.
+fn finish(rt: &HostRuntime, ran: Ran, save: Option<&str>) -> ExitCode {
+    if let Some(folder) = save {
+        if let Err(fault) = save_files(rt, rt.alloc(), &ran.retired, folder) {
+            return told(rt, &fault);
+        }
+    }
+    match finish_script(rt.alloc(), ran, &mut io::writer(rt)) {
+        Ok(()) => ExitCode::SUCCESS,
+        // Its line is on standard output.
+        Err(FinishFault::Refused(why)) => ExitCode::from(refused_status(&why)),
+        Err(fault) => told(rt, &fault),
+    }
+}
+
+/// Tells a fault on standard error, and answers its status.
+fn told(rt: &impl Eprint, fault: &impl Display) -> ExitCode
+    ensures { exit_status result ≡ 2 }
+{
+    let _ = rt.eprintln(fault);
+    ExitCode::from(FAULT_STATUS)
+}
+
+/// Tells why a volume is not restored from files, and answers the program's status.
+fn status_of_files(rt: &impl Eprint, done: Result<(), RestoreFault>) -> ExitCode
+    ensures done { OnOk done (exit_status result ≡ 0) }
+    ensures fault { IfErr done (λ fault. exit_status result ≡ status_of_restore fault) }
+{
+    match done {
+        Ok(()) => ExitCode::SUCCESS,
+        Err(fault) => {
+            let _ = rt.eprintln(&fault);
+            ExitCode::from(restore_status(&fault))
         }
     }
 }
@@ -61,9 +134,6 @@ fn status_of(rt: &impl Eprint, done: Result<(), Fault>) -> ExitCode
 {
     match done {
         Ok(()) => ExitCode::SUCCESS,
-        Err(fault) => {
-            let _ = rt.eprintln(&fault);
-            ExitCode::from(FAULT_STATUS)
-        }
+        Err(fault) => told(rt, &fault),
     }
 }

@@ -10,8 +10,45 @@ fn refusal(alloc: Global, words: &[&str]) -> Result<Option<String>, AllocError> 
 }
 
 #[test]
-fn takes_redo(rt: HostRuntime) -> Result<(), Fail> {
-    assert_eq!(rt; command_of(rt.alloc(), &["redo"])?, Command::Redo);
+fn takes_each_command(rt: HostRuntime) -> Result<(), Fail> {
+    let alloc = rt.alloc();
+    assert!(rt; matches!(command_of(alloc, &["redo"])?, Command::Redo));
+    let plain = command_of(alloc, &["run", "--pages", "65536"])?;
+    assert!(rt;
+        matches!(
+            plain,
+            Command::Run {
+                pages: 65_536,
+                save: None
+            }
+        )
+    );
+    let saved = command_of(alloc, &["run", "--save=day", "--pages=1"])?;
+    assert!(rt;
+        matches!(
+            saved,
+            Command::Run {
+                pages: 1,
+                save: Some("day")
+            }
+        )
+    );
+    match command_of(alloc, &["restore", "log", "master", "copy-1", "copy-2"])? {
+        Command::Restore {
+            log: "log",
+            master: "master",
+            archives,
+        } => assert_eq!(rt; archives.as_slice(), ["copy-1", "copy-2"].as_slice()),
+        other => assert!(rt; false, "{other:?}"),
+    }
+    match command_of(alloc, &["restore", "--", "-log", "master"])? {
+        Command::Restore {
+            log: "-log",
+            master: "master",
+            archives,
+        } => assert!(rt; archives.is_empty()),
+        other => assert!(rt; false, "{other:?}"),
+    }
     Ok(())
 }
 
@@ -40,40 +77,49 @@ fn assert_refused(
 /// How the program is called.
 const CALL: &str = "Usage: imgcopy <COMMAND>";
 
-/// How its command is called.
-const CALL_REDO: &str = "Usage: imgcopy redo";
-
 #[test]
 fn tells_the_user_the_commands(rt: HostRuntime) -> Result<(), Fail> {
-    assert_refused(&rt, rt.alloc(), &[], "error: no command", "redo", CALL)?;
-    assert_refused(&rt, rt.alloc(), &["help"], "Usage: ", "redo", CALL)?;
-    assert_refused(&rt, rt.alloc(), &["--help"], "Usage: ", "redo", CALL)?;
-    assert_refused(&rt, rt.alloc(), &["-h"], "Usage: ", "redo", CALL)?;
-    assert_refused(
-        &rt,
-        rt.alloc(),
-        &["run"],
-        "error: unrecognized",
-        "'run'",
-        CALL,
-    )
+    let alloc = rt.alloc();
+    assert_refused(&rt, alloc, &[], "error: no command", "redo", CALL)?;
+    for help in ["help", "--help", "-h"] {
+        let words = [help];
+        assert_refused(&rt, alloc, &words, "Usage: ", "restore", CALL)?;
+    }
+    let unknown = "error: unrecognized";
+    assert_refused(&rt, alloc, &["audit"], unknown, "'audit'", CALL)
 }
 
 #[test]
-fn tells_the_user_of_redo(rt: HostRuntime) -> Result<(), Fail> {
-    let (extra, option) = (["redo", "extra"], ["redo", "--pages"]);
-    assert_refused(&rt, rt.alloc(), &extra, "error: ", "'extra'", CALL_REDO)?;
-    assert_refused(&rt, rt.alloc(), &option, "error: ", "'--pages'", CALL_REDO)?;
-    for help in ["--help", "-h"] {
-        let words = ["redo", help];
-        assert_refused(
-            &rt,
-            rt.alloc(),
-            &words,
-            "Write the volume",
-            "Print help",
-            CALL_REDO,
-        )?;
+fn tells_the_user_of_a_command(rt: HostRuntime) -> Result<(), Fail> {
+    let alloc = rt.alloc();
+    let redo = "Usage: imgcopy redo";
+    assert_refused(&rt, alloc, &["redo", "extra"], "error: ", "'extra'", redo)?;
+    assert_refused(
+        &rt,
+        alloc,
+        &["redo", "--pages"],
+        "error: ",
+        "'--pages'",
+        redo,
+    )?;
+    assert_refused(&rt, alloc, &["redo", "-h"], "Write", "Print help", redo)?;
+    let run = "Usage: imgcopy run";
+    assert_refused(&rt, alloc, &["run"], "error: ", "--pages <N>", run)?;
+    for pages in ["--pages=0", "--pages=65537", "--pages=x", "--pages="] {
+        let words = ["run", pages];
+        assert_refused(&rt, alloc, &words, "error: ", "--pages <N>", "--help")?;
     }
-    Ok(())
+    let frames = ["run", "--pages=1", "--frames=1"];
+    assert_refused(&rt, alloc, &frames, "error: ", "'--frames'", run)?;
+    assert_refused(&rt, alloc, &["run", "--help"], "Play", "--save", run)?;
+    let restore = "Usage: imgcopy restore";
+    assert_refused(
+        &rt,
+        alloc,
+        &["restore", "log"],
+        "error: ",
+        "<MASTER>",
+        restore,
+    )?;
+    assert_refused(&rt, alloc, &["restore", "-h"], "Write", "ARCHIVE", restore)
 }

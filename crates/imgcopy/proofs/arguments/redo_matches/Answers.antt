@@ -1,0 +1,10 @@
+use Rattle.std.proofs.Common.{lit<, refl}
+use Rattle.imgcopy.specs.Command.{redo_app}
+use Rattle.imgcopy.proofs.ClapLemmas.{passed_up}
+use Rattle.imgcopy.proofs.arguments.redo_matches.Goals as goal
+
+pub returns-in_err-try_get_matches_from-clause-explained :
+    goal.returns-in_err-try_get_matches_from-clause-explained
+returns-in_err-try_get_matches_from-clause-explained g c =
+    passed_up 0 _ _ redo_app _ _ (lit< tt) refl c.in_ok-redo_command.ensures refl c.requires
+    c.in_err-try_get_matches_from.ensures.kinds c.from_residual-in_err-try_get_matches_from.ensures.1

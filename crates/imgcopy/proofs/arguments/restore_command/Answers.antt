@@ -1,0 +1,25 @@
+use Rattle.std.proofs.Common.{ap, ◌∙◌}
+use Rattle.std.proofs.lemmas.Result.{IfOk-weaker}
+use Rattle.clap.specs.declared.builder.command.Command.{Command as Parser}
+use Rattle.clap.specs.declared.builder.command.Command.TheOpen.{Command-F}
+use Rattle.imgcopy.proofs.RequiredLemmas.{asks_for_files}
+use Rattle.imgcopy.proofs.arguments.restore_command.Goals as goal
+
+pub returns-clause-made : goal.returns-clause-made
+returns-clause-made c =
+    let args = λ (f : Command-F Parser). f.args.items in
+    let groups = λ (f : Command-F Parser). f.groups.items in
+    let globals = λ (f : Command-F Parser). f.has_globals in
+    let negates = λ (f : Command-F Parser). f.subcommand_negates_reqs in
+    let named = c.in_ok-bin_name.ensures.0 in
+    IfOk-weaker c.arg-3.result _ _ (λ command added. asks_for_files
+    c.in_ok-bin_name.field-0 c.in_ok-arg.field-0 c.in_ok-arg-2.field-0 command
+    c.log_arg.result c.master_arg.result c.archive_arg.result
+    (ap args named ∙ (ap args c.about.ensures ∙ c.new.ensures.empty.0))
+    (ap groups named ∙ (ap groups c.about.ensures ∙ c.new.ensures.empty.1))
+    (ap globals named ∙ (ap globals c.about.ensures ∙ c.new.ensures.local))
+    (ap negates named ∙ (ap negates c.about.ensures ∙ c.new.ensures.negates))
+    c.log_arg.ensures.fits c.master_arg.ensures.fits c.archive_arg.ensures.fits
+    c.log_arg.ensures.rule c.master_arg.ensures.rule c.archive_arg.ensures.rule
+    c.log_arg.ensures.value c.master_arg.ensures.value
+    c.in_ok-arg.ensures c.in_ok-arg-2.ensures added) c.arg-3.ensures

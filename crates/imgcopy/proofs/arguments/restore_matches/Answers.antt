@@ -1,0 +1,29 @@
+use Rattle.std.proofs.Common.{lit<, refl}
+use Rattle.imgcopy.specs.Command.{restore_app}
+use Rattle.imgcopy.proofs.ClapLemmas.{for_memory, passed_up, taken}
+use Rattle.imgcopy.proofs.RequiredLemmas.{log_given, master_given}
+use Rattle.imgcopy.proofs.arguments.restore_matches.Goals as goal
+
+pub returns-in_err-try_get_matches_from-clause-only :
+    goal.returns-in_err-try_get_matches_from-clause-only
+returns-in_err-try_get_matches_from-clause-only g c =
+    for_memory _ _ restore_app _ _ c.in_ok-restore_command.ensures.app refl
+    c.in_err-try_get_matches_from.ensures.kinds c.from_residual-in_err-try_get_matches_from.ensures.1
+
+pub returns-in_err-try_get_matches_from-clause-explained :
+    goal.returns-in_err-try_get_matches_from-clause-explained
+returns-in_err-try_get_matches_from-clause-explained g c =
+    passed_up 2 _ _ restore_app _ _ (lit< tt) refl c.in_ok-restore_command.ensures.app refl c.requires
+    c.in_err-try_get_matches_from.ensures.kinds c.from_residual-in_err-try_get_matches_from.ensures.1
+
+pub returns-clause-taken : goal.returns-clause-taken
+returns-clause-taken g c =
+    taken _ _ restore_app c.in_ok-restore_command.ensures.app refl c.in_ok-try_get_matches_from.ensures.kinds
+
+pub returns-clause-log : goal.returns-clause-log
+returns-clause-log g c = log_given c.in_ok-restore_command.field-0 c.in_ok-try_get_matches_from.field-0
+    c.in_ok-restore_command.ensures.made c.in_ok-try_get_matches_from.ensures.parsed
+
+pub returns-clause-master : goal.returns-clause-master
+returns-clause-master g c = master_given c.in_ok-restore_command.field-0 c.in_ok-try_get_matches_from.field-0
+    c.in_ok-restore_command.ensures.made c.in_ok-try_get_matches_from.ensures.parsed

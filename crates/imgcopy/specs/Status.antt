@@ -1,0 +1,22 @@
+-- The status that the program ends with.
+use Rattle.std.specs.Prelude.{ℕ}
+use Rattle.loser_undo.specs.declared.fault.UndoFault.TheVariants as undo
+use Rattle.media_restore.specs.declared.fault.LoadFault.TheVariants as load
+use Rattle.media_restore.specs.declared.fault.Refused.{Refused}
+use Rattle.media_restore.specs.declared.fault.Refused.TheVariants.{Load, Undo}
+use Rattle.media_restore.specs.declared.files_fault.RestoreFault.{RestoreFault}
+use Rattle.media_restore.specs.declared.files_fault.RestoreFault.TheVariants as files
+
+-- 1 where the log is full or the archives do not follow one another, and 2 at any other fault
+abbrev pub status_of_restore : RestoreFault → ℕ
+status_of_restore files.LogFull = 1
+status_of_restore (files.ChainBroken copy) = 1
+status_of_restore fault = 2
+
+-- 1 where the copy or the cut is refused, or the log is full, and 2 where memory was wanting
+abbrev pub status_of_refused : Refused → ℕ
+status_of_refused (Load load.NoCopy) = 1
+status_of_refused (Load load.CopyNotComplete) = 1
+status_of_refused (Load (load.CutTooShort forced)) = 1
+status_of_refused (Undo undo.LogFull) = 1
+status_of_refused other = 2

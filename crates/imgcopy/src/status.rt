@@ -1,0 +1,34 @@
+//! The status that the program ends with.
+
+ghost use Rattle.std.specs.Prelude.{◌≡◌};
+ghost use Rattle.imgcopy.specs.Status.{status_of_refused, status_of_restore};
+
+use loser_undo::UndoFault;
+use media_restore::{LoadFault, Refused, RestoreFault};
+
+/// The status of a restore that was refused for what was asked of it.
+pub const REFUSED_STATUS: u8 = 1;
+
+/// The status of any other fault: of the words, of an input, of the output, or of memory.
+pub const FAULT_STATUS: u8 = 2;
+
+/// The status of a restore from files that came to no end.
+pub fn restore_status(fault: &RestoreFault) -> u8
+    ensures { result ≡ status_of_restore fault.now }
+{
+    match fault {
+        RestoreFault::LogFull | RestoreFault::ChainBroken(_) => REFUSED_STATUS,
+        _ => FAULT_STATUS,
+    }
+}
+
+/// The status of a script's last restore that was refused.
+pub fn refused_status(why: &Refused) -> u8
+    ensures { result ≡ status_of_refused why.now }
+{
+    match why {
+        Refused::Load(LoadFault::OutOfMemory) => FAULT_STATUS,
+        Refused::Load(_) | Refused::Undo(UndoFault::LogFull) => REFUSED_STATUS,
+        _ => FAULT_STATUS,
+    }
+}

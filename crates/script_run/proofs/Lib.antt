@@ -1,0 +1,3 @@
+mod Groups
+mod Runs
+mod Slots

@@ -1,0 +1,36 @@
+-- A script that is played, and what stands where its replies are not written.
+use Rattle.std.specs.Prelude.{IfSome, Result, Option, Some, None}
+use Rattle.std.proofs.Common.{◌≡◌, ℕ, List}
+use Rattle.copy_coverage.specs.Retired.{RetiredView}
+use Rattle.aries_core.specs.declared.event.Answer.{Answer}
+use Rattle.aries_core.specs.declared.event.Event.{Event}
+use Rattle.aries_core.specs.declared.refusal.Refusal.{Refusal}
+use Rattle.event_script.specs.declared.script.LastRestore.{LastRestore}
+use Rattle.event_script.specs.Read.{IsText}
+use Rattle.event_script.specs.Script.{said_in}
+use Rattle.event_script.specs.Words.{lines_of}
+use Rattle.script_run.specs.declared.run_fault.RunFault.{RunFault}
+use Rattle.script_run.specs.declared.run_fault.RunFault.TheVariants.{Script, OutOfMemory, LogFault, WriteFault}
+use Rattle.script_run.specs.ReplyLines.{reply_lines}
+use Rattle.script_run.specs.Run.{IsScript, LeavesPart, Plays, RunLeaves}
+
+pub script_of : (input : Option (List ℕ)) (events : List Event) (last : Option LastRestore)
+    → IfSome input (λ bytes. said_in (lines_of bytes) ≡ Some (events, last)) → IfSome input IsText
+    → IfSome input (IsScript events last)
+script_of None events last said text = text
+script_of (Some bytes) events last said text = record { text = text; said = said }
+
+pub not_written : (pages : ℕ) (input old new : Option (List ℕ)) (replies : List (Result Answer Refusal))
+    (left : RetiredView) (last : Option LastRestore) (fault : RunFault) → Plays pages input replies left last
+    → LeavesPart (reply_lines replies) old new fault → RunLeaves pages input old new fault
+not_written pages input old new replies left last OutOfMemory plays leaves = leaves
+not_written pages input old new replies left last (WriteFault done) plays leaves = record {
+  replies = replies;
+  left = left;
+  last = last;
+  plays = plays;
+  within = leaves.0;
+  written = leaves.1;
+}
+not_written pages input old new replies left last LogFault plays leaves = absurd leaves
+not_written pages input old new replies left last (Script fault) plays leaves = absurd leaves

@@ -1,0 +1,80 @@
+//! A script from its bytes to the lines of its replies.
+
+ghost use Rattle.std.specs.Prelude.{◌≡◌, ◌<◌, ◌≤◌, length, take, IfErr, IfOk, OnOk};
+ghost use Rattle.std.specs.Io.KnownBytes.{Appends, Keeps};
+ghost use Rattle.log_records.specs.Log.{IsPageCount};
+ghost use Rattle.script_run.specs.ReplyLines.{reply_lines};
+ghost use Rattle.script_run.specs.Run.{LeavesPart, RunLeaves, Runs};
+
+use crate::memory_play::play_in_memory;
+use crate::reply_lines::reply_lines;
+use crate::run_fault::RunFault;
+use aries_core::{PlayFault, Reply, Setup};
+use copy_coverage::Retired;
+use event_script::{LastRestore, read_script};
+use page_core::write_out;
+use std::alloc::Global;
+use std::io::{Read, Write};
+
+/// What is left of a script that was played.
+#[derive(Drop)]
+pub struct Ran {
+    /// The log, its last complete checkpoint and the image copies.
+    pub retired: Retired,
+    /// The restore that the script ends with, if it does.
+    pub last: Option<LastRestore>,
+}
+
+/// Reads a script to its end, plays it on a new engine whose store and log are in memory, and
+/// writes a line for each reply. A refused call is a reply too. The log has room for a record for
+/// each event. The last restore of the script is not done here.
+///
+/// All faults but those of the writer come before the first line is written: those of the script as
+/// `read_script` has them, `OutOfMemory` where memory for the engine or for the lines is refused,
+/// and `LogFault` where the log's device fails at the header. The writer is not flushed.
+pub fn run_script<R: Read, W: Write>(
+    alloc: Global,
+    setup: Setup,
+    reader: &mut R,
+    writer: &mut W,
+) -> Result<Ran, RunFault>
+    requires pages { IsPageCount setup.pages }
+    requires frames { setup.pages ≤ setup.frames }
+    ensures ran { IfOk result (λ ran. Runs setup.pages (R.remaining reader.old)
+        (W.contents writer.old) (W.contents writer.new) ran.retired ran.last) }
+    ensures err { IfErr result (RunLeaves setup.pages (R.remaining reader.old)
+        (W.contents writer.old) (W.contents writer.new)) }
+{
+    let script = match read_script(alloc, reader) {
+        Ok(script) => script,
+        Err(fault) => return Err(RunFault::Script(fault)),
+    };
+    let (replies, retired) = match play_in_memory(alloc, setup, &script.events) {
+        Ok(played) => played,
+        Err(PlayFault::OutOfMemory) => return Err(RunFault::OutOfMemory),
+        Err(PlayFault::LogFault) => return Err(RunFault::LogFault),
+    };
+    if let Err(fault) = write_replies(alloc, &replies, writer) {
+        return Err(fault);
+    }
+    Ok(Ran {
+        retired,
+        last: script.restore,
+    })
+}
+
+/// Writes the lines of replies.
+fn write_replies<W: Write>(alloc: Global, replies: &[Reply], writer: &mut W) -> Result<(), RunFault>
+    ensures ok { OnOk result (Appends (W.contents writer.old) (W.contents writer.new)
+        (reply_lines replies.now)) }
+    ensures err { IfErr result (LeavesPart (reply_lines replies.now)
+        (W.contents writer.old) (W.contents writer.new)) }
+{
+    let Ok(text) = reply_lines(alloc, replies) else {
+        return Err(RunFault::OutOfMemory);
+    };
+    match write_out(writer, text.as_bytes()) {
+        Ok(()) => Ok(()),
+        Err(done) => Err(RunFault::WriteFault(done)),
+    }
+}

@@ -1,0 +1,37 @@
+//! Why a script was not played.
+
+use event_script::ScriptFault;
+use std::error::Error;
+use std::fmt;
+
+/// Why a script was not played, or its replies were not written. Its text is its line.
+#[derive(Clone, Copy, Debug, PartialEq, Eq)]
+pub enum RunFault {
+    /// The script could not be read. Nothing was written.
+    Script(ScriptFault),
+    /// Memory ran out. Nothing was written.
+    OutOfMemory,
+    /// The log's device failed to store the header. Nothing was written.
+    LogFault,
+    /// The writer failed, took nothing, or was interrupted 17 times in a row. So many bytes of the
+    /// replies' lines went out, the first ones.
+    WriteFault(u64),
+}
+
+impl fmt::Display for RunFault {
+    ghost use Rattle.std.specs.Prelude.{Some};
+    ghost use Rattle.script_run.specs.RunText.{line_of};
+
+    ghost output = { λ fault. Some (line_of fault) };
+
+    fn fmt<W: fmt::Write>(&self, f: &mut fmt::Formatter<W>) -> fmt::Result {
+        match self {
+            RunFault::Script(fault) => write!(f, "{fault}"),
+            RunFault::OutOfMemory => write!(f, "E1 OutOfMemory"),
+            RunFault::LogFault => write!(f, "E23 LogFault"),
+            RunFault::WriteFault(done) => write!(f, "E29 WriteFault {done}"),
+        }
+    }
+}
+
+impl Error for RunFault {}
