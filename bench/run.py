@@ -3,8 +3,7 @@
 
 usage: run.py --imgcopy PROGRAM --tools FOLDER [--rounds N]
 
-FOLDER holds the built programs of src/bin. README.md says what is measured and how. Of a command that the program does
-not have nothing is measured.
+FOLDER holds the built programs of src/bin. README.md says what is measured and how.
 """
 
 import argparse
@@ -25,7 +24,8 @@ sys.path.insert(0, str(Path(__file__).resolve().parent.parent / "examples"))
 from log_format import PAGE_SIZE, RECORD_SIZE, lsn_of
 
 MEGABYTE = 1e6
-ALLOWED_RATIO = 1.3
+# How many times as long as the plain program each command may take.
+ALLOWED_RATIOS = {"redo": 1.3, "run": 1.5, "restore": 1.3}
 
 
 def log_size(records):
@@ -87,7 +87,7 @@ class Files(NamedTuple):
         paths = [folder / name for name in said.read_text().split()]
         sizes = [path.stat().st_size for path in paths]
         return Job(self, Path(os.devnull), sizes[0] // RECORD_SIZE - 1, sum(sizes), ["restore", *map(str, paths)],
-                   tools["plain_restore"], output_size=PAGE_SIZE * self.pages)
+                   tools["plain_restore"], sum(sizes) + 2 * PAGE_SIZE * self.pages, PAGE_SIZE * self.pages)
 
 
 class Job(NamedTuple):
@@ -125,8 +125,6 @@ INPUTS = {
     "restore": [Files("restore", 3, 65536)],
 }
 
-# Words that a program takes just if it has the command, what it then says on standard error, and its status.
-TRIALS = {"run": (["run", "--pages", "1"], b"", 0), "restore": (["restore", "/dev/null", "/dev/null"], b"E30", 2)}
 TOOLS = ["generate", "generate_script", "generate_files", "plain_redo", "plain_run", "plain_restore", "bare_copy",
          "peak_memory"]
 # More than the files of any input, with the volumes of two programs.
@@ -207,14 +205,14 @@ def table(results):
             ratio = result.seconds / by_program["plain"].seconds
             yield [job.what.name, f"{job.count:,}", f"{job.what.pages:,}", name, f"{result.seconds:.4f}",
                    f"{speed:,.0f}", f"{ratio:.2f}", f"{result.memory / MEGABYTE:.1f}",
-                   *goals(name, ratio, result.memory, job.allowed)]
+                   *goals(name, ratio, result.memory, job)]
 
 
-def goals(name, ratio, memory, allowed):
+def goals(name, ratio, memory, job):
     if name != "imgcopy":
         return ["", ""]
-    is_met = ratio <= ALLOWED_RATIO and (allowed is None or memory <= allowed)
-    return ["" if allowed is None else f"{allowed / MEGABYTE:.1f}", "yes" if is_met else "no"]
+    is_met = ratio <= ALLOWED_RATIOS[job.words[0]] and (job.allowed is None or memory <= job.allowed)
+    return ["" if job.allowed is None else f"{job.allowed / MEGABYTE:.1f}", "yes" if is_met else "no"]
 
 
 def find_program(path):
@@ -232,22 +230,11 @@ def find_folder():
     return None
 
 
-def has_command(imgcopy, name):
-    if name not in TRIALS:
-        return True
-    words, said, status = TRIALS[name]
-    done = subprocess.run([imgcopy, *words], stdin=subprocess.DEVNULL, capture_output=True)
-    return done.returncode == status and done.stderr.startswith(said)
-
-
 def benchmark(options):
     tools = {name: find_program(os.path.join(options.tools, name)) for name in TOOLS}
     imgcopy = find_program(options.imgcopy)
     results = []
-    for command, inputs in INPUTS.items():
-        if not has_command(imgcopy, command):
-            print(f"run.py: {command} is not measured: {options.imgcopy} does not have it", file=sys.stderr)
-            continue
+    for inputs in INPUTS.values():
         for an_input in inputs:
             with tempfile.TemporaryDirectory(dir=find_folder()) as folder:
                 job = an_input.prepare(tools, Path(folder))
