@@ -3,8 +3,8 @@
 
 usage: draw.py TABLE PICTURE
 
-TABLE is a file that has the table that run.py prints. The rows of the input `uniform` are drawn, for imgcopy and for
-the plain program.
+TABLE is a file that has the table that run.py prints. The rows of the input `uniform` are drawn as lines, for imgcopy
+and for the plain program, and below them those of each other input as bars.
 """
 
 import math
@@ -15,8 +15,10 @@ from run import MEGABYTE, log_size
 
 WIDTH, HEIGHT = 720, 420
 LEFT, RIGHT, TOP, BOTTOM = 80, 30, 60, 70
+BARS_LEFT, BAR = 110, 12
 MOST_STEPS = 8
 GRAY, BLACK = "#d0d0d0", "#202020"
+COLORS = {"imgcopy": "#1f6fb4", "plain": "#c8501e"}
 
 
 class Line(NamedTuple):
@@ -67,21 +69,51 @@ def line_of(table, program, color):
     return Line(program, color, sorted(points))
 
 
-def picture(lines, pages):
+def bars_of(table):
+    """The times of both programs for each other input, by its name."""
+    bars = {}
+    for row in table:
+        if row["input"] != "uniform" and row["program"] in COLORS:
+            bars.setdefault(row["input"], {})[row["program"]] = 1000 * float(row["seconds"])
+    return bars
+
+
+def picture(lines, bars, pages):
     """The text of the picture."""
+    height = HEIGHT + TOP + 3 * BAR * len(bars) + BOTTOM
     points = [point for line in lines for point in line.points]
     across = axis_to(max(x for x, _ in points), LEFT, WIDTH - RIGHT)
     up = axis_to(max(y for _, y in points), HEIGHT - BOTTOM, TOP)
     parts = [
-        f'<svg xmlns="http://www.w3.org/2000/svg" viewBox="0 0 {WIDTH} {HEIGHT}" width="{WIDTH}" height="{HEIGHT}"'
+        f'<svg xmlns="http://www.w3.org/2000/svg" viewBox="0 0 {WIDTH} {height}" width="{WIDTH}" height="{height}"'
         ' font-family="sans-serif" font-size="14">',
-        f'<rect width="{WIDTH}" height="{HEIGHT}" fill="white"/>',
+        f'<rect width="{WIDTH}" height="{height}" fill="white"/>',
         label(WIDTH / 2, 30, f"Time to rebuild a volume of {pages} pages", size=17),
         *grid(across, up),
     ]
     for index, line in enumerate(lines):
         parts += [*curve(line, across, up), *legend(line, LEFT + 24, TOP + 24 + 24 * index)]
+    parts += [label(WIDTH / 2, HEIGHT + 30, "Time of the other inputs", size=17), *bar_chart(bars, HEIGHT + TOP)]
     return "\n".join([*parts, "</svg>", ""])
+
+
+def bar_chart(bars, top):
+    """A bar for each program and input, and a line of milliseconds below."""
+    bottom = top + 3 * BAR * len(bars)
+    across = axis_to(max(time for times in bars.values() for time in times.values()), BARS_LEFT, WIDTH - RIGHT)
+    for tick in across.ticks():
+        x = across.place(tick)
+        yield stroke(x, bottom, x, top, GRAY)
+        yield label(x, bottom + 22, f"{tick:g}")
+    for index, (name, times) in enumerate(bars.items()):
+        y = top + 3 * BAR * index + BAR / 2
+        yield label(BARS_LEFT - 10, y + BAR + 5, name, anchor="end")
+        for place, (program, color) in enumerate(COLORS.items()):
+            width = across.place(times[program]) - BARS_LEFT
+            yield (f'<rect x="{BARS_LEFT}" y="{y + place * BAR:.1f}" width="{width:.1f}" height="{BAR - 1}"'
+                   f' fill="{color}"/>')
+    yield stroke(BARS_LEFT, bottom, BARS_LEFT, top, BLACK)
+    yield label((across.start + across.end) / 2, bottom + 50, "time, ms")
 
 
 def grid(across, up):
@@ -133,10 +165,10 @@ def main(arguments):
     try:
         with open(arguments[0], encoding="utf-8") as file:
             table = rows(file.read())
-        lines = [line_of(table, "imgcopy", "#1f6fb4"), line_of(table, "plain", "#c8501e")]
+        lines = [line_of(table, program, color) for program, color in COLORS.items()]
         pages = next(row["pages"] for row in table if row["input"] == "uniform")
         with open(arguments[1], "w", encoding="utf-8") as file:
-            file.write(picture(lines, pages))
+            file.write(picture(lines, bars_of(table), pages))
     except OSError as error:
         sys.exit(f"draw.py: {error}")
 
