@@ -53,7 +53,7 @@ kept_next stored s old new pool after ckpts r kept calls noted changed =
 -- the state by the log that is written and the pool
 pub appended_is : {S D : Type 0} (stored : S → List Page) (old mid new : WrittenLog D) (pool after : PoolView S)
     (ckpts : MediaView) (r : Record) → mid.log ≡ old.log → mid.forced_end ≡ old.forced_end
-        → new.log ≡ with_next mid.log (r ∷ [])
+    → new.log ≡ with_next mid.log (r ∷ [])
     → new.forced_end ≡ mid.forced_end → after.store ≡ pool.store → written_of after.states ≡ written_of pool.states
     → writing_of after.states ≡ writing_of pool.states
     → (engine_view stored new after ckpts).state ≡ appended (engine_view stored old pool ckpts).state r

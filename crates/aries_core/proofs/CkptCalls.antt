@@ -89,7 +89,7 @@ ckpt_begun stored it new table pool ckpts after lsn kept none logged forced is a
     let passes = ckpt_begin_passes s none in
     let room = passes.room in
     let state : (engine_view stored new pool after).state
-        ≡ (effect s event.CkptBegin).state = rw (is, logged, forced) refl in
+    ≡ (effect s event.CkptBegin).state = rw (is, logged, forced) refl in
     with_record stored it new table pool ckpts after event.CkptBegin (Ok (answer.Logged lsn)) r kept tt
     (none, ap answer.Logged at, state) logged tt passes.idle (omega arith)
     (rw (is, logged) (ap (option_map (session_of pages_left)) (sym (open_push it.log.records r))))
@@ -102,7 +102,7 @@ LeavesSession s g = HasSession (with_step (log_of s) g.next).records (Some g.ckp
 
 opened : (s : EngineState) (c : Checkpoint) (left : Left) (r : Record) → open_checkpoint s.log ≡ Some c
     → option_map (session_of left) (open_checkpoint (s.log ++ r ∷ []))
-        ≡ option_map (session_of left) (checkpoint_after (Some c) r)
+    ≡ option_map (session_of left) (checkpoint_after (Some c) r)
 opened s c left r is =
     ap (option_map (session_of left)) (open_push s.log r ∙ ap (λ (o : Option Checkpoint). checkpoint_after o r) is)
 
@@ -121,7 +121,7 @@ session_after s c fit is =
       | TakesTxn t finds ↦
           subst (LeavesSession s) (sym (at_left s c txns_left finds.left ∙ ap (with_txn s c) finds.found))
           (ap (λ n. Some (view (in_txns n))) (sym (cursor_after_txn c t))
-              ∙ sym (opened s c txns_left (txn_entry s c t) is))
+          ∙ sym (opened s c txns_left (txn_entry s c t) is))
       | PassesTxns finds ↦
           subst (LeavesSession s) (sym (at_left s c txns_left finds.left ∙ ap (with_txn s c) finds.found))
           (sym (ap (option_map (session_of none_left)) is))
@@ -207,14 +207,14 @@ ckpt_gathered stored it new table pool ckpts after v w reply kept none has logge
     let now : after ≡ record ckpts { session = Some g.ckpt } = is ∙ ap (λ x. record ckpts { session = Some x }) ckpt in
     let outcome : effect s event.CkptGather ≡ gather_effect s g =
     ap (λ o. option_map_or (λ x. gather_effect s (next_step s x)) o
-        (record { answer = answer.Done; state = s })) passes.still_open in
+    (record { answer = answer.Done; state = s })) passes.still_open in
     let state : (engine_view stored new pool after).state ≡ (effect s event.CkptGather).state =
     gathered_state stored it new pool ckpts after g.next g.ckpt next forced now ∙ ap (λ o. o.state) (sym outcome) in
     let answered : reply ≡ (effect s event.CkptGather).answer =
     said ∙ ap (λ (x : CkptView Phase). if is_done (left_of x.phase) then answer.Done else answer.More) ckpt
     ∙ ap (λ o. o.answer) (sym outcome) in
     let made : gathered_record s
-        ≡ g.next = ap (λ o. option_map_or (λ x. (next_step s x).next) o None) passes.still_open in
+    ≡ g.next = ap (λ o. option_map_or (λ x. (next_step s x).next) o None) passes.still_open in
     gathered_kept stored it new table pool ckpts after (Ok reply) g.next kept none (none, answered, state) made next
     (rw (now, next) (session_after s c kept.fit passes.still_open))
 
@@ -246,7 +246,7 @@ ckpt_ended stored it new table pool ckpts after v point kept none has logged for
     rw (outcome, named) refl in
     let room = passes.room in
     with_record stored it new table pool ckpts after event.CkptEnd
-        (Ok (answer.Point point.begin point.end point.redo)) r
+    (Ok (answer.Point point.begin point.end point.redo)) r
     kept tt (none, answered, state) next tt (end_ckpt_follows s c kept.fit passes.still_open passes.done) (omega arith)
     (rw (is, next) (ap (option_map (session_of pages_left)) (sym (open_push it.log.records r))))
 
@@ -270,7 +270,7 @@ ckpt_unforced stored it new table pool ckpts after v kept none has failed is =
     let short = failed.short in
     let longer = ap (λ (l : Log). length l.records) next in
     let state : (engine_view stored new pool after).state
-        ≡ forced_to (closed s c) (lsn_of k) = rw (is, next, at) refl in
+    ≡ forced_to (closed s c) (lsn_of k) = rw (is, next, at) refl in
     let part : ForcedPart (end (closed s c)) (closed s c) (engine_view stored new pool after).state = record {
       reached = (k, omega (arith, at, short, longer), state);
       no_less = failed.rising;

@@ -65,7 +65,7 @@ full_step s copies pages id point master fine same given made = (
   ap answer.Copied given,
   ap (with_copies s) (made ∙ ap (λ (n : ℕ). opened s.copies Full n point.begin point.redo) same
       ∙ ap (λ (o : Option Point). opened s.copies Full s.pages (option_map_or (λ p. p.begin) o 0)
-          (option_map_or (λ p. p.redo) o 0))
+      (option_map_or (λ p. p.redo) o 0))
       (sym master)),
 )
 
@@ -127,7 +127,7 @@ pub pages_of_reading : (s : EngineState) (id : ℕ) (copy : CopyView) → IsFit 
     → Some copy ≡ reading_of (state_of s.copies id) → length copy.pages ≡ s.pages
 pages_of_reading s id copy fit is =
     (fit.copied.each id copy
-        (ap copy_in (some_reading (state_of s.copies id) copy (sym is)))).whole ∙ fit.counted.stored
+    (ap copy_in (some_reading (state_of s.copies id) copy (sym is)))).whole ∙ fit.counted.stored
 
 -- a page that is to be taken is one of the copy's
 pub take_room : (s : EngineState) (copies : List CopyState) (copy p : ℕ) → IsFit s

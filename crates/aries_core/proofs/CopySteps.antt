@@ -73,13 +73,13 @@ covered_by s fit (Some point) is p d lt =
 opens : (s : EngineState) (kind : CopyKind) (begin : ℕ) → IsFit s
     → HasParent s.copies (length s.copies + 1) s.pages kind
     → AreCopied s.log s.forced_end s.stored
-        (opened s.copies kind s.pages begin (option_map_or (λ p. p.redo) s.master 0))
+    (opened s.copies kind s.pages begin (option_map_or (λ p. p.redo) s.master 0))
 opens s kind begin fit parent =
     let redo = option_map_or (λ p. p.redo) s.master 0 in
     subst (λ (n : ℕ). HasParent s.copies (length s.copies + 1) n kind
     → AreCopied s.log s.forced_end s.stored (opened s.copies kind n begin redo)) fit.counted.stored
     (λ has. copied_opened s.log s.forced_end s.stored s.copies kind begin redo fit.copied has
-        (early_redo s fit s.master refl)
+    (early_redo s fit s.master refl)
     (λ p d lt. covered_by s fit s.master refl p d lt))
     parent
 

@@ -61,7 +61,7 @@ goes_on old event reply new forces (inr grows) = record {
 fit_stays : (old : EngineState) (event : Event) (reply : Result Answer Refusal) (new : EngineState) → IsFit old
     → EndsAtRecord new → PagesFit new → FitsCkpts new
     → AreCopied new.log new.forced_end new.stored new.copies → HaveMaster new.master new.copies
-        → Stays old event reply new → IsFit new
+    → Stays old event reply new → IsFit new
 fit_stays old event reply new fit forced pages ckpts copied noted stays = record {
   valid = rw (stays.pages, stays.log) fit.valid;
   linked = rw stays.log fit.linked;
@@ -120,7 +120,7 @@ fit_appended s r fit calls =
 fit_grows : (old : EngineState) (event : Event) (reply : Result Answer Refusal) (new : EngineState) → IsFit old
     → EventFits event → EndsAtRecord new → PagesFit new → FitsCkpts new
     → AreCopied new.log new.forced_end new.stored new.copies → HaveMaster new.master new.copies
-        → Grows old event reply new → IsFit new
+    → Grows old event reply new → IsFit new
 fit_grows old event reply new fit numbers forced pages ckpts copied noted grows =
     let r = grows.r in
     let may = follows old event r fit grows.accepted grows.made in

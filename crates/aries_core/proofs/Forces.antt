@@ -141,7 +141,7 @@ failed_forces old (event.WriteEnd page) StoreFault new ends fails = elim (stored
 ]
 failed_forces old (event.Commit txn) (CommitUnsure lsn) new ends fails =
     both_force old (appended old (commit_record old txn)) new (appended_forces old _ ends)
-        (part_forces _ new _ (omega arith) fails.1)
+    (part_forces _ new _ (omega arith) fails.1)
 failed_forces old event.CkptEnd LogFault new ends fails =
     let part = closed_part old new fails in
     both_force old (closed old part.0) new (closed_forces old part.0 ends)

@@ -96,7 +96,7 @@ ended_is stored it pool after ckpts p q store states =
 
 pub repeated_is : {S D : Type 0} (stored : S → List Page) (it : WrittenLog D) (pool after : PoolView S)
     (ckpts : MediaView) (p : ℕ) (q : Page) → stored after.store ≡ set (stored pool.store) p q
-        → after.states ≡ pool.states
+    → after.states ≡ pool.states
     → (engine_view stored it after ckpts).state ≡ with_stored (engine_view stored it pool ckpts).state p q
 repeated_is stored it pool after ckpts p q store states = rw (store, states) refl
 
@@ -113,7 +113,7 @@ map-replicate f (suc n) x = ap (λ ys. f x ∷ ys) (map-replicate f n x)
 
 pub new_is : {S D : Type 0} (stored : S → List Page) (it : WrittenLog D) (pool : PoolView S) (store : S) (n : ℕ)
     (copies : List CopyState) → copies ≡ [] → it.log ≡ record { pages = n; records = [] } → it.forced_end ≡ 64
-        → pool ≡ new_pool store n
+    → pool ≡ new_pool store n
     → stored store ≡ formatted_pages n
     → (engine_view stored it pool (record { master = None; session = None; copies = copies })).state ≡ new_state n
 new_is {S = S} stored it pool store n copies none log forced is formatted =

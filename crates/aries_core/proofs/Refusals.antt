@@ -372,7 +372,7 @@ IsOfCopies other = ⊥
 pub copy_not_full : (s : EngineState) (event : Event) → IsOfCopies event → refusal s event ≡ Some LogFull → ⊥
 copy_not_full s event.CopyFull is full =
     vault_not_full _ (second_of_both (refused_if _ NoMaster) _ LogFull
-        (not_of_one _ NoMaster LogFull (λ same. (cc))) full).1
+    (not_of_one _ NoMaster LogFull (λ same. (cc))) full).1
 copy_not_full s (event.CopyInc parent) is full = vault_not_full _ full
 copy_not_full s (event.Take copy page) is full = take_not_full s copy page full
 copy_not_full s (event.Seal copy) is full = vault_not_full _ full

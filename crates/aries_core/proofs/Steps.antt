@@ -105,14 +105,14 @@ gather_stays_or_grows old answer new none is =
       | TakesPages pages finds ↦
           let does = takes_pages old c pages still_open finds in
           inr (grows old event.CkptGather (Ok answer) new _ _ (is ∙ ap (λ o. o.state) does.outcome) none
-              does.made refl refl refl)
+          does.made refl refl refl)
       | PassesPages finds ↦
           let does = passes_pages old c still_open finds in
           inl (stays old event.CkptGather (Ok answer) new _ (is ∙ ap (λ o. o.state) does.outcome) refl refl refl)
       | TakesTxn t finds ↦
           let does = takes_txn old c t still_open finds in
           inr (grows old event.CkptGather (Ok answer) new _ _ (is ∙ ap (λ o. o.state) does.outcome) none
-              does.made refl refl refl)
+          does.made refl refl refl)
       | PassesTxns finds ↦
           let does = passes_txns old c still_open finds in
           inl (stays old event.CkptGather (Ok answer) new _ (is ∙ ap (λ o. o.state) does.outcome) refl refl refl)
@@ -203,7 +203,7 @@ failed old (event.WriteEnd page) StoreFault new none fails = elim (stored_or_not
 failed old event.CkptEnd LogFault new none fails =
     let part = closed_part old new fails in
     inr (grows old event.CkptEnd (Err LogFault) new _ _ part.2.reached.2 none
-        (made_at_end old part.0 part.1) refl refl refl)
+    (made_at_end old part.0 part.1) refl refl refl)
 failed old (event.Take copy page) StoreFault new none fails =
     inl (stays old (event.Take copy page) (Err StoreFault) new old fails refl refl refl)
 failed old event why new none fails = absurd fails

@@ -37,7 +37,7 @@ pub record Called {S D : Type 0} (stored : S → List Page) (it new : WrittenLog
 called : {S D : Type 0} (stored : S → List Page) (it new : WrittenLog D) (table : Table)
     (pool after : PoolView S) (ckpts : MediaView)
     (call : Event) (reply : Result Answer Refusal)
-        → IsKept stored (engine_view stored it pool ckpts).state table pool ckpts
+    → IsKept stored (engine_view stored it pool ckpts).state table pool ckpts
     → EventFits call → new.log ≡ it.log
     → Step (engine_view stored it pool ckpts).state call reply (engine_view stored new after ckpts).state
     → IsPoolOf stored it.log after → Called stored it new table pool after ckpts call reply
@@ -133,7 +133,7 @@ pub ended : {S D : Type 0} (stored : S → List Page) (it : WrittenLog D) (table
       store = after.store;
     })
     → IsPoolOf stored it.log after
-        → Called stored it it table pool after ckpts (event.WriteEnd p) (Ok (answer.Written lsn))
+    → Called stored it it table pool after ckpts (event.WriteEnd p) (Ok (answer.Written lsn))
 ended stored it table pool after ckpts p lsn kept none within at store states of_log =
     let s = (engine_view stored it pool ckpts).state in
     let ends = write_end_passes s p none in
@@ -145,7 +145,7 @@ ended stored it table pool after ckpts p lsn kept none within at store states of
     let is : after ≡ record (with_state pool p (write_ended (state_at pool p) q.lsn)) { store = after.store } =
     of_image (state_at pool p).writing
     (λ q. after ≡ record (with_state pool p (write_ended (state_at pool p) q.lsn))
-        { store = after.store }) q here states in
+    { store = after.store }) q here states in
     let state : (engine_view stored it after ckpts).state ≡ ended_write s p q =
     ended_is stored it pool after ckpts p q stored_is (ap (λ v. v.states) is) in
     let effected : (engine_view stored it after ckpts).state ≡ (effect s (event.WriteEnd p)).state =

@@ -290,14 +290,14 @@ ended_fit old new page fit goes ends =
       };
       stored = rw (ends.log, ends.stored, ends.written, ends.writing)
           (stored_ended old.log old.stored old.written old.writing page image fit.stored there known
-              room ends.ends.there);
+          room ends.ends.there);
       stable = record {
         pages = rw ends.stored
             (All-set (λ page. page.lsn < new.forced_end) old.stored page image
             (image_later old new page fit goes ends.ends) (pages_later old new fit goes));
         images = λ p. rw ends.writing
             (image_set old.writing page p None (λ image. image.lsn < new.forced_end) tt
-                (images_later old new fit goes p));
+            (images_later old new fit goes p));
       };
     }
 

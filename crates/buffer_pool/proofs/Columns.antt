@@ -73,12 +73,20 @@ set-states_of written rec_lsns images firsts n s lt_written lt_rec_lsns lt_image
     get_or-states_of written' rec_lsns' images' firsts' p d known' ∙ elim (cases_eq p n) [
       | inl same ↦
           ap (row written' rec_lsns' images' firsts') same
-          ∙ rw (get_or-set_same written n s.written 0 lt_written, get_or-set_same rec_lsns n s.rec_lsn None lt_rec_lsns,
-              get_or-set_same images n s.writing None lt_images, get_or-set_same firsts n s.since None lt_firsts) refl
+          ∙ rw (
+            get_or-set_same written n s.written 0 lt_written,
+            get_or-set_same rec_lsns n s.rec_lsn None lt_rec_lsns,
+            get_or-set_same images n s.writing None lt_images,
+            get_or-set_same firsts n s.since None lt_firsts,
+          ) refl
           ∙ sym (ap (λ (k : ℕ). get_or (set states n s) k d) same ∙ get_or-set_same states n s d (omega arith))
       | inr other ↦
-          rw (get_or-set_other written n p s.written 0 other, get_or-set_other rec_lsns n p s.rec_lsn None other,
-              get_or-set_other images n p s.writing None other, get_or-set_other firsts n p s.since None other) refl
+          rw (
+            get_or-set_other written n p s.written 0 other,
+            get_or-set_other rec_lsns n p s.rec_lsn None other,
+            get_or-set_other images n p s.writing None other,
+            get_or-set_other firsts n p s.since None other,
+          ) refl
           ∙ sym (get_or-set_other states n p s d other ∙ get_or-states_of written rec_lsns images firsts p d known)
     ])
 

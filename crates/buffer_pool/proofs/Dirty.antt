@@ -157,7 +157,7 @@ same_entries : (f g : ℕ → Option DirtyPage) (a n : ℕ) → ((p : ℕ) → a
 same_entries f g a zero same = refl
 same_entries f g a (suc n) same =
     ap (λ (o : Option DirtyPage). cons_option o (filter_map f (range_with_len (a + 1) n)))
-        (same a (omega arith) (omega arith))
+    (same a (omega arith) (omega arith))
     ∙ ap (cons_option (g a)) (same_entries f g (a + 1) n (λ p le lt. same p (omega arith) (omega arith)))
 
 -- the dirty page table of a pool's log is that of its states

@@ -14,7 +14,7 @@ next_is_log log r valid few stands = record {
   records = λ i d lt. elim (cases_lt i (length log.records)) [
     | inl before ↦
         subst (StandsAt log.pages (lsn_of i)) (sym (get_or_append_left log.records (r ∷ []) d i before))
-            (valid.records i d before)
+        (valid.records i d before)
     | inr at ↦
         let same : length log.records ≡ i = omega (arith, length_push log.records r) in
         subst (λ (n : ℕ). StandsAt log.pages (lsn_of n) (get_or (log.records ++ r ∷ []) n d)) same

@@ -88,7 +88,7 @@ page_is_there stored_in log next pool c some valid is =
     let there : length rs < length (rs ++ next ∷ []) = omega (arith, length_push rs next) in
     let within : IsWithin log.pages next =
     subst (IsWithin log.pages) (get_or_push rs next next (length rs) refl)
-        (valid.records (length rs) next there).within in
+    (valid.records (length rs) next there).within in
     let below : c.page < log.pages = subst (λ (o : Option PageChange). IfSome o (λ x. x.page < log.pages)) some
     (change_within log.pages next within) in
     omega (arith, is.pages)
@@ -108,7 +108,7 @@ later stored_in log next pool states valid is count written writing each = recor
   states = each;
   stored = rw (written, writing)
       (stored_later log.records (next ∷ []) (stored_in pool.store) (written_of pool.states)
-          (writing_of pool.states) is.stored);
+      (writing_of pool.states) is.stored);
 }
 
 -- a record that changes no page
@@ -219,9 +219,9 @@ pool_kept stored_in log pool store same is = record {
 
 pub pool_begun : {S : Type 0} (stored_in : S → List Page) (log : Log) (pool : PoolView S) (q : Page)
     → q.number < length pool.states → q ≡ image log.records q.number
-        → length (stored_in pool.store) ≡ length pool.states
+    → length (stored_in pool.store) ≡ length pool.states
     → IsPoolOf stored_in log pool
-        → IsPoolOf stored_in log (with_state pool q.number (write_begun (state_at pool q.number) q))
+    → IsPoolOf stored_in log (with_state pool q.number (write_begun (state_at pool q.number) q))
 pool_begun stored_in log pool q there now count is =
     let n = q.number in
     let states = pool.states in
@@ -243,8 +243,11 @@ pool_begun stored_in log pool q there now count is =
       states = states_set (IsStateOf log) states n new
           (state_begun log n old q is.valid now (is.states n unwritten there))
           (λ p d lt other. is.states p d lt) there;
-      stored = rw (column_same (λ (s : PageState). s.written) states n new there refl, map-set
-          (λ (s : PageState). s.writing) states n new) begun;
+      stored = rw (
+        column_same (λ (s : PageState). s.written) states n new there refl,
+        map-set
+            (λ (s : PageState). s.writing) states n new,
+      ) begun;
     }
 
 -- ---- a write ends
@@ -270,8 +273,12 @@ pool_ended stored_in log pool store n q there here count stores is =
       resident = is.resident;
       states = states_set (IsStateOf log) states n new (state_ended log n old q here (is.states n unwritten there))
           (λ p d lt other. is.states p d lt) there;
-      stored = rw (stores, map-set (λ (s : PageState). s.written) states n new, map-set
-          (λ (s : PageState). s.writing) states n new) ended;
+      stored = rw (
+        stores,
+        map-set (λ (s : PageState). s.written) states n new,
+        map-set
+            (λ (s : PageState). s.writing) states n new,
+      ) ended;
     }
 
 -- ---- a write fails
@@ -341,8 +348,12 @@ pool_new stored_in store n count holds = record {
   states = λ p d lt.
       let below : p < n = omega (arith, length-replicate n unwritten) in
       rw (get_or-replicate n p unwritten d below) (state_new n p);
-  stored = rw (holds, map-replicate (λ (s : PageState). s.written) n unwritten, map-replicate
-      (λ (s : PageState). s.writing) n unwritten) (stored_new n);
+  stored = rw (
+    holds,
+    map-replicate (λ (s : PageState). s.written) n unwritten,
+    map-replicate
+        (λ (s : PageState). s.writing) n unwritten,
+  ) (stored_new n);
 }
 
 -- ---- what is stored

@@ -35,7 +35,7 @@ rec_same log next p lsn valid own other low =
     let high : lsn < own_lsn next = omega arith in
     sym (rec_later log next p lsn valid own high
     ∙ ap (λ (b : Bool). cond b (Some (unwrap_or (rec_lsn log.records p lsn) (own_lsn next)))
-        (rec_lsn log.records p lsn)) other)
+    (rec_lsn log.records p lsn)) other)
 
 pub state_same : (log : Log) (next : Record) (p : ℕ) (s : PageState) → IsLog log
     → own_lsn next ≡ lsn_of (length log.records) → changes p next ≡ false → IsStateOf log p s
@@ -62,7 +62,7 @@ rec_noted log next p lsn valid own here low =
     let high : lsn < own_lsn next = omega arith in
     sym (rec_later log next p lsn valid own high
     ∙ ap (λ (b : Bool). cond b (Some (unwrap_or (rec_lsn log.records p lsn) (own_lsn next)))
-        (rec_lsn log.records p lsn)) here)
+    (rec_lsn log.records p lsn)) here)
 
 pub state_changed : (log : Log) (next : Record) (p : ℕ) (s : PageState) → IsLog log
     → own_lsn next ≡ lsn_of (length log.records) → changes p next ≡ true → IsStateOf log p s

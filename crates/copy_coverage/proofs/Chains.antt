@@ -50,7 +50,7 @@ walk : (copies : List CopyState) (p : ℕ) (copy : CopyView) (older : List CopyV
     → p < length copy.pages → state_of copies copy.id ≡ complete copy → StandsOn copies copy.kind older
     → page_in (copy ∷ older) p ≡ Some q → Follow copy more
     → AllByRecursion (λ c. IsComplete c.kind c.pages) more
-        → AllByRecursion (λ c. state_of copies c.id ≡ complete c) more
+    → AllByRecursion (λ c. state_of copies c.id ≡ complete c) more
     → Reaches copies p (last copy more) (last_of q (takings more p))
 walk copies p copy older q [] lt state stands has follow whole of_vault = record
     { older = older; stands = stands; has = has }
@@ -77,7 +77,7 @@ reaches_content : (copies : List CopyState) (p : ℕ) (first : CopyView) (more :
 reaches_content copies p first more lt full follow whole of_vault =
     let has = full_has (decision_at first.pages p) (whole.0.decided p lt) (whole.0.keeps full p) in
     subst (λ (d : PageDecision). Reaches copies p (last first more)
-        (last_of (formatted p) (page_of d ++ takings more p)))
+    (last_of (formatted p) (page_of d ++ takings more p)))
     (sym has.1)
     (walk copies p first [] has.0 more lt of_vault.0
     (subst (λ kind. StandsOn copies kind []) (sym full) refl) (ap (decided_over None) has.1) follow whole.1 of_vault.1)

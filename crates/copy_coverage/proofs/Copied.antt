@@ -159,8 +159,12 @@ copied_changed rs f stored old new id state changed are stands = record {
         }
     | inr other ↦
         let here = are.each j copy (ap copy_in (sym (changed.others j other)) ∙ is) in
-        record { whole = here.whole; early = here.early; parent = parent_on old new j (length stored) copy.kind
-            changed.on here.parent }
+        record {
+          whole = here.whole;
+          early = here.early;
+          parent = parent_on old new j (length stored) copy.kind
+              changed.on here.parent;
+        }
   ];
   read = λ j copy is p d lt. elim (cases_eq j id) [
     | inl same ↦ stands.read copy (sym changed.here ∙ ap (state_of new) (sym same) ∙ is) p d lt
@@ -171,12 +175,12 @@ copied_changed rs f stored old new id state changed are stands = record {
         let now : copy_in state ≡ Some copy = ap copy_in (sym changed.here ∙ ap (state_of new) (sym same)) ∙ is in
         stands.covered copy older now
         (stood_on old new (length stored) changed.on (λ i c h. (are.each i c h).parent) id copy.kind older
-            (stands.each copy now).parent on) p
+        (stands.each copy now).parent on) p
     | inr other ↦
         let was : copy_in (state_of old j) ≡ Some copy = ap copy_in (sym (changed.others j other)) ∙ is in
         are.covered j copy older was
         (stood_on old new (length stored) changed.on (λ i c h. (are.each i c h).parent) j copy.kind older
-            (are.each j copy was).parent on) p
+        (are.each j copy was).parent on) p
   ];
 }
 
@@ -216,7 +220,7 @@ some_same a b e = cc
 
 pub copied_opened : (rs : List Record) (f : ℕ) (stored : List Page) (copies : List CopyState) (kind : CopyKind)
     (begin redo : ℕ) → AreCopied rs f stored copies
-        → HasParent copies (length copies + 1) (length stored) kind → redo ≤ f
+    → HasParent copies (length copies + 1) (length stored) kind → redo ≤ f
     → ((p : ℕ) (d : Page) → p < length stored → Covers rs p (get_or stored p d) redo)
     → AreCopied rs f stored (opened copies kind (length stored) begin redo)
 copied_opened rs f stored copies kind begin redo are parent early covers =
@@ -307,7 +311,7 @@ copied_decided rs f stored copies id p copy page are is lt same stable =
     let next = with_decision copy p decision in
     let there : p < length copy.pages = omega (arith, (are.each id copy (ap copy_in is)).whole) in
     let covers : Covers rs p page copy.redo = subst (λ (q : Page). Covers rs p q copy.redo) (sym same)
-        (are.read id copy is p page lt) in
+    (are.read id copy is p page lt) in
     let made : decided copies id p page ≡ with_state copies id (reading next) =
     ap (λ (s : CopyState). with_state copies id (decided_in copies s p page)) is in
     subst (AreCopied rs f stored) (sym made)
@@ -368,7 +372,7 @@ pub copied_dropped : (rs : List Record) (f : ℕ) (stored : List Page) (copies :
     → AreCopied rs f stored (without copies id)
 copied_dropped rs f stored copies id copy are is =
     copied_changed rs f stored copies (without copies id) id dropped
-        (set_changes copies id copy dropped is) are (record {
+    (set_changes copies id copy dropped is) are (record {
       each = λ c e. absurd (none_some c e);
       read = λ c e p d lt. absurd (dropped_not_reading c e);
       covered = λ c older e on p. absurd (none_some c e);

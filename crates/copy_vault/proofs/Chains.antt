@@ -93,7 +93,7 @@ some_members members chain = omega (arith, ap length chain.is)
 
 takings_more : (members : List CopyView) (k p : ℕ) (d : CopyView) → k < length members
     → takings (drop k members) p ≡ page_of (decision_at (get_or members k d).pages p)
-        ++ takings (drop (k + 1) members) p
+    ++ takings (drop (k + 1) members) p
 takings_more members k p d lt = at_drop_more (λ (ms : List CopyView). takings ms p) members k d lt
 
 pub none_later : (members : List CopyView) (k p : ℕ) (d : CopyView) → k < length members

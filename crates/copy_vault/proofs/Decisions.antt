@@ -91,7 +91,7 @@ pub none_left : (pages : List PageDecision) → AreDecidedBelow (length pages) p
 none_left pages all =
     let n = length pages in
     let first : position_or_len is_undecided pages
-        ≡ n = first_is pages n (omega arith) all (λ lt. absurd (omega arith)) in
+    ≡ n = first_is pages n (omega arith) all (λ lt. absurd (omega arith)) in
     ap (λ k. cond (ltb k n) (Some k) None) first ∙ ap (λ b. cond b (Some n) None) (le-ltb n n (omega arith))
 
 -- ---- whether a page is left

@@ -168,7 +168,7 @@ holds_none h pages pending front short last (BadArchive at) (inr bad) =
     let a = agree h pages pending bad.header bad.pages bad.rest front bad.begins in
     let fewer : length bad.pages < length pages = omega (arith, a.count, bad.whole) in
     let split = pages_before pages bad.pages pending bad.rest front.valid bad.begins.front.valid
-        a.bytes (omega arith) in
+    a.bytes (omega arith) in
     bad.none (next_of h bad.header pages bad.pages pending bad.rest front a.header split.0 split.1 split.2
     (omega (arith, ap length split.1, length-append bad.pages split.0)))
 holds_none h pages pending front short last CountDiffers bad =

@@ -77,7 +77,7 @@ rising_all pages count p page e =
 pub read_taken : (pages : List Page) (count k p : ℕ) (d : Page) → AreRising pages count
     → p < length (decisions_of pages count)
     → k < length pages → (get_or pages k d).number ≡ p
-        → decision_at (decisions_of pages count) p ≡ taken (get_or pages k d)
+    → decision_at (decisions_of pages count) p ≡ taken (get_or pages k d)
 read_taken pages count k p d rising lt below is =
     decision_of pages count p (omega (arith, length_of pages count)) ∙ taken_at pages k p d rising.rising below is
 
@@ -116,7 +116,7 @@ kept_more pages count end rising le =
   where
     at : (p : ℕ) → p < end
         → decision_at (decisions_of pages end) p
-            ≡ decision_at (decisions_of pages count ++ replicate (end - count) kept) p
+        ≡ decision_at (decisions_of pages count ++ replicate (end - count) kept) p
     at p lt = elim (cases_lt p count) [
       | inl below ↦ decision_of pages end p lt ∙ sym (decision_of pages count p below)
           ∙ sym (get_or_append_left (decisions_of pages count) (replicate (end - count) kept) undecided p
@@ -150,7 +150,7 @@ part_kept h zero pages part within = subst (IsPart h) (sym (append-nil pages)) p
 part_kept h (suc n) pages part within =
     subst (IsPart h) (append_assoc pages (kept ∷ []) (replicate n kept))
     (part_kept h n (pages ++ kept ∷ []) (part_push_kept h pages part (omega arith))
-        (omega (arith, length_push pages kept)))
+    (omega (arith, length_push pages kept)))
 
 -- ---- a page more is taken
 

@@ -293,7 +293,7 @@ drop_keeps entries k old new (Err fault) vault lt is fine gone same =
 
 pub kept_new : (entries : List Entry) (id : ℕ) (it : ReadingView) → it.copy.id ≡ id
     → HasParent (map state_in entries) id (length it.copy.pages) it.copy.kind
-        → it.since ≡ since_of (map state_in entries) it.copy.kind
+    → it.since ≡ since_of (map state_in entries) it.copy.kind
     → IsKept (map state_in entries) id (entry.Reading it)
 kept_new entries id it id_is parent since_is = (record { id_is = id_is; parent = parent }, since_is)
 

@@ -103,7 +103,7 @@ module _ {B : Type 0} (sets : B → List SeatSet) where
       here (inl fits) =
           ap (λ b. cond b (sets_of after s) no_seats) (lt-ltb s 8 fits) ∙ says s fits
           ∙ sym (ap (λ b. cond (eqb slot s) seats
-              (cond b (sets_of (get_or pages page None) s) no_seats)) (lt-ltb s 8 fits))
+          (cond b (sets_of (get_or pages page None) s) no_seats)) (lt-ltb s 8 fits))
       here (inr past) =
           let apart : slot ≢ s = omega arith in
           ap (λ b. cond b (sets_of after s) no_seats) (le-ltb s 8 past)

@@ -115,7 +115,7 @@ module _ {begun i t : ℕ} {xs : List OpenEntry} {x : OpenEntry} {claims : Claim
       = no-number (find is_holder xs) (sym (least-holder page slot kind t tracks) ∙ none) in
       let apart : e.txn ≢ t = λ same. held.is_other (sym place.1.1
       ∙ ap (λ n. (get_or xs n x).seat)
-          (one-of xs place.0 i x tracks.ranked place.1.0 at.within (inl (same ∙ sym own-txn)))
+      (one-of xs place.0 i x tracks.ranked place.1.0 at.within (inl (same ∙ sym own-txn)))
       ∙ own-seat) in
       false≢true (sym (none-fails is_holder xs place.0 x place.1.0 nobody)
       ∙ and_from (not (eqb e.txn t)) (has_seat seats e.seat) (ap not (ne_eqb e.txn t apart))

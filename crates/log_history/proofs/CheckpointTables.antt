@@ -192,7 +192,7 @@ of_entries rs P = (
   λ all k d lt.
       let long = length-map (open_in rs) (entry_of rs) in
       subst P (get_or-map (entry_of rs) (open_in rs) k d (entry_of rs 0) lt)
-          (all k (entry_of rs 0) (omega (arith, long))),
+      (all k (entry_of rs 0) (omega (arith, long))),
 )
 
 close_as_ended : (rs : List Record) (begin redo : ℕ) (c : Checkpoint)

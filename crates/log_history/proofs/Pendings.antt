@@ -155,7 +155,7 @@ adds_are_sets : (cs : List PendingChange) (page slot : ℕ) → list_any (keeps_
 adds_are_sets [] page slot some = some
 adds_are_sets (c ∷ cs) page slot some =
     by_first (eqb c.page page && eqb c.slot slot) (is_add (kind_of c.change))
-        (list_any (keeps_out page slot kind.Add) cs)
+    (list_any (keeps_out page slot kind.Add) cs)
     (list_any (keeps_out page slot kind.Set) cs) (adds_are_sets cs page slot) some
   where
     by_first : (here add adds sets : Bool) → (adds ≡ true → sets ≡ true)

@@ -130,7 +130,7 @@ pub on-seat : (old new : List OpenEntry) (s : ℕ) (e : OpenEntry) → length ol
 on-seat old new s e few low most is = elim (cases_lt s (length old)) [
   | inl below ↦
       subst (λ xs. IsOn old xs s e) (sym (is
-          ∙ ap (λ b. cond b (set old s e) (old ++ e ∷ [])) (lt-ltb s (length old) below)))
+      ∙ ap (λ b. cond b (set old s e) (old ++ e ∷ [])) (lt-ltb s (length old) below)))
       (record {
         long = omega (arith, length-set old s e);
         few = omega (arith, length-set old s e);
@@ -141,7 +141,7 @@ on-seat old new s e few low most is = elim (cases_lt s (length old)) [
   | inr above ↦
       let last : s ≡ length old = omega arith in
       subst (λ xs. IsOn old xs s e) (sym (is
-          ∙ ap (λ b. cond b (set old s e) (old ++ e ∷ [])) (le-ltb s (length old) above)))
+      ∙ ap (λ b. cond b (set old s e) (old ++ e ∷ [])) (le-ltb s (length old) above)))
       (record {
         long = omega (arith, length_push old e);
         few = omega (arith, length_push old e);
@@ -254,9 +254,13 @@ module _ (order : List ℕ) (seats : List OpenEntry) (taken now : SeatSet) (i s 
   was k lt = elim (cases_lt k i) [
     | inl below ↦
         (k, (omega (arith, short), (omega arith, (get_or-remove_below order i 0 k below within, inl (below, refl)))))
-    | inr above ↦
-        (k + 1, (omega (arith, short),
-            (omega arith, (get_or-remove_above order i 0 k above within, inr (above, refl)))))
+    | inr above ↦ (
+      k + 1,
+      (
+        omega (arith, short),
+        (omega arith, (get_or-remove_above order i 0 k above within, inr (above, refl))),
+      ),
+    )
   ]
 
   low : (k : ℕ) → k < length order → get_or order k 0 < SEATS

@@ -85,7 +85,7 @@ holder-put ms page slot mark holder says there within p s =
         let slot_is : slot ≡ s = omega arith in
         false≢true (sym other ∙ and_from (eqb page p) (eqb slot s) (eq-eqb page p page_is) (eq-eqb slot s slot_is))) in
         ap (λ m. cond (ltb s 62) (holder_of m) Nobody)
-            (get_or-set_other ms (62 * page + slot) (62 * p + s) mark no_mark apart)
+        (get_or-set_other ms (62 * page + slot) (62 * p + s) mark no_mark apart)
 
 pub no_slot : (page slot : ℕ) → slot_holder [] page slot ≡ Nobody
 no_slot page slot = elim (ltb slot 62) as (λ b. cond b (holder_in [] (62 * page + slot)) Nobody ≡ Nobody) [

@@ -123,7 +123,7 @@ module _ {begun txn seat : ℕ} {claims : Claims} {list : OpenList} {x : OpenEnt
       pub entries-gone : entries_in gone ≡ remove (set (entries_in list) sits.place e) sits.place
       entries-gone =
           ap (λ os. entries_of os gone.seats.items) order_is
-              ∙ ap (entries_of (remove list.order.items sits.place)) seats_are
+          ∙ ap (entries_of (remove list.order.items sits.place)) seats_are
           ∙ entries-remove list.order.items (set list.seats.items seat e) sits.place e
           (λ k lt. omega (arith, stored.seated.there k lt, length-set list.seats.items seat e)) sits.within
           ∙ ap (λ xs. remove xs sits.place) entries-put

@@ -73,7 +73,7 @@ sets-hold before after page slot seat holder seats hold marks adders says p s ot
     by_place : (b : Bool)
         → (b ≡ true → hold_in (claim_of holder seats) other ≡ cond (eqb other seat) hold (hold_at before p s other))
         → hold_in (claim_of (cond b holder (holder_at before.marks p s))
-            (cond b seats (seats_at before.adders p s))) other
+        (cond b seats (seats_at before.adders p s))) other
         ≡ cond (b && eqb other seat) hold (hold_at before p s other)
     by_place true here = here refl
     by_place false here = refl
@@ -206,7 +206,7 @@ adds_hold b = record { against_sets = b; against_adds = false }
 pub of_adders : (seats : SeatSet) (seat : ℕ) → hold_in (claim_of Adders seats) seat ≡ adds_hold (has_seat seats seat)
 of_adders seats seat =
     ap (λ b. let h : Hold = record { against_sets = has_seat seats seat; against_adds = b } in h)
-        (has_seat-no_seats seat)
+    (has_seat-no_seats seat)
 
 -- one adder more, and one less
 pub with_adder : (old new : SeatSet) (seat : ℕ) (b : Bool) (other : ℕ)

@@ -87,7 +87,7 @@ two_is kind begin lsn at n pages bs x y same valid is reads =
 
 three_on : (kind begin lsn at n : ℕ) (pages : DirtyPages) (bs : List ℕ) (x y z : DirtyPage)
     → bs ≡ ckpt_bytes kind begin (pages_body pages) lsn → AreDirtyPages at pages → ((n ≡ 1) → ⊥)
-        → ((n ≡ 2) → ⊥) → n ≡ count_of pages
+    → ((n ≡ 2) → ⊥) → n ≡ count_of pages
     → ReadsEntry bs 20 24 32 x → ReadsEntry bs 32 36 44 y → ReadsEntry bs 44 48 56 z → Three x y z ≡ pages
 unfolding ckpt_bytes pages_body entry_bytes count_of
 three_on kind begin lsn at n (One a) bs x y z same valid one two count first second third = absurd (one count)
@@ -102,7 +102,7 @@ three_on kind begin lsn at n (Three a b c) bs x y z same valid one two count fir
 
 pub three_is : (kind begin lsn at n : ℕ) (pages : DirtyPages) (bs : List ℕ) (x y z : DirtyPage)
     → bs ≡ ckpt_bytes kind begin (pages_body pages) lsn → AreDirtyPages at pages → ((n ≡ 1) → ⊥)
-        → ((n ≡ 2) → ⊥) → Reads32 bs 16 20 n
+    → ((n ≡ 2) → ⊥) → Reads32 bs 16 20 n
     → ReadsEntry bs 20 24 32 x → ReadsEntry bs 32 36 44 y → ReadsEntry bs 44 48 56 z → Three x y z ≡ pages
 three_is kind begin lsn at n pages bs x y z same valid one two reads =
     three_on kind begin lsn at n pages bs x y z same valid one two (count_is kind begin lsn n pages bs same reads)

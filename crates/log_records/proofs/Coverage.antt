@@ -72,7 +72,7 @@ named log valid p (suc k) d le =
     let lt : k < length rs = omega arith in
     let next : k + 1 ≡ suc k = omega arith in
     let by_change : (b : Bool) → changes p (get_or rs k d) ≡ b
-        → IsNamed rs p (k + 1) = λ b. elim b as (λ (b : Bool). changes p (get_or rs k d) ≡ b → IsNamed rs p (k + 1)) [
+    → IsNamed rs p (k + 1) = λ b. elim b as (λ (b : Bool). changes p (get_or rs k d) ≡ b → IsNamed rs p (k + 1)) [
       | true ↦ λ e.
           let lsn : (image (take (k + 1) rs) p).lsn ≡ 64 * (k + 1) =
           image-moved rs p k d lt e ∙ (valid.records k d lt).lsn in
@@ -347,7 +347,7 @@ of_those f P (n ∷ ns) all = by_test (of_those f P ns) (f n) refl
         → All (λ n. f n ≡ true → P n) (n ∷ ns)
     by_test rest true e =
         let here : All P (n ∷ filter f ns) = subst
-            (λ (b : Bool). All P (cond b (n ∷ filter f ns) (filter f ns))) e all in
+        (λ (b : Bool). All P (cond b (n ∷ filter f ns) (filter f ns))) e all in
         All-cons (λ n. f n ≡ true → P n) n ns (λ same. All-head P n (filter f ns) here)
         (rest (All-tail P n (filter f ns) here))
     by_test rest false e =

@@ -282,11 +282,19 @@ read_again (Abort lsn txn prev) valid = of_fields (Abort lsn txn prev) tt valid
 read_again (End lsn txn prev) valid = of_fields (End lsn txn prev) tt valid
 read_again (BeginChkpt lsn) valid = ap BeginChkpt (from_le_bytes-to_le_bytes_8 lsn valid.fits)
 read_again (ChkptPages lsn begin (One a)) valid =
-    rw (entry_again lsn a valid.2, from_le_bytes-to_le_bytes_8 lsn valid.0.fits, from_le_bytes-to_le_bytes_8 begin
-        valid.1.place.fits) refl
+    rw (
+      entry_again lsn a valid.2,
+      from_le_bytes-to_le_bytes_8 lsn valid.0.fits,
+      from_le_bytes-to_le_bytes_8 begin
+          valid.1.place.fits,
+    ) refl
 read_again (ChkptPages lsn begin (Two a b)) valid =
-    rw (entry_again lsn a valid.2.0, entry_again lsn b valid.2.1, from_le_bytes-to_le_bytes_8 lsn valid.0.fits,
-        from_le_bytes-to_le_bytes_8 begin valid.1.place.fits) refl
+    rw (
+      entry_again lsn a valid.2.0,
+      entry_again lsn b valid.2.1,
+      from_le_bytes-to_le_bytes_8 lsn valid.0.fits,
+      from_le_bytes-to_le_bytes_8 begin valid.1.place.fits,
+    ) refl
 read_again (ChkptPages lsn begin (Three a b c)) valid =
     rw (
       entry_again lsn a valid.2.0,

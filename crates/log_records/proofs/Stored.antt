@@ -43,7 +43,7 @@ past_is_older log p page valid past =
     let rises = lsn_rises_by log valid p k (length rs - k) (omega arith) in
     let now : image (take (k + (length rs - k)) rs) p ≡ image rs p =
     ap (λ (n : ℕ). image (take n rs) p) sum
-        ∙ ap (λ (xs : List Record). image xs p) (take_all (length rs) rs (omega arith)) in
+    ∙ ap (λ (xs : List Record). image xs p) (take_all (length rs) rs (omega arith)) in
     subst (λ (q : Page). page.lsn ≤ q.lsn) now
     (subst (λ (q : Page). q.lsn ≤ (image (take (k + (length rs - k)) rs) p).lsn) (sym past.made) rises)
 

@@ -144,7 +144,7 @@ none_below : (rs : List Record) (from lsn : ℕ) → All (λ r. own_lsn r < from
 none_below [] from lsn all = refl
 none_below (r ∷ rs) from lsn all =
     ap (λ (b : Bool). cond (b && is_above lsn r) (r ∷ filter (is_resumed from lsn) rs)
-        (filter (is_resumed from lsn) rs))
+    (filter (is_resumed from lsn) rs))
     (lt-leb from (own_lsn r) (All-head (λ r. own_lsn r < from) r rs all))
     ∙ none_below rs from lsn (All-tail (λ r. own_lsn r < from) r rs all)
 
@@ -153,7 +153,7 @@ same_above : (rs : List Record) (from lsn : ℕ) → All (λ r. from ≤ own_lsn
 same_above [] from lsn all = refl
 same_above (r ∷ rs) from lsn all =
     ap (λ (b : Bool). cond (b && is_above lsn r) (r ∷ filter (is_resumed from lsn) rs)
-        (filter (is_resumed from lsn) rs))
+    (filter (is_resumed from lsn) rs))
     (le-leb from (own_lsn r) (All-head (λ r. from ≤ own_lsn r) r rs all))
     ∙ ap (λ (xs : List Record). cond (is_above lsn r) (r ∷ xs) xs)
     (same_above rs from lsn (All-tail (λ r. from ≤ own_lsn r) r rs all))
@@ -177,7 +177,7 @@ resumed log from k page valid low high le =
     by_own_lsn page (drop k rs) (64 * k) (rises_from log valid k (drop k rs) refl)
     ∙ ap (image_from page) (sym (same_above (drop k rs) from lsn behind)
     ∙ ap (λ (xs : List Record). xs ++ filter (is_resumed from lsn) (drop k rs))
-        (sym (none_below (take k rs) from lsn before))
+    (sym (none_below (take k rs) from lsn before))
     ∙ sym (filter-append (is_resumed from lsn) (take k rs) (drop k rs))
     ∙ ap (filter (is_resumed from lsn)) (take-append-drop k rs))
 
@@ -233,6 +233,6 @@ within_part log k valid = λ i d lt.
     let rs = log.records in
     let n = length rs - k in
     let long : length (take n (drop k rs)) ≡ min n (length rs - k) = length-take n (drop k rs)
-        ∙ ap (min n) (length-drop k rs) in
+    ∙ ap (min n) (length-drop k rs) in
     let below : i < n = omega arith in
     rw (get_or-take n (drop k rs) i d below, get_or-drop k rs i d) (valid.records (k + i) d (omega arith)).within

@@ -94,6 +94,6 @@ next_from_is rs table from of =
   where
     at : (o : Option ℕ) → IfSome o (λ t. is_open rs t ≡ true)
         → option_map state_of (option_and_then (entry_in (table_of rs)) o)
-            ≡ option_map (λ t. state_of (entry_of rs t)) o
+        ≡ option_map (λ t. state_of (entry_of rs t)) o
     at None h = refl
     at (Some t) h = ap (option_map state_of) (entry_in-table_of rs t ∙ ap (λ b. cond b (Some (entry_of rs t)) None) h)

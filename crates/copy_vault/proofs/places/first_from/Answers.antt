@@ -16,7 +16,7 @@ all_below places middle n box rise lt is small k d up =
     let within : middle < length vs = omega (arith, length-map places (λ place. place.value)) in
     let at : get_or vs middle d ≡ box.value =
     get_or-map (λ (b : Box Page Global). b.value) places middle box d lt
-        ∙ ap (λ (b : Box Page Global). b.value) (sym is) in
+    ∙ ap (λ (b : Box Page Global). b.value) (sym is) in
     let number = ap (λ (p : Page). p.number) at in
     elim (cases_lt k middle) [
       | inl less ↦ let rises = rise k middle d less within in omega (arith, rises, number, small)

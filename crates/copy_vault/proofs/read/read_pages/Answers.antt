@@ -106,7 +106,7 @@ returns-then-filled-gt0-clause-first g c =
     ∙ sym (append_assoc read (take whole bytes) pending) in
     let some = c.if-filled-gt0.true in
     let full : h.taken ≤ length (taken_pages new) = let past = c.if-taken-header.true in omega
-        (arith, c.taken.ensures) in
+    (arith, c.taken.ensures) in
     let long : 0 < length pending = omega (
       arith,
       length-drop whole bytes,

@@ -8,7 +8,7 @@ use Rattle.copy_vault.proofs.read.take_pages.Goals as goal
 -- the first pages, the next one, and the rest
 parts : (bytes rest : List ℕ) (i : ℕ) → take (512 * i) bytes
     ++ (take (512 * i + 512 - 512 * i) (drop (512 * i) bytes)
-        ++ (drop 512 (drop (512 * i) bytes) ++ rest)) ≡ bytes ++ rest
+    ++ (drop 512 (drop (512 * i) bytes) ++ rest)) ≡ bytes ++ rest
 parts bytes rest i =
     let wide : 512 * i + 512 - 512 * i ≡ 512 = omega arith in
     let behind = drop (512 * i) bytes in

@@ -61,7 +61,7 @@ loop-number-preserved g c =
             Appends-trans _ _ _ sent out.sent inv.sent.1.1.0 out.written,
             ap (λ (bs : List ℕ). (sent ++ out.sent) ++ bs) put.bytes
                 ∙ more_filled sent out.sent (take left old) (take filled old) page
-                    (take 64 c.args.buffer.now) slots number
+                (take 64 c.args.buffer.now) slots number
                 below out.all (ap volume_bytes c.page.ensures) inv.sent.1.1.1,
           ),
         ),

@@ -13,7 +13,7 @@ returns-clause-held c =
     let taken : Taken c.args.claims.now c.take.new.self change.page change.slot c.args.seat c.kind-kind.result before =
     rw c.in-Some.is at c.in_ok-before.ensures.ok in
     let items : c.push.new.self.items ≡ c.args.pending.now.items
-        ++ record { change = change; before = before } ∷ [] = grind (arith, common_steps) in
+    ++ record { change = change; before = before } ∷ [] = grind (arith, common_steps) in
     subst (λ ps. IsHeld c.take.new.self c.args.seat ps) (sym items)
     (held-push c.args.claims.now c.take.new.self c.args.seat c.args.pending.now.items change before
     c.requires.seat c.requires.held taken.was

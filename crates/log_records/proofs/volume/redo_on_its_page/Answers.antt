@@ -17,7 +17,7 @@ returns-in-Some c =
     ap (λ (x : PageChange). x.page) c.change-in-Some.view_is in
     let within : change.page < length pages =
     subst (λ (o : Option PageChange). IfSome o (λ x. x.page < length pages)) here
-        (change_within (length pages) r c.requires.within) in
+    (change_within (length pages) r c.requires.within) in
     ap (λ (n : ℕ). set pages n c.redo_on.new.page) number
     ∙ ap (set pages change.page) (c.redo_on.ensures
     ∙ ap (λ (n : ℕ). with_record (get_or pages n c.index-pages-change.result) r) number)

@@ -11,7 +11,7 @@ use Rattle.log_store.proofs.scan.take_record.Goals as goal
 pub returns-then-count-ge-MAX_RECORDS-clause-first : goal.returns-then-count-ge-MAX_RECORDS-clause-first
 returns-then-count-ge-MAX_RECORDS-clause-first g c = λ given rest taken.
     taken_too_long g.S.RecordSink.holds c.args.sink.now c.args.history.now c.args.pages c.args.count given
-        taken _ (omega arith)
+    taken _ (omega arith)
     (omega (arith, length-append c.args.bytes.now rest))
 
 -- how many pages the history has
@@ -24,7 +24,7 @@ pub follow-requires-clause-within : goal.follow-requires-clause-within
 follow-requires-clause-within g c =
     subst (λ (n : ℕ). IsWithin n c.in-Some.record)
     (sym (count g.S.RecordSink.holds c.args.sink.now c.args.history.now c.args.pages c.args.count _
-        c.requires.so_far.1))
+    c.requires.so_far.1))
     c.in-Some.ensures.found.0.within
 
 pub returns-in_default-clause-first : goal.returns-in_default-clause-first
@@ -39,7 +39,7 @@ returns-then-not-branch-clause-first g c = λ given rest taken.
     let within : IsWithin taken.log.pages r = subst (λ (n : ℕ). IsWithin n r)
     (sym taken.pages_are) c.in-Some.ensures.found.0.within in
     taken_bad_chain g.S.RecordSink.holds c.args.sink.now made c.args.pages c.args.count given taken r
-        c.args.bytes.now rest
+    c.args.bytes.now rest
     (omega arith)
     c.in-Some.ensures.found.0 c.in-Some.ensures.found.1
     (λ may. let yes = c.in_ok-follow.ensures.refused (may_come taken.log made r taken.made_of
@@ -68,7 +68,7 @@ returns-clause-ok g c = λ given taken.
     let may = may_follow taken.log old r taken.made_of taken.spells.valid
     c.in-Some.ensures.found.0.valid within said.0 in
     let valid = valid_with g.S.RecordSink.holds c.args.sink.now old c.args.pages c.args.count given
-        taken r (omega arith)
+    taken r (omega arith)
     c.in-Some.ensures.found.0 in
     taken_next g.S.RecordSink.holds c.args.sink.now old c.args.pages c.args.count given taken c.take.new.self new r
     c.args.bytes.now (omega arith) c.in-Some.ensures.found.0 c.in-Some.ensures.found.1 may

@@ -7,7 +7,7 @@ pub loop-record-preserved : goal.loop-record-preserved
 loop-record-preserved c =
     let step =
     redo-step c.args.page.now c.args.page.now.lsn c.args.records.now c.loop-record.record-index c.record-item.result
-        c.loop-record-test.true c.record-item.is
+    c.loop-record-test.true c.record-item.is
     c.loop-record.page c.if-is_above.page in
     elim c.if-is_above.branch [
       | then-is_above w ↦ step true c.loop-record.invariant (sym w.if-is_above.true ∙ c.is_above.ensures)

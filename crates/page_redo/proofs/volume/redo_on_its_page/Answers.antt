@@ -18,7 +18,7 @@ returns-then-is_above c =
     ap (λ (x : PageChange). x.page) c.change-in-Some.view_is in
     let within : change.page < length pages =
     subst (λ (o : Option PageChange). IfSome o (λ x. x.page < length pages)) here
-        (change_within (length pages) r c.requires.within) in
+    (change_within (length pages) r c.requires.within) in
     let old = get_or pages c.change-in-Some.inside.0.0.0 c.index-pages-change.result in
     let test : true ≡ is_above old.lsn r = sym c.if-is_above.true ∙ c.is_above.ensures in
     ap (set pages c.change-in-Some.inside.0.0.0) (c.redo_on.ensures
@@ -36,7 +36,7 @@ returns-else-is_above c =
     ap (λ (x : PageChange). x.page) c.change-in-Some.view_is in
     let within : change.page < length pages =
     subst (λ (o : Option PageChange). IfSome o (λ x. x.page < length pages)) here
-        (change_within (length pages) r c.requires.within) in
+    (change_within (length pages) r c.requires.within) in
     let old = get_or pages c.change-in-Some.inside.0.0.0 c.index-pages-change.result in
     let test : false ≡ is_above old.lsn r = sym c.if-is_above.false ∙ c.is_above.ensures in
     ap (λ (b : Bool). set pages c.change-in-Some.inside.0.0.0 (cond b (with_record old r) old)) test

@@ -8,5 +8,11 @@ append-requires g c =
     let lsn : c.end-lsn.result ≡ end c.args.self.now.state =
     c.end-lsn.ensures ∙ ap (λ (v : EngineView g.row.S.Denot g.row.D.Denot). end v.state) c.self.view_is in
     let prev = c.in_ok-prev.ensures.last in
-    record { of_transaction = tt; call = event.Abort c.args.txn; fits = tt; accepted = c.in_ok-prev.ensures.active; made
-        = rw (lsn, prev) refl }
+    record {
+      of_transaction = tt;
+      call = event.Abort c.args.txn;
+      fits = tt;
+      accepted = c.in_ok-prev.ensures.active;
+      made
+          = rw (lsn, prev) refl;
+    }

@@ -18,7 +18,7 @@ note-requires g c =
     let s = (engine_view g.S.PageStore.stored it.log it.pool (media_view it.master it.session it.vault.copies)).state in
     let calls : Calls s c.args.next =
     subst (λ (v : EngineView g.row.S.Denot g.row.D.Denot). Calls v.state c.args.next)
-        (sym c.self.view_is) c.requires in (
+    (sym c.self.view_is) c.requires in (
       s.log,
       (
         c.self.invariant.table_of_log,
@@ -35,7 +35,7 @@ append-requires-clause-stands g c =
     subst (λ (v : EngineView g.row.S.Denot g.row.D.Denot). Calls v.state c.args.next) (sym c.self.view_is) c.requires in
     subst (λ (l : Log). StandsAt l.pages (lsn_of (length l.records)) c.args.next) (sym c.make_room.ensures.same)
     (comes g.S.PageStore.stored s it.txns it.pool (media_view it.master it.session it.vault.copies) c.args.next
-        c.self.invariant calls).stands_at
+    c.self.invariant calls).stands_at
 
 pub append-requires-clause-few : goal.append-requires-clause-few
 append-requires-clause-few g c =
@@ -44,7 +44,7 @@ append-requires-clause-few g c =
     let calls : Calls s c.args.next =
     subst (λ (v : EngineView g.row.S.Denot g.row.D.Denot). Calls v.state c.args.next) (sym c.self.view_is) c.requires in
     let few = (comes g.S.PageStore.stored s it.txns it.pool (media_view it.master it.session it.vault.copies)
-        c.args.next c.self.invariant calls).few in
+    c.args.next c.self.invariant calls).few in
     omega (arith, few, ap (λ (l : Log). length l.records) c.make_room.ensures.same)
 
 pub change-requires : goal.change-requires
@@ -53,7 +53,7 @@ change-requires g c =
     let s = (engine_view g.S.PageStore.stored it.log it.pool (media_view it.master it.session it.vault.copies)).state in
     let calls : Calls s c.args.next =
     subst (λ (v : EngineView g.row.S.Denot g.row.D.Denot). Calls v.state c.args.next)
-        (sym c.self.view_is) c.requires in (
+    (sym c.self.view_is) c.requires in (
       log_of s,
       (
         c.self.invariant.pool_of_log,
@@ -71,7 +71,7 @@ invariant_of-self-2 g c =
     let calls : Calls s r =
     subst (λ (v : EngineView g.row.S.Denot g.row.D.Denot). Calls v.state r) (sym c.self.view_is) c.requires in
     let come = comes stored s it.txns it.pool (media_view it.master it.session it.vault.copies) r
-        c.self.invariant calls in
+    c.self.invariant calls in
     let state = appended_is stored it.log c.make_room.new.self c.append.new.self it.pool c.change.new.self
     (media_view it.master it.session it.vault.copies) r
     c.make_room.ensures.same c.make_room.ensures.forced_end c.append.ensures.next c.append.ensures.forced_end
@@ -80,6 +80,6 @@ invariant_of-self-2 g c =
     s.log c.self.invariant.table_of_log come.may_follow in
     let changed = c.change.ensures.kept (log_of s) c.self.invariant.pool_of_log come.valid in
     subst (λ (t : EngineState). IsKept stored t c.note.new.self c.change.new.self
-        (media_view it.master it.session it.vault.copies)) (sym state)
+    (media_view it.master it.session it.vault.copies)) (sym state)
     (kept_next stored s it.txns c.note.new.self it.pool c.change.new.self
-        (media_view it.master it.session it.vault.copies) r c.self.invariant calls noted changed)
+    (media_view it.master it.session it.vault.copies) r c.self.invariant calls noted changed)

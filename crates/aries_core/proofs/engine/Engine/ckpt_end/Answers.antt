@@ -19,7 +19,7 @@ invariant_of-self-in-Err-LogFault g c =
     subst (λ (v : EngineView g.row.S.Denot g.row.D.Denot). refusal v.state event.CkptEnd ≡ None)
     (sym c.self.view_is) c.in_ok-find_gathered.ensures.gathered in
     (ckpt_unforced stored it.log c.finish.new.log it.txns it.pool ckpts
-        (media_view it.master c.take.new.self it.vault.copies)
+    (media_view it.master c.take.new.self it.vault.copies)
     (gathered_ckpt c.in-Some-into_gathered.ckpt) c.self.invariant none
     (ap (option_map view_of) (sym c.take.ensures.value ∙ c.in-Some.is) ∙ ap Some (sym c.in-Some-into_gathered.ensures))
     (subst (FailsAs it.log c.finish.new.log c.in-Some-into_gathered.ckpt) c.in-Err-LogFault.field-0-is
@@ -34,9 +34,9 @@ invariant_of-self-2 g c =
     subst (λ (v : EngineView g.row.S.Denot g.row.D.Denot). refusal v.state event.CkptEnd ≡ None)
     (sym c.self.view_is) c.in_ok-find_gathered.ensures.gathered in
     (ckpt_ended stored it.log c.finish.new.log it.txns it.pool ckpts
-        (media_view (Some c.in-Ok.point) c.take.new.self it.vault.copies)
+    (media_view (Some c.in-Ok.point) c.take.new.self it.vault.copies)
     (gathered_ckpt c.in-Some-into_gathered.ckpt) c.in-Ok.point c.self.invariant none
     (ap (option_map view_of) (sym c.take.ensures.value ∙ c.in-Some.is) ∙ ap Some (sym c.in-Some-into_gathered.ensures))
     c.in-Ok.ensures.logged c.in-Ok.ensures.forced
-        (ap (λ o. media_view (Some c.in-Ok.point) o it.vault.copies) c.take.ensures.after)
+    (ap (λ o. media_view (Some c.in-Ok.point) o it.vault.copies) c.take.ensures.after)
     c.in-Ok.ensures.point).kept

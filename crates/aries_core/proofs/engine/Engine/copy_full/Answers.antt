@@ -18,5 +18,5 @@ invariant_of-self-2 g c =
     copies_kept stored it.log it.txns it.pool it.pool media c.open_full.new.self.copies event.CopyFull
     (Ok (answer.Copied c.in_ok-open_full.field-0)) c.self.invariant tt c.self.invariant.pool_of_log
     (full_step s c.open_full.new.self.copies c.pages-pages.result c.in_ok-open_full.field-0
-        c.in-Some.master c.in-Some.is ok.ok
+    c.in-Some.master c.in-Some.is ok.ok
     (c.pages-pages.ensures.stored ∙ c.self.invariant.fit.counted.stored) ok.id ok.opened)

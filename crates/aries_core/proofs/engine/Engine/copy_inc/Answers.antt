@@ -15,7 +15,7 @@ inc_made : (g : given.Over) (c : goal.In_ok-open_inc g) → Step (engine_view g.
     (event.CopyInc c.args.parent) (Ok (answer.Copied c.in_ok-open_inc.field-0))
     (with_copies (engine_view g.S.PageStore.stored c.self.inside.log c.self.inside.pool
     (media_view c.self.inside.master c.self.inside.session c.self.inside.vault.copies)).state
-        c.open_inc.new.self.copies)
+    c.open_inc.new.self.copies)
 inc_made g c =
     let it = c.self.inside in
     let s = (engine_view g.S.PageStore.stored it.log it.pool (media_view it.master it.session it.vault.copies)).state in
@@ -24,14 +24,14 @@ inc_made g c =
     c.in_ok-open_inc.field-0 c.self.invariant.fit ok.ok
     (c.noted_begin-begin.ensures ∙ ap (λ v. option_map_or (λ p. p.begin) v.state.master 0) (sym c.self.view_is))
     (c.noted_redo-redo.ensures
-        ∙ ap (λ v. option_map_or (λ p. p.redo) v.state.master 0) (sym c.self.view_is)) ok.id ok.opened
+    ∙ ap (λ v. option_map_or (λ p. p.redo) v.state.master 0) (sym c.self.view_is)) ok.id ok.opened
 
 pub invariant_of-self-2 : goal.invariant_of-self-2
 invariant_of-self-2 g c =
     let it = c.self.inside in
     copies_kept g.S.PageStore.stored it.log it.txns it.pool it.pool (media_view it.master it.session it.vault.copies)
     c.open_inc.new.self.copies (event.CopyInc c.args.parent)
-        (Ok (answer.Copied c.in_ok-open_inc.field-0)) c.self.invariant tt
+    (Ok (answer.Copied c.in_ok-open_inc.field-0)) c.self.invariant tt
     c.self.invariant.pool_of_log (inc_made g c)
 
 pub returns-clause-step : goal.returns-clause-step

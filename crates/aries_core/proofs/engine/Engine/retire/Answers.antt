@@ -19,8 +19,8 @@ new-requires g c =
       copies = it.vault.copies;
     })) (sym c.into_parts-log.ensures.log)
     (subst (λ (end : ℕ). IsRetired
-        (record { log = it.log.log; forced_end = end; master = c.master_of.result; copies = it.vault.copies }))
+    (record { log = it.log.log; forced_end = end; master = c.master_of.result; copies = it.vault.copies }))
     (sym c.forced_end-forced_end.ensures.end)
     (subst (λ (m : Option Master). IsRetired
-        (record { log = it.log.log; forced_end = it.log.forced_end; master = m; copies = it.vault.copies }))
+    (record { log = it.log.log; forced_end = it.log.forced_end; master = m; copies = it.vault.copies }))
     (sym c.master_of.ensures) (left_by s c.self.invariant.fit)))

@@ -21,7 +21,7 @@ decide-requires-clause-there g c =
     let s = (engine_view g.S.PageStore.stored it.log it.pool (media_view it.master it.session it.vault.copies)).state in
     take_room s c.make_room.new.self.copies c.args.copy c.args.page c.self.invariant.fit
     (subst (λ v. refusal v.state (event.Take c.args.copy c.args.page) ≡ None) (sym c.self.view_is)
-        c.in_ok-find_takeable.ensures.free)
+    c.in_ok-find_takeable.ensures.free)
     c.make_room.ensures.copies
 
 take_made : (g : given.Over) (c : goal.Joined-decide g) → Step (engine_view g.S.PageStore.stored c.self.inside.log
@@ -36,7 +36,7 @@ take_made g c =
     let s = (engine_view stored it.log it.pool media).state in
     let none : refusal s (event.Take c.args.copy c.args.page) ≡ None =
     subst (λ v. refusal v.state (event.Take c.args.copy c.args.page) ≡ None) (sym c.self.view_is)
-        c.in_ok-find_takeable.ensures.free in
+    c.in_ok-find_takeable.ensures.free in
     let same = c.make_room.ensures.copies in
     let page = c.in-Ok.stored in
     let answered = c.decide.ensures.answer ∙ ap (λ cs. answer_in cs (state_of cs c.args.copy) page) same in
@@ -44,7 +44,7 @@ take_made g c =
     let step = take_step s c.decide.new.self.copies c.args.copy c.args.page page c.decide.result
     (take_answer c.decide.result page) none c.in-Ok.ensures.found answered made refl in
     let reply : reply_of took_answer c.match-decide.result
-        ≡ Ok (take_answer c.decide.result page) = elim c.match-decide.branch [
+    ≡ Ok (take_answer c.decide.result page) = elim c.match-decide.branch [
       | in-Taken w ↦ ap (reply_of took_answer) w.result-is ∙ ap (λ d. Ok (take_answer d page)) (sym w.in-Taken.is)
       | in-Kept w ↦ ap (reply_of took_answer) w.result-is ∙ ap (λ d. Ok (take_answer d page)) (sym w.in-Kept.is)
     ] in
@@ -52,7 +52,7 @@ take_made g c =
     (media_view it.master it.session c.decide.new.self.copies)).state) (sym reply)
     (subst (Step s (event.Take c.args.copy c.args.page) (Ok (take_answer c.decide.result page)))
     (sym (asked_is stored it.log it.pool c.stored.new.self media c.decide.new.self.copies c.in-Ok.ensures.same
-        c.in-Ok.ensures.rest))
+    c.in-Ok.ensures.rest))
     step)
 
 pub invariant_of-self-2 : goal.invariant_of-self-2
@@ -61,7 +61,7 @@ invariant_of-self-2 g c =
     let stored = g.S.PageStore.stored in
     copies_kept stored it.log it.txns it.pool c.stored.new.self (media_view it.master it.session it.vault.copies)
     c.decide.new.self.copies (event.Take c.args.copy c.args.page)
-        (reply_of took_answer c.match-decide.result) c.self.invariant tt
+    (reply_of took_answer c.match-decide.result) c.self.invariant tt
     (c.in-Ok.ensures.kept it.log.log c.self.invariant.pool_of_log) (take_made g c)
 
 pub returns-clause-step : goal.returns-clause-step

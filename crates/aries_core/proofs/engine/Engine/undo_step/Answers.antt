@@ -21,10 +21,15 @@ append-requires g c =
     then last_of (pending c.args.self.now.state.log c.args.txn) else None) =
     c.last_pending.ensures _ c.self.invariant.table_of_log
     ∙ ap (λ (v : EngineView g.row.S.Denot g.row.D.Denot). if is_open v.state.log c.args.txn then last_of
-        (pending v.state.log c.args.txn) else None) c.self.view_is in
+    (pending v.state.log c.args.txn) else None) c.self.view_is in
     let last = of_open _ _ _ found c.in_ok-prev.ensures.still_open ∙ c.in-Some.is in
-    record { of_transaction = tt; call = event.UndoStep c.args.txn; fits = tt; accepted = c.in_ok-prev.ensures.rolling;
-        made = rw (lsn, prev, last, c.undo_of.ensures.inverse) refl }
+    record {
+      of_transaction = tt;
+      call = event.UndoStep c.args.txn;
+      fits = tt;
+      accepted = c.in_ok-prev.ensures.rolling;
+      made = rw (lsn, prev, last, c.undo_of.ensures.inverse) refl;
+    }
 
 pub append-requires-in-None : goal.append-requires-in-None
 append-requires-in-None g c =
@@ -35,7 +40,12 @@ append-requires-in-None g c =
     then last_of (pending c.args.self.now.state.log c.args.txn) else None) =
     c.last_pending.ensures _ c.self.invariant.table_of_log
     ∙ ap (λ (v : EngineView g.row.S.Denot g.row.D.Denot). if is_open v.state.log c.args.txn then last_of
-        (pending v.state.log c.args.txn) else None) c.self.view_is in
+    (pending v.state.log c.args.txn) else None) c.self.view_is in
     let last = of_open _ _ _ found c.in_ok-prev.ensures.still_open ∙ c.in-None.is in
-    record { of_transaction = tt; call = event.UndoStep c.args.txn; fits = tt; accepted = c.in_ok-prev.ensures.rolling;
-        made = rw (lsn, prev, last) refl }
+    record {
+      of_transaction = tt;
+      call = event.UndoStep c.args.txn;
+      fits = tt;
+      accepted = c.in_ok-prev.ensures.rolling;
+      made = rw (lsn, prev, last) refl;
+    }

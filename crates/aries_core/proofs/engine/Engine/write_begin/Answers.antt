@@ -22,7 +22,7 @@ said (Err e) P ok h = cc
 call : (g : given.Over) (c : goal.After-write_begin g)
     → Called g.S.PageStore.stored c.self.inside.log c.force_to.new.self c.self.inside.txns c.self.inside.pool
     c.write_begin.new.self (media_view c.self.inside.master c.self.inside.session c.self.inside.vault.copies)
-        (event.WriteBegin c.args.page)
+    (event.WriteBegin c.args.page)
     (Ok (answer.Writing c.write_begin.result))
 call g c =
     let it = c.self.inside in
@@ -39,7 +39,7 @@ call g c =
     let forced = said c.force_to.result _ (sym c.is_err.ensures.value ∙ c.if-is_err.false) c.force_to.ensures.forced in
     let number = c.in-Ok.ensures.numbered in
     begun stored it.log c.force_to.new.self it.txns it.pool c.write_begin.new.self
-        (media_view it.master it.session it.vault.copies) p c.write_begin.result q
+    (media_view it.master it.session it.vault.copies) p c.write_begin.result q
     c.self.invariant none within (c.in-Ok.ensures.image (log_of s) c.self.invariant.pool_of_log)
     c.write_begin.ensures.lsn c.force_to.ensures.same
     (forced ∙ ap (λ (x : Page). max it.log.forced_end (end_up_to it.log.log x.lsn)) c.page.ensures)
@@ -51,7 +51,7 @@ pub invariant_of-self : goal.invariant_of-self
 invariant_of-self g c =
     let it = c.self.inside in
     force_kept g.S.PageStore.stored it.log c.force_to.new.self it.txns it.pool
-        (media_view it.master it.session it.vault.copies)
+    (media_view it.master it.session it.vault.copies)
     c.self.invariant c.force_to.ensures.same c.force_to.ensures.rising c.force_to.ensures.at_record
 
 pub invariant_of-self-2 : goal.invariant_of-self-2

@@ -17,7 +17,7 @@ use Rattle.aries_core.proofs.engine.Engine.write_end.Goals as goal
 call : (g : given.Over) (c : goal.Joined-write_end g)
     → Called g.S.PageStore.stored c.self.inside.log c.self.inside.log c.self.inside.txns c.self.inside.pool
     c.write_end.new.self (media_view c.self.inside.master c.self.inside.session c.self.inside.vault.copies)
-        (event.WriteEnd c.args.page) (reply_of (λ lsn. answer.Written lsn) c.match-write_end.result)
+    (event.WriteEnd c.args.page) (reply_of (λ lsn. answer.Written lsn) c.match-write_end.result)
 call g c =
     let it = c.self.inside in
     let stored = g.S.PageStore.stored in
@@ -33,17 +33,17 @@ call g c =
     elim c.match-write_end.branch [
       | in-Ok w ↦
           subst (λ (r : Result Lsn Refusal). Called stored it.log it.log it.txns it.pool c.write_end.new.self
-              (media_view it.master it.session it.vault.copies)
+          (media_view it.master it.session it.vault.copies)
           (event.WriteEnd p) (reply_of (λ lsn. answer.Written lsn) r)) (sym w.result-is)
           (ended stored it.log it.txns it.pool c.write_end.new.self (media_view it.master it.session it.vault.copies) p
-              w.in-Ok.lsn c.self.invariant none within
+          w.in-Ok.lsn c.self.invariant none within
           w.in-Ok.ensures.lsn w.in-Ok.ensures.stored w.in-Ok.ensures.ended of_log)
       | in-Err w ↦
           subst (λ (r : Result Lsn Refusal). Called stored it.log it.log it.txns it.pool c.write_end.new.self
-              (media_view it.master it.session it.vault.copies)
+          (media_view it.master it.session it.vault.copies)
           (event.WriteEnd p) (reply_of (λ lsn. answer.Written lsn) r)) (sym w.result-is)
           (repeated stored it.log it.txns it.pool c.write_end.new.self (media_view it.master it.session it.vault.copies)
-              p c.self.invariant none within
+          p c.self.invariant none within
           w.in-Err.ensures.either w.in-Err.ensures.goes_on of_log)
     ]
 

@@ -9,7 +9,7 @@ index_mut-requires c =
     let at =
     places s.last_writes.items s.rec_lsns s.images.items s.first_changes.items c.args.self.now
     c.number.inside.0 c.args.image.number c.self.view_is c.self.invariant c.requires (c.number.view_is
-        ∙ ap (λ (q : Page). q.number) c.page.ensures) in
+    ∙ ap (λ (q : Page). q.number) c.page.ensures) in
     omega (arith, s.images.ok.0, at.in_images)
 
 pub index_mut-requires-2 : goal.index_mut-requires-2
@@ -18,7 +18,7 @@ index_mut-requires-2 c =
     let at =
     places s.last_writes.items s.rec_lsns s.images.items s.first_changes.items c.args.self.now
     c.number.inside.0 c.args.image.number c.self.view_is c.self.invariant c.requires (c.number.view_is
-        ∙ ap (λ (q : Page). q.number) c.page.ensures) in
+    ∙ ap (λ (q : Page). q.number) c.page.ensures) in
     omega (arith, s.first_changes.ok.0, at.in_firsts)
 
 pub returns : goal.returns

@@ -18,7 +18,7 @@ invariant_of-self g c =
     c.redo_on_its_page.ensures in
     let n = c.in-Some.change.page in
     whole_later (g.S.PageStore.stored it.store) it.frames.items
-        (with_items it.frames c.redo_on_its_page.new.pages).items
+    (with_items it.frames c.redo_on_its_page.new.pages).items
     it.states c.change-in-Some.new.self next c.self.invariant frames
     (ap (length {A = PageState}) c.change-in-Some.ensures
     ∙ length-set it.states n (changed (state_in it.states n) c.lsn.result))
@@ -31,7 +31,7 @@ invariant_of-self-in_default g c =
     frames_later it.frames c.deref_mut.result.now c.redo_on_its_page.new.pages next c.deref_mut.ensures.value
     c.redo_on_its_page.ensures in
     whole_later (g.S.PageStore.stored it.store) it.frames.items
-        (with_items it.frames c.redo_on_its_page.new.pages).items
+    (with_items it.frames c.redo_on_its_page.new.pages).items
     it.states it.states next c.self.invariant frames refl
 
 pub returns-in-Some-clause-kept : goal.returns-in-Some-clause-kept
@@ -49,7 +49,7 @@ returns-in-Some-clause-kept g c = λ log of valid.
     c.redo_on_its_page.ensures in
     let states : c.change-in-Some.new.self ≡ set it.states n (changed (state_in it.states n) (own_lsn next)) =
     changed_at it.states c.change-in-Some.new.self n c.lsn.result (own_lsn next)
-        c.change-in-Some.ensures c.lsn.ensures in
+    c.change-in-Some.ensures c.lsn.ensures in
     subst (λ (ss : List PageState). IsPoolOf stored_in log'
     (record { store = it.store; resident = (with_items it.frames c.redo_on_its_page.new.pages).items; states = ss }))
     (sym states)
@@ -102,7 +102,7 @@ returns-in-Some-clause-written g c =
     let states : it.states ≡ c.args.self.now.states = ap (λ (v : PoolView g.row.S.Denot). v.states) c.self.view_is in
     let here : n < length it.states = subst (λ (ss : List PageState). n < length ss) (sym states) there in
     written_changed it.states c.change-in-Some.new.self n c.lsn.result c.change-in-Some.ensures here
-        ∙ ap written_of states
+    ∙ ap written_of states
 
 pub returns-in-Some-clause-writing : goal.returns-in-Some-clause-writing
 returns-in-Some-clause-writing g c =
@@ -113,4 +113,4 @@ returns-in-Some-clause-writing g c =
     let states : it.states ≡ c.args.self.now.states = ap (λ (v : PoolView g.row.S.Denot). v.states) c.self.view_is in
     let here : n < length it.states = subst (λ (ss : List PageState). n < length ss) (sym states) there in
     writing_changed it.states c.change-in-Some.new.self n c.lsn.result c.change-in-Some.ensures here
-        ∙ ap writing_of states
+    ∙ ap writing_of states

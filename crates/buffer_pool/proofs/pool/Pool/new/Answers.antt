@@ -12,8 +12,13 @@ use Rattle.buffer_pool.proofs.pool.Pool.new.Goals as goal
 pub new-requires : goal.new-requires
 new-requires g c =
     let n = c.requires.0 in
-    omega (arith, c.requires.1.0.most, c.pages-count.ensures.count, ap length c.requires.1.1,
-        length-map-range_with_len formatted 0 n)
+    omega (
+      arith,
+      c.requires.1.0.most,
+      c.pages-count.ensures.count,
+      ap length c.requires.1.1,
+      length-map-range_with_len formatted 0 n,
+    )
 
 pub invariant_of-result : goal.invariant_of-result
 invariant_of-result g c =

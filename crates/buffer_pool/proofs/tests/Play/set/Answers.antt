@@ -18,6 +18,6 @@ invariant_of-self g c =
     let old : IsLog log = search rules in
     let stands : StandsAt log.pages (lsn_of (length log.records)) next = search rules in
     let more : length (log.records ++ next ∷ [])
-        ≡ c.self.inside.records + 1 = omega (arith, length_push log.records next, count) in
+    ≡ c.self.inside.records + 1 = omega (arith, length_push log.records next, count) in
     let valid : IsLog (with_next log (next ∷ [])) = next_is_log log next old (omega arith) stands in
     (with_next log (next ∷ []), (c.change.ensures.kept log c.self.invariant.1.0 valid, more))

@@ -18,7 +18,7 @@ lay_over-requires c =
     let items = c.loop-i.pages.items in
     let here = at_ref refs i copy c.index-in-loop-i.ensures in
     let wide : length members ≡ c.len-i-end.result = length-map refs (λ r. r.now)
-        ∙ omega (arith, c.len-i-end.ensures) in
+    ∙ omega (arith, c.len-i-end.ensures) in
     let lt : i < length members = omega arith in
     let some : 1 ≤ i = omega arith in
     let so_far = c.loop-i.invariant.so_far ∙ ap (λ (ms : List CopyView). contents (take i ms)) (sym c.self.view_is) in
@@ -39,7 +39,7 @@ loop-i-preserved c =
     let new = c.lay_over.new.pages in
     let here = at_ref refs i copy c.index-in-loop-i.ensures in
     let wide : length members ≡ c.len-i-end.result = length-map refs (λ r. r.now)
-        ∙ omega (arith, c.len-i-end.ensures) in
+    ∙ omega (arith, c.len-i-end.ensures) in
     let lt : i < length members = omega arith in
     let some : 1 ≤ i = omega arith in
     let so_far = c.loop-i.invariant.so_far ∙ ap (λ (ms : List CopyView). contents (take i ms)) (sym c.self.view_is) in
@@ -47,7 +47,7 @@ loop-i-preserved c =
     omega (arith, c.lay_over.auto.pages, ap length c.deref_mut.ensures.value, c.loop-i.pages.ok.0) in
     let back = take_at new (drop (length new) items) c.loop-i.pages.len count in
     let over = subst (λ (xs : List (Bor Page)). AreLaidOver copy.now.pages (lent xs) (lent new))
-        c.deref_mut.ensures.value
+    c.deref_mut.ensures.value
     c.lay_over.ensures in
     record {
       so_far = ap lent back

@@ -28,7 +28,7 @@ returns c =
     let ds = decisions_of pages it.count in
     let old = lent c.args.pages.now in
     let made = c.lay_over.ensures
-        ∙ ap (λ (boxes : List (Box Page Global)). laid (values boxes) old) c.deref.ensures.value in
+    ∙ ap (λ (boxes : List (Box Page Global)). laid (values boxes) old) c.deref.ensures.value in
     subst (λ (ds : List PageDecision). AreLaidOver ds old (lent c.lay_over.new.pages)) c.self.view_is
     (subst (AreLaidOver ds old) (sym made) (laid_over ds pages old (rising_taken pages it.count c.self.invariant)
     (λ p page e. rising_all pages it.count p page e)))

@@ -56,7 +56,7 @@ returns-else-place-len c =
     same c.first_from-place.ensures.before in
     let least = subst
     (λ (boxes : List (Box Page Global)). (d : Page) → k < length (values boxes)
-        → n ≤ (get_or (values boxes) k d).number)
+    → n ≤ (get_or (values boxes) k d).number)
     same c.first_from-place.ensures.at in
     let wide = length-map places (λ place. place.value) in
     let apart : k < length pages → (get_or pages k d).number ≢ n =

@@ -14,6 +14,14 @@ overflow_cast-result c =
     let same : length pages ≡ length it.places.items = length-map it.places.items (λ place. place.value) in
     let wide = length_of pages it.count in
     let fits : c.len.result < 2 ^ 32 =
-    omega (arith, few, counted, same, wide, count_within (decisions_of pages it.count),
-        c.len.ensures, it.places.ok.0) in
+    omega (
+      arith,
+      few,
+      counted,
+      same,
+      wide,
+      count_within (decisions_of pages it.count),
+      c.len.ensures,
+      it.places.ok.0,
+    ) in
     search rules

@@ -14,7 +14,7 @@ overflow_sub-self c =
     let none : decision_at (decisions_by pages marks) n ≡ undecided =
     rw (c.number.view_is, c.self.view_is) c.requires.undecided in
     let some = some_left marks pages c.self.inside.left (vec_capacity c.self.inside.places) n
-        c.self.invariant there none in
+    c.self.invariant there none in
     search rules
 
 pub invariant_of-self : goal.invariant_of-self

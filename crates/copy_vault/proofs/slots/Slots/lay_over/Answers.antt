@@ -29,7 +29,7 @@ returns c =
     let ds = decisions_by pages it.marks.items in
     let old = lent c.args.pages.now in
     let made = c.lay_over.ensures
-        ∙ ap (λ (boxes : List (Box Page Global)). laid (values boxes) old) c.deref.ensures.value in
+    ∙ ap (λ (boxes : List (Box Page Global)). laid (values boxes) old) c.deref.ensures.value in
     subst (λ (ds : List PageDecision). AreLaidOver ds old (lent c.lay_over.new.pages)) c.self.view_is
     (subst (AreLaidOver ds old) (sym made) (laid_over ds pages old (c.self.invariant.stands)
     (λ p page e. marked_all it.marks.items pages it.left (vec_capacity it.places) p page c.self.invariant e)))

@@ -47,7 +47,7 @@ loop-parent-preserved c =
           (sym (ap (λ refs. reverse (lent refs)) c.in_ok-push.ensures.items
           ∙ lent_back c.loop-parent.members.items c.loop-parent.copy))
           (tail_more copies c.args.id other copy (reverse (lent c.loop-parent.members.items))
-              c.loop-parent.invariant.tail
+          c.loop-parent.invariant.tail
           c.in-Inc.ensures.complete next (ap (state_of copies) there.kept.id_is ∙ there.ok));
     }
 
@@ -59,7 +59,7 @@ new-requires c =
     let full = is_full copy.kind (λ parent e. c.in_default.not-Inc parent (c.kind.ensures.kind ∙ e)) in
     subst IsChain
     (sym (ap lent (c.reverse.ensures.items ∙ ap reverse c.in_ok-push-2.ensures.items)
-        ∙ reversed refs c.loop-parent.copy))
+    ∙ reversed refs c.loop-parent.copy))
     (tail_whole copies c.args.id copy (reverse (lent refs)) c.loop-parent.invariant.tail c.kind.ensures.complete full)
 
 pub returns-clause-found : goal.returns-clause-found

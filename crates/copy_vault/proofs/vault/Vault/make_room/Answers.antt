@@ -27,7 +27,7 @@ invariant_of-self c =
     let made = c.make_room.ensures in
     vault_read entries (c.id.inside.0 - 1) c.in-Reading.copy c.make_room.new.self c.self.invariant there.0.there
     (there.1 ∙ c.in-Reading.is) (ap (λ (copy : CopyView). copy.id) made.copy)
-        (ap (λ (copy : CopyView). copy.kind) made.copy)
+    (ap (λ (copy : CopyView). copy.kind) made.copy)
     (ap (λ (copy : CopyView). length copy.pages) made.copy) made.since
 
 pub returns-clause-room : goal.returns-clause-room

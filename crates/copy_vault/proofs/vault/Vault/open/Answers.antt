@@ -18,7 +18,7 @@ invariant_of-self-2 c =
     let kind_is : it.copy.kind ≡ kind = ap (λ (r : ReadingView). r.copy.kind) made in
     let count : c.len-count.result ≡ length entries = omega arith in
     let id_is : it.copy.id ≡ length entries + 1 = ap (λ (r : ReadingView). r.copy.id) made
-        ∙ ap (λ (n : ℕ). n + 1) count in
+    ∙ ap (λ (n : ℕ). n + 1) count in
     let pages : length it.copy.pages ≡ c.args.pages =
     ap (λ (r : ReadingView). length r.copy.pages) made ∙ length-replicate c.args.pages undecided in
     let parent : HasParent (map state_in entries) (length entries + 1) (length it.copy.pages) it.copy.kind =
@@ -28,7 +28,7 @@ invariant_of-self-2 c =
     (subst (λ (n : ℕ). HasParent c.args.self.now.copies (n + 1) c.args.pages kind) long c.requires.parent))) in
     let since : it.since ≡ since_of (map state_in entries) it.copy.kind =
     ap (λ (r : ReadingView). r.since) made ∙ c.requires.since
-        ∙ ap (λ (cs : List CopyState). since_of cs kind) (sym same)
+    ∙ ap (λ (cs : List CopyState). since_of cs kind) (sym same)
     ∙ ap (since_of (map state_in entries)) (sym kind_is) in
     let room : length entries < 1024 = omega (arith, count) in
     rw c.in_ok-push.ensures.items

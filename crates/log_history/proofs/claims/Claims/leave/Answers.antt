@@ -10,7 +10,7 @@ returns-then-not-before c =
     let before = c.args.self.now in
     leaves before (record { marks = before.marks; adders = c.put.new.self }) c.args.page c.args.slot c.args.seat
     c.args.before c.with-adders.result c.requires.held c.requires.weaker
-        (not-true c.args.before.against_sets c.if-not-before.true)
+    (not-true c.args.before.against_sets c.if-not-before.true)
     (λ other within. c.with-adders.ensures other within
     ∙ ap (λ s. cond (eqb other c.args.seat) false (has_seat s other)) c.seats.ensures)
     (sure_ok c.put.result c.put.ensures.put c.put.ensures.new_slot

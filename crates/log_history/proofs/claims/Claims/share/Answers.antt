@@ -21,7 +21,7 @@ pub returns-in_default-clause-ok : goal.returns-in_default-clause-ok
 returns-in_default-clause-ok c =
     let before = c.args.self.now in
     refused before before c.args.page c.args.slot c.args.seat c.args.kind
-        (One c.args.holder c.args.held) c.requires.held
+    (One c.args.holder c.args.held) c.requires.held
     (held-one c.args.holder c.args.seat c.args.held c.args.kind (seats_at before.adders c.args.page c.args.slot)
     c.requires.holder c.requires.other (λ held adds. cc)) (λ p s other. refl)
 
@@ -29,6 +29,6 @@ pub returns-in_default-2-clause-ok : goal.returns-in_default-2-clause-ok
 returns-in_default-2-clause-ok c =
     let before = c.args.self.now in
     refused before before c.args.page c.args.slot c.args.seat c.args.kind
-        (One c.args.holder c.args.held) c.requires.held
+    (One c.args.holder c.args.held) c.requires.held
     (held-one c.args.holder c.args.seat c.args.held c.args.kind (seats_at before.adders c.args.page c.args.slot)
     c.requires.holder c.requires.other (λ held adds. cc)) (λ p s other. refl)

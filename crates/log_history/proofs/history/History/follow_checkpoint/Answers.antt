@@ -20,6 +20,6 @@ returns-clause-taken c = λ yes.
       ap (λ t. let m : Made = record { table = old.txns; checkpoints = t; pages = old.pages.items } in m)
           c.in_ok-note.ensures.ok
           ∙ ap (λ (m : Made). let n : Made = record m
-              { checkpoints = noted_checkpoint m.checkpoints r } in n) c.self.view_is
+          { checkpoints = noted_checkpoint m.checkpoints r } in n) c.self.view_is
           ∙ sym after.1,
     )

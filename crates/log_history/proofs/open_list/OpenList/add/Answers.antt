@@ -23,7 +23,7 @@ returns-clause-sound c =
     let items : c.push.new.self.items ≡ list.order.items ++ s ∷ [] = grind (arith, common_steps) in
     subst (λ os. IsSeated os c.take_seat.new.seats.items c.with-self.result) (sym items)
     (seated-add list.order.items list.seats.items c.take_seat.new.seats.items list.taken s
-        took.entry sound says.absent on
+    took.entry sound says.absent on
     c.with-self.result took.begun.seat_is c.with-self.ensures says.within)
 
 pub returns-clause-ok : goal.returns-clause-ok

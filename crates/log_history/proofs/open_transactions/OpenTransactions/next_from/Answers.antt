@@ -23,7 +23,7 @@ returns-in-Some c =
     let xs = entries_in c.self.inside.list in
     let x = c.index.result.now in
     let first : find (λ e. leb c.args.from e.txn) xs ≡ Some x = c.in-Some.ensures.first x
-        ∙ ap Some (sym c.index.ensures) in
+    ∙ ap Some (sym c.index.ensures) in
     let at = found-at (λ e. leb c.args.from e.txn) xs x first in
     let table : Table = record { begun = c.self.inside.begun; entries = map entry_view xs } in
     ap Some c.state.ensures

@@ -10,11 +10,11 @@ overflow_add-result c =
     let of = c.requires.1 in
     let few = of.few in
     let is : c.begun.result ≡ length (begun rs) = c.begun.ensures
-        ∙ ap (λ (t : Table). t.begun) (c.self.view_is ∙ of.made) in
+    ∙ ap (λ (t : Table). t.begun) (c.self.view_is ∙ of.made) in
     omega (arith, few, begun_few rs, is)
 
 pub returns : goal.returns
 returns c = λ rs of.
     let is : c.begun.result ≡ length (begun rs) = c.begun.ensures
-        ∙ ap (λ (t : Table). t.begun) (c.self.view_is ∙ of.made) in
+    ∙ ap (λ (t : Table). t.begun) (c.self.view_is ∙ of.made) in
     omega arith

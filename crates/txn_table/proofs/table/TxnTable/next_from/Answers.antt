@@ -9,5 +9,5 @@ pub returns : goal.returns
 returns c = λ rs of.
     let from = c.args.cursor in
     c.next_from.ensures ∙ ap
-        (λ (t : Table). option_map state_of (option_and_then (entry_in t) (next_in t from))) c.self.view_is
+    (λ (t : Table). option_map state_of (option_and_then (entry_in t) (next_in t from))) c.self.view_is
     ∙ next_from_is rs c.args.self.now from of
