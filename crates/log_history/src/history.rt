@@ -62,6 +62,13 @@ impl History {
         &self.pages
     }
 
+    /// The open transactions after all records so far. The rest is let go.
+    pub fn into_open(self) -> OpenTransactions
+        ensures { result ≡ self.table }
+    {
+        self.txns
+    }
+
     /// Reaches for what a change of a slot looks at, so that it comes from memory. For a slot that
     /// is not there it does nothing. What it answers says nothing, but a compiler must keep the
     /// look for it.

@@ -21,7 +21,7 @@ pub use log::Log;
 pub use log_image::LogImage;
 pub use master::{MASTER_BYTES, Master, decode_master, encode_master, masters_are_spelled_apart};
 pub use mem_device::MemDevice;
-pub use read::read_log;
+pub use read::{read_log, read_log_with_open};
 pub use scan::{Scan, scan_log};
 pub use sink::RecordSink;
 

@@ -85,14 +85,37 @@ impl Redone {
             (e.0.items ≡ records.items) × (e.1.items ≡ pages.items)) }
     {
         match losers(alloc, &records, &master) {
-            Ok(losers) => Ok(Redone {
-                page_count,
-                records,
-                master,
-                losers,
-                pages,
-            }),
+            Ok(losers) => Ok(Redone::with_losers(page_count, records, master, pages, losers)),
             Err(_) => Err((records, pages)),
+        }
+    }
+
+    /// The same with the table of its open transactions, where a reader of the log has made it.
+    pub fn with_losers(
+        page_count: u32,
+        records: Vec<Record>,
+        master: Master,
+        pages: Vec<Page>,
+        losers: TxnTable,
+    ) -> Redone
+        requires recovery { IsRecovery (record {
+          log = record { pages = page_count; records = records.items };
+          master = master;
+          pages = pages.items;
+        }) }
+        requires losers { losers ≡ table_of records.items }
+        ensures { result ≡ record {
+          log = record { pages = page_count; records = records.items };
+          master = master;
+          pages = pages.items;
+        } }
+    {
+        Redone {
+            page_count,
+            records,
+            master,
+            losers,
+            pages,
         }
     }
 

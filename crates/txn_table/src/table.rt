@@ -34,6 +34,15 @@ impl Model for TxnTable {
     ghost view = { λ table. table.open };
 }
 
+impl From<OpenTransactions> for TxnTable {
+    ghost from_gives = { λ txns table. table ≡ txns };
+
+    /// The table of a log whose open transactions are known, as a reader of the log has made them.
+    fn from(txns: OpenTransactions) -> TxnTable {
+        TxnTable { open: txns }
+    }
+}
+
 impl TxnTable {
     /// The table of a log without records.
     pub fn new(alloc: Global) -> TxnTable
