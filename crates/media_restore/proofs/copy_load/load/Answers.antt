@@ -46,7 +46,7 @@ returns-clause-restores c =
     let pages = c.in-Ok.loaded.0.items in
     let redo = c.in-Ok.loaded.1 in
     subst (λ (it : LoadedView). map (λ page. resume page it.log.records it.redo) it.pages
-        ≡ redo_all it.log.records it.log.pages)
+    ≡ redo_all it.log.records it.log.pages)
     (sym c.new.ensures)
     (subst (λ (log : Log). map (λ page. resume page log.records redo) pages ≡ redo_all log.records log.pages) (sym log)
     (subst (λ (ps : List Page). map (λ page. resume page (kept_log it.log c.args.cut).records redo) ps
