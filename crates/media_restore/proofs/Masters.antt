@@ -11,6 +11,7 @@ use Rattle.log_store.proofs.Masters.{length-master_bytes}
 use Rattle.media_restore.specs.declared.files_fault.RestoreFault.{RestoreFault}
 use Rattle.media_restore.specs.declared.files_fault.RestoreFault.TheVariants.{BadHeader}
 use Rattle.media_restore.specs.Files.{NotSpelled}
+use Rattle.media_restore.specs.FilesUnread.{MayBeMaster}
 
 pub spelled_length : (m : Master) (bytes : List ℕ) → SpellsMaster m bytes → length bytes ≡ 64
 spelled_length m bytes is = ap length is.spelled ∙ length-master_bytes m
@@ -64,4 +65,13 @@ still_short (Some m) given filled within is in_it step = let long = spelled_leng
 still_short None given filled within is in_it step = elim (cases_lt filled 65) [
   | inl lt ↦ lt
   | inr le ↦ let past : 64 ≤ filled = omega arith in let no = step (past, refl) in cc
+]
+
+-- the bytes that are not misspelt so far are too few, or are one
+pub still_open : (found : Option Master) (given : List ℕ) (filled : ℕ) → length given ≡ filled → IsFoundIn found given
+    → ((64 ≤ filled) × (found ≡ None) → IsTrue false) → MayBeMaster given
+still_open (Some m) given filled is in_it step = inr (m, in_it.right)
+still_open None given filled is in_it step = elim (cases_lt filled 64) [
+  | inl lt ↦ inl (omega arith)
+  | inr le ↦ let no = step (le, refl) in cc
 ]

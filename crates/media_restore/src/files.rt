@@ -1,12 +1,13 @@
 //! The restore of a volume from files: of a log, a master record and the archives of a chain.
 
-ghost use Rattle.std.specs.Prelude.{◌≡◌, ◌<◌, ◌≤◌, ◌⊎◌, map, IfOk, IfErr, OnOk};
+ghost use Rattle.std.specs.Prelude.{◌≡◌, ◌<◌, ◌≤◌, ◌⊎◌, map, Err, IfOk, IfErr, OnOk};
 ghost use Rattle.log_records.specs.Coverage.{resume};
 ghost use Rattle.log_records.specs.Image.{image_from, redo_all};
 ghost use Rattle.log_records.specs.declared.limits.TheConstants.{MAX_RECORDS};
 ghost use Rattle.loser_undo.specs.Recovery.{IsRecovery, appended};
 ghost use Rattle.media_restore.specs.Files.{AreSound, IsRestored, Leaves, Refused, WritesVolume};
 ghost use Rattle.media_restore.specs.Files.{most_records};
+ghost use Rattle.media_restore.specs.FilesUnread.{FailedUnread};
 ghost use Rattle.media_restore.specs.declared.files_fault.RestoreFault.TheVariants.{LogFull};
 ghost use Rattle.media_restore.specs.declared.files_fault.RestoreFault.TheVariants.{OutOfMemory};
 
@@ -37,7 +38,7 @@ const BUFFER_PAGES: usize = 512;
 /// and `OutOfMemory` where memory is refused. Until then nothing is written. `WriteFault` comes
 /// where the writer fails, takes nothing, or is interrupted 17 times in a row. The writer is not
 /// flushed. `ReadFault` comes where a reader fails or does not come to an end, and what it gave
-/// holds no fault, as `read_log` and `read_archive` say.
+/// holds no fault.
 pub fn restore_files<L: Read, M: Read, A: Read, W: Write>(
     alloc: Global,
     log: &mut L,
@@ -59,6 +60,20 @@ pub fn restore_files<L: Read, M: Read, A: Read, W: Write>(
           archives = map (λ a. A.remaining a) archives.old;
         })
         (W.contents writer.old) (W.contents writer.new)) }
+    // Where a reader failed, what it gave until then holds no fault, and what was read before is
+    // right.
+    ensures unread { result ≡ Err RestoreFault.ReadFault
+        → FailedUnread
+        (record {
+          log = L.remaining log.old;
+          master = M.remaining master.old;
+          archives = map (λ a. A.remaining a) archives.old;
+        })
+        (record {
+          log = L.remaining log.new;
+          master = M.remaining master.new;
+          archives = map (λ a. A.remaining a) archives.new;
+        }) }
 {
     let undone = restored(alloc, log, master, archives)?;
     let mut buffer = zeros(alloc, BUFFER_PAGES * PAGE_BYTES)?;
@@ -87,6 +102,18 @@ fn restored<L: Read, M: Read, A: Read>(
           master = M.remaining master.old;
           archives = map (λ a. A.remaining a) archives.old;
         })) }
+    ensures unread { result ≡ Err RestoreFault.ReadFault
+        → FailedUnread
+        (record {
+          log = L.remaining log.old;
+          master = M.remaining master.old;
+          archives = map (λ a. A.remaining a) archives.old;
+        })
+        (record {
+          log = L.remaining log.new;
+          master = M.remaining master.new;
+          archives = map (λ a. A.remaining a) archives.new;
+        }) }
 {
     let image = read_log(alloc, log)?;
     let named = read_master(master, image.records())?;

@@ -1,10 +1,11 @@
 //! The archives of a chain, read in their order.
 
-ghost use Rattle.std.specs.Prelude.{◌≡◌, map, IfOk, IfErr, IfSome};
+ghost use Rattle.std.specs.Prelude.{◌≡◌, map, Err, IfOk, IfErr, IfSome};
 ghost use Rattle.copy_vault.specs.Archive.{SpellsCopy};
 ghost use Rattle.copy_vault.specs.Chain.{Fits};
 ghost use Rattle.media_restore.specs.FilesArchives.{AreOfArchives, AreOfChain};
 ghost use Rattle.media_restore.specs.FilesArchives.{ArchiveRefused, ArchivesRefused};
+ghost use Rattle.media_restore.specs.FilesUnread.{FailedInArchive, FailedInArchives};
 
 use crate::copied::copied_pages;
 use crate::files_fault::RestoreFault;
@@ -24,6 +25,8 @@ pub(crate) fn read_chain<A: Read>(
         AreOfChain (map (λ a. A.remaining a) archives.old) pages it.0.items it.1) }
     ensures err { IfErr result
         (ArchivesRefused (map (λ a. A.remaining a) archives.old) pages) }
+    ensures unread { result ≡ Err RestoreFault.ReadFault → FailedInArchives
+        (map (λ a. A.remaining a) archives.old) (map (λ a. A.remaining a) archives.new) pages }
 {
     let copies = read_copies(alloc, archives, pages)?;
     // They fit, so that memory is all that may be refused.
@@ -41,6 +44,8 @@ fn read_copies<A: Read>(
         AreOfArchives (map (λ a. A.remaining a) archives.old) pages copies.items) }
     ensures err { IfErr result
         (ArchivesRefused (map (λ a. A.remaining a) archives.old) pages) }
+    ensures unread { result ≡ Err RestoreFault.ReadFault → FailedInArchives
+        (map (λ a. A.remaining a) archives.old) (map (λ a. A.remaining a) archives.new) pages }
 {
     if archives.is_empty() {
         return Err(RestoreFault::ChainBroken(CopyId(0)));
@@ -65,6 +70,8 @@ fn read_fitting<A: Read>(
     ensures spelled { IfOk result (λ copy. IfSome (A.remaining archive.old) (SpellsCopy copy)) }
     ensures fits { IfOk result (Fits pages kind) }
     ensures err { IfErr result (ArchiveRefused (A.remaining archive.old) pages kind) }
+    ensures unread { result ≡ Err RestoreFault.ReadFault
+        → FailedInArchive (A.remaining archive.old) (A.remaining archive.new) }
 {
     let copy = read_archive(alloc, archive)?;
     if copy.kind() != kind || copy.pages() != pages {

@@ -1,11 +1,12 @@
 //! The master record of a log that is read.
 
-ghost use Rattle.std.specs.Prelude.{ℕ, ◌≡◌, ◌↔◌, ◌≤◌, IfOk, IfErr, IfSome, IsTrue, None, Some};
+ghost use Rattle.std.specs.Prelude.{ℕ, ◌≡◌, ◌↔◌, ◌≤◌, Err, IfOk, IfErr, IfSome, IsTrue, None, Some};
 ghost use Rattle.log_records.specs.declared.record.Record.TheVariants.{EndChkpt};
 ghost use Rattle.log_history.specs.Checkpoint.{IsCompleteCheckpoint};
 ghost use Rattle.log_history.specs.Linked.{IsLinked};
 ghost use Rattle.log_store.specs.Master.{SpellsMaster};
 ghost use Rattle.media_restore.specs.Files.{IsOfMaster, MasterRefused, NotSpelled};
+ghost use Rattle.media_restore.specs.FilesUnread.{FailedInMaster};
 ghost use Rattle.media_restore.specs.declared.files_fault.RestoreFault.TheVariants.{BadHeader};
 
 use crate::files_fault::RestoreFault;
@@ -23,6 +24,8 @@ pub(crate) fn read_master<M: Read>(
     requires { IsLinked records.now }
     ensures ok { IfOk result (IsOfMaster (M.remaining reader.old) records.now) }
     ensures err { IfErr result (MasterRefused (M.remaining reader.old) records.now) }
+    ensures unread { result ≡ Err RestoreFault.ReadFault
+        → FailedInMaster (M.remaining reader.old) (M.remaining reader.new) }
 {
     let master = spelled_master(reader)?;
     if !is_complete(records, &master) {
@@ -35,6 +38,8 @@ pub(crate) fn read_master<M: Read>(
 fn spelled_master<M: Read>(reader: &mut M) -> Result<Master, RestoreFault>
     ensures ok { IfOk result (λ master. IfSome (M.remaining reader.old) (SpellsMaster master)) }
     ensures err { IfErr result (NotSpelled (M.remaining reader.old)) }
+    ensures unread { result ≡ Err RestoreFault.ReadFault
+        → FailedInMaster (M.remaining reader.old) (M.remaining reader.new) }
 {
     let mut bytes = [0; MASTER_BYTES + 1];
     let mut filled = 0;

@@ -210,6 +210,18 @@ fn three_losers_are_taken_back(rt: HostRuntime) -> Result<(), Fail> {
     assert_restored(&rt, rt.alloc(), given, &redone, &undone, &appended)
 }
 
+/// Undo fills the log to the last record that it may have, at 64 * 1,048,576.
+#[test]
+fn a_full_log_is_restored(rt: HostRuntime) -> Result<(), Fail> {
+    let given = copy_of(Row::FullLog, 1, ALL);
+    let appended = [
+        comp(2, 67_108_800, 67_108_736, 384, less(0, 1)),
+        end(2, 67_108_864, 67_108_800),
+    ];
+    let pages = [(0, 67_108_800, [7, 0, 0])];
+    assert_rebuilt(&rt, rt.alloc(), given, &pages, &appended)
+}
+
 /// Asserts that a copy of a row is not loaded, and why.
 fn assert_refused(
     rt: &impl Abort,

@@ -314,6 +314,24 @@ fn not_forced() -> [(Event, Reply); 3] {
     ]
 }
 
+/// A transaction commits, and another one adds until its records may fill the log, and aborts.
+fn a_full_log(alloc: Global) -> Result<Vec<(Event, Reply)>, Fail> {
+    let first = [
+        (Event::Begin, began(1, 192)),
+        (set(1, 0, 0, 7), logged(256)),
+        (commit(1), logged(320)),
+        (Event::Begin, began(2, 384)),
+    ];
+    let mut row = joined(alloc, &[&idle(), &full(0), &first])?;
+    // Behind 6 records n Adds need n compensations, an Abort and an End: 6 + 2 n + 2 = 1,048,576.
+    for number in 7..7 + 524_284 {
+        row.push((add(2, 0, 1), logged(64 * number)))?;
+    }
+    row.push((add(2, 0, 1), Err(Refusal::LogFull)))?;
+    row.push((Event::Abort(TxnNo(2)), logged(33_554_624)))?;
+    Ok(row)
+}
+
 /// One copy is dropped, and another one is being read.
 fn dropped_and_being_read() -> [(Event, Reply); 4] {
     [
@@ -346,6 +364,7 @@ pub(super) enum Row {
     /// The fourth call of the log's device fails: that for the record at 192.
     LostTail,
     DroppedAndBeingRead,
+    FullLog,
 }
 
 impl Row {
@@ -358,6 +377,7 @@ impl Row {
             Row::CopiedAfterAWrite => joined(alloc, &[&idle(), &copied_after_a_write()]),
             Row::LostTail => joined(alloc, &[&idle(), &full(0), &not_forced()]),
             Row::DroppedAndBeingRead => joined(alloc, &[&idle(), &dropped_and_being_read()]),
+            Row::FullLog => a_full_log(alloc),
             _ => self.calls_over_checkpoints(alloc),
         }
     }

@@ -1,4 +1,4 @@
-use Rattle.std.proofs.Common.{◌≡◌, ◌∙◌, List, [], ◌∷◌, ◌++◌, Bor, ap, map, sym, take}
+use Rattle.std.proofs.Common.{◌∙◌, List, [], ◌∷◌, ◌++◌, Bor, ap, sym, take}
 use Rattle.std.proofs.lemmas.List.{map-append, take_more, take_all}
 use Rattle.page_core.specs.declared.page.Page.{Page}
 use Rattle.copy_vault.specs.Chain.{lent}

@@ -1,6 +1,8 @@
-use Rattle.std.proofs.Common.{map, sym, subst}
+use Rattle.std.proofs.Common.{◌≡◌, ap, map, sym, subst}
+use Rattle.std.specs.Prelude.{Err}
 use Rattle.std.proofs.lemmas.Result.{err_from_is_err_and}
 use Rattle.media_restore.specs.Files.{Files, IsRestored}
+use Rattle.media_restore.specs.declared.files_fault.RestoreFault.TheVariants.{ReadFault}
 use Rattle.media_restore.proofs.Restored.{leaves}
 use Rattle.media_restore.proofs.files.restore_files.Goals as goal
 
@@ -14,6 +16,12 @@ returns-in_err-undone-clause-err g c =
     let p = err_from_is_err_and c.from_residual.result c.from_residual.ensures.1 in
     rw (p.1, p.2)
     (leaves files (g.W.Write.contents c.args.writer.now) c.in_err-undone.field-0.0 c.in_err-undone.ensures.err)
+
+pub returns-in_err-undone-clause-unread : goal.returns-in_err-undone-clause-unread
+returns-in_err-undone-clause-unread g c =
+    let p = err_from_is_err_and c.from_residual.result c.from_residual.ensures.1 in
+    rw (p.1, p.2) (λ is.
+    let same : c.in_err-undone.field-0.0 ≡ ReadFault = cc in c.in_err-undone.ensures.unread (ap Err same))
 
 pub returns-in-Ok-clause-ok : goal.returns-in-Ok-clause-ok
 returns-in-Ok-clause-ok g c =

@@ -1,11 +1,11 @@
-use Rattle.std.proofs.Common.{◌+◌, [], take, refl, arith}
+use Rattle.std.proofs.Common.{◌≡◌, ◌+◌, [], length, take, refl, arith, inl}
 use Rattle.std.proofs.KnownBytes.{Consumes-nil}
 use Rattle.std.proofs.lemmas.List.{length-take}
 use Rattle.log_store.specs.declared.master.Master.{Master}
 use Rattle.log_store.specs.Master.{SpellsMaster}
 use Rattle.page_core.proofs.Inputs.{of_input}
 use Rattle.media_restore.proofs.Masters.{IsFoundIn, found_at_end, none_at_end, none_begins, none_in_nothing}
-use Rattle.media_restore.proofs.Masters.{still_short}
+use Rattle.media_restore.proofs.Masters.{still_open, still_short}
 use Rattle.media_restore.proofs.files_master.spelled_master.Goals as goal
 
 pub returns-in-End-clause-ok : goal.returns-in-End-clause-ok
@@ -35,6 +35,7 @@ pub loop-init : goal.loop-init
 loop-init g c = record {
   short = omega arith;
   taken = Consumes-nil (g.M.Read.remaining c.args.reader.now);
+  gave = inl (omega arith);
   right = none_in_nothing;
 }
 
@@ -42,12 +43,27 @@ pub loop-preserved : goal.loop-preserved
 loop-preserved g c =
     let given = take (c.loop.filled + c.in-More.count) c.read_more.new.buffer in
     let room = c.in-More.ensures.0 in
+    let long : length given ≡ c.loop.filled + c.in-More.count =
+    omega (arith, room, length-take (c.loop.filled + c.in-More.count) c.read_more.new.buffer) in
     let right : IsFoundIn c.decode_master-next.result given =
     record { right = c.decode_master-next.ensures.found; only = c.decode_master-next.ensures.only } in
     record {
       short = still_short c.decode_master-next.result given (c.loop.filled + c.in-More.count) (omega arith)
-          (omega (arith, room, length-take (c.loop.filled + c.in-More.count) c.read_more.new.buffer)) right
-          c.if-is_misspelt.ensures.1;
+          long right c.if-is_misspelt.ensures.1;
       taken = c.in-More.ensures.1 _ [] c.loop.invariant.taken;
+      gave = still_open c.decode_master-next.result given (c.loop.filled + c.in-More.count) long right
+          c.if-is_misspelt.ensures.1;
       right = right;
     }
+
+pub returns-in-Failed-clause-unread : goal.returns-in-Failed-clause-unread
+returns-in-Failed-clause-unread g c = λ is. (
+  take c.loop.filled c.loop.bytes,
+  (c.in-Failed.ensures _ [] c.loop.invariant.taken, c.loop.invariant.gave),
+)
+
+pub returns-clause-unread : goal.returns-clause-unread
+returns-clause-unread g c = λ is. (
+  take c.loop.filled c.loop.bytes,
+  (c.loop.invariant.taken, c.loop.invariant.gave),
+)
