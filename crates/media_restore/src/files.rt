@@ -1,6 +1,7 @@
 //! The restore of a volume from files: of a log, a master record and the archives of a chain.
 
 ghost use Rattle.std.specs.Prelude.{◌≡◌, ◌<◌, ◌≤◌, ◌⊎◌, map, Err, IfOk, IfErr, OnOk};
+ghost use Rattle.log_history.specs.Table.{table_of};
 ghost use Rattle.log_records.specs.Coverage.{resume};
 ghost use Rattle.log_records.specs.Image.{image_from, redo_all};
 ghost use Rattle.log_records.specs.declared.limits.TheConstants.{MAX_RECORDS};
@@ -15,11 +16,12 @@ use crate::files_archives::read_chain;
 use crate::files_fault::RestoreFault;
 use crate::files_master::read_master;
 use crate::volume_output::write_volume;
-use log_store::{LogImage, Master, read_log};
+use log_store::{LogImage, Master, read_log_with_open};
 use loser_undo::{Redone, Undone, undo_all};
 use page_core::{Lsn, PAGE_BYTES, Page, zeros};
 use std::alloc::Global;
 use std::io::{Read, Write};
+use txn_table::TxnTable;
 
 /// How many pages are written at once.
 const BUFFER_PAGES: usize = 512;
@@ -115,21 +117,22 @@ fn restored<L: Read, M: Read, A: Read>(
           archives = map (λ a. A.remaining a) archives.new;
         }) }
 {
-    let image = read_log(alloc, log)?;
+    let (image, losers) = read_log_with_open(alloc, log)?;
     let named = read_master(master, image.records())?;
     let (pages, redo) = read_chain(alloc, archives, image.pages())?;
-    recovered(alloc, image, named, pages, redo)
+    recovered(image, TxnTable::from(losers), named, pages, redo)
 }
 
 /// Redoes a log from a redo point on, and undoes the transactions that are open at its end.
 fn recovered(
-    alloc: Global,
     log: LogImage,
+    losers: TxnTable,
     master: Master,
     pages: Vec<Page>,
     redo: Lsn,
 ) -> Result<Undone, RestoreFault>
-    requires { IsRecovery (record { log = log; master = master; pages = pages.items }) }
+    requires recovery { IsRecovery (record { log = log; master = master; pages = pages.items }) }
+    requires losers { losers ≡ table_of log.records }
     ensures made { IfOk result (λ it. it.pages ≡ map (λ page. image_from page (appended log))
         (map (λ page. resume page log.records redo) pages.items)) }
     ensures room { OnOk result (most_records log ≤ MAX_RECORDS) }
@@ -140,9 +143,7 @@ fn recovered(
         ⊎ ((fault ≡ LogFull) × (MAX_RECORDS < most_records log))) }
 {
     let (page_count, records) = log.into_parts();
-    let Ok(mut redone) = Redone::new(alloc, page_count, records, master, pages) else {
-        return Err(RestoreFault::OutOfMemory);
-    };
+    let mut redone = Redone::with_losers(page_count, records, master, pages, losers);
     redone.redo_from(redo);
     match undo_all(redone) {
         Ok(undone) => Ok(undone),
