@@ -50,8 +50,9 @@ def ends(script):
             yield event.word, run(script.text(), script.pages, number)
     for files in parts(ran.files):
         yield NOT_SAVED, Ran(Answer(2, replies, TOLD), files=files)
-    if script.restore:
+    if script.restore and ran.answer.status == 0:
         yield REFUSED_RESTORE, Ran(Answer(2, replies + TOLD), ran.engine, ran.files)
+    if script.restore:
         yield REFUSED_RESTORE, Ran(Answer(2, replies, TOLD), ran.engine, ran.files)
 
 
