@@ -69,7 +69,6 @@ MANY = Script("many transactions, half of them taken back", 7, f"""
     """, "restore 1 1000000")
 
 
-
 def behind(records):
     """Each call that appends a record, behind so many more records. So each comes where the log has to grow. The last
     restore keeps a record too few, but where a call was refused."""
