@@ -16,6 +16,8 @@ from itertools import count
 from pathlib import Path
 from typing import NamedTuple
 
+from model_check import WRONG_WORDS
+
 EXAMPLES = Path(__file__).resolve().parent
 OUT_OF_MEMORY = (2, b"", b"E1 OutOfMemory\n")
 
@@ -36,7 +38,7 @@ def cases(program):
         answer = (0, volume.read_bytes(), b"") if volume.exists() else (2, b"", fault.read_bytes())
         yield Case(["redo"], log, answer)
     # The texts about wrong words are tested elsewhere, so these are compared with a run that has all of its memory.
-    for words in ([], ["help"], ["run"], ["redo", "extra"]):
+    for words in ([], ["help"], ["redo", "extra"], *map(str.split, WRONG_WORDS)):
         case = Case(words, Path(os.devnull), ())
         answer, _ = run(program, case, {})
         yield case._replace(answer=answer)
