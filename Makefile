@@ -2,8 +2,8 @@
 # make demo       plays a day of a small database with image copies, loses its volume and restores it, and shows its pages
 # make test       all tests: the gate, which proves every crate and tries its tests, its programs and its must-fail
 #                 edits, and then what make check does, on the program that the gate has built
-# make check      compares the program's answers to the examples and to spoiled logs with the expected ones, also with
-#                 each of its allocations refused in turn, and those to random scripts with a model of the engine;
+# make check      compares the program's answers to the examples and to spoiled logs with the expected ones, and those
+#                 to scripts with a model of the engine, also with each of its allocations refused in turn;
 #                 where rt is used, those of read_log and of the engine too, by two programs of their own; and sees
 #                 that the documents name what is there
 # make bench      measures the program beside a plain Rust program, prints a table, and draws bench/times.svg

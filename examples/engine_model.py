@@ -241,8 +241,10 @@ class Engine:
 
     def chain(self, number):
         """The copies from the full one to this one, each the parent of the next."""
-        copy = self.complete_copy(number)
-        return [*(self.chain(copy.parent) if copy.parent else []), copy]
+        chain = [self.complete_copy(number)]
+        while chain[-1].parent:
+            chain.append(self.copies[chain[-1].parent - 1])
+        return chain[::-1]
 
     # The end
 

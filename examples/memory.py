@@ -12,8 +12,11 @@ import os
 import shutil
 import subprocess
 import sys
+from itertools import count
 from pathlib import Path
 from typing import NamedTuple
+
+from model_check import WRONG_WORDS
 
 EXAMPLES = Path(__file__).resolve().parent
 OUT_OF_MEMORY = (2, b"", b"E1 OutOfMemory\n")
@@ -35,7 +38,7 @@ def cases(program):
         answer = (0, volume.read_bytes(), b"") if volume.exists() else (2, b"", fault.read_bytes())
         yield Case(["redo"], log, answer)
     # The texts about wrong words are tested elsewhere, so these are compared with a run that has all of its memory.
-    for words in ([], ["help"], ["run"], ["redo", "extra"]):
+    for words in ([], ["help"], ["redo", "extra"], *map(str.split, WRONG_WORDS)):
         case = Case(words, Path(os.devnull), ())
         answer, _ = run(program, case, {})
         yield case._replace(answer=answer)
@@ -52,35 +55,47 @@ def run(program, case, environment):
     return (done.returncode, done.stdout, done.stderr), refused
 
 
+def refuse_each(program, library, case):
+    """The answer without the first allocation, without the second and so on, each with its number and whether it was
+    refused. The last one had all of its memory."""
+    for number in count(1):
+        answer, refused = run(program, case, {"LD_PRELOAD": library, "REFUSED_ALLOCATION": str(number)})
+        yield number, answer, refused
+        if not refused:
+            return
+
+
 def check(program, library, case, out_of_memory=OUT_OF_MEMORY):
     """How many allocations there were to refuse."""
-    number = 0
-    while True:
-        number += 1
-        answer, refused = run(program, case, {"LD_PRELOAD": library, "REFUSED_ALLOCATION": str(number)})
+    for number, answer, refused in refuse_each(program, library, case):
         if answer != case.answer and not (refused and answer == out_of_memory):
             status, output, error = answer
             raise Failure(f"{' '.join(case.words)} < {case.log.name}: without allocation {number} the status is"
                           f" {status}, {len(output)} bytes are written, and standard error is {error[:80]!r}")
-        if not refused:
-            return number - 1
+    return number - 1
+
+
+def program_and_library(arguments):
+    """The paths of both."""
+    if len(arguments) != 2:
+        raise Failure("two arguments are wanted, the program to check and the library that refuses")
+    program, library = shutil.which(arguments[0]), os.path.abspath(arguments[1])
+    if program is None:
+        raise Failure(f"there is no program {arguments[0]}")
+    if not os.path.isfile(library):
+        raise Failure(f"there is no file {arguments[1]}")
+    return os.path.abspath(program), library
 
 
 def main(arguments):
     try:
-        if len(arguments) != 2:
-            raise Failure("two arguments are wanted, the program to check and the library that refuses")
-        program, library = shutil.which(arguments[0]), os.path.abspath(arguments[1])
-        if program is None:
-            raise Failure(f"there is no program {arguments[0]}")
-        if not os.path.isfile(library):
-            raise Failure(f"there is no file {arguments[1]}")
-        count = sum(check(os.path.abspath(program), library, case) for case in cases(os.path.abspath(program)))
-        if count == 0:
+        program, library = program_and_library(arguments)
+        total = sum(check(program, library, case) for case in cases(program))
+        if total == 0:
             raise Failure("no allocation was refused")
     except (Failure, OSError) as failure:
         sys.exit(f"memory.py: {failure}")
-    print(f"ok memory: {count} refused allocations are told, or done without")
+    print(f"ok memory: {total} refused allocations are told, or done without")
 
 
 if __name__ == "__main__":

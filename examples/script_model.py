@@ -9,6 +9,7 @@ from recovery_model import Answer, Refusal
 LONGEST_SCRIPT = 16_777_216
 NUMBER = re.compile("[0-9]{1,20}")
 U16, U32, U64 = 2**16, 2**32, 2**64
+OUT_OF_MEMORY = "E1 OutOfMemory"
 
 # The bounds of the numbers by what they name: transaction, page, copy, slot, value and count of records.
 BOUNDS = {"T": U32, "P": U32, "C": U32, "S": U16, "V": U64, "K": U64}
@@ -100,15 +101,16 @@ class Ran(NamedTuple):
     files: dict = {}
 
 
-def run(data, pages):
+def run(data, pages, refused=None):
+    """What the script gives, where the call of the number `refused`, from 0, finds no memory: it changes nothing."""
     try:
         events = read_script(data)
     except BadScript as bad:
         return Ran(Answer(2, error=f"imgcopy: {bad}\n".encode()))
     engine, lines, status = Engine(pages), [], 0
     last = events.pop() if events and events[-1].word == "restore" else None
-    for event in events:
-        lines.append(event.reply(engine))
+    for number, event in enumerate(events):
+        lines.append(OUT_OF_MEMORY if number == refused else event.reply(engine))
     files = engine.files()
     if last is not None:
         try:

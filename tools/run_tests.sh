@@ -68,6 +68,7 @@ run_checks() {
     check examples "$program" python3 -- examples/check.sh "$program"
     check day "$program" python3 -- examples/day.sh "$program" build/day
     check memory "$program" python3 rustc -- refuse_memory examples/memory.py "$program"
+    check run_memory "$program" python3 rustc -- refuse_memory examples/run_memory.py "$program"
     check faults "$program" python3 -- python3 examples/faults.py "$program"
     check model "$program" python3 -- python3 examples/model_check.py "$program"
     if "$uses_rt"; then
