@@ -75,8 +75,8 @@ returns-in_err-pages-clause-unread g c =
     in_an_archive image named of_log of_master
     (subst (λ (n : ℕ). FailedInArchives old new n) c.pages.ensures.pages (c.in_err-pages.ensures.unread (ap Err same))))
 
-pub recovered-requires : goal.recovered-requires
-recovered-requires g c =
+pub recovered-requires-clause-recovery : goal.recovered-requires-clause-recovery
+recovered-requires-clause-recovery g c =
     let image = c.in_ok-image.image in
     let pages = c.in_ok-pages.pages.items in
     let redo = c.in_ok-pages.redo in
