@@ -11,7 +11,7 @@ returns-in_err-checked_mul c =
 pub returns-in_err-number : goal.returns-in_err-number
 returns-in_err-number c =
     c.from_residual-in_err-number.ensures
-        ∙ overflows c.loop-byte.number c.args.word.now c.loop-byte.byte-index (omega arith)
+    ∙ overflows c.loop-byte.number c.args.word.now c.loop-byte.byte-index (omega arith)
     (sym c.is_ascii_digit.ensures.value ∙ c.if-not-is_ascii_digit.false)
     (first_of (omega arith, grind arith, search rules)) c.loop-byte.invariant.made
 
