@@ -95,7 +95,7 @@ fn an_input_may_be_refused(rt: HostRuntime) {
     for (left, fails, fault) in [
         (16_777_216, false, None),
         (16_777_217, false, Some(ScriptFault::Input)),
-        (3, true, Some(ScriptFault::Input)),
+        (3, true, Some(ScriptFault::ReadFault)),
     ] {
         let mut reader = Feeds { left, fails };
         assert!(rt; fault_of(rt.alloc(), &mut reader) == fault, "{left} bytes");

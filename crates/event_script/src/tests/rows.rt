@@ -150,8 +150,9 @@ pub const ANSWERS: [(Answer, &str); 16] = [
     (Answer::Dropped, "dropped"),
 ];
 
-pub const FAULTS: [(ScriptFault, &str); 3] = [
+pub const FAULTS: [(ScriptFault, &str); 4] = [
     (ScriptFault::OutOfMemory, "E1 OutOfMemory"),
     (ScriptFault::Input, "imgcopy: input"),
+    (ScriptFault::ReadFault, "imgcopy: input"),
     (ScriptFault::BadLine(12), "imgcopy: line 12"),
 ];
