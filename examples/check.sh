@@ -104,5 +104,7 @@ done
 for word in extra --pages --help -h; do
     check_words redo "$word"
 done
+# A word that is no UTF-8.
+check_words $'redo\xff'
 check_devices
 echo "ok examples: $count examples, the wrong words and the broken devices are as expected"
