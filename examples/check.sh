@@ -73,6 +73,11 @@ check_words() {
     [ -s "$work/err" ] || fail "the words '$*': nothing on standard error"
 }
 
+# check_told LINE: the words that were just checked gave this first line.
+check_told() {
+    [ "$(head -n 1 "$work/err")" = "$1" ] || fail "standard error '$(head -n 1 "$work/err")', expected '$1'"
+}
+
 # check_fault LINE NAME: the run that has just ended gave this line, status 2 and no output.
 check_fault() {
     [ "$status" -eq 2 ] || fail "$2: status $status, expected 2"
@@ -98,11 +103,19 @@ for log in "$examples"/*.log; do
     count=$((count + 1))
 done
 check_words
-for word in run help --help -h; do
+check_told "error: no command was given"
+check_words rerun
+check_told "error: unrecognized command 'rerun'"
+for word in help --help -h; do
     check_words "$word"
+    check_told "Usage: imgcopy <COMMAND>"
 done
+check_words run
 for word in extra --pages --help -h; do
     check_words redo "$word"
 done
+# A word that is no UTF-8.
+check_words $'redo\xff'
+check_told "error: the words of the command line cannot be read"
 check_devices
 echo "ok examples: $count examples, the wrong words and the broken devices are as expected"

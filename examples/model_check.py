@@ -242,8 +242,9 @@ def check_devices(checker):
     script = b"begin\nset 1 0 0 5\n"
     words = run_words(Script(1, script))
     checker.empty_folder()
-    checker.check("files in a folder that is missing", Answer(2, b"began 1 at 64\nlsn 128\n", b"E29 WriteFault 0\n"),
-                  [*words, "--save", "missing"], script)
+    unsaved = Answer(2, b"began 1 at 64\nlsn 128\n", b"E29 WriteFault 0\n")
+    for last in (b"", b"restore 1 all\n"):
+        checker.check("files in a folder that is missing", unsaved, [*words, "--save", "missing"], script + last)
     if checker.program is None:
         return
     with open("/dev/full", "wb") as full, open(checker.folder / "input", "rb") as source:

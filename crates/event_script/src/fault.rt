@@ -12,9 +12,11 @@ use std::fmt;
 pub enum ScriptFault {
     /// Memory ran out.
     OutOfMemory,
-    /// The script is longer than 16,777,216 bytes, is no UTF-8, or the reader failed or did not
-    /// come to an end. This is looked at before any line.
+    /// The script is longer than 16,777,216 bytes, or is no UTF-8. This is looked at before any
+    /// line.
     Input,
+    /// The reader failed, or did not come to an end. It has the line of `Input`.
+    ReadFault,
     /// The line of this number is bad, and none before it is. Lines are counted from 1, with those
     /// that are skipped.
     BadLine(u64),
@@ -29,7 +31,7 @@ impl fmt::Display for ScriptFault {
     fn fmt<W: fmt::Write>(&self, f: &mut fmt::Formatter<W>) -> fmt::Result {
         match self {
             ScriptFault::OutOfMemory => write!(f, "E1 OutOfMemory"),
-            ScriptFault::Input => write!(f, "imgcopy: input"),
+            ScriptFault::Input | ScriptFault::ReadFault => write!(f, "imgcopy: input"),
             ScriptFault::BadLine(number) => write!(f, "imgcopy: line {number}"),
         }
     }

@@ -1,7 +1,8 @@
 //! The bytes of a script.
 
-ghost use Rattle.std.specs.Prelude.{◌≡◌, ◌<◌, ◌≤◌, length, IfOk, IfErr, ◌⊎◌};
+ghost use Rattle.std.specs.Prelude.{◌<◌, ◌≤◌, length, IfOk, IfErr, IfSome};
 ghost use Rattle.std.specs.Io.KnownBytes.{Consumes, IsAtEnd};
+ghost use Rattle.event_script.specs.Read.{GaveNoFault, Refuses};
 
 use crate::fault::ScriptFault;
 use page_core::{MAX_TURNS, Turn, read_more, zeros};
@@ -25,8 +26,9 @@ fn read_through<R: Read>(
         Consumes (R.remaining reader.old) (R.remaining reader.new) input.items
         × IsAtEnd (R.remaining reader.new)) }
     ensures short { IfOk result (λ input. length input.items ≤ MAX_SCRIPT_BYTES) }
-    ensures fault { IfErr result (λ fault.
-        (fault ≡ ScriptFault.OutOfMemory) ⊎ (fault ≡ ScriptFault.Input)) }
+    ensures first { IfErr result (λ fault. IfSome (R.remaining reader.old)
+        (λ input. Refuses input fault)) }
+    ensures unread { IfErr result (GaveNoFault (R.remaining reader.old) (R.remaining reader.new)) }
 {
     let mut input = Vec::new(alloc);
     for _ in 0..MAX_TURNS {
@@ -38,10 +40,10 @@ fn read_through<R: Read>(
                 input.extend_from_slice(&buffer[..count])?;
             }
             Turn::End => return Ok(input),
-            Turn::Failed => return Err(ScriptFault::Input),
+            Turn::Failed => return Err(ScriptFault::ReadFault),
         }
     }
-    Err(ScriptFault::Input)
+    Err(ScriptFault::ReadFault)
 }
 
 /// Reads a whole script, if it is not too long.
@@ -50,8 +52,9 @@ pub(crate) fn read_input<R: Read>(alloc: Global, reader: &mut R) -> Result<Vec<u
         Consumes (R.remaining reader.old) (R.remaining reader.new) input.items
         × IsAtEnd (R.remaining reader.new)) }
     ensures short { IfOk result (λ input. length input.items ≤ MAX_SCRIPT_BYTES) }
-    ensures fault { IfErr result (λ fault.
-        (fault ≡ ScriptFault.OutOfMemory) ⊎ (fault ≡ ScriptFault.Input)) }
+    ensures first { IfErr result (λ fault. IfSome (R.remaining reader.old)
+        (λ input. Refuses input fault)) }
+    ensures unread { IfErr result (GaveNoFault (R.remaining reader.old) (R.remaining reader.new)) }
 {
     let mut buffer = zeros(alloc, BUFFER_BYTES)?;
     read_through(alloc, reader, &mut buffer)

@@ -4,7 +4,7 @@ ghost use Rattle.std.specs.Prelude.{ℕ, ◌≡◌, List, [], ◌∷◌, ◌++�
 ghost use Rattle.std.specs.Prelude.{if◌then◌else◌};
 ghost use Rattle.std.specs.Io.KnownBytes.{IsAtEnd};
 ghost use Rattle.event_script.specs.Script.{said_in};
-ghost use Rattle.event_script.specs.Read.{IsText, Refuses};
+ghost use Rattle.event_script.specs.Read.{GaveNoFault, IsText, Refuses};
 ghost use Rattle.event_script.specs.Words.{lines_of};
 
 use crate::fault::ScriptFault;
@@ -70,19 +70,20 @@ fn script_in(alloc: Global, input: &[u8]) -> Result<Script, ScriptFault>
 /// the last one part nothing. Numbers have 1 to 20 decimal digits. A line that says nothing else is
 /// bad, as is a line that follows a `restore` and is not skipped; the first one is answered.
 ///
-/// `Input` comes where the reader fails, where it was asked 134,217,728 times without coming to its
-/// end, and where the input is longer than 16,777,216 bytes or is no UTF-8: before any line is
-/// looked at. `OutOfMemory` comes where room for the input or for the events is refused. Where the
-/// reader stands after a fault is not said.
+/// `Input` comes where the input is longer than 16,777,216 bytes or is no UTF-8, before any line is
+/// looked at. `ReadFault` comes where the reader fails, or was asked 134,217,728 times without
+/// coming to its end. `OutOfMemory` comes where room for the input or for the events is refused.
 pub fn read_script<R: Read>(alloc: Global, reader: &mut R) -> Result<Script, ScriptFault>
     // What is read is what the lines of the input say.
     ensures found { IfOk result (λ script. IfSome (R.remaining reader.old) (λ input.
         said_in (lines_of input) ≡ Some (script.events.items, script.restore))) }
     ensures text { IfOk result (λ _. IfSome (R.remaining reader.old) IsText) }
     ensures end { OnOk result (IsAtEnd (R.remaining reader.new)) }
-    // The bad line is the first one.
+    // The bad line is the first one, and a text is not refused as an input.
     ensures first { IfErr result (λ fault. IfSome (R.remaining reader.old)
         (λ input. Refuses input fault)) }
+    // Where the reader failed, what it gave until then is not too long.
+    ensures unread { IfErr result (GaveNoFault (R.remaining reader.old) (R.remaining reader.new)) }
 {
     let input = read_input(alloc, reader)?;
     if str::from_utf8(&input).is_err() {

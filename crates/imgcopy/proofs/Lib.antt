@@ -1,3 +1,4 @@
 mod ClapLemmas
 mod RedoLemmas
 mod RequiredLemmas
+mod RestoreLemmas

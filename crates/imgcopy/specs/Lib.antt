@@ -1,3 +1,4 @@
 pub mod Command
+pub mod Restore
 pub mod Status
 pub mod Stream

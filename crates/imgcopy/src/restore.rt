@@ -1,5 +1,8 @@
 //! The restore of a volume from files.
 
+ghost use Rattle.std.specs.Prelude.{length, IfErr, OnOk};
+ghost use Rattle.imgcopy.specs.Restore.{LeavesOfSome, WritesSomeVolume};
+
 use media_restore::{RestoreFault, restore_files};
 use std::alloc::{AllocError, Global};
 use std::io::{Read, Write};
@@ -8,7 +11,7 @@ use std::{fs, io};
 
 /// Restores a volume from files: a log, its master record, and the archives of a chain of copies.
 /// The faults are those of `restore_files`; a file that cannot be opened is one whose first read
-/// fails. The writer is not flushed.
+/// fails. The writer is not flushed. Which bytes the files have, no clause can say.
 pub fn restore_volume<R: Files, W: Write>(
     files: &R,
     alloc: Global,
@@ -16,7 +19,12 @@ pub fn restore_volume<R: Files, W: Write>(
     master: &str,
     archives: &[&str],
     writer: &mut W,
-) -> Result<(), RestoreFault> {
+) -> Result<(), RestoreFault>
+    ensures ok { OnOk result (WritesSomeVolume (length archives.now)
+        (W.contents writer.old) (W.contents writer.new)) }
+    ensures err { IfErr result (LeavesOfSome (length archives.now)
+        (W.contents writer.old) (W.contents writer.new)) }
+{
     let mut readers = Vec::with_capacity(alloc, archives.len())?;
     for name in archives {
         readers

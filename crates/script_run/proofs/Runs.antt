@@ -12,7 +12,7 @@ use Rattle.event_script.specs.Words.{lines_of}
 use Rattle.script_run.specs.declared.run_fault.RunFault.{RunFault}
 use Rattle.script_run.specs.declared.run_fault.RunFault.TheVariants.{Script, OutOfMemory, LogFault, WriteFault}
 use Rattle.script_run.specs.ReplyLines.{reply_lines}
-use Rattle.script_run.specs.Run.{IsScript, LeavesPart, Plays, RunLeaves}
+use Rattle.script_run.specs.Run.{FailedUnread, IsScript, LeavesPart, Plays, RunLeaves}
 
 pub script_of : (input : Option (List ℕ)) (events : List Event) (last : Option LastRestore)
     → IfSome input (λ bytes. said_in (lines_of bytes) ≡ Some (events, last)) → IfSome input IsText
@@ -34,3 +34,11 @@ not_written pages input old new replies left last (WriteFault done) plays leaves
 }
 not_written pages input old new replies left last LogFault plays leaves = absurd leaves
 not_written pages input old new replies left last (Script fault) plays leaves = absurd leaves
+
+-- a fault of writing is none of reading
+pub was_read : (bytes : List ℕ) (old new before after : Option (List ℕ)) (fault : RunFault)
+    → LeavesPart bytes old new fault → FailedUnread before after fault
+was_read bytes old new before after OutOfMemory leaves = tt
+was_read bytes old new before after (WriteFault done) leaves = tt
+was_read bytes old new before after LogFault leaves = tt
+was_read bytes old new before after (Script fault) leaves = absurd leaves

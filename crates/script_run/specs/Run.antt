@@ -8,7 +8,7 @@ use Rattle.aries_core.specs.declared.refusal.Refusal.{Refusal}
 use Rattle.aries_core.specs.EngineState.{EngineState, new_state}
 use Rattle.aries_core.specs.Run.{Run}
 use Rattle.event_script.specs.declared.script.LastRestore.{LastRestore}
-use Rattle.event_script.specs.Read.{IsText, Refuses}
+use Rattle.event_script.specs.Read.{GaveNoFault, IsText, Refuses}
 use Rattle.event_script.specs.Script.{said_in}
 use Rattle.event_script.specs.Words.{lines_of}
 use Rattle.script_run.specs.declared.run_fault.RunFault.{RunFault}
@@ -64,3 +64,8 @@ RunLeaves pages input old new (Script fault) =
 RunLeaves pages input old new OutOfMemory = Keeps old new
 RunLeaves pages input old new LogFault = Keeps old new
 RunLeaves pages input old new (WriteFault done) = RunsInPart pages input old new done
+
+-- where the reader of the script failed, what it gave until then is not too long
+abbrev pub FailedUnread : Option (List ℕ) → Option (List ℕ) → RunFault → Type 0
+FailedUnread old new (Script fault) = GaveNoFault old new fault
+FailedUnread old new other = Unit {0}

@@ -4,7 +4,7 @@ ghost use Rattle.std.specs.Prelude.{◌≡◌, ◌<◌, ◌≤◌, length, take,
 ghost use Rattle.std.specs.Io.KnownBytes.{Appends, Keeps};
 ghost use Rattle.log_records.specs.Log.{IsPageCount};
 ghost use Rattle.script_run.specs.ReplyLines.{reply_lines};
-ghost use Rattle.script_run.specs.Run.{LeavesPart, RunLeaves, Runs};
+ghost use Rattle.script_run.specs.Run.{FailedUnread, LeavesPart, RunLeaves, Runs};
 
 use crate::memory_play::play_in_memory;
 use crate::reply_lines::reply_lines;
@@ -44,6 +44,8 @@ pub fn run_script<R: Read, W: Write>(
         (W.contents writer.old) (W.contents writer.new) ran.retired ran.last) }
     ensures err { IfErr result (RunLeaves setup.pages (R.remaining reader.old)
         (W.contents writer.old) (W.contents writer.new)) }
+    // Where the reader failed, what it gave until then is not too long.
+    ensures unread { IfErr result (FailedUnread (R.remaining reader.old) (R.remaining reader.new)) }
 {
     let script = match read_script(alloc, reader) {
         Ok(script) => script,

@@ -7,7 +7,7 @@ use Rattle.script_run.specs.Run.{LeavesPart}
 use Rattle.aries_core.specs.declared.event.Event.{Event}
 use Rattle.aries_core.specs.EngineState.{new_state}
 use Rattle.aries_core.specs.Run.{Run}
-use Rattle.script_run.proofs.Runs.{not_written, script_of}
+use Rattle.script_run.proofs.Runs.{not_written, script_of, was_read}
 use Rattle.script_run.proofs.run.run_script.Goals as goal
 
 pub returns-in-Err-write_replies-clause-err : goal.returns-in-Err-write_replies-clause-err
@@ -31,3 +31,7 @@ returns-in-Err-write_replies-clause-err g c =
     (subst (λ (replies : List (Result Answer Refusal)). LeavesPart (reply_lines replies)
     (g.W.Write.contents c.args.writer.now) (g.W.Write.contents c.write_replies.new.writer)
     c.in-Err-write_replies.fault) c.deref-2.ensures.value c.in-Err-write_replies.ensures.err)
+
+pub returns-in-Err-write_replies-clause-unread : goal.returns-in-Err-write_replies-clause-unread
+returns-in-Err-write_replies-clause-unread g c =
+    was_read _ _ _ _ _ c.in-Err-write_replies.fault c.in-Err-write_replies.ensures.err
