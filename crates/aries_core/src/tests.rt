@@ -14,8 +14,20 @@ use log_store::LogDevice;
 use page_core::{Lsn, PageNo, SlotNo, TxnNo};
 use page_store::{MemStore, PageStore};
 use std::alloc::Global;
+use std::fmt::{Debug, Display};
 use std::process::Abort;
 use std::test::Fail;
+
+/// Asserts that a value is the wanted one. It is a call, since what `assert_eq!` writes is dear to
+/// prove in a long test.
+fn same<T: PartialEq + Debug>(rt: &impl Abort, given: &T, wanted: &T) {
+    assert_eq!(rt; *given, *wanted);
+}
+
+/// The same, and tells where it is asserted.
+fn same_at<T: PartialEq + Debug, P: Debug>(rt: &impl Abort, given: &T, wanted: &T, place: &P) {
+    assert_eq!(rt; *given, *wanted, "{place:?}");
+}
 
 /// A volume of so many pages, each with a frame of its own.
 fn setup_of(pages: u32) -> Setup
@@ -146,7 +158,7 @@ fn call<S: PageStore, D: LogDevice>(
     row: &[(Event, Reply)],
 ) {
     for &(event, reply) in row {
-        assert_eq!(rt; engine.apply(event), reply, "{event:?}");
+        same_at(rt, &engine.apply(event), &reply, &event);
     }
 }
 
@@ -172,9 +184,9 @@ fn events_of(alloc: Global, row: &[(Event, Reply)]) -> Result<Vec<Event>, Fail> 
 
 /// Asserts that these are the replies of a row.
 fn assert_replies(rt: &impl Abort, replies: &[Reply], row: &[(Event, Reply)]) {
-    assert_eq!(rt; replies.len(), row.len());
+    same(rt, &replies.len(), &row.len());
     for (given, &(event, reply)) in replies.iter().zip(row) {
-        assert_eq!(rt; *given, reply, "{event:?}");
+        same_at(rt, given, &reply, &event);
     }
 }
 
@@ -195,10 +207,15 @@ fn play_on<D: LogDevice + Drop>(
     Ok(played.engine)
 }
 
-/// Asserts what a refusal's text is.
-fn assert_text(rt: &impl Abort, alloc: Global, refusal: Refusal, text: &str) -> Result<(), Fail> {
-    let printed = format!(in alloc; "{refusal}")?;
-    assert_eq!(rt; printed.as_str(), text);
+/// Asserts what the text of a refusal or a fault is.
+fn assert_text<T: Display + Drop>(
+    rt: &impl Abort,
+    alloc: Global,
+    shown: T,
+    text: &str,
+) -> Result<(), Fail> {
+    let printed = format!(in alloc; "{shown}")?;
+    same(rt, &printed.as_str(), &text);
     Ok(())
 }
 
@@ -245,9 +262,6 @@ fn refusals_of_checkpoints_and_copies_have_texts(rt: HostRuntime) -> Result<(), 
 
 #[test]
 fn faults_have_texts(rt: HostRuntime) -> Result<(), Fail> {
-    let printed = format!(in rt.alloc(); "{}", PlayFault::OutOfMemory)?;
-    assert_eq!(rt; printed.as_str(), "E1 OutOfMemory");
-    let printed = format!(in rt.alloc(); "{}", PlayFault::LogFault)?;
-    assert_eq!(rt; printed.as_str(), "E23 LogFault");
-    Ok(())
+    assert_text(&rt, rt.alloc(), PlayFault::OutOfMemory, "E1 OutOfMemory")?;
+    assert_text(&rt, rt.alloc(), PlayFault::LogFault, "E23 LogFault")
 }

@@ -31,8 +31,3 @@ pub use read::read_archive;
 pub use reading::ReadingCopy;
 pub use vault::Vault;
 pub use write::write_archive;
-
-#[cfg(test)]
-mod archive_tests;
-#[cfg(test)]
-mod tests;

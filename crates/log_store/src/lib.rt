@@ -24,10 +24,3 @@ pub use mem_device::MemDevice;
 pub use read::{read_log, read_log_with_open};
 pub use scan::{Scan, scan_log};
 pub use sink::RecordSink;
-
-#[cfg(test)]
-mod checkpoint_tests;
-#[cfg(test)]
-mod open_tests;
-#[cfg(test)]
-mod tests;

@@ -232,6 +232,3 @@ fn offset_of(index: usize) -> u64
 {
     64 * (index as u64 + 1)
 }
-
-#[cfg(test)]
-mod tests;

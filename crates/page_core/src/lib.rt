@@ -9,8 +9,6 @@ mod input;
 mod numbers;
 mod output;
 mod page;
-#[cfg(test)]
-mod tests;
 mod volume;
 
 pub use buffer::zeros;

@@ -8,6 +8,3 @@ mod volume;
 pub use laws::{pages_of_logs_are_valid, redo_completes_a_page};
 pub use redo::redo_page;
 pub use volume::redo_pages;
-
-#[cfg(test)]
-mod tests;

@@ -8,6 +8,3 @@ mod store;
 pub use faulty_store::FaultyStore;
 pub use mem_store::MemStore;
 pub use store::{PageStore, StoreFault};
-
-#[cfg(test)]
-mod tests;

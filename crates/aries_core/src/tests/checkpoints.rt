@@ -5,7 +5,7 @@ ghost use Rattle.std.specs.Prelude.{◌≤◌};
 use super::rows::{assert_parts, assert_row};
 use super::stores::call_over;
 use super::{
-    began, call, commit, done, engine_on, logged, more, point, read, set, value, write_begin,
+    began, call, commit, done, engine_on, logged, more, point, read, same, set, value, write_begin,
     write_end, writing, written,
 };
 use crate::{Engine, Event, Refusal, Reply};
@@ -89,9 +89,9 @@ fn a_dirty_page_is_gathered(rt: HostRuntime) -> Result<(), Fail> {
 /// Asserts that these LSNs are spelled as that master.
 fn assert_master(rt: &impl Abort, begin: Lsn, end: Lsn) {
     let master = encode_master(&Master { begin, end });
-    assert_eq!(rt; master.len(), MASTER_BYTES);
+    assert!(rt; master.len() == MASTER_BYTES);
     for (part, number) in master.chunks_exact(8).zip(&MASTER) {
-        assert_eq!(rt; part, number.to_be_bytes().as_slice());
+        same(rt, &part, &number.to_be_bytes().as_slice());
     }
     assert!(rt; master[24..].iter().all(|byte| *byte == 0));
 }
@@ -99,9 +99,9 @@ fn assert_master(rt: &impl Abort, begin: Lsn, end: Lsn) {
 /// Asserts that the log's device ends with the records, and that the master is that one.
 fn assert_bytes(rt: &impl Abort, engine: &Engine<MemStore, MemDevice>) {
     let bytes = engine.log.device().bytes();
-    assert_eq!(rt; bytes.len(), 448);
+    assert!(rt; bytes.len() == 448);
     for (part, number) in bytes[192..].chunks_exact(8).zip(RECORDS.iter().flatten()) {
-        assert_eq!(rt; part, number.to_be_bytes().as_slice());
+        same(rt, &part, &number.to_be_bytes().as_slice());
     }
     assert!(rt; engine.master().is_some());
     if let Some(point) = engine.master() {
@@ -243,7 +243,11 @@ fn not_stored() -> [(Event, Reply); 12] {
 #[test]
 fn a_page_that_was_not_stored_is_gathered(rt: HostRuntime) -> Result<(), Fail> {
     let engine = call_over(&rt, rt.alloc(), 1, &not_stored())?;
-    assert_eq!(rt; engine.master().map(|point| point.redo), Some(Lsn(128)));
+    same(
+        &rt,
+        &engine.master().map(|point| point.redo),
+        &Some(Lsn(128)),
+    );
     Ok(())
 }
 

@@ -4,7 +4,7 @@ use super::checkpoints::{behind_the_cursor, changed_during_a_write, of_one_page}
 use super::rows::{assert_parts, assert_row};
 use super::stores::{call_over, play_over};
 use super::{
-    abort, add, began, call, commit, done, events_of, joined, logged, more, point, read, set,
+    abort, add, began, call, commit, done, events_of, joined, logged, more, point, read, same, set,
     undid, undo, value, write_begin, write_end, writing, written,
 };
 use crate::{Answer, Engine, Event, Refusal, Reply};
@@ -376,9 +376,9 @@ fn taken_again() -> [(Event, Reply); 5] {
 fn assert_not_taken(rt: &impl Abort, engine: &mut Engine<FaultyStore, MemDevice>) {
     let (end, forced, master) = (engine.log_end(), engine.log.forced_end(), engine.master());
     call(rt, engine, &not_taken());
-    assert_eq!(rt; engine.log_end(), end);
-    assert_eq!(rt; engine.log.forced_end(), forced);
-    assert_eq!(rt; engine.master(), master);
+    same(rt, &engine.log_end(), &end);
+    same(rt, &engine.log.forced_end(), &forced);
+    same(rt, &engine.master(), &master);
     call(rt, engine, &taken_again());
 }
 

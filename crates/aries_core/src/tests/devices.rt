@@ -2,7 +2,7 @@
 
 use super::{
     abort, add, began, call, commit, done, ended, engine_on, forced, logged, more, play_on, point,
-    read, set, setup_of, undid, undo, value,
+    read, same, same_at, set, setup_of, undid, undo, value,
 };
 use crate::{Engine, Event, PlayFault, Refusal, Reply, play};
 use log_store::{FaultyDevice, MemDevice, read_log};
@@ -23,12 +23,12 @@ fn assert_forced(
     engine: &Engine<MemStore, FaultyDevice>,
 ) -> Result<(), Fail> {
     let mut bytes = engine.log.device().bytes();
-    assert_eq!(rt; bytes.len() as u64, engine.log.forced_end().0);
+    same(rt, &(bytes.len() as u64), &engine.log.forced_end().0);
     let read = read_log(alloc, &mut bytes)?;
     let count = read.records().len();
     let records = engine.log.records();
     assert!(rt; count <= records.len());
-    assert_eq!(rt; read.records(), &records[..count]);
+    same(rt, &read.records(), &&records[..count]);
     Ok(())
 }
 
@@ -51,10 +51,10 @@ fn call_each(
 ) -> Result<(), Fail> {
     for (index, &(event, reply)) in row.iter().enumerate() {
         let given = engine.apply(event);
-        assert_eq!(rt; given, reply, "{event:?} where call {k} fails");
+        same_at(rt, &given, &reply, &(index, k));
         assert_forced(rt, alloc, engine)?;
         if index == place {
-            assert_eq!(rt; engine.log.forced_end().0 / 64 + 1, k);
+            same(rt, &(engine.log.forced_end().0 / 64 + 1), &k);
         }
     }
     Ok(())
@@ -176,7 +176,7 @@ fn assert_no_master(
     let device = failing_device(alloc, row.len(), k)?;
     let mut engine = engine_on(alloc, 1, device)?;
     call(rt, &mut engine, row);
-    assert_eq!(rt; engine.master(), None);
+    same(rt, &engine.master(), &None);
     Ok(())
 }
 
@@ -219,7 +219,7 @@ fn the_header_is_not_stored(rt: HostRuntime) -> Result<(), Fail> {
     let store = MemStore::new(rt.alloc(), 1)?;
     let device = failing_device(rt.alloc(), 1, 1)?;
     let fault = Engine::new(rt.alloc(), setup_of(1), store, device).err();
-    assert_eq!(rt; fault, Some(PlayFault::LogFault));
+    same(&rt, &fault, &Some(PlayFault::LogFault));
     Ok(())
 }
 
@@ -228,6 +228,6 @@ fn the_header_is_not_stored_for_a_list(rt: HostRuntime) -> Result<(), Fail> {
     let store = MemStore::new(rt.alloc(), 1)?;
     let device = failing_device(rt.alloc(), 1, 1)?;
     let fault = play(rt.alloc(), setup_of(1), store, device, &[Event::Begin]).err();
-    assert_eq!(rt; fault, Some(PlayFault::LogFault));
+    same(&rt, &fault, &Some(PlayFault::LogFault));
     Ok(())
 }

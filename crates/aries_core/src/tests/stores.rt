@@ -4,8 +4,8 @@ ghost use Rattle.std.specs.Prelude.{◌≡◌, IfOk};
 ghost use Rattle.page_core.specs.Volume.{formatted_pages};
 
 use super::{
-    assert_replies, began, call, commit, engine_on, events_of, forced, logged, play_on, read, set,
-    setup_of, value, write_begin, write_end, writing, written,
+    assert_replies, began, call, commit, engine_on, events_of, forced, logged, play_on, read, same,
+    set, setup_of, value, write_begin, write_end, writing, written,
 };
 use crate::{Engine, Event, Refusal, Reply, play};
 use log_records::{DirtyPage, DirtyPages};
@@ -31,8 +31,8 @@ fn assert_pages<S: PageStore, D: LogDevice>(
     dirty: Option<DirtyPages>,
     want: (Lsn, u64, u64),
 ) -> Result<(), Fail> {
-    assert_eq!(rt; engine.pool.dirty_from(PageNo(0)), dirty);
-    assert_eq!(rt; stored(engine)?, want);
+    same(rt, &engine.pool.dirty_from(PageNo(0)), &dirty);
+    same(rt, &stored(engine)?, &want);
     Ok(())
 }
 
@@ -172,7 +172,7 @@ fn failing_device(alloc: Global, k: u64) -> Result<FaultyDevice, Fail> {
 fn call_on_failing(rt: &impl Abort, alloc: Global, k: u64) -> Result<(), Fail> {
     let mut engine = engine_on(alloc, 1, failing_device(alloc, k)?)?;
     call(rt, &mut engine, &forced_again());
-    assert_eq!(rt; engine.log.forced_end(), Lsn(192));
+    same(rt, &engine.log.forced_end(), &Lsn(192));
     Ok(())
 }
 
@@ -207,7 +207,7 @@ fn a_write_forces_its_image_alone(rt: HostRuntime) -> Result<(), Fail> {
     let device = MemDevice::new(rt.alloc(), 4)?;
     let mut engine = engine_on(rt.alloc(), 2, device)?;
     call(&rt, &mut engine, &one_page_of_two());
-    assert_eq!(rt; engine.log.forced_end(), Lsn(192));
+    same(&rt, &engine.log.forced_end(), &Lsn(192));
     call(&rt, &mut engine, &[(Event::Force, forced(256))]);
     Ok(())
 }

@@ -1,6 +1,7 @@
 //! The bytes of archives, and which fault those have that are cut or spoiled.
 
-use crate::{
+use crate::asserts::{same, same_at};
+use copy_vault::{
     ArchiveFault, ArchiveWriteFault, Chain, ChainFault, CompleteCopy, CopyFault, CopyId, CopyKind,
     Decision, Vault, read_archive, write_archive,
 };
@@ -67,12 +68,16 @@ fn a_sealed_copy_has_its_archive(rt: HostRuntime) -> Result<(), Fail> {
     let mut vault = Vault::new(alloc);
     let id = vault.open_full(alloc, 1, Lsn(192), Lsn(128))?;
     let page = Page::formatted(PageNo(0));
-    assert_eq!(rt; take(alloc, &mut vault, id, &page)?, Decision::Taken);
-    assert_eq!(rt; vault.seal(id), Ok(1));
+    same(&rt, &take(alloc, &mut vault, id, &page)?, &Decision::Taken);
+    same(&rt, &vault.seal(id), &Ok(1));
     let Some(copy) = vault.complete(id) else {
         return Err(Fail::new("the copy is not complete"));
     };
-    assert_eq!(rt; written(alloc, copy)?, archive_with(alloc, OF_ONE_PAGE, 1)?);
+    same(
+        &rt,
+        &written(alloc, copy)?,
+        &archive_with(alloc, OF_ONE_PAGE, 1)?,
+    );
     Ok(())
 }
 
@@ -82,31 +87,33 @@ fn a_chain_has_each_page(rt: HostRuntime) -> Result<(), Fail> {
     let mut vault = Vault::new(alloc);
     let first = vault.open_full(alloc, 2, Lsn(64), Lsn(64))?;
     let refused = vault.open_inc(alloc, first, Lsn(384), Lsn(384));
-    assert_eq!(rt; refused, Err(CopyFault::CopyNotComplete));
+    same(&rt, &refused, &Err(CopyFault::CopyNotComplete));
     let [zero, mut one] = [Page::formatted(PageNo(0)), Page::formatted(PageNo(1))];
     take(alloc, &mut vault, first, &one)?;
     take(alloc, &mut vault, first, &zero)?;
-    assert_eq!(rt; vault.seal(first), Ok(2));
+    same(&rt, &vault.seal(first), &Ok(2));
     let next = vault.open_inc(alloc, first, Lsn(384), Lsn(384))?;
     one.lsn = Lsn(256);
-    assert_eq!(rt; take(alloc, &mut vault, next, &one)?, Decision::Taken);
-    assert_eq!(rt; take(alloc, &mut vault, next, &zero)?, Decision::Kept);
-    assert_eq!(rt;
-        vault.chain(alloc, next).err(),
-        Some(CopyFault::CopyNotComplete)
+    same(&rt, &take(alloc, &mut vault, next, &one)?, &Decision::Taken);
+    same(&rt, &take(alloc, &mut vault, next, &zero)?, &Decision::Kept);
+    same(
+        &rt,
+        &vault.chain(alloc, next).err(),
+        &Some(CopyFault::CopyNotComplete),
     );
-    assert_eq!(rt; vault.seal(next), Ok(1));
-    assert_eq!(rt;
-        vault.chain(alloc, CopyId(3)).err(),
-        Some(CopyFault::NoCopy)
+    same(&rt, &vault.seal(next), &Ok(1));
+    same(
+        &rt,
+        &vault.chain(alloc, CopyId(3)).err(),
+        &Some(CopyFault::NoCopy),
     );
     let chain = vault.chain(alloc, next)?;
-    assert_eq!(rt; (chain.pages(), chain.redo()), (2, Lsn(384)));
+    same(&rt, &(chain.pages(), chain.redo()), &(2, Lsn(384)));
     let mut lsns = Vec::new(alloc);
     for page in chain.contents(alloc)? {
         lsns.push(page.lsn)?;
     }
-    assert_eq!(rt; lsns.as_slice(), [Lsn(0), Lsn(256)].as_slice());
+    same(&rt, &lsns.as_slice(), &[Lsn(0), Lsn(256)].as_slice());
     Ok(())
 }
 
@@ -134,12 +141,13 @@ fn an_archive_is_read_and_written_again(rt: HostRuntime) -> Result<(), Fail> {
     ] {
         let archive = archive_with(alloc, header, pages)?;
         let copy = read_archive(alloc, &mut archive.as_slice())?;
-        assert_eq!(rt;
-            (copy.id(), copy.begin(), copy.redo(), copy.taken()),
-            (id, begin, redo, pages)
+        same(
+            &rt,
+            &(copy.id(), copy.begin(), copy.redo(), copy.taken()),
+            &(id, begin, redo, pages),
         );
-        assert_eq!(rt; copy.kind(), kind);
-        assert_eq!(rt; written(alloc, &copy)?, archive);
+        same(&rt, &copy.kind(), &kind);
+        same(&rt, &written(alloc, &copy)?, &archive);
     }
     Ok(())
 }
@@ -148,24 +156,27 @@ fn an_archive_is_read_and_written_again(rt: HostRuntime) -> Result<(), Fail> {
 fn archives_are_linked(rt: HostRuntime) -> Result<(), Fail> {
     let alloc = rt.alloc();
     let mut copies = Vec::new(alloc);
-    assert_eq!(rt;
-        linked(alloc, &copies, 1),
-        Some(ChainFault::ChainBroken(CopyId(0)))
+    same(
+        &rt,
+        &linked(alloc, &copies, 1),
+        &Some(ChainFault::ChainBroken(CopyId(0))),
     );
     for (header, pages) in [(OF_ONE_PAGE, 1), (OF_A_KEPT_PAGE, 0)] {
         let archive = archive_with(alloc, header, pages)?;
         copies.push(read_archive(alloc, &mut archive.as_slice())?)?;
     }
-    assert_eq!(rt;
-        linked(alloc, &copies, 1),
-        Some(ChainFault::ChainBroken(CopyId(3)))
+    same(
+        &rt,
+        &linked(alloc, &copies, 1),
+        &Some(ChainFault::ChainBroken(CopyId(3))),
     );
-    assert_eq!(rt;
-        linked(alloc, &copies, 2),
-        Some(ChainFault::ChainBroken(CopyId(1)))
+    same(
+        &rt,
+        &linked(alloc, &copies, 2),
+        &Some(ChainFault::ChainBroken(CopyId(1))),
     );
     copies.truncate(1);
-    assert_eq!(rt; linked(alloc, &copies, 1), None);
+    same(&rt, &linked(alloc, &copies, 1), &None);
     Ok(())
 }
 
@@ -185,10 +196,11 @@ fn a_cut_archive_is_refused(rt: HostRuntime) -> Result<(), Fail> {
             65..576 => ArchiveFault::BadArchive(64),
             _ => ArchiveFault::BadArchive(576),
         };
-        assert_eq!(rt;
-            fault_of(alloc, &archive[..count]),
-            Some(wanted),
-            "cut to {count}"
+        same_at(
+            &rt,
+            &fault_of(alloc, &archive[..count]),
+            &Some(wanted),
+            &format_args!("cut to {count}"),
         );
     }
     Ok(())
@@ -212,11 +224,20 @@ fn a_spoiled_archive_is_refused(rt: HostRuntime) -> Result<(), Fail> {
         if let Some(place) = archive.get_mut(at) {
             *place = byte;
         }
-        assert_eq!(rt; fault_of(alloc, &archive), Some(wanted), "{byte} at {at}");
+        same_at(
+            &rt,
+            &fault_of(alloc, &archive),
+            &Some(wanted),
+            &format_args!("{byte} at {at}"),
+        );
     }
     let mut longer = archive_with(alloc, OF_TWO_PAGES, 2)?;
     longer.push(0)?;
-    assert_eq!(rt; fault_of(alloc, &longer), Some(ArchiveFault::CountDiffers));
+    same(
+        &rt,
+        &fault_of(alloc, &longer),
+        &Some(ArchiveFault::CountDiffers),
+    );
     Ok(())
 }
 
@@ -249,16 +270,17 @@ fn a_failure_is_told_as_what_it_is(rt: HostRuntime) -> Result<(), Fail> {
             left: archive.get(..given).unwrap_or(&[]),
         };
         let outcome = read_archive(alloc, &mut reader);
-        assert_eq!(rt;
-            outcome.err(),
-            Some(ArchiveFault::ReadFault),
-            "{given} bytes"
+        same_at(
+            &rt,
+            &outcome.err(),
+            &Some(ArchiveFault::ReadFault),
+            &format_args!("{given} bytes"),
         );
     }
     let copy = read_archive(alloc, &mut archive.as_slice())?;
     let mut room = [0; 600];
     let outcome = write_archive(alloc, &copy, &mut room.as_mut_slice());
-    assert_eq!(rt; outcome, Err(ArchiveWriteFault::WriteFault(600)));
-    assert_eq!(rt; archive.get(..600), Some(room.as_slice()));
+    same(&rt, &outcome, &Err(ArchiveWriteFault::WriteFault(600)));
+    same(&rt, &archive.get(..600), &Some(room.as_slice()));
     Ok(())
 }

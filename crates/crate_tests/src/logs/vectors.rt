@@ -1,7 +1,7 @@
 //! Known records and logs, and their bytes.
 
-use crate::LogReadFault;
 use log_records::Record;
+use log_store::LogReadFault;
 use page_core::{Change, Lsn, PageNo, SlotNo, TxnNo};
 use std::alloc::{AllocError, Global};
 

@@ -3,12 +3,9 @@
 ghost use Rattle.std.specs.Prelude.{◌≡◌, []};
 ghost use Rattle.log_records.specs.Log.{StandsAt};
 
-use super::Log;
-use crate::device::{DeviceFault, LogDevice};
-use crate::faulty_device::FaultyDevice;
-use crate::mem_device::MemDevice;
-use crate::read::read_log;
+use crate::asserts::{same, same_at};
 use log_records::{Record, encode_header};
+use log_store::{DeviceFault, FaultyDevice, Log, LogDevice, MemDevice, read_log};
 use page_core::{Change, Lsn, PageNo, SlotNo, TxnNo};
 use std::alloc::{AllocError, Global};
 use std::test::Fail;
@@ -93,13 +90,13 @@ fn forced_records_are_read(rt: HostRuntime) -> Result<(), Fail> {
     let alloc = rt.alloc();
     let mut log = log_on(alloc, MemDevice::new(alloc, 3)?)?;
     let done = log.force_to(Lsn(128));
-    assert_eq!(rt; (done, log.forced_end()), (Ok(()), Lsn(192)));
+    same(&rt, &(done, log.forced_end()), &(Ok(()), Lsn(192)));
     let bytes = log.device().bytes();
     assert!(rt; bytes.len() == 192 && has_records(alloc, bytes, Lsn(192), 2));
     let done = log.force();
-    assert_eq!(rt; (done, log.forced_end()), (Ok(()), Lsn(256)));
+    same(&rt, &(done, log.forced_end()), &(Ok(()), Lsn(256)));
     let (kept, device) = log.into_parts();
-    assert_eq!(rt; kept.records(), records().as_slice());
+    same(&rt, &kept.records(), &records().as_slice());
     assert!(rt; has_records(alloc, device.bytes(), Lsn(256), 3));
     Ok(())
 }
@@ -113,13 +110,14 @@ fn a_call_fails(rt: HostRuntime) -> Result<(), Fail> {
         let mut log = log_on(alloc, device)?;
         let end = Lsn(64 * (k - 1));
         let done = log.force();
-        assert_eq!(rt;
-            (done, log.forced_end()),
-            (Err(DeviceFault), end),
-            "call {k} fails"
+        same_at(
+            &rt,
+            &(done, log.forced_end()),
+            &(Err(DeviceFault), end),
+            &format_args!("call {k} fails"),
         );
         assert!(rt; has_records(alloc, log.device().bytes(), end, k as usize - 2));
-        assert_eq!(rt; log.force(), Ok(()));
+        same(&rt, &log.force(), &Ok(()));
         assert!(rt; has_records(alloc, log.device().bytes(), Lsn(256), 3));
     }
     Ok(())
@@ -130,10 +128,10 @@ fn the_header_is_stored_again(rt: HostRuntime) -> Result<(), Fail> {
     let alloc = rt.alloc();
     let device = FaultyDevice::new(MemDevice::new(alloc, 3)?, 1);
     let (fault, device) = Log::new(alloc, 1, device).err().ok_or("call 1 fails")?;
-    assert_eq!(rt; (fault, device.bytes().len()), (DeviceFault, 0));
+    same(&rt, &(fault, device.bytes().len()), &(DeviceFault, 0));
     let mut log = log_on(alloc, device)?;
     assert!(rt; has_records(alloc, log.device().bytes(), Lsn(64), 0));
-    assert_eq!(rt; log.force(), Ok(()));
+    same(&rt, &log.force(), &Ok(()));
     assert!(rt; has_records(alloc, log.device().bytes(), Lsn(256), 3));
     Ok(())
 }
@@ -154,11 +152,12 @@ fn records_are_found(rt: HostRuntime) -> Result<(), Fail> {
     let alloc = rt.alloc();
     let log = log_on(alloc, MemDevice::new(alloc, 0)?)?;
     assert!(rt; finds_records(&log));
-    assert_eq!(rt;
-        (log.forced_end(), log.end(), log.pages()),
-        (Lsn(64), Lsn(256), 1)
+    same(
+        &rt,
+        &(log.forced_end(), log.end(), log.pages()),
+        &(Lsn(64), Lsn(256), 1),
     );
-    assert_eq!(rt; log.records(), records().as_slice());
+    same(&rt, &log.records(), &records().as_slice());
     Ok(())
 }
 
@@ -167,11 +166,11 @@ fn a_device_is_full(rt: HostRuntime) -> Result<(), Fail> {
     let alloc = rt.alloc();
     let mut device = MemDevice::new(alloc, 0)?;
     device.store(0, &encode_header(1))?;
-    assert_eq!(rt; device.store(64, &[0]), Err(DeviceFault));
-    assert_eq!(rt; device.bytes(), encode_header(1).as_slice());
+    same(&rt, &device.store(64, &[0]), &Err(DeviceFault));
+    same(&rt, &device.bytes(), &encode_header(1).as_slice());
     device.store(0, &[5, 6, 7])?;
     device.store(1, &[8])?;
-    assert_eq!(rt; device.bytes(), [5, 8].as_slice());
+    same(&rt, &device.bytes(), &[5, 8].as_slice());
     Ok(())
 }
 
@@ -179,6 +178,6 @@ fn a_device_is_full(rt: HostRuntime) -> Result<(), Fail> {
 fn a_fault_has_a_text(rt: HostRuntime) -> Result<(), Fail> {
     let fault = DeviceFault;
     let printed = format!(in rt.alloc(); "{fault}")?;
-    assert_eq!(rt; printed.as_str(), "the log's device failed");
+    same(&rt, &printed.as_str(), &"the log's device failed");
     Ok(())
 }

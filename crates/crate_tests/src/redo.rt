@@ -1,8 +1,8 @@
 //! What no clause says: that these calls succeed, and what they make of known records.
 
-use crate::redo_page;
 use log_records::Record;
 use page_core::{Change, Lsn, Page, PageNo, SlotNo, TxnNo};
+use page_redo::redo_page;
 
 /// Transaction 1 sets slot 3 of page 0 to 7, adds 5 to it, and commits.
 fn four_records() -> [Record; 4] {

@@ -4,8 +4,9 @@ ghost use Rattle.std.specs.Prelude.{◌≡◌, ◌<◌, length, slice_get, slice
 ghost use Rattle.std.specs.Prelude.{IfOk, OnOk, OnErr};
 ghost use Rattle.page_store.specs.Store.{StoresOrKeeps};
 
-use crate::{FaultyStore, MemStore, PageStore, StoreFault};
+use crate::asserts::{same, same_at};
 use page_core::{Lsn, MAX_PAGES, Page, PageNo, SLOTS};
+use page_store::{FaultyStore, MemStore, PageStore, StoreFault};
 use std::process::Abort;
 use std::test::Fail;
 
@@ -60,7 +61,7 @@ fn make_call<S: PageStore>(rt: &impl Abort, store: &mut S, call: Call) -> Result
         Call::Read(number) => {
             assert!(rt; number < store.pages());
             let page = store.read(PageNo(number))?;
-            assert_eq!(rt; page.number, PageNo(number));
+            same(rt, &page.number, &PageNo(number));
             Ok(page.slots[0])
         }
     }
@@ -83,7 +84,12 @@ fn assert_follows<S: PageStore>(rt: &impl Abort, store: &mut S, k: usize) {
     for (index, call) in SCRIPT.iter().enumerate() {
         let done = make_call(rt, store, *call);
         if index + 1 == k {
-            assert_eq!(rt; done, Err(StoreFault), "{call:?}, call {k} fails");
+            same_at(
+                rt,
+                &done,
+                &Err(StoreFault),
+                &format_args!("{call:?}, call {k} fails"),
+            );
             continue;
         }
         let want = match *call {
@@ -98,7 +104,12 @@ fn assert_follows<S: PageStore>(rt: &impl Abort, store: &mut S, k: usize) {
             Call::Read(0) => numbers[0],
             Call::Read(_) => numbers[1],
         };
-        assert_eq!(rt; done, Ok(want), "{call:?}, call {k} fails");
+        same_at(
+            rt,
+            &done,
+            &Ok(want),
+            &format_args!("{call:?}, call {k} fails"),
+        );
     }
 }
 
@@ -106,10 +117,10 @@ fn assert_follows<S: PageStore>(rt: &impl Abort, store: &mut S, k: usize) {
 fn a_store_in_memory_never_fails(rt: HostRuntime) -> Result<(), Fail> {
     let mut store = MemStore::new(rt.alloc(), 2)?;
     let formatted = [Page::formatted(PageNo(0)), Page::formatted(PageNo(1))];
-    assert_eq!(rt; store.stored(), formatted.as_slice());
+    same(&rt, &store.stored(), &formatted.as_slice());
     assert_follows(&rt, &mut store, 0);
     let written = [page_with(0, 8), page_with(1, 7)];
-    assert_eq!(rt; store.stored(), written.as_slice());
+    same(&rt, &store.stored(), &written.as_slice());
     Ok(())
 }
 
@@ -118,13 +129,14 @@ fn one_call_fails(rt: HostRuntime) -> Result<(), Fail> {
     let alloc = rt.alloc();
     for k in 0..=SCRIPT.len() {
         let mut store = FaultyStore::new(alloc, MemStore::new(alloc, 2)?, k as u64)?;
-        assert_eq!(rt; store.pages(), 2);
+        same(&rt, &store.pages(), &2);
         assert_follows(&rt, &mut store, k);
         let last = if k == SCRIPT.len() { 6 } else { 8 };
-        assert_eq!(rt;
-            make_call(&rt, &mut store, Call::Read(0)),
-            Ok(last),
-            "call {k} failed"
+        same_at(
+            &rt,
+            &make_call(&rt, &mut store, Call::Read(0)),
+            &Ok(last),
+            &format_args!("call {k} failed"),
         );
     }
     Ok(())
@@ -137,7 +149,12 @@ fn assert_calls<S: PageStore>(
     calls: &[(Call, Result<u64, StoreFault>)],
 ) {
     for &(call, want) in calls {
-        assert_eq!(rt; make_call(rt, store, call), want, "{call:?}");
+        same_at(
+            rt,
+            &make_call(rt, store, call),
+            &want,
+            &format_args!("{call:?}"),
+        );
     }
 }
 
@@ -159,7 +176,7 @@ fn a_damaged_page_is_read_once_it_is_written(rt: HostRuntime) -> Result<(), Fail
     ];
     assert_calls(&rt, &mut store, &calls);
     let written = [page_with(0, 6), page_with(1, 7)];
-    assert_eq!(rt; store.stored(), written.as_slice());
+    same(&rt, &store.stored(), &written.as_slice());
     Ok(())
 }
 
@@ -167,8 +184,12 @@ fn a_damaged_page_is_read_once_it_is_written(rt: HostRuntime) -> Result<(), Fail
 fn a_page_is_swapped_in(rt: HostRuntime) -> Result<(), Fail> {
     let mut store = MemStore::new(rt.alloc(), 3)?;
     let page = page_with(2, 9);
-    assert_eq!(rt; swap_in(&mut store, &page), Ok(Page::formatted(PageNo(2))));
-    assert_eq!(rt; swap_in(&mut store, &page), Ok(page_with(2, 9)));
+    same(
+        &rt,
+        &swap_in(&mut store, &page),
+        &Ok(Page::formatted(PageNo(2))),
+    );
+    same(&rt, &swap_in(&mut store, &page), &Ok(page_with(2, 9)));
     Ok(())
 }
 
@@ -178,9 +199,14 @@ fn a_swap_fails(rt: HostRuntime) -> Result<(), Fail> {
     for k in [1, 2] {
         let mut store = FaultyStore::new(alloc, MemStore::new(alloc, 3)?, k)?;
         let swapped = swap_in(&mut store, &page_with(2, 9));
-        assert_eq!(rt; swapped, Err(StoreFault), "call {k} fails");
+        same_at(
+            &rt,
+            &swapped,
+            &Err(StoreFault),
+            &format_args!("call {k} fails"),
+        );
         let read = make_call(&rt, &mut store, Call::Read(2));
-        assert_eq!(rt; read, Ok(0), "call {k} failed");
+        same_at(&rt, &read, &Ok(0), &format_args!("call {k} failed"));
     }
     Ok(())
 }
@@ -188,7 +214,7 @@ fn a_swap_fails(rt: HostRuntime) -> Result<(), Fail> {
 #[test]
 fn the_last_page_of_the_largest_store_is_there(rt: HostRuntime) -> Result<(), Fail> {
     let mut store = MemStore::new(rt.alloc(), MAX_PAGES)?;
-    assert_eq!(rt; store.pages(), 65_536);
+    same(&rt, &store.pages(), &65_536);
     let calls = [
         (Call::Read(65_535), Ok(0)),
         (Call::Write(65_535, 1), Ok(1)),
@@ -203,6 +229,6 @@ fn the_last_page_of_the_largest_store_is_there(rt: HostRuntime) -> Result<(), Fa
 fn a_fault_has_a_text(rt: HostRuntime) -> Result<(), Fail> {
     let fault = StoreFault;
     let printed = format!(in rt.alloc(); "{fault}")?;
-    assert_eq!(rt; printed.as_str(), "the page store failed");
+    same(&rt, &printed.as_str(), &"the page store failed");
     Ok(())
 }

@@ -4,8 +4,9 @@
 mod readers;
 mod vectors;
 
-use crate::{LogReadFault, read_log};
+use crate::asserts::{same, same_at};
 use log_records::{MAX_LOG_BYTES, MAX_RECORDS, Record, decode, encode, encode_header};
+use log_store::{LogReadFault, read_log};
 use page_core::{Change, Lsn, PageNo, SlotNo, TxnNo};
 use readers::{NeverReady, Pairs, Steps};
 use std::alloc::Global;
@@ -19,15 +20,20 @@ use vectors::{Case, bytes_of, cases, header_of_2_pages, log_of, records, spellin
 fn records_have_their_bytes(rt: HostRuntime) {
     for (record, spelling) in records().iter().zip(&spellings()) {
         let bytes = bytes_of(spelling);
-        assert_eq!(rt; encode(record), bytes, "{record:?}");
-        assert_eq!(rt; decode(&bytes, record.lsn()), Some(*record));
-        assert_eq!(rt; decode(&bytes, Lsn(320)), None, "{record:?}");
+        same_at(&rt, &encode(record), &bytes, &format_args!("{record:?}"));
+        same(&rt, &decode(&bytes, record.lsn()), &Some(*record));
+        same_at(
+            &rt,
+            &decode(&bytes, Lsn(320)),
+            &None,
+            &format_args!("{record:?}"),
+        );
     }
 }
 
 #[test]
 fn a_header_has_its_bytes(rt: HostRuntime) {
-    assert_eq!(rt; encode_header(2), bytes_of(&header_of_2_pages()));
+    same(&rt, &encode_header(2), &bytes_of(&header_of_2_pages()));
 }
 
 /// Each record with one byte changed, and whether that is a record.
@@ -68,7 +74,12 @@ fn other_bytes_are_refused(rt: HostRuntime) {
         let mut bytes = bytes_of(&spellings()[index]);
         bytes[offset] = byte;
         let found = decode(&bytes, records()[index].lsn()).is_some();
-        assert_eq!(rt; found, is_record, "record {index} with {byte} at {offset}");
+        same_at(
+            &rt,
+            &found,
+            &is_record,
+            &format_args!("record {index} with {byte} at {offset}"),
+        );
     }
 }
 
@@ -96,11 +107,11 @@ fn a_compensation_record_has_its_bytes(rt: HostRuntime) {
             amount: 18_446_744_073_709_551_611,
         },
     };
-    assert_eq!(rt; decode(&bytes, Lsn(640)), Some(comp));
-    assert_eq!(rt; encode(&comp), bytes);
+    same(&rt, &decode(&bytes, Lsn(640)), &Some(comp));
+    same(&rt, &encode(&comp), &bytes);
     let mut later = bytes;
     later[0] = 11;
-    assert_eq!(rt; decode(&later, Lsn(640)), None);
+    same(&rt, &decode(&later, Lsn(640)), &None);
 }
 
 /// The page count and the count of records of the log that a reader gives. They are the first of
@@ -113,7 +124,7 @@ fn read_known<R: Read>(
     let log = read_log(alloc, reader)?;
     let count = log.records().len();
     assert!(rt; count <= 4);
-    assert_eq!(rt; log.records(), &records()[..count]);
+    same(rt, &log.records(), &&records()[..count]);
     Ok((log.pages(), count))
 }
 
@@ -124,18 +135,20 @@ fn logs_are_read(rt: HostRuntime) -> Result<(), Fail> {
         let bytes = log_of(alloc, case)?;
         let Case { name, want, .. } = *case;
         let mut whole = bytes.as_slice();
-        assert_eq!(rt; read_known(&rt, alloc, &mut whole), want, "{name}");
+        same_at(&rt, &read_known(&rt, alloc, &mut whole), &want, &name);
         let mut slow = Steps::new(&bytes, 1);
-        assert_eq!(rt;
-            read_known(&rt, alloc, &mut slow),
-            want,
-            "{name}, a byte at a time"
+        same_at(
+            &rt,
+            &read_known(&rt, alloc, &mut slow),
+            &want,
+            &format_args!("{name}, a byte at a time"),
         );
         let mut interrupted = Steps::new(&bytes, 50).interrupted();
-        assert_eq!(rt;
-            read_known(&rt, alloc, &mut interrupted),
-            want,
-            "{name}, interrupted"
+        same_at(
+            &rt,
+            &read_known(&rt, alloc, &mut interrupted),
+            &want,
+            &format_args!("{name}, interrupted"),
         );
     }
     Ok(())
@@ -162,10 +175,11 @@ fn a_reader_fails(rt: HostRuntime) -> Result<(), Fail> {
                 Some(from) if given >= from => want,
                 _ => Err(LogReadFault::ReadFault),
             };
-            assert_eq!(rt;
-                read_known(&rt, alloc, &mut reader),
-                want,
-                "{name}, failing at {given}"
+            same_at(
+                &rt,
+                &read_known(&rt, alloc, &mut reader),
+                &want,
+                &format_args!("{name}, failing at {given}"),
             );
         }
     }
@@ -185,7 +199,7 @@ fn long_logs_are_read(rt: HostRuntime) {
     ] {
         let mut reader = Pairs::until(end);
         let read = read_log(alloc, &mut reader).map(|log| log.records().len());
-        assert_eq!(rt; read, want, "a log that ends at {end}");
+        same_at(&rt, &read, &want, &format_args!("a log that ends at {end}"));
     }
 }
 
@@ -193,15 +207,17 @@ fn long_logs_are_read(rt: HostRuntime) {
 fn a_reader_without_an_end(rt: HostRuntime) {
     let alloc = rt.alloc();
     let mut zeros = io::repeat(0);
-    assert_eq!(rt;
-        read_known(&rt, alloc, &mut zeros),
-        Err(LogReadFault::BadHeader)
+    same(
+        &rt,
+        &read_known(&rt, alloc, &mut zeros),
+        &Err(LogReadFault::BadHeader),
     );
     let header = encode_header(1);
     let mut zeros = header.as_slice().chain(io::repeat(0));
-    assert_eq!(rt;
-        read_known(&rt, alloc, &mut zeros),
-        Err(LogReadFault::BadRecord(Lsn(64)))
+    same(
+        &rt,
+        &read_known(&rt, alloc, &mut zeros),
+        &Err(LogReadFault::BadRecord(Lsn(64))),
     );
 }
 
@@ -209,8 +225,8 @@ fn a_reader_without_an_end(rt: HostRuntime) {
 fn a_reader_that_is_never_ready(rt: HostRuntime) {
     let mut reader = NeverReady { calls: 0 };
     let read = read_known(&rt, rt.alloc(), &mut reader);
-    assert_eq!(rt; read, Err(LogReadFault::ReadFault));
-    assert_eq!(rt; reader.calls, 134_217_728);
+    same(&rt, &read, &Err(LogReadFault::ReadFault));
+    same(&rt, &reader.calls, &134_217_728);
 }
 
 #[test]
@@ -237,7 +253,7 @@ fn faults_have_texts(rt: HostRuntime) -> Result<(), Fail> {
         ),
     ] {
         let printed = format!(in rt.alloc(); "{fault}")?;
-        assert_eq!(rt; printed.as_str(), text);
+        same(&rt, &printed.as_str(), &text);
     }
     Ok(())
 }

@@ -1,5 +1,6 @@
-use super::*;
-use crate::field::{u16_at, u32_at, u64_at};
+use crate::asserts::{same, same_at};
+use page_core::field::{u16_at, u32_at, u64_at};
+use page_core::{BadPage, Change, Lsn, PAGE_BYTES, Page, PageNo, SLOTS, SlotNo, undo_of};
 use std::process::Abort;
 use std::test::Fail;
 
@@ -21,8 +22,8 @@ fn a_page_has_its_bytes(rt: HostRuntime) {
         lsn: Lsn(192),
         slots,
     };
-    assert_eq!(rt; page.to_bytes(), example_bytes());
-    assert_eq!(rt; Page::from_bytes(&example_bytes()), Ok(page));
+    same(&rt, &page.to_bytes(), &example_bytes());
+    same(&rt, &Page::from_bytes(&example_bytes()), &Ok(page));
 }
 
 /// The bytes of a formatted page whose number has these two lowest bytes.
@@ -36,11 +37,11 @@ fn formatted_bytes(low: u8, high: u8) -> [u8; PAGE_BYTES] {
 
 fn assert_formatted(rt: &impl Abort, number: u32, bytes: &[u8; PAGE_BYTES]) {
     let page = Page::formatted(PageNo(number));
-    assert_eq!(rt; page.number, PageNo(number));
-    assert_eq!(rt; page.lsn, Lsn(0));
-    assert_eq!(rt; page.slots, [0; SLOTS]);
-    assert_eq!(rt; page.to_bytes(), *bytes);
-    assert_eq!(rt; Page::from_bytes(bytes), Ok(page));
+    same(rt, &page.number, &PageNo(number));
+    same(rt, &page.lsn, &Lsn(0));
+    same(rt, &page.slots, &[0; SLOTS]);
+    same(rt, &page.to_bytes(), bytes);
+    same(rt, &Page::from_bytes(bytes), &Ok(page));
 }
 
 #[test]
@@ -79,10 +80,20 @@ fn changes_follow_one_another(rt: HostRuntime) {
             0,
         ),
     ] {
-        assert_eq!(rt; change.changed(page.slots[3]), number, "{change:?}");
+        same_at(
+            &rt,
+            &change.changed(page.slots[3]),
+            &number,
+            &format_args!("{change:?}"),
+        );
         page.apply(Lsn(lsn), SlotNo(3), &change);
-        assert_eq!(rt; page.slots[3], number, "after {change:?}");
-        assert_eq!(rt; page.lsn, Lsn(lsn));
+        same_at(
+            &rt,
+            &page.slots[3],
+            &number,
+            &format_args!("after {change:?}"),
+        );
+        same(&rt, &page.lsn, &Lsn(lsn));
     }
 }
 
@@ -107,12 +118,17 @@ fn an_undo_has_its_change(rt: HostRuntime) {
         ),
         (Change::Add { amount: 0 }, Change::Add { amount: 0 }),
     ] {
-        assert_eq!(rt; undo_of(&change), undo, "of {change:?}");
+        same_at(
+            &rt,
+            &undo_of(&change),
+            &undo,
+            &format_args!("of {change:?}"),
+        );
     }
 }
 
 fn assert_no_page(rt: &impl Abort, bytes: &[u8]) {
-    assert_eq!(rt; Page::from_bytes(bytes), Err(BadPage));
+    same(rt, &Page::from_bytes(bytes), &Err(BadPage));
 }
 
 /// Format 2, LSN 65 and page 65,536.
@@ -137,14 +153,14 @@ fn a_page_has_512_bytes(rt: HostRuntime) {
 #[test]
 fn a_bad_page_has_a_text(rt: HostRuntime) -> Result<(), Fail> {
     let printed = format!(in rt.alloc(); "{BadPage}")?;
-    assert_eq!(rt; printed.as_str(), "the bytes are no page");
+    same(&rt, &printed.as_str(), &"the bytes are no page");
     Ok(())
 }
 
 #[test]
 fn a_field_has_the_lowest_byte_first(rt: HostRuntime) {
     let bytes = [9, 1, 2, 3, 4, 5, 6, 7, 8];
-    assert_eq!(rt; u16_at(&bytes, 1), 0x0201);
-    assert_eq!(rt; u32_at(&bytes, 1), 0x0403_0201);
-    assert_eq!(rt; u64_at(&bytes, 1), 0x0807_0605_0403_0201);
+    same(&rt, &u16_at(&bytes, 1), &0x0201);
+    same(&rt, &u32_at(&bytes, 1), &0x0403_0201);
+    same(&rt, &u64_at(&bytes, 1), &0x0807_0605_0403_0201);
 }

@@ -1,7 +1,8 @@
 //! A log with a checkpoint, its bytes, and the master record that names it.
 
-use crate::{LogReadFault, Master, decode_master, encode_master, read_log};
+use crate::asserts::{same, same_at};
 use log_records::{DirtyPage, DirtyPages, Record, TxnPhase, decode, encode, encode_header};
+use log_store::{LogReadFault, Master, decode_master, encode_master, read_log};
 use page_core::{Change, Lsn, PageNo, SlotNo, TxnNo};
 use std::alloc::{AllocError, Global};
 use std::test::Fail;
@@ -92,8 +93,8 @@ fn records_of_checkpoints_have_their_bytes(rt: HostRuntime) {
     let records = records();
     let all = &records[..];
     for (record, bytes) in all[2..6].iter().zip(&spellings) {
-        assert_eq!(rt; encode(record), *bytes, "{record:?}");
-        assert_eq!(rt; decode(bytes, record.lsn()), Some(*record));
+        same_at(&rt, &encode(record), bytes, &format_args!("{record:?}"));
+        same(&rt, &decode(bytes, record.lsn()), &Some(*record));
     }
 }
 
@@ -131,8 +132,8 @@ fn three_dirty_pages_have_their_bytes(rt: HostRuntime) {
         (56, 0xc0),
         (57, 1),
     ]);
-    assert_eq!(rt; encode(&record), bytes);
-    assert_eq!(rt; decode(&bytes, Lsn(448)), Some(record));
+    same(&rt, &encode(&record), &bytes);
+    same(&rt, &decode(&bytes, Lsn(448)), &Some(record));
 }
 
 /// The bytes of a log of one page with these records, of which one byte is another.
@@ -170,7 +171,7 @@ fn logs_with_a_checkpoint_are_read(rt: HostRuntime) -> Result<(), Fail> {
     ] {
         let bytes = log_with(alloc, &records(), (offset, byte))?;
         let found = read_log(alloc, &mut bytes.as_slice()).err();
-        assert_eq!(rt; found, fault, "{byte} at {offset}");
+        same_at(&rt, &found, &fault, &format_args!("{byte} at {offset}"));
     }
     Ok(())
 }
@@ -187,7 +188,7 @@ fn a_checkpoint_has_each_old_transaction(rt: HostRuntime) -> Result<(), Fail> {
     };
     let bytes = log_with(alloc, &[begin, update, open, ended], (0, b'A'))?;
     let found = read_log(alloc, &mut bytes.as_slice()).err();
-    assert_eq!(rt; found, Some(LogReadFault::BadChain(Lsn(256))));
+    same(&rt, &found, &Some(LogReadFault::BadChain(Lsn(256))));
     Ok(())
 }
 
@@ -199,13 +200,13 @@ fn a_master_record_has_its_bytes(rt: HostRuntime) {
     };
     let mut bytes = bytes_with(&[(8, 0xc0), (16, 0x80), (17, 1)]);
     bytes[..8].copy_from_slice(b"AIMGMST1");
-    assert_eq!(rt; encode_master(&master), bytes);
-    assert_eq!(rt; decode_master(&bytes), Some(master));
+    same(&rt, &encode_master(&master), &bytes);
+    same(&rt, &decode_master(&bytes), &Some(master));
     let mut short = [0; 63];
     for (byte, spelled) in short.iter_mut().zip(&bytes) {
         *byte = *spelled;
     }
-    assert_eq!(rt; decode_master(&short), None);
+    same(&rt, &decode_master(&short), &None);
     bytes[63] = 1;
-    assert_eq!(rt; decode_master(&bytes), None);
+    same(&rt, &decode_master(&bytes), &None);
 }

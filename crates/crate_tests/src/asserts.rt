@@ -1,0 +1,20 @@
+//! Assertions as calls: a call is cheap to prove in a long test, and what `assert_eq!` writes there
+//! is dear.
+
+use std::fmt::{Debug, Display};
+use std::process::Abort;
+
+/// Asserts that a value is the wanted one.
+pub fn same<T: PartialEq + Debug>(rt: &impl Abort, given: &T, wanted: &T) {
+    assert_eq!(rt; *given, *wanted);
+}
+
+/// The same, and tells which row of a table it is.
+pub fn same_at<T: PartialEq + Debug, P: Display>(
+    rt: &impl Abort,
+    given: &T,
+    wanted: &T,
+    place: &P,
+) {
+    assert_eq!(rt; *given, *wanted, "{place}");
+}

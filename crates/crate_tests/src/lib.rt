@@ -1,0 +1,23 @@
+//! Tests of the crates below the engine, which try them through their public items.
+#![tactic(auto)]
+
+#[cfg(test)]
+mod archives;
+#[cfg(test)]
+mod asserts;
+#[cfg(test)]
+mod checkpoints;
+#[cfg(test)]
+mod devices;
+#[cfg(test)]
+mod logs;
+#[cfg(test)]
+mod open_transactions;
+#[cfg(test)]
+mod pages;
+#[cfg(test)]
+mod redo;
+#[cfg(test)]
+mod stores;
+#[cfg(test)]
+mod vaults;
