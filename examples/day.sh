@@ -12,6 +12,8 @@ fail() {
 
 [ $# -eq 2 ] || fail "two arguments are wanted, the program and a folder"
 program=$(command -v "$1") || fail "there is no program $1"
+# It is run in another folder, too.
+program=$(realpath "$program")
 folder=$2
 examples=$(cd "$(dirname "$0")" && pwd)
 rm -rf "$folder"
