@@ -21,7 +21,7 @@ over_is undecided page = refl
 over_is (taken new) page = refl
 over_is kept page = refl
 
-pub content_more : (members : List CopyView) (copy : CopyView) (p : ℕ)
+content_more : (members : List CopyView) (copy : CopyView) (p : ℕ)
     → content (members ++ copy ∷ []) p ≡ taken_over (decision_at copy.pages p) (content members p)
 content_more members copy p =
     let piece : CopyView → List Page = λ copy. page_of (decision_at copy.pages p) in

@@ -2,6 +2,5 @@ pub mod Archives
 pub mod Groups
 pub mod Loads
 pub mod Masters
-pub mod Overlays
 mod Rebuilds
 pub mod Restored

@@ -1,23 +1,21 @@
 //! The archives of a chain, read in their order.
 
-ghost use Rattle.std.specs.Prelude.{◌≡◌, length, map, Err, IfOk, IfErr, IfSome};
+ghost use Rattle.std.specs.Prelude.{◌≡◌, map, Err, IfOk, IfErr, IfSome};
 ghost use Rattle.copy_vault.specs.Archive.{SpellsCopy};
 ghost use Rattle.copy_vault.specs.Chain.{Fits};
-ghost use Rattle.copy_vault.specs.Copy.{IsComplete};
-ghost use Rattle.copy_vault.specs.Slots.{AreLaidOver};
-ghost use Rattle.media_restore.specs.FilesArchives.{AreOfChain};
+ghost use Rattle.media_restore.specs.FilesArchives.{AreOfArchives, AreOfChain};
 ghost use Rattle.media_restore.specs.FilesArchives.{ArchiveRefused, ArchivesRefused};
 ghost use Rattle.media_restore.specs.FilesUnread.{FailedInArchive, FailedInArchives};
 
+use crate::copied::copied_pages;
 use crate::files_fault::RestoreFault;
-use copy_vault::{CompleteCopy, CopyId, CopyKind, read_archive};
-use page_core::{Lsn, Page, PageNo, formatted_pages};
+use copy_vault::{Chain, CompleteCopy, CopyId, CopyKind, read_archive};
+use page_core::{Lsn, Page};
 use std::alloc::Global;
 use std::io::Read;
 
 /// Reads the archives of a chain in their order, and answers the pages that the chain has, in order
-/// of their numbers, and the redo point of its last copy. Each copy has to fit behind those before
-/// it, and is let go as soon as its pages are put in their places.
+/// of their numbers, and the redo point of its last copy. The copies themselves are let go.
 pub(crate) fn read_chain<A: Read>(
     alloc: Global,
     archives: &mut [A],
@@ -30,32 +28,36 @@ pub(crate) fn read_chain<A: Read>(
     ensures unread { result ≡ Err RestoreFault.ReadFault → FailedInArchives
         (map (λ a. A.remaining a) archives.old) (map (λ a. A.remaining a) archives.new) pages }
 {
+    let copies = read_copies(alloc, archives, pages)?;
+    // They fit, so that memory is all that may be refused.
+    let chain = Chain::link(alloc, &copies, pages).map_err(|_| RestoreFault::OutOfMemory)?;
+    Ok((copied_pages(alloc, &chain)?, chain.redo()))
+}
+
+/// Reads archives in their order, each of a copy that fits behind those before it.
+fn read_copies<A: Read>(
+    alloc: Global,
+    archives: &mut [A],
+    pages: u32,
+) -> Result<Vec<CompleteCopy>, RestoreFault>
+    ensures ok { IfOk result (λ copies.
+        AreOfArchives (map (λ a. A.remaining a) archives.old) pages copies.items) }
+    ensures err { IfErr result
+        (ArchivesRefused (map (λ a. A.remaining a) archives.old) pages) }
+    ensures unread { result ≡ Err RestoreFault.ReadFault → FailedInArchives
+        (map (λ a. A.remaining a) archives.old) (map (λ a. A.remaining a) archives.new) pages }
+{
     if archives.is_empty() {
         return Err(RestoreFault::ChainBroken(CopyId(0)));
     }
-    let mut volume = formatted_pages(alloc, pages)?;
+    let mut copies = Vec::new(alloc);
     let mut kind = CopyKind::Full;
-    let mut redo = Lsn(0);
     for archive in archives.iter_mut() {
         let copy = read_fitting(alloc, archive, pages, kind)?;
-        put_over(&copy, &mut volume);
         kind = CopyKind::Inc(copy.id());
-        redo = copy.redo();
+        copies.push(copy)?;
     }
-    Ok((volume, redo))
-}
-
-/// Puts each page that a copy has in the place of the one of its number.
-fn put_over(copy: &CompleteCopy, volume: &mut [Page])
-    requires { length copy.now.pages ≡ length volume.old }
-    ensures over { AreLaidOver copy.now.pages volume.old volume.new }
-    ensures complete { IsComplete copy.now.kind copy.now.pages }
-{
-    for number in 0..copy.pages() {
-        if let Some(page) = copy.page(PageNo(number)) {
-            volume[number as usize] = page.copy();
-        }
-    }
+    Ok(copies)
 }
 
 /// Reads the archive of a copy that has to be of this kind and of so many pages.
