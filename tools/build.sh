@@ -35,9 +35,10 @@ prove() {
     echo "proved $1"
 }
 
-# rt proves a program before it runs it, and leaves it in out/.
+# rt proves a program before it runs it, and leaves it in out/. It is run as the gate runs it.
 build_program() {
-    local input=$PWD/examples/four_records.log words=()
+    local input=$PWD/crates/$1/stdin words=()
+    [ -e "$input" ] || input=/dev/null
     [ ! -e "crates/$1/args" ] || mapfile -t words < "crates/$1/args"
     (cd "crates/$1" && rt run -- "${words[@]}" < "$input") > /dev/null 2>> "$log"
 }
