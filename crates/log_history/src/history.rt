@@ -83,6 +83,7 @@ impl History {
     /// Takes the next record if it may come next, and answers whether it may. Where it may not,
     /// nothing changes. An `Err` comes where room for the tables is refused, and changes nothing
     /// either.
+    #[inline(always)]
     pub fn follow(&mut self, next: &Record) -> Result<bool, AllocError>
         requires valid { IsRecord next.now }
         requires within { IsWithin (length self.old.pages) next.now }
@@ -119,6 +120,7 @@ impl History {
     }
 
     /// The same of a transaction's record.
+    #[inline(always)]
     fn follow_transaction(&mut self, next: &Record) -> Result<bool, AllocError>
         requires valid { IsRecord next.now }
         requires within { IsWithin (length self.old.pages) next.now }

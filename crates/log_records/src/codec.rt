@@ -43,6 +43,7 @@ pub fn encode(record: &Record) -> [u8; RECORD_BYTES]
 }
 
 /// The record that these bytes spell at this LSN, if they do.
+#[inline(always)]
 pub fn decode(bytes: &[u8; RECORD_BYTES], at: Lsn) -> Option<Record>
     ensures found { IfSome result (λ r. (own_lsn r ≡ at) × SpellsRecord r bytes.now) }
     ensures only { (r : Record) → own_lsn r ≡ at → SpellsRecord r bytes.now → result ≡ Some r }
@@ -110,6 +111,7 @@ fn if_written(record: Record, bytes: &[u8; RECORD_BYTES]) -> Option<Record>
 }
 
 /// The record of a transaction that has these numbers, if one does.
+#[inline(always)]
 fn record_of(fields: &Fields) -> Option<Record>
     ensures found { IfSome result (λ r. IsOfTransaction r × IsRecord r
         × (fields_of r ≡ fields.now)) }

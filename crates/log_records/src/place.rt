@@ -13,6 +13,7 @@ use page_core::field::{u16_at, u32_at};
 use page_core::{Lsn, PageNo, SlotNo};
 
 /// The record that these bytes are at this LSN of a log of so many pages, if they are one.
+#[inline(always)]
 pub fn record_at(bytes: &[u8], at: Lsn, pages: u32) -> Option<Record>
     requires { length bytes.now ≡ RECORD_BYTES }
     ensures found { IfSome result (λ r. StandsAt pages at r × (bytes.now ≡ record_bytes r)) }

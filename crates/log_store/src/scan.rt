@@ -42,6 +42,7 @@ fn look_ahead(history: &History, bytes: &[u8]) -> u64 {
 }
 
 /// Takes the next record, which stands behind the first `count`, if it may follow them.
+#[inline(always)]
 fn take_record<S: RecordSink>(
     sink: &mut S,
     history: &mut History,
