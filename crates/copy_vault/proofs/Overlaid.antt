@@ -1,7 +1,7 @@
 -- The pages of a chain, each copy laid over those before it.
 use Rattle.std.proofs.Common.{◌≡◌, ℕ, ◌+◌, ◌<◌, ◌≤◌, List, [], ◌∷◌, ◌++◌, length, get_or, take, refl, sym, ap, ◌∙◌}
 use Rattle.std.proofs.Common.{arith, suc, zero}
-use Rattle.std.proofs.lemmas.List.{append-nil, ext_get_or, length-map, take_more}
+use Rattle.std.proofs.lemmas.List.{append-nil, ext_get_or, take_more}
 use Rattle.std.proofs.lemmas.List.Concat.{flat_map-append}
 use Rattle.std.proofs.lemmas.List.FromFn.{get_or-map-range_with_len, length-map-range_with_len}
 use Rattle.page_core.specs.declared.page.Page.{Page}
@@ -21,7 +21,7 @@ over_is undecided page = refl
 over_is (taken new) page = refl
 over_is kept page = refl
 
-content_more : (members : List CopyView) (copy : CopyView) (p : ℕ)
+pub content_more : (members : List CopyView) (copy : CopyView) (p : ℕ)
     → content (members ++ copy ∷ []) p ≡ taken_over (decision_at copy.pages p) (content members p)
 content_more members copy p =
     let piece : CopyView → List Page = λ copy. page_of (decision_at copy.pages p) in

@@ -146,4 +146,13 @@ impl CompleteCopy {
     {
         self.slots.lay_over(pages);
     }
+
+    /// Puts a copy of each page that the copy has in the place of the one that has its number, and
+    /// leaves each other one. It looks at the pages that the copy has, and at no others.
+    pub fn put_over(&self, pages: &mut [Page])
+        requires { length self.now.pages ≡ length pages.old }
+        ensures { AreLaidOver self.now.pages pages.old pages.new }
+    {
+        self.slots.put_over(pages);
+    }
 }

@@ -95,4 +95,15 @@ impl CopyPages {
             Held::Rising(rising) => rising.lay_over(pages),
         }
     }
+
+    /// Puts a copy of each page that was taken in the place of the one that has its number.
+    pub fn put_over(&self, pages: &mut [Page])
+        requires { length self.now ≡ length pages.old }
+        ensures { AreLaidOver self.now pages.old pages.new }
+    {
+        match &self.held {
+            Held::Marked(slots) => slots.put_over(pages),
+            Held::Rising(rising) => rising.put_over(pages),
+        }
+    }
 }

@@ -19,6 +19,18 @@ pub fn lay_over<'a>(places: &'a [Box<Page>], pages: &mut [&'a Page])
     }
 }
 
+/// Puts a copy of each page in the place of the one that has its number.
+pub fn put_over(places: &[Box<Page>], pages: &mut [Page])
+    requires { (k : ℕ) (d : Page) → k < length (values places.now)
+        → (slice_index_or (values places.now) k d).number < length pages.old }
+    ensures { pages.new ≡ laid (values places.now) pages.old }
+{
+    for i in 0..places.len() {
+        let place = &places[i];
+        pages[place.number.0 as usize] = place.copy();
+    }
+}
+
 /// Where the first page stands that has at least this number, in a list where the numbers rise.
 pub fn first_from(places: &[Box<Page>], number: PageNo) -> usize
     requires { NumbersRise (values places.now) }

@@ -6,7 +6,7 @@ ghost use Rattle.copy_vault.specs.Lent.{lent};
 ghost use Rattle.copy_vault.specs.Copy.{taken, kept, decision_at, page_of, taken_count};
 ghost use Rattle.copy_vault.specs.Slots.{AreLaidOver, page_list};
 
-use crate::places::{first_from, lay_over};
+use crate::places::{first_from, lay_over, put_over};
 use page_core::{Page, PageNo};
 use std::alloc::{AllocError, Global};
 use std::marker::Model;
@@ -94,5 +94,13 @@ impl RisingPages {
         ensures { AreLaidOver self.now (lent pages.old) (lent pages.new) }
     {
         lay_over(&self.places, pages);
+    }
+
+    /// Puts a copy of each page that was taken in the place of the one that has its number.
+    pub fn put_over(&self, pages: &mut [Page])
+        requires { length self.now ≡ length pages.old }
+        ensures { AreLaidOver self.now pages.old pages.new }
+    {
+        put_over(&self.places, pages);
     }
 }

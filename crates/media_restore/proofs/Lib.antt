@@ -2,5 +2,6 @@ pub mod Archives
 pub mod Groups
 pub mod Loads
 pub mod Masters
+pub mod Overlays
 mod Rebuilds
 pub mod Restored
