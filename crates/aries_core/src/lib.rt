@@ -11,6 +11,7 @@ mod laws;
 mod open_ckpt;
 mod page_writes;
 mod played;
+mod readers;
 mod refusal;
 mod retire;
 mod setup;
@@ -35,6 +36,3 @@ pub use laws::{
 pub use played::{Played, play};
 pub use refusal::Refusal;
 pub use setup::{PlayFault, Setup};
-
-#[cfg(test)]
-mod tests;

@@ -19,8 +19,3 @@ pub use files_fault::RestoreFault;
 pub use loaded::Loaded;
 pub use rebuilt::{Rebuilt, rebuild, recover};
 pub use volume_output::write_volume;
-
-#[cfg(test)]
-mod files_tests;
-#[cfg(test)]
-mod tests;

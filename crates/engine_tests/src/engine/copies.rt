@@ -7,7 +7,7 @@ use super::{
     abort, add, began, call, commit, done, events_of, joined, logged, more, point, read, same, set,
     undid, undo, value, write_begin, write_end, writing, written,
 };
-use crate::{Answer, Engine, Event, Refusal, Reply};
+use aries_core::{Answer, Engine, Event, Refusal, Reply};
 use copy_vault::CopyId;
 use log_store::MemDevice;
 use page_core::{Lsn, PageNo};
@@ -374,10 +374,10 @@ fn taken_again() -> [(Event, Reply); 5] {
 
 /// Asserts that the call that fails leaves the log, the master and the copy's page as they are.
 fn assert_not_taken(rt: &impl Abort, engine: &mut Engine<FaultyStore, MemDevice>) {
-    let (end, forced, master) = (engine.log_end(), engine.log.forced_end(), engine.master());
+    let (end, forced, master) = (engine.log_end(), engine.log().forced_end(), engine.master());
     call(rt, engine, &not_taken());
     same(rt, &engine.log_end(), &end);
-    same(rt, &engine.log.forced_end(), &forced);
+    same(rt, &engine.log().forced_end(), &forced);
     same(rt, &engine.master(), &master);
     call(rt, engine, &taken_again());
 }

@@ -3,11 +3,11 @@
 use super::rows::Row;
 use super::shown::{Shown, assert_pages, back_to, comp, end, less};
 use super::{device_of, fault_of, loaded_of, redone_of, retired_of, store_of, undone_of};
-use crate::{LoadFault, Refused, rebuild};
 use aries_core::Setup;
 use copy_vault::CopyId;
 use log_records::Record;
 use loser_undo::Undone;
+use media_restore::{LoadFault, Refused, rebuild};
 use std::alloc::Global;
 use std::process::Abort;
 use std::test::Fail;

@@ -1,7 +1,7 @@
 //! Volumes that are restored from the bytes of files.
 
-use crate::{RestoreFault, restore_files};
 use copy_vault::CopyId;
+use media_restore::{RestoreFault, restore_files};
 use page_core::{Lsn, PAGE_BYTES};
 use std::alloc::Global;
 use std::test::Fail;

@@ -11,12 +11,12 @@ mod rows;
 mod shown;
 mod sweeps;
 
-use crate::{LoadFault, Loaded, load};
 use aries_core::{Engine, Event, Reply, Setup};
 use copy_coverage::Retired;
 use copy_vault::CopyId;
 use log_store::{FaultyDevice, MemDevice};
 use loser_undo::{Redone, Undone, undo_all};
+use media_restore::{LoadFault, Loaded, load};
 use page_store::{FaultyStore, MemStore};
 use std::alloc::Global;
 use std::process::Abort;

@@ -6,7 +6,7 @@ use super::{
     abort, add, began, busy, call, commit, ended, engine_on, forced, joined, logged, play_on, read,
     same, set, undid, undo, value, write_begin, write_end, writing, written,
 };
-use crate::{Engine, Event, Refusal, Reply};
+use aries_core::{Engine, Event, Refusal, Reply};
 use log_store::MemDevice;
 use page_store::MemStore;
 use std::alloc::Global;
@@ -59,8 +59,8 @@ fn assert_same(
     same(rt, &called.log_end(), &played.log_end());
     same(
         rt,
-        &called.log.device().bytes(),
-        &played.log.device().bytes(),
+        &called.log().device().bytes(),
+        &played.log().device().bytes(),
     );
 }
 
@@ -214,7 +214,7 @@ fn an_add_is_compensated(rt: HostRuntime) -> Result<(), Fail> {
 
 /// Asserts that a log's device ends with the compensation.
 fn assert_compensation(rt: &impl Abort, engine: &Engine<MemStore, MemDevice>) {
-    let bytes = engine.log.device().bytes();
+    let bytes = engine.log().device().bytes();
     assert!(rt; bytes.len() == 704);
     for (part, number) in bytes[640..].chunks_exact(8).zip(&COMPENSATION) {
         same(rt, &part, &number.to_be_bytes().as_slice());

@@ -8,7 +8,7 @@ use super::{
     began, call, commit, done, engine_on, logged, more, point, read, same, set, value, write_begin,
     write_end, writing, written,
 };
-use crate::{Engine, Event, Refusal, Reply};
+use aries_core::{Engine, Event, Refusal, Reply};
 use log_store::{MASTER_BYTES, Master, MemDevice, encode_master};
 use page_core::Lsn;
 use page_store::MemStore;
@@ -98,7 +98,7 @@ fn assert_master(rt: &impl Abort, begin: Lsn, end: Lsn) {
 
 /// Asserts that the log's device ends with the records, and that the master is that one.
 fn assert_bytes(rt: &impl Abort, engine: &Engine<MemStore, MemDevice>) {
-    let bytes = engine.log.device().bytes();
+    let bytes = engine.log().device().bytes();
     assert!(rt; bytes.len() == 448);
     for (part, number) in bytes[192..].chunks_exact(8).zip(RECORDS.iter().flatten()) {
         same(rt, &part, &number.to_be_bytes().as_slice());

@@ -7,11 +7,11 @@ use super::{
     assert_replies, began, call, commit, engine_on, events_of, forced, logged, play_on, read, same,
     set, setup_of, value, write_begin, write_end, writing, written,
 };
-use crate::{Engine, Event, Refusal, Reply, play};
+use aries_core::{Engine, Event, Refusal, Reply, play};
 use log_records::{DirtyPage, DirtyPages};
 use log_store::{FaultyDevice, LogDevice, MemDevice};
 use page_core::{Lsn, PageNo};
-use page_store::{FaultyStore, MemStore, PageStore, StoreFault};
+use page_store::{FaultyStore, MemStore, PageStore};
 use std::alloc::Global;
 use std::process::Abort;
 use std::test::Fail;
@@ -19,8 +19,8 @@ use std::test::Fail;
 /// The LSN of page 0 as it is stored, and the numbers in its first two slots.
 fn stored<S: PageStore, D: LogDevice>(
     engine: &mut Engine<S, D>,
-) -> Result<(Lsn, u64, u64), StoreFault> {
-    let page = engine.pool.stored(PageNo(0))?;
+) -> Result<(Lsn, u64, u64), Refusal> {
+    let page = engine.stored(PageNo(0))?;
     Ok((page.lsn, page.slots[0], page.slots[1]))
 }
 
@@ -31,7 +31,7 @@ fn assert_pages<S: PageStore, D: LogDevice>(
     dirty: Option<DirtyPages>,
     want: (Lsn, u64, u64),
 ) -> Result<(), Fail> {
-    same(rt, &engine.pool.dirty_from(PageNo(0)), &dirty);
+    same(rt, &engine.dirty_from(PageNo(0)), &dirty);
     same(rt, &stored(engine)?, &want);
     Ok(())
 }
@@ -172,7 +172,7 @@ fn failing_device(alloc: Global, k: u64) -> Result<FaultyDevice, Fail> {
 fn call_on_failing(rt: &impl Abort, alloc: Global, k: u64) -> Result<(), Fail> {
     let mut engine = engine_on(alloc, 1, failing_device(alloc, k)?)?;
     call(rt, &mut engine, &forced_again());
-    same(rt, &engine.log.forced_end(), &Lsn(192));
+    same(rt, &engine.log().forced_end(), &Lsn(192));
     Ok(())
 }
 
@@ -207,7 +207,7 @@ fn a_write_forces_its_image_alone(rt: HostRuntime) -> Result<(), Fail> {
     let device = MemDevice::new(rt.alloc(), 4)?;
     let mut engine = engine_on(rt.alloc(), 2, device)?;
     call(&rt, &mut engine, &one_page_of_two());
-    same(&rt, &engine.log.forced_end(), &Lsn(192));
+    same(&rt, &engine.log().forced_end(), &Lsn(192));
     call(&rt, &mut engine, &[(Event::Force, forced(256))]);
     Ok(())
 }

@@ -4,7 +4,7 @@ use super::{
     abort, add, began, call, commit, done, ended, engine_on, forced, logged, more, play_on, point,
     read, same, same_at, set, setup_of, undid, undo, value,
 };
-use crate::{Engine, Event, PlayFault, Refusal, Reply, play};
+use aries_core::{Engine, Event, PlayFault, Refusal, Reply, play};
 use log_store::{FaultyDevice, MemDevice, read_log};
 use page_core::Lsn;
 use page_store::MemStore;
@@ -22,11 +22,11 @@ fn assert_forced(
     alloc: Global,
     engine: &Engine<MemStore, FaultyDevice>,
 ) -> Result<(), Fail> {
-    let mut bytes = engine.log.device().bytes();
-    same(rt, &(bytes.len() as u64), &engine.log.forced_end().0);
+    let mut bytes = engine.log().device().bytes();
+    same(rt, &(bytes.len() as u64), &engine.log().forced_end().0);
     let read = read_log(alloc, &mut bytes)?;
     let count = read.records().len();
-    let records = engine.log.records();
+    let records = engine.log().records();
     assert!(rt; count <= records.len());
     same(rt, &read.records(), &&records[..count]);
     Ok(())
@@ -54,7 +54,7 @@ fn call_each(
         same_at(rt, &given, &reply, &(index, k));
         assert_forced(rt, alloc, engine)?;
         if index == place {
-            same(rt, &(engine.log.forced_end().0 / 64 + 1), &k);
+            same(rt, &(engine.log().forced_end().0 / 64 + 1), &k);
         }
     }
     Ok(())

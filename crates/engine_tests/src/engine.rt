@@ -9,7 +9,7 @@ mod devices;
 mod rows;
 mod stores;
 
-use crate::{Answer, Engine, Event, PlayFault, Refusal, Reply, Setup, play};
+use aries_core::{Answer, Engine, Event, PlayFault, Refusal, Reply, Setup, play};
 use log_store::LogDevice;
 use page_core::{Lsn, PageNo, SlotNo, TxnNo};
 use page_store::{MemStore, PageStore};

@@ -1,0 +1,56 @@
+//! What an engine shows of its log and its pages.
+
+ghost use Rattle.std.specs.Prelude.{◌≡◌, ◌<◌, ◌≤◌, [], IfErr, IfOk, MatchOption, OnOk};
+ghost use Rattle.log_records.specs.Coverage.{dirty, entries_of, next_dirty};
+ghost use Rattle.aries_core.specs.EngineState.{log_of, stored_page};
+ghost use Rattle.aries_core.specs.Step.{IsByStore};
+
+use crate::engine::Engine;
+use crate::refusal::Refusal;
+use log_records::DirtyPages;
+use log_store::{Log, LogDevice};
+use page_core::{Page, PageNo};
+use page_store::PageStore;
+
+impl<S: PageStore, D: LogDevice> Engine<S, D> {
+    /// Its log: all records so far, up to where they are forced, and the device.
+    pub fn log(&self) -> &Log<D>
+        ensures log { result.now.log ≡ log_of self.now.state }
+        ensures forced_end { result.now.forced_end ≡ self.now.state.forced_end }
+        ensures device { result.now.device ≡ self.now.device }
+    {
+        &self.log
+    }
+
+    /// The dirty page table from a page on: up to three dirty pages in order of their numbers, each
+    /// with its RecLSN, or `None` where no page from there on is dirty (ARIES section 3.2).
+    pub fn dirty_from(&self, cursor: PageNo) -> Option<DirtyPages>
+        ensures { let next = next_dirty (dirty self.now.state.log self.now.state.written) cursor in
+            MatchOption result (next ≡ []) (λ some. entries_of some ≡ next) }
+    {
+        self.pool.dirty_from(cursor)
+    }
+
+    /// A page as the store has it, which may lack the last changes. Refusals in order: `PageOut`,
+    /// `StoreFault`. Either way the engine stays as it is.
+    pub fn stored(&mut self, page: PageNo) -> Result<Page, Refusal>
+        ensures found { IfOk result (λ it. it ≡ stored_page self.old.state page) }
+        ensures within { OnOk result (page < self.old.state.pages) }
+        ensures refused { IfErr result (λ why. ¬ IsByStore why
+            → (why ≡ Refusal.PageOut) × (self.old.state.pages ≤ page)
+            × (self.new.store ≡ self.old.store)) }
+        ensures state { self.new.state ≡ self.old.state }
+        ensures device { self.new.device ≡ self.old.device }
+        ensures no_failure { OnOk result (S.failures self.new.store ≡ S.failures self.old.store) }
+        ensures failure { IfErr result (λ why. IsByStore why
+            → S.failures self.old.store < S.failures self.new.store) }
+    {
+        if page.0 >= self.log.pages() {
+            return Err(Refusal::PageOut);
+        }
+        match self.pool.stored(page) {
+            Ok(stored) => Ok(stored),
+            Err(_) => Err(Refusal::StoreFault),
+        }
+    }
+}
