@@ -1,5 +1,5 @@
 -- The calls that take a checkpoint: what they make of an engine that is in step with its log.
-use Rattle.std.proofs.Common.{◌≡◌, ℕ, ◌+◌, ◌<◌, ◌≤◌, ◌++◌, Bool, true, false, List, [], ◌∷◌, length, refl, sym, ap}
+use Rattle.std.proofs.Common.{◌≡◌, ℕ, ◌<◌, ◌++◌, List, [], ◌∷◌, length, refl, sym, ap}
 use Rattle.std.proofs.Common.{subst, ◌∙◌, arith, inr}
 use Rattle.std.specs.Prelude.{Option, Some, None, IsSomeAnd, Result, Ok, Err, if◌then◌else◌}
 use Rattle.std.specs.Option.{option_map, option_map_or}
@@ -14,9 +14,9 @@ use Rattle.log_history.specs.Checkpoint.{Checkpoint, checkpoint_after, open_chec
 use Rattle.log_history.specs.Linked.{MayFollow}
 use Rattle.log_history.specs.Table.{Table}
 use Rattle.log_store.specs.WrittenLog.{WrittenLog}
-use Rattle.buffer_pool.specs.Pool.{IsPoolOf, PoolView, written_of}
+use Rattle.buffer_pool.specs.Pool.{PoolView, written_of}
 use Rattle.fuzzy_ckpt.specs.declared.point.Point.{Point}
-use Rattle.fuzzy_ckpt.specs.Ckpt.{AreCovered, CkptView, IsCkptOf, Phase, gathered, in_txns}
+use Rattle.fuzzy_ckpt.specs.Ckpt.{AreCovered, CkptView, IsCkptOf, Phase, in_txns}
 use Rattle.fuzzy_ckpt.specs.Answers.{IsUnforced}
 use Rattle.fuzzy_ckpt.specs.Steps.{Gathering, end_of, end_record, gather_step, new_ckpt, with_step}
 use Rattle.fuzzy_ckpt.proofs.Beside.{pool_kept, table_kept}
@@ -37,7 +37,7 @@ use Rattle.aries_core.specs.Step.{Fails, ForcedPart, Step, TakesMemory}
 use Rattle.aries_core.proofs.Fit.{fit_of_step}
 use Rattle.aries_core.proofs.Follows.{follows, gather_record_has, none_is_not_some}
 use Rattle.aries_core.proofs.GatherSteps.{cursor_after_txn, end_ckpt_follows, first_txn, gathering_of, past_is_session}
-use Rattle.aries_core.proofs.Gathers.{FindsPages, FindsTxn, PassesPages, PassesTxns, TakesPages, TakesTxn, WasDone}
+use Rattle.aries_core.proofs.Gathers.{PassesPages, PassesTxns, TakesPages, TakesTxn, WasDone}
 use Rattle.aries_core.proofs.Gathers.{at_left, ckpt_end_is, gather_case, pages_record, txn_entry, with_pages, with_txn}
 use Rattle.aries_core.proofs.Refusals.{ckpt_begin_passes, ckpt_end_passes, gather_passes}
 

@@ -1,10 +1,8 @@
 -- Calls that change the copies of an engine and nothing else.
-use Rattle.std.proofs.Common.{◌≡◌, ℕ, ◌+◌, ◌<◌, List, length, get_or, refl, sym, ap, subst, ◌∙◌, arith, not, true}
-use Rattle.std.proofs.Common.{false, Bool, cond}
-use Rattle.std.specs.Prelude.{Option, Some, None, Result, Ok, Err, is_none, nat_le}
-use Rattle.std.specs.Option.{option_map, option_map_or, option_or}
+use Rattle.std.proofs.Common.{◌≡◌, ℕ, ◌+◌, ◌<◌, List, length, refl, sym, ap, ◌∙◌, arith}
+use Rattle.std.specs.Prelude.{Option, Some, None, Result, Ok}
+use Rattle.std.specs.Option.{option_map, option_map_or}
 use Rattle.std.specs.List.{slice_get}
-use Rattle.std.proofs.lemmas.Bool.{lt-leb}
 use Rattle.std.proofs.lemmas.Option.{get_or_from_slice_get}
 use Rattle.page_core.specs.declared.page.Page.{Page}
 use Rattle.page_core.specs.Page.{formatted}
@@ -26,7 +24,7 @@ use Rattle.aries_core.specs.declared.event.Answer.TheVariants as answer
 use Rattle.aries_core.specs.declared.event.Event.{Event}
 use Rattle.aries_core.specs.declared.event.Event.TheVariants as event
 use Rattle.aries_core.specs.declared.refusal.Refusal.{Refusal}
-use Rattle.aries_core.specs.EngineState.{EngineState, IsFit, IsKept, MediaView, engine_view, opened_copy, stored_page}
+use Rattle.aries_core.specs.EngineState.{EngineState, IsFit, IsKept, MediaView, engine_view, stored_page}
 use Rattle.aries_core.specs.EngineState.{take_answer, with_copies}
 use Rattle.aries_core.specs.EventFits.{EventFits}
 use Rattle.aries_core.specs.Refusal.{of_vault, refusal}

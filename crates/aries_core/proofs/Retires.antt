@@ -1,14 +1,12 @@
 -- What an engine leaves is what it kept.
-use Rattle.std.proofs.Common.{◌≡◌, ℕ, ◌<◌, List, refl, sym, ap, subst, ◌∙◌}
+use Rattle.std.proofs.Common.{ℕ, List, refl, ap}
 use Rattle.std.specs.Prelude.{Option, Some, None, IfSome, IsSome}
 use Rattle.std.specs.Option.{option_map}
 use Rattle.page_core.specs.declared.page.Page.{Page}
 use Rattle.log_records.specs.declared.record.Record.{Record}
-use Rattle.log_records.specs.Log.{Log}
-use Rattle.log_store.specs.declared.master.Master.{Master}
 use Rattle.fuzzy_ckpt.specs.declared.point.Point.{Point}
 use Rattle.copy_coverage.specs.Copied.{copy_in}
-use Rattle.copy_coverage.specs.Retired.{IsMasterOf, IsRetired, RetiredView}
+use Rattle.copy_coverage.specs.Retired.{IsMasterOf, IsRetired}
 use Rattle.copy_coverage.proofs.Copied.{restorable}
 use Rattle.aries_core.specs.EngineState.{EngineState, IsFit, log_of, master_record}
 use Rattle.aries_core.specs.EngineState as engine

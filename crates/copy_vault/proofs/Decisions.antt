@@ -1,15 +1,13 @@
 -- What is decided of the pages of a copy, and how many were taken.
-use Rattle.std.proofs.Common.{◌≡◌, ℕ, ◌+◌, ◌^◌, ◌<◌, ◌≤◌, List, [], ◌∷◌, length, get_or, replicate, map, refl, ap}
-use Rattle.std.proofs.Common.{◌-◌, ◌∙◌, sym, arith, suc, zero, false, lit≤, ltb, cond, inl, inr}
+use Rattle.std.proofs.Common.{◌≡◌, ℕ, ◌+◌, ◌<◌, ◌≤◌, List, [], ◌∷◌, length, get_or, replicate, map, refl, ap}
+use Rattle.std.proofs.Common.{◌∙◌, sym, arith, suc, zero, false, lit≤, ltb, cond, inl, inr}
 use Rattle.std.specs.Prelude.{Some, None, slice_set}
 use Rattle.std.specs.List.{sum_by, position_or_len}
 use Rattle.std.proofs.Math.ListN.{set}
-use Rattle.std.proofs.lemmas.List.{length-set}
 use Rattle.std.proofs.lemmas.List.Concat.{length-flat_map}
 use Rattle.std.proofs.lemmas.List.Sums.{sum_by-set, sum_by-cons, position_or_len_is, fails_before_first}
 use Rattle.std.proofs.lemmas.Option.{none-some}
 use Rattle.std.proofs.lemmas.List.Folds.{sum_by-replicate}
-use Rattle.page_core.specs.declared.page.Page.{Page}
 use Rattle.std.proofs.lemmas.Bool.{cases_lt, lt-ltb, le-ltb}
 use Rattle.copy_vault.specs.Copy.{PageDecision, undecided, taken, kept, page_of, taken_count, decision_at}
 use Rattle.copy_vault.specs.Copy.{AreDecidedBelow, is_undecided, least_undecided, to_decide, undecided_count}

@@ -1,18 +1,16 @@
 -- The decisions of a copy that holds only the pages that it took, in order of their numbers.
-use Rattle.std.proofs.Common.{◌≡◌, ◌≢◌, ℕ, ◌+◌, ◌-◌, ◌^◌, ◌<◌, ◌≤◌, List, [], ◌∷◌, ◌++◌, length, get_or, map}
+use Rattle.std.proofs.Common.{◌≡◌, ◌≢◌, ℕ, ◌+◌, ◌-◌, ◌^◌, ◌<◌, ◌≤◌, List, [], ◌∷◌, ◌++◌, length, get_or}
 use Rattle.std.proofs.Common.{replicate, refl, sym, ap, ◌∙◌, subst, arith, suc, zero, inl, inr, cond, eq-eqb}
-use Rattle.std.specs.List.{range_with_len}
 use Rattle.std.proofs.lemmas.Bool.{cases_lt, ne_eqb}
 use Rattle.std.proofs.lemmas.Bool.Decides.{eqb_tells}
 use Rattle.std.proofs.lemmas.List.{append-nil, append_assoc, ext_get_or, get_or_append_left, get_or-append_right}
-use Rattle.std.proofs.lemmas.List.{get_or_past}
 use Rattle.std.proofs.lemmas.List.{get_or_push, get_or-replicate, length-append, length-replicate, length_push}
 use Rattle.std.proofs.lemmas.List.FromFn.{get_or-map-range_with_len, length-map-range_with_len, map-range_with_len_more}
 use Rattle.page_core.specs.declared.page.Page.{Page}
 use Rattle.page_core.specs.Page.{formatted}
 use Rattle.copy_vault.specs.declared.header.ArchiveHeader.{ArchiveHeader}
 use Rattle.copy_vault.specs.ArchiveRead.{IsPart}
-use Rattle.copy_vault.specs.Copy.{PageDecision, undecided, taken, kept, decision_at, page_of, taken_count, taken_pages}
+use Rattle.copy_vault.specs.Copy.{PageDecision, undecided, taken, kept, decision_at, taken_count, taken_pages}
 use Rattle.copy_vault.specs.Slots.{AreRising, AreTaken, NumbersRise, decisions_of, taken_or_kept}
 use Rattle.copy_vault.proofs.Laid.{taken_within}
 use Rattle.copy_vault.proofs.Parts.{part_push_kept, taken_push, taken_push_kept}

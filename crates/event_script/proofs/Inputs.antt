@@ -1,5 +1,5 @@
 -- Inputs that are no text.
-use Rattle.std.specs.Prelude.{◌<◌, ◌++◌, ℕ, List, length, Option, IfSome}
+use Rattle.std.specs.Prelude.{◌<◌, ℕ, List, length, Option, IfSome}
 use Rattle.std.specs.Io.KnownBytes.{Consumes}
 use Rattle.std.proofs.Common.{arith}
 use Rattle.std.proofs.lemmas.List.{length-append}

@@ -14,7 +14,7 @@ use Rattle.event_script.specs.declared.call.Args.TheVariants.{Nothing, One, Two,
 use Rattle.event_script.specs.declared.line.Line.{Line}
 use Rattle.event_script.specs.declared.line.Line.TheVariants.{Skipped, Call, Restore}
 use Rattle.event_script.specs.declared.script.LastRestore.{LastRestore}
-use Rattle.event_script.specs.Words.{below, lines_of, number_of, without_return, words_of}
+use Rattle.event_script.specs.Words.{below, number_of, without_return, words_of}
 
 -- numbers that fit 32 and 16 bits
 abbrev pub in_u32 : ℕ → Option ℕ

@@ -1,6 +1,6 @@
 use Rattle.std.proofs.Common.{◌-◌, length, replicate, sym, ap, subst, ◌∙◌, arith}
 use Rattle.std.proofs.lemmas.List.{length-append, length-replicate}
-use Rattle.copy_vault.specs.Copy.{PageDecision, kept, taken_pages}
+use Rattle.copy_vault.specs.Copy.{kept, taken_pages}
 use Rattle.copy_vault.specs.ArchiveRead.{IsPart}
 use Rattle.copy_vault.proofs.RisingPages.{part_kept, taken_kept}
 use Rattle.copy_vault.proofs.read.keep_up_to.Goals as goal

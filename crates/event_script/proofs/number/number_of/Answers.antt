@@ -1,4 +1,4 @@
-use Rattle.std.proofs.Common.{rules, ◌≡◌, ◌<◌, ◌≤◌, ◌*◌, ◌+◌, ◌-◌, get_or, length, sym, ◌∙◌, arith}
+use Rattle.std.proofs.Common.{rules, ◌≤◌, ◌*◌, sym, ◌∙◌, arith}
 use Rattle.event_script.proofs.Numbers.{exact, overflows}
 use Rattle.event_script.proofs.number.number_of.Goals as goal
 

@@ -1,4 +1,3 @@
-use Rattle.std.proofs.Common.{ℕ, ◌≡◌, List, arith}
 use Rattle.event_script.specs.Words.{lines_of}
 use Rattle.event_script.proofs.Scripts.{stops}
 use Rattle.event_script.proofs.read.script_in.Goals as goal

@@ -1,4 +1,3 @@
-use Rattle.std.proofs.Common.{rules, arith}
 use Rattle.event_script.proofs.Scripts.{a_call, a_restore, bad_line, late, skipped_line}
 use Rattle.event_script.proofs.read.take_line.Goals as goal
 

@@ -1,14 +1,11 @@
-use Rattle.std.proofs.Common.{◌≡◌, ℕ, sym, ap, subst, ◌∙◌, refl}
-use Rattle.std.specs.Prelude.{None, Some, Result, Ok}
+use Rattle.std.proofs.Common.{◌≡◌, sym, ap, subst}
+use Rattle.std.specs.Prelude.{None, Some}
 use Rattle.fuzzy_ckpt.specs.Ckpt.{CkptView, Phase}
-use Rattle.aries_core.specs.declared.event.Answer.TheVariants as answer
 use Rattle.aries_core.specs.declared.event.Event.TheVariants as event
-use Rattle.aries_core.specs.EngineState.{MediaView, EngineView, engine_view}
+use Rattle.aries_core.specs.EngineState.{EngineView, engine_view}
 use Rattle.aries_core.specs.OpenCkpt.{media_view}
 use Rattle.aries_core.specs.Refusal.{refusal}
-use Rattle.aries_core.specs.Step.{Step}
-use Rattle.aries_core.proofs.CkptCalls.{CkptCalled, ckpt_begun}
-use Rattle.aries_core.proofs.engine.Engine.ckpt_begin.Given as given
+use Rattle.aries_core.proofs.CkptCalls.{ckpt_begun}
 use Rattle.aries_core.proofs.engine.Engine.ckpt_begin.Goals as goal
 
 pub invariant_of-self-2 : goal.invariant_of-self-2

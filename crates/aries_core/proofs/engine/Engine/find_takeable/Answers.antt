@@ -1,4 +1,4 @@
-use Rattle.std.proofs.Common.{◌≡◌, ◌∙◌, ◌<◌, ℕ, length, sym, arith}
+use Rattle.std.proofs.Common.{◌∙◌, arith}
 use Rattle.aries_core.specs.EngineState.{engine_view}
 use Rattle.aries_core.specs.OpenCkpt.{media_view}
 use Rattle.aries_core.proofs.CopyCalls.{pages_of_reading}

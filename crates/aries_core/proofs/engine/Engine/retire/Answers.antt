@@ -1,4 +1,4 @@
-use Rattle.std.proofs.Common.{◌≡◌, ◌∙◌, ℕ, sym, ap, subst}
+use Rattle.std.proofs.Common.{ℕ, sym, subst}
 use Rattle.std.specs.Prelude.{Option}
 use Rattle.log_records.specs.Log.{Log}
 use Rattle.log_store.specs.declared.master.Master.{Master}

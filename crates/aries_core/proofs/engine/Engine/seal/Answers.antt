@@ -1,12 +1,10 @@
-use Rattle.std.proofs.Common.{◌≡◌, ◌∙◌, ℕ, ◌<◌, length, sym, ap, subst, refl, arith}
-use Rattle.std.specs.Prelude.{Some, None, Ok, Result}
+use Rattle.std.specs.Prelude.{Ok}
 use Rattle.aries_core.specs.declared.event.Answer.TheVariants as answer
 use Rattle.aries_core.specs.declared.event.Event.TheVariants as event
 use Rattle.aries_core.specs.EngineState.{engine_view}
 use Rattle.aries_core.specs.OpenCkpt.{media_view}
 use Rattle.aries_core.proofs.CopyCalls.{copies_kept, seal_step}
 use Rattle.aries_core.proofs.engine.Engine.seal.Goals as goal
-use Rattle.aries_core.proofs.engine.Engine.seal.Given as given
 
 pub invariant_of-self-2 : goal.invariant_of-self-2
 invariant_of-self-2 g c =

@@ -1,11 +1,8 @@
-use Rattle.std.proofs.Common.{◌≡◌, ◌∙◌, ℕ, ◌<◌, length, sym, ap, subst, refl, arith}
-use Rattle.std.specs.Prelude.{Some, None, Ok, Result}
-use Rattle.std.specs.Option.{option_map_or}
-use Rattle.aries_core.specs.declared.event.Answer.TheVariants as answer
+use Rattle.std.proofs.Common.{◌≡◌, ◌∙◌, sym, ap, subst, refl}
+use Rattle.std.specs.Prelude.{None, Ok}
 use Rattle.aries_core.specs.declared.event.Event.TheVariants as event
 use Rattle.aries_core.specs.EngineState.{engine_view}
 use Rattle.aries_core.specs.OpenCkpt.{media_view}
-use Rattle.std.specs.Option.{option_map_or}
 use Rattle.copy_vault.specs.Vault.{answer_in, decided, state_of}
 use Rattle.aries_core.specs.Refusal.{refusal}
 use Rattle.aries_core.specs.Step.{Step, reply_of, took_answer}
