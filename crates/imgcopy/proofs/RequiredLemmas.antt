@@ -6,7 +6,7 @@ use Rattle.std.specs.Prelude.{◌≤◌, zero, suc}
 use Rattle.std.specs.Str.{bytes_eq}
 use Rattle.std.proofs.lemmas.List.Elements.{All-get_or, All-nil}
 use Rattle.std.proofs.lemmas.Slice.Eq.{bytes_eq-Decides}
-use Rattle.clap.specs.Built.{AddsArg, FitsChain, HasDistinctIds, IsAuto, IsParsedFrom, IsPlain, IsPlainArg, TakesValue}
+use Rattle.clap.specs.Built.{AddsArg, FitsChain, HasDistinctIds, IsParsedFrom, IsPlain, IsPlainArg, TakesValue}
 use Rattle.clap.specs.Facts.{least_values}
 use Rattle.clap.specs.Words.{args_of, first_value, found_of, groups_of, one_text, rule_of}
 use Rattle.clap.specs.declared.builder.arg.Arg.{Arg}
@@ -15,7 +15,7 @@ use Rattle.clap.specs.declared.builder.command.Command.TheViews.{out-Command as 
 use Rattle.clap.specs.declared.parser.matches.ArgMatches.{ArgMatches}
 use Rattle.clap.proofs.CallerLemmas.{added_plain, required_in_chain}
 use Rattle.clap.proofs.CallerReads.{required_reads}
-use Rattle.imgcopy.specs.Command.{AsksForFiles, AsksForPages, IsMadeOf, PassesPages, archive_rule, log_rule}
+use Rattle.imgcopy.specs.Command.{AsksForFiles, AsksForPages, PassesPages, archive_rule, log_rule}
 use Rattle.imgcopy.specs.Command.{master_rule, pages_parser, pages_rule, save_rule}
 
 same_length : (x y : List ℕ) → bytes_eq x y ≡ true → length x ≡ length y

@@ -1,5 +1,5 @@
 -- The restore of some files.
-use Rattle.std.specs.Prelude.{◌≡◌, ℕ, List, Option, None, length, replicate, Result, Ok, Err, IfErr, IsErrAnd}
+use Rattle.std.specs.Prelude.{◌≡◌, ℕ, List, Option, None, replicate, Result, Ok, Err, IfErr, IsErrAnd}
 use Rattle.std.proofs.Common.{refl, sym, subst}
 use Rattle.std.proofs.KnownBytes.{Keeps-refl}
 use Rattle.std.proofs.lemmas.List.{length-replicate}

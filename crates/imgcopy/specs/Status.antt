@@ -6,6 +6,8 @@ use Rattle.media_restore.specs.declared.fault.Refused.{Refused}
 use Rattle.media_restore.specs.declared.fault.Refused.TheVariants.{Load, Undo}
 use Rattle.media_restore.specs.declared.files_fault.RestoreFault.{RestoreFault}
 use Rattle.media_restore.specs.declared.files_fault.RestoreFault.TheVariants as files
+use Rattle.script_run.specs.declared.finish_fault.FinishFault.{FinishFault}
+use Rattle.script_run.specs.declared.finish_fault.FinishFault.TheVariants as finish
 
 -- 1 where the log is full or the archives do not follow one another, and 2 at any other fault
 abbrev pub status_of_restore : RestoreFault → ℕ
@@ -20,3 +22,8 @@ status_of_refused (Load load.CopyNotComplete) = 1
 status_of_refused (Load (load.CutTooShort forced)) = 1
 status_of_refused (Undo undo.LogFull) = 1
 status_of_refused other = 2
+
+-- that of its refusal where a script's last restore is refused, and 2 at any other fault
+abbrev pub status_of_finish : FinishFault → ℕ
+status_of_finish (finish.Refused why) = status_of_refused why
+status_of_finish fault = 2

@@ -4,7 +4,7 @@
 ghost use Rattle.std.specs.Prelude.{◌≡◌, IfErr, OnOk};
 ghost use Rattle.std.specs.Process.{exit_status};
 ghost use Rattle.log_records.specs.Log.{IsPageCount};
-ghost use Rattle.imgcopy.specs.Status.{status_of_restore};
+ghost use Rattle.imgcopy.specs.Status.{status_of_finish, status_of_restore};
 
 mod arguments;
 mod command;
@@ -79,7 +79,16 @@ fn finish(rt: &HostRuntime, ran: Ran, save: Option<&str>) -> ExitCode {
             return told(rt, &fault);
         }
     }
-    match finish_script(rt.alloc(), ran, &mut io::writer(rt)) {
+    let done = finish_script(rt.alloc(), ran, &mut io::writer(rt));
+    status_of_finish(rt, done)
+}
+
+/// Tells why a script's last restore came to no end, and answers the program's status.
+fn status_of_finish(rt: &impl Eprint, done: Result<(), FinishFault>) -> ExitCode
+    ensures done { OnOk done (exit_status result ≡ 0) }
+    ensures fault { IfErr done (λ fault. exit_status result ≡ status_of_finish fault) }
+{
+    match done {
         Ok(()) => ExitCode::SUCCESS,
         // Its line is on standard output.
         Err(FinishFault::Refused(why)) => ExitCode::from(refused_status(&why)),

@@ -1,5 +1,5 @@
 use Rattle.std.proofs.Common.{ap, codes, subst, ◌∙◌}
-use Rattle.clap.specs.Words.{Row, found_of, first_of, one_of}
+use Rattle.clap.specs.Words.{found_of, first_of, one_of}
 use Rattle.clap.proofs.WalkLemmas.{first_value-rows}
 use Rattle.imgcopy.specs.Command.{IsRead}
 use Rattle.imgcopy.proofs.command.run_of.Goals as goal
