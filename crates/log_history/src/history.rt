@@ -103,6 +103,7 @@ impl History {
     }
 
     /// The same of a checkpoint's record, which changes no page.
+    #[inline(always)]
     fn follow_checkpoint(&mut self, next: &Record) -> Result<bool, AllocError>
         requires valid { IsRecord next.now }
         requires kind { IsOfCheckpoint next.now }

@@ -60,6 +60,7 @@ fn push_pending(
 }
 
 /// Takes the last pending change away, and what it kept out.
+#[inline(always)]
 fn pop_pending(pending: &mut Vec<Pending>, claims: &mut Claims, seat: u8)
     requires seat { seat < SEATS }
     requires held { IsHeld claims.old seat pending.old.items }

@@ -59,6 +59,7 @@ pub fn decode(bytes: &[u8; RECORD_BYTES], at: Lsn) -> Option<Record>
 }
 
 /// The record of a checkpoint that these bytes spell at this LSN, if they do.
+#[inline(always)]
 fn checkpoint_record_of(bytes: &[u8; RECORD_BYTES], at: Lsn) -> Option<Record>
     ensures found { IfSome result (λ r. (own_lsn r ≡ at) × SpellsRecord r bytes.now) }
     ensures only { (r : Record) → IsOfCheckpoint r → own_lsn r ≡ at → SpellsRecord r bytes.now

@@ -78,7 +78,12 @@ impl RecordSink for LogImage {
     }
 
     fn take(&mut self, next: &[Record]) -> Result<(), AllocError> {
-        self.records.extend_from_slice(next)?;
+        // A scan hands over one record at a time, and a push of it is cheaper than a copy.
+        if next.len() == 1 {
+            self.records.push(next[0])?;
+        } else {
+            self.records.extend_from_slice(next)?;
+        }
         Ok(())
     }
 }
