@@ -5,12 +5,12 @@ use std::fmt::{Debug, Display};
 use std::process::Abort;
 
 /// Asserts that a value is the wanted one.
-pub fn same<T: PartialEq + Debug>(rt: &impl Abort, given: &T, wanted: &T) {
+pub(crate) fn same<T: PartialEq + Debug>(rt: &impl Abort, given: &T, wanted: &T) {
     assert_eq!(rt; *given, *wanted);
 }
 
 /// The same, and tells which row of a table it is.
-pub fn same_at<T: PartialEq + Debug, P: Display>(
+pub(crate) fn same_at<T: PartialEq + Debug, P: Display>(
     rt: &impl Abort,
     given: &T,
     wanted: &T,

@@ -18,7 +18,7 @@ pub struct Steps<'a> {
 }
 
 impl<'a> Steps<'a> {
-    pub fn new(bytes: &'a [u8], step: usize) -> Steps<'a> {
+    pub(crate) fn new(bytes: &'a [u8], step: usize) -> Steps<'a> {
         Steps {
             bytes,
             step,
@@ -29,7 +29,7 @@ impl<'a> Steps<'a> {
     }
 
     /// The same, but every other call is interrupted.
-    pub fn interrupted(self) -> Steps<'a> {
+    pub(crate) fn interrupted(self) -> Steps<'a> {
         Steps {
             interrupts: true,
             ..self
@@ -37,7 +37,7 @@ impl<'a> Steps<'a> {
     }
 
     /// The same, but it fails once it gave so many bytes.
-    pub fn failing(self, given: usize) -> Steps<'a> {
+    pub(crate) fn failing(self, given: usize) -> Steps<'a> {
         Steps {
             fails_after: Some(given),
             ..self
@@ -73,7 +73,7 @@ pub struct Pairs {
 
 impl Pairs {
     /// The first bytes of this log, so many.
-    pub fn until(end: u64) -> Pairs {
+    pub(crate) fn until(end: u64) -> Pairs {
         Pairs { at: 0, end }
     }
 }

@@ -19,7 +19,7 @@ const MOST_PAGES: u64 = 0x0000_0100_0000_0000;
 const TOO_MANY_PAGES: u64 = 0x0100_0100_0000_0000;
 
 /// Begin 1, set 1 0 3 7, add 1 0 3 5, commit 1.
-pub fn records() -> [Record; 4] {
+pub(crate) fn records() -> [Record; 4] {
     let txn = TxnNo(1);
     let page = PageNo(0);
     [
@@ -52,7 +52,7 @@ pub fn records() -> [Record; 4] {
 }
 
 /// The bytes of these records, each eight of them as one number.
-pub fn spellings() -> [[u64; 8]; 4] {
+pub(crate) fn spellings() -> [[u64; 8]; 4] {
     [
         [
             0x0100_0000_0100_0000,
@@ -97,7 +97,7 @@ pub fn spellings() -> [[u64; 8]; 4] {
     ]
 }
 
-pub fn header_of_2_pages() -> [u64; 8] {
+pub(crate) fn header_of_2_pages() -> [u64; 8] {
     header_of(TWO_PAGES)
 }
 
@@ -105,7 +105,7 @@ fn header_of(pages: u64) -> [u64; 8] {
     [MAGIC, pages, 0, 0, 0, 0, 0, 0]
 }
 
-pub fn bytes_of(spelling: &[u64; 8]) -> [u8; 64] {
+pub(crate) fn bytes_of(spelling: &[u64; 8]) -> [u8; 64] {
     let mut bytes = [0; 64];
     for (part, number) in bytes.chunks_exact_mut(8).zip(spelling) {
         part.copy_from_slice(&number.to_be_bytes());
@@ -128,7 +128,7 @@ pub struct Case {
     pub want: Result<(u32, usize), LogReadFault>,
 }
 
-pub fn log_of(alloc: Global, case: &Case) -> Result<Vec<u8>, AllocError> {
+pub(crate) fn log_of(alloc: Global, case: &Case) -> Result<Vec<u8>, AllocError> {
     let mut bytes = Vec::new(alloc);
     bytes.extend_from_slice(&bytes_of(&header_of(case.pages)))?;
     let spellings = spellings();
@@ -146,7 +146,7 @@ pub fn log_of(alloc: Global, case: &Case) -> Result<Vec<u8>, AllocError> {
     Ok(bytes)
 }
 
-pub fn cases() -> [Case; 16] {
+pub(crate) fn cases() -> [Case; 16] {
     [
         Case {
             name: "four records",

@@ -369,7 +369,7 @@ pub(super) enum Row {
 
 impl Row {
     /// The calls of the row with their replies.
-    pub fn calls(self, alloc: Global) -> Result<Vec<(Event, Reply)>, Fail> {
+    pub(crate) fn calls(self, alloc: Global) -> Result<Vec<(Event, Reply)>, Fail> {
         match self {
             Row::ChangedAfterACopy => joined(alloc, &[&idle(), &changed_after_a_copy()]),
             Row::AddedAndSet => joined(alloc, &[&idle(), &full(0), &added_and_set()]),
@@ -430,7 +430,7 @@ impl Row {
     }
 
     /// Which call fails.
-    pub fn faults(self) -> Faults {
+    pub(crate) fn faults(self) -> Faults {
         match self {
             Row::LostTail => Faults {
                 store: 0,
@@ -441,7 +441,7 @@ impl Row {
     }
 
     /// How many pages the volume of the row has.
-    pub fn pages(self) -> u32
+    pub(crate) fn pages(self) -> u32
         ensures { IsPageCount result }
     {
         match self {
