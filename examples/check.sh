@@ -1,9 +1,9 @@
 #!/usr/bin/env bash
 # usage: check.sh PROGRAM
 # Runs `PROGRAM redo` on each example log and compares its output, its status and its fault line with the expected
-# ones. Then it gives the program wrong words, an input that cannot be read and an output that is full. Before that, it
-# sees that the examples are those that make.py makes, and that show_log.py finds a fault in the same logs. Ends with
-# status 0 if all is as expected.
+# ones. Then it gives the program wrong words, whose texts it looks at, words of each command, an input that cannot be
+# read and an output that is full. Before that, it sees that the examples are those that make.py makes, and that
+# show_log.py finds a fault in the same logs. Ends with status 0 if all is as expected.
 set -u
 
 fail() {
@@ -13,6 +13,7 @@ fail() {
 
 [ $# -eq 1 ] || fail "one argument is wanted, the program to check"
 program=$(command -v "$1") || fail "there is no program $1"
+[[ $program == /* ]] || program=$PWD/$program
 command -v python3 > /dev/null || fail "python3 is missing"
 examples=$(cd "$(dirname "$0")" && pwd)
 work=$(mktemp -d) || fail "no temporary folder can be made"
@@ -78,6 +79,30 @@ check_told() {
     [ "$(head -n 1 "$work/err")" = "$1" ] || fail "standard error '$(head -n 1 "$work/err")', expected '$1'"
 }
 
+# check_refused START WHY USAGE WORDS..: the text that refuses these words starts so, and names these two.
+check_refused() {
+    local start=$1 why=$2 usage=$3 text
+    shift 3
+    check_words "$@"
+    text=$(cat "$work/err")
+    [[ $text == "$start"* ]] || fail "the words '$*': the text does not start with '$start': $(head -n 1 "$work/err")"
+    [[ $text == *"$why"* ]] || fail "the words '$*': the text does not name $why"
+    [[ $text == *"$usage"* ]] || fail "the words '$*': the text has no '$usage'"
+}
+
+# Words that give a command: what they say is done.
+check_commands() {
+    mkdir "$work/day"
+    "$program" run --save="$work/day" --pages=1 < /dev/null > "$work/out" || fail "run --save --pages=1: status $?"
+    [ -s "$work/day/log" ] || fail "run --save: there is no log"
+    "$program" run --pages 65536 < /dev/null > "$work/out" || fail "run --pages 65536: status $?"
+    # A file whose name begins like an option: it is opened, and is no log of 64 bytes.
+    : > "$work/-log"
+    (cd "$work" && "$program" restore -- -log master > out 2> err < /dev/null)
+    status=$?
+    check_fault "E30 BadHeader" "restore -- -log master"
+}
+
 # check_fault LINE NAME: the run that has just ended gave this line, status 2 and no output.
 check_fault() {
     [ "$status" -eq 2 ] || fail "$2: status $status, expected 2"
@@ -110,10 +135,28 @@ for word in help --help -h; do
     check_words "$word"
     check_told "Usage: imgcopy <COMMAND>"
 done
-check_words run
-for word in extra --pages --help -h; do
-    check_words redo "$word"
+call='Usage: imgcopy <COMMAND>'
+check_refused "error: no command" redo "$call"
+for word in help --help -h; do
+    check_refused "Usage: " restore "$call" "$word"
 done
+check_refused "error: unrecognized" "'audit'" "$call" audit
+redo='Usage: imgcopy redo'
+check_refused "error: " "'extra'" "$redo" redo extra
+check_refused "error: " "'--pages'" "$redo" redo --pages
+check_refused Write "Print help" "$redo" redo -h
+check_refused Write "Print help" "$redo" redo --help
+run='Usage: imgcopy run'
+check_refused "error: " "--pages <N>" "$run" run
+for pages in --pages=0 --pages=65537 --pages=x --pages=; do
+    check_refused "error: " "--pages <N>" --help run "$pages"
+done
+check_refused "error: " "'--frames'" "$run" run --pages=1 --frames=1
+check_refused Play --save "$run" run --help
+restore='Usage: imgcopy restore'
+check_refused "error: " "<MASTER>" "$restore" restore log
+check_refused Write ARCHIVE "$restore" restore -h
+check_commands
 # A word that is no UTF-8.
 check_words $'redo\xff'
 check_told "error: the words of the command line cannot be read"

@@ -23,7 +23,7 @@ impl<S: PageStore, D: LogDevice> Engine<S, D> {
     }
 
     /// The dirty page table from a page on: up to three dirty pages in order of their numbers, each
-    /// with its RecLSN, or `None` where no page from there on is dirty (ARIES section 3.2).
+    /// with its RecLSN, or `None` where no page from there on is dirty (ARIES, section 4.4).
     pub fn dirty_from(&self, cursor: PageNo) -> Option<DirtyPages>
         ensures { let next = next_dirty (dirty self.now.state.log self.now.state.written) cursor in
             MatchOption result (next ≡ []) (λ some. entries_of some ≡ next) }

@@ -1,4 +1,3 @@
-pub mod NextLogs
 pub mod Bits
 pub mod Columns
 pub mod Dirty

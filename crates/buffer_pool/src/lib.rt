@@ -12,6 +12,3 @@ mod rec_lsns;
 pub use laws::{next_dirty_pages_pass_over_none, stored_pages_cover_their_rec_lsns};
 pub use page_image::PageImage;
 pub use pool::Pool;
-
-#[cfg(test)]
-mod tests;

@@ -16,6 +16,8 @@ mod open_transactions;
 #[cfg(test)]
 mod pages;
 #[cfg(test)]
+mod pools;
+#[cfg(test)]
 mod redo;
 #[cfg(test)]
 mod stores;

@@ -16,6 +16,3 @@ pub use input::MAX_SCRIPT_BYTES;
 pub use read::read_script;
 pub use reply::ReplyLine;
 pub use script::{LastRestore, Script};
-
-#[cfg(test)]
-mod tests;

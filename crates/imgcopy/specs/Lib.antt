@@ -1,4 +1,3 @@
 pub mod Command
 pub mod Restore
 pub mod Status
-pub mod Stream

@@ -186,6 +186,3 @@ fn archives_in<'a>(alloc: Global, matches: &ArgMatches<'a>) -> Result<Vec<&'a st
         None => Ok(Vec::new(alloc)),
     }
 }
-
-#[cfg(test)]
-mod tests;

@@ -8,15 +8,12 @@ ghost use Rattle.imgcopy.specs.Status.{status_of_finish, status_of_restore};
 
 mod arguments;
 mod command;
-mod fault;
 mod restore;
 mod save;
 mod status;
-mod stream;
 
 use aries_core::Setup;
 use command::{Command, command_of};
-use fault::Fault;
 use media_restore::RestoreFault;
 use restore::restore_volume;
 use save::save_files;
@@ -27,7 +24,7 @@ use std::io::ErrorKind;
 use std::process::ExitCode;
 use std::rt::Env;
 use std::{env, io};
-use stream::redo_stream;
+use volume_redo::{Fault, redo_stream};
 
 fn main(rt: HostRuntime) -> ExitCode {
     let words = match words_of(&rt) {

@@ -1,7 +1,7 @@
 //! Entries of the dirty page table.
 
 /// A dirty page: its number, and its RecLSN, the LSN of the first change that its stored page may
-/// lack (ARIES, section 3.2). They are plain numbers, since a record that has newtypes within an
+/// lack (ARIES, section 4.4). They are plain numbers, since a record that has newtypes within an
 /// enum of its own cannot be kept in a `Vec` with this version of the kit.
 #[derive(Clone, Copy, Debug, PartialEq, Eq)]
 pub struct DirtyPage {

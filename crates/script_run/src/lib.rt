@@ -17,6 +17,3 @@ pub use log_fault::LogWriteFault;
 pub use log_file::write_log;
 pub use run::{Ran, run_script};
 pub use run_fault::RunFault;
-
-#[cfg(test)]
-mod tests;

@@ -1,0 +1,64 @@
+-- From the bytes of a log to the bytes of the volume that it makes.
+use Rattle.std.specs.Prelude.{ℕ, ◌<◌, List, [], length, take, Option, IfSome}
+use Rattle.std.specs.Io.KnownBytes.{Appends, Keeps}
+use Rattle.page_core.specs.Page.{volume_bytes}
+use Rattle.log_store.specs.declared.fault.LogReadFault.{LogReadFault}
+use Rattle.log_store.specs.declared.fault.LogReadFault.TheVariants as log
+use Rattle.log_history.specs.Linked.{IsLinked}
+use Rattle.log_records.specs.Log.{Log, IsLog, SpellsLog}
+use Rattle.log_records.specs.Image.{redo_all}
+use Rattle.log_store.specs.Fault.{Refuses, GaveNoFault}
+use Rattle.volume_redo.specs.declared.fault.Fault.{Fault}
+use Rattle.volume_redo.specs.declared.fault.Fault.TheVariants as fault
+
+-- the bytes of the volume that a log makes
+abbrev pub volume_of : Log → List ℕ
+volume_of l = volume_bytes (redo_all l.records l.pages)
+
+-- the input spells a linked log, and the volume that it makes was written, and nothing else
+pub record WritesVolume (input old new : Option (List ℕ)) : Type 0 where
+  pub made_of : Log
+  pub valid : IsLog made_of
+  pub linked : IsLinked made_of.records
+  pub read : IfSome input (SpellsLog made_of)
+  pub written : Appends old new (volume_of made_of)
+
+-- the input spells a linked log, and the first bytes of its volume were written, so many but not
+-- all, and nothing else
+pub record WritesPart (input old new : Option (List ℕ)) (done : ℕ) : Type 0 where
+  pub made_of : Log
+  pub valid : IsLog made_of
+  pub linked : IsLinked made_of.records
+  pub read : IfSome input (SpellsLog made_of)
+  pub within : done < length (volume_of made_of)
+  pub written : Appends old new (take done (volume_of made_of))
+
+-- nothing was written, and the fault is that of reading the log
+pub record WritesNone (input old new : Option (List ℕ)) (why : LogReadFault) : Type 0 where
+  pub refused : IfSome input (λ bytes. Refuses bytes why)
+  pub kept : Keeps old new
+
+-- the reader failed, and what it gave until then holds no fault
+abbrev pub FailedUnread : Option (List ℕ) → Option (List ℕ) → Type 0
+FailedUnread old new = GaveNoFault [] old new log.ReadFault
+
+-- a fault of reading a log, as the program reports it
+abbrev pub reported : LogReadFault → Fault
+reported log.OutOfMemory = fault.OutOfMemory
+reported log.BadHeader = fault.BadHeader
+reported (log.BadRecord at) = fault.BadRecord at
+reported (log.BadChain at) = fault.BadChain at
+reported (log.Torn at) = fault.Torn at
+reported log.ReadFault = fault.ReadFault
+reported log.TooLong = fault.TooLong
+
+-- what a fault says, and what stands after it
+abbrev pub Leaves : Option (List ℕ) → Option (List ℕ) → Option (List ℕ) → Fault → Type 0
+Leaves input old new fault.OutOfMemory = Keeps old new
+Leaves input old new (fault.WriteFault done) = WritesPart input old new done
+Leaves input old new fault.BadHeader = WritesNone input old new log.BadHeader
+Leaves input old new (fault.BadRecord at) = WritesNone input old new (log.BadRecord at)
+Leaves input old new (fault.BadChain at) = WritesNone input old new (log.BadChain at)
+Leaves input old new (fault.Torn at) = WritesNone input old new (log.Torn at)
+Leaves input old new fault.ReadFault = WritesNone input old new log.ReadFault
+Leaves input old new fault.TooLong = WritesNone input old new log.TooLong
