@@ -40,7 +40,7 @@ class Sources:
         self.names = {path.name for path in self.files}
         self.words = set(crates()).union({path.stem for path in self.files}, *self.files.values())
         self.targets = set(re.findall(r"^([\w-]+):", (ROOT / "Makefile").read_text(encoding="utf-8"), re.MULTILINE))
-        program = ROOT / "crates" / "imgcopy" / "src"
+        program = ROOT / "crates" / "command_words" / "src"
         self.commands = set(re.findall(r'"([\w-]+)"', "".join(path.read_text() for path in program.rglob("*.rt"))))
 
     def lacks(self, name):

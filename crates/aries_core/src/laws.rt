@@ -112,8 +112,8 @@ pub fn a_refusal_changes_nothing()
         → ((lsn : ℕ) → why ≢ CommitUnsure lsn) → Step old event (Err why) new → new ≡ old }
 {}
 
-/// Only memory and the device leave an engine a choice: where a refusal is due it is the reply, and
-/// an event has no two answers.
+/// Only memory, the device and the store leave an engine a choice: where a refusal is due it is the
+/// reply, and an event has no two answers.
 pub fn replies_are_determined()
     ensures refused { (old : EngineState) (event : Event) (reply : Result Answer Refusal)
         (new : EngineState) (why : Refusal) → refusal old event ≡ Some why

@@ -1,4 +1,1 @@
-mod ClapLemmas
-mod RedoLemmas
-mod RequiredLemmas
 mod RestoreLemmas

@@ -6,14 +6,12 @@ ghost use Rattle.std.specs.Process.{exit_status};
 ghost use Rattle.log_records.specs.Log.{IsPageCount};
 ghost use Rattle.imgcopy.specs.Status.{status_of_finish, status_of_restore};
 
-mod arguments;
-mod command;
 mod restore;
 mod save;
 mod status;
 
 use aries_core::Setup;
-use command::{Command, command_of};
+use command_words::{Command, command_of};
 use media_restore::RestoreFault;
 use restore::restore_volume;
 use save::save_files;

@@ -2,7 +2,7 @@ use Rattle.std.proofs.Common.{List, Option, [], ap, codes, sym, ◌∙◌}
 use Rattle.std.specs.Prelude.{unwrap_or}
 use Rattle.clap.specs.Words.{Text, all_of, found_of, first_of}
 use Rattle.clap.proofs.WalkLemmas.{first_value-rows, raw_values-rows}
-use Rattle.imgcopy.proofs.command.restore_of.Goals as goal
+use Rattle.command_words.proofs.command.restore_of.Goals as goal
 
 pub returns-clause-ok : goal.returns-clause-ok
 returns-clause-ok g c =

@@ -1,8 +1,8 @@
 use Rattle.std.proofs.Common.{lit<, refl}
-use Rattle.imgcopy.specs.Command.{run_app}
-use Rattle.imgcopy.proofs.ClapLemmas.{for_memory, passed_up, taken}
-use Rattle.imgcopy.proofs.RequiredLemmas.{pages_passed}
-use Rattle.imgcopy.proofs.arguments.run_matches.Goals as goal
+use Rattle.command_words.specs.Command.{run_app}
+use Rattle.command_words.proofs.ClapLemmas.{for_memory, passed_up, taken}
+use Rattle.command_words.proofs.RequiredLemmas.{pages_passed}
+use Rattle.command_words.proofs.arguments.run_matches.Goals as goal
 
 pub returns-in_err-try_get_matches_from-clause-only :
     goal.returns-in_err-try_get_matches_from-clause-only

@@ -6,9 +6,9 @@ use Rattle.std.proofs.lemmas.Option.{none-some, same_Some}
 use Rattle.clap.specs.Words.{App, HasKind, ReadsOne, Text, fault_of, is_simple_and_free, kind_of}
 use Rattle.clap.specs.declared.error.Error.{Error}
 use Rattle.clap.specs.declared.error.kind.ErrorKind.TheVariants as kind
-use Rattle.imgcopy.specs.Command.{Explains, IsRead, Names, apps}
-use Rattle.imgcopy.specs.declared.command.UsageFault.{UsageFault}
-use Rattle.imgcopy.specs.declared.command.UsageFault.TheVariants.{BadArguments, OutOfMemory}
+use Rattle.command_words.specs.Command.{Explains, IsRead, Names, apps}
+use Rattle.command_words.specs.declared.command.UsageFault.{UsageFault}
+use Rattle.command_words.specs.declared.command.UsageFault.TheVariants.{BadArguments, OutOfMemory}
 
 -- what `?` makes of the error
 abbrev pub Becomes : Error → UsageFault → Type 0

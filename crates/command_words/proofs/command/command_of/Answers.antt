@@ -1,6 +1,6 @@
 use Rattle.std.proofs.lemmas.Result.{IfErr-weaker, IfOk-weaker, MatchResult-from_both}
-use Rattle.imgcopy.proofs.RedoLemmas.{given_redo, redo_faultless}
-use Rattle.imgcopy.proofs.command.command_of.Goals as goal
+use Rattle.command_words.proofs.RedoLemmas.{given_redo, redo_faultless}
+use Rattle.command_words.proofs.command.command_of.Goals as goal
 
 pub returns-in-redo-clause-redo : goal.returns-in-redo-clause-redo
 returns-in-redo-clause-redo g c = λ redo. MatchResult-from_both c.redo_of.result _ _ c.redo_of.ensures.is_redo

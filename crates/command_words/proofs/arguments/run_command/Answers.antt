@@ -2,8 +2,8 @@ use Rattle.std.proofs.Common.{ap, ◌∙◌}
 use Rattle.std.proofs.lemmas.Result.{IfOk-weaker}
 use Rattle.clap.specs.declared.builder.command.Command.{Command as Parser}
 use Rattle.clap.specs.declared.builder.command.Command.TheOpen.{Command-F}
-use Rattle.imgcopy.proofs.RequiredLemmas.{asks_for_pages}
-use Rattle.imgcopy.proofs.arguments.run_command.Goals as goal
+use Rattle.command_words.proofs.RequiredLemmas.{asks_for_pages}
+use Rattle.command_words.proofs.arguments.run_command.Goals as goal
 
 pub returns-clause-made : goal.returns-clause-made
 returns-clause-made c =

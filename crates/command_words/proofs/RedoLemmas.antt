@@ -16,9 +16,9 @@ use Rattle.clap.specs.Faults.{bundle_fault, bundle_step_fault, flag_word_fault, 
 use Rattle.clap.specs.Faults.{step_fault}
 use Rattle.clap.specs.declared.error.kind.ErrorKind.{ErrorKind}
 use Rattle.clap.proofs.OnLiterals.{clap_on_literals}
-use Rattle.imgcopy.specs.Command.{Gives, IsRedo, redo_app}
-use Rattle.imgcopy.specs.declared.command.Command.{Command}
-use Rattle.imgcopy.specs.declared.command.Command.TheVariants.{Redo}
+use Rattle.command_words.specs.Command.{Gives, IsRedo, redo_app}
+use Rattle.command_words.specs.declared.command.Command.{Command}
+use Rattle.command_words.specs.declared.command.Command.TheVariants.{Redo}
 
 redo_alone : fault_of redo_app (codes "redo" ∷ []) ≡ []
 unfolding clap_on_literals

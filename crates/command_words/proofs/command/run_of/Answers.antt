@@ -1,8 +1,8 @@
 use Rattle.std.proofs.Common.{ap, codes, subst, ◌∙◌}
 use Rattle.clap.specs.Words.{found_of, first_of, one_of}
 use Rattle.clap.proofs.WalkLemmas.{first_value-rows}
-use Rattle.imgcopy.specs.Command.{IsRead}
-use Rattle.imgcopy.proofs.command.run_of.Goals as goal
+use Rattle.command_words.specs.Command.{IsRead}
+use Rattle.command_words.proofs.command.run_of.Goals as goal
 
 pub returns-clause-ok : goal.returns-clause-ok
 returns-clause-ok g c =

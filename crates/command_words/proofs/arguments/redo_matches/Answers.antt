@@ -1,7 +1,7 @@
 use Rattle.std.proofs.Common.{lit<, refl}
-use Rattle.imgcopy.specs.Command.{redo_app}
-use Rattle.imgcopy.proofs.ClapLemmas.{passed_up}
-use Rattle.imgcopy.proofs.arguments.redo_matches.Goals as goal
+use Rattle.command_words.specs.Command.{redo_app}
+use Rattle.command_words.proofs.ClapLemmas.{passed_up}
+use Rattle.command_words.proofs.arguments.redo_matches.Goals as goal
 
 pub returns-in_err-try_get_matches_from-clause-explained :
     goal.returns-in_err-try_get_matches_from-clause-explained

@@ -15,12 +15,12 @@ use Rattle.clap.specs.declared.builder.action.ArgAction.TheVariants.{Append, Set
 use Rattle.clap.specs.declared.builder.value_parser.ValueParser.{ValueParser}
 use Rattle.clap.specs.declared.builder.value_parser.ValueParser.TheVariants.{Signed}
 use Rattle.clap.specs.declared.parser.matches.Found.{Found}
-use Rattle.imgcopy.specs.declared.command.Command.{Command}
-use Rattle.imgcopy.specs.declared.command.Command.TheVariants.{Redo, Restore, Run}
-use Rattle.imgcopy.specs.declared.command.UsageFault.{UsageFault}
-use Rattle.imgcopy.specs.declared.command.UsageFault.TheVariants.{BadArguments, HelpAsked}
-use Rattle.imgcopy.specs.declared.command.UsageFault.TheVariants.{NoCommand, OutOfMemory}
-use Rattle.imgcopy.specs.declared.command.UsageFault.TheVariants.{UnknownCommand}
+use Rattle.command_words.specs.declared.command.Command.{Command}
+use Rattle.command_words.specs.declared.command.Command.TheVariants.{Redo, Restore, Run}
+use Rattle.command_words.specs.declared.command.UsageFault.{UsageFault}
+use Rattle.command_words.specs.declared.command.UsageFault.TheVariants.{BadArguments, HelpAsked}
+use Rattle.command_words.specs.declared.command.UsageFault.TheVariants.{NoCommand, OutOfMemory}
+use Rattle.command_words.specs.declared.command.UsageFault.TheVariants.{UnknownCommand}
 
 -- `redo`, which has no arguments
 abbrev pub redo_app : App

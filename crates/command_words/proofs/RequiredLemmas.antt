@@ -15,8 +15,8 @@ use Rattle.clap.specs.declared.builder.command.Command.TheViews.{out-Command as 
 use Rattle.clap.specs.declared.parser.matches.ArgMatches.{ArgMatches}
 use Rattle.clap.proofs.CallerLemmas.{added_plain, required_in_chain}
 use Rattle.clap.proofs.CallerReads.{required_reads}
-use Rattle.imgcopy.specs.Command.{AsksForFiles, AsksForPages, PassesPages, archive_rule, log_rule}
-use Rattle.imgcopy.specs.Command.{master_rule, pages_parser, pages_rule, save_rule}
+use Rattle.command_words.specs.Command.{AsksForFiles, AsksForPages, PassesPages, archive_rule, log_rule}
+use Rattle.command_words.specs.Command.{master_rule, pages_parser, pages_rule, save_rule}
 
 same_length : (x y : List ℕ) → bytes_eq x y ≡ true → length x ≡ length y
 same_length x y same = ap length ((bytes_eq-Decides x y).0 same)

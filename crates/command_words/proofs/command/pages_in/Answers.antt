@@ -2,8 +2,8 @@ use Rattle.std.proofs.Common.{codes, sym, ◌∙◌}
 use Rattle.std.specs.Str.Parse.{ExplainsUnsignedError, HasUnsignedDigitsIfOk, ParsesUnsigned}
 use Rattle.clap.specs.Words.{found_of, without_minus}
 use Rattle.clap.proofs.WalkLemmas.{one_text-rows}
-use Rattle.imgcopy.proofs.ClapLemmas.{is_read}
-use Rattle.imgcopy.proofs.command.pages_in.Goals as goal
+use Rattle.command_words.proofs.ClapLemmas.{is_read}
+use Rattle.command_words.proofs.command.pages_in.Goals as goal
 
 pub returns-clause-read : goal.returns-clause-read
 returns-clause-read c =

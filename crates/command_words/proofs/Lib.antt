@@ -1,0 +1,3 @@
+mod ClapLemmas
+mod RedoLemmas
+mod RequiredLemmas
