@@ -3,9 +3,11 @@ ghost use Rattle.std.specs.Prelude.{◌≡◌, IfErr, IfOk, Some, [], codes, is_
 ghost use Rattle.clap.specs.Built.{FitsChain, TakesValue};
 ghost use Rattle.clap.specs.Words.{app_of, fault_of, first_value, found_of, matches_of, rows_of};
 ghost use Rattle.clap.specs.Words.{rule_of};
-ghost use Rattle.command_words.specs.Command.{AsksForFiles, AsksForPages, Explains, Names, PassesPages};
+ghost use Rattle.command_words.specs.Command.{AsksForFiles, AsksForPages, Explains, Names};
+ghost use Rattle.command_words.specs.Command.{PassesPages};
 ghost use Rattle.command_words.specs.Command.{archive_rule, log_rule, master_rule, pages_parser};
-ghost use Rattle.command_words.specs.Command.{pages_rule, redo_app, restore_app, run_app, save_rule};
+ghost use Rattle.command_words.specs.Command.{pages_rule, redo_app, restore_app, run_app};
+ghost use Rattle.command_words.specs.Command.{save_rule};
 ghost use Rattle.command_words.specs.declared.command.UsageFault.TheVariants.{OutOfMemory};
 
 use crate::command::UsageFault;

@@ -3,9 +3,11 @@ ghost use Rattle.std.specs.Prelude.{◌≡◌, ◌≢◌, ◌≤◌, ◌⊎◌, 
 ghost use Rattle.std.specs.Prelude.{is_some, map, option_map, true, unwrap_or};
 ghost use Rattle.clap.specs.Words.{fault_of, first_value, found_of, kind_of, matched_of, one_of};
 ghost use Rattle.clap.specs.Words.{raw_values, rows_of};
-ghost use Rattle.command_words.specs.Command.{Explains, Gives, HasPages, IsRead, IsRedo, IsTaken, Names};
+ghost use Rattle.command_words.specs.Command.{Explains, Gives, HasPages, IsRead, IsRedo, IsTaken};
+ghost use Rattle.command_words.specs.Command.{Names};
 ghost use Rattle.command_words.specs.Command.{PassesPages, redo_app, restore_app, run_app};
-ghost use Rattle.command_words.specs.declared.command.UsageFault.TheVariants.{BadArguments, OutOfMemory};
+ghost use Rattle.command_words.specs.declared.command.UsageFault.TheVariants.{BadArguments};
+ghost use Rattle.command_words.specs.declared.command.UsageFault.TheVariants.{OutOfMemory};
 ghost use Rattle.clap.specs.declared.error.kind.ErrorKind.TheVariants as kind;
 
 use crate::arguments::{redo_matches, restore_matches, run_matches};

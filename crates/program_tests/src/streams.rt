@@ -1,5 +1,5 @@
-//! What no clause says of redo: that the volume of a log is written, with its known bytes, and which fault comes of a
-//! reader or a writer that fails.
+//! What no clause says of redo: that the volume of a log is written, with its known bytes, and
+//! which fault comes of a reader or a writer that fails.
 
 use page_core::Lsn;
 use std::alloc::Global;
