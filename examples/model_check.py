@@ -4,7 +4,7 @@
 usage: model_check.py PROGRAM [COUNT [FIRST]]
        model_check.py --model [COUNT [FIRST]]     compares the model with the rows and with the definitions alone
 
-COUNT random scripts are made from the seeds FIRST and following, 3000 from seed 1 where none is told. Each is run, and
+COUNT random scripts are made from the seeds FIRST and following, 1000 from seed 1 where none is told. Each is run, and
 its files are redone and restored, right and spoiled. `random_scripts.py SEED` shows a script.
 """
 
@@ -29,7 +29,7 @@ from recovery_model import Answer, answer_of, encode_pages, redo_all, redo_file,
 from script_model import LONGEST_SCRIPT, run
 from spoiled_files import Given, spoil
 
-COUNT = 3000
+COUNT = 1000
 SEEDS_IN_A_TASK = 20
 SPOILED_IN_A_RUN = 4
 MOST_PAGES_SPOILED = 1000

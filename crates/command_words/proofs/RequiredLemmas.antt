@@ -8,7 +8,7 @@ use Rattle.std.proofs.lemmas.List.Elements.{All-get_or, All-nil}
 use Rattle.std.proofs.lemmas.Slice.Eq.{bytes_eq-Decides}
 use Rattle.clap.specs.Built.{AddsArg, FitsChain, HasDistinctIds, IsParsedFrom, IsPlain, IsPlainArg, TakesValue}
 use Rattle.clap.specs.Facts.{least_values}
-use Rattle.clap.specs.Words.{args_of, first_value, found_of, groups_of, one_text, rule_of}
+use Rattle.clap.specs.Words.{App, Rule, app_of, args_of, first_value, found_of, groups_of, one_text, rule_of, with_rule}
 use Rattle.clap.specs.declared.builder.arg.Arg.{Arg}
 use Rattle.clap.specs.declared.builder.command.Command.{Command as Parser}
 use Rattle.clap.specs.declared.builder.command.Command.TheViews.{out-Command as fields_of}
@@ -17,6 +17,12 @@ use Rattle.clap.proofs.CallerLemmas.{added_plain, required_in_chain}
 use Rattle.clap.proofs.CallerReads.{required_reads}
 use Rattle.command_words.specs.Command.{AsksForFiles, AsksForPages, PassesPages, archive_rule, log_rule}
 use Rattle.command_words.specs.Command.{master_rule, pages_parser, pages_rule, save_rule}
+
+-- a command with one more argument, as clap reads it
+pub app_with : (old new : Parser) (a : Arg) (app : App) (rule : Rule) → AddsArg old a new → a.global ≡ false
+    → app_of old ≡ app → rule_of a ≡ rule → app_of new ≡ with_rule app rule
+app_with old new a app rule added local same is =
+    added.shape local ∙ (ap (λ x. with_rule x (rule_of a)) same ∙ ap (with_rule app) is)
 
 same_length : (x y : List ℕ) → bytes_eq x y ≡ true → length x ≡ length y
 same_length x y same = ap length ((bytes_eq-Decides x y).0 same)

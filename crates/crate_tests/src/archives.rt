@@ -9,6 +9,7 @@ use page_core::{Lsn, PAGE_BYTES, Page, PageNo};
 use std::alloc::Global;
 use std::io;
 use std::io::{ErrorKind, Read};
+use std::process::Abort;
 use std::test::Fail;
 
 // The parts of archives in groups of eight bytes, in hexadecimal. `0` is eight zero bytes.
@@ -62,19 +63,17 @@ fn take(alloc: Global, vault: &mut Vault, id: CopyId, page: &Page) -> Result<Dec
     Ok(vault.decide(id, number, page))
 }
 
-#[test]
-fn a_sealed_copy_has_its_archive(rt: HostRuntime) -> Result<(), Fail> {
-    let alloc = rt.alloc();
-    let mut vault = Vault::new(alloc);
+/// Makes a full copy of one page, and asserts what its archive is.
+fn assert_sealed(rt: &impl Abort, alloc: Global, vault: &mut Vault) -> Result<(), Fail> {
     let id = vault.open_full(alloc, 1, Lsn(192), Lsn(128))?;
     let page = Page::formatted(PageNo(0));
-    same(&rt, &take(alloc, &mut vault, id, &page)?, &Decision::Taken);
-    same(&rt, &vault.seal(id), &Ok(1));
+    same(rt, &take(alloc, vault, id, &page)?, &Decision::Taken);
+    same(rt, &vault.seal(id), &Ok(1));
     let Some(copy) = vault.complete(id) else {
         return Err(Fail::new("the copy is not complete"));
     };
     same(
-        &rt,
+        rt,
         &written(alloc, copy)?,
         &archive_with(alloc, OF_ONE_PAGE, 1)?,
     );
@@ -82,39 +81,83 @@ fn a_sealed_copy_has_its_archive(rt: HostRuntime) -> Result<(), Fail> {
 }
 
 #[test]
-fn a_chain_has_each_page(rt: HostRuntime) -> Result<(), Fail> {
-    let alloc = rt.alloc();
-    let mut vault = Vault::new(alloc);
+fn a_sealed_copy_has_its_archive(rt: HostRuntime) -> Result<(), Fail> {
+    let mut vault = Vault::new(rt.alloc());
+    let done = assert_sealed(&rt, rt.alloc(), &mut vault);
+    drop(vault);
+    done
+}
+
+/// Makes a full copy of two pages.
+fn copy_two(
+    rt: &impl Abort,
+    alloc: Global,
+    vault: &mut Vault,
+    pages: &[Page; 2],
+) -> Result<CopyId, Fail> {
+    let [zero, one] = pages;
     let first = vault.open_full(alloc, 2, Lsn(64), Lsn(64))?;
     let refused = vault.open_inc(alloc, first, Lsn(384), Lsn(384));
-    same(&rt, &refused, &Err(CopyFault::CopyNotComplete));
-    let [zero, mut one] = [Page::formatted(PageNo(0)), Page::formatted(PageNo(1))];
-    take(alloc, &mut vault, first, &one)?;
-    take(alloc, &mut vault, first, &zero)?;
-    same(&rt, &vault.seal(first), &Ok(2));
+    same(rt, &refused, &Err(CopyFault::CopyNotComplete));
+    take(alloc, vault, first, one)?;
+    take(alloc, vault, first, zero)?;
+    same(rt, &vault.seal(first), &Ok(2));
+    Ok(first)
+}
+
+/// Makes an incremental copy of two pages, of which it takes the second alone.
+fn take_one(
+    rt: &impl Abort,
+    alloc: Global,
+    vault: &mut Vault,
+    first: CopyId,
+    pages: &[Page; 2],
+) -> Result<CopyId, Fail> {
+    let [zero, one] = pages;
     let next = vault.open_inc(alloc, first, Lsn(384), Lsn(384))?;
-    one.lsn = Lsn(256);
-    same(&rt, &take(alloc, &mut vault, next, &one)?, &Decision::Taken);
-    same(&rt, &take(alloc, &mut vault, next, &zero)?, &Decision::Kept);
-    same(
-        &rt,
-        &vault.chain(alloc, next).err(),
-        &Some(CopyFault::CopyNotComplete),
-    );
-    same(&rt, &vault.seal(next), &Ok(1));
-    same(
-        &rt,
-        &vault.chain(alloc, CopyId(3)).err(),
-        &Some(CopyFault::NoCopy),
-    );
-    let chain = vault.chain(alloc, next)?;
-    same(&rt, &(chain.pages(), chain.redo()), &(2, Lsn(384)));
+    same(rt, &take(alloc, vault, next, one)?, &Decision::Taken);
+    same(rt, &take(alloc, vault, next, zero)?, &Decision::Kept);
+    let refused = vault.chain(alloc, next).err();
+    same(rt, &refused, &Some(CopyFault::CopyNotComplete));
+    same(rt, &vault.seal(next), &Ok(1));
+    let refused = vault.chain(alloc, CopyId(3)).err();
+    same(rt, &refused, &Some(CopyFault::NoCopy));
+    Ok(next)
+}
+
+/// Asserts that a chain ends with this copy, and of which LSNs its pages are.
+fn assert_chain(
+    rt: &impl Abort,
+    alloc: Global,
+    vault: &Vault,
+    last: CopyId,
+    wanted: &[Lsn],
+) -> Result<(), Fail> {
+    let chain = vault.chain(alloc, last)?;
+    same(rt, &(chain.pages(), chain.redo()), &(2, Lsn(384)));
     let mut lsns = Vec::new(alloc);
     for page in chain.contents(alloc)? {
         lsns.push(page.lsn)?;
     }
-    same(&rt, &lsns.as_slice(), &[Lsn(0), Lsn(256)].as_slice());
+    same(rt, &lsns.as_slice(), &wanted);
     Ok(())
+}
+
+/// Makes both copies, and asserts what is in their chain.
+fn assert_copies(rt: &impl Abort, alloc: Global, vault: &mut Vault) -> Result<(), Fail> {
+    let mut pages = [Page::formatted(PageNo(0)), Page::formatted(PageNo(1))];
+    let first = copy_two(rt, alloc, vault, &pages)?;
+    pages[1].lsn = Lsn(256);
+    let next = take_one(rt, alloc, vault, first, &pages)?;
+    assert_chain(rt, alloc, vault, next, &[Lsn(0), Lsn(256)])
+}
+
+#[test]
+fn a_chain_has_each_page(rt: HostRuntime) -> Result<(), Fail> {
+    let mut vault = Vault::new(rt.alloc());
+    let done = assert_copies(&rt, rt.alloc(), &mut vault);
+    drop(vault);
+    done
 }
 
 #[test]
@@ -177,6 +220,7 @@ fn archives_are_linked(rt: HostRuntime) -> Result<(), Fail> {
     );
     copies.truncate(1);
     same(&rt, &linked(alloc, &copies, 1), &None);
+    drop(copies);
     Ok(())
 }
 

@@ -1,7 +1,7 @@
 //! Assertions as calls: a call is cheap to prove in a long test, and what `assert_eq!` writes there
-//! is dear.
+//! is dear. For the same reason a test drops what has many parts by a call, and not by its end.
 
-use std::fmt::{Debug, Display};
+use std::fmt::Debug;
 use std::process::Abort;
 
 /// Asserts that a value is the wanted one.
@@ -10,11 +10,11 @@ pub(crate) fn same<T: PartialEq + Debug>(rt: &impl Abort, given: &T, wanted: &T)
 }
 
 /// The same, and tells which row of a table it is.
-pub(crate) fn same_at<T: PartialEq + Debug, P: Display>(
+pub(crate) fn same_at<T: PartialEq + Debug, P: Debug>(
     rt: &impl Abort,
     given: &T,
     wanted: &T,
     place: &P,
 ) {
-    assert_eq!(rt; *given, *wanted, "{place}");
+    assert_eq!(rt; *given, *wanted, "{place:?}");
 }

@@ -8,6 +8,7 @@ use log_records::{Record, encode_header};
 use log_store::{DeviceFault, FaultyDevice, Log, LogDevice, MemDevice, read_log};
 use page_core::{Change, Lsn, PageNo, SlotNo, TxnNo};
 use std::alloc::{AllocError, Global};
+use std::process::Abort;
 use std::test::Fail;
 
 /// Transaction 1 begins.
@@ -92,13 +93,25 @@ fn forced_records_are_read(rt: HostRuntime) -> Result<(), Fail> {
     let done = log.force_to(Lsn(128));
     same(&rt, &(done, log.forced_end()), &(Ok(()), Lsn(192)));
     let bytes = log.device().bytes();
-    assert!(rt; bytes.len() == 192 && has_records(alloc, bytes, Lsn(192), 2));
+    same(&rt, &bytes.len(), &192);
+    same(&rt, &has_records(alloc, bytes, Lsn(192), 2), &true);
     let done = log.force();
     same(&rt, &(done, log.forced_end()), &(Ok(()), Lsn(256)));
     let (kept, device) = log.into_parts();
     same(&rt, &kept.records(), &records().as_slice());
-    assert!(rt; has_records(alloc, device.bytes(), Lsn(256), 3));
+    same(&rt, &has_records(alloc, device.bytes(), Lsn(256), 3), &true);
+    drop((kept, device));
     Ok(())
+}
+
+/// Asserts that a log is forced, and that its device has all of it then.
+fn assert_forced(rt: &impl Abort, alloc: Global, log: &mut Log<FaultyDevice>) {
+    same(rt, &log.force(), &Ok(()));
+    same(
+        rt,
+        &has_records(alloc, log.device().bytes(), Lsn(256), 3),
+        &true,
+    );
 }
 
 /// The header is stored by the first call, and each record by one of the next three.
@@ -116,9 +129,10 @@ fn a_call_fails(rt: HostRuntime) -> Result<(), Fail> {
             &(Err(DeviceFault), end),
             &format_args!("call {k} fails"),
         );
-        assert!(rt; has_records(alloc, log.device().bytes(), end, k as usize - 2));
-        same(&rt, &log.force(), &Ok(()));
-        assert!(rt; has_records(alloc, log.device().bytes(), Lsn(256), 3));
+        let has_all = has_records(alloc, log.device().bytes(), end, k as usize - 2);
+        same(&rt, &has_all, &true);
+        assert_forced(&rt, alloc, &mut log);
+        drop(log);
     }
     Ok(())
 }
@@ -130,9 +144,13 @@ fn the_header_is_stored_again(rt: HostRuntime) -> Result<(), Fail> {
     let (fault, device) = Log::new(alloc, 1, device).err().ok_or("call 1 fails")?;
     same(&rt, &(fault, device.bytes().len()), &(DeviceFault, 0));
     let mut log = log_on(alloc, device)?;
-    assert!(rt; has_records(alloc, log.device().bytes(), Lsn(64), 0));
-    same(&rt, &log.force(), &Ok(()));
-    assert!(rt; has_records(alloc, log.device().bytes(), Lsn(256), 3));
+    same(
+        &rt,
+        &has_records(alloc, log.device().bytes(), Lsn(64), 0),
+        &true,
+    );
+    assert_forced(&rt, alloc, &mut log);
+    drop(log);
     Ok(())
 }
 
@@ -151,13 +169,14 @@ fn finds_records(log: &Log<MemDevice>) -> bool {
 fn records_are_found(rt: HostRuntime) -> Result<(), Fail> {
     let alloc = rt.alloc();
     let log = log_on(alloc, MemDevice::new(alloc, 0)?)?;
-    assert!(rt; finds_records(&log));
+    same(&rt, &finds_records(&log), &true);
     same(
         &rt,
         &(log.forced_end(), log.end(), log.pages()),
         &(Lsn(64), Lsn(256), 1),
     );
     same(&rt, &log.records(), &records().as_slice());
+    drop(log);
     Ok(())
 }
 

@@ -125,7 +125,9 @@ fn read_known<R: Read>(
     let count = log.records().len();
     assert!(rt; count <= 4);
     same(rt, &log.records(), &&records()[..count]);
-    Ok((log.pages(), count))
+    let pages = log.pages();
+    drop(log);
+    Ok((pages, count))
 }
 
 #[test]

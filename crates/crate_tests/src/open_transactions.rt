@@ -128,6 +128,17 @@ fn take(rt: &impl Abort, table: &mut OpenTransactions, steps: &[Step]) -> Result
     Ok(())
 }
 
+/// Takes the last steps of a table.
+fn take_over(
+    rt: &impl Abort,
+    mut table: OpenTransactions,
+    steps: &[Step],
+) -> Result<(), AllocError> {
+    let done = take(rt, &mut table, steps);
+    drop(table);
+    done
+}
+
 /// The first transaction, with one pending change.
 fn first_state(last: u64, aborted: bool) -> TxnState {
     TxnState {
@@ -153,7 +164,7 @@ fn begun_state(lsn: u64, txn: u32) -> TxnState {
 
 #[test]
 fn a_transaction_has_its_state(rt: HostRuntime) -> Result<(), AllocError> {
-    let mut table = OpenTransactions::new(rt.alloc());
+    let table = OpenTransactions::new(rt.alloc());
     let change = PendingChange {
         lsn: Lsn(128),
         prev: Lsn(64),
@@ -181,12 +192,12 @@ fn a_transaction_has_its_state(rt: HostRuntime) -> Result<(), AllocError> {
         Step::State(1, None),
         Step::Counts(1, 0, 0),
     ];
-    take(&rt, &mut table, &steps)
+    take_over(&rt, table, &steps)
 }
 
 #[test]
 fn a_slot_has_its_holder(rt: HostRuntime) -> Result<(), AllocError> {
-    let mut table = OpenTransactions::new(rt.alloc());
+    let table = OpenTransactions::new(rt.alloc());
     let other = SlotNo(4);
     let steps = [
         Step::Note(begin(64, 1)),
@@ -214,13 +225,13 @@ fn a_slot_has_its_holder(rt: HostRuntime) -> Result<(), AllocError> {
         Step::Note(comp(704, 2, 576, 128, SLOT, UNDO_ADD)),
         Step::Holder(SLOT, ChangeKind::Set, TxnNo(3), None),
     ];
-    take(&rt, &mut table, &steps)
+    take_over(&rt, table, &steps)
 }
 
 /// A transaction that changed a slot twice still keeps it after one compensation.
 #[test]
 fn a_slot_is_kept_until_the_first_change_is_taken_back(rt: HostRuntime) -> Result<(), AllocError> {
-    let mut table = OpenTransactions::new(rt.alloc());
+    let table = OpenTransactions::new(rt.alloc());
     let steps = [
         Step::Note(begin(64, 1)),
         Step::Note(begin(128, 2)),
@@ -231,16 +242,24 @@ fn a_slot_is_kept_until_the_first_change_is_taken_back(rt: HostRuntime) -> Resul
         Step::Holder(SLOT, ChangeKind::Add, TxnNo(2), None),
         Step::Holder(SLOT, ChangeKind::Set, TxnNo(2), Some(TxnNo(1))),
     ];
-    take(&rt, &mut table, &steps)
+    take_over(&rt, table, &steps)
+}
+
+/// As many transactions begin as may be open.
+fn begin_each(table: &mut OpenTransactions) -> Result<(), AllocError> {
+    for txn in 1..65 {
+        let record = begin(64 * txn as u64, txn);
+        if table.may_note(&record) {
+            table.note(&record)?;
+        }
+    }
+    Ok(())
 }
 
 #[test]
 fn seats_are_taken_again(rt: HostRuntime) -> Result<(), AllocError> {
     let mut table = OpenTransactions::new(rt.alloc());
-    for txn in 1..65 {
-        let steps = [Step::Note(begin(64 * txn as u64, txn))];
-        take(&rt, &mut table, &steps)?;
-    }
+    begin_each(&mut table)?;
     let other = SlotNo(9);
     let reused = TxnState {
         last: Lsn(4416),
@@ -264,5 +283,5 @@ fn seats_are_taken_again(rt: HostRuntime) -> Result<(), AllocError> {
         Step::Next(65, Some(reused)),
         Step::Next(66, None),
     ];
-    take(&rt, &mut table, &steps)
+    take_over(&rt, table, &steps)
 }

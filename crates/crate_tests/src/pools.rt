@@ -3,6 +3,7 @@
 
 ghost use Rattle.log_records.specs.Log.{IsPageCount};
 
+use crate::asserts::{same, same_at};
 use buffer_pool::Pool;
 use log_records::{DirtyPage, DirtyPages, Record};
 use page_core::{Change, Lsn, PageNo, SlotNo, TxnNo};
@@ -131,7 +132,7 @@ impl<S: PageStore> Play<S> {
             calls += 1;
             pages += count;
         }
-        assert_eq!(rt; self.pool.dirty_from(PageNo(cursor)), None);
+        same(rt, &self.pool.dirty_from(PageNo(cursor)), &None);
         (calls, pages)
     }
 
@@ -144,26 +145,35 @@ impl<S: PageStore> Play<S> {
                 }
             }
             Row::Current(page, lsn, number) => {
-                assert_eq!(rt; self.current(rt, page), (lsn, number), "{row:?}");
+                same_at(rt, &self.current(rt, page), &(lsn, number), &row);
             }
             Row::State(page, rec_lsn, is_writing) => {
-                assert_eq!(rt; self.state(rt, page), (rec_lsn, is_writing), "{row:?}");
+                same_at(rt, &self.state(rt, page), &(rec_lsn, is_writing), &row);
             }
             Row::WriteBegin(page, lsn) => {
-                assert_eq!(rt; self.write_begin(rt, page)?, lsn, "{row:?}");
+                same_at(rt, &self.write_begin(rt, page)?, &lsn, &row);
             }
             Row::WriteEnd(page, lsn) => {
-                assert_eq!(rt; self.write_end(rt, page), lsn, "{row:?}");
+                same_at(rt, &self.write_end(rt, page), &lsn, &row);
             }
             Row::Stored(page, stored) => {
-                assert_eq!(rt; self.stored(rt, page), stored, "{row:?}");
+                same_at(rt, &self.stored(rt, page), &stored, &row);
             }
             Row::DirtyFrom(cursor, dirty) => {
-                assert_eq!(rt; self.pool.dirty_from(PageNo(cursor)), dirty, "{row:?}");
+                same_at(rt, &self.pool.dirty_from(PageNo(cursor)), &dirty, &row);
             }
             Row::Walk(calls, pages) => {
-                assert_eq!(rt; self.walk(rt), (calls, pages), "{row:?}");
+                same_at(rt, &self.walk(rt), &(calls, pages), &row);
             }
+        }
+        Ok(())
+    }
+}
+
+impl<S: PageStore> Play<S> {
+    fn follow_each(&mut self, rt: &impl Abort, rows: &[Row]) -> Result<(), AllocError> {
+        for &row in rows {
+            self.follow(rt, row)?;
         }
         Ok(())
     }
@@ -180,10 +190,9 @@ fn run(rt: &impl Abort, alloc: Global, pages: u32, k: u64, rows: &[Row]) -> Resu
         records: 0,
     };
     play.begin(rt);
-    for &row in rows {
-        play.follow(rt, row)?;
-    }
-    Ok(())
+    let done = play.follow_each(rt, rows);
+    drop(play);
+    done
 }
 
 fn entry(page: u32, rec_lsn: u64) -> DirtyPage {

@@ -22,6 +22,7 @@ fn a_copy_with_a_page_left_is_not_sealed(rt: HostRuntime) -> Result<(), Fail> {
     same(&rt, &vault.seal(CopyId(2)), &Err(CopyFault::NoCopy));
     assert!(rt; vault.reading(CopyId(1)).is_some());
     assert!(rt; vault.complete(CopyId(1)).is_none());
+    drop(vault);
     Ok(())
 }
 
@@ -40,5 +41,6 @@ fn an_id_is_given_once(rt: HostRuntime) -> Result<(), Fail> {
     }
     let refused = vault.open_full(alloc, 1, Lsn(64), Lsn(64));
     same(&rt, &refused, &Err(CopyFault::TooManyCopies));
+    drop(vault);
     Ok(())
 }

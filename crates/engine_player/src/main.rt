@@ -2,7 +2,7 @@
 //! memory is made again. It tells whether one was.
 #![tactic(auto)]
 
-use aries_core::{Answer, Engine, Event, Refusal, Reply, Setup, play};
+use aries_core::{Answer, Engine, Event, Played, Refusal, Reply, Setup, play};
 use copy_coverage::Retired;
 use copy_vault::CopyId;
 use log_store::MemDevice;
@@ -198,19 +198,22 @@ fn restore(alloc: Global, retired: Retired) -> Option<bool> {
         return None;
     }
     let (undone, undo_again) = undo_in_two(redone)?;
-    if undone.records().len() != 140 || !is_page(undone.pages(), 8896, [9, 7], 0) {
-        return None;
+    let is_undone = undone.records().len() == 140 && is_page(undone.pages(), 8896, [9, 7], 0);
+    drop(undone);
+    if is_undone {
+        Some(load_again || redo_again || undo_again)
+    } else {
+        None
     }
-    Some(load_again || redo_again || undo_again)
 }
 
 /// Makes the calls one by one, restores a copy, and tells whether a call was made again; None at a
 /// wrong reply or page.
 fn call_row(alloc: Global, row: &[(Event, Reply)]) -> Option<bool> {
     let (mut engine, made_again) = engine_in_two(alloc)?;
-    let called_again = call_each(&mut engine, row)?;
-    let restored_again = restore(alloc, engine.retire())?;
-    Some(made_again || called_again || restored_again)
+    let called_again = call_each(&mut engine, row);
+    let restored_again = restore(alloc, engine.retire());
+    Some(made_again || called_again? || restored_again?)
 }
 
 fn events_of(alloc: Global, row: &[(Event, Reply)]) -> Option<Vec<Event>> {
@@ -225,7 +228,9 @@ fn events_of(alloc: Global, row: &[(Event, Reply)]) -> Option<Vec<Event>> {
 fn replies_of(alloc: Global, events: &[Event]) -> Option<Vec<Reply>> {
     let store = MemStore::new(alloc, 1).ok()?;
     let device = MemDevice::new(alloc, 14).ok()?;
-    Some(play(alloc, SETUP, store, device, events).ok()?.replies)
+    let Played { replies, engine } = play(alloc, SETUP, store, device, events).ok()?;
+    drop(engine);
+    Some(replies)
 }
 
 /// Whether no reply tells that memory was refused.

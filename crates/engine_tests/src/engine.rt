@@ -1,4 +1,7 @@
 //! Rows of calls with their replies, what a device has of them, and texts.
+//!
+//! A test drops an engine by a call, as all of them do with what has many parts: what the compiler
+//! writes for the drop is then proved once, and not in each test.
 
 ghost use Rattle.std.specs.Prelude.{◌≡◌};
 ghost use Rattle.log_records.specs.Log.{IsPageCount};
@@ -20,12 +23,17 @@ use std::test::Fail;
 
 /// Asserts that a value is the wanted one. It is a call, since what `assert_eq!` writes is dear to
 /// prove in a long test.
-fn same<T: PartialEq + Debug>(rt: &impl Abort, given: &T, wanted: &T) {
+pub(crate) fn same<T: PartialEq + Debug>(rt: &impl Abort, given: &T, wanted: &T) {
     assert_eq!(rt; *given, *wanted);
 }
 
 /// The same, and tells where it is asserted.
-fn same_at<T: PartialEq + Debug, P: Debug>(rt: &impl Abort, given: &T, wanted: &T, place: &P) {
+pub(crate) fn same_at<T: PartialEq + Debug, P: Debug>(
+    rt: &impl Abort,
+    given: &T,
+    wanted: &T,
+    place: &P,
+) {
     assert_eq!(rt; *given, *wanted, "{place:?}");
 }
 
@@ -152,7 +160,7 @@ fn engine_on<D: LogDevice + Drop>(
 }
 
 /// Makes the calls of a row, one by one, and asserts their replies.
-fn call<S: PageStore, D: LogDevice>(
+pub(crate) fn call<S: PageStore, D: LogDevice>(
     rt: &impl Abort,
     engine: &mut Engine<S, D>,
     row: &[(Event, Reply)],
@@ -163,7 +171,10 @@ fn call<S: PageStore, D: LogDevice>(
 }
 
 /// The row that these parts make.
-fn joined(alloc: Global, parts: &[&[(Event, Reply)]]) -> Result<Vec<(Event, Reply)>, Fail> {
+pub(crate) fn joined(
+    alloc: Global,
+    parts: &[&[(Event, Reply)]],
+) -> Result<Vec<(Event, Reply)>, Fail> {
     let mut row = Vec::new(alloc);
     for &part in parts {
         for &pair in part {
@@ -174,7 +185,7 @@ fn joined(alloc: Global, parts: &[&[(Event, Reply)]]) -> Result<Vec<(Event, Repl
 }
 
 /// The events of a row.
-fn events_of(alloc: Global, row: &[(Event, Reply)]) -> Result<Vec<Event>, Fail> {
+pub(crate) fn events_of(alloc: Global, row: &[(Event, Reply)]) -> Result<Vec<Event>, Fail> {
     let mut events = Vec::with_capacity(alloc, row.len())?;
     for &(event, _) in row {
         events.push(event)?;
@@ -183,7 +194,7 @@ fn events_of(alloc: Global, row: &[(Event, Reply)]) -> Result<Vec<Event>, Fail> 
 }
 
 /// Asserts that these are the replies of a row.
-fn assert_replies(rt: &impl Abort, replies: &[Reply], row: &[(Event, Reply)]) {
+pub(crate) fn assert_replies(rt: &impl Abort, replies: &[Reply], row: &[(Event, Reply)]) {
     same(rt, &replies.len(), &row.len());
     for (given, &(event, reply)) in replies.iter().zip(row) {
         same_at(rt, given, &reply, &event);

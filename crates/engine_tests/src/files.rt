@@ -1,9 +1,11 @@
 //! Volumes that are restored from the bytes of files.
 
+use crate::engine::{same, same_at};
 use copy_vault::CopyId;
 use media_restore::{RestoreFault, restore_files};
 use page_core::{Lsn, PAGE_BYTES};
 use std::alloc::Global;
+use std::process::Abort;
 use std::test::Fail;
 
 // Files in groups of eight bytes, in hexadecimal. `0` is eight zero bytes.
@@ -85,12 +87,26 @@ fn restored(
     Ok((written, fault))
 }
 
+/// Asserts that a log, with the commit or without it, and an archive with this header restore to a
+/// page with this LSN, and this number in slot 0.
+fn assert_restored(
+    rt: &impl Abort,
+    alloc: Global,
+    (is_committed, header, lsn, number): (bool, &str, u64, u64),
+) -> Result<(), Fail> {
+    let log = log_bytes(alloc, is_committed)?;
+    let master = bytes_of(alloc, MASTER)?;
+    let first = archive_bytes(alloc, header)?;
+    let page = page_bytes(alloc, lsn, number)?;
+    let (written, fault) = restored(alloc, &log, &master, &mut [first.as_slice()])?;
+    same_at(rt, &fault, &None, &(is_committed, lsn));
+    same_at(rt, &written, &page, &(is_committed, lsn));
+    Ok(())
+}
+
 #[test]
 fn a_page_is_restored(rt: HostRuntime) -> Result<(), Fail> {
-    let alloc = rt.alloc();
-    let master = bytes_of(alloc, MASTER)?;
-    let next = bytes_of(alloc, NEXT_COPY)?;
-    for (is_committed, header, lsn, number) in [
+    for given in [
         // What was committed is there. Without the commit a record at 448 compensates it.
         (true, COPY, 128, 5),
         (false, COPY, 448, 0),
@@ -98,83 +114,108 @@ fn a_page_is_restored(rt: HostRuntime) -> Result<(), Fail> {
         (true, LATE_COPY, 0, 0),
         (false, LATE_COPY, 448, 0),
     ] {
-        let log = log_bytes(alloc, is_committed)?;
-        let first = archive_bytes(alloc, header)?;
-        let page = page_bytes(alloc, lsn, number)?;
-        let (written, fault) = restored(alloc, &log, &master, &mut [first.as_slice()])?;
-        assert_eq!(rt; fault, None, "{is_committed} {lsn}");
-        assert_eq!(rt; written, page, "{is_committed} {lsn}");
+        assert_restored(&rt, rt.alloc(), given)?;
     }
-    // The redo point is that of the last copy.
-    let log = log_bytes(alloc, true)?;
-    let late = archive_bytes(alloc, LATE_COPY)?;
-    let (written, fault) = restored(alloc, &log, &master, &mut [late.as_slice(), &next])?;
-    assert_eq!(rt; fault, None);
-    assert_eq!(rt; written, page_bytes(alloc, 128, 5)?);
     Ok(())
 }
 
 #[test]
-fn files_are_refused(rt: HostRuntime) -> Result<(), Fail> {
-    let alloc = rt.alloc();
-    let log = log_bytes(alloc, true)?;
-    let master = bytes_of(alloc, MASTER)?;
-    let other = bytes_of(alloc, OTHER_MASTER)?;
-    let first = archive_bytes(alloc, COPY)?;
-    let next = bytes_of(alloc, NEXT_COPY)?;
+fn the_redo_point_is_that_of_the_last_copy(rt: HostRuntime) -> Result<(), Fail> {
+    let files = files_of(rt.alloc())?;
+    let late = archive_bytes(rt.alloc(), LATE_COPY)?;
+    let mut archives = [late.as_slice(), &files.next];
+    let (written, fault) = restored(rt.alloc(), &files.log, &files.master, &mut archives)?;
+    same(&rt, &fault, &None);
+    same(&rt, &written, &page_bytes(rt.alloc(), 128, 5)?);
+    Ok(())
+}
+
+/// Files that fit together, and a master record that does not fit.
+#[derive(Drop)]
+struct Files {
+    log: Vec<u8>,
+    master: Vec<u8>,
+    other: Vec<u8>,
+    first: Vec<u8>,
+    next: Vec<u8>,
+}
+
+fn files_of(alloc: Global) -> Result<Files, Fail> {
+    Ok(Files {
+        log: log_bytes(alloc, true)?,
+        master: bytes_of(alloc, MASTER)?,
+        other: bytes_of(alloc, OTHER_MASTER)?,
+        first: archive_bytes(alloc, COPY)?,
+        next: bytes_of(alloc, NEXT_COPY)?,
+    })
+}
+
+/// Asserts that these files are refused, and that nothing is written.
+fn assert_refused(
+    rt: &impl Abort,
+    alloc: Global,
+    (log, master): (&[u8], &[u8]),
+    archives: &mut [&[u8]],
+    wanted: RestoreFault,
+) -> Result<(), Fail> {
+    let (written, fault) = restored(alloc, log, master, archives)?;
+    same_at(rt, &fault, &Some(wanted), &wanted);
+    same_at(rt, &written.len(), &0, &wanted);
+    Ok(())
+}
+
+/// The log comes first, then the master record, then one archive after another.
+fn assert_each_refused(rt: &impl Abort, alloc: Global, files: &Files) -> Result<(), Fail> {
+    let Files {
+        log,
+        master,
+        other,
+        first,
+        next,
+    } = files;
     let torn = log.get(..500).unwrap_or(&[]);
     let short = master.get(..63).unwrap_or(&[]);
     let cut = first.get(..574).unwrap_or(&[]);
     let empty: &[u8] = &[];
-    // The log comes first, then the master record, then one archive after another.
+    let broken = |copy| RestoreFault::ChainBroken(CopyId(copy));
     for (log, master, archives, wanted) in [
-        (empty, short, [cut, &next], RestoreFault::BadHeader),
-        (torn, short, [cut, &next], RestoreFault::Torn(Lsn(448))),
-        (&log, short, [cut, &next], RestoreFault::BadHeader),
-        (&log, &other, [cut, &next], RestoreFault::BadChain(Lsn(128))),
-        (&log, &master, [cut, &next], RestoreFault::BadArchive(64)),
-        (
-            &log,
-            &master,
-            [&next, cut],
-            RestoreFault::ChainBroken(CopyId(2)),
-        ),
-        (
-            &log,
-            &master,
-            [&first, &first],
-            RestoreFault::ChainBroken(CopyId(1)),
-        ),
-        (&log, &master, [&first, empty], RestoreFault::BadArchive(0)),
+        (empty, short, [cut, next], RestoreFault::BadHeader),
+        (torn, short, [cut, next], RestoreFault::Torn(Lsn(448))),
+        (log, short, [cut, next], RestoreFault::BadHeader),
+        (log, other, [cut, next], RestoreFault::BadChain(Lsn(128))),
+        (log, master, [cut, next], RestoreFault::BadArchive(64)),
+        (log, master, [next, cut], broken(2)),
+        (log, master, [first, first], broken(1)),
+        (log, master, [first, empty], RestoreFault::BadArchive(0)),
     ] {
-        let mut readers = archives;
-        let (written, fault) = restored(alloc, log, master, &mut readers)?;
-        assert_eq!(rt; fault, Some(wanted));
-        assert_eq!(rt; written.len(), 0, "{wanted}");
+        let mut archives = archives;
+        assert_refused(rt, alloc, (log, master), &mut archives, wanted)?;
     }
-    let (_, fault) = restored(alloc, &log, &master, &mut [])?;
-    assert_eq!(rt; fault, Some(RestoreFault::ChainBroken(CopyId(0))));
-    Ok(())
+    assert_refused(rt, alloc, (log, master), &mut [], broken(0))
+}
+
+#[test]
+fn files_are_refused(rt: HostRuntime) -> Result<(), Fail> {
+    let files = files_of(rt.alloc())?;
+    let done = assert_each_refused(&rt, rt.alloc(), &files);
+    drop(files);
+    done
 }
 
 #[test]
 fn a_failing_writer_is_told(rt: HostRuntime) -> Result<(), Fail> {
-    let alloc = rt.alloc();
-    let log = log_bytes(alloc, true)?;
-    let master = bytes_of(alloc, MASTER)?;
-    let first = archive_bytes(alloc, COPY)?;
+    let files = files_of(rt.alloc())?;
     let mut room = [0; 100];
     let outcome = restore_files(
-        alloc,
-        &mut log.as_slice(),
-        &mut master.as_slice(),
-        &mut [first.as_slice()],
+        rt.alloc(),
+        &mut files.log.as_slice(),
+        &mut files.master.as_slice(),
+        &mut [files.first.as_slice()],
         &mut room.as_mut_slice(),
     );
-    assert_eq!(rt; outcome, Err(RestoreFault::WriteFault(100)));
-    assert_eq!(rt;
-        page_bytes(alloc, 128, 5)?.get(..100),
-        Some(room.as_slice())
-    );
+    drop(files);
+    same(&rt, &outcome, &Err(RestoreFault::WriteFault(100)));
+    let page = page_bytes(rt.alloc(), 128, 5)?;
+    same(&rt, &page.get(..100), &Some(room.as_slice()));
     Ok(())
 }

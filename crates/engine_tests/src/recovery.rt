@@ -11,6 +11,7 @@ mod rows;
 mod shown;
 mod sweeps;
 
+use crate::engine::call;
 use aries_core::{Engine, Event, Reply, Setup};
 use copy_coverage::Retired;
 use copy_vault::CopyId;
@@ -64,13 +65,6 @@ fn engine_of(alloc: Global, pages: u32, records: usize, faults: Faults) -> Resul
     Ok(Engine::new(alloc, setup, store, device)?)
 }
 
-/// Makes the calls of a row, and asserts their replies.
-fn call(rt: &impl Abort, engine: &mut Tried, row: &[(Event, Reply)]) {
-    for &(event, reply) in row {
-        assert_eq!(rt; engine.apply(event), reply, "{event:?}");
-    }
-}
-
 /// What an engine leaves that made the calls of a row. Their replies are asserted.
 fn retired_of(
     rt: &impl Abort,
@@ -114,13 +108,4 @@ fn undone_of(redone: Redone) -> Result<Undone, Fail> {
         Ok(undone) => Ok(undone),
         Err(_) => Err(Fail::new("the log is not undone")),
     }
-}
-
-/// The row that these parts make.
-fn joined(alloc: Global, parts: &[&[(Event, Reply)]]) -> Result<Vec<(Event, Reply)>, Fail> {
-    let mut row = Vec::new(alloc);
-    for &part in parts {
-        row.extend_from_slice(part)?;
-    }
-    Ok(row)
 }

@@ -4,19 +4,19 @@
 ghost use Rattle.std.specs.Prelude.{◌≡◌, IfErr, OnOk};
 ghost use Rattle.std.specs.Process.{exit_status};
 ghost use Rattle.log_records.specs.Log.{IsPageCount};
-ghost use Rattle.imgcopy.specs.Status.{status_of_finish, status_of_restore};
+ghost use Rattle.script_run.specs.Status.{status_of_finish, status_of_restore};
 
 mod restore;
 mod save;
-mod status;
 
 use aries_core::Setup;
 use command_words::{Command, command_of};
 use media_restore::RestoreFault;
 use restore::restore_volume;
 use save::save_files;
-use script_run::{FinishFault, Ran, finish_script, run_script};
-use status::{FAULT_STATUS, refused_status, restore_status};
+use script_run::{
+    FAULT_STATUS, FinishFault, Ran, finish_script, refused_status, restore_status, run_script,
+};
 use std::fmt::Display;
 use std::io::ErrorKind;
 use std::process::ExitCode;

@@ -6,3 +6,4 @@ pub mod PageLines
 pub mod ReplyLines
 pub mod Run
 pub mod RunText
+pub mod Status

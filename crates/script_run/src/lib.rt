@@ -10,6 +10,7 @@ mod page_lines;
 mod reply_lines;
 mod run;
 mod run_fault;
+mod status;
 
 pub use finish::finish_script;
 pub use finish_fault::FinishFault;
@@ -17,3 +18,4 @@ pub use log_fault::LogWriteFault;
 pub use log_file::write_log;
 pub use run::{Ran, run_script};
 pub use run_fault::RunFault;
+pub use status::{FAULT_STATUS, refused_status, restore_status};

@@ -115,6 +115,7 @@ fn a_checkpoint_has_these_bytes(rt: HostRuntime) -> Result<(), Fail> {
     let mut engine = engine_on(rt.alloc(), 1, device)?;
     call(&rt, &mut engine, &of_one_page());
     assert_bytes(&rt, &engine);
+    drop(engine);
     Ok(())
 }
 
@@ -248,6 +249,7 @@ fn a_page_that_was_not_stored_is_gathered(rt: HostRuntime) -> Result<(), Fail> {
         &engine.master().map(|point| point.redo),
         &Some(Lsn(128)),
     );
+    drop(engine);
     Ok(())
 }
 

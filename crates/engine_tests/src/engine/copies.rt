@@ -392,6 +392,7 @@ fn a_page_is_taken_after_its_store_failed(rt: HostRuntime) -> Result<(), Fail> {
     let row = until_a_take(rt.alloc())?;
     let mut engine = call_over(&rt, rt.alloc(), 1, &row)?;
     assert_not_taken(&rt, &mut engine);
+    drop(engine);
     Ok(())
 }
 

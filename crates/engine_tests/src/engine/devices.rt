@@ -64,7 +64,9 @@ fn call_each(
 fn play_all(rt: &impl Abort, alloc: Global, row: &[(Event, Reply)], k: u64) -> Result<(), Fail> {
     let device = failing_device(alloc, row.len(), k)?;
     let engine = play_on(rt, alloc, 1, device, row)?;
-    assert_forced(rt, alloc, &engine)
+    let done = assert_forced(rt, alloc, &engine);
+    drop(engine);
+    done
 }
 
 /// Does both.
@@ -78,7 +80,9 @@ fn assert_row(
     play_all(rt, alloc, row, k)?;
     let device = failing_device(alloc, row.len(), k)?;
     let mut engine = engine_on(alloc, 1, device)?;
-    call_each(rt, alloc, &mut engine, row, k, place)
+    let done = call_each(rt, alloc, &mut engine, row, k, place);
+    drop(engine);
+    done
 }
 
 /// One transaction commits, and another one is rolled back.
@@ -177,6 +181,7 @@ fn assert_no_master(
     let mut engine = engine_on(alloc, 1, device)?;
     call(rt, &mut engine, row);
     same(rt, &engine.master(), &None);
+    drop(engine);
     Ok(())
 }
 
@@ -204,13 +209,14 @@ fn one_record() -> [(Event, Reply); 4] {
 fn the_log_is_not_forced(rt: HostRuntime) -> Result<(), Fail> {
     let mut engine = engine_on(rt.alloc(), 1, MemDevice::new(rt.alloc(), 1)?)?;
     call(&rt, &mut engine, &one_record());
+    drop(engine);
     Ok(())
 }
 
 #[test]
 fn the_log_is_not_forced_in_a_list(rt: HostRuntime) -> Result<(), Fail> {
     let device = MemDevice::new(rt.alloc(), 1)?;
-    let _ = play_on(&rt, rt.alloc(), 1, device, &one_record())?;
+    drop(play_on(&rt, rt.alloc(), 1, device, &one_record())?);
     Ok(())
 }
 

@@ -78,6 +78,7 @@ fn assert_called(
     let mut called = engine_for(alloc, pages, row)?;
     call(rt, &mut called, row);
     assert_same(rt, &called, played);
+    drop(called);
     Ok(())
 }
 
@@ -91,7 +92,9 @@ pub(super) fn assert_row(
     requires { IsPageCount pages }
 {
     let played = played(rt, alloc, pages, row)?;
-    assert_called(rt, alloc, pages, row, &played)
+    let done = assert_called(rt, alloc, pages, row, &played);
+    drop(played);
+    done
 }
 
 /// Asserts the replies of a row that is given in parts, both ways.
@@ -225,6 +228,7 @@ fn assert_compensation(rt: &impl Abort, engine: &Engine<MemStore, MemDevice>) {
 fn a_compensation_has_its_bytes(rt: HostRuntime) -> Result<(), Fail> {
     let engine = played(&rt, rt.alloc(), 1, &compensated())?;
     assert_compensation(&rt, &engine);
+    drop(engine);
     Ok(())
 }
 

@@ -59,9 +59,10 @@ fn a_page_changes_during_a_write(rt: HostRuntime) -> Result<(), Fail> {
     let device = MemDevice::new(rt.alloc(), 5)?;
     let mut engine = engine_on(rt.alloc(), 1, device)?;
     call(&rt, &mut engine, &changed_during_a_write());
-    assert_pages(&rt, &mut engine, one_dirty(), (Lsn(128), 5, 0))?;
+    let done = assert_pages(&rt, &mut engine, one_dirty(), (Lsn(128), 5, 0));
     call(&rt, &mut engine, &[(read(0, 0), value(6))]);
-    Ok(())
+    drop(engine);
+    done
 }
 
 /// A store of one page whose `k`-th call fails.
@@ -103,7 +104,9 @@ fn written_again() -> [(Event, Reply); 9] {
 #[test]
 fn a_store_fails(rt: HostRuntime) -> Result<(), Fail> {
     let mut engine = call_over(&rt, rt.alloc(), 1, &written_again())?;
-    assert_pages(&rt, &mut engine, None, (Lsn(192), 6, 0))
+    let done = assert_pages(&rt, &mut engine, None, (Lsn(192), 6, 0));
+    drop(engine);
+    done
 }
 
 /// Plays the events of a row over such a store, and asserts their replies.
@@ -118,6 +121,7 @@ pub(super) fn play_over(
     let store = failing_store(alloc, k)?;
     let played = play(alloc, setup_of(1), store, device, events)?;
     assert_replies(rt, &played.replies, row);
+    drop(played);
     Ok(())
 }
 
@@ -148,7 +152,9 @@ fn two_writes() -> [(Event, Reply); 11] {
 #[test]
 fn a_later_write_fails(rt: HostRuntime) -> Result<(), Fail> {
     let mut engine = call_over(&rt, rt.alloc(), 2, &two_writes())?;
-    assert_pages(&rt, &mut engine, None, (Lsn(320), 5, 7))
+    let done = assert_pages(&rt, &mut engine, None, (Lsn(320), 5, 7));
+    drop(engine);
+    done
 }
 
 /// No image is kept where the log could not be forced through its LSN.
@@ -173,13 +179,14 @@ fn call_on_failing(rt: &impl Abort, alloc: Global, k: u64) -> Result<(), Fail> {
     let mut engine = engine_on(alloc, 1, failing_device(alloc, k)?)?;
     call(rt, &mut engine, &forced_again());
     same(rt, &engine.log().forced_end(), &Lsn(192));
+    drop(engine);
     Ok(())
 }
 
 /// Plays the calls on such a device, and asserts their replies.
 fn play_on_failing(rt: &impl Abort, alloc: Global, k: u64) -> Result<(), Fail> {
     let device = failing_device(alloc, k)?;
-    let _ = play_on(rt, alloc, 1, device, &forced_again())?;
+    drop(play_on(rt, alloc, 1, device, &forced_again())?);
     Ok(())
 }
 
@@ -209,5 +216,6 @@ fn a_write_forces_its_image_alone(rt: HostRuntime) -> Result<(), Fail> {
     call(&rt, &mut engine, &one_page_of_two());
     same(&rt, &engine.log().forced_end(), &Lsn(192));
     call(&rt, &mut engine, &[(Event::Force, forced(256))]);
+    drop(engine);
     Ok(())
 }

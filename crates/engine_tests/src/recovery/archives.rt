@@ -2,6 +2,7 @@
 
 use super::retired_of;
 use super::rows::Row;
+use crate::engine::{same, same_at};
 use copy_vault::{ArchiveFault, CopyId, read_archive, write_archive};
 use std::alloc::Global;
 use std::process::Abort;
@@ -12,18 +13,21 @@ fn archive_of(rt: &impl Abort, alloc: Global, row: Row, copy: u32) -> Result<Vec
     let calls = row.calls(alloc)?;
     let retired = retired_of(rt, alloc, row.pages(), row.faults(), &calls)?;
     let mut bytes = Vec::new(alloc);
-    if let Some(copy) = retired.vault().complete(CopyId(copy)) {
-        write_archive(alloc, copy, &mut bytes)?;
-    }
+    let written = match retired.vault().complete(CopyId(copy)) {
+        Some(copy) => write_archive(alloc, copy, &mut bytes),
+        None => Ok(()),
+    };
+    drop(retired);
+    written?;
     Ok(bytes)
 }
 
 /// Asserts that an archive begins with these numbers, eight bytes each, and that its further bytes
 /// are 0.
 fn assert_bytes(rt: &impl Abort, bytes: &[u8], count: usize, front: &[u64]) {
-    assert_eq!(rt; bytes.len(), count);
+    same(rt, &bytes.len(), &count);
     for (part, number) in bytes.chunks_exact(8).zip(front) {
-        assert_eq!(rt; part, number.to_be_bytes().as_slice());
+        same(rt, &part, &number.to_be_bytes().as_slice());
     }
     assert!(rt; bytes.iter().skip(8 * front.len()).all(|byte| *byte == 0));
 }
@@ -82,7 +86,7 @@ fn copies_have_their_bytes(rt: HostRuntime) -> Result<(), Fail> {
 fn a_cut_archive_is_not_read(rt: HostRuntime) -> Result<(), Fail> {
     let alloc = rt.alloc();
     let mut bytes = archive_of(&rt, alloc, Row::ChangedAfterACopy, 1)?;
-    assert_eq!(rt; bytes.len(), 1_088);
+    same(&rt, &bytes.len(), &1_088);
     bytes.push(0)?;
     for (count, fault) in [
         (1_089, Some(ArchiveFault::CountDiffers)),
@@ -93,7 +97,7 @@ fn a_cut_archive_is_not_read(rt: HostRuntime) -> Result<(), Fail> {
     ] {
         let mut cut = bytes.get(..count).unwrap_or(&[]);
         let given = read_archive(alloc, &mut cut).err();
-        assert_eq!(rt; given, fault, "{count} bytes");
+        same_at(&rt, &given, &fault, &count);
     }
     Ok(())
 }

@@ -2,7 +2,8 @@
 
 use super::rows::{began, commit, copied, full, idle, inc, kept, logged, seal, sealed, set, take};
 use super::shown::assert_pages;
-use super::{NO_FAULT, joined, loaded_of, redone_of, retired_of};
+use super::{NO_FAULT, loaded_of, redone_of, retired_of};
+use crate::engine::joined;
 use aries_core::{Event, Refusal, Reply};
 use std::alloc::Global;
 use std::test::Fail;
@@ -33,5 +34,6 @@ fn the_longest_chain_is_restored(rt: HostRuntime) -> Result<(), Fail> {
     let loaded = loaded_of(alloc, retired, 1_024, usize::MAX)?;
     let redone = redone_of(alloc, loaded)?;
     assert_pages(&rt, redone.pages(), &[(0, 256, [5, 0, 0])]);
+    drop(redone);
     Ok(())
 }

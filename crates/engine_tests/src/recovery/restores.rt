@@ -3,7 +3,8 @@
 use super::rows::Row;
 use super::shown::{Shown, assert_pages, back_to, comp, end, less};
 use super::{device_of, fault_of, loaded_of, redone_of, retired_of, store_of, undone_of};
-use aries_core::Setup;
+use crate::engine::{assert_replies, events_of, same, same_at};
+use aries_core::{Event, Reply, Setup};
 use copy_vault::CopyId;
 use log_records::Record;
 use loser_undo::Undone;
@@ -34,13 +35,20 @@ fn rebuilt_of(
     alloc: Global,
     given: Restored,
 ) -> Result<Result<Undone, Refused>, Fail> {
+    let calls = given.row.calls(alloc)?;
+    rebuilt_from(rt, alloc, given, &calls)
+}
+
+/// The same, of these calls of the row.
+fn rebuilt_from(
+    rt: &impl Abort,
+    alloc: Global,
+    given: Restored,
+    calls: &[(Event, Reply)],
+) -> Result<Result<Undone, Refused>, Fail> {
     let Restored { row, copy, cut } = given;
     let (pages, faults) = (row.pages(), row.faults());
-    let calls = row.calls(alloc)?;
-    let mut events = Vec::with_capacity(alloc, calls.len())?;
-    for &(event, _) in &calls {
-        events.push(event)?;
-    }
+    let events = events_of(alloc, calls)?;
     let store = store_of(alloc, pages, faults.store)?;
     let device = device_of(alloc, calls.len(), faults.device)?;
     let setup = Setup {
@@ -48,10 +56,7 @@ fn rebuilt_of(
         frames: pages,
     };
     let rebuilt = rebuild(alloc, setup, store, device, &events, CopyId(copy), cut)?;
-    assert_eq!(rt; rebuilt.replies.len(), calls.len());
-    for (given, &(event, reply)) in rebuilt.replies.iter().zip(&calls) {
-        assert_eq!(rt; *given, reply, "{event:?}");
-    }
+    assert_replies(rt, &rebuilt.replies, calls);
     Ok(rebuilt.outcome)
 }
 
@@ -69,7 +74,8 @@ fn assert_rebuilt(
     assert_pages(rt, undone.pages(), pages);
     let records = undone.records();
     let count = records.len().saturating_sub(appended.len());
-    assert_eq!(rt; records.get(count..).unwrap_or(&[]), appended);
+    same(rt, &records.get(count..).unwrap_or(&[]), &appended);
+    drop(undone);
     Ok(())
 }
 
@@ -92,7 +98,8 @@ fn assert_restored(
     let after_undo = undone_of(after_redo)?;
     assert_pages(rt, after_undo.pages(), undone);
     let behind = after_undo.records().get(count..).unwrap_or(&[]);
-    assert_eq!(rt; behind, appended, "{row:?}, copy {copy}, cut {cut}");
+    same_at(rt, &behind, &appended, &(row, copy, cut));
+    drop(after_undo);
     assert_rebuilt(rt, alloc, given, undone, appended)
 }
 
@@ -233,13 +240,10 @@ fn assert_refused(
     let calls = row.calls(alloc)?;
     let retired = retired_of(rt, alloc, row.pages(), row.faults(), &calls)?;
     let found = fault_of(alloc, retired, copy, cut);
-    assert_eq!(rt; found, Some(fault), "{row:?}, copy {copy}, cut {cut}");
+    same_at(rt, &found, &Some(fault), &(row, copy, cut));
     let refused = rebuilt_of(rt, alloc, given)?.err();
-    assert_eq!(rt;
-        refused,
-        Some(Refused::Load(fault)),
-        "{row:?}, copy {copy}, cut {cut}"
-    );
+    let wanted = Some(Refused::Load(fault));
+    same_at(rt, &refused, &wanted, &(row, copy, cut));
     Ok(())
 }
 

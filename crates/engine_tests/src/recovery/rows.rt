@@ -2,7 +2,8 @@
 
 ghost use Rattle.log_records.specs.Log.{IsPageCount};
 
-use super::{Faults, NO_FAULT, joined};
+use super::{Faults, NO_FAULT};
+use crate::engine::joined;
 use aries_core::{Answer, Event, Refusal, Reply};
 use copy_vault::CopyId;
 use page_core::{Lsn, PageNo, SlotNo, TxnNo};

@@ -1,5 +1,6 @@
 //! Pages and records as they are expected.
 
+use crate::engine::{same, same_at};
 use log_records::Record;
 use page_core::{Change, Lsn, Page, PageNo, SlotNo, TxnNo};
 use std::process::Abort;
@@ -22,14 +23,9 @@ fn page_of(shown: Shown) -> Page {
 
 /// Asserts that pages are the expected ones.
 pub(super) fn assert_pages(rt: &impl Abort, pages: &[Page], expected: &[Shown]) {
-    assert_eq!(rt; pages.len(), expected.len());
+    same(rt, &pages.len(), &expected.len());
     for (page, &shown) in pages.iter().zip(expected) {
-        let first = (page.slots[0], page.slots[1], page.slots[2]);
-        assert!(rt;
-            *page == page_of(shown),
-            "{shown:?}, not {:?} {first:?}",
-            page.lsn
-        );
+        same_at(rt, page, &page_of(shown), &shown);
     }
 }
 

@@ -1,8 +1,10 @@
-use Rattle.std.proofs.Common.{ap, ◌∙◌}
+use Rattle.std.proofs.Common.{ap, codes, ◌∙◌}
 use Rattle.std.proofs.lemmas.Result.{IfOk-weaker}
 use Rattle.clap.specs.declared.builder.command.Command.{Command as Parser}
 use Rattle.clap.specs.declared.builder.command.Command.TheOpen.{Command-F}
-use Rattle.command_words.proofs.RequiredLemmas.{asks_for_files}
+use Rattle.clap.specs.Simple.{app_of_fields, new_app, with_rule}
+use Rattle.command_words.specs.Command.{archive_rule, log_rule, master_rule}
+use Rattle.command_words.proofs.RequiredLemmas.{app_with, asks_for_files}
 use Rattle.command_words.proofs.arguments.restore_command.Goals as goal
 
 pub returns-clause-made : goal.returns-clause-made
@@ -23,3 +25,16 @@ returns-clause-made c =
     c.log_arg.ensures.rule c.master_arg.ensures.rule c.archive_arg.ensures.rule
     c.log_arg.ensures.value c.master_arg.ensures.value
     c.in_ok-arg.ensures c.in_ok-arg-2.ensures added) c.arg-3.ensures
+
+pub returns-clause-app : goal.returns-clause-app
+returns-clause-app c =
+    let named = c.in_ok-bin_name.ensures.0 in
+    let start = ap app_of_fields named ∙ (ap app_of_fields c.about.ensures ∙ c.new.ensures.app) in
+    let app = new_app (codes "restore") in
+    let with_log = app_with c.in_ok-bin_name.field-0 c.in_ok-arg.field-0 c.log_arg.result app log_rule
+    c.in_ok-arg.ensures c.log_arg.ensures.fits.1 start c.log_arg.ensures.rule in
+    let with_master = app_with c.in_ok-arg.field-0 c.in_ok-arg-2.field-0 c.master_arg.result (with_rule app log_rule)
+    master_rule c.in_ok-arg-2.ensures c.master_arg.ensures.fits.1 with_log c.master_arg.ensures.rule in
+    IfOk-weaker c.arg-3.result _ _ (λ command added. app_with c.in_ok-arg-2.field-0 command c.archive_arg.result
+    (with_rule (with_rule app log_rule) master_rule) archive_rule added c.archive_arg.ensures.fits.1 with_master
+    c.archive_arg.ensures.rule) c.arg-3.ensures

@@ -1,8 +1,10 @@
-use Rattle.std.proofs.Common.{ap, ◌∙◌}
+use Rattle.std.proofs.Common.{ap, codes, ◌∙◌}
 use Rattle.std.proofs.lemmas.Result.{IfOk-weaker}
 use Rattle.clap.specs.declared.builder.command.Command.{Command as Parser}
 use Rattle.clap.specs.declared.builder.command.Command.TheOpen.{Command-F}
-use Rattle.command_words.proofs.RequiredLemmas.{asks_for_pages}
+use Rattle.clap.specs.Simple.{app_of_fields, new_app, with_rule}
+use Rattle.command_words.specs.Command.{pages_rule, save_rule}
+use Rattle.command_words.proofs.RequiredLemmas.{app_with, asks_for_pages}
 use Rattle.command_words.proofs.arguments.run_command.Goals as goal
 
 pub returns-clause-made : goal.returns-clause-made
@@ -20,3 +22,13 @@ returns-clause-made c =
     (ap negates named ∙ (ap negates c.about.ensures ∙ c.new.ensures.negates))
     c.pages_arg.ensures.fits c.save_arg.ensures.fits c.pages_arg.ensures.rule c.save_arg.ensures.rule
     c.pages_arg.ensures.value c.pages_arg.ensures.parser c.in_ok-arg.ensures added) c.arg-2.ensures
+
+pub returns-clause-app : goal.returns-clause-app
+returns-clause-app c =
+    let named = c.in_ok-bin_name.ensures.0 in
+    let start = ap app_of_fields named ∙ (ap app_of_fields c.about.ensures ∙ c.new.ensures.app) in
+    let with_pages = app_with c.in_ok-bin_name.field-0 c.in_ok-arg.field-0 c.pages_arg.result (new_app (codes "run"))
+    pages_rule c.in_ok-arg.ensures c.pages_arg.ensures.fits.1 start c.pages_arg.ensures.rule in
+    IfOk-weaker c.arg-2.result _ _ (λ command added. app_with c.in_ok-arg.field-0 command c.save_arg.result
+    (with_rule (new_app (codes "run")) pages_rule) save_rule added c.save_arg.ensures.fits.1 with_pages
+    c.save_arg.ensures.rule) c.arg-2.ensures

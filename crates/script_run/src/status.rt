@@ -1,13 +1,13 @@
 //! The status that the program ends with.
 
 ghost use Rattle.std.specs.Prelude.{◌≡◌};
-ghost use Rattle.imgcopy.specs.Status.{status_of_refused, status_of_restore};
+ghost use Rattle.script_run.specs.Status.{status_of_refused, status_of_restore};
 
 use loser_undo::UndoFault;
 use media_restore::{LoadFault, Refused, RestoreFault};
 
 /// The status of a restore that was refused for what was asked of it.
-pub const REFUSED_STATUS: u8 = 1;
+const REFUSED_STATUS: u8 = 1;
 
 /// The status of any other fault: of the words, of an input, of the output, or of memory.
 pub const FAULT_STATUS: u8 = 2;
