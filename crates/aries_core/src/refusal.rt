@@ -89,36 +89,36 @@ impl fmt::Display for Refusal {
 
     fn fmt<W: fmt::Write>(&self, f: &mut fmt::Formatter<W>) -> fmt::Result {
         match self {
-            Refusal::OutOfMemory => write!(f, "E1 OutOfMemory"),
-            Refusal::NoTxn => write!(f, "E2 NoTxn"),
-            Refusal::PageOut => write!(f, "E3 PageOut"),
-            Refusal::SlotOut => write!(f, "E4 SlotOut"),
+            Refusal::OutOfMemory => f.write_str("E1 OutOfMemory"),
+            Refusal::NoTxn => f.write_str("E2 NoTxn"),
+            Refusal::PageOut => f.write_str("E3 PageOut"),
+            Refusal::SlotOut => f.write_str("E4 SlotOut"),
             Refusal::SlotBusy(txn) => {
                 let txn = txn.0;
                 write!(f, "E5 SlotBusy {txn}")
             }
-            Refusal::TxnRolling => write!(f, "E6 TxnRolling"),
-            Refusal::NotRolling => write!(f, "E7 NotRolling"),
-            Refusal::LogFull => write!(f, "E8 LogFull"),
-            Refusal::TooManyTxns => write!(f, "E9 TooManyTxns"),
-            Refusal::NotDirty => write!(f, "E10 NotDirty"),
-            Refusal::WriteBegun => write!(f, "E11 WriteBegun"),
-            Refusal::NoWrite => write!(f, "E12 NoWrite"),
-            Refusal::CkptOpen => write!(f, "E13 CkptOpen"),
-            Refusal::NoCkpt => write!(f, "E14 NoCkpt"),
-            Refusal::GatherLeft => write!(f, "E15 GatherLeft"),
-            Refusal::NoMaster => write!(f, "E16 NoMaster"),
-            Refusal::NoCopy => write!(f, "E17 NoCopy"),
-            Refusal::CopyNotOpen => write!(f, "E18 CopyNotOpen"),
-            Refusal::CopyNotComplete => write!(f, "E19 CopyNotComplete"),
-            Refusal::PageDecided => write!(f, "E20 PageDecided"),
+            Refusal::TxnRolling => f.write_str("E6 TxnRolling"),
+            Refusal::NotRolling => f.write_str("E7 NotRolling"),
+            Refusal::LogFull => f.write_str("E8 LogFull"),
+            Refusal::TooManyTxns => f.write_str("E9 TooManyTxns"),
+            Refusal::NotDirty => f.write_str("E10 NotDirty"),
+            Refusal::WriteBegun => f.write_str("E11 WriteBegun"),
+            Refusal::NoWrite => f.write_str("E12 NoWrite"),
+            Refusal::CkptOpen => f.write_str("E13 CkptOpen"),
+            Refusal::NoCkpt => f.write_str("E14 NoCkpt"),
+            Refusal::GatherLeft => f.write_str("E15 GatherLeft"),
+            Refusal::NoMaster => f.write_str("E16 NoMaster"),
+            Refusal::NoCopy => f.write_str("E17 NoCopy"),
+            Refusal::CopyNotOpen => f.write_str("E18 CopyNotOpen"),
+            Refusal::CopyNotComplete => f.write_str("E19 CopyNotComplete"),
+            Refusal::PageDecided => f.write_str("E20 PageDecided"),
             Refusal::PagesLeft(page) => {
                 let page = page.0;
                 write!(f, "E21 PagesLeft {page}")
             }
-            Refusal::StoreFault => write!(f, "E22 StoreFault"),
-            Refusal::LogFault => write!(f, "E23 LogFault"),
-            Refusal::TooManyCopies => write!(f, "E25 TooManyCopies"),
+            Refusal::StoreFault => f.write_str("E22 StoreFault"),
+            Refusal::LogFault => f.write_str("E23 LogFault"),
+            Refusal::TooManyCopies => f.write_str("E25 TooManyCopies"),
             Refusal::CommitUnsure(lsn) => {
                 let lsn = lsn.0;
                 write!(f, "E26 CommitUnsure {lsn}")
