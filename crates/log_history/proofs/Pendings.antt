@@ -10,10 +10,10 @@ use Rattle.page_core.specs.declared.change.ChangeKind.TheVariants as kind
 use Rattle.page_core.specs.Change.{kind_of}
 use Rattle.log_history.specs.declared.claims.Claims.{Claims}
 use Rattle.log_history.specs.declared.claims.Hold.{Hold}
-use Rattle.log_history.specs.declared.open_entry.Pending.{Pending}
 use Rattle.log_history.specs.declared.pending_change.PendingChange.{PendingChange}
 use Rattle.log_history.specs.declared.seat_set.TheConstants.{SEATS}
 use Rattle.log_history.specs.Claims.{IsWeaker, SetsHold, hold_at, hold_with}
+use Rattle.log_history.specs.Pending.{Pending}
 use Rattle.log_history.specs.OpenEntry.{AreStacked, IsHeld, changes_of, hold_by}
 use Rattle.log_history.specs.Transactions.{is_add, keeps_out}
 

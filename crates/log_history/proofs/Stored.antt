@@ -9,8 +9,8 @@ use Rattle.std.specs.List.{filter, find, list_any, position_or_len, remove, slic
 use Rattle.std.specs.Option.{IsSomeAnd, option_map}
 use Rattle.log_history.specs.declared.claims.Claims.{Claims}
 use Rattle.log_history.specs.declared.open_entry.OpenEntry.{OpenEntry}
-use Rattle.log_history.specs.declared.open_entry.Pending.{Pending}
 use Rattle.log_history.specs.declared.open_list.OpenList.{OpenList}
+use Rattle.log_history.specs.Pending.{Pending}
 use Rattle.log_history.specs.OpenEntry.{IsHeld, KeepsSeat, changes_of, entry_view}
 use Rattle.log_history.specs.declared.seat_set.TheConstants.{SEATS}
 use Rattle.log_history.specs.OpenList.{Adds, IsSeated, IsSound, Sits, entries_in, entries_of}

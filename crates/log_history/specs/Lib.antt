@@ -12,6 +12,7 @@ pub mod Marks
 pub mod OpenEntry
 pub mod OpenList
 pub mod OpenTransactions
+pub mod Pending
 pub mod SeatSet
 pub mod Table
 pub mod Transactions

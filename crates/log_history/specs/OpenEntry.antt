@@ -7,10 +7,10 @@ use Rattle.page_core.specs.Change.{kind_of}
 use Rattle.log_history.specs.declared.claims.Claims.{Claims}
 use Rattle.log_history.specs.declared.claims.Hold.{Hold}
 use Rattle.log_history.specs.declared.open_entry.OpenEntry.{OpenEntry}
-use Rattle.log_history.specs.declared.open_entry.Pending.{Pending}
 use Rattle.log_history.specs.declared.pending_change.PendingChange.{PendingChange}
 use Rattle.log_history.specs.declared.seat_set.TheConstants.{SEATS}
 use Rattle.log_history.specs.Claims.{IsFreeFor, IsHeldByOther, claim_at, hold_at, no_hold}
+use Rattle.log_history.specs.Pending.{Pending}
 use Rattle.log_history.specs.Table.{Entry}
 use Rattle.log_history.specs.Transactions.{keeps_out}
 

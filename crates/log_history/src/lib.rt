@@ -12,6 +12,7 @@ mod marks;
 mod open_entry;
 mod open_list;
 mod open_transactions;
+mod pending;
 mod pending_change;
 mod seat_set;
 mod txn_state;

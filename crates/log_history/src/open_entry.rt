@@ -6,19 +6,13 @@ ghost use Rattle.log_history.specs.OpenEntry.{IsBegun, IsHeld, KeepsOtherSeats, 
 ghost use Rattle.log_history.specs.OpenEntry.{changes_of};
 ghost use Rattle.log_history.specs.Transactions.{without_last};
 
-use crate::claims::{Claims, Hold};
+use crate::claims::Claims;
+use crate::pending::Pending;
 use crate::pending_change::PendingChange;
 use crate::seat_set::SEATS;
 use crate::txn_state::TxnState;
 use page_core::{Change, Lsn, PageNo, SlotNo, TxnNo, undo_of};
 use std::alloc::{AllocError, Global};
-
-/// A pending change, and what its transaction kept out of the slot before it.
-#[derive(Clone, Copy)]
-pub struct Pending {
-    pub change: PendingChange,
-    pub before: Hold,
-}
 
 /// An open transaction.
 #[derive(Drop)]
@@ -55,7 +49,7 @@ fn push_pending(
     let Some(before) = claims.take(change.page, change.slot, seat, kind)? else {
         return Ok(false);
     };
-    let _ = pending.push(Pending { change, before });
+    let _ = pending.push(Pending::of(change, before));
     Ok(true)
 }
 
@@ -69,8 +63,8 @@ fn pop_pending(pending: &mut Vec<Pending>, claims: &mut Claims, seat: u8)
     ensures others { KeepsOtherSeats seat claims.old claims.new }
 {
     if let Some(last) = pending.pop() {
-        let change = last.change;
-        claims.release(change.page, change.slot, seat, last.before);
+        let change = last.change();
+        claims.release(change.page, change.slot, seat, last.before());
     }
 }
 
@@ -216,7 +210,7 @@ impl OpenEntry {
     pub fn last_pending(&self) -> Option<PendingChange>
         ensures { result ≡ last_of (entry_view self.now).pending }
     {
-        self.pending.last().map(|pending| pending.change)
+        self.pending.last().map(|pending| pending.change())
     }
 
     /// The transaction keeps nothing out any more.

@@ -1,14 +1,29 @@
-use Rattle.std.proofs.Common.{subst}
+use Rattle.std.proofs.Common.{subst, sym}
+use Rattle.log_history.specs.Claims.{IsWeaker, SetsHold, hold_at}
 use Rattle.log_history.specs.OpenEntry.{IsHeld}
+use Rattle.log_history.specs.declared.claims.Hold.{Hold}
+use Rattle.log_history.specs.declared.pending_change.PendingChange.{PendingChange}
 use Rattle.log_history.proofs.Pendings.{held-pop, held-weaker}
 use Rattle.log_history.proofs.open_entry.pop_pending.Goals as goal
 
 pub release-requires-clause-weaker : goal.release-requires-clause-weaker
 release-requires-clause-weaker c =
-    held-weaker c.args.claims.now c.args.seat c.pop.new.self.items c.in-Some.last
-    (subst (λ ps. IsHeld c.args.claims.now c.args.seat ps) c.in-Some.ensures.items c.requires.held)
+    let claims = c.args.claims.now in
+    let last = c.in-Some.last in
+    subst (λ (change : PendingChange). IsWeaker c.before-in-Some.result
+    (hold_at claims change.page change.slot c.args.seat)) (sym c.change-change.ensures)
+    (subst (λ (hold : Hold). IsWeaker hold (hold_at claims last.change.page last.change.slot c.args.seat))
+    (sym c.before-in-Some.ensures) (held-weaker claims c.args.seat c.pop.new.self.items last
+    (subst (λ ps. IsHeld claims c.args.seat ps) c.in-Some.ensures.items c.requires.held)))
 
 pub returns-in-Some-clause-held : goal.returns-in-Some-clause-held
 returns-in-Some-clause-held c =
-    held-pop c.args.claims.now c.release.new.self c.args.seat c.pop.new.self.items c.in-Some.last c.requires.seat
-    (subst (λ ps. IsHeld c.args.claims.now c.args.seat ps) c.in-Some.ensures.items c.requires.held) c.release.ensures
+    let claims = c.args.claims.now in
+    let last = c.in-Some.last in
+    let set : SetsHold claims c.release.new.self last.change.page last.change.slot c.args.seat last.before =
+    subst (λ (hold : Hold). SetsHold claims c.release.new.self last.change.page last.change.slot c.args.seat hold)
+    c.before-in-Some.ensures
+    (subst (λ (change : PendingChange). SetsHold claims c.release.new.self change.page change.slot c.args.seat
+    c.before-in-Some.result) c.change-change.ensures c.release.ensures) in
+    held-pop claims c.release.new.self c.args.seat c.pop.new.self.items last c.requires.seat
+    (subst (λ ps. IsHeld claims c.args.seat ps) c.in-Some.ensures.items c.requires.held) set
