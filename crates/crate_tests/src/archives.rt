@@ -182,32 +182,40 @@ fn an_archive_is_read_and_written_again(rt: HostRuntime) -> Result<(), Fail> {
             Lsn(384),
         ),
     ] {
-        let archive = archive_with(alloc, header, pages)?;
-        let copy = read_archive(alloc, &mut archive.as_slice())?;
-        same(
-            &rt,
-            &(copy.id(), copy.begin(), copy.redo(), copy.taken()),
-            &(id, begin, redo, pages),
-        );
-        same(&rt, &copy.kind(), &kind);
-        same(&rt, &written(alloc, &copy)?, &archive);
+        assert_archive(&rt, alloc, (header, pages), kind, (id, begin, redo))?;
     }
+    Ok(())
+}
+
+/// Asserts what a copy is whose archive has this header and so many formatted pages, and that it is
+/// written as it was read.
+fn assert_archive(
+    rt: &impl Abort,
+    alloc: Global,
+    (header, pages): (&str, u32),
+    kind: CopyKind,
+    (id, begin, redo): (CopyId, Lsn, Lsn),
+) -> Result<(), Fail> {
+    let archive = archive_with(alloc, header, pages)?;
+    let copy = read_archive(alloc, &mut archive.as_slice())?;
+    let given = (copy.id(), copy.begin(), copy.redo(), copy.taken());
+    same(rt, &given, &(id, begin, redo, pages));
+    same(rt, &copy.kind(), &kind);
+    let again = written(alloc, &copy);
+    drop(copy);
+    same(rt, &again?, &archive);
     Ok(())
 }
 
 #[test]
 fn archives_are_linked(rt: HostRuntime) -> Result<(), Fail> {
     let alloc = rt.alloc();
-    let mut copies = Vec::new(alloc);
     same(
         &rt,
-        &linked(alloc, &copies, 1),
+        &linked(alloc, &[], 1),
         &Some(ChainFault::ChainBroken(CopyId(0))),
     );
-    for (header, pages) in [(OF_ONE_PAGE, 1), (OF_A_KEPT_PAGE, 0)] {
-        let archive = archive_with(alloc, header, pages)?;
-        copies.push(read_archive(alloc, &mut archive.as_slice())?)?;
-    }
+    let mut copies = two_copies(alloc)?;
     same(
         &rt,
         &linked(alloc, &copies, 1),
@@ -222,6 +230,16 @@ fn archives_are_linked(rt: HostRuntime) -> Result<(), Fail> {
     same(&rt, &linked(alloc, &copies, 1), &None);
     drop(copies);
     Ok(())
+}
+
+/// The full copy of one page, and one that is no increment on it.
+fn two_copies(alloc: Global) -> Result<Vec<CompleteCopy>, Fail> {
+    let mut copies = Vec::new(alloc);
+    for (header, pages) in [(OF_ONE_PAGE, 1), (OF_A_KEPT_PAGE, 0)] {
+        let archive = archive_with(alloc, header, pages)?;
+        copies.push(read_archive(alloc, &mut archive.as_slice())?)?;
+    }
+    Ok(copies)
 }
 
 /// Why these copies are no chain, if they are none.
@@ -321,9 +339,17 @@ fn a_failure_is_told_as_what_it_is(rt: HostRuntime) -> Result<(), Fail> {
             &format_args!("{given} bytes"),
         );
     }
+    Ok(())
+}
+
+#[test]
+fn a_failing_writer_is_told(rt: HostRuntime) -> Result<(), Fail> {
+    let alloc = rt.alloc();
+    let archive = archive_with(alloc, OF_TWO_PAGES, 2)?;
     let copy = read_archive(alloc, &mut archive.as_slice())?;
     let mut room = [0; 600];
     let outcome = write_archive(alloc, &copy, &mut room.as_mut_slice());
+    drop(copy);
     same(&rt, &outcome, &Err(ArchiveWriteFault::WriteFault(600)));
     same(&rt, &archive.get(..600), &Some(room.as_slice()));
     Ok(())

@@ -230,45 +230,40 @@ fn assert_text<T: Display + Drop>(
     Ok(())
 }
 
+const REFUSALS: [(Refusal, &str); 25] = [
+    (Refusal::OutOfMemory, "E1 OutOfMemory"),
+    (Refusal::NoTxn, "E2 NoTxn"),
+    (Refusal::PageOut, "E3 PageOut"),
+    (Refusal::SlotOut, "E4 SlotOut"),
+    (Refusal::SlotBusy(TxnNo(7)), "E5 SlotBusy 7"),
+    (Refusal::TxnRolling, "E6 TxnRolling"),
+    (Refusal::NotRolling, "E7 NotRolling"),
+    (Refusal::LogFull, "E8 LogFull"),
+    (Refusal::TooManyTxns, "E9 TooManyTxns"),
+    (Refusal::NotDirty, "E10 NotDirty"),
+    (Refusal::WriteBegun, "E11 WriteBegun"),
+    (Refusal::NoWrite, "E12 NoWrite"),
+    (Refusal::CkptOpen, "E13 CkptOpen"),
+    (Refusal::NoCkpt, "E14 NoCkpt"),
+    (Refusal::GatherLeft, "E15 GatherLeft"),
+    (Refusal::NoMaster, "E16 NoMaster"),
+    (Refusal::NoCopy, "E17 NoCopy"),
+    (Refusal::CopyNotOpen, "E18 CopyNotOpen"),
+    (Refusal::CopyNotComplete, "E19 CopyNotComplete"),
+    (Refusal::PageDecided, "E20 PageDecided"),
+    (Refusal::PagesLeft(PageNo(7)), "E21 PagesLeft 7"),
+    (Refusal::StoreFault, "E22 StoreFault"),
+    (Refusal::LogFault, "E23 LogFault"),
+    (Refusal::TooManyCopies, "E25 TooManyCopies"),
+    (Refusal::CommitUnsure(Lsn(192)), "E26 CommitUnsure 192"),
+];
+
 #[test]
 fn refusals_have_texts(rt: HostRuntime) -> Result<(), Fail> {
-    let alloc = rt.alloc();
-    assert_text(&rt, alloc, Refusal::OutOfMemory, "E1 OutOfMemory")?;
-    assert_text(&rt, alloc, Refusal::NoTxn, "E2 NoTxn")?;
-    assert_text(&rt, alloc, Refusal::PageOut, "E3 PageOut")?;
-    assert_text(&rt, alloc, Refusal::SlotOut, "E4 SlotOut")?;
-    assert_text(&rt, alloc, Refusal::SlotBusy(TxnNo(7)), "E5 SlotBusy 7")?;
-    assert_text(&rt, alloc, Refusal::TxnRolling, "E6 TxnRolling")?;
-    assert_text(&rt, alloc, Refusal::NotRolling, "E7 NotRolling")?;
-    assert_text(&rt, alloc, Refusal::LogFull, "E8 LogFull")
-}
-
-#[test]
-fn refusals_by_a_store_have_texts(rt: HostRuntime) -> Result<(), Fail> {
-    let alloc = rt.alloc();
-    assert_text(&rt, alloc, Refusal::TooManyTxns, "E9 TooManyTxns")?;
-    assert_text(&rt, alloc, Refusal::NotDirty, "E10 NotDirty")?;
-    assert_text(&rt, alloc, Refusal::WriteBegun, "E11 WriteBegun")?;
-    assert_text(&rt, alloc, Refusal::NoWrite, "E12 NoWrite")?;
-    assert_text(&rt, alloc, Refusal::StoreFault, "E22 StoreFault")?;
-    assert_text(&rt, alloc, Refusal::LogFault, "E23 LogFault")?;
-    let unsure = Refusal::CommitUnsure(Lsn(192));
-    assert_text(&rt, alloc, unsure, "E26 CommitUnsure 192")
-}
-
-#[test]
-fn refusals_of_checkpoints_and_copies_have_texts(rt: HostRuntime) -> Result<(), Fail> {
-    let alloc = rt.alloc();
-    assert_text(&rt, alloc, Refusal::CkptOpen, "E13 CkptOpen")?;
-    assert_text(&rt, alloc, Refusal::NoCkpt, "E14 NoCkpt")?;
-    assert_text(&rt, alloc, Refusal::GatherLeft, "E15 GatherLeft")?;
-    assert_text(&rt, alloc, Refusal::NoMaster, "E16 NoMaster")?;
-    assert_text(&rt, alloc, Refusal::NoCopy, "E17 NoCopy")?;
-    assert_text(&rt, alloc, Refusal::CopyNotOpen, "E18 CopyNotOpen")?;
-    assert_text(&rt, alloc, Refusal::CopyNotComplete, "E19 CopyNotComplete")?;
-    assert_text(&rt, alloc, Refusal::PageDecided, "E20 PageDecided")?;
-    assert_text(&rt, alloc, Refusal::PagesLeft(PageNo(7)), "E21 PagesLeft 7")?;
-    assert_text(&rt, alloc, Refusal::TooManyCopies, "E25 TooManyCopies")
+    for (refusal, text) in REFUSALS {
+        assert_text(&rt, rt.alloc(), refusal, text)?;
+    }
+    Ok(())
 }
 
 #[test]
