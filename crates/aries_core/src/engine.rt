@@ -121,55 +121,49 @@ impl<S: PageStore, D: LogDevice> Engine<S, D> {
         ensures store_cause { IfErr result (λ why. IsByStore why
             → S.failures self.old.store < S.failures self.new.store) }
     {
-        let answer = match event {
-            Event::Begin => {
-                let (txn, lsn) = self.begin()?;
-                Answer::Began { txn, lsn }
-            }
+        match event {
+            Event::Begin => self.begin().map(|(txn, lsn)| Answer::Began { txn, lsn }),
             Event::Set {
                 txn,
                 page,
                 slot,
                 number,
-            } => { Answer::Logged(self.set(txn, page, slot, number)?) }
+            } => self.set(txn, page, slot, number).map(Answer::Logged),
             Event::Add {
                 txn,
                 page,
                 slot,
                 amount,
-            } => { Answer::Logged(self.add(txn, page, slot, amount)?) }
-            Event::Read { page, slot } => Answer::Number(self.read(page, slot)?),
-            Event::Commit(txn) => Answer::Logged(self.commit(txn)?),
-            Event::Abort(txn) => Answer::Logged(self.abort(txn)?),
-            Event::UndoStep(txn) => match self.undo_step(txn)? {
+            } => self.add(txn, page, slot, amount).map(Answer::Logged),
+            Event::Read { page, slot } => self.read(page, slot).map(Answer::Number),
+            Event::Commit(txn) => self.commit(txn).map(Answer::Logged),
+            Event::Abort(txn) => self.abort(txn).map(Answer::Logged),
+            Event::UndoStep(txn) => self.undo_step(txn).map(|done| match done {
                 Undone::Undid(lsn) => Answer::Undid(lsn),
                 Undone::Ended(lsn) => Answer::Ended(lsn),
-            },
-            Event::Force => Answer::Forced(self.force()?),
-            Event::WriteBegin(page) => Answer::Writing(self.write_begin(page)?),
-            Event::WriteEnd(page) => Answer::Written(self.write_end(page)?),
-            Event::CkptBegin => Answer::Logged(self.ckpt_begin()?),
-            Event::CkptGather => match self.ckpt_gather()? {
+            }),
+            Event::Force => self.force().map(Answer::Forced),
+            Event::WriteBegin(page) => self.write_begin(page).map(Answer::Writing),
+            Event::WriteEnd(page) => self.write_end(page).map(Answer::Written),
+            Event::CkptBegin => self.ckpt_begin().map(Answer::Logged),
+            Event::CkptGather => self.ckpt_gather().map(|done| match done {
                 Gathered::More => Answer::More,
                 Gathered::Done => Answer::Done,
-            },
-            Event::CkptEnd => {
-                let Point { begin, end, redo } = self.ckpt_end()?;
-                Answer::Point { begin, end, redo }
-            }
-            Event::CopyFull => Answer::Copied(self.copy_full()?),
-            Event::CopyInc(parent) => Answer::Copied(self.copy_inc(parent)?),
-            Event::Take { copy, page } => match self.take(copy, page)? {
+            }),
+            Event::CkptEnd => self.ckpt_end().map(|point| Answer::Point {
+                begin: point.begin,
+                end: point.end,
+                redo: point.redo,
+            }),
+            Event::CopyFull => self.copy_full().map(Answer::Copied),
+            Event::CopyInc(parent) => self.copy_inc(parent).map(Answer::Copied),
+            Event::Take { copy, page } => self.take(copy, page).map(|done| match done {
                 Took::Taken(lsn) => Answer::Taken(lsn),
                 Took::Kept => Answer::Kept,
-            },
-            Event::Seal(copy) => Answer::Sealed(self.seal(copy)?),
-            Event::DropCopy(copy) => {
-                self.drop_copy(copy)?;
-                Answer::Dropped
-            }
-        };
-        Ok(answer)
+            }),
+            Event::Seal(copy) => self.seal(copy).map(Answer::Sealed),
+            Event::DropCopy(copy) => self.drop_copy(copy).map(|_| Answer::Dropped),
+        }
     }
 
     /// Begins a transaction, and answers its number and the LSN of its Begin. Refusals in order:

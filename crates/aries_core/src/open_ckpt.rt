@@ -17,7 +17,7 @@ use page_store::PageStore;
 use txn_table::TxnTable;
 
 /// A checkpoint that is open, by what it gathers.
-#[derive(Debug, Drop)]
+#[derive(Drop)]
 pub enum OpenCkpt {
     Pages(Ckpt<fuzzy_ckpt::Pages>),
     Txns(Ckpt<fuzzy_ckpt::Txns>),

@@ -7,7 +7,7 @@ use std::alloc::{AllocError, Global};
 use std::marker::Model;
 
 /// A page as it was when a write of it began. It is one page on the heap.
-#[derive(Debug, Drop)]
+#[derive(Drop)]
 pub struct PageImage {
     page: Box<Page>,
 }

@@ -16,7 +16,7 @@ pub const FULL: u32 = 1;
 pub const INC: u32 = 2;
 
 /// The header of an archive: what its copy is, and how many pages follow.
-#[derive(Clone, Copy, Debug, PartialEq, Eq)]
+#[derive(Clone, Copy)]
 pub struct ArchiveHeader {
     /// How many pages the volume has.
     pub pages: u32,

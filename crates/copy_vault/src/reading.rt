@@ -53,7 +53,7 @@ impl Model for ReadingCopy {
 }
 
 /// What a copy is of, before any of its pages is read.
-#[derive(Clone, Copy, Debug)]
+#[derive(Clone, Copy)]
 pub struct CopyStart {
     pub id: CopyId,
     pub kind: CopyKind,

@@ -4,7 +4,7 @@ use aries_core::Event;
 use copy_vault::CopyId;
 
 /// The `restore` that may end a script.
-#[derive(Clone, Copy, Debug, PartialEq, Eq)]
+#[derive(Clone, Copy)]
 pub struct LastRestore {
     /// The copy that is to be restored.
     pub copy: CopyId,
@@ -13,7 +13,7 @@ pub struct LastRestore {
 }
 
 /// A script that was read: its events in order, and its last `restore`, if it has one.
-#[derive(Debug, Drop)]
+#[derive(Drop)]
 pub struct Script {
     pub events: Vec<Event>,
     pub restore: Option<LastRestore>,

@@ -39,7 +39,7 @@ use txn_table::TxnTable;
 /// A fuzzy checkpoint that is being taken (ARIES, section 5.4). It is `Ckpt<Pages>` while it
 /// gathers dirty pages, `Ckpt<Txns>` while it gathers open transactions, and `Ckpt<Gathered>` once
 /// it has passed all of both. Others change pages and end writes meanwhile.
-#[derive(Debug, Drop)]
+#[derive(Drop)]
 pub struct Ckpt<P> {
     begin: Lsn,
     /// The least of `begin` and the RecLSNs gathered so far.
@@ -56,7 +56,7 @@ impl<P> Model for Ckpt<P> {
 }
 
 /// What a step over pages leaves.
-#[derive(Debug, Drop)]
+#[derive(Drop)]
 pub enum PagesStep {
     /// Pages were gathered, and there may be more.
     More(Ckpt<Pages>),
@@ -65,7 +65,7 @@ pub enum PagesStep {
 }
 
 /// What a step over transactions leaves.
-#[derive(Debug, Drop)]
+#[derive(Drop)]
 pub enum TxnsStep {
     /// A transaction was gathered, and there may be more.
     More(Ckpt<Txns>),

@@ -4,7 +4,7 @@ use page_core::{PageNo, TxnNo};
 use std::marker::Model;
 
 /// It gathers dirty pages.
-#[derive(Debug, Drop)]
+#[derive(Drop)]
 pub struct Pages {
     /// It has passed all pages below this one.
     pub(crate) from: PageNo,
@@ -19,7 +19,7 @@ impl Model for Pages {
 }
 
 /// It has passed all pages, and gathers open transactions.
-#[derive(Debug, Drop)]
+#[derive(Drop)]
 pub struct Txns {
     /// It has passed all transactions below this one.
     pub(crate) from: TxnNo,
@@ -34,5 +34,5 @@ impl Model for Txns {
 }
 
 /// It has passed all pages and all transactions.
-#[derive(Debug, Drop)]
+#[derive(Drop)]
 pub struct Gathered;

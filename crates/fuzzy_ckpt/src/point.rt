@@ -14,7 +14,7 @@ pub struct Point {
 }
 
 /// Why a checkpoint did not come to its end.
-#[derive(Debug, Drop)]
+#[derive(Drop)]
 pub enum FinishFault {
     /// Memory ran out. Nothing has changed, and the checkpoint is handed back.
     OutOfMemory(Ckpt<Gathered>),

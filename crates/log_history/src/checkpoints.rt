@@ -17,7 +17,7 @@ pub const NO_PAGE: u32 = 65_536;
 
 /// The open checkpoint: the LSN of its BeginChkpt, the last of its pages, and its redo point so
 /// far.
-#[derive(Clone, Copy, Debug, PartialEq, Eq)]
+#[derive(Clone, Copy)]
 struct Open {
     begin: u64,
     last_page: Option<u32>,

@@ -18,7 +18,7 @@ use page_core::{ChangeKind, PageNo, SlotNo};
 use std::alloc::{AllocError, Global};
 
 /// From which changes of a slot a transaction keeps the others.
-#[derive(Clone, Copy, Debug, PartialEq, Eq)]
+#[derive(Clone, Copy)]
 pub struct Hold {
     pub against_sets: bool,
     pub against_adds: bool,
@@ -48,7 +48,7 @@ impl Hold {
 }
 
 /// The seats of the transactions that keep others from a slot.
-#[derive(Clone, Copy, Debug, PartialEq, Eq)]
+#[derive(Clone, Copy)]
 pub struct Claim {
     against_sets: SeatSet,
     against_adds: SeatSet,

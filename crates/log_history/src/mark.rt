@@ -7,7 +7,7 @@ use crate::seat_set::SEATS;
 use page_core::ChangeKind;
 
 /// Who keeps others from a slot.
-#[derive(Clone, Copy, Debug, PartialEq, Eq)]
+#[derive(Clone, Copy)]
 pub enum Holder {
     Nobody,
     /// The transaction of one seat: by Adds alone, or by a Set at least.
@@ -18,7 +18,7 @@ pub enum Holder {
 }
 
 /// A holder in one byte, since each slot of a volume has one.
-#[derive(Clone, Copy, Debug, PartialEq, Eq)]
+#[derive(Clone, Copy)]
 pub struct Mark {
     /// `SEATS` times the number of what is there, and the seat, or 0.
     byte: u8,

@@ -8,7 +8,7 @@ ghost use Rattle.log_history.specs.SeatSet.{HasSome, LacksOne, has_seat, no_seat
 pub const SEATS: u8 = 64;
 
 /// A set of seats.
-#[derive(Clone, Copy, Debug, PartialEq, Eq)]
+#[derive(Clone, Copy)]
 pub struct SeatSet {
     bits: u64,
 }

@@ -10,7 +10,7 @@ use page_core::{Change, Lsn, TxnNo};
 /// The numbers of a transaction's record in the order of its bytes. A field that a kind does not
 /// have is 0. Where a byte is followed by bytes that are always 0, the byte and these are one
 /// number.
-#[derive(Clone, Copy, Debug, PartialEq, Eq)]
+#[derive(Clone, Copy, PartialEq, Eq)]
 pub struct Fields {
     pub kind: u32,
     pub txn: u32,

@@ -8,7 +8,7 @@ use crate::mem_device::MemDevice;
 use std::marker::Model;
 
 /// A device in memory of which one call of `store` fails.
-#[derive(Debug, Drop)]
+#[derive(Drop)]
 pub struct FaultyDevice {
     device: MemDevice,
     calls_to_fault: u64,

@@ -16,7 +16,7 @@ use std::marker::Model;
 
 /// A log that is written. It has all of its records in memory, and the first of them on its device
 /// too. These are forced: they outlast every later call and every later fault.
-#[derive(Debug, Drop)]
+#[derive(Drop)]
 pub struct Log<D: LogDevice> {
     pages: u32,
     records: Vec<Record>,

@@ -9,7 +9,7 @@ use std::alloc::{AllocError, Global};
 use std::marker::Model;
 
 /// A log as it was read: the page count of its header, and its records, the oldest first.
-#[derive(Debug, Drop)]
+#[derive(Drop)]
 pub struct LogImage {
     pages: u32,
     records: Vec<Record>,

@@ -10,7 +10,7 @@ use std::alloc::{AllocError, Global};
 use std::marker::Model;
 
 /// A device in memory, with a fixed room. It fails just where a store would pass this room.
-#[derive(Debug, Drop)]
+#[derive(Drop)]
 pub struct MemDevice {
     bytes: Vec<u8>,
     room: usize,

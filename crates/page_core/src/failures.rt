@@ -1,6 +1,5 @@
 //! A count of failures that contracts alone see.
 
-use std::fmt;
 use std::snapshot::Snapshot;
 
 /// How often something has failed. It has the count before the last failure for contracts alone, so
@@ -21,14 +20,5 @@ impl Failures {
     {
         let before = Snapshot::of(self);
         *self = Failures::After(before);
-    }
-}
-
-impl fmt::Debug for Failures {
-    fn fmt<W: fmt::Write>(&self, f: &mut fmt::Formatter<W>) -> fmt::Result {
-        match self {
-            Failures::None => write!(f, "None"),
-            Failures::After(_) => write!(f, "After(..)"),
-        }
     }
 }

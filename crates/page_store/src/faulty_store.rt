@@ -12,7 +12,7 @@ use std::alloc::{AllocError, Global};
 use std::marker::Model;
 
 /// A store in memory of which one call fails, and each read of a damaged page.
-#[derive(Debug, Drop)]
+#[derive(Drop)]
 pub struct FaultyStore {
     store: MemStore,
     calls_to_fault: u64,

@@ -10,7 +10,7 @@ use std::alloc::{AllocError, Global};
 use std::marker::Model;
 
 /// A store in memory. It never fails.
-#[derive(Debug, Drop)]
+#[derive(Drop)]
 pub struct MemStore {
     pages: Vec<Page>,
 }
