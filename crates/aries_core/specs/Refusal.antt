@@ -130,6 +130,11 @@ refusal s (event.Take copy page) =
 refusal s (event.Seal copy) = option_map of_vault (seal_refusal (state_of s.copies copy))
 refusal s (event.DropCopy copy) = copy_refusal s copy
 
+-- words, and a number behind them, if there is one
+abbrev pub with_number : List ℕ → Option ℕ → List ℕ
+with_number words None = words
+with_number words (Some number) = words ++ codes " " ++ decimal number
+
 -- what is printed of a refusal
 abbrev pub line_of : Refusal → List ℕ
 line_of OutOfMemory = codes "E1 OutOfMemory"

@@ -88,41 +88,48 @@ impl fmt::Display for Refusal {
     ghost output = { λ refusal. Some (line_of refusal) };
 
     fn fmt<W: fmt::Write>(&self, f: &mut fmt::Formatter<W>) -> fmt::Result {
+        let (words, number) = self.parts();
+        match number {
+            Some(number) => write!(f, "{words} {number}"),
+            None => f.write_str(words),
+        }
+    }
+}
+
+impl Refusal {
+    ghost use Rattle.std.specs.Prelude.{◌≡◌};
+    ghost use Rattle.aries_core.specs.Refusal.{line_of, with_number};
+
+    /// Its line in two parts: the words, and the number behind them, if it has one.
+    fn parts(&self) -> (&'static str, Option<u64>)
+        ensures { line_of self.now ≡ with_number result.0.now result.1 }
+    {
         match self {
-            Refusal::OutOfMemory => f.write_str("E1 OutOfMemory"),
-            Refusal::NoTxn => f.write_str("E2 NoTxn"),
-            Refusal::PageOut => f.write_str("E3 PageOut"),
-            Refusal::SlotOut => f.write_str("E4 SlotOut"),
-            Refusal::SlotBusy(txn) => {
-                let txn = txn.0;
-                write!(f, "E5 SlotBusy {txn}")
-            }
-            Refusal::TxnRolling => f.write_str("E6 TxnRolling"),
-            Refusal::NotRolling => f.write_str("E7 NotRolling"),
-            Refusal::LogFull => f.write_str("E8 LogFull"),
-            Refusal::TooManyTxns => f.write_str("E9 TooManyTxns"),
-            Refusal::NotDirty => f.write_str("E10 NotDirty"),
-            Refusal::WriteBegun => f.write_str("E11 WriteBegun"),
-            Refusal::NoWrite => f.write_str("E12 NoWrite"),
-            Refusal::CkptOpen => f.write_str("E13 CkptOpen"),
-            Refusal::NoCkpt => f.write_str("E14 NoCkpt"),
-            Refusal::GatherLeft => f.write_str("E15 GatherLeft"),
-            Refusal::NoMaster => f.write_str("E16 NoMaster"),
-            Refusal::NoCopy => f.write_str("E17 NoCopy"),
-            Refusal::CopyNotOpen => f.write_str("E18 CopyNotOpen"),
-            Refusal::CopyNotComplete => f.write_str("E19 CopyNotComplete"),
-            Refusal::PageDecided => f.write_str("E20 PageDecided"),
-            Refusal::PagesLeft(page) => {
-                let page = page.0;
-                write!(f, "E21 PagesLeft {page}")
-            }
-            Refusal::StoreFault => f.write_str("E22 StoreFault"),
-            Refusal::LogFault => f.write_str("E23 LogFault"),
-            Refusal::TooManyCopies => f.write_str("E25 TooManyCopies"),
-            Refusal::CommitUnsure(lsn) => {
-                let lsn = lsn.0;
-                write!(f, "E26 CommitUnsure {lsn}")
-            }
+            Refusal::OutOfMemory => ("E1 OutOfMemory", None),
+            Refusal::NoTxn => ("E2 NoTxn", None),
+            Refusal::PageOut => ("E3 PageOut", None),
+            Refusal::SlotOut => ("E4 SlotOut", None),
+            Refusal::SlotBusy(txn) => ("E5 SlotBusy", Some(txn.0 as u64)),
+            Refusal::TxnRolling => ("E6 TxnRolling", None),
+            Refusal::NotRolling => ("E7 NotRolling", None),
+            Refusal::LogFull => ("E8 LogFull", None),
+            Refusal::TooManyTxns => ("E9 TooManyTxns", None),
+            Refusal::NotDirty => ("E10 NotDirty", None),
+            Refusal::WriteBegun => ("E11 WriteBegun", None),
+            Refusal::NoWrite => ("E12 NoWrite", None),
+            Refusal::CkptOpen => ("E13 CkptOpen", None),
+            Refusal::NoCkpt => ("E14 NoCkpt", None),
+            Refusal::GatherLeft => ("E15 GatherLeft", None),
+            Refusal::NoMaster => ("E16 NoMaster", None),
+            Refusal::NoCopy => ("E17 NoCopy", None),
+            Refusal::CopyNotOpen => ("E18 CopyNotOpen", None),
+            Refusal::CopyNotComplete => ("E19 CopyNotComplete", None),
+            Refusal::PageDecided => ("E20 PageDecided", None),
+            Refusal::PagesLeft(page) => ("E21 PagesLeft", Some(page.0 as u64)),
+            Refusal::StoreFault => ("E22 StoreFault", None),
+            Refusal::LogFault => ("E23 LogFault", None),
+            Refusal::TooManyCopies => ("E25 TooManyCopies", None),
+            Refusal::CommitUnsure(lsn) => ("E26 CommitUnsure", Some(lsn.0)),
         }
     }
 }

@@ -29,8 +29,8 @@ impl fmt::Display for PlayFault {
 
     fn fmt<W: fmt::Write>(&self, f: &mut fmt::Formatter<W>) -> fmt::Result {
         match self {
-            PlayFault::OutOfMemory => write!(f, "E1 OutOfMemory"),
-            PlayFault::LogFault => write!(f, "E23 LogFault"),
+            PlayFault::OutOfMemory => f.write_str("E1 OutOfMemory"),
+            PlayFault::LogFault => f.write_str("E23 LogFault"),
         }
     }
 }

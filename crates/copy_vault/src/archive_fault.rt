@@ -30,12 +30,12 @@ impl fmt::Display for ArchiveFault {
 
     fn fmt<W: fmt::Write>(&self, f: &mut fmt::Formatter<W>) -> fmt::Result {
         match self {
-            ArchiveFault::OutOfMemory => write!(f, "out of memory"),
+            ArchiveFault::OutOfMemory => f.write_str("out of memory"),
             ArchiveFault::BadArchive(at) => write!(f, "the archive is misspelt at {at}"),
             ArchiveFault::CountDiffers => {
-                write!(f, "the archive has not as many pages as it says")
+                f.write_str("the archive has not as many pages as it says")
             }
-            ArchiveFault::ReadFault => write!(f, "the archive could not be read"),
+            ArchiveFault::ReadFault => f.write_str("the archive could not be read"),
         }
     }
 }
@@ -76,7 +76,7 @@ impl fmt::Display for ArchiveWriteFault {
 
     fn fmt<W: fmt::Write>(&self, f: &mut fmt::Formatter<W>) -> fmt::Result {
         match self {
-            ArchiveWriteFault::OutOfMemory => write!(f, "out of memory"),
+            ArchiveWriteFault::OutOfMemory => f.write_str("out of memory"),
             ArchiveWriteFault::WriteFault(done) => {
                 write!(f, "the archive could not be written past {done} bytes")
             }

@@ -26,7 +26,7 @@ impl fmt::Display for ChainFault {
 
     fn fmt<W: fmt::Write>(&self, f: &mut fmt::Formatter<W>) -> fmt::Result {
         match self {
-            ChainFault::OutOfMemory => write!(f, "out of memory"),
+            ChainFault::OutOfMemory => f.write_str("out of memory"),
             ChainFault::ChainBroken(copy) => {
                 let copy = copy.0;
                 write!(f, "copy {copy} does not follow those before it")

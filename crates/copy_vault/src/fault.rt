@@ -33,15 +33,15 @@ impl fmt::Display for CopyFault {
 
     fn fmt<W: fmt::Write>(&self, f: &mut fmt::Formatter<W>) -> fmt::Result {
         match self {
-            CopyFault::OutOfMemory => write!(f, "out of memory"),
-            CopyFault::NoCopy => write!(f, "no copy has this id"),
-            CopyFault::CopyNotOpen => write!(f, "the copy is complete"),
-            CopyFault::CopyNotComplete => write!(f, "the copy is still being read"),
+            CopyFault::OutOfMemory => f.write_str("out of memory"),
+            CopyFault::NoCopy => f.write_str("no copy has this id"),
+            CopyFault::CopyNotOpen => f.write_str("the copy is complete"),
+            CopyFault::CopyNotComplete => f.write_str("the copy is still being read"),
             CopyFault::PagesLeft(page) => {
                 let page = page.0;
                 write!(f, "page {page} is not decided")
             }
-            CopyFault::TooManyCopies => write!(f, "every id was given"),
+            CopyFault::TooManyCopies => f.write_str("every id was given"),
         }
     }
 }

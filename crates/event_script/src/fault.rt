@@ -30,8 +30,8 @@ impl fmt::Display for ScriptFault {
 
     fn fmt<W: fmt::Write>(&self, f: &mut fmt::Formatter<W>) -> fmt::Result {
         match self {
-            ScriptFault::OutOfMemory => write!(f, "E1 OutOfMemory"),
-            ScriptFault::Input | ScriptFault::ReadFault => write!(f, "imgcopy: input"),
+            ScriptFault::OutOfMemory => f.write_str("E1 OutOfMemory"),
+            ScriptFault::Input | ScriptFault::ReadFault => f.write_str("imgcopy: input"),
             ScriptFault::BadLine(number) => write!(f, "imgcopy: line {number}"),
         }
     }

@@ -4,7 +4,7 @@ use aries_core::Event;
 use copy_vault::CopyId;
 
 /// The `restore` that may end a script.
-#[derive(Clone, Copy)]
+#[derive(Clone, Copy, Debug, PartialEq, Eq)]
 pub struct LastRestore {
     /// The copy that is to be restored.
     pub copy: CopyId,

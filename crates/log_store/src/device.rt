@@ -38,7 +38,7 @@ impl fmt::Display for DeviceFault {
     ghost output = { λ _. Some (codes "the log's device failed") };
 
     fn fmt<W: fmt::Write>(&self, f: &mut fmt::Formatter<W>) -> fmt::Result {
-        write!(f, "the log's device failed")
+        f.write_str("the log's device failed")
     }
 }
 

@@ -37,8 +37,8 @@ impl fmt::Display for LogReadFault {
 
     fn fmt<W: fmt::Write>(&self, f: &mut fmt::Formatter<W>) -> fmt::Result {
         match self {
-            LogReadFault::OutOfMemory => write!(f, "out of memory"),
-            LogReadFault::BadHeader => write!(f, "the log's header is misspelt"),
+            LogReadFault::OutOfMemory => f.write_str("out of memory"),
+            LogReadFault::BadHeader => f.write_str("the log's header is misspelt"),
             LogReadFault::BadRecord(at) => {
                 let at = at.0;
                 write!(f, "the record at {at} is misspelt")
@@ -51,8 +51,10 @@ impl fmt::Display for LogReadFault {
                 let at = at.0;
                 write!(f, "the log ends within the record at {at}")
             }
-            LogReadFault::ReadFault => write!(f, "the log could not be read"),
-            LogReadFault::TooLong => write!(f, "bytes follow the last record that a log may have"),
+            LogReadFault::ReadFault => f.write_str("the log could not be read"),
+            LogReadFault::TooLong => f.write_str(
+                "bytes follow the last record that a log may have",
+            ),
         }
     }
 }

@@ -223,11 +223,11 @@ pub fn scan_log<R: Read, S: RecordSink + Drop>(
     let Some(pages) = page_count(&header) else {
         return Err(LogReadFault::BadHeader);
     };
+    let mut buffer = zeros(alloc, BUFFER_BYTES)?;
     let mut scan = Scan {
         sink: S::start(alloc, pages)?,
         history: History::start(alloc, pages)?,
     };
-    let mut buffer = zeros(alloc, BUFFER_BYTES)?;
     read_records(reader, &mut scan, pages, MAX_TURNS - turns, &mut buffer)?;
     Ok(scan)
 }

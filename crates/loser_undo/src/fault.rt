@@ -21,8 +21,8 @@ impl fmt::Display for UndoFault {
 
     fn fmt<W: fmt::Write>(&self, f: &mut fmt::Formatter<W>) -> fmt::Result {
         match self {
-            UndoFault::LogFull => write!(f, "E8 LogFull"),
-            UndoFault::OutOfMemory => write!(f, "E1 OutOfMemory"),
+            UndoFault::LogFull => f.write_str("E8 LogFull"),
+            UndoFault::OutOfMemory => f.write_str("E1 OutOfMemory"),
         }
     }
 }

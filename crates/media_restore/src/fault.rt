@@ -29,9 +29,9 @@ impl fmt::Display for LoadFault {
 
     fn fmt<W: fmt::Write>(&self, f: &mut fmt::Formatter<W>) -> fmt::Result {
         match self {
-            LoadFault::OutOfMemory => write!(f, "E1 OutOfMemory"),
-            LoadFault::NoCopy => write!(f, "E17 NoCopy"),
-            LoadFault::CopyNotComplete => write!(f, "E19 CopyNotComplete"),
+            LoadFault::OutOfMemory => f.write_str("E1 OutOfMemory"),
+            LoadFault::NoCopy => f.write_str("E17 NoCopy"),
+            LoadFault::CopyNotComplete => f.write_str("E19 CopyNotComplete"),
             LoadFault::CutTooShort(forced) => write!(f, "E27 CutTooShort {forced}"),
         }
     }
@@ -62,7 +62,7 @@ impl fmt::Display for RedoFault {
 
     fn fmt<W: fmt::Write>(&self, f: &mut fmt::Formatter<W>) -> fmt::Result {
         match self {
-            RedoFault::OutOfMemory => write!(f, "E1 OutOfMemory"),
+            RedoFault::OutOfMemory => f.write_str("E1 OutOfMemory"),
         }
     }
 }

@@ -53,10 +53,10 @@ impl fmt::Display for RestoreFault {
 
     fn fmt<W: fmt::Write>(&self, f: &mut fmt::Formatter<W>) -> fmt::Result {
         match self {
-            RestoreFault::OutOfMemory => write!(f, "E1 OutOfMemory"),
-            RestoreFault::LogFull => write!(f, "E8 LogFull"),
+            RestoreFault::OutOfMemory => f.write_str("E1 OutOfMemory"),
+            RestoreFault::LogFull => f.write_str("E8 LogFull"),
             RestoreFault::WriteFault(done) => write!(f, "E29 WriteFault {done}"),
-            RestoreFault::BadHeader => write!(f, "E30 BadHeader"),
+            RestoreFault::BadHeader => f.write_str("E30 BadHeader"),
             RestoreFault::BadRecord(at) => {
                 let at = at.0;
                 write!(f, "E31 BadRecord {at}")
@@ -65,8 +65,8 @@ impl fmt::Display for RestoreFault {
                 let at = at.0;
                 write!(f, "E32 Torn {at}")
             }
-            RestoreFault::ReadFault => write!(f, "E33 ReadFault"),
-            RestoreFault::TooLong => write!(f, "E34 TooLong"),
+            RestoreFault::ReadFault => f.write_str("E33 ReadFault"),
+            RestoreFault::TooLong => f.write_str("E34 TooLong"),
             RestoreFault::BadChain(at) => {
                 let at = at.0;
                 write!(f, "E35 BadChain {at}")
@@ -76,7 +76,7 @@ impl fmt::Display for RestoreFault {
                 let copy = copy.0;
                 write!(f, "E37 ChainBroken {copy}")
             }
-            RestoreFault::CountDiffers => write!(f, "E38 CountDiffers"),
+            RestoreFault::CountDiffers => f.write_str("E38 CountDiffers"),
         }
     }
 }

@@ -44,7 +44,7 @@ impl fmt::Display for BadPage {
     ghost output = { λ _. Some (codes "the bytes are no page") };
 
     fn fmt<W: fmt::Write>(&self, f: &mut fmt::Formatter<W>) -> fmt::Result {
-        write!(f, "the bytes are no page")
+        f.write_str("the bytes are no page")
     }
 }
 

@@ -63,7 +63,7 @@ impl fmt::Display for StoreFault {
     ghost output = { λ _. Some (codes "the page store failed") };
 
     fn fmt<W: fmt::Write>(&self, f: &mut fmt::Formatter<W>) -> fmt::Result {
-        write!(f, "the page store failed")
+        f.write_str("the page store failed")
     }
 }
 
