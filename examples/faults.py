@@ -4,22 +4,23 @@
 usage: faults.py PROGRAM
 
 spoiled_logs.py has the logs: bytes changed, logs cut, fields at their bounds, records that may not follow those before
-them, and logs made one byte and one record too long. `answer` says what each must give.
+them, and logs made one byte and one record too long. `Reader` says what each must give.
 """
 
 import copy
+import gc
 import os
 import shutil
 import signal
-import subprocess
 import sys
 import tempfile
 from concurrent.futures import ProcessPoolExecutor
+from functools import lru_cache
 from itertools import repeat
 
 import spoiled_logs
 from log_format import (ABORT, HEADER_SIZE, LONGEST_LOG, MOST_RECORDS, RECORD_SIZE, History, decode_record,
-                        fault_of_header, fault_of_record, page_count)
+                        encode_header, fault_of_header, fault_of_record, page_count)
 
 
 class Fault(Exception):
@@ -30,18 +31,30 @@ class Failure(Exception):
     """What is missing or wrong, in one line."""
 
 
-def answer(log, history=None):
-    """The status, the output and the standard error that this log must give.
+class Reader:
+    """Reads logs by the rules. A log that begins like the one before it is read on from where that one was right."""
 
-    The history is that of its first records, where they are known to be right.
-    """
-    try:
-        history = history or History(read_header(log))
-        for at in range(history.end, len(log), RECORD_SIZE):
-            history.take(read_record(log[at:at + RECORD_SIZE], at, history))
-    except Fault as fault:
-        return 2, b"", f"{fault}\n".encode()
-    return 0, history.volume.encode(), b""
+    def __init__(self, history=None, right=b""):
+        self.history, self.right = history, right  # of the last log, as far as it is right
+
+    def answer(self, log):
+        """The status, the output and the standard error that this log must give."""
+        try:
+            self.read(log)
+        except Fault as fault:
+            return 2, b"", f"{fault}\n".encode()
+        return 0, self.history.volume.encode(), b""
+
+    def read(self, log):
+        is_begun = self.history is not None and log.startswith(self.right)
+        if not is_begun:
+            self.history = History(read_header(log))
+        try:
+            for at in range(self.history.end, len(log), RECORD_SIZE):
+                self.history.take(read_record(log[at:at + RECORD_SIZE], at, self.history))
+        finally:
+            if len(self.right) != self.history.end or not is_begun:
+                self.right = log[:self.history.end]
 
 
 def read_header(log):
@@ -55,7 +68,10 @@ def read_record(data, at, history):
         raise Fault("E34 TooLong")
     if len(data) < RECORD_SIZE:
         raise Fault(f"E32 Torn {at}")
-    record = decode_record(data)
+    return right_record(decode_record(data), at, history)
+
+
+def right_record(record, at, history):
     if fault_of_record(record, at, history.pages):
         raise Fault(f"E31 BadRecord {at}")
     if history.fault(record):
@@ -63,13 +79,39 @@ def read_record(data, at, history):
     return record
 
 
-def check(program, name, log, wanted=None):
-    """Fails unless the program answers as it must."""
-    with tempfile.TemporaryFile() as source:
+class Program:
+    """Runs a program. What it reads and what it writes are three files, which are used again for each run."""
+
+    def __init__(self, path):
+        self.path = path
+        self.files = [tempfile.TemporaryFile(buffering=0) for _ in range(3)]
+        self.actions = [(os.POSIX_SPAWN_DUP2, file.fileno(), to) for to, file in enumerate(self.files)]
+        self.environment = dict(os.environb)
+
+    def answer(self, log):
+        """The status, the output and the standard error that this log gives."""
+        for file in self.files:
+            file.seek(0)
+            file.truncate()
+        source, *written = self.files
         source.write(log)
         source.seek(0)
-        done = subprocess.run([program, "redo"], stdin=source, capture_output=True)
-    given, wanted = (done.returncode, done.stdout, done.stderr), wanted or answer(log)
+        process = os.posix_spawn(self.path, [self.path, "redo"], self.environment, file_actions=self.actions)
+        _, status = os.waitpid(process, 0)
+        for file in written:
+            file.seek(0)
+        output, error = (file.read() for file in written)
+        return os.waitstatus_to_exitcode(status), output, error
+
+
+# Of each process that checks.
+program_at = lru_cache(Program)
+reader = Reader()
+
+
+def check(program, name, log, wanted=None):
+    """Fails unless the program answers as it must."""
+    given, wanted = program_at(program).answer(log), wanted or reader.answer(log)
     if given != wanted:
         raise Failure(f"{name}: {describe(given)} in place of {describe(wanted)}")
 
@@ -86,22 +128,36 @@ def small_logs():
                  spoiled_logs.two_faults, spoiled_logs.drawn_logs, spoiled_logs.checkpoints):
         yield from logs()
     for name, log, marked in spoiled_logs.scenarios():
-        if answer(log)[2].decode() != (f"E35 BadChain {marked}\n" if marked else ""):
-            raise Failure(f"{name}: the rules do not find the marked fault, but {describe(answer(log))}")
+        wanted = reader.answer(log)
+        if wanted[2].decode() != (f"E35 BadChain {marked}\n" if marked else ""):
+            raise Failure(f"{name}: the rules do not find the marked fault, but {describe(wanted)}")
         yield name, log
 
 
 LONGEST = {"pairs": spoiled_logs.longest_pairs, "rollback": spoiled_logs.longest_rollback}
 
 
+def longest_front(name):
+    """All but the last record of one of the longest logs, their history, and the last record."""
+    front, history = [encode_header(1)], History(pages=1)
+    for record in LONGEST[name]():
+        if record.lsn == LONGEST_LOG - RECORD_SIZE:
+            return b"".join(front), history, record
+        history.take(right_record(record, history.end, history))
+        front.append(record.encode())
+
+
+def copy_of(history):
+    """What deepcopy gives, which takes a second for a million LSNs."""
+    changed = history.checkpoints.changed
+    return copy.deepcopy(history, {id(changed): changed.copy()})
+
+
 def check_longest(program, name):
     """Checks one of the longest logs with other ends, and gives their count. All but the end is read only once."""
-    log = spoiled_logs.log_of(LONGEST[name](), pages=1)
-    front, last = log[:-RECORD_SIZE], log[-RECORD_SIZE:]
-    history = History(pages=1)
-    for at in range(HEADER_SIZE, len(front), RECORD_SIZE):
-        history.take(read_record(front[at:at + RECORD_SIZE], at, history))
-    unchained = decode_record(last)._replace(transaction=MOST_RECORDS).encode()
+    front, history, record = longest_front(name)
+    last = record.encode()
+    unchained = record._replace(transaction=MOST_RECORDS).encode()
     ends = {
         "": last,
         " and one byte": last + b"\0",
@@ -110,10 +166,11 @@ def check_longest(program, name):
         " with a misspelt last record, and one byte": last[:-1] + b"\1\0",
         " with an unchained last record, and one byte": unchained + b"\0",
         " with a misspelt and unchained last record": unchained[:-1] + b"\1",
-        " with an Abort at its end": decode_record(last)._replace(kind=ABORT).encode(),
+        " with an Abort at its end": record._replace(kind=ABORT).encode(),
     }
     for words, end in ends.items():
-        check(program, f"the longest log of {name}{words}", front + end, answer(front + end, copy.deepcopy(history)))
+        log = front + end
+        check(program, f"the longest log of {name}{words}", log, Reader(copy_of(history), front).answer(log))
     return len(ends)
 
 
@@ -128,6 +185,7 @@ def compare(program):
 
 
 def main(arguments):
+    gc.disable()  # it would look through a million records time and again, and there are few cycles
     try:
         if len(arguments) != 1:
             raise Failure("one argument is wanted, the program to check")

@@ -71,7 +71,8 @@ class Change(NamedTuple):
 
     def undo(self):
         """The change of the Comp that takes this one back."""
-        return self._replace(before=0, number=self.before if self.kind == SET else -self.number % 2**64)
+        number = self.before if self.kind == SET else -self.number % 2**64
+        return Change(self.page, self.slot, self.kind, 0, number)
 
 
 NO_CHANGE = Change(page=0, slot=0, kind=0, before=0, number=0)

@@ -415,10 +415,15 @@ def longest_pairs():
 
 def longest_rollback():
     """As many records as a log may have: one transaction, half of whose records take back the other half."""
-    log = Steps("begin1")
-    for _ in range(MOST_RECORDS // 2 - 1):
-        log.append(log.record_of("add1a" if len(log.records) % 2 else "set1a"))
-    while len(log.records) < MOST_RECORDS - 1:
-        log.append(log.record_of("comp1"))
-    log.append(log.record_of("end1"))
-    return log.records
+    yield Record(BEGIN, 1, lsn=HEADER_SIZE)
+    number, updates = 0, []
+    for index in range(1, MOST_RECORDS // 2):
+        lsn = lsn_of(index)
+        change = Change(0, 0, ADD, 0, lsn) if index % 2 else Change(0, 0, SET, number, lsn)
+        number = change.changed(number)
+        updates.append(Record(UPDATE, 1, lsn - RECORD_SIZE, change, lsn=lsn))
+        yield updates[-1]
+    for index in range(MOST_RECORDS // 2, MOST_RECORDS - 1):
+        update, lsn = updates.pop(), lsn_of(index)
+        yield Record(COMP, 1, lsn - RECORD_SIZE, update.change.undo(), update.previous, lsn)
+    yield Record(END, 1, LONGEST_LOG - 2 * RECORD_SIZE, lsn=LONGEST_LOG - RECORD_SIZE)
