@@ -4,7 +4,7 @@
 #                 edits, and then what make check does, on the program that the gate has built
 # make check      compares the program's answers to the examples and to spoiled logs with the expected ones, and those
 #                 to scripts with a model of the engine, also with each of its allocations refused in turn;
-#                 where rt is used, those of read_log and of the engine too, by two programs of their own; and sees
+#                 where rt is used, those of read_log and of the engine too, by a program of their own; and sees
 #                 that the documents name what is there
 # make bench      measures the program beside a plain Rust program, prints a table, and draws bench/times.svg
 # make examples   makes the example logs and their expected answers anew

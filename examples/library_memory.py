@@ -1,12 +1,13 @@
 #!/usr/bin/env python3
 """Refuses each allocation of what the program does not call: `read_log`, the engine, and media recovery.
 
-usage: library_memory.py LOG_READER ENGINE_PLAYER LIBRARY
+usage: library_memory.py LIBRARY_PLAYER LIBRARY
 
-LIBRARY is refuse_memory.rs, built as a library for LD_PRELOAD, and the others are the programs of these crates. The one
-reads a log by `read_log` and tells what came of it, and goes to each example log as in memory.py. The other one makes
-calls of the engine, one by one and as a list, restores a copy, and makes a call again that was refused for want of
-memory: each has to get the reply that it has with all of its memory, and the pages have to be the same.
+LIBRARY is refuse_memory.rs, built as a library for LD_PRELOAD, and LIBRARY_PLAYER the program of that crate. Without a
+word it reads a log by `read_log` and tells what came of it, and each example log goes to it as in memory.py. With a
+word it first makes calls of the engine, one by one and as a list, restores a copy, and makes a call again that was
+refused for want of memory: each has to get the reply that it has with all of its memory, and the pages have to be the
+same. It then reads an empty input, which needs no memory.
 """
 
 import os
@@ -35,12 +36,16 @@ def logs():
         yield Case([], log, answer)
 
 
-def count_refused(reader, player, library):
-    """How many allocations of the one program and of the other were refused."""
-    out_of_memory = (2, b"", b"out of memory\n")
-    reading = [check(reader, library, case, out_of_memory) for case in logs()]
-    once = Case([], Path(os.devnull), (0, b"", b"each call was made once\n"))
-    playing = check(player, library, once, (0, b"", b"a call was made again\n"))
+def played(line):
+    """The answer where this line tells what came of the calls."""
+    return 2, b"", b"%s\nthe log's header is misspelt\n" % line
+
+
+def count_refused(player, library):
+    """How many allocations were refused while it read, and while it made calls."""
+    reading = [check(player, library, case, (2, b"", b"out of memory\n")) for case in logs()]
+    once = Case(["play"], Path(os.devnull), played(b"each call was made once"))
+    playing = check(player, library, once, played(b"a call was made again"))
     if 0 in reading or playing == 0:
         raise Failure("no allocation was refused")
     return sum(reading), playing
@@ -48,8 +53,8 @@ def count_refused(reader, player, library):
 
 def main(arguments):
     try:
-        if len(arguments) != 3 or not all(map(os.path.isfile, arguments)):
-            raise Failure("three arguments are wanted, the two programs and the library that refuses")
+        if len(arguments) != 2 or not all(map(os.path.isfile, arguments)):
+            raise Failure("two arguments are wanted, the program and the library that refuses")
         reading, playing = count_refused(*map(os.path.abspath, arguments))
     except (Failure, OSError) as failure:
         sys.exit(f"library_memory.py: {failure}")

@@ -25,9 +25,8 @@ lanes() {
 # The gate leaves each program in out/. An older one is removed first, so that none but the gate's own is checked.
 run_gate() {
     program=crates/imgcopy/out/imgcopy
-    log_reader=crates/log_reader/out/log_reader
-    engine_player=crates/engine_player/out/engine_player
-    rm -f "$program" "$log_reader" "$engine_player"
+    library_player=crates/library_player/out/library_player
+    rm -f "$program" "$library_player"
     RT_JOBS=${RT_JOBS:-$(lanes)} PYTHONUNBUFFERED=1 rt ci 2>&1 | tee build/gate.log
     local status=${PIPESTATUS[0]} counts='^([0-9]+) passed, ([0-9]+) failed$'
     if [[ $(tail -n 1 build/gate.log) =~ $counts ]]; then
@@ -70,10 +69,10 @@ refuse_memory() {
     python3 "$@" "$library"
 }
 
-# The gate has built these programs. Else they are built here.
+# The gate has built this program. Else it is built here.
 library_memory() {
-    "$is_gate" || tools/build.sh log_reader engine_player || return
-    refuse_memory examples/library_memory.py "$log_reader" "$engine_player"
+    "$is_gate" || tools/build.sh library_player || return
+    refuse_memory examples/library_memory.py "$library_player"
 }
 
 run_checks() {
@@ -88,7 +87,7 @@ run_checks() {
     if "$uses_rt"; then
         check library_memory "$program" rt python3 rustc -- library_memory
     else
-        skip library_memory "it has rt prove other programs"
+        skip library_memory "it has rt prove another program"
     fi
 }
 
@@ -107,7 +106,7 @@ if [ "$1" = --gate ]; then
     run_gate
 else
     is_gate=false
-    program=$1 log_reader=build/log_reader engine_player=build/engine_player
+    program=$1 library_player=build/library_player
 fi
 run_checks
 counts="$passed passed, $failed failed"

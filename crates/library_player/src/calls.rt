@@ -1,5 +1,5 @@
-//! Makes calls of the engine, and restores a copy that it made. A call that is refused for want of
-//! memory is made again. It tells whether one was.
+//! A row of calls of the engine, and the restore of a copy that it made. A call that is refused for
+//! want of memory is made again.
 #![tactic(auto)]
 
 use aries_core::{Answer, Engine, Event, Played, Refusal, Reply, Setup, play};
@@ -279,14 +279,11 @@ fn make_both(alloc: Global) -> Option<bool> {
     Some(called || played)
 }
 
-fn main(rt: HostRuntime) {
-    let text = match make_both(rt.alloc()) {
-        Some(again) => if again {
-            "a call was made again"
-        } else {
-            "each call was made once"
-        },
+/// Makes the calls one by one and as a list, restores a copy, and tells what came of it.
+pub fn told_of_calls(alloc: Global) -> &'static str {
+    match make_both(alloc) {
+        Some(true) => "a call was made again",
+        Some(false) => "each call was made once",
         None => "a reply or a page is wrong",
-    };
-    let _ = rt.eprintln(text);
+    }
 }

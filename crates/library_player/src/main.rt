@@ -1,10 +1,19 @@
-//! Reads a log on standard input, and tells what came of it.
+//! Makes calls of the engine where the command line has a word, and then reads a log on standard
+//! input by `read_log`. It tells what came of both.
 #![tactic(auto)]
 
+mod calls;
+
+use calls::told_of_calls;
 use log_store::read_log;
 use std::process::ExitCode;
+use std::rt::Env;
 
 fn main(rt: HostRuntime) -> ExitCode {
+    let mut word = [0; 8];
+    if rt.arg(1, &mut word).is_ok() {
+        let _ = rt.eprintln(told_of_calls(rt.alloc()));
+    }
     match read_log(rt.alloc(), &mut rt.stdin()) {
         Ok(log) => {
             let _ = rt.eprintln(&log.records().len());
