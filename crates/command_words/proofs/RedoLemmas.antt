@@ -1,7 +1,7 @@
 -- `clap` takes `redo` alone, and `redo --`, and no other words of `redo`.
 use Rattle.std.proofs.Common.{◌≡◌, ◌⊎◌, ℕ, Bool, true, false, List, [], ◌∷◌, Option, Some, None, refl, inl, inr, codes}
 use Rattle.std.proofs.Common.{ap, sym, subst, ◌∙◌, cond, length}
-use Rattle.std.specs.Prelude.{◌&&◌, not, is_some, find, slice_get}
+use Rattle.std.specs.Prelude.{◌&&◌, not, is_some, find, slice_get, Result, Ok, Err, IfErr, IfOk, MatchResult}
 use Rattle.std.specs.Option.{option_map_or}
 use Rattle.std.specs.Str.{bytes_eq, chars}
 use Rattle.std.proofs.lemmas.Slice.Eq.{bytes_eq-Decides}
@@ -19,6 +19,8 @@ use Rattle.clap.proofs.OnLiterals.{clap_on_literals}
 use Rattle.command_words.specs.Command.{Gives, IsRedo, redo_app}
 use Rattle.command_words.specs.declared.command.Command.{Command}
 use Rattle.command_words.specs.declared.command.Command.TheVariants.{Redo}
+use Rattle.command_words.specs.declared.command.UsageFault.{UsageFault}
+use Rattle.command_words.specs.declared.command.UsageFault.TheVariants.{OutOfMemory}
 
 redo_alone : fault_of redo_app (codes "redo" ∷ []) ≡ []
 unfolding clap_on_literals
@@ -133,10 +135,23 @@ redo_words (name ∷ word ∷ rest) named taken =
     inr (ap (λ n. n ∷ word ∷ rest) (same_Some _ _ named) ∙ ap (λ w. codes "redo" ∷ w ∷ rest) dashes
     ∙ ap (λ ws. codes "redo" ∷ codes "--" ∷ ws) none)
 
-pub given_redo : (words : List Text) (command : Command) → Gives words command → command ≡ Redo → IsRedo words
+given_redo : (words : List Text) (command : Command) → Gives words command → command ≡ Redo → IsRedo words
 given_redo words command given is = let P : Command → Type 0 = Gives words in
     let here : Gives words Redo = subst P is given in redo_words words here.0 here.1
 
-pub redo_faultless : (words : List Text) → IsRedo words → fault_of redo_app words ≡ []
+redo_faultless : (words : List Text) → IsRedo words → fault_of redo_app words ≡ []
 redo_faultless words (inl is) = ap (fault_of redo_app) is ∙ redo_alone
 redo_faultless words (inr is) = ap (fault_of redo_app) is ∙ redo_dashes
+
+-- ---- what comes of the words
+
+pub comes_for_redo : (words : List Text) (r : Result Command UsageFault) → IfOk r (λ command. command ≡ Redo)
+    → IfErr r (λ fault. fault_of redo_app words ≡ [] → fault ≡ OutOfMemory)
+    → IsRedo words → MatchResult r (λ command. command ≡ Redo) (λ fault. fault ≡ OutOfMemory)
+comes_for_redo words (Ok command) is only redo = is
+comes_for_redo words (Err fault) is only redo = only (redo_faultless words redo)
+
+pub only_for_redo : (words : List Text) (r : Result Command UsageFault) → IfOk r (Gives words)
+    → IfOk r (λ command. command ≡ Redo → IsRedo words)
+only_for_redo words (Ok command) given = given_redo words command given
+only_for_redo words (Err fault) given = tt
