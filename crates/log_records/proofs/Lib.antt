@@ -3,5 +3,6 @@ pub mod Ckpts
 pub mod Coverage
 pub mod Images
 pub mod Logs
+mod Puts
 pub mod Records
 pub mod Stored

@@ -13,6 +13,7 @@ ghost use Rattle.log_records.specs.Record.{AreDirtyPages};
 use crate::dirty_page::{DirtyPage, DirtyPages};
 use crate::fields::{BEGIN_CHKPT, CHKPT_PAGES, CHKPT_TXNS, END_CHKPT};
 use crate::limits::RECORD_BYTES;
+use crate::put::{put_u32, put_u64};
 use crate::txn_phase::TxnPhase;
 use page_core::field::{u32_at, u64_at};
 
@@ -33,8 +34,8 @@ pub fn begin_bytes(lsn: u64) -> [u8; RECORD_BYTES]
     ensures { result ≡ ckpt_bytes BEGIN_CHKPT 0 no_body lsn }
 {
     let mut bytes = [0; RECORD_BYTES];
-    bytes[..4].copy_from_slice(&BEGIN_CHKPT.to_le_bytes());
-    bytes[56..].copy_from_slice(&lsn.to_le_bytes());
+    put_u32(&mut bytes, 0, BEGIN_CHKPT);
+    put_u64(&mut bytes, 56, lsn);
     bytes
 }
 
@@ -62,16 +63,16 @@ fn counted_bytes(
         (to_le_bytes w32 count ++ entry_bytes a ++ entry_bytes b ++ entry_bytes c) lsn }
 {
     let mut bytes = [0; RECORD_BYTES];
-    bytes[..4].copy_from_slice(&CHKPT_PAGES.to_le_bytes());
-    bytes[8..16].copy_from_slice(&begin.to_le_bytes());
-    bytes[16..20].copy_from_slice(&count.to_le_bytes());
-    bytes[20..24].copy_from_slice(&a.page.to_le_bytes());
-    bytes[24..32].copy_from_slice(&a.rec_lsn.to_le_bytes());
-    bytes[32..36].copy_from_slice(&b.page.to_le_bytes());
-    bytes[36..44].copy_from_slice(&b.rec_lsn.to_le_bytes());
-    bytes[44..48].copy_from_slice(&c.page.to_le_bytes());
-    bytes[48..56].copy_from_slice(&c.rec_lsn.to_le_bytes());
-    bytes[56..].copy_from_slice(&lsn.to_le_bytes());
+    put_u32(&mut bytes, 0, CHKPT_PAGES);
+    put_u64(&mut bytes, 8, begin);
+    put_u32(&mut bytes, 16, count);
+    put_u32(&mut bytes, 20, a.page);
+    put_u64(&mut bytes, 24, a.rec_lsn);
+    put_u32(&mut bytes, 32, b.page);
+    put_u64(&mut bytes, 36, b.rec_lsn);
+    put_u32(&mut bytes, 44, c.page);
+    put_u64(&mut bytes, 48, c.rec_lsn);
+    put_u64(&mut bytes, 56, lsn);
     bytes
 }
 
@@ -87,13 +88,13 @@ pub fn txn_bytes(
     ensures { result ≡ ckpt_bytes CHKPT_TXNS begin (txn_body txn state last undo_next) lsn }
 {
     let mut bytes = [0; RECORD_BYTES];
-    bytes[..4].copy_from_slice(&CHKPT_TXNS.to_le_bytes());
-    bytes[8..16].copy_from_slice(&begin.to_le_bytes());
-    bytes[20..24].copy_from_slice(&txn.to_le_bytes());
-    bytes[24..28].copy_from_slice(&state.to_le_bytes());
-    bytes[28..36].copy_from_slice(&last.to_le_bytes());
-    bytes[36..44].copy_from_slice(&undo_next.to_le_bytes());
-    bytes[56..].copy_from_slice(&lsn.to_le_bytes());
+    put_u32(&mut bytes, 0, CHKPT_TXNS);
+    put_u64(&mut bytes, 8, begin);
+    put_u32(&mut bytes, 20, txn);
+    put_u32(&mut bytes, 24, state);
+    put_u64(&mut bytes, 28, last);
+    put_u64(&mut bytes, 36, undo_next);
+    put_u64(&mut bytes, 56, lsn);
     bytes
 }
 
@@ -102,10 +103,10 @@ pub fn end_bytes(begin: u64, redo: u64, lsn: u64) -> [u8; RECORD_BYTES]
     ensures { result ≡ ckpt_bytes END_CHKPT begin (redo_body redo) lsn }
 {
     let mut bytes = [0; RECORD_BYTES];
-    bytes[..4].copy_from_slice(&END_CHKPT.to_le_bytes());
-    bytes[8..16].copy_from_slice(&begin.to_le_bytes());
-    bytes[24..32].copy_from_slice(&redo.to_le_bytes());
-    bytes[56..].copy_from_slice(&lsn.to_le_bytes());
+    put_u32(&mut bytes, 0, END_CHKPT);
+    put_u64(&mut bytes, 8, begin);
+    put_u64(&mut bytes, 24, redo);
+    put_u64(&mut bytes, 56, lsn);
     bytes
 }
 

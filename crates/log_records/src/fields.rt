@@ -3,6 +3,7 @@
 ghost use Rattle.std.specs.Prelude.{◌≡◌};
 
 use crate::limits::RECORD_BYTES;
+use crate::put::{put_u16, put_u32, put_u64};
 use crate::record::Record;
 use page_core::field::{u16_at, u32_at, u64_at};
 use page_core::{Change, Lsn, TxnNo};
@@ -106,17 +107,17 @@ impl Fields {
         ensures { result ≡ fields_bytes self.now }
     {
         let mut bytes = [0; RECORD_BYTES];
-        bytes[..4].copy_from_slice(&self.kind.to_le_bytes());
-        bytes[4..8].copy_from_slice(&self.txn.to_le_bytes());
-        bytes[8..16].copy_from_slice(&self.prev.to_le_bytes());
-        bytes[16..24].copy_from_slice(&self.undo_next.to_le_bytes());
-        bytes[24..28].copy_from_slice(&self.page.to_le_bytes());
-        bytes[28..30].copy_from_slice(&self.slot.to_le_bytes());
-        bytes[30..32].copy_from_slice(&self.change.to_le_bytes());
-        bytes[32..40].copy_from_slice(&self.before.to_le_bytes());
-        bytes[40..48].copy_from_slice(&self.after.to_le_bytes());
-        bytes[48..56].copy_from_slice(&self.spare.to_le_bytes());
-        bytes[56..].copy_from_slice(&self.lsn.to_le_bytes());
+        put_u32(&mut bytes, 0, self.kind);
+        put_u32(&mut bytes, 4, self.txn);
+        put_u64(&mut bytes, 8, self.prev);
+        put_u64(&mut bytes, 16, self.undo_next);
+        put_u32(&mut bytes, 24, self.page);
+        put_u16(&mut bytes, 28, self.slot);
+        put_u16(&mut bytes, 30, self.change);
+        put_u64(&mut bytes, 32, self.before);
+        put_u64(&mut bytes, 40, self.after);
+        put_u64(&mut bytes, 48, self.spare);
+        put_u64(&mut bytes, 56, self.lsn);
         bytes
     }
 

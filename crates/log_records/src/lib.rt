@@ -11,6 +11,7 @@ mod laws;
 mod limits;
 mod page_change;
 mod place;
+mod put;
 mod record;
 mod txn_phase;
 mod volume;

@@ -1,16 +1,8 @@
-use Rattle.std.proofs.Common.{refl, ◌∙◌}
-use Rattle.log_records.specs.CkptBytes.{ckpt_bytes, txn_body}
+use Rattle.log_records.proofs.Puts.{txn_put}
 use Rattle.log_records.proofs.ckpt_codec.txn_bytes.Goals as goal
 
 pub returns : goal.returns
-unfolding ckpt_bytes txn_body
 returns c =
-    rw (
-      c.copy_from_slice.ensures.after ∙ c.to_le_bytes.ensures,
-      c.copy_from_slice-2.ensures.after ∙ c.to_le_bytes-2.ensures,
-      c.copy_from_slice-3.ensures.after ∙ c.to_le_bytes-3.ensures,
-      c.copy_from_slice-4.ensures.after ∙ c.to_le_bytes-4.ensures,
-      c.copy_from_slice-5.ensures.after ∙ c.to_le_bytes-5.ensures,
-      c.copy_from_slice-6.ensures.after ∙ c.to_le_bytes-6.ensures,
-      c.copy_from_slice-7.ensures.after ∙ c.to_le_bytes-7.ensures,
-    ) refl
+    txn_put _ c.args.begin c.args.txn c.args.state c.args.last c.args.undo_next c.args.lsn _ _ _ _ _ _ _
+    c.put_u32.ensures c.put_u64.ensures c.put_u32-2.ensures c.put_u32-3.ensures c.put_u64-2.ensures c.put_u64-3.ensures
+    c.put_u64-4.ensures

@@ -1,20 +1,8 @@
-use Rattle.std.proofs.Common.{refl, ◌∙◌}
-use Rattle.log_records.specs.Fields.{fields_bytes}
+use Rattle.log_records.proofs.Puts.{fields_put}
 use Rattle.log_records.proofs.fields.Fields.write.Goals as goal
 
 pub returns : goal.returns
-unfolding fields_bytes
 returns c =
-    rw (
-      c.copy_from_slice.ensures.after ∙ c.to_le_bytes.ensures,
-      c.copy_from_slice-2.ensures.after ∙ c.to_le_bytes-2.ensures,
-      c.copy_from_slice-3.ensures.after ∙ c.to_le_bytes-3.ensures,
-      c.copy_from_slice-4.ensures.after ∙ c.to_le_bytes-4.ensures,
-      c.copy_from_slice-5.ensures.after ∙ c.to_le_bytes-5.ensures,
-      c.copy_from_slice-6.ensures.after ∙ c.to_le_bytes-6.ensures,
-      c.copy_from_slice-7.ensures.after ∙ c.to_le_bytes-7.ensures,
-      c.copy_from_slice-8.ensures.after ∙ c.to_le_bytes-8.ensures,
-      c.copy_from_slice-9.ensures.after ∙ c.to_le_bytes-9.ensures,
-      c.copy_from_slice-10.ensures.after ∙ c.to_le_bytes-10.ensures,
-      c.copy_from_slice-11.ensures.after ∙ c.to_le_bytes-11.ensures,
-    ) refl
+    fields_put c.args.self.now _ _ _ _ _ _ _ _ _ _ _ c.put_u32.ensures c.put_u32-2.ensures c.put_u64.ensures
+    c.put_u64-2.ensures c.put_u32-3.ensures c.put_u16.ensures c.put_u16-2.ensures c.put_u64-3.ensures
+    c.put_u64-4.ensures c.put_u64-5.ensures c.put_u64-6.ensures
