@@ -37,6 +37,11 @@ pub(crate) fn same_at<T: PartialEq + Debug, P: Debug>(
     assert_eq!(rt; *given, *wanted, "{place:?}");
 }
 
+/// Asserts that something holds, and tells where.
+pub(crate) fn holds_at<P: Debug>(rt: &impl Abort, holds: bool, place: &P) {
+    assert!(rt; holds, "{place:?}");
+}
+
 /// A volume of so many pages, each with a frame of its own.
 fn setup_of(pages: u32) -> Setup
     ensures { result ≡ record { pages = pages; frames = pages } }

@@ -1,4 +1,5 @@
-//! Tests of the engine and of media recovery, which try them through their public items.
+//! Tests of the engine, of media recovery and of what the program is made of, which try them through
+//! their public items.
 #![tactic(auto)]
 
 #[cfg(test)]
@@ -7,3 +8,9 @@ mod engine;
 mod files;
 #[cfg(test)]
 mod recovery;
+#[cfg(test)]
+mod runs;
+#[cfg(test)]
+mod scripts;
+#[cfg(test)]
+mod streams;

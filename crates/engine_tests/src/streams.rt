@@ -1,6 +1,7 @@
 //! What no clause says of redo: that the volume of a log is written, with its known bytes, and
 //! which fault comes of a reader or a writer that fails.
 
+use crate::engine::{holds_at, same, same_at};
 use page_core::Lsn;
 use std::alloc::Global;
 use std::io;
@@ -86,8 +87,8 @@ fn assert_volume(
 ) -> Result<(), Fail> {
     let mut volume = Vec::new(alloc);
     let mut rest = log;
-    assert_eq!(rt; redo_stream(alloc, &mut rest, &mut volume), Ok(()));
-    assert_eq!(rt; volume, bytes_with(alloc, count, placed)?);
+    same(rt, &redo_stream(alloc, &mut rest, &mut volume), &Ok(()));
+    same(rt, &volume, &bytes_with(alloc, count, placed)?);
     Ok(())
 }
 
@@ -114,8 +115,8 @@ fn writes_the_volume_of_a_sum_that_wraps(rt: HostRuntime) -> Result<(), Fail> {
 /// Asserts that a reader gives no log, and that nothing is written.
 fn assert_fault<R: Read>(rt: &impl Abort, alloc: Global, reader: &mut R, fault: Fault) {
     let mut volume = Vec::new(alloc);
-    assert_eq!(rt; redo_stream(alloc, reader, &mut volume), Err(fault));
-    assert!(rt; volume.is_empty(), "{fault:?}");
+    same(rt, &redo_stream(alloc, reader, &mut volume), &Err(fault));
+    holds_at(rt, volume.is_empty(), &fault);
 }
 
 /// The same of some bytes, and what the fault's line is.
@@ -128,8 +129,7 @@ fn assert_no_log(
 ) -> Result<(), Fail> {
     let mut rest = bytes;
     assert_fault(rt, alloc, &mut rest, fault);
-    assert_eq!(rt; fault.to_string(alloc)?.as_str(), line);
-    Ok(())
+    assert_line(rt, alloc, fault, line)
 }
 
 #[test]
@@ -238,9 +238,8 @@ fn assert_hesitant(
     step: usize,
 ) -> Result<(), Fail> {
     let mut volume = Vec::new(alloc);
-    assert_eq!(rt; redo_stream(alloc, reader, &mut volume), Ok(()));
-    let wanted = volume_of_four_records(alloc)?;
-    assert_eq!(rt; volume, wanted, "{step} bytes at a read");
+    same(rt, &redo_stream(alloc, reader, &mut volume), &Ok(()));
+    same_at(rt, &volume, &volume_of_four_records(alloc)?, &step);
     Ok(())
 }
 
@@ -327,11 +326,9 @@ fn assert_narrow(
     wanted: &[u8],
 ) {
     let mut rest = log;
-    assert_eq!(rt; redo_stream(alloc, &mut rest, writer), outcome);
-    assert!(rt;
-        Some(writer.held.as_slice()) == wanted.get(..writer.room),
-        "{outcome:?}"
-    );
+    same(rt, &redo_stream(alloc, &mut rest, writer), &outcome);
+    let is_front = Some(writer.held.as_slice()) == wanted.get(..writer.room);
+    holds_at(rt, is_front, &outcome);
 }
 
 #[test]
@@ -432,8 +429,8 @@ fn assert_interrupted(
     wanted: Option<&[u8]>,
 ) {
     let mut rest = log;
-    assert_eq!(rt; redo_stream(alloc, &mut rest, writer), outcome);
-    assert!(rt; Some(writer.held.as_slice()) == wanted, "{outcome:?}");
+    same(rt, &redo_stream(alloc, &mut rest, writer), &outcome);
+    holds_at(rt, Some(writer.held.as_slice()) == wanted, &outcome);
 }
 
 #[test]
@@ -454,7 +451,7 @@ fn tries_an_interrupted_write_again(rt: HostRuntime) -> Result<(), Fail> {
 }
 
 fn assert_line(rt: &impl Abort, alloc: Global, fault: Fault, line: &str) -> Result<(), Fail> {
-    assert_eq!(rt; fault.to_string(alloc)?.as_str(), line);
+    same(rt, &fault.to_string(alloc)?.as_str(), &line);
     Ok(())
 }
 

@@ -2,6 +2,7 @@
 
 mod rows;
 
+use crate::engine::{holds_at, same, same_at};
 use aries_core::Setup;
 use media_restore::Refused;
 use page_core::MAX_PAGES;
@@ -29,7 +30,7 @@ fn assert_script(
     let mut written = Vec::new(alloc);
     let ran = run_script(alloc, setup, &mut reader, &mut written)?;
     let outcome = finish_script(alloc, ran, &mut written);
-    assert!(rt; written.as_slice() == output.as_bytes(), "{script}");
+    holds_at(rt, written.as_slice() == output.as_bytes(), &script);
     Ok(outcome)
 }
 
@@ -61,7 +62,7 @@ fn assert_row(
         put_part(&mut script, &mut output, part)?;
     }
     let outcome = assert_script(rt, alloc, pages, &script, &output)?;
-    assert_eq!(rt; outcome, wanted, "{script}");
+    same_at(rt, &outcome, &wanted, &script.as_str());
     Ok(())
 }
 
@@ -89,6 +90,6 @@ fn sixty_four_transactions_are_open(rt: HostRuntime) -> Result<(), Fail> {
     writeln!(script, "begin")?;
     writeln!(output, "E9 TooManyTxns")?;
     let outcome = assert_script(&rt, rt.alloc(), 1, &script, &output)?;
-    assert_eq!(rt; outcome, Ok(()));
+    same(&rt, &outcome, &Ok(()));
     Ok(())
 }

@@ -2,6 +2,7 @@
 
 mod rows;
 
+use crate::engine::{holds_at, same_at};
 use aries_core::{Event, Refusal, Reply};
 use copy_vault::CopyId;
 use event_script::{LastRestore, ReplyLine, ScriptFault, read_script};
@@ -21,7 +22,7 @@ fn is_event(alloc: Global, line: &str, event: Event) -> Result<bool, ScriptFault
 #[test]
 fn each_call_has_a_line(rt: HostRuntime) -> Result<(), Fail> {
     for (line, event) in rows::CALLS {
-        assert!(rt; is_event(rt.alloc(), line, event)?, "{line}");
+        holds_at(&rt, is_event(rt.alloc(), line, event)?, &line);
     }
     Ok(())
 }
@@ -35,7 +36,7 @@ fn fault_of<R: Read>(alloc: Global, reader: &mut R) -> Option<ScriptFault> {
 fn other_lines_are_bad(rt: HostRuntime) {
     for line in rows::BAD_LINES {
         let fault = fault_of(rt.alloc(), &mut line.as_bytes());
-        assert!(rt; fault == Some(ScriptFault::BadLine(1)), "{line}");
+        same_at(&rt, &fault, &Some(ScriptFault::BadLine(1)), &line);
     }
 }
 
@@ -44,29 +45,38 @@ fn other_lines_are_bad(rt: HostRuntime) {
 fn the_first_bad_line_is_named(rt: HostRuntime) {
     for (text, number) in rows::BAD_SCRIPTS {
         let fault = fault_of(rt.alloc(), &mut text.as_bytes());
-        assert!(rt; fault == Some(ScriptFault::BadLine(number)), "{text}");
+        same_at(&rt, &fault, &Some(ScriptFault::BadLine(number)), &text);
     }
     let fault = fault_of(rt.alloc(), &mut b"no\n# \xc3".as_slice());
-    assert!(rt; fault == Some(ScriptFault::Input));
+    same_at(&rt, &fault, &Some(ScriptFault::Input), &"no text");
+}
+
+/// Whether a script of this text has so many events, and ends with this restore, or with none.
+fn is_script(
+    alloc: Global,
+    text: &str,
+    count: usize,
+    restore: Option<LastRestore>,
+) -> Result<bool, ScriptFault> {
+    let script = read_script(alloc, &mut text.as_bytes())?;
+    Ok(script.events.len() == count && script.restore == restore)
 }
 
 #[test]
 fn a_restore_is_last(rt: HostRuntime) -> Result<(), Fail> {
     for (text, count, copy, cut) in rows::RESTORES {
-        let script = read_script(rt.alloc(), &mut text.as_bytes())?;
-        assert!(rt; script.events.len() == count, "{text}");
         let restore = LastRestore {
             copy: CopyId(copy),
             cut,
         };
-        assert!(rt; script.restore == Some(restore), "{text}");
+        holds_at(
+            &rt,
+            is_script(rt.alloc(), text, count, Some(restore))?,
+            &text,
+        );
     }
     for (text, count) in rows::WITHOUT_RESTORE {
-        let script = read_script(rt.alloc(), &mut text.as_bytes())?;
-        assert!(rt;
-            script.events.len() == count && script.restore.is_none(),
-            "{text}"
-        );
+        holds_at(&rt, is_script(rt.alloc(), text, count, None)?, &text);
     }
     Ok(())
 }
@@ -98,7 +108,7 @@ fn an_input_may_be_refused(rt: HostRuntime) {
         (3, true, Some(ScriptFault::ReadFault)),
     ] {
         let mut reader = Feeds { left, fails };
-        assert!(rt; fault_of(rt.alloc(), &mut reader) == fault, "{left} bytes");
+        same_at(&rt, &fault_of(rt.alloc(), &mut reader), &fault, &left);
     }
 }
 
@@ -111,17 +121,25 @@ fn prints(alloc: Global, value: &impl Display, line: &str) -> Result<bool, Fail>
 #[test]
 fn a_reply_has_a_line(rt: HostRuntime) -> Result<(), Fail> {
     for (answer, line) in rows::ANSWERS {
-        assert!(rt; prints(rt.alloc(), &ReplyLine(Ok(answer)), line)?, "{line}");
+        holds_at(
+            &rt,
+            prints(rt.alloc(), &ReplyLine(Ok(answer)), line)?,
+            &line,
+        );
     }
     let refused = ReplyLine(Err(Refusal::SlotBusy(TxnNo(1))));
-    assert!(rt; prints(rt.alloc(), &refused, "E5 SlotBusy 1")?);
+    holds_at(
+        &rt,
+        prints(rt.alloc(), &refused, "E5 SlotBusy 1")?,
+        &"SlotBusy",
+    );
     Ok(())
 }
 
 #[test]
 fn a_fault_has_a_line(rt: HostRuntime) -> Result<(), Fail> {
     for (fault, line) in rows::FAULTS {
-        assert!(rt; prints(rt.alloc(), &fault, line)?, "{line}");
+        holds_at(&rt, prints(rt.alloc(), &fault, line)?, &line);
     }
     Ok(())
 }
