@@ -70,8 +70,8 @@ class Engine:
 
     def holds(self, number, page, slot, kind):
         """Whether a pending change of this transaction keeps out a change of this kind by others."""
-        return any((update.change.page, update.change.slot) == (page, slot) and SET in (kind, update.change.kind)
-                   for update in self.transactions.open[number].pending)
+        changes = [update.change for update in self.transactions.open[number].pending]
+        return any(change.page == page and change.slot == slot and SET in (kind, change.kind) for change in changes)
 
     def read(self, page, slot):
         self.need_slot(page, slot)

@@ -22,7 +22,7 @@ from pathlib import Path
 
 import model_file_rows
 import model_rows
-from log_format import ADD, BEGIN, MOST_RECORDS, UPDATE, Change, Record, lsn_of
+from log_format import ADD, BEGIN, MOST_RECORDS, RECORD_SIZE, UPDATE, Change, Record, lsn_of
 from make import Draw
 from random_scripts import Script, bad_script, random_script
 from recovery_model import Answer, answer_of, encode_pages, redo_all, redo_file, restore_files, undo_records
@@ -137,8 +137,7 @@ def check_seed(checker, seed):
     if wanted.output != encode_pages(map(ran.engine.page, range(script.pages))):
         raise Failure(f"{name}: the model's pages are not those that its log makes")
     checker.check(f"{name}, redo", wanted, ["redo"], ran.files["log"])
-    for copy in ran.engine.complete_copies():
-        check_copy(checker, name, ran, copy)
+    check_copies(checker, name, ran)
     if ran.engine.complete_copies() and script.pages < MOST_PAGES_SPOILED:
         check_spoiled(checker, name, ran, seed)
     if seed % 4 == 0:
@@ -146,13 +145,16 @@ def check_seed(checker, seed):
         checker.check(f"bad script {seed}", run(script.text, script.pages).answer, run_words(script), script.text)
 
 
-def check_copy(checker, name, ran, copy):
-    """Restores the copy from its files. The log alone makes the same volume, by the headline of what is promised."""
-    given, log = Given(ran.files, ran.engine.chain(copy.number)), ran.engine.log
-    wanted = answer_of(restore_files, *given.contents())
-    if wanted.output != encode_pages(redo_all(log + undo_records(log), ran.engine.pages)):
-        raise Failure(f"{name}: the model restores copy {copy.number} to another volume than the log makes")
-    checker.check(f"{name}, restore of copy {copy.number}", wanted, ["restore", *given.words()])
+def check_copies(checker, name, ran):
+    """Restores each copy from its files. The log alone makes the same volume, by the headline of what is promised."""
+    log, copies = ran.engine.log, ran.engine.complete_copies()
+    volume = encode_pages(redo_all(log + undo_records(log), ran.engine.pages)) if copies else b""
+    for copy in copies:
+        given = Given(ran.files, ran.engine.chain(copy.number))
+        wanted = answer_of(restore_files, *given.contents())
+        if wanted.output != volume:
+            raise Failure(f"{name}: the model restores copy {copy.number} to another volume than the log makes")
+        checker.check(f"{name}, restore of copy {copy.number}", wanted, ["restore", *given.words()])
 
 
 @lru_cache(maxsize=None)
@@ -232,8 +234,9 @@ def full_log():
     idle = next(row for row in model_rows.ROWS if row.name == "an unforced tail is lost")
     files = run(b"ckpt\ngather\ngather\nendckpt\nfull\ntake 1 0\nseal 1\n", idle.pages).files
     records = [Record(BEGIN, 1, lsn=lsn_of(2)).encode()]
-    records += [Record(UPDATE, 1, lsn_of(index - 1), Change(0, 0, ADD, 0, 1), lsn=lsn_of(index)).encode()
-                for index in range(3, MOST_RECORDS)]
+    add = Change(0, 0, ADD, 0, 1)
+    records += [Record(UPDATE, 1, lsn - RECORD_SIZE, add, lsn=lsn).encode()
+                for lsn in range(lsn_of(3), lsn_of(MOST_RECORDS), RECORD_SIZE)]
     return files | {"log": files["log"] + b"".join(records)}
 
 

@@ -119,7 +119,7 @@ class Transactions:
                 transaction.pending.pop()
 
     def owed(self):
-        return sum(transaction.owed() for transaction in self.open.values())
+        return sum(map(Transaction.owed, self.open.values()))
 
 
 def compensation(transaction, lsn):
