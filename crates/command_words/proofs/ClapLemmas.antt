@@ -3,7 +3,9 @@ use Rattle.std.proofs.Common.{◌≡◌, ◌≢◌, ◌⊎◌, ◌<◌, ℕ, tru
 use Rattle.std.specs.Prelude.{Result, Ok, Err, IfErr, IsErrAnd, [], Option, Some, None}
 use Rattle.std.specs.Str.Parse.{ParsesUnsigned}
 use Rattle.std.proofs.lemmas.Option.{none-some, same_Some}
-use Rattle.clap.specs.Words.{App, HasKind, ReadsOne, Text, fault_of, is_simple_and_free, kind_of}
+use Rattle.clap.specs.Words.{App, HasKind, HasMatchesOf, ReadsOne, Text, fault_of, found_of, is_simple}
+use Rattle.clap.specs.Words.{is_simple_and_free, kind_of, matches_of, rows_of}
+use Rattle.clap.specs.declared.parser.matches.ArgMatches.{ArgMatches}
 use Rattle.clap.specs.declared.error.Error.{Error}
 use Rattle.clap.specs.declared.error.kind.ErrorKind.TheVariants as kind
 use Rattle.command_words.specs.Command.{Explains, IsRead, Names, apps}
@@ -61,6 +63,12 @@ pub taken : (words : List Text) (given app : App) → given ≡ app → is_simpl
     → (is_simple_and_free given ≡ true → fault_of given words ≡ []) → fault_of app words ≡ []
 taken words given app same simple kinds =
     subst (λ a. fault_of a words ≡ []) same (kinds (ap is_simple_and_free same ∙ simple))
+
+-- what was matched is what the definition of `clap` matches
+pub matched : (words : List Text) (given app : App) (it : ArgMatches) → given ≡ app → is_simple app ≡ true
+    → HasMatchesOf given words it → rows_of (found_of it) ≡ matches_of app words
+matched words given app it same simple has =
+    (has (ap is_simple same ∙ simple)).0 ∙ ap (λ a. matches_of a words) same
 
 -- ---- the text of a number
 

@@ -1,3 +1,4 @@
 mod ClapLemmas
+mod NameLemmas
 mod RedoLemmas
 mod RequiredLemmas

@@ -1,6 +1,6 @@
 use Rattle.std.proofs.Common.{lit<, refl}
 use Rattle.command_words.specs.Command.{restore_app}
-use Rattle.command_words.proofs.ClapLemmas.{for_memory, passed_up, taken}
+use Rattle.command_words.proofs.ClapLemmas.{for_memory, matched, passed_up, taken}
 use Rattle.command_words.proofs.RequiredLemmas.{log_given, master_given}
 use Rattle.command_words.proofs.arguments.restore_matches.Goals as goal
 
@@ -15,6 +15,10 @@ pub returns-in_err-try_get_matches_from-clause-explained :
 returns-in_err-try_get_matches_from-clause-explained g c =
     passed_up 2 _ _ restore_app _ _ (lit< tt) refl c.in_ok-restore_command.ensures.app refl c.requires
     c.in_err-try_get_matches_from.ensures.kinds c.from_residual-in_err-try_get_matches_from.ensures.1
+
+pub returns-clause-rows : goal.returns-clause-rows
+returns-clause-rows g c = matched _ _ restore_app c.in_ok-try_get_matches_from.field-0
+    c.in_ok-restore_command.ensures.app refl c.in_ok-try_get_matches_from.ensures.matches
 
 pub returns-clause-taken : goal.returns-clause-taken
 returns-clause-taken g c =
