@@ -1,4 +1,4 @@
-use Rattle.std.proofs.Common.{◌≡◌, ◌∙◌, ap, sym, arith, rules, List, ℕ, length, take}
+use Rattle.std.proofs.Common.{◌≡◌, ◌∙◌, ap, refl, sym, arith, rules, List, ℕ, length, take}
 use Rattle.std.specs.Prelude.{slice_range, Some}
 use Rattle.std.proofs.lemmas.List.{length-take}
 use Rattle.log_records.specs.Log.{header_bytes, IsPageCount}
@@ -27,3 +27,13 @@ returns-else-is_page_count-clause-only c = λ pages fits e.
       | else-is_page_count-via-then-is_page_count+else-is_same w ↦ absurd (search rules)
       | else-is_page_count-via-else-is_page_count w ↦ absurd (search rules)
     ]
+
+pub returns-then-is_same-clause-found : goal.returns-then-is_same-clause-found
+returns-then-is_same-clause-found c = record {
+  count = c.if-is_page_count.ensures.0 refl;
+  long = c.if-bytes-lt-HEADER_BYTES.false;
+  spelled = c.if-is_same.ensures.0 refl ∙ c.encode_header.ensures;
+}
+
+pub u32_at-pages-requires : goal.u32_at-pages-requires
+u32_at-pages-requires c = omega (arith, length-take 64 c.args.bytes.now)
