@@ -19,7 +19,7 @@ abbrev pub change_by : ChangeKind → ℕ → ℕ → Change
 change_by kind.Set number after = Set number after
 change_by kind.Add number after = Add number
 
--- what a byte says of a hold
+-- the hold that one of these four names stands for
 abbrev pub hold_by_kept : Kept → Hold
 hold_by_kept kept.Nothing = record { against_sets = false; against_adds = false }
 hold_by_kept kept.Sets = record { against_sets = true; against_adds = false }
