@@ -101,6 +101,11 @@ check_commands() {
     (cd "$work" && "$program" restore -- -log master > out 2> err < /dev/null)
     status=$?
     check_fault "E30 BadHeader" "restore -- -log master"
+    # A folder without a name is none, and not the current one.
+    (cd "$work" && "$program" run --save= --pages=1 > out 2> err < /dev/null)
+    status=$?
+    check_fault "E29 WriteFault 0" "run --save="
+    [ ! -e "$work/log" ] || fail "run --save=: there is a log"
 }
 
 # check_fault LINE NAME: the run that has just ended gave this line, status 2 and no output.

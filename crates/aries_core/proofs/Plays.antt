@@ -9,7 +9,7 @@ use Rattle.aries_core.specs.declared.refusal.Refusal.{Refusal}
 use Rattle.aries_core.specs.declared.refusal.Refusal.TheVariants.{CommitUnsure, LogFault, StoreFault}
 use Rattle.aries_core.specs.EngineState.{EngineState}
 use Rattle.aries_core.specs.Run.{Run}
-use Rattle.aries_core.specs.Step.{IsByDevice, IsByStore, IsFaultReply, Step}
+use Rattle.aries_core.specs.Step.{EachTellsOfFault, IsByDevice, IsByStore, IsFaultReply, Step, TellsOfFault}
 
 -- ---- one step more
 
@@ -46,14 +46,10 @@ pub tells_none : (Of : Refusal → Type 0) (start now : ℕ) → now ≡ start �
 tells_none Of start now same = inl (record { sound = All-nil (IsSound Of); same = same })
 
 -- what a step says of the failures
-record Counts (Of : Refusal → Type 0) (old : ℕ) (reply : Result Answer Refusal) (new : ℕ) : Type 0 where
-  sound : IsSound Of reply → new ≡ old
-  fault : IsFaultReply Of reply → old < new
-
 counts : (Of : Refusal → Type 0) {D : Type 0} (failures : D → ℕ) (old new : D) (reply : Result Answer Refusal)
     → IfErr reply (λ why. ¬ Of why → new ≡ old) → OnOk reply (failures new ≡ failures old)
     → IfErr reply (λ why. Of why → failures old < failures new)
-    → Counts Of (failures old) reply (failures new)
+    → TellsOfFault Of (failures old) reply (failures new)
 counts Of failures old new (Ok answer) refused no_failure cause =
     record { sound = λ h. no_failure; fault = λ h. absurd h }
 counts Of failures old new (Err why) refused no_failure cause =
@@ -80,7 +76,7 @@ any_more Of replies reply (k, x, lt, is, bad) =
 
 tells_next : (Of : Refusal → Type 0) (start old new : ℕ) (replies : List (Result Answer Refusal))
     (reply : Result Answer Refusal) → IsFaultReply Of reply ⊎ IsSound Of reply → Tells Of start replies old
-    → Counts Of old reply new → Tells Of start (replies ++ reply ∷ []) new
+    → TellsOfFault Of old reply new → Tells Of start (replies ++ reply ∷ []) new
 tells_next Of start old new replies reply (inr sound) (inl so_far) one = inl (record {
   sound = All-push (IsSound Of) replies reply so_far.sound sound;
   same = one.sound sound ∙ so_far.same;
@@ -121,3 +117,23 @@ pub more_if_fault : (Of : Refusal → Type 0) (start now : ℕ) (replies : List 
     → Tells Of start replies now → Any (IsFaultReply Of) replies → start < now
 more_if_fault Of start now replies (inl none) fault = absurd (not_both Of replies none.sound fault)
 more_if_fault Of start now replies (inr some) fault = some.more
+
+-- ---- each call for itself
+
+each_next : (Of : Refusal → Type 0) (start old new : ℕ) (replies : List (Result Answer Refusal))
+    (reply : Result Answer Refusal) → EachTellsOfFault Of start replies old → TellsOfFault Of old reply new
+    → EachTellsOfFault Of start (replies ++ reply ∷ []) new
+each_next Of start old new [] reply is one =
+    (new, subst (λ before. TellsOfFault Of before reply new) is one, refl)
+each_next Of start old new (first ∷ replies) reply so_far one =
+    (so_far.0, so_far.1, each_next Of so_far.0 old new replies reply so_far.2 one)
+
+pub each_push : (Of : Refusal → Type 0) {D : Type 0} (failures : D → ℕ) (start : ℕ) (old new : D)
+    (replies : List (Result Answer Refusal)) (reply : Result Answer Refusal)
+    → EachTellsOfFault Of start replies (failures old)
+    → IfErr reply (λ why. ¬ Of why → new ≡ old) → OnOk reply (failures new ≡ failures old)
+    → IfErr reply (λ why. Of why → failures old < failures new)
+    → EachTellsOfFault Of start (replies ++ reply ∷ []) (failures new)
+each_push Of failures start old new replies reply so_far refused no_failure cause =
+    each_next Of start (failures old) (failures new) replies reply so_far
+    (counts Of failures old new reply refused no_failure cause)

@@ -1,6 +1,6 @@
 -- One call of the engine: what it may answer, and what stands after it.
 use Rattle.std.specs.Prelude.{ℕ, ◌≡◌, ◌<◌, ◌≤◌, ◌⊎◌, Some, None, IsSomeAnd, Result, Ok}
-use Rattle.std.specs.Prelude.{Err}
+use Rattle.std.specs.Prelude.{Err, List, [], ◌∷◌}
 use Rattle.log_records.specs.Log.{lsn_of}
 use Rattle.log_history.specs.Checkpoint.{open_checkpoint}
 use Rattle.log_store.specs.WrittenLog.{end_up_to}
@@ -119,3 +119,16 @@ LeavesStore other = Unit {0}
 abbrev pub IsFaultReply : (Refusal → Type 0) → Result Answer Refusal → Type 0
 IsFaultReply IsOfKind (Ok answer) = ⊥
 IsFaultReply IsOfKind (Err why) = IsOfKind why
+
+-- so many failures before a call, and so many after it: more just where its reply tells of one
+pub record TellsOfFault (IsOfKind : Refusal → Type 0) (before : ℕ) (reply : Result Answer Refusal)
+    (after : ℕ) : Type 0 where
+  pub sound : ¬ IsFaultReply IsOfKind reply → after ≡ before
+  pub fault : IsFaultReply IsOfKind reply → before < after
+
+-- the same of each call of a run, one after another
+abbrev pub EachTellsOfFault : (Refusal → Type 0) → ℕ → List (Result Answer Refusal) → ℕ → Type 0
+EachTellsOfFault IsOfKind before [] after = after ≡ before
+EachTellsOfFault IsOfKind before (reply ∷ replies) after =
+    (next : ℕ) × TellsOfFault IsOfKind before reply next
+    × EachTellsOfFault IsOfKind next replies after

@@ -7,7 +7,8 @@ ghost use Rattle.aries_core.specs.Accepted.{accepted};
 ghost use Rattle.aries_core.specs.Catalogue.{catalogue, entry_of};
 ghost use Rattle.aries_core.specs.EngineState.{IsFit, new_state};
 ghost use Rattle.aries_core.specs.Run.{Run};
-ghost use Rattle.aries_core.specs.Step.{IsByDevice, IsByStore, IsFaultReply};
+ghost use Rattle.aries_core.specs.Step.{EachTellsOfFault, IsByDevice, IsByStore};
+ghost use Rattle.aries_core.specs.Step.{IsFaultReply};
 ghost use Rattle.aries_core.specs.Written.{written_by};
 ghost use Rattle.page_core.specs.Volume.{formatted_pages};
 
@@ -53,7 +54,9 @@ pub fn play<S: PageStore + Drop, D: LogDevice + Drop>(
         ≡ catalogue setup.pages events.now it.replies.items) }
     ensures fit { IfOk result (λ it. IsFit it.engine.state) }
 
-    // A reply tells of a fault of the device just where there was one.
+    // A reply tells of a fault of the device just where there was one in its call.
+    ensures told { IfOk result (λ it. EachTellsOfFault IsByDevice
+        (D.failures device) it.replies.items (D.failures it.engine.device)) }
     ensures no_failure { IfOk result (λ it.
         All (λ reply. ¬ IsFaultReply IsByDevice reply) it.replies.items
         → D.failures it.engine.device ≡ D.failures device) }
@@ -61,6 +64,8 @@ pub fn play<S: PageStore + Drop, D: LogDevice + Drop>(
         → D.failures device < D.failures it.engine.device) }
 
     // And of the store.
+    ensures store_told { IfOk result (λ it. EachTellsOfFault IsByStore
+        (S.failures store) it.replies.items (S.failures it.engine.store)) }
     ensures no_store_failure { IfOk result (λ it.
         All (λ reply. ¬ IsFaultReply IsByStore reply) it.replies.items
         → S.failures it.engine.store ≡ S.failures store) }

@@ -6,6 +6,9 @@ ghost use Rattle.copy_vault.specs.Archive.{IsArchived, SpellsCopy, archive_bytes
 ghost use Rattle.copy_vault.specs.ArchiveFault.{HasFault};
 ghost use Rattle.copy_vault.specs.declared.archive_fault.ArchiveFault.{ArchiveFault};
 
+use crate::copy_id::MAX_COPIES;
+use crate::header::{FULL, HEADER_BYTES, INC};
+
 /// Two different copies have different spellings.
 pub fn copies_are_spelled_apart()
     ensures { (a b : CopyView) → IsArchived a → IsArchived b
@@ -21,4 +24,13 @@ pub fn an_archive_has_no_fault()
 /// No bytes have two faults.
 pub fn bytes_have_one_fault()
     ensures { (bytes : List ℕ) (a b : ArchiveFault) → HasFault bytes a → HasFault bytes b → a ≡ b }
+{}
+
+/// The numbers of an archive: the bytes of its header, and the two kinds of a copy. And how many
+/// copies may be begun.
+pub fn archives_have_these_numbers()
+    ensures header { HEADER_BYTES ≡ 64 }
+    ensures full { FULL ≡ 1 }
+    ensures inc { INC ≡ 2 }
+    ensures copies { MAX_COPIES ≡ 1024 }
 {}

@@ -21,7 +21,10 @@ mod vault;
 mod write;
 
 pub use archive_fault::{ArchiveFault, ArchiveWriteFault};
-pub use archive_laws::{an_archive_has_no_fault, bytes_have_one_fault, copies_are_spelled_apart};
+pub use archive_laws::{
+    an_archive_has_no_fault, archives_have_these_numbers, bytes_have_one_fault,
+    copies_are_spelled_apart,
+};
 pub use chain::Chain;
 pub use chain_fault::ChainFault;
 pub use complete::CompleteCopy;

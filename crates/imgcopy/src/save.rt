@@ -98,8 +98,11 @@ fn save_copy<R: Files>(
     }
 }
 
-/// Makes a file of this name in a folder.
+/// Makes a file of this name in a folder. A folder without a name is none, and not the current one.
 fn made<R: Files>(rt: &R, alloc: Global, folder: &str, name: &str) -> Result<R::File, SaveFault> {
+    if folder.is_empty() {
+        return Err(SaveFault::WriteFault(0));
+    }
     let path = Path::new(folder).join(alloc, name)?;
     fs::create(rt, path.as_path()).map_err(|_| SaveFault::WriteFault(0))
 }

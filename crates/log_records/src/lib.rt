@@ -23,7 +23,10 @@ pub use coverage_laws::{
 };
 pub use dirty_page::{DirtyPage, DirtyPages};
 pub use header::{encode_header, page_count};
-pub use laws::{logs_are_spelled_apart, records_are_spelled_apart};
+pub use laws::{
+    kinds_have_these_numbers, logs_are_spelled_apart, logs_have_these_numbers,
+    records_are_spelled_apart,
+};
 pub use limits::{HEADER_BYTES, MAX_LOG_BYTES, MAX_OPEN, MAX_RECORDS, RECORD_BYTES};
 pub use page_change::PageChange;
 pub use place::{named_slot, record_at};

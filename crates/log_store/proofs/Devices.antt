@@ -1,5 +1,5 @@
 -- The first bytes of a device, which stay.
-use Rattle.std.proofs.Common.{◌≡◌, ℕ, ◌≤◌, List, ◌++◌, length, take, refl, sym, ap, ◌∙◌, arith}
+use Rattle.std.proofs.Common.{◌≡◌, ℕ, ◌+◌, ◌≤◌, List, ◌++◌, length, take, refl, sym, ap, ◌∙◌, arith}
 use Rattle.std.proofs.lemmas.List.{length-append, length-take, take_at, take-take}
 use Rattle.log_store.specs.Device.{KeepsFirst}
 
@@ -16,6 +16,13 @@ keeps_stored n from old new tail place long stored =
       there = omega (arith, ap length stored, length-append (take from old) tail);
       same = ap (take n) stored ∙ take_at (take from old) tail n front ∙ ap (λ k. take k old) place;
     }
+
+-- so it has as many bytes
+pub length_stored : (n from : ℕ) (old new tail : List ℕ) → from ≡ n → n ≤ length old → new ≡ take from old ++ tail
+    → length new ≡ n + length tail
+length_stored n from old new tail place long stored =
+    let front : length (take from old) ≡ n = omega (arith, length-take from old) in
+    omega (arith, ap length stored, length-append (take from old) tail)
 
 -- more of them stayed later
 pub keeps_longer : (m n : ℕ) (old mid new : List ℕ) → m ≤ n → KeepsFirst m old mid → KeepsFirst n mid new

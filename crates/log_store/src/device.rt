@@ -1,6 +1,6 @@
 //! What a log is kept on: stable storage, in the words of ARIES.
 
-ghost use Rattle.std.specs.Prelude.{ℕ, ◌≡◌, ◌<◌, ◌≤◌, ◌++◌, List, length, take, OnOk, OnErr};
+ghost use Rattle.std.specs.Prelude.{ℕ, ◌≡◌, ◌+◌, ◌<◌, ◌≤◌, ◌++◌, List, length, take, OnOk, OnErr};
 ghost use Rattle.log_store.specs.Device.{KeepsFirst};
 
 use std::error::Error;
@@ -11,7 +11,10 @@ pub trait LogDevice {
     /// What is on the device.
     ghost bytes: { Self → List ℕ };
 
-    /// How often the device has failed: a number that contracts alone see. It has no last value.
+    /// How often `store` was called: a number that contracts alone see. It has no last value.
+    ghost calls: { Self → ℕ };
+
+    /// How often the device has failed, which is such a number too.
     ghost failures: { Self → ℕ };
 
     /// Puts these bytes in the place of all that the device has from an offset on.
@@ -24,6 +27,7 @@ pub trait LogDevice {
         ensures stored { OnOk result (bytes self.new ≡ take from (bytes self.old) ++ next.now) }
         ensures kept { OnErr result (KeepsFirst from (bytes self.old) (bytes self.new)) }
 
+        ensures called { calls self.new ≡ calls self.old + 1 }
         ensures no_failure { OnOk result (failures self.new ≡ failures self.old) }
         ensures failure { OnErr result (failures self.old < failures self.new) };
 }

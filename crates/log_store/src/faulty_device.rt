@@ -48,6 +48,8 @@ impl FaultyDevice {
 impl LogDevice for FaultyDevice {
     ghost bytes = { λ faulty. faulty.memory.bytes };
 
+    ghost calls = { λ faulty. faulty.memory.calls };
+
     ghost failures = { λ faulty. faulty.memory.failures };
 
     /// An `Err` comes at the call that is to fail, and where a store would pass the room of the

@@ -1,13 +1,20 @@
-//! A law of faults, for those who read the contracts.
+//! Laws of faults and of formats, for those who read the contracts.
 
-ghost use Rattle.std.specs.Prelude.{ℕ, List};
+ghost use Rattle.std.specs.Prelude.{ℕ, ◌≡◌, List};
 ghost use Rattle.log_records.specs.Log.{Log, SpellsLog};
 ghost use Rattle.log_history.specs.Linked.{IsLinked};
 ghost use Rattle.log_store.specs.declared.fault.LogReadFault.{LogReadFault};
 ghost use Rattle.log_store.specs.Fault.{HasFault};
 
+use crate::master::MASTER_BYTES;
+
 /// The spelling of a linked log has no fault.
 pub fn spelled_logs_have_no_fault()
     ensures { (log : Log) (bytes : List ℕ) → SpellsLog log bytes → IsLinked log.records
         → (fault : LogReadFault) → ¬ HasFault bytes fault }
+{}
+
+/// A master record has so many bytes.
+pub fn masters_have_this_length()
+    ensures { MASTER_BYTES ≡ 64 }
 {}

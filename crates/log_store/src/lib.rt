@@ -1,6 +1,7 @@
 //! The reading of a whole log, a log that is written, and the master record.
 #![tactic(auto)]
 
+mod calls;
 mod device;
 mod fault;
 mod faulty_device;
@@ -16,7 +17,7 @@ mod sink;
 pub use device::{DeviceFault, LogDevice};
 pub use fault::LogReadFault;
 pub use faulty_device::FaultyDevice;
-pub use laws::spelled_logs_have_no_fault;
+pub use laws::{masters_have_this_length, spelled_logs_have_no_fault};
 pub use log::Log;
 pub use log_image::LogImage;
 pub use master::{MASTER_BYTES, Master, decode_master, encode_master, masters_are_spelled_apart};

@@ -3,9 +3,9 @@
 ghost use Rattle.std.specs.Prelude.{◌≡◌, ◌+◌, ◌*◌, ◌≤◌, [], length, IfOk};
 ghost use Rattle.log_store.specs.MemDevice.{Stores, empty_memory, after_failure};
 
+use crate::calls::Calls;
 use crate::device::{DeviceFault, LogDevice};
 use log_records::{HEADER_BYTES, RECORD_BYTES};
-use page_core::Failures;
 use std::alloc::{AllocError, Global};
 use std::marker::Model;
 
@@ -14,13 +14,13 @@ use std::marker::Model;
 pub struct MemDevice {
     bytes: Vec<u8>,
     room: usize,
-    failures: Failures,
+    calls: Calls,
 }
 
 impl Model for MemDevice {
     ghost use Rattle.std.specs.Prelude.{◌≤◌, vec_len};
     ghost use Rattle.std.specs.Vec.{vec_capacity};
-    ghost use Rattle.page_core.specs.Failures.{failure_count};
+    ghost use Rattle.log_store.specs.Calls.{call_count, failed_count};
     ghost use Rattle.log_store.specs.MemDevice.{Memory};
 
     ghost Value = { Memory };
@@ -28,7 +28,8 @@ impl Model for MemDevice {
     ghost view = { λ device. record {
       bytes = device.bytes.items;
       room = device.room;
-      failures = failure_count device.failures;
+      calls = call_count device.calls;
+      failures = failed_count device.calls;
     } };
 
     ghost invariant = { λ device.
@@ -48,7 +49,7 @@ impl MemDevice {
         Ok(MemDevice {
             bytes: Vec::with_capacity(alloc, room)?,
             room,
-            failures: Failures::None,
+            calls: Calls::None,
         })
     }
 
@@ -59,17 +60,19 @@ impl MemDevice {
         &self.bytes
     }
 
-    /// A failure. What is on the device stays.
+    /// A call that fails. What is on the device stays.
     pub(crate) fn fail(&mut self) -> DeviceFault
         ensures { self.new ≡ after_failure self.old }
     {
-        self.failures.add_one();
+        self.calls.add_failed();
         DeviceFault
     }
 }
 
 impl LogDevice for MemDevice {
     ghost bytes = { λ device. device.bytes };
+
+    ghost calls = { λ device. device.calls };
 
     ghost failures = { λ device. device.failures };
 
@@ -86,6 +89,7 @@ impl LogDevice for MemDevice {
         self.bytes.truncate(from);
         // There is room for these bytes, so this takes no memory.
         self.bytes.extend_from_slice(next).unwrap();
+        self.calls.add_done();
         Ok(())
     }
 }

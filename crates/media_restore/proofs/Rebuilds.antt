@@ -1,12 +1,14 @@
 -- A restore from its load to its undo, after the events that an engine was given.
 use Rattle.std.proofs.Common.{◌≡◌, ℕ, ◌+◌, ◌<◌, ◌≤◌, List, length, map, refl, sym, ap, subst, ◌∙◌, arith}
-use Rattle.std.specs.Prelude.{Option, None, Result, IfErr, IfOk, OnOk}
+use Rattle.std.specs.Prelude.{Option, None, Some, Result, IfErr, IfOk, OnOk}
+use Rattle.std.specs.Option.{option_map}
 use Rattle.std.proofs.Math.Seq.{take-length}
 use Rattle.log_records.specs.declared.limits.TheConstants.{MAX_RECORDS}
 use Rattle.log_records.specs.declared.record.Record.{Record}
 use Rattle.log_records.specs.Log.{Log}
 use Rattle.log_history.specs.Transactions.{owed}
 use Rattle.log_history.specs.Work.{work}
+use Rattle.log_store.specs.declared.master.Master.{Master}
 use Rattle.copy_vault.specs.Vault.{CopyState, complete, dropped, reading, state_of}
 use Rattle.copy_coverage.specs.Kept.{IsKeptOf}
 use Rattle.copy_coverage.specs.Retired.{HasRoom, RetiredView}
@@ -18,7 +20,7 @@ use Rattle.aries_core.specs.declared.event.Event.{Event}
 use Rattle.aries_core.specs.declared.refusal.Refusal.{Refusal}
 use Rattle.aries_core.specs.Accepted.{accepted}
 use Rattle.aries_core.specs.Catalogue.{Entry, catalogue, entry_at, entry_of}
-use Rattle.aries_core.specs.EngineState.{EngineState, log_of, new_state}
+use Rattle.aries_core.specs.EngineState.{EngineState, log_of, master_record, new_state}
 use Rattle.aries_core.specs.Run.{Run}
 use Rattle.aries_core.proofs.Catalogues.{entry_is}
 use Rattle.aries_core.proofs.Commits.{commits_are_kept}
@@ -61,12 +63,15 @@ pub rebuilt_of : (pages : ℕ) (events : List Event) (copy cut : ℕ) (replies :
     (outcome : Result Recovery Refused) (e : EngineState) (left : RetiredView) → Run (new_state pages) events replies e
     → work e.log ≡ accepted events replies → map entry_of e.copies ≡ catalogue pages events replies
     → left.log ≡ log_of e → left.forced_end ≡ e.forced_end → left.copies ≡ e.copies
+    → left.master ≡ option_map master_record e.master
     → OnOk outcome (load_refusal left copy cut ≡ None)
     → IfErr outcome (RestoreRefuses (load_refusal left copy cut))
     → OnOk outcome (IsKeptOf left.log left.forced_end (kept_log left.log cut))
     → IfOk outcome (IsRestored (kept_log left.log cut))
+    → IfOk outcome (λ it. left.master ≡ Some it.master)
     → IsRebuilt pages events copy cut replies outcome e
-rebuilt_of pages events copy cut replies outcome e left run shown told same_log same_end same_copies ok err kept done =
+rebuilt_of pages events copy cut replies outcome e left run shown told same_log same_end same_copies same_master ok err
+    kept done mastered =
     let entries = catalogue pages events replies in
     let refusal : load_refusal left copy cut ≡ restore_refusal entries e.forced_end (length e.log) copy cut =
     refused_by left entries copy cut (ap (map entry_of) same_copies ∙ told)
@@ -81,4 +86,5 @@ rebuilt_of pages events copy cut replies outcome e left run shown told same_log 
       kept = subst (λ (end : ℕ). OnOk outcome (IsKeptOf (log_of e) end (kept_log (log_of e) cut))) same_end
           (subst (λ (log : Log). OnOk outcome (IsKeptOf log left.forced_end (kept_log log cut))) same_log kept);
       restored = subst (λ (log : Log). IfOk outcome (IsRestored (kept_log log cut))) same_log done;
+      master = subst (λ (m : Option Master). IfOk outcome (λ it. m ≡ Some it.master)) same_master mastered;
     }

@@ -1,6 +1,7 @@
 -- A restore from its load to its undo, and a list of events with a restore after it.
 use Rattle.std.specs.Prelude.{ℕ, ◌≡◌, List, length, Option, Some, None, Result, IfOk, IfErr, OnOk}
 use Rattle.std.specs.List.{All}
+use Rattle.std.specs.Option.{option_map}
 use Rattle.log_records.specs.Image.{redo_all}
 use Rattle.log_records.specs.Log.{Log}
 use Rattle.log_history.specs.Work.{work}
@@ -16,7 +17,7 @@ use Rattle.aries_core.specs.Accepted.{accepted}
 use Rattle.aries_core.specs.AnsweredCommits.{StandsIn, answered_commits}
 use Rattle.aries_core.specs.Catalogue.{Entry, being_read, is_complete, was_dropped}
 use Rattle.aries_core.specs.Catalogue.{catalogue, entry_at}
-use Rattle.aries_core.specs.EngineState.{EngineState, log_of, new_state}
+use Rattle.aries_core.specs.EngineState.{EngineState, log_of, master_record, new_state}
 use Rattle.aries_core.specs.Run.{Run}
 use Rattle.media_restore.specs.declared.fault.LoadFault.{LoadFault}
 use Rattle.media_restore.specs.declared.fault.LoadFault.TheVariants as load
@@ -94,3 +95,5 @@ pub record IsRebuilt (pages : ℕ) (events : List Event) (copy cut : ℕ)
   pub kept : OnOk outcome (IsKeptOf (log_of e) e.forced_end (kept_log (log_of e) cut))
   -- and the volume is restored of it
   pub restored : IfOk outcome (IsRestored (kept_log (log_of e) cut))
+  -- with the master record that the engine left
+  pub master : IfOk outcome (λ it. option_map master_record e.master ≡ Some it.master)

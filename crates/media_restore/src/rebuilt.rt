@@ -6,7 +6,8 @@ ghost use Rattle.copy_coverage.specs.Kept.{IsKeptOf};
 ghost use Rattle.copy_coverage.specs.Retired.{HasRoom};
 ghost use Rattle.loser_undo.specs.Recovery.{IsWhole};
 ghost use Rattle.aries_core.specs.EngineState.{EngineState};
-ghost use Rattle.aries_core.specs.Step.{IsByDevice, IsByStore, IsFaultReply};
+ghost use Rattle.aries_core.specs.Step.{EachTellsOfFault, IsByDevice, IsByStore};
+ghost use Rattle.aries_core.specs.Step.{IsFaultReply};
 ghost use Rattle.page_core.specs.Volume.{formatted_pages};
 ghost use Rattle.media_restore.specs.Load.{kept_log, load_refusal};
 ghost use Rattle.media_restore.specs.Rebuild.{IsRebuilt, IsRestored, RestoreRefuses};
@@ -51,7 +52,11 @@ pub fn rebuild<S: PageStore + Drop, D: LogDevice + Drop>(
     ensures rebuilt { IfOk result (λ it. (e : EngineState)
         × IsRebuilt setup.pages events.now copy cut it.replies.items it.outcome e) }
 
-    // A reply tells of a fault of the device, or of the store, only where there was one.
+    // A reply tells of a fault of the device, or of the store, just where there was one in its call.
+    ensures told { IfOk result (λ it. (left : D) × EachTellsOfFault IsByDevice
+        (D.failures device) it.replies.items (D.failures left)) }
+    ensures store_told { IfOk result (λ it. (left : S) × EachTellsOfFault IsByStore
+        (S.failures store) it.replies.items (S.failures left)) }
     ensures failure { IfOk result (λ it. Any (IsFaultReply IsByDevice) it.replies.items
         → (left : D) × (D.failures device < D.failures left)) }
     ensures store_failure { IfOk result (λ it. Any (IsFaultReply IsByStore) it.replies.items

@@ -18,6 +18,7 @@ pub use input::{MAX_TURNS, Turn, keep_from, read_more};
 pub use numbers::{LSN_STEP, Lsn, PageNo, SlotNo, TxnNo};
 pub use output::write_out;
 pub use page::{
-    BadPage, MAX_PAGES, PAGE_BYTES, Page, SLOTS, pages_are_spelled_apart, volumes_are_spelled_apart,
+    BadPage, MAX_PAGES, PAGE_BYTES, Page, SLOTS, pages_are_spelled_apart, pages_have_these_numbers,
+    volumes_are_spelled_apart,
 };
 pub use volume::formatted_pages;

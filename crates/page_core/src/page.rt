@@ -62,6 +62,15 @@ pub fn volumes_are_spelled_apart()
         → volume_bytes a ≡ volume_bytes b → a ≡ b }
 {}
 
+/// The numbers of a page and of a volume, as the formats of logs and archives have them too.
+pub fn pages_have_these_numbers()
+    ensures slots { SLOTS ≡ 62 }
+    ensures bytes { PAGE_BYTES ≡ 512 }
+    ensures format { FORMAT ≡ 1 }
+    ensures pages { MAX_PAGES ≡ 65536 }
+    ensures lsn_step { LSN_STEP ≡ 64 }
+{}
+
 impl Page {
     /// The page as a new volume has it: LSN 0, and 0 in each slot.
     #[tactic(auto, unfolding(crate::specs::Page::formatted))]

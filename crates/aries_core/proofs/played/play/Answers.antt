@@ -6,7 +6,7 @@ use Rattle.aries_core.specs.Step.{IsByDevice, IsByStore}
 use Rattle.aries_core.proofs.Calls.{work_of_run}
 use Rattle.aries_core.proofs.Catalogues.{copies_of_run}
 use Rattle.aries_core.proofs.PageLaws.{written_of_run}
-use Rattle.aries_core.proofs.Plays.{by_device, by_store, run_push, tells_push}
+use Rattle.aries_core.proofs.Plays.{by_device, by_store, each_push, run_push, tells_push}
 use Rattle.aries_core.proofs.played.play.Goals as goal
 
 pub loop-event-preserved : goal.loop-event-preserved
@@ -31,6 +31,12 @@ loop-event-preserved g c =
           c.apply.ensures.refused c.apply.ensures.no_failure c.apply.ensures.cause);
       store_tells = rw items (tells_push IsByStore by_store g.S.PageStore.failures (g.S.PageStore.failures c.args.store)
           c.loop-event.engine.store c.apply.new.self.store c.loop-event.replies.items c.apply.result so_far.store_tells
+          c.apply.ensures.store_refused c.apply.ensures.no_store_failure c.apply.ensures.store_cause);
+      told = rw items (each_push IsByDevice g.D.LogDevice.failures (g.D.LogDevice.failures c.args.device)
+          c.loop-event.engine.device c.apply.new.self.device c.loop-event.replies.items c.apply.result so_far.told
+          c.apply.ensures.refused c.apply.ensures.no_failure c.apply.ensures.cause);
+      store_told = rw items (each_push IsByStore g.S.PageStore.failures (g.S.PageStore.failures c.args.store)
+          c.loop-event.engine.store c.apply.new.self.store c.loop-event.replies.items c.apply.result so_far.store_told
           c.apply.ensures.store_refused c.apply.ensures.no_store_failure c.apply.ensures.store_cause);
     }
 

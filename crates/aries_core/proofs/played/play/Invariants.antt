@@ -2,7 +2,7 @@ use Rattle.std.proofs.Common.{◌≡◌, ◌≤◌, length, take, vec_len}
 use Rattle.std.specs.Vec.{vec_capacity}
 use Rattle.aries_core.specs.EngineState.{new_state}
 use Rattle.aries_core.specs.Run.{Run}
-use Rattle.aries_core.specs.Step.{IsByDevice, IsByStore}
+use Rattle.aries_core.specs.Step.{EachTellsOfFault, IsByDevice, IsByStore}
 use Rattle.aries_core.proofs.Plays.{Tells}
 use Rattle.aries_core.proofs.played.play.Given as goal
 
@@ -14,5 +14,9 @@ invariant-loop-event g l = record {
   tells : Tells IsByDevice (g.D.LogDevice.failures l.fn.device) l.replies.items
       (g.D.LogDevice.failures l.engine.device);
   store_tells : Tells IsByStore (g.S.PageStore.failures l.fn.store) l.replies.items
+      (g.S.PageStore.failures l.engine.store);
+  told : EachTellsOfFault IsByDevice (g.D.LogDevice.failures l.fn.device) l.replies.items
+      (g.D.LogDevice.failures l.engine.device);
+  store_told : EachTellsOfFault IsByStore (g.S.PageStore.failures l.fn.store) l.replies.items
       (g.S.PageStore.failures l.engine.store);
 }

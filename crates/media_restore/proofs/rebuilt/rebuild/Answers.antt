@@ -10,7 +10,7 @@ returns-clause-rebuilt g c =
       played.engine.state,
       rebuilt_of c.args.setup.pages c.args.events.now c.args.copy c.args.cut played.replies.items
           c.recover-outcome.result played.engine.state c.retire.result kept.run kept.work kept.catalogue left.log
-          left.forced_end left.copies came.ok came.err came.kept came.restored,
+          left.forced_end left.copies left.master came.ok came.err came.kept came.restored came.master,
     )
 
 pub returns-clause-failure : goal.returns-clause-failure
@@ -20,3 +20,9 @@ returns-clause-failure g c =
 pub returns-clause-store_failure : goal.returns-clause-store_failure
 returns-clause-store_failure g c =
     λ told. (c.in_ok-replies.field-0.engine.store, c.in_ok-replies.ensures.store_failure told)
+
+pub returns-clause-told : goal.returns-clause-told
+returns-clause-told g c = (c.in_ok-replies.field-0.engine.device, c.in_ok-replies.ensures.told)
+
+pub returns-clause-store_told : goal.returns-clause-store_told
+returns-clause-store_told g c = (c.in_ok-replies.field-0.engine.store, c.in_ok-replies.ensures.store_told)

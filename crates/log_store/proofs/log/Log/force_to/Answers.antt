@@ -16,6 +16,9 @@ loop-init g c =
       rising = omega arith;
       most = omega arith;
       stands = keeps_all (lsn_of it.forced) (bytes it.device) long;
+      nothing_more = λ more. absurd (omega (arith, more));
+      idle = λ same. refl;
+      called = refl;
       no_failure = refl;
     })
 
@@ -33,5 +36,8 @@ loop-preserved g c =
       rising = omega (arith, next.forced, so_far.rising);
       most = omega (arith, next.forced, so_far.forced);
       stands = keeps_longer _ _ _ _ _ so_far.rising so_far.stands next.stands;
+      nothing_more = λ more. next.nothing_more;
+      idle = λ same. absurd (omega (arith, same, next.forced, so_far.rising));
+      called = omega (arith, next.called, next.forced, so_far.called);
       no_failure = next.no_failure ∙ so_far.no_failure;
     }

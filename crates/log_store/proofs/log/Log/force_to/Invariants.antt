@@ -1,4 +1,4 @@
-use Rattle.std.proofs.Common.{◌≡◌, ◌≤◌, max}
+use Rattle.std.proofs.Common.{◌≡◌, ◌+◌, ◌*◌, ◌<◌, ◌≤◌, length, max}
 use Rattle.log_store.specs.Device.{KeepsFirst}
 use Rattle.log_records.specs.Log.{lsn_of}
 use Rattle.log_store.proofs.log.Log.force_to.Given as goal
@@ -11,5 +11,10 @@ invariant-loop g l = record {
   most : l.self.forced_end ≤ max l.initial.self.forced_end (lsn_of l.count);
   stands : KeepsFirst l.initial.self.forced_end (g.D.LogDevice.bytes l.initial.self.device)
       (g.D.LogDevice.bytes l.self.device);
+  nothing_more : l.initial.self.forced_end < l.self.forced_end
+      → length (g.D.LogDevice.bytes l.self.device) ≡ l.self.forced_end;
+  idle : l.self.forced_end ≡ l.initial.self.forced_end → l.self.device ≡ l.initial.self.device;
+  called : l.self.forced_end + 64 * g.D.LogDevice.calls l.initial.self.device
+      ≡ l.initial.self.forced_end + 64 * g.D.LogDevice.calls l.self.device;
   no_failure : g.D.LogDevice.failures l.self.device ≡ g.D.LogDevice.failures l.initial.self.device;
 }
