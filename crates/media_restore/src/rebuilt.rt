@@ -52,7 +52,7 @@ pub fn rebuild<S: PageStore + Drop, D: LogDevice + Drop>(
     ensures rebuilt { IfOk result (λ it. (e : EngineState)
         × IsRebuilt setup.pages events.now copy cut it.replies.items it.outcome e) }
 
-    // A reply tells of a fault of the device, or of the store, just where there was one in its call.
+    // A reply tells of a fault of the device or the store just where there was one in its call.
     ensures told { IfOk result (λ it. (left : D) × EachTellsOfFault IsByDevice
         (D.failures device) it.replies.items (D.failures left)) }
     ensures store_told { IfOk result (λ it. (left : S) × EachTellsOfFault IsByStore
