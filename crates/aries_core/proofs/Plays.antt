@@ -1,15 +1,19 @@
 -- A run that goes on by one step, and what its replies tell of the device.
-use Rattle.std.proofs.Common.{◌≡◌, ◌⊎◌, ℕ, ◌<◌, ◌++◌, List, [], ◌∷◌, refl, ap, subst, ◌∙◌, arith, inl, inr}
+use Rattle.std.proofs.Common.{◌≡◌, ◌⊎◌, ℕ, ◌+◌, ◌<◌, ◌≤◌, ◌++◌, List, [], ◌∷◌, length, refl, ap, subst, ◌∙◌, arith}
+use Rattle.std.proofs.Common.{inl, inr}
 use Rattle.std.specs.Prelude.{Result, Ok, Err, All, Any, IfErr, OnOk}
+use Rattle.std.proofs.lemmas.List.{length_push}
 use Rattle.std.proofs.lemmas.List.Elements.{All-nil, All-push, Contains-append_left}
 use Rattle.std.proofs.lemmas.List.Quantifiers.{Any-push}
 use Rattle.aries_core.specs.declared.event.Answer.{Answer}
 use Rattle.aries_core.specs.declared.event.Event.{Event}
 use Rattle.aries_core.specs.declared.refusal.Refusal.{Refusal}
 use Rattle.aries_core.specs.declared.refusal.Refusal.TheVariants.{CommitUnsure, LogFault, StoreFault}
-use Rattle.aries_core.specs.EngineState.{EngineState}
+use Rattle.log_records.specs.Log.{lsn_of}
+use Rattle.aries_core.specs.EngineState.{EngineState, end, new_state}
 use Rattle.aries_core.specs.Run.{Run}
 use Rattle.aries_core.specs.Step.{EachTellsOfFault, IsByDevice, IsByStore, IsFaultReply, Step, TellsOfFault}
+use Rattle.aries_core.proofs.Steps.{stays_or_grows}
 
 -- ---- one step more
 
@@ -137,3 +141,42 @@ pub each_push : (Of : Refusal → Type 0) {D : Type 0} (failures : D → ℕ) (s
 each_push Of failures start old new replies reply so_far refused no_failure cause =
     each_next Of start (failures old) (failures new) replies reply so_far
     (counts Of failures old new reply refused no_failure cause)
+
+-- ---- a device that has room for a record of each event
+
+step_adds : (old : EngineState) (event : Event) (reply : Result Answer Refusal) (new : EngineState)
+    → Step old event reply new → length new.log ≤ length old.log + 1
+step_adds old event reply new step = elim (stays_or_grows old event reply new step) [
+  | inl stays ↦ omega (arith, ap length stays.log)
+  | inr grows ↦ omega (arith, ap length grows.log, length_push old.log grows.r)
+]
+
+run_adds : (old : EngineState) (events : List Event) (replies : List (Result Answer Refusal)) (new : EngineState)
+    → Run old events replies new → length new.log ≤ length old.log + length events
+run_adds old [] [] new is = omega (arith, ap (λ (s : EngineState). length s.log) is)
+run_adds old (event ∷ events) (reply ∷ replies) new run =
+    omega (arith, step_adds old event reply run.0 run.1, run_adds run.0 events replies new run.2)
+run_adds old [] (reply ∷ replies) new run = absurd run
+run_adds old (event ∷ events) [] new run = absurd run
+
+-- a log of fewer records ends before the bound from which on the device fails, now as at the start
+pub within_push : (pages n start now : ℕ) (events : List Event) (replies : List (Result Answer Refusal))
+    (old : EngineState) (event : Event) (reply : Result Answer Refusal) (new : EngineState)
+    → Run (new_state pages) events replies old → Step old event reply new → length events < n → now ≡ start
+    → IfErr reply (λ why. IsByDevice why → now ≤ end new) → (lsn_of n < start → All (IsSound IsByDevice) replies)
+    → lsn_of n < start → All (IsSound IsByDevice) (replies ++ reply ∷ [])
+within_push pages n start now events replies old event reply new run step within same past so_far fits =
+    All-push (IsSound IsByDevice) replies reply (so_far fits) (sound_here reply past)
+  where
+    few : length new.log ≤ n
+    few = omega (
+      arith,
+      run_adds (new_state pages) events replies old run,
+      step_adds old event reply new step,
+      within,
+    )
+
+    sound_here : (reply : Result Answer Refusal) → IfErr reply (λ why. IsByDevice why → now ≤ end new)
+        → IsSound IsByDevice reply
+    sound_here (Ok answer) past = λ h. h
+    sound_here (Err why) past = λ h. absurd (omega (arith, past h, few, fits, same))

@@ -82,6 +82,9 @@ impl<S: PageStore + Drop, D: LogDevice + Drop> Engine<S, D> {
         ensures no_failure { IfOk result (λ it. D.failures it.device ≡ D.failures device) }
         ensures cause { IfErr result (λ why. why ≡ PlayFault.LogFault
             → (left : D) × (D.failures device < D.failures left)) }
+        ensures same_bound { IfOk result (λ it. D.fails_from it.device ≡ D.fails_from device) }
+        ensures past_bound { IfErr result (λ why. why ≡ PlayFault.LogFault
+            → D.fails_from device ≤ 64) }
     {
         let Ok(pool) = Pool::new(alloc, store) else {
             return Err(PlayFault::OutOfMemory);
@@ -112,6 +115,9 @@ impl<S: PageStore, D: LogDevice> Engine<S, D> {
             (D.failures self.new.device ≡ D.failures self.old.device) }
         ensures cause { IfErr result (λ why. IsByDevice why
             → D.failures self.old.device < D.failures self.new.device) }
+        ensures same_bound { D.fails_from self.new.device ≡ D.fails_from self.old.device }
+        ensures past_bound { IfErr result (λ why. IsByDevice why
+            → D.fails_from self.old.device ≤ end self.new.state) }
 
         ensures store { LeavesStore event → self.new.store ≡ self.old.store }
         ensures store_refused { IfErr result (λ why. ¬ IsByStore why
@@ -248,6 +254,9 @@ impl<S: PageStore, D: LogDevice> Engine<S, D> {
             (D.failures self.new.device ≡ D.failures self.old.device) }
         ensures cause { IfErr result (λ why. IsUnsure why
             → D.failures self.old.device < D.failures self.new.device) }
+        ensures same_bound { D.fails_from self.new.device ≡ D.fails_from self.old.device }
+        ensures past_bound { IfErr result (λ why. IsUnsure why
+            → D.fails_from self.old.device ≤ end self.new.state) }
     {
         let prev = self.find_active(txn)?;
         let lsn = self.log.end();
@@ -311,6 +320,8 @@ impl<S: PageStore, D: LogDevice> Engine<S, D> {
         ensures no_failure { OnOk result
             (D.failures self.new.device ≡ D.failures self.old.device) }
         ensures cause { OnErr result (D.failures self.old.device < D.failures self.new.device) }
+        ensures same_bound { D.fails_from self.new.device ≡ D.fails_from self.old.device }
+        ensures past_bound { OnErr result (D.fails_from self.old.device ≤ end self.new.state) }
     {
         match self.force_log() {
             Ok(()) => Ok(self.log.end()),
@@ -335,6 +346,8 @@ impl<S: PageStore, D: LogDevice> Engine<S, D> {
             (D.failures self.new.device ≡ D.failures self.old.device) }
         ensures cause { OnErr result
             (D.failures self.old.device < D.failures self.new.device) }
+        ensures same_bound { D.fails_from self.new.device ≡ D.fails_from self.old.device }
+        ensures past_bound { OnErr result (D.fails_from self.old.device ≤ end self.new.state) }
     {
         self.log.force()
     }

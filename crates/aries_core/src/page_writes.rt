@@ -1,6 +1,7 @@
 //! The calls of the engine that write a page to its store in two steps.
 
-ghost use Rattle.std.specs.Prelude.{◌≡◌, ◌<◌, Some, None, IfErr, OnOk};
+ghost use Rattle.std.specs.Prelude.{◌≡◌, ◌<◌, ◌≤◌, Some, None, IfErr, OnOk};
+ghost use Rattle.aries_core.specs.EngineState.{end};
 ghost use Rattle.aries_core.specs.Refusal.{refusal};
 ghost use Rattle.aries_core.specs.Step.{IsByDevice, IsByStore, Step, reply_of};
 ghost use Rattle.aries_core.specs.declared.event.Answer.TheVariants as answer;
@@ -29,6 +30,9 @@ impl<S: PageStore, D: LogDevice> Engine<S, D> {
             (D.failures self.new.device ≡ D.failures self.old.device) }
         ensures cause { IfErr result (λ why. IsByDevice why
             → D.failures self.old.device < D.failures self.new.device) }
+        ensures same_bound { D.fails_from self.new.device ≡ D.fails_from self.old.device }
+        ensures past_bound { IfErr result (λ why. IsByDevice why
+            → D.fails_from self.old.device ≤ end self.new.state) }
     {
         self.find_dirty(page)?;
         let Ok(image) = self.pool.image_of(page) else {

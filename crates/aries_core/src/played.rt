@@ -1,7 +1,7 @@
 //! Plays a list of calls.
 
-ghost use Rattle.std.specs.Prelude.{◌≡◌, ◌<◌, ◌≤◌, All, Any, IfOk, IfErr, map};
-ghost use Rattle.log_records.specs.Log.{IsPageCount};
+ghost use Rattle.std.specs.Prelude.{◌≡◌, ◌<◌, ◌≤◌, All, Any, IfOk, IfErr, length, map};
+ghost use Rattle.log_records.specs.Log.{IsPageCount, lsn_of};
 ghost use Rattle.log_history.specs.Work.{work};
 ghost use Rattle.aries_core.specs.Accepted.{accepted};
 ghost use Rattle.aries_core.specs.Catalogue.{catalogue, entry_of};
@@ -63,6 +63,10 @@ pub fn play<S: PageStore + Drop, D: LogDevice + Drop>(
     ensures failure { IfOk result (λ it. Any (IsFaultReply IsByDevice) it.replies.items
         → D.failures device < D.failures it.engine.device) }
 
+    // And none does where the device has room for a record of each event.
+    ensures within_bound { IfOk result (λ it. lsn_of (length events.now) < D.fails_from device
+        → All (λ reply. ¬ IsFaultReply IsByDevice reply) it.replies.items) }
+
     // And of the store.
     ensures store_told { IfOk result (λ it. EachTellsOfFault IsByStore
         (S.failures store) it.replies.items (S.failures it.engine.store)) }
@@ -74,6 +78,8 @@ pub fn play<S: PageStore + Drop, D: LogDevice + Drop>(
 
     ensures cause { IfErr result (λ why. why ≡ PlayFault.LogFault
         → (left : D) × (D.failures device < D.failures left)) }
+    ensures header_fits { IfErr result (λ why. why ≡ PlayFault.LogFault
+        → D.fails_from device ≤ 64) }
 {
     let mut replies = match Vec::with_capacity(alloc, events.len()) {
         Ok(replies) => replies,

@@ -261,6 +261,9 @@ impl Ckpt<Gathered> {
         ensures no_failure { OnOk result (D.failures log.new.device ≡ D.failures log.old.device) }
         ensures cause { IfErr result (λ why. IsLogFault why
             → D.failures log.old.device < D.failures log.new.device) }
+        ensures same_bound { D.fails_from log.new.device ≡ D.fails_from log.old.device }
+        ensures past_bound { IfErr result (λ why. IsLogFault why
+            → D.fails_from log.old.device ≤ end_of log.new.log.records) }
         ensures valid { IsLog log.new.log }
     {
         let lsn = end_of(log);

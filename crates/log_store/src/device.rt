@@ -17,6 +17,10 @@ pub trait LogDevice {
     /// How often the device has failed, which is such a number too.
     ghost failures: { Self → ℕ };
 
+    /// Where its stores may fail: none that ends before this offset does. It never changes, and is
+    /// 0 where any store may fail.
+    ghost fails_from: { Self → ℕ };
+
     /// Puts these bytes in the place of all that the device has from an offset on.
     ///
     /// An `Err` comes where the device fails, and of nothing else. The bytes before the offset
@@ -29,7 +33,10 @@ pub trait LogDevice {
 
         ensures called { calls self.new ≡ calls self.old + 1 }
         ensures no_failure { OnOk result (failures self.new ≡ failures self.old) }
-        ensures failure { OnErr result (failures self.old < failures self.new) };
+        ensures failure { OnErr result (failures self.old < failures self.new) }
+
+        ensures same_bound { fails_from self.new ≡ fails_from self.old }
+        ensures past_bound { OnErr result (fails_from self.old ≤ from + length next.now) };
 }
 
 /// The device failed. `LogDevice::store` says what is on it then.

@@ -52,6 +52,8 @@ impl LogDevice for FaultyDevice {
 
     ghost failures = { λ faulty. faulty.memory.failures };
 
+    ghost fails_from = { λ _. 0 };
+
     /// An `Err` comes at the call that is to fail, and where a store would pass the room of the
     /// device in memory. It leaves the bytes as they were. The call takes no memory.
     fn store(&mut self, from: u64, next: &[u8]) -> Result<(), DeviceFault>

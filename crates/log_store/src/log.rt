@@ -57,6 +57,9 @@ impl<D: LogDevice> Log<D> {
         ensures no_failure { IfOk result (λ it. D.failures it.device ≡ D.failures device) }
         ensures one_call { IfErr result (λ e. D.calls e.1 ≡ D.calls device + 1) }
         ensures failure { IfErr result (λ e. D.failures device < D.failures e.1) }
+
+        ensures same_bound { IfOk result (λ it. D.fails_from it.device ≡ D.fails_from device) }
+        ensures past_bound { OnErr result (D.fails_from device ≤ 64) }
     {
         match device.store(0, &encode_header(pages)) {
             Ok(()) => Ok(Log {
@@ -121,6 +124,10 @@ impl<D: LogDevice> Log<D> {
         ensures last_call { OnErr result (self.new.forced_end + 64 * (D.calls self.old.device + 1)
             ≡ self.old.forced_end + 64 * D.calls self.new.device) }
         ensures failure { OnErr result (D.failures self.old.device < D.failures self.new.device) }
+
+        ensures same_bound { D.fails_from self.new.device ≡ D.fails_from self.old.device }
+        ensures past_bound { OnErr result (D.fails_from self.old.device
+            ≤ end_up_to self.old.log lsn) }
     {
         let count = self.records.len().min((lsn.0 / 64) as usize);
         for _ in self.forced..count {
@@ -150,6 +157,10 @@ impl<D: LogDevice> Log<D> {
         ensures last_call { OnErr result (self.new.forced_end + 64 * (D.calls self.old.device + 1)
             ≡ self.old.forced_end + 64 * D.calls self.new.device) }
         ensures failure { OnErr result (D.failures self.old.device < D.failures self.new.device) }
+
+        ensures same_bound { D.fails_from self.new.device ≡ D.fails_from self.old.device }
+        ensures past_bound { OnErr result (D.fails_from self.old.device
+            ≤ lsn_of (length self.old.log.records)) }
     {
         let end = offset_of(self.records.len());
         let done = self.force_to(Lsn(end));
@@ -240,6 +251,9 @@ impl<D: LogDevice> Log<D> {
         ensures no_failure { OnOk result (D.failures self.new.device ≡ D.failures self.old.device) }
         ensures not_forced { OnErr result (self.new.forced_end ≡ self.old.forced_end) }
         ensures failure { OnErr result (D.failures self.old.device < D.failures self.new.device) }
+        ensures same_bound { D.fails_from self.new.device ≡ D.fails_from self.old.device }
+        ensures past_bound { OnErr result (D.fails_from self.old.device
+            ≤ self.old.forced_end + 64) }
     {
         let next = encode(&self.records[self.forced]);
         self.device.store(offset_of(self.forced), &next)?;

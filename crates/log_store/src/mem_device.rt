@@ -76,6 +76,8 @@ impl LogDevice for MemDevice {
 
     ghost failures = { λ device. device.failures };
 
+    ghost fails_from = { λ device. device.room + 1 };
+
     /// An `Err` comes where the store would pass the room. It leaves the bytes as they were. The
     /// call takes no memory.
     fn store(&mut self, from: u64, next: &[u8]) -> Result<(), DeviceFault>

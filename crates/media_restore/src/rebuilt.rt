@@ -1,7 +1,8 @@
 //! A restore from its load to its undo, and a list of events with the restore after it.
 
-ghost use Rattle.std.specs.Prelude.{◌≡◌, ◌<◌, ◌≤◌, Any, IfErr, IfOk, OnOk, None, Some};
-ghost use Rattle.log_records.specs.Log.{IsPageCount};
+ghost use Rattle.std.specs.Prelude.{◌≡◌, ◌<◌, ◌≤◌, All, Any, IfErr, IfOk, OnOk, length, None};
+ghost use Rattle.std.specs.Prelude.{Some};
+ghost use Rattle.log_records.specs.Log.{IsPageCount, lsn_of};
 ghost use Rattle.copy_coverage.specs.Kept.{IsKeptOf};
 ghost use Rattle.copy_coverage.specs.Retired.{HasRoom};
 ghost use Rattle.loser_undo.specs.Recovery.{IsWhole};
@@ -62,8 +63,14 @@ pub fn rebuild<S: PageStore + Drop, D: LogDevice + Drop>(
     ensures store_failure { IfOk result (λ it. Any (IsFaultReply IsByStore) it.replies.items
         → (left : S) × (S.failures store < S.failures left)) }
 
+    // And none of the device does where this has room for a record of each event.
+    ensures within_bound { IfOk result (λ it. lsn_of (length events.now) < D.fails_from device
+        → All (λ reply. ¬ IsFaultReply IsByDevice reply) it.replies.items) }
+
     ensures cause { IfErr result (λ why. why ≡ PlayFault.LogFault
         → (left : D) × (D.failures device < D.failures left)) }
+    ensures header_fits { IfErr result (λ why. why ≡ PlayFault.LogFault
+        → D.fails_from device ≤ 64) }
 {
     let Played { replies, engine } = play(alloc, setup, store, device, events)?;
     let outcome = recover(alloc, engine.retire(), copy, cut);

@@ -1,3 +1,4 @@
+mod Faultless
 mod Groups
 mod Runs
 mod Slots

@@ -10,7 +10,7 @@ use Rattle.event_script.specs.Read.{IsText}
 use Rattle.event_script.specs.Script.{said_in}
 use Rattle.event_script.specs.Words.{lines_of}
 use Rattle.script_run.specs.declared.run_fault.RunFault.{RunFault}
-use Rattle.script_run.specs.declared.run_fault.RunFault.TheVariants.{Script, OutOfMemory, LogFault, WriteFault}
+use Rattle.script_run.specs.declared.run_fault.RunFault.TheVariants.{Script, OutOfMemory, WriteFault}
 use Rattle.script_run.specs.ReplyLines.{reply_lines}
 use Rattle.script_run.specs.Run.{FailedUnread, IsScript, LeavesPart, Plays, RunLeaves}
 
@@ -32,7 +32,6 @@ not_written pages input old new replies left last (WriteFault done) plays leaves
   within = leaves.0;
   written = leaves.1;
 }
-not_written pages input old new replies left last LogFault plays leaves = absurd leaves
 not_written pages input old new replies left last (Script fault) plays leaves = absurd leaves
 
 -- a fault of writing is none of reading
@@ -40,5 +39,4 @@ pub was_read : (bytes : List ℕ) (old new before after : Option (List ℕ)) (fa
     → LeavesPart bytes old new fault → FailedUnread before after fault
 was_read bytes old new before after OutOfMemory leaves = tt
 was_read bytes old new before after (WriteFault done) leaves = tt
-was_read bytes old new before after LogFault leaves = tt
 was_read bytes old new before after (Script fault) leaves = absurd leaves

@@ -1,5 +1,6 @@
 -- A script that is played: what its lines say, what the engine answers, and what it leaves.
-use Rattle.std.specs.Prelude.{ℕ, ◌≡◌, ◌<◌, List, length, take, Option, Some, IfSome, Result}
+use Rattle.std.specs.Prelude.{ℕ, ◌≡◌, ◌<◌, All, List, length, take, Option, Some, IfSome}
+use Rattle.std.specs.Prelude.{Result}
 use Rattle.std.specs.Io.KnownBytes.{Appends, Keeps}
 use Rattle.copy_coverage.specs.Retired.{RetiredView}
 use Rattle.aries_core.specs.declared.event.Answer.{Answer}
@@ -7,12 +8,13 @@ use Rattle.aries_core.specs.declared.event.Event.{Event}
 use Rattle.aries_core.specs.declared.refusal.Refusal.{Refusal}
 use Rattle.aries_core.specs.EngineState.{EngineState, new_state}
 use Rattle.aries_core.specs.Run.{Run}
+use Rattle.aries_core.specs.Step.{IsByDevice, IsByStore, IsFaultReply}
 use Rattle.event_script.specs.declared.script.LastRestore.{LastRestore}
 use Rattle.event_script.specs.Read.{GaveNoFault, IsText, Refuses}
 use Rattle.event_script.specs.Script.{said_in}
 use Rattle.event_script.specs.Words.{lines_of}
 use Rattle.script_run.specs.declared.run_fault.RunFault.{RunFault}
-use Rattle.script_run.specs.declared.run_fault.RunFault.TheVariants.{Script, OutOfMemory, LogFault}
+use Rattle.script_run.specs.declared.run_fault.RunFault.TheVariants.{Script, OutOfMemory}
 use Rattle.script_run.specs.declared.run_fault.RunFault.TheVariants.{WriteFault}
 use Rattle.script_run.specs.Left.{IsLeftBy}
 use Rattle.script_run.specs.ReplyLines.{reply_lines}
@@ -23,14 +25,20 @@ pub record IsScript (events : List Event) (last : Option LastRestore)
   pub text : IsText input
   pub said : said_in (lines_of input) ≡ Some (events, last)
 
--- a new engine with so many pages plays a script with these replies, and leaves this, and this
--- restore is left to do
+-- a reply that tells of no fault of the log's device, and of none of the page store
+pub record IsFaultless (reply : Result Answer Refusal) : Type 0 where
+  pub device : ¬ IsFaultReply IsByDevice reply
+  pub store : ¬ IsFaultReply IsByStore reply
+
+-- a new engine with so many pages plays a script with these replies, of which none tells of a
+-- fault, and leaves this, and this restore is left to do
 pub record Plays (pages : ℕ) (input : Option (List ℕ)) (replies : List (Result Answer Refusal))
     (left : RetiredView) (last : Option LastRestore) : Type 0 where
   pub events : List Event
   pub state : EngineState
   pub script : IfSome input (IsScript events last)
   pub run : Run (new_state pages) events replies state
+  pub faultless : All IsFaultless replies
   pub left_by : IsLeftBy state left
 
 -- and the lines of the replies were written
@@ -62,7 +70,6 @@ abbrev pub RunLeaves : ℕ → Option (List ℕ) → Option (List ℕ) → Optio
 RunLeaves pages input old new (Script fault) =
     IfSome input (λ input. Refuses input fault) × Keeps old new
 RunLeaves pages input old new OutOfMemory = Keeps old new
-RunLeaves pages input old new LogFault = Keeps old new
 RunLeaves pages input old new (WriteFault done) = RunsInPart pages input old new done
 
 -- where the reader of the script failed, what it gave until then is not too long

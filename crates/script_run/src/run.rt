@@ -9,7 +9,7 @@ ghost use Rattle.script_run.specs.Run.{FailedUnread, LeavesPart, RunLeaves, Runs
 use crate::memory_play::play_in_memory;
 use crate::reply_lines::reply_lines;
 use crate::run_fault::RunFault;
-use aries_core::{PlayFault, Reply, Setup};
+use aries_core::{Reply, Setup};
 use copy_coverage::Retired;
 use event_script::{LastRestore, read_script};
 use page_core::write_out;
@@ -27,11 +27,12 @@ pub struct Ran {
 
 /// Reads a script to its end, plays it on a new engine whose store and log are in memory, and
 /// writes a line for each reply. A refused call is a reply too. The log has room for a record for
-/// each event. The last restore of the script is not done here.
+/// each event, so no reply tells of a fault of the log's device, and none of one of the store. The
+/// last restore of the script is not done here.
 ///
 /// All faults but those of the writer come before the first line is written: those of the script as
-/// `read_script` has them, `OutOfMemory` where memory for the engine or for the lines is refused,
-/// and `LogFault` where the log's device fails at the header. The writer is not flushed.
+/// `read_script` has them, and `OutOfMemory` where memory for the engine or for the lines is
+/// refused. The writer is not flushed.
 pub fn run_script<R: Read, W: Write>(
     alloc: Global,
     setup: Setup,
@@ -51,10 +52,8 @@ pub fn run_script<R: Read, W: Write>(
         Ok(script) => script,
         Err(fault) => return Err(RunFault::Script(fault)),
     };
-    let (replies, retired) = match play_in_memory(alloc, setup, &script.events) {
-        Ok(played) => played,
-        Err(PlayFault::OutOfMemory) => return Err(RunFault::OutOfMemory),
-        Err(PlayFault::LogFault) => return Err(RunFault::LogFault),
+    let Ok((replies, retired)) = play_in_memory(alloc, setup, &script.events) else {
+        return Err(RunFault::OutOfMemory);
     };
     if let Err(fault) = write_replies(alloc, &replies, writer) {
         return Err(fault);

@@ -11,8 +11,6 @@ pub enum RunFault {
     Script(ScriptFault),
     /// Memory ran out. Nothing was written.
     OutOfMemory,
-    /// The log's device failed to store the header. Nothing was written.
-    LogFault,
     /// The writer failed, took nothing, or was interrupted 17 times in a row. So many bytes of the
     /// replies' lines went out, the first ones.
     WriteFault(u64),
@@ -28,7 +26,6 @@ impl fmt::Display for RunFault {
         match self {
             RunFault::Script(fault) => write!(f, "{fault}"),
             RunFault::OutOfMemory => write!(f, "E1 OutOfMemory"),
-            RunFault::LogFault => write!(f, "E23 LogFault"),
             RunFault::WriteFault(done) => write!(f, "E29 WriteFault {done}"),
         }
     }

@@ -1,12 +1,12 @@
 use Rattle.std.proofs.Common.{◌≡◌, ◌<◌, ◌+◌, length, [], ◌∷◌, ◌++◌, arith, take, take_all, subst, sym, ap, ◌∙◌}
-use Rattle.std.proofs.lemmas.List.{take_more}
+use Rattle.std.proofs.lemmas.List.{length-take, take_more}
 use Rattle.aries_core.specs.declared.event.Event.{Event}
 use Rattle.aries_core.specs.EngineState.{IsFit, EngineView, new_state}
 use Rattle.aries_core.specs.Step.{IsByDevice, IsByStore}
 use Rattle.aries_core.proofs.Calls.{work_of_run}
 use Rattle.aries_core.proofs.Catalogues.{copies_of_run}
 use Rattle.aries_core.proofs.PageLaws.{written_of_run}
-use Rattle.aries_core.proofs.Plays.{by_device, by_store, each_push, run_push, tells_push}
+use Rattle.aries_core.proofs.Plays.{by_device, by_store, each_push, run_push, tells_push, within_push}
 use Rattle.aries_core.proofs.played.play.Goals as goal
 
 pub loop-event-preserved : goal.loop-event-preserved
@@ -38,6 +38,11 @@ loop-event-preserved g c =
       store_told = rw items (each_push IsByStore g.S.PageStore.failures (g.S.PageStore.failures c.args.store)
           c.loop-event.engine.store c.apply.new.self.store c.loop-event.replies.items c.apply.result so_far.store_told
           c.apply.ensures.store_refused c.apply.ensures.no_store_failure c.apply.ensures.store_cause);
+      bound = c.apply.ensures.same_bound ∙ so_far.bound;
+      within_bound = rw items (within_push c.args.setup.pages (length events) (g.D.LogDevice.fails_from c.args.device)
+          (g.D.LogDevice.fails_from c.loop-event.engine.device) (take i events) c.loop-event.replies.items
+          c.loop-event.engine.state event c.apply.result c.apply.new.self.state so_far.run c.apply.ensures.step
+          (omega (arith, length-take i events)) so_far.bound c.apply.ensures.past_bound so_far.within_bound);
     }
 
 pub returns-clause-work : goal.returns-clause-work

@@ -1,8 +1,10 @@
-use Rattle.std.proofs.Common.{◌≡◌, ◌≤◌, length, take, vec_len}
+use Rattle.std.proofs.Common.{◌≡◌, ◌<◌, ◌≤◌, length, take, vec_len}
+use Rattle.std.specs.Prelude.{All}
 use Rattle.std.specs.Vec.{vec_capacity}
+use Rattle.log_records.specs.Log.{lsn_of}
 use Rattle.aries_core.specs.EngineState.{new_state}
 use Rattle.aries_core.specs.Run.{Run}
-use Rattle.aries_core.specs.Step.{EachTellsOfFault, IsByDevice, IsByStore}
+use Rattle.aries_core.specs.Step.{EachTellsOfFault, IsByDevice, IsByStore, IsFaultReply}
 use Rattle.aries_core.proofs.Plays.{Tells}
 use Rattle.aries_core.proofs.played.play.Given as goal
 
@@ -19,4 +21,7 @@ invariant-loop-event g l = record {
       (g.D.LogDevice.failures l.engine.device);
   store_told : EachTellsOfFault IsByStore (g.S.PageStore.failures l.fn.store) l.replies.items
       (g.S.PageStore.failures l.engine.store);
+  bound : g.D.LogDevice.fails_from l.engine.device ≡ g.D.LogDevice.fails_from l.fn.device;
+  within_bound : lsn_of (length l.events) < g.D.LogDevice.fails_from l.fn.device
+      → All (λ reply. ¬ IsFaultReply IsByDevice reply) l.replies.items;
 }

@@ -20,6 +20,7 @@ loop-init g c =
       idle = λ same. refl;
       called = refl;
       no_failure = refl;
+      same_bound = refl;
     })
 
 pub returns-in_err-force_next-clause-stands : goal.returns-in_err-force_next-clause-stands
@@ -40,4 +41,5 @@ loop-preserved g c =
       idle = λ same. absurd (omega (arith, same, next.forced, so_far.rising));
       called = omega (arith, next.called, next.forced, so_far.called);
       no_failure = next.no_failure ∙ so_far.no_failure;
+      same_bound = next.same_bound ∙ so_far.same_bound;
     }

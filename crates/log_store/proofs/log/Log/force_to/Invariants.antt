@@ -17,4 +17,5 @@ invariant-loop g l = record {
   called : l.self.forced_end + 64 * g.D.LogDevice.calls l.initial.self.device
       ≡ l.initial.self.forced_end + 64 * g.D.LogDevice.calls l.self.device;
   no_failure : g.D.LogDevice.failures l.self.device ≡ g.D.LogDevice.failures l.initial.self.device;
+  same_bound : g.D.LogDevice.fails_from l.self.device ≡ g.D.LogDevice.fails_from l.initial.self.device;
 }
