@@ -14,6 +14,7 @@ use Rattle.log_history.specs.declared.pending_change.PendingChange.{PendingChang
 use Rattle.log_history.specs.Checkpoint.{Checkpoint, IsCompleteCheckpoint, open_checkpoint}
 use Rattle.log_history.specs.Linked.{IsLinked, MayFollow}
 use Rattle.log_history.specs.Transactions.{last_of, pending}
+use Rattle.copy_coverage.proofs.Points.{redo_before_end}
 use Rattle.fuzzy_ckpt.specs.declared.point.Point.{Point}
 use Rattle.fuzzy_ckpt.proofs.Covers.{all_later, all_written, behind_later, behind_written}
 use Rattle.fuzzy_ckpt.proofs.Opens.{ckpt_kept, open_same}
@@ -197,19 +198,6 @@ complete_later rs r begin end is = record {
   ended = ap (λ (xs : List Record). xs ++ r ∷ []) is.ended ∙ append_assoc is.before _ (r ∷ []);
   begun = is.begun;
 }
-
--- the redo point of a complete checkpoint lies before its end
-pub redo_before_end : (log : Log) (begin end : ℕ) (is : IsCompleteCheckpoint log.records begin end) → IsLog log
-    → is.redo < end
-redo_before_end log begin end is valid =
-    let rs = log.records in
-    let k = length is.before in
-    let r = EndChkpt end begin is.redo in
-    let there : k < length rs = omega (arith, ap length is.ended, length-append is.before (r ∷ is.behind)) in
-    let at : get_or rs k r ≡ r = ap (λ (xs : List Record). get_or xs k r) is.ended
-    ∙ get_or_at is.before r is.behind r k refl in
-    let stands = subst (StandsAt log.pages (lsn_of k)) at (valid.records k r there) in
-    stands.valid.2.earlier
 
 pub master_later : (log : Log) (r : Record) (stored : List Page) (forced_end : ℕ) (master : Option Point) → IsLog log
     → own_lsn r ≡ lsn_of (length log.records) → forced_end ≤ lsn_of (length log.records)

@@ -16,11 +16,13 @@ use Rattle.log_history.specs.Transactions.{last_of, pending}
 use Rattle.fuzzy_ckpt.specs.declared.point.Point.{Point}
 use Rattle.copy_vault.specs.declared.copy_id.CopyKind.{CopyKind}
 use Rattle.copy_vault.specs.declared.copy_id.CopyKind.TheVariants.{Full, Inc}
+use Rattle.copy_vault.specs.declared.copy_id.TheConstants.{MAX_COPIES}
 use Rattle.copy_vault.specs.Copy.{CopyView}
 use Rattle.copy_vault.specs.Vault.{CopyState, HasParent, complete, decided, dropped, opened, state_of}
-use Rattle.copy_coverage.specs.Copied.{AreCopied, copy_in}
+use Rattle.copy_coverage.specs.Copied.{AreCopied, IsPoint, copy_in}
 use Rattle.copy_coverage.proofs.Copied.{copied_decided, copied_dropped, copied_forced, copied_later, copied_opened}
 use Rattle.copy_coverage.proofs.Copied.{copied_sealed, copied_stored}
+use Rattle.copy_coverage.proofs.Points.{point_of, redo_before_end}
 use Rattle.aries_core.specs.declared.event.Answer.{Answer}
 use Rattle.aries_core.specs.declared.event.Event.{Event}
 use Rattle.aries_core.specs.declared.event.Event.TheVariants as event
@@ -31,11 +33,12 @@ use Rattle.aries_core.specs.EngineState.{stored_page, with_copies}
 use Rattle.aries_core.specs.EventFits.{EventFits}
 use Rattle.aries_core.specs.Refusal.{refusal}
 use Rattle.aries_core.specs.Step.{Fails, Step}
-use Rattle.aries_core.proofs.Beside.{Stores, StoresNone, StoresOne, redo_before_end, stores}
+use Rattle.aries_core.proofs.Beside.{Stores, StoresNone, StoresOne, stores}
 use Rattle.aries_core.proofs.CkptLaws.{has_point, master_of_step}
 use Rattle.aries_core.proofs.Forces.{Forces}
 use Rattle.aries_core.proofs.Gathers.{ckpt_end_has, closed_part, gather_has}
-use Rattle.aries_core.proofs.Refusals.{drop_passes, full_passes, inc_passes, seal_passes, take_passes}
+use Rattle.aries_core.proofs.Refusals.{drop_passes, full_is_few, full_passes, inc_is_few, inc_passes, seal_passes}
+use Rattle.aries_core.proofs.Refusals.{take_passes}
 use Rattle.aries_core.proofs.Stands.{stands}
 use Rattle.aries_core.proofs.Steps.{Grows, Stays, stored_or_not}
 use Rattle.aries_core.proofs.Writes.{PageStep}
@@ -67,16 +70,25 @@ covered_by s fit None is p d lt = none_below s.log p (get_or s.stored p d) (fit.
 covered_by s fit (Some point) is p d lt =
     (subst (λ (o : Option Point). IfSome o (IsMasterOf s.log s.stored s.forced_end)) is fit.master).covered p d lt
 
-opens : (s : EngineState) (kind : CopyKind) (begin : ℕ) → IsFit s
+noted_by : (s : EngineState) → IsFit s → (master : Option Point) → s.master ≡ master → IsSome master
+    → IsPoint (option_map_or (λ p. p.begin) master 0) (option_map_or (λ p. p.redo) master 0)
+noted_by s fit None is some = cc
+noted_by s fit (Some point) is some =
+    let named = subst (λ (o : Option Point). IfSome o (IsMasterOf s.log s.stored s.forced_end)) is fit.master in
+    subst (IsPoint point.begin) (sym named.same_redo)
+    (point_of (log_of s) point.begin point.end named.complete fit.valid fit.linked)
+
+opens : (s : EngineState) (kind : CopyKind) → IsFit s → length s.copies < MAX_COPIES → IsSome s.master
     → HasParent s.copies (length s.copies + 1) s.pages kind
     → AreCopied s.log s.forced_end s.stored
-    (opened s.copies kind s.pages begin (option_map_or (λ p. p.redo) s.master 0))
-opens s kind begin fit parent =
+    (opened s.copies kind s.pages (option_map_or (λ p. p.begin) s.master 0) (option_map_or (λ p. p.redo) s.master 0))
+opens s kind fit few some parent =
+    let begin = option_map_or (λ p. p.begin) s.master 0 in
     let redo = option_map_or (λ p. p.redo) s.master 0 in
     subst (λ (n : ℕ). HasParent s.copies (length s.copies + 1) n kind
     → AreCopied s.log s.forced_end s.stored (opened s.copies kind n begin redo)) fit.counted.stored
-    (λ has. copied_opened s.log s.forced_end s.stored s.copies kind begin redo fit.copied has
-    (early_redo s fit s.master refl)
+    (λ has. copied_opened s.log s.forced_end s.stored s.copies kind begin redo fit.copied few
+    (noted_by s fit s.master refl some) has (early_redo s fit s.master refl)
     (λ p d lt. covered_by s fit s.master refl p d lt))
     parent
 
@@ -147,11 +159,14 @@ answered old event.CkptGather new fit none is =
     leaves old new _ is (gather_has (λ s. s.copies ≡ old.copies) old refl (λ left. refl) (λ r left. refl))
 answered old event.CkptEnd new fit none is =
     leaves old new _ is (ckpt_end_has (λ s. s.copies ≡ old.copies) old refl (λ c. refl))
-answered old event.CopyFull new fit none is = ChangesCopies _ (opens old Full _ fit tt) (full_passes old none) is
+answered old event.CopyFull new fit none is =
+    let some = full_passes old none in
+    ChangesCopies _ (opens old Full fit (full_is_few old none) some tt) some is
 answered old (event.CopyInc parent) new fit none is =
     let there = inc_passes old parent none in
-    ChangesCopies _ (opens old (Inc parent) _ fit (has_parent old parent fit none))
-    (fit.noted parent there.0 (ap copy_in there.1)) is
+    let some = fit.noted parent there.0 (ap copy_in there.1) in
+    ChangesCopies _ (opens old (Inc parent) fit (inc_is_few old parent none) some (has_parent old parent fit none))
+    some is
 answered old (event.Take copy page) new fit none is =
     let passes = take_passes old copy page none in
     ChangesCopies _ (takes old copy page fit none) (fit.noted copy passes.view (ap copy_in passes.is_read)) is

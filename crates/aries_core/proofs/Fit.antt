@@ -1,5 +1,5 @@
 -- Each engine is fit: a new one, and one after a step.
-use Rattle.std.proofs.Common.{◌≡◌, ℕ, zero, suc, get_or, replicate, ◌+◌, ◌<◌, ◌≤◌, ◌++◌, List, [], ◌∷◌, length, take}
+use Rattle.std.proofs.Common.{lit≤, ◌≡◌, ℕ, zero, suc, get_or, replicate, ◌+◌, ◌<◌, ◌≤◌, ◌++◌, List, [], ◌∷◌, length, take}
 use Rattle.std.proofs.Common.{refl, sym, ap, ◌⊎◌, ◌∙◌, subst, arith, inl, inr}
 use Rattle.std.specs.Prelude.{Option, Result, Some, None}
 use Rattle.std.proofs.lemmas.List.FromFn.{get_or-map-range_with_len, length-map-range_with_len}
@@ -181,6 +181,7 @@ not_reading copy e = cc
 
 no_copies : (s : EngineState) → AreCopied s.log s.forced_end s.stored []
 no_copies s = record {
+  few = lit≤ tt;
   each = λ id copy is. absurd (none_some copy (ap copy_in (sym (no_copy id)) ∙ is));
   read = λ id copy is. absurd (not_reading copy (sym (no_copy id) ∙ is));
   covered = λ id copy older is. absurd (none_some copy (ap copy_in (sym (no_copy id)) ∙ is));

@@ -1,7 +1,7 @@
 -- What an event that is not refused has passed.
 use Rattle.std.proofs.Common.{◌≡◌, ℕ, ◌+◌, ◌<◌, ◌≤◌, ◌⊎◌, Bool, true, false, ◌&&◌, not, length, refl, sym, ap, ◌∙◌, inl}
 use Rattle.std.proofs.Common.{inr}
-use Rattle.std.specs.Prelude.{Option, Some, None, IsSome, is_none, is_some, nat_le}
+use Rattle.std.specs.Prelude.{Option, Some, None, IsSome, is_none, is_some, nat_le, nat_lt, List, if◌then◌else◌}
 use Rattle.std.specs.Option.{option_map, option_or}
 use Rattle.std.proofs.lemmas.Option.{cond_some, same_Some}
 use Rattle.std.proofs.lemmas.Bool.{not-false, leb-false, ltb-false, ltb-true}
@@ -14,6 +14,7 @@ use Rattle.log_history.specs.Checkpoint.{Checkpoint, open_checkpoint}
 use Rattle.log_history.specs.Transactions.{holder, is_open, is_rolling, open_in, owed}
 use Rattle.fuzzy_ckpt.specs.declared.point.Point.{Point}
 use Rattle.copy_vault.specs.declared.fault.CopyFault.{CopyFault}
+use Rattle.copy_vault.specs.declared.copy_id.TheConstants.{MAX_COPIES}
 use Rattle.copy_vault.specs.declared.fault.CopyFault.TheVariants as fault
 use Rattle.copy_vault.specs.Copy.{CopyView}
 use Rattle.copy_vault.specs.Vault.{CopyState, complete, complete_refusal, drop_refusal, dropped, open_refusal, reading}
@@ -411,11 +412,29 @@ or_none : (a b : Option CopyFault) → option_or a b ≡ None → a ≡ None
 or_none None b none = refl
 or_none (Some f) b none = cc
 
+or_none_next : (a b : Option CopyFault) → option_or a b ≡ None → b ≡ None
+or_none_next None b none = none
+or_none_next (Some f) b none = absurd (cc)
+
+few_ids : (copies : List CopyState) → open_refusal copies ≡ None → length copies < MAX_COPIES
+few_ids copies none = by_test (nat_lt (length copies) MAX_COPIES) refl none
+  where
+    by_test : (few : Bool) → nat_lt (length copies) MAX_COPIES ≡ few
+        → (if few then None else Some fault.TooManyCopies) ≡ None → length copies < MAX_COPIES
+    by_test true is e = ltb-true (length copies) MAX_COPIES is
+    by_test false is e = cc
+
 pub inc_passes : (s : EngineState) (parent : ℕ) → refusal s (event.CopyInc parent) ≡ None
     → (c : CopyView) × (state_of s.copies parent ≡ complete c)
 inc_passes s parent none =
     complete_if (state_of s.copies parent)
     (or_none (complete_refusal (state_of s.copies parent)) (open_refusal s.copies) (vault_passes _ none))
+
+pub inc_is_few : (s : EngineState) (parent : ℕ) → refusal s (event.CopyInc parent) ≡ None
+    → length s.copies < MAX_COPIES
+inc_is_few s parent none =
+    few_ids s.copies
+    (or_none_next (complete_refusal (state_of s.copies parent)) (open_refusal s.copies) (vault_passes _ none))
 
 pub record TakePasses (s : EngineState) (copy page : ℕ) : Type 0 where
   pub view : CopyView
@@ -440,3 +459,7 @@ master_if (Some point) e = refl
 pub full_passes : (s : EngineState) → refusal s event.CopyFull ≡ None → IsSome s.master
 full_passes s none = master_if s.master
     (not_refused _ _ (none_of_both (refused_if (is_none s.master) NoMaster) _ none).0)
+
+pub full_is_few : (s : EngineState) → refusal s event.CopyFull ≡ None → length s.copies < MAX_COPIES
+full_is_few s none =
+    few_ids s.copies (vault_passes _ (none_of_both (refused_if (is_none s.master) NoMaster) _ none).1)

@@ -82,21 +82,28 @@ reaches_content copies p first more lt full follow whole of_vault =
     (walk copies p first [] has.0 more lt of_vault.0
     (subst (λ kind. StandsOn copies kind []) (sym full) refl) (ap (decided_over None) has.1) follow whole.1 of_vault.1)
 
+-- no page of the chain lacks a change below the redo point of its last copy
+pub covered_of_members : (log : Log) (f : ℕ) (copies : List CopyState) (id : ℕ) (members : List CopyView) (p : ℕ)
+    → AreRestorable log f copies → IsChain members → IsChainOf copies id members → p < log.pages
+    → IsCovered log.records f (last_redo members) p (content members p)
+covered_of_members log f copies id members p are chain of_id lt =
+    let first = chain.first in
+    let more = chain.more in
+    let whole = subst (AllByRecursion (λ c. IsComplete c.kind c.pages)) chain.is chain.complete in
+    let of_vault = subst (AllByRecursion (λ c. state_of copies c.id ≡ complete c)) chain.is of_id.of_vault in
+    let count : length first.pages ≡ log.pages = (are.each first.id first of_vault.0).whole in
+    let reach = reaches_content copies p first more (omega arith) chain.full chain.linked whole of_vault in
+    let end : last first more ≡ of_id.last = last_is first more of_id.before of_id.last (sym chain.is ∙ of_id.is) in
+    let state : state_of copies id ≡ complete (last first more) = of_id.of_id ∙ ap complete (sym end) in
+    let redo : last_redo members ≡ (last first more).redo = ap last_redo chain.is ∙ redo_of_last first more in
+    rw (redo, chain.is)
+    (subst (λ (o : Option Page). IfSome o (IsCovered log.records f (last first more).redo p)) reach.has
+    (are.covered id (last first more) reach.older state reach.stands p))
+
 pub restored_of_members : (log : Log) (f : ℕ) (copies : List CopyState) (rest : Log) (id : ℕ)
     (members : List CopyView) (p : ℕ) → IsLog log → AreRestorable log f copies → IsKeptOf log f rest
     → IsChain members → IsChainOf copies id members → p < log.pages
     → resume (content members p) rest.records (last_redo members) ≡ image rest.records p
 restored_of_members log f copies rest id members p valid are crash chain of_id lt =
-    let first = chain.first in
-    let more = chain.more in
-    let whole = subst (AllByRecursion (λ c. IsComplete c.kind c.pages)) chain.is chain.complete in
-    let of_vault = subst (AllByRecursion (λ c. state_of copies c.id ≡ complete c)) chain.is of_id.of_vault in
-    let count : length first.pages ≡ log.pages = are.whole first.id first of_vault.0 in
-    let reach = reaches_content copies p first more (omega arith) chain.full chain.linked whole of_vault in
-    let end : last first more ≡ of_id.last = last_is first more of_id.before of_id.last (sym chain.is ∙ of_id.is) in
-    let state : state_of copies id ≡ complete (last first more) = of_id.of_id ∙ ap complete (sym end) in
-    let redo : last_redo members ≡ (last first more).redo = ap last_redo chain.is ∙ redo_of_last first more in
-    let covered : IsCovered log.records f (last first more).redo p (content (first ∷ more) p) =
-    subst (λ (o : Option Page). IfSome o (IsCovered log.records f (last first more).redo p)) reach.has
-    (are.covered id (last first more) reach.older state reach.stands p) in
-    rw (redo, chain.is) (restored log f rest p (last first more).redo (content (first ∷ more) p) valid crash covered)
+    restored log f rest p (last_redo members) (content members p) valid crash
+    (covered_of_members log f copies id members p are chain of_id lt)

@@ -18,13 +18,15 @@ use Rattle.log_records.specs.Record.{own_lsn}
 use Rattle.log_records.proofs.Coverage.{covers_later}
 use Rattle.copy_vault.specs.declared.copy_id.CopyKind.{CopyKind}
 use Rattle.copy_vault.specs.declared.copy_id.CopyKind.TheVariants.{Full, Inc}
+use Rattle.copy_vault.specs.declared.copy_id.TheConstants.{MAX_COPIES}
 use Rattle.copy_vault.specs.declared.copy_id.Decision.TheVariants.{Taken, Kept}
 use Rattle.copy_vault.specs.Copy.{CopyView, answer_of, decided_by, decision_at, new_copy, undecided, with_decision}
 use Rattle.copy_vault.specs.Vault.{CopyState, HasParent, complete, decided, decided_in, dropped, opened, reading}
 use Rattle.copy_vault.specs.Vault.{redo_of}
 use Rattle.copy_vault.specs.Vault.{sealed, sealed_in, since_of, state_of, with_state, without}
 use Rattle.copy_vault.proofs.Vaults.{GoesOn, goes_on_push, goes_on_set}
-use Rattle.copy_coverage.specs.Copied.{AreCopied, AreRestorable, IsCopyOf, IsCovered, StandsOn, page_in, copy_in}
+use Rattle.copy_coverage.specs.Copied.{AreCopied, AreRestorable, IsCopyOf, IsCovered, IsPoint, StandsOn, page_in}
+use Rattle.copy_coverage.specs.Copied.{copy_in}
 use Rattle.copy_coverage.specs.Copied.{decided_over, page_in}
 
 -- ---- the log goes on
@@ -43,6 +45,7 @@ covered_later rs next f redo p page low is = record {
 pub copied_later : (rs : List Record) (next : Record) (f : ℕ) (stored : List Page) (copies : List CopyState)
     → f ≤ own_lsn next → AreCopied rs f stored copies → AreCopied (rs ++ next ∷ []) f stored copies
 copied_later rs next f stored copies high are = record {
+  few = are.few;
   each = are.each;
   read = λ id copy is p d lt.
       let early = (are.each id copy (ap copy_in is)).early in
@@ -56,10 +59,11 @@ copied_later rs next f stored copies high are = record {
 pub copied_forced : (rs : List Record) (f g : ℕ) (stored : List Page) (copies : List CopyState) → f ≤ g
     → AreCopied rs f stored copies → AreCopied rs g stored copies
 copied_forced rs f g stored copies le are = record {
+  few = are.few;
   each = λ id copy is.
       let here = are.each id copy is in
       let early = here.early in
-      record { whole = here.whole; early = omega arith; parent = here.parent };
+      record { named = here.named; noted = here.noted; whole = here.whole; early = omega arith; parent = here.parent };
   read = are.read;
   covered = λ id copy older is on p.
       if_some (IsCovered rs f copy.redo p) (IsCovered rs g copy.redo p) (page_in (copy ∷ older) p)
@@ -81,6 +85,7 @@ pub copied_stored : (rs : List Record) (f : ℕ) (stored : List Page) (copies : 
     → AreCopied rs f stored copies → n < length stored → IsPast rs n image
     → ((d : Page) → (get_or stored n d).lsn ≤ image.lsn) → AreCopied rs f (set stored n image) copies
 copied_stored rs f stored copies n image are there past newer = record {
+  few = are.few;
   each = λ id copy is.
       let here = are.each id copy is in
       subst (λ (n : ℕ). IsCopyOf n f copies id copy) (sym (length-set stored n image)) here;
@@ -144,14 +149,17 @@ stood_on old new pages on each id (Inc parent) (copy ∷ older) h is =
     )
 
 pub copied_changed : (rs : List Record) (f : ℕ) (stored : List Page) (old new : List CopyState) (id : ℕ)
-    (state : CopyState) → IsChanged old new id state → AreCopied rs f stored old
+    (state : CopyState) → IsChanged old new id state → length new ≤ MAX_COPIES → AreCopied rs f stored old
     → MayStand rs f stored old id state → AreCopied rs f stored new
-copied_changed rs f stored old new id state changed are stands = record {
+copied_changed rs f stored old new id state changed few are stands = record {
+  few = few;
   each = λ j copy is. elim (cases_eq j id) [
     | inl same ↦
         let now : copy_in state ≡ Some copy = ap copy_in (sym changed.here ∙ ap (state_of new) (sym same)) ∙ is in
         let here = stands.each copy now in
         record {
+          named = here.named ∙ sym same;
+          noted = here.noted;
           whole = here.whole;
           early = here.early;
           parent = subst (λ (k : ℕ). HasParent new k (length stored) copy.kind) (sym same)
@@ -160,6 +168,8 @@ copied_changed rs f stored old new id state changed are stands = record {
     | inr other ↦
         let here = are.each j copy (ap copy_in (sym (changed.others j other)) ∙ is) in
         record {
+          named = here.named;
+          noted = here.noted;
           whole = here.whole;
           early = here.early;
           parent = parent_on old new j (length stored) copy.kind
@@ -219,16 +229,21 @@ some_same : (a b : CopyView) → Some a ≡ Some b → a ≡ b
 some_same a b e = cc
 
 pub copied_opened : (rs : List Record) (f : ℕ) (stored : List Page) (copies : List CopyState) (kind : CopyKind)
-    (begin redo : ℕ) → AreCopied rs f stored copies
+    (begin redo : ℕ) → AreCopied rs f stored copies → length copies < MAX_COPIES → IsPoint begin redo
     → HasParent copies (length copies + 1) (length stored) kind → redo ≤ f
     → ((p : ℕ) (d : Page) → p < length stored → Covers rs p (get_or stored p d) redo)
     → AreCopied rs f stored (opened copies kind (length stored) begin redo)
-copied_opened rs f stored copies kind begin redo are parent early covers =
+copied_opened rs f stored copies kind begin redo are few noted parent early covers =
     let new = new_copy (length copies + 1) kind (length stored) begin redo in
     copied_changed rs f stored copies (opened copies kind (length stored) begin redo) (length copies + 1) (reading new)
-    (opened_changes copies (reading new)) are (record {
-      each = λ copy is. subst (IsCopyOf (length stored) f copies (length copies + 1)) (some_same new copy is)
-          (record { whole = length-replicate (length stored) undecided; early = early; parent = parent });
+    (opened_changes copies (reading new)) (omega (arith, length-append copies (reading new ∷ []))) are (record {
+      each = λ copy is. subst (IsCopyOf (length stored) f copies (length copies + 1)) (some_same new copy is) (record {
+        named = refl;
+        noted = noted;
+        whole = length-replicate (length stored) undecided;
+        early = early;
+        parent = parent;
+      });
       read = λ copy is p d lt. subst (λ (c : CopyView). Covers rs p (get_or stored p d) c.redo)
           (reading_same new copy is)
           (covers p d lt);
@@ -301,6 +316,10 @@ kept_from rs f p stored copies redo page (Inc parent) (copy ∷ older) are cover
     (λ q. kept_covers rs f p copy.redo redo page q covers below)
     (are.covered parent copy older (ap copy_in on.0) on.1 p)
 
+few_still : (copies : List CopyState) (id : ℕ) (state : CopyState) → length copies ≤ MAX_COPIES
+    → length (with_state copies id state) ≤ MAX_COPIES
+few_still copies id state few = omega (arith, length-set copies (id - 1) state)
+
 pub copied_decided : (rs : List Record) (f : ℕ) (stored : List Page) (copies : List CopyState) (id p : ℕ)
     (copy : CopyView) (page : Page) → AreCopied rs f stored copies → state_of copies id ≡ reading copy
     → p < length stored → page ≡ get_or stored p page → page.lsn < f
@@ -316,9 +335,11 @@ copied_decided rs f stored copies id p copy page are is lt same stable =
     ap (λ (s : CopyState). with_state copies id (decided_in copies s p page)) is in
     subst (AreCopied rs f stored) (sym made)
     (copied_changed rs f stored copies (with_state copies id (reading next)) id (reading next)
-    (set_changes copies id copy (reading next) is) are (record {
+    (set_changes copies id copy (reading next) is) (few_still copies id (reading next) are.few) are (record {
       each = λ c e. subst (IsCopyOf (length stored) f copies id) (some_same next c e)
           (let here = are.each id copy (ap copy_in is) in record {
+            named = here.named;
+            noted = here.noted;
             whole = length-set copy.pages p decision ∙ here.whole;
             early = here.early;
             parent = here.parent;
@@ -355,7 +376,7 @@ copied_sealed rs f stored copies id copy are is =
     ap (λ (s : CopyState). with_state copies id (sealed_in s)) is in
     subst (AreCopied rs f stored) (sym made)
     (copied_changed rs f stored copies (with_state copies id (complete copy)) id (complete copy)
-    (set_changes copies id copy (complete copy) is) are (record {
+    (set_changes copies id copy (complete copy) is) (few_still copies id (complete copy) are.few) are (record {
       each = λ c e. are.each id c (ap copy_in is ∙ e);
       read = λ c e p d lt. absurd (complete_not_reading copy c e);
       covered = λ c older e on p. are.covered id c older (ap copy_in is ∙ e) on p;
@@ -372,7 +393,7 @@ pub copied_dropped : (rs : List Record) (f : ℕ) (stored : List Page) (copies :
     → AreCopied rs f stored (without copies id)
 copied_dropped rs f stored copies id copy are is =
     copied_changed rs f stored copies (without copies id) id dropped
-    (set_changes copies id copy dropped is) are (record {
+    (set_changes copies id copy dropped is) (few_still copies id dropped are.few) are (record {
       each = λ c e. absurd (none_some c e);
       read = λ c e p d lt. absurd (dropped_not_reading c e);
       covered = λ c older e on p. absurd (none_some c e);
@@ -383,6 +404,7 @@ copied_dropped rs f stored copies id copy are is =
 pub restorable : (log : Log) (f : ℕ) (stored : List Page) (copies : List CopyState) → length stored ≡ log.pages
     → AreCopied log.records f stored copies → AreRestorable log f copies
 restorable log f stored copies count are = record {
-  whole = λ id copy is. (are.each id copy (ap copy_in is)).whole ∙ count;
+  few = are.few;
+  each = λ id copy is. subst (λ (n : ℕ). IsCopyOf n f copies id copy) count (are.each id copy (ap copy_in is));
   covered = λ id copy older is on p. are.covered id copy older (ap copy_in is) on p;
 }

@@ -1,3 +1,4 @@
 pub mod Chains
 pub mod Copied
 pub mod Kept
+pub mod Points

@@ -5,8 +5,10 @@ use Rattle.page_core.specs.declared.page.Page.{Page}
 use Rattle.log_records.specs.declared.record.Record.{Record}
 use Rattle.log_records.specs.Coverage.{Covers}
 use Rattle.log_records.specs.Log.{Log}
+use Rattle.log_records.specs.Record.{IsLsn}
 use Rattle.copy_vault.specs.declared.copy_id.CopyKind.{CopyKind}
 use Rattle.copy_vault.specs.declared.copy_id.CopyKind.TheVariants.{Full, Inc}
+use Rattle.copy_vault.specs.declared.copy_id.TheConstants.{MAX_COPIES}
 use Rattle.copy_vault.specs.Copy.{CopyView, PageDecision, undecided, taken, kept, decision_at}
 use Rattle.copy_vault.specs.Vault.{CopyState, HasParent, reading, complete, dropped, state_of}
 
@@ -39,9 +41,18 @@ pub record IsCovered (rs : List Record) (forced_end redo number : ℕ) (page : P
   pub covers : Covers rs number page redo
   pub stable : page.lsn < forced_end
 
--- a copy of the whole volume, whose redo point is forced; its parent was there before it
+-- where a checkpoint may begin, and where redo of it
+pub record IsPoint (begin redo : ℕ) : Type 0 where
+  pub begun : IsLsn begin
+  pub redone : IsLsn redo
+  pub order : redo ≤ begin
+
+-- a copy of the whole volume, of this id; it notes a checkpoint whose redo point is forced, and its
+-- parent was there before it
 pub record IsCopyOf (pages forced_end : ℕ) (copies : List CopyState) (id : ℕ)
     (copy : CopyView) : Type 0 where
+  pub named : copy.id ≡ id
+  pub noted : IsPoint copy.begin copy.redo
   pub whole : length copy.pages ≡ pages
   pub early : copy.redo ≤ forced_end
   pub parent : HasParent copies id pages copy.kind
@@ -51,6 +62,7 @@ pub record IsCopyOf (pages forced_end : ℕ) (copies : List CopyState) (id : ℕ
 -- or by those that it stands on
 pub record AreCopied (rs : List Record) (forced_end : ℕ) (stored : List Page)
     (copies : List CopyState) : Type 0 where
+  pub few : length copies ≤ MAX_COPIES
   pub each : (id : ℕ) (copy : CopyView) → copy_in (state_of copies id) ≡ Some copy
       → IsCopyOf (length stored) forced_end copies id copy
   pub read : (id : ℕ) (copy : CopyView) → state_of copies id ≡ reading copy
@@ -62,8 +74,9 @@ pub record AreCopied (rs : List Record) (forced_end : ℕ) (stored : List Page)
 -- of a log and what of it is forced: each complete copy is of the whole volume, and no page that it
 -- has, by itself or by those that it stands on, lacks a change below its redo point
 pub record AreRestorable (log : Log) (forced_end : ℕ) (copies : List CopyState) : Type 0 where
-  pub whole : (id : ℕ) (copy : CopyView) → state_of copies id ≡ complete copy
-      → length copy.pages ≡ log.pages
+  pub few : length copies ≤ MAX_COPIES
+  pub each : (id : ℕ) (copy : CopyView) → state_of copies id ≡ complete copy
+      → IsCopyOf log.pages forced_end copies id copy
   pub covered : (id : ℕ) (copy : CopyView) (older : List CopyView)
       → state_of copies id ≡ complete copy → StandsOn copies copy.kind older
       → (p : ℕ) → IfSome (page_in (copy ∷ older) p) (IsCovered log.records forced_end copy.redo p)

@@ -7,6 +7,7 @@ ghost use Rattle.log_records.specs.declared.record.Record.{Record};
 ghost use Rattle.log_records.specs.Coverage.{Covers, IsPast};
 ghost use Rattle.log_records.specs.Record.{own_lsn};
 ghost use Rattle.copy_vault.specs.declared.copy_id.CopyKind.{CopyKind};
+ghost use Rattle.copy_vault.specs.declared.copy_id.TheConstants.{MAX_COPIES};
 ghost use Rattle.copy_vault.specs.Copy.{CopyView};
 ghost use Rattle.copy_vault.specs.Vault.{CopyState, HasParent, decided, opened, reading, sealed};
 ghost use Rattle.copy_vault.specs.Vault.{state_of, without};
@@ -14,7 +15,7 @@ ghost use Rattle.log_records.specs.Coverage.{resume};
 ghost use Rattle.log_records.specs.Image.{image};
 ghost use Rattle.log_records.specs.Log.{IsLog, Log};
 ghost use Rattle.copy_vault.specs.Chain.{IsChain, IsChainOf, content, last_redo};
-ghost use Rattle.copy_coverage.specs.Copied.{AreCopied, AreRestorable};
+ghost use Rattle.copy_coverage.specs.Copied.{AreCopied, AreRestorable, IsPoint};
 ghost use Rattle.copy_coverage.specs.Kept.{IsKeptOf};
 
 /// Copies lack nothing below their redo points while the log grows, and more of it is forced.
@@ -36,10 +37,12 @@ pub fn copies_outlast_page_writes()
         → AreCopied rs forced_end (slice_set stored p image) copies }
 {}
 
-/// A copy may begin with a redo point below which every stored page lacks nothing.
+/// A copy may begin while there are ids, with a redo point below which every stored page lacks
+/// nothing.
 pub fn a_copy_begins()
     ensures { (rs : List Record) (forced_end : ℕ) (stored : List Page) (copies : List CopyState)
         (kind : CopyKind) (begin redo : ℕ) → AreCopied rs forced_end stored copies
+        → length copies < MAX_COPIES → IsPoint begin redo
         → HasParent copies (length copies + 1) (length stored) kind
         → redo ≤ forced_end
         → ((p : ℕ) (d : Page) → p < length stored → Covers rs p (slice_index_or stored p d) redo)
