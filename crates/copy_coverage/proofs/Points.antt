@@ -17,8 +17,7 @@ pub ended_in : (log : Log) (begin end : ℕ) (is : IsCompleteCheckpoint log.reco
 ended_in log begin end is =
     let rs = log.records in
     let k = length is.before in
-    let r = EndChkpt end begin is.redo in
-    (
+    let r = EndChkpt end begin is.redo in (
       k,
       omega (arith, ap length is.ended, length-append is.before (r ∷ is.behind)),
       ap (λ (xs : List Record). get_or xs k r) is.ended ∙ get_or_at is.before r is.behind r k refl,

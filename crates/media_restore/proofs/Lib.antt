@@ -5,3 +5,5 @@ pub mod Masters
 pub mod Overlays
 mod Rebuilds
 pub mod Restored
+mod Saved
+mod SavedFaults

@@ -91,15 +91,19 @@ complete_in log n begin end valid le is lt =
       begun = is.begun;
     }
 
+pub checkpoint_in : (it : RetiredView) (kept : Log) (master : Master) → IsRetired it → it.master ≡ Some master
+    → IsKeptOf it.log it.forced_end kept → IsCompleteCheckpoint kept.records master.begin master.end
+checkpoint_in it kept master retired is crash =
+    let named = subst (λ (o : Option Master). IfSome o (IsMasterOf it.log.records it.forced_end)) is retired.master in
+    let below = named.forced in
+    let high = crash.forced in
+    subst (λ (log : Log). IsCompleteCheckpoint log.records master.begin master.end) (sym crash.made)
+    (complete_in it.log crash.count master.begin master.end retired.valid crash.within named.complete (omega arith))
+
 pub checkpoint_of : (it : RetiredView) (cut : ℕ) (master : Master) → IsRetired it → it.master ≡ Some master
     → IsKeptOf it.log it.forced_end (kept_log it.log cut)
     → IsCompleteCheckpoint (kept_log it.log cut).records master.begin master.end
-checkpoint_of it cut master retired is kept =
-    let named = subst (λ (o : Option Master). IfSome o (IsMasterOf it.log.records it.forced_end)) is retired.master in
-    let below = named.forced in
-    let high = kept.forced in
-    subst (λ (log : Log). IsCompleteCheckpoint log.records master.begin master.end) (sym kept.made)
-    (complete_in it.log kept.count master.begin master.end retired.valid kept.within named.complete (omega arith))
+checkpoint_of it cut master retired is kept = checkpoint_in it (kept_log it.log cut) master retired is kept
 
 -- what is not refused is complete, and so has a master record
 pub noted_in : (it : RetiredView) (id : ℕ) → IsRetired it → copy_refusal (state_of it.copies id) ≡ None
@@ -117,7 +121,7 @@ pub count_of : (it : RetiredView) (id : ℕ) (members : List CopyView) → IsRet
     → IsChainOf it.copies id members → page_count members ≡ it.log.pages
 count_of it id members retired chain of_id =
     let of_vault = subst (AllByRecursion (λ c. state_of it.copies c.id ≡ complete c)) chain.is of_id.of_vault in
-    ap page_count chain.is ∙ retired.copies.whole chain.first.id chain.first of_vault.0
+    ap page_count chain.is ∙ (retired.copies.each chain.first.id chain.first of_vault.0).whole
 
 each_resumed : (it : RetiredView) (cut id : ℕ) (members : List CopyView) (p : ℕ) → IsRetired it → IsChain members
     → IsChainOf it.copies id members → IsKeptOf it.log it.forced_end (kept_log it.log cut) → p < it.log.pages

@@ -5,3 +5,4 @@ pub mod FilesFault
 pub mod FilesUnread
 pub mod Load
 pub mod Rebuild
+pub mod Saved

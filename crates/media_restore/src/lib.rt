@@ -10,6 +10,7 @@ mod files_fault;
 mod files_master;
 mod loaded;
 mod rebuilt;
+mod saved_laws;
 mod volume_output;
 
 pub use copy_load::load;
@@ -18,4 +19,7 @@ pub use files::restore_files;
 pub use files_fault::RestoreFault;
 pub use loaded::Loaded;
 pub use rebuilt::{Rebuilt, rebuild, recover};
+pub use saved_laws::{
+    saved_files_are_right, saved_files_restore_what_was_committed, what_is_left_can_be_saved,
+};
 pub use volume_output::write_volume;

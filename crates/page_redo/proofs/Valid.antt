@@ -58,6 +58,11 @@ valid-image_from page (r ∷ rs) page_valid each =
     valid-image_from (with_record page r) rs (valid-with_record page r page_valid (each 0 r (omega arith)))
     (λ i d lt. each (suc i) d (omega arith))
 
+pub valid-image : (log : Log) (p : ℕ) → IsLog log → p < log.pages → IsPage (image log.records p)
+valid-image log p valid lt =
+    valid-image_from (formatted p) log.records (valid_formatted p (let few = valid.pages.most in omega arith))
+    (λ i d lt. (valid.records i d lt).valid)
+
 pub valid-redo_all : (log : Log) → IsLog log → AllByRecursion IsPage (redo_all log.records log.pages)
 valid-redo_all log valid = over 0 log.pages (let few = valid.pages.most in omega arith)
   where

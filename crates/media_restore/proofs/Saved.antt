@@ -1,0 +1,249 @@
+-- Files of what an engine leaves.
+use Rattle.std.proofs.Common.{◌≡◌, ◌∙◌, ℕ, zero, suc, ◌<◌, ◌≤◌, inl, inr, List, [], ◌∷◌, length, map}
+use Rattle.std.proofs.Common.{take, refl, sym, ap, subst, arith}
+use Rattle.std.specs.Prelude.{Some, IfSome}
+use Rattle.std.specs.List.{AllByRecursion}
+use Rattle.std.proofs.Math.ListN.{get_or-eq_default}
+use Rattle.std.proofs.lemmas.Bool.{cases_lt}
+use Rattle.page_core.specs.declared.page.Page.{Page}
+use Rattle.page_core.specs.Page.{IsPage}
+use Rattle.log_records.specs.Coverage.{Covers, IsPast}
+use Rattle.log_records.specs.Log.{IsLog, Log, SpellsLog, log_bytes}
+use Rattle.log_records.proofs.Logs.{same_log}
+use Rattle.log_history.specs.Linked.{IsLinked}
+use Rattle.log_history.proofs.Histories.{linked-take}
+use Rattle.log_store.specs.declared.master.Master.{Master}
+use Rattle.log_store.specs.Master.{master_bytes}
+use Rattle.copy_vault.specs.declared.copy_id.CopyKind.{CopyKind}
+use Rattle.copy_vault.specs.declared.copy_id.CopyKind.TheVariants.{Full, Inc}
+use Rattle.copy_vault.specs.Archive.{IsArchived, IsKindOf, archive_bytes, header_of}
+use Rattle.copy_vault.specs.Chain.{FitFrom, Follow, IsChain, IsChainOf, content, last_redo}
+use Rattle.copy_vault.specs.Copy.{CopyView, IsComplete, PageDecision, decision_at, kept, taken, taken_count, taken_pages}
+use Rattle.copy_vault.specs.Copy.{undecided}
+use Rattle.copy_vault.specs.Vault.{CopyState, HasParent, complete, dropped, state_of}
+use Rattle.copy_vault.proofs.ArchiveReads.{same_copy}
+use Rattle.copy_vault.proofs.Decisions.{count_within}
+use Rattle.copy_coverage.specs.Copied.{AreRestorable, IsCovered, StandsOn, decided_over, page_in}
+use Rattle.copy_coverage.proofs.Chains.{covered_of_members}
+use Rattle.copy_coverage.proofs.Kept.{covers_kept, prefix_is_log}
+use Rattle.copy_coverage.proofs.Points.{end_is_record}
+use Rattle.page_redo.proofs.Valid.{valid-image}
+use Rattle.media_restore.specs.Files.{AreCovering, AreSound, HasParts, IsOfLog, IsOfMaster, IsRestored}
+use Rattle.media_restore.specs.FilesArchives.{AreOfArchives, SpellCopies}
+use Rattle.media_restore.specs.Saved.{AreLeft, files_of}
+use Rattle.media_restore.proofs.Loads.{checkpoint_in}
+
+-- ---- the log and its master record
+
+pub log_is : (log : Log) (master : Master) (copies : List CopyView) → AreLeft log master copies → IsLog log
+log_is log master copies left = subst IsLog (sym left.kept.made)
+    (prefix_is_log left.it.log left.kept.count left.retired.valid left.kept.within)
+
+of_log : (log : Log) (master : Master) (copies : List CopyView) → AreLeft log master copies
+    → IsOfLog (Some (log_bytes log)) log
+of_log log master copies left =
+    let valid = log_is log master copies left in
+    record {
+      valid = valid;
+      linked = subst (λ (k : Log). IsLinked k.records) (sym left.kept.made)
+          (linked-take left.it.log.records left.retired.linked left.kept.count);
+      spelled = record { valid = valid; spelled = refl };
+    }
+
+of_master : (log : Log) (master : Master) (copies : List CopyView) → AreLeft log master copies
+    → IsOfMaster (Some (master_bytes master)) log.records master
+of_master log master copies left =
+    let complete = checkpoint_in left.it log master left.retired left.named left.kept in
+    let end = end_is_record log master.begin master.end complete (log_is log master copies left) in
+    record {
+      complete = complete;
+      spelled = record {
+        valid = record { begin = end.1.place; end = end.0; order = end.1.earlier };
+        spelled = refl;
+      };
+    }
+
+-- ---- each copy of the chain has an archive
+
+-- a full copy takes each page
+all_are_taken : (pages : List PageDecision) → ((p : ℕ) → p < length pages → ¬ (decision_at pages p ≡ undecided))
+    → ((p : ℕ) → ¬ (decision_at pages p ≡ kept)) → taken_count pages ≡ length pages
+all_are_taken [] decided no_kept = refl
+all_are_taken (undecided ∷ ds) decided no_kept = absurd (decided 0 (omega arith) refl)
+all_are_taken (taken page ∷ ds) decided no_kept =
+    ap suc (all_are_taken ds (λ p lt. decided (suc p) (omega arith)) (λ p. no_kept (suc p)))
+all_are_taken (kept ∷ ds) decided no_kept = absurd (no_kept 0 refl)
+
+valid_taken : (pages : List PageDecision)
+    → ((p : ℕ) (page : Page) → p < length pages → decision_at pages p ≡ taken page → IsPage page)
+    → AllByRecursion IsPage (taken_pages pages)
+valid_taken [] each = tt
+valid_taken (undecided ∷ ds) each = valid_taken ds (λ p page lt. each (suc p) page (omega arith))
+valid_taken (taken page ∷ ds) each =
+    (each 0 page (omega arith) refl, valid_taken ds (λ p q lt. each (suc p) q (omega arith)))
+valid_taken (kept ∷ ds) each = valid_taken ds (λ p page lt. each (suc p) page (omega arith))
+
+-- what is of a log's past is what a part of it makes
+past_is_page : (log : Log) (p : ℕ) (page : Page) → IsLog log → p < log.pages → IsPast log.records p page → IsPage page
+past_is_page log p page valid lt past =
+    subst IsPage (sym past.made)
+    (valid-image (record log { records = take past.count log.records }) p
+    (prefix_is_log log past.count valid past.within) lt)
+
+record HasId (copies : List CopyState) (id : ℕ) : Type 0 where
+  least : 1 ≤ id
+  most : id ≤ length copies
+
+has_id : (copies : List CopyState) (id : ℕ) (copy : CopyView) → state_of copies id ≡ complete copy → HasId copies id
+has_id copies zero copy is = cc
+has_id copies (suc k) copy is = elim (cases_lt k (length copies)) [
+  | inl lt ↦ record { least = omega arith; most = omega arith }
+  | inr le ↦ let gone : state_of copies (suc k) ≡ dropped = get_or-eq_default copies dropped le in cc
+]
+
+kind_of : (copies : List CopyState) (copy : CopyView) (kind : CopyKind) → copy.kind ≡ kind
+    → IsComplete copy.kind copy.pages → HasParent copies copy.id (length copy.pages) kind
+    → IsKindOf kind (header_of copy)
+kind_of copies copy Full is whole parent = all_are_taken copy.pages whole.decided (whole.keeps is)
+kind_of copies copy (Inc from) is whole parent =
+    let id = has_id copies from parent.copy parent.is_complete in
+    (id.least, parent.before, count_within copy.pages)
+
+archived : (log : Log) (f : ℕ) (copies : List CopyState) (copy : CopyView) (older : List CopyView) → IsLog log
+    → AreRestorable log f copies → state_of copies copy.id ≡ complete copy → StandsOn copies copy.kind older
+    → IsComplete copy.kind copy.pages → IsArchived copy
+archived log f copies copy older valid are state stands whole =
+    let is = are.each copy.id copy state in
+    let id = has_id copies copy.id copy state in
+    let count = is.whole in
+    let few = are.few in
+    record {
+      header = record {
+        some_pages = let least = valid.pages.least in omega arith;
+        few_pages = let most = valid.pages.most in omega arith;
+        least_id = id.least;
+        most_id = let most = id.most in omega arith;
+        kind = kind_of copies copy copy.kind refl whole
+            (subst (λ (n : ℕ). HasParent copies copy.id n copy.kind) (sym count) is.parent);
+        begin_fits = is.noted.begun.fits;
+        begin_at_record = is.noted.begun.aligned;
+        redo_at_record = is.noted.redone.aligned;
+        redo_past_header = is.noted.redone.past_header;
+        redo_first = is.noted.order;
+      };
+      complete = whole;
+      pages = valid_taken copy.pages (λ p page lt at.
+          let covered = subst (λ (d : PageDecision).
+          IfSome (decided_over (page_in older p) d) (IsCovered log.records f copy.redo p)) at
+          (are.covered copy.id copy older state stands p) in
+          past_is_page log p page valid (omega arith) covered.covers.past);
+    }
+
+all_archived : (log : Log) (f : ℕ) (copies : List CopyState) (copy : CopyView) (older more : List CopyView)
+    → IsLog log → AreRestorable log f copies → StandsOn copies copy.kind older → Follow copy more
+    → AllByRecursion (λ c. IsComplete c.kind c.pages) (copy ∷ more)
+    → AllByRecursion (λ c. state_of copies c.id ≡ complete c) (copy ∷ more)
+    → AllByRecursion IsArchived (copy ∷ more)
+all_archived log f copies copy older [] valid are stands follow whole of_vault =
+    (archived log f copies copy older valid are of_vault.0 stands whole.0, tt)
+all_archived log f copies copy older (next ∷ more) valid are stands follow whole of_vault =
+    let stands' : StandsOn copies next.kind (copy ∷ older) =
+    subst (λ kind. StandsOn copies kind (copy ∷ older)) (sym follow.0.parent) (of_vault.0, stands) in (
+      archived log f copies copy older valid are of_vault.0 stands whole.0,
+      all_archived log f copies next (copy ∷ older) more valid are stands' follow.1 whole.1 of_vault.1,
+    )
+
+archived_members : (log : Log) (f : ℕ) (copies : List CopyState) (id : ℕ) (members : List CopyView) → IsLog log
+    → AreRestorable log f copies → IsChain members → IsChainOf copies id members → AllByRecursion IsArchived members
+archived_members log f copies id members valid are chain of_id =
+    let whole = subst (AllByRecursion (λ c. IsComplete c.kind c.pages)) chain.is chain.complete in
+    let of_vault = subst (AllByRecursion (λ c. state_of copies c.id ≡ complete c)) chain.is of_id.of_vault in
+    let stands : StandsOn copies chain.first.kind [] =
+    subst (λ kind. StandsOn copies kind []) (sym chain.full) refl in
+    subst (AllByRecursion IsArchived) (sym chain.is)
+    (all_archived log f copies chain.first [] chain.more valid are stands chain.linked whole of_vault)
+
+-- ---- the archives
+
+fit_more : (pages : ℕ) (copy : CopyView) (more : List CopyView) → length copy.pages ≡ pages → Follow copy more
+    → FitFrom pages (Inc copy.id) more
+fit_more pages copy [] count follow = tt
+fit_more pages copy (next ∷ more) count follow =
+    let same = follow.0.same_count ∙ count in
+    (record { same_kind = follow.0.parent; same_count = same }, fit_more pages next more same follow.1)
+
+spell_copies : (copies : List CopyView) → AllByRecursion IsArchived copies
+    → SpellCopies (map (λ (copy : CopyView). Some (archive_bytes copy)) copies) copies
+spell_copies [] all = tt
+spell_copies (copy ∷ copies) all = (record { valid = all.0; spelled = refl }, spell_copies copies all.1)
+
+pub left_archived : (log : Log) (master : Master) (copies : List CopyView) → AreLeft log master copies
+    → AllByRecursion IsArchived copies
+left_archived log master copies left =
+    archived_members left.it.log left.it.forced_end left.it.copies left.id copies left.retired.valid
+    left.retired.copies left.chain left.of_id
+
+of_archives : (log : Log) (master : Master) (copies : List CopyView) → AreLeft log master copies
+    → AreOfArchives (map (λ (copy : CopyView). Some (archive_bytes copy)) copies) log.pages copies
+of_archives log master copies left =
+    let chain = left.chain in
+    let of_vault = subst (AllByRecursion (λ c. state_of left.it.copies c.id ≡ complete c)) chain.is left.of_id.of_vault in
+    let count : length chain.first.pages ≡ log.pages =
+    (left.retired.copies.each chain.first.id chain.first of_vault.0).whole
+    ∙ sym (ap (λ (k : Log). k.pages) left.kept.made) in
+    record {
+      spelled = spell_copies copies (left_archived log master copies left);
+      fit = subst (FitFrom log.pages Full) (sym chain.is) (
+        record { same_kind = chain.full; same_count = count },
+        fit_more log.pages chain.first chain.more count chain.linked,
+      );
+    }
+
+pub parts_of : (log : Log) (master : Master) (copies : List CopyView) → AreLeft log master copies
+    → HasParts (files_of log master copies) log master copies
+parts_of log master copies left = record {
+  of_log = of_log log master copies left;
+  of_master = of_master log master copies left;
+  of_archives = of_archives log master copies left;
+  chain = left.chain;
+}
+
+-- ---- what the chain lacks
+
+pub covering_of : (log : Log) (master : Master) (copies : List CopyView) → AreLeft log master copies
+    → AreCovering log copies
+covering_of log master copies left = λ p lt.
+    let it = left.it in
+    let made = left.kept.made in
+    let within : p < it.log.pages = subst (λ (n : ℕ). p < n) (ap (λ (k : Log). k.pages) made) lt in
+    let covered = covered_of_members it.log it.forced_end it.copies left.id copies p left.retired.copies left.chain
+    left.of_id within in
+    let stable = covered.stable in
+    let high = left.kept.forced in
+    subst (λ (k : Log). Covers k.records p (content copies p) (last_redo copies)) (sym made)
+    (covers_kept it.log left.kept.count p (content copies p) (last_redo copies) left.retired.valid left.kept.within
+    covered.covers (omega arith))
+
+-- ---- what is restored of them
+
+same_copies : (a b : List CopyView) → SpellCopies (map (λ (copy : CopyView). Some (archive_bytes copy)) a) b
+    → AllByRecursion IsArchived a → b ≡ a
+same_copies [] [] spell all = refl
+same_copies [] (y ∷ b) spell all = absurd spell
+same_copies (x ∷ a) [] spell all = absurd spell
+same_copies (x ∷ a) (y ∷ b) spell all =
+    let one : y ≡ x = same_copy y x spell.0.valid all.0 (sym spell.0.spelled) in
+    let rest : b ≡ a = same_copies a b spell.1 all.1 in
+    cc
+
+pub same_log_of : (log other : Log) → SpellsLog other (log_bytes log) → IsLog log → other ≡ log
+same_log_of log other spells valid = same_log other log (log_bytes log) spells (record { valid = valid; spelled = refl })
+
+pub sound_of : (log : Log) (master : Master) (copies : List CopyView) (pages : List Page)
+    → AreLeft log master copies → IsRestored (files_of log master copies) pages → AreSound log pages
+sound_of log master copies pages left is =
+    let log_same : is.log ≡ log = same_log_of log is.log is.parts.of_log.spelled (log_is log master copies left) in
+    let copies_same : is.copies ≡ copies =
+    same_copies copies is.copies is.parts.of_archives.spelled (left_archived log master copies left) in
+    subst (λ (k : Log). AreSound k pages) log_same
+    (is.sound (rw (log_same, copies_same) (covering_of log master copies left)))
