@@ -1,6 +1,6 @@
 -- Each engine is fit: a new one, and one after a step.
-use Rattle.std.proofs.Common.{lit≤, ◌≡◌, ℕ, zero, suc, get_or, replicate, ◌+◌, ◌<◌, ◌≤◌, ◌++◌, List, [], ◌∷◌, length, take}
-use Rattle.std.proofs.Common.{refl, sym, ap, ◌⊎◌, ◌∙◌, subst, arith, inl, inr}
+use Rattle.std.proofs.Common.{◌≡◌, ℕ, zero, suc, get_or, replicate, ◌+◌, ◌<◌, ◌≤◌, ◌++◌, List, [], ◌∷◌, length, take}
+use Rattle.std.proofs.Common.{lit≤, refl, sym, ap, ◌⊎◌, ◌∙◌, subst, arith, inl, inr}
 use Rattle.std.specs.Prelude.{Option, Result, Some, None}
 use Rattle.std.proofs.lemmas.List.FromFn.{get_or-map-range_with_len, length-map-range_with_len}
 use Rattle.page_core.specs.declared.page.Page.{Page}

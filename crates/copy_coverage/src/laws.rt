@@ -37,8 +37,8 @@ pub fn copies_outlast_page_writes()
         → AreCopied rs forced_end (slice_set stored p image) copies }
 {}
 
-/// A copy may begin while there are ids, with a redo point below which every stored page lacks
-/// nothing.
+/// A copy may begin while there are ids, with a checkpoint below whose redo point every stored page
+/// lacks nothing.
 pub fn a_copy_begins()
     ensures { (rs : List Record) (forced_end : ℕ) (stored : List Page) (copies : List CopyState)
         (kind : CopyKind) (begin redo : ℕ) → AreCopied rs forced_end stored copies

@@ -18,8 +18,8 @@ use Rattle.copy_vault.specs.declared.copy_id.CopyKind.{CopyKind}
 use Rattle.copy_vault.specs.declared.copy_id.CopyKind.TheVariants.{Full, Inc}
 use Rattle.copy_vault.specs.Archive.{IsArchived, IsKindOf, archive_bytes, header_of}
 use Rattle.copy_vault.specs.Chain.{FitFrom, Follow, IsChain, IsChainOf, content, last_redo}
-use Rattle.copy_vault.specs.Copy.{CopyView, IsComplete, PageDecision, decision_at, kept, taken, taken_count, taken_pages}
-use Rattle.copy_vault.specs.Copy.{undecided}
+use Rattle.copy_vault.specs.Copy.{CopyView, IsComplete, PageDecision, decision_at, kept, taken, taken_count}
+use Rattle.copy_vault.specs.Copy.{taken_pages, undecided}
 use Rattle.copy_vault.specs.Vault.{CopyState, HasParent, complete, dropped, state_of}
 use Rattle.copy_vault.proofs.ArchiveReads.{same_copy}
 use Rattle.copy_vault.proofs.Decisions.{count_within}
@@ -187,7 +187,8 @@ of_archives : (log : Log) (master : Master) (copies : List CopyView) → AreLeft
     → AreOfArchives (map (λ (copy : CopyView). Some (archive_bytes copy)) copies) log.pages copies
 of_archives log master copies left =
     let chain = left.chain in
-    let of_vault = subst (AllByRecursion (λ c. state_of left.it.copies c.id ≡ complete c)) chain.is left.of_id.of_vault in
+    let of_vault =
+    subst (AllByRecursion (λ c. state_of left.it.copies c.id ≡ complete c)) chain.is left.of_id.of_vault in
     let count : length chain.first.pages ≡ log.pages =
     (left.retired.copies.each chain.first.id chain.first of_vault.0).whole
     ∙ sym (ap (λ (k : Log). k.pages) left.kept.made) in
@@ -237,7 +238,8 @@ same_copies (x ∷ a) (y ∷ b) spell all =
     cc
 
 pub same_log_of : (log other : Log) → SpellsLog other (log_bytes log) → IsLog log → other ≡ log
-same_log_of log other spells valid = same_log other log (log_bytes log) spells (record { valid = valid; spelled = refl })
+same_log_of log other spells valid =
+    same_log other log (log_bytes log) spells (record { valid = valid; spelled = refl })
 
 pub sound_of : (log : Log) (master : Master) (copies : List CopyView) (pages : List Page)
     → AreLeft log master copies → IsRestored (files_of log master copies) pages → AreSound log pages

@@ -25,7 +25,8 @@ use Rattle.copy_vault.specs.Chain.{FitFrom, Fits, IsChain, kind_after}
 use Rattle.copy_vault.specs.Copy.{CopyView}
 use Rattle.copy_vault.proofs.ArchiveReads.{only_outside, same_copy}
 use Rattle.media_restore.specs.declared.files_fault.RestoreFault.{RestoreFault}
-use Rattle.media_restore.specs.declared.files_fault.RestoreFault.TheVariants.{BadChain, BadHeader, OutOfMemory, ReadFault}
+use Rattle.media_restore.specs.declared.files_fault.RestoreFault.TheVariants.{BadChain, BadHeader, OutOfMemory}
+use Rattle.media_restore.specs.declared.files_fault.RestoreFault.TheVariants.{ReadFault}
 use Rattle.media_restore.specs.Files.{MasterRefused, Refused, most_records, of_memory, of_the_archives}
 use Rattle.media_restore.specs.Files.{of_the_log, of_the_master, of_undo}
 use Rattle.media_restore.specs.FilesArchives.{ArchiveRefused, ArchivesRefused, SpellCopies}

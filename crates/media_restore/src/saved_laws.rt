@@ -20,15 +20,16 @@ pub fn what_is_left_can_be_saved()
         → AreLeft log master copies → AreCovering log copies }
 {}
 
-/// Files to which it was saved are refused for nothing that is in them.
+/// Files to which that was saved are refused for memory or a failing reader alone, and for nothing
+/// that is in them.
 pub fn saved_files_are_right()
     ensures { (log : Log) (master : Master) (copies : List CopyView) (fault : RestoreFault)
         → AreLeft log master copies → Refused (files_of log master copies) fault
         → (fault ≡ restore_fault.OutOfMemory) ⊎ (fault ≡ restore_fault.ReadFault) }
 {}
 
-/// And what is restored of them is what the saved log makes once its open transactions are undone,
-/// with what was committed.
+/// What is restored of such files are the pages that the saved log makes once its open transactions
+/// are undone, with what was committed.
 pub fn saved_files_restore_what_was_committed()
     ensures { (log : Log) (master : Master) (copies : List CopyView) (pages : List Page)
         → AreLeft log master copies → IsRestored (files_of log master copies) pages
