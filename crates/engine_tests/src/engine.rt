@@ -1,10 +1,8 @@
-//! Rows of calls with their replies, what a device has of them, and texts.
-//!
-//! A test drops an engine by a call, as all of them do with what has many parts: what the compiler
-//! writes for the drop is then proved once, and not in each test.
+//! Rows of calls with their replies, what a device and a store have of them, and texts.
 
 ghost use Rattle.std.specs.Prelude.{◌≡◌};
 ghost use Rattle.log_records.specs.Log.{IsPageCount};
+ghost use Rattle.page_core.specs.Volume.{formatted_pages};
 
 mod checkpoints;
 mod copies;
@@ -12,38 +10,16 @@ mod devices;
 mod rows;
 mod stores;
 
-use aries_core::{Answer, Engine, Event, PlayFault, Refusal, Reply, Setup, play};
-use log_store::LogDevice;
-use page_core::{Lsn, PageNo, SlotNo, TxnNo};
-use page_store::{MemStore, PageStore};
-use std::alloc::Global;
-use std::fmt::{Debug, Display};
+use crate::asserts::assert_texts;
+use crate::calls::{Calls, assert_replies, call, calls_of};
+use aries_core::{Engine, PlayFault, Refusal, Setup, play};
+use log_store::{FaultyDevice, LogDevice, MemDevice};
+use page_core::{Lsn, PageNo, TxnNo};
+use page_store::{FaultyStore, MemStore, PageStore};
 use std::process::Abort;
-use std::test::Fail;
-
-/// Asserts that a value is the wanted one. It is a call, since what `assert_eq!` writes is dear to
-/// prove in a long test.
-pub(crate) fn same<T: PartialEq + Debug>(rt: &impl Abort, given: &T, wanted: &T) {
-    assert_eq!(rt; *given, *wanted);
-}
-
-/// The same, and tells where it is asserted.
-pub(crate) fn same_at<T: PartialEq + Debug, P: Debug>(
-    rt: &impl Abort,
-    given: &T,
-    wanted: &T,
-    place: &P,
-) {
-    assert_eq!(rt; *given, *wanted, "{place:?}");
-}
-
-/// Asserts that something holds, and tells where.
-pub(crate) fn holds_at<P: Debug>(rt: &impl Abort, holds: bool, place: &P) {
-    assert!(rt; holds, "{place:?}");
-}
 
 /// A volume of so many pages, each with a frame of its own.
-fn setup_of(pages: u32) -> Setup
+pub(crate) fn setup_of(pages: u32) -> Setup
     ensures { result ≡ record { pages = pages; frames = pages } }
 {
     Setup {
@@ -52,187 +28,108 @@ fn setup_of(pages: u32) -> Setup
     }
 }
 
-fn set(txn: u32, page: u32, slot: u16, number: u64) -> Event {
-    Event::Set {
-        txn: TxnNo(txn),
-        page: PageNo(page),
-        slot: SlotNo(slot),
-        number,
-    }
+/// A formatted store in memory.
+fn store_of(rt: &(impl Abort + AllocGlobal), pages: u32) -> MemStore
+    requires { IsPageCount pages }
+    ensures { result ≡ formatted_pages pages }
+{
+    MemStore::new(rt.alloc(), pages).expect(rt, "memory for a store")
 }
 
-fn add(txn: u32, page: u32, slot: u16, amount: u64) -> Event {
-    Event::Add {
-        txn: TxnNo(txn),
-        page: PageNo(page),
-        slot: SlotNo(slot),
-        amount,
-    }
+/// A formatted store whose `k`-th call fails. 0 is none.
+pub(crate) fn failing_store(rt: &(impl Abort + AllocGlobal), pages: u32, k: u64) -> FaultyStore
+    requires { IsPageCount pages }
+    ensures { result.pages ≡ formatted_pages pages }
+{
+    FaultyStore::new(rt.alloc(), store_of(rt, pages), k).expect(rt, "memory for a store")
 }
 
-fn read(page: u32, slot: u16) -> Event {
-    Event::Read {
-        page: PageNo(page),
-        slot: SlotNo(slot),
-    }
+/// A device in memory with room for so many records.
+fn device_of(rt: &(impl Abort + AllocGlobal), records: usize) -> MemDevice {
+    MemDevice::new(rt.alloc(), records).expect(rt, "memory for a device")
 }
 
-fn commit(txn: u32) -> Event {
-    Event::Commit(TxnNo(txn))
+/// Such a device, whose `k`-th call fails. 0 is none.
+pub(crate) fn failing_device(
+    rt: &(impl Abort + AllocGlobal),
+    records: usize,
+    k: u64,
+) -> FaultyDevice {
+    FaultyDevice::new(device_of(rt, records), k)
 }
 
-fn abort(txn: u32) -> Event {
-    Event::Abort(TxnNo(txn))
-}
-
-fn undo(txn: u32) -> Event {
-    Event::UndoStep(TxnNo(txn))
-}
-
-fn write_begin(page: u32) -> Event {
-    Event::WriteBegin(PageNo(page))
-}
-
-fn write_end(page: u32) -> Event {
-    Event::WriteEnd(PageNo(page))
-}
-
-fn began(txn: u32, lsn: u64) -> Reply {
-    Ok(Answer::Began {
-        txn: TxnNo(txn),
-        lsn: Lsn(lsn),
-    })
-}
-
-fn logged(lsn: u64) -> Reply {
-    Ok(Answer::Logged(Lsn(lsn)))
-}
-
-fn value(number: u64) -> Reply {
-    Ok(Answer::Number(number))
-}
-
-fn undid(lsn: u64) -> Reply {
-    Ok(Answer::Undid(Lsn(lsn)))
-}
-
-fn ended(lsn: u64) -> Reply {
-    Ok(Answer::Ended(Lsn(lsn)))
-}
-
-fn forced(lsn: u64) -> Reply {
-    Ok(Answer::Forced(Lsn(lsn)))
-}
-
-fn writing(lsn: u64) -> Reply {
-    Ok(Answer::Writing(Lsn(lsn)))
-}
-
-fn written(lsn: u64) -> Reply {
-    Ok(Answer::Written(Lsn(lsn)))
-}
-
-fn more() -> Reply {
-    Ok(Answer::More)
-}
-
-fn done() -> Reply {
-    Ok(Answer::Done)
-}
-
-fn point(begin: u64, end: u64, redo: u64) -> Reply {
-    Ok(Answer::Point {
-        begin: Lsn(begin),
-        end: Lsn(end),
-        redo: Lsn(redo),
-    })
-}
-
-fn busy(txn: u32) -> Reply {
-    Err(Refusal::SlotBusy(TxnNo(txn)))
-}
-
-/// A new engine over formatted pages in memory.
-fn engine_on<D: LogDevice + Drop>(
-    alloc: Global,
+/// A new engine over a formatted store, that made these calls one by one. Their replies are
+/// asserted.
+pub(crate) fn called_on<S: PageStore + Drop, D: LogDevice + Drop>(
+    rt: &(impl Abort + AllocGlobal),
     pages: u32,
+    store: S,
     device: D,
-) -> Result<Engine<MemStore, D>, Fail>
+    calls: &Calls,
+) -> Engine<S, D>
+    requires pages { IsPageCount pages }
+    requires formatted { S.stored store ≡ formatted_pages pages }
+{
+    let mut engine = Engine::new(rt.alloc(), setup_of(pages), store, device).expect(
+        rt,
+        "an engine",
+    );
+    call(rt, &mut engine, calls);
+    engine
+}
+
+/// The same of calls that are played as one list.
+fn played_on<S: PageStore + Drop, D: LogDevice + Drop>(
+    rt: &(impl Abort + AllocGlobal),
+    pages: u32,
+    store: S,
+    device: D,
+    calls: &Calls,
+) -> Engine<S, D>
+    requires pages { IsPageCount pages }
+    requires formatted { S.stored store ≡ formatted_pages pages }
+{
+    let played = play(rt.alloc(), setup_of(pages), store, device, &calls.events).expect(
+        rt,
+        "an engine",
+    );
+    assert_replies(rt, &played.replies, calls);
+    played.engine
+}
+
+/// An engine that made the calls of these parts over a store in memory, on a device that has room
+/// for a record for each event.
+fn called(
+    rt: &(impl Abort + AllocGlobal),
+    pages: u32,
+    parts: &[&str],
+) -> Engine<MemStore, MemDevice>
     requires { IsPageCount pages }
 {
-    let store = MemStore::new(alloc, pages)?;
-    Ok(Engine::new(alloc, setup_of(pages), store, device)?)
+    let calls = calls_of(rt, parts);
+    let store = store_of(rt, pages);
+    let device = device_of(rt, calls.events.len());
+    called_on(rt, pages, store, device, &calls)
 }
 
-/// Makes the calls of a row, one by one, and asserts their replies.
-pub(crate) fn call<S: PageStore, D: LogDevice>(
-    rt: &impl Abort,
-    engine: &mut Engine<S, D>,
-    row: &[(Event, Reply)],
-) {
-    for &(event, reply) in row {
-        same_at(rt, &engine.apply(event), &reply, &event);
-    }
+/// The same over a store of one page whose `k`-th call fails.
+fn called_over(
+    rt: &(impl Abort + AllocGlobal),
+    k: u64,
+    parts: &[&str],
+) -> Engine<FaultyStore, MemDevice> {
+    let calls = calls_of(rt, parts);
+    let store = failing_store(rt, 1, k);
+    let device = device_of(rt, calls.events.len());
+    called_on(rt, 1, store, device, &calls)
 }
 
-/// The row that these parts make.
-pub(crate) fn joined(
-    alloc: Global,
-    parts: &[&[(Event, Reply)]],
-) -> Result<Vec<(Event, Reply)>, Fail> {
-    let mut row = Vec::new(alloc);
-    for &part in parts {
-        for &pair in part {
-            row.push(pair)?;
-        }
-    }
-    Ok(row)
-}
-
-/// The events of a row.
-pub(crate) fn events_of(alloc: Global, row: &[(Event, Reply)]) -> Result<Vec<Event>, Fail> {
-    let mut events = Vec::with_capacity(alloc, row.len())?;
-    for &(event, _) in row {
-        events.push(event)?;
-    }
-    Ok(events)
-}
-
-/// Asserts that these are the replies of a row.
-pub(crate) fn assert_replies(rt: &impl Abort, replies: &[Reply], row: &[(Event, Reply)]) {
-    same(rt, &replies.len(), &row.len());
-    for (given, &(event, reply)) in replies.iter().zip(row) {
-        same_at(rt, given, &reply, &event);
-    }
-}
-
-/// Plays the events of a row as one list over formatted pages in memory, and asserts their replies.
-fn play_on<D: LogDevice + Drop>(
-    rt: &impl Abort,
-    alloc: Global,
-    pages: u32,
-    device: D,
-    row: &[(Event, Reply)],
-) -> Result<Engine<MemStore, D>, Fail>
-    requires { IsPageCount pages }
-{
-    let events = events_of(alloc, row)?;
-    let store = MemStore::new(alloc, pages)?;
-    let played = play(alloc, setup_of(pages), store, device, &events)?;
-    assert_replies(rt, &played.replies, row);
-    Ok(played.engine)
-}
-
-/// Asserts what the text of a refusal or a fault is.
-fn assert_text<T: Display + Drop>(
-    rt: &impl Abort,
-    alloc: Global,
-    shown: T,
-    text: &str,
-) -> Result<(), Fail> {
-    let printed = format!(in alloc; "{shown}")?;
-    same(rt, &printed.as_str(), &text);
-    Ok(())
+/// Plays the calls of these parts as a list over such a store, and asserts their replies.
+fn play_over(rt: &(impl Abort + AllocGlobal), k: u64, parts: &[&str]) {
+    let calls = calls_of(rt, parts);
+    let store = failing_store(rt, 1, k);
+    let device = device_of(rt, calls.events.len());
+    drop(played_on(rt, 1, store, device, &calls));
 }
 
 const REFUSALS: [(Refusal, &str); 25] = [
@@ -263,16 +160,17 @@ const REFUSALS: [(Refusal, &str); 25] = [
     (Refusal::CommitUnsure(Lsn(192)), "E26 CommitUnsure 192"),
 ];
 
+static FAULTS: [(PlayFault, &str); 2] = [
+    (PlayFault::OutOfMemory, "E1 OutOfMemory"),
+    (PlayFault::LogFault, "E23 LogFault"),
+];
+
 #[test]
-fn refusals_have_texts(rt: HostRuntime) -> Result<(), Fail> {
-    for (refusal, text) in REFUSALS {
-        assert_text(&rt, rt.alloc(), refusal, text)?;
-    }
-    Ok(())
+fn refusals_have_texts(rt: HostRuntime) {
+    assert_texts(&rt, &REFUSALS);
 }
 
 #[test]
-fn faults_have_texts(rt: HostRuntime) -> Result<(), Fail> {
-    assert_text(&rt, rt.alloc(), PlayFault::OutOfMemory, "E1 OutOfMemory")?;
-    assert_text(&rt, rt.alloc(), PlayFault::LogFault, "E23 LogFault")
+fn faults_have_texts(rt: HostRuntime) {
+    assert_texts(&rt, &FAULTS);
 }

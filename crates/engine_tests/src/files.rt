@@ -1,17 +1,14 @@
 //! Volumes that are restored from the bytes of files.
 
-use crate::engine::{same, same_at};
-use copy_vault::CopyId;
+use crate::asserts::{assert_fault, same};
+use crate::groups::{Groups, assert_bytes, bytes_of};
 use media_restore::{RestoreFault, restore_files};
-use page_core::{Lsn, PAGE_BYTES};
-use std::alloc::Global;
+use page_core::PAGE_BYTES;
+use std::io::Write;
 use std::process::Abort;
-use std::test::Fail;
-
-// Files in groups of eight bytes, in hexadecimal. `0` is eight zero bytes.
 
 // A transaction sets slot 0 of the one page to 5, and a checkpoint is made.
-const LOG: &str = "41494d474c4f4731 0100000000000000 0 0 0 0 0 0 \
+const CHANGED: &str = "41494d474c4f4731 0100000000000000 0 0 0 0 0 0 \
      0100000001000000 0 0 0 0 0 0 4000000000000000 \
      0200000001000000 4000000000000000 0 0000000000000100 0 0500000000000000 0 8000000000000000 \
      0700000000000000 0 0 0 0 0 0 c000000000000000 \
@@ -22,200 +19,185 @@ const LOG: &str = "41494d474c4f4731 0100000000000000 0 0 0 0 0 0 \
 
 const COMMIT: &str = "0400000001000000 8000000000000000 0 0 0 0 0 c001000000000000";
 
-const MASTER: &str = "41494d474d535431 c000000000000000 8001000000000000 0 0 0 0 0";
+const COMMITTED_LOG: Groups = Groups(&[CHANGED, COMMIT], 512);
+
+const OPEN_LOG: Groups = Groups(&[CHANGED], 448);
+
+const TORN_LOG: Groups = Groups(&[CHANGED, COMMIT], 500);
+
+const MASTER_BYTES: &str = "41494d474d535431 c000000000000000 8001000000000000";
+
+const MASTER: Groups = Groups(&[MASTER_BYTES], 64);
+
+const SHORT_MASTER: Groups = Groups(&[MASTER_BYTES], 63);
 
 // No checkpoint of the log begins at 128.
-const OTHER_MASTER: &str = "41494d474d535431 8000000000000000 8001000000000000 0 0 0 0 0";
+const OTHER_MASTER: Groups = Groups(&["41494d474d535431 8000000000000000 8001000000000000"], 64);
 
-// The headers of full copies of one page: redo begins at 128, or at 192, which is too late.
-const COPY: &str =
+// A full copy of one page that took the formatted one: redo begins at 128.
+const COPY_BYTES: &str =
     "41494d4741524331 0100000001000000 0100000000000000 c000000000000000 8000000000000000 \
-     0100000000000000 0 0";
+     0100000000000000 0 0 0000000001000000";
 
-const LATE_COPY: &str =
-    "41494d4741524331 0100000001000000 0100000000000000 c000000000000000 c000000000000000 \
-     0100000000000000 0 0";
+const COPY: Groups = Groups(&[COPY_BYTES], 576);
+
+const CUT_COPY: Groups = Groups(&[COPY_BYTES], 574);
+
+// The same, where redo begins at 192, which is too late.
+const LATE_COPY: Groups = Groups(
+    &[
+        "41494d4741524331 0100000001000000 0100000000000000 c000000000000000 c000000000000000 \
+       0100000000000000 0 0 0000000001000000",
+    ],
+    576,
+);
 
 // An incremental copy on copy 1, which took no page.
-const NEXT_COPY: &str =
-    "41494d4741524331 0100000002000000 0200000001000000 c000000000000000 8000000000000000 0 0 0";
+const NEXT_COPY: Groups = Groups(
+    &["41494d4741524331 0100000002000000 0200000001000000 c000000000000000 8000000000000000"],
+    64,
+);
 
-/// The bytes of groups.
-fn bytes_of(alloc: Global, groups: &str) -> Result<Vec<u8>, Fail> {
+const EMPTY: Groups = Groups(&[], 0);
+
+// Pages with an LSN, and a number in slot 0.
+const FORMATTED: Groups = Groups(&["0000000001000000"], PAGE_BYTES);
+
+const FIVE_AT_128: Groups = Groups(
+    &["0000000001000000 8000000000000000 0500000000000000"],
+    PAGE_BYTES,
+);
+
+const NONE_AT_448: Groups = Groups(&["0000000001000000 c001000000000000"], PAGE_BYTES);
+
+/// Files: a log, a master record and archives.
+type Files = (Groups, Groups, &'static [Groups]);
+
+/// Files, the line of the fault where they are restored, or no text, and what is written.
+type Restored = (Files, &'static str, Groups);
+
+/// What comes of a restore of these files to a writer.
+fn fault_of<W: Write>(
+    rt: &(impl Abort + AllocGlobal),
+    (log, master, archives): Files,
+    writer: &mut W,
+) -> Option<RestoreFault> {
+    let alloc = rt.alloc();
+    let log = bytes_of(rt, log);
+    let master = bytes_of(rt, master);
     let mut bytes = Vec::new(alloc);
-    for group in groups.split_whitespace() {
-        bytes.extend_from_slice(&u64::from_str_radix(group, 16)?.to_be_bytes())?;
+    for archive in archives {
+        bytes
+            .push(bytes_of(rt, *archive))
+            .expect(rt, "memory for archives");
     }
-    Ok(bytes)
-}
-
-/// The log, with the commit or without it.
-fn log_bytes(alloc: Global, is_committed: bool) -> Result<Vec<u8>, Fail> {
-    let mut bytes = bytes_of(alloc, LOG)?;
-    if is_committed {
-        bytes.extend_from_slice(&bytes_of(alloc, COMMIT)?)?;
+    let mut archives = Vec::new(alloc);
+    for archive in &bytes {
+        archives
+            .push(archive.as_slice())
+            .expect(rt, "memory for archives");
     }
-    Ok(bytes)
+    restore_files(
+        alloc,
+        &mut log.as_slice(),
+        &mut master.as_slice(),
+        &mut archives,
+        writer,
+    )
+    .err()
 }
 
-/// A page with this LSN, and this number in slot 0.
-fn page_bytes(alloc: Global, lsn: u64, number: u64) -> Result<Vec<u8>, Fail> {
-    let mut bytes = bytes_of(alloc, "0000000001000000")?;
-    bytes.extend_from_slice(&lsn.to_le_bytes())?;
-    bytes.extend_from_slice(&number.to_le_bytes())?;
-    bytes.extend_from_slice(&[0; PAGE_BYTES - 24])?;
-    Ok(bytes)
+/// Asserts what comes of restores of files, and what is written.
+fn assert_each(rt: &(impl Abort + AllocGlobal), table: &[Restored]) {
+    for (files, line, volume) in table {
+        let mut written = Vec::new(rt.alloc());
+        let fault = fault_of(rt, *files, &mut written);
+        assert_fault(rt, &fault, line);
+        assert_bytes(rt, &written, *volume);
+    }
 }
 
-/// The archive with this header of a copy that took the formatted page.
-fn archive_bytes(alloc: Global, header: &str) -> Result<Vec<u8>, Fail> {
-    let mut bytes = bytes_of(alloc, header)?;
-    bytes.extend_from_slice(&page_bytes(alloc, 0, 0)?)?;
-    Ok(bytes)
+static RESTORED: [Restored; 4] = [
+    // What was committed is there. Without the commit a record at 448 compensates it.
+    ((COMMITTED_LOG, MASTER, &[COPY]), "", FIVE_AT_128),
+    ((OPEN_LOG, MASTER, &[COPY]), "", NONE_AT_448),
+    // Redo from 192 on leaves the change out, whoever made the archive.
+    ((COMMITTED_LOG, MASTER, &[LATE_COPY]), "", FORMATTED),
+    ((OPEN_LOG, MASTER, &[LATE_COPY]), "", NONE_AT_448),
+];
+
+#[test]
+fn a_page_is_restored(rt: HostRuntime) {
+    assert_each(&rt, &RESTORED);
 }
 
-/// What is written where these files are restored.
-fn restored(
-    alloc: Global,
-    log: &[u8],
-    master: &[u8],
-    archives: &mut [&[u8]],
-) -> Result<(Vec<u8>, Option<RestoreFault>), Fail> {
-    let [mut log, mut master] = [log, master];
-    let mut written = Vec::new(alloc);
-    let fault = restore_files(alloc, &mut log, &mut master, archives, &mut written).err();
-    Ok((written, fault))
+static ON_A_LATE_COPY: [Restored; 1] = [(
+    (COMMITTED_LOG, MASTER, &[LATE_COPY, NEXT_COPY]),
+    "",
+    FIVE_AT_128,
+)];
+
+#[test]
+fn the_redo_point_is_that_of_the_last_copy(rt: HostRuntime) {
+    assert_each(&rt, &ON_A_LATE_COPY);
 }
 
-/// Asserts that a log, with the commit or without it, and an archive with this header restore to a
-/// page with this LSN, and this number in slot 0.
-fn assert_restored(
-    rt: &impl Abort,
-    alloc: Global,
-    (is_committed, header, lsn, number): (bool, &str, u64, u64),
-) -> Result<(), Fail> {
-    let log = log_bytes(alloc, is_committed)?;
-    let master = bytes_of(alloc, MASTER)?;
-    let first = archive_bytes(alloc, header)?;
-    let page = page_bytes(alloc, lsn, number)?;
-    let (written, fault) = restored(alloc, &log, &master, &mut [first.as_slice()])?;
-    same_at(rt, &fault, &None, &(is_committed, lsn));
-    same_at(rt, &written, &page, &(is_committed, lsn));
-    Ok(())
+/// The log comes first, then the master record, then one archive after another. Nothing is written.
+static REFUSED: [Restored; 9] = [
+    (
+        (EMPTY, SHORT_MASTER, &[CUT_COPY, NEXT_COPY]),
+        "E30 BadHeader",
+        EMPTY,
+    ),
+    (
+        (TORN_LOG, SHORT_MASTER, &[CUT_COPY, NEXT_COPY]),
+        "E32 Torn 448",
+        EMPTY,
+    ),
+    (
+        (COMMITTED_LOG, SHORT_MASTER, &[CUT_COPY, NEXT_COPY]),
+        "E30 BadHeader",
+        EMPTY,
+    ),
+    (
+        (COMMITTED_LOG, OTHER_MASTER, &[CUT_COPY, NEXT_COPY]),
+        "E35 BadChain 128",
+        EMPTY,
+    ),
+    (
+        (COMMITTED_LOG, MASTER, &[CUT_COPY, NEXT_COPY]),
+        "E36 BadArchive 64",
+        EMPTY,
+    ),
+    (
+        (COMMITTED_LOG, MASTER, &[NEXT_COPY, CUT_COPY]),
+        "E37 ChainBroken 2",
+        EMPTY,
+    ),
+    (
+        (COMMITTED_LOG, MASTER, &[COPY, COPY]),
+        "E37 ChainBroken 1",
+        EMPTY,
+    ),
+    (
+        (COMMITTED_LOG, MASTER, &[COPY, EMPTY]),
+        "E36 BadArchive 0",
+        EMPTY,
+    ),
+    ((COMMITTED_LOG, MASTER, &[]), "E37 ChainBroken 0", EMPTY),
+];
+
+#[test]
+fn files_are_refused(rt: HostRuntime) {
+    assert_each(&rt, &REFUSED);
 }
 
 #[test]
-fn a_page_is_restored(rt: HostRuntime) -> Result<(), Fail> {
-    for given in [
-        // What was committed is there. Without the commit a record at 448 compensates it.
-        (true, COPY, 128, 5),
-        (false, COPY, 448, 0),
-        // Redo from 192 on leaves the change out, whoever made the archive.
-        (true, LATE_COPY, 0, 0),
-        (false, LATE_COPY, 448, 0),
-    ] {
-        assert_restored(&rt, rt.alloc(), given)?;
-    }
-    Ok(())
-}
-
-#[test]
-fn the_redo_point_is_that_of_the_last_copy(rt: HostRuntime) -> Result<(), Fail> {
-    let files = files_of(rt.alloc())?;
-    let late = archive_bytes(rt.alloc(), LATE_COPY)?;
-    let mut archives = [late.as_slice(), &files.next];
-    let (written, fault) = restored(rt.alloc(), &files.log, &files.master, &mut archives)?;
-    same(&rt, &fault, &None);
-    same(&rt, &written, &page_bytes(rt.alloc(), 128, 5)?);
-    Ok(())
-}
-
-/// Files that fit together, and a master record that does not fit.
-#[derive(Drop)]
-struct Files {
-    log: Vec<u8>,
-    master: Vec<u8>,
-    other: Vec<u8>,
-    first: Vec<u8>,
-    next: Vec<u8>,
-}
-
-fn files_of(alloc: Global) -> Result<Files, Fail> {
-    Ok(Files {
-        log: log_bytes(alloc, true)?,
-        master: bytes_of(alloc, MASTER)?,
-        other: bytes_of(alloc, OTHER_MASTER)?,
-        first: archive_bytes(alloc, COPY)?,
-        next: bytes_of(alloc, NEXT_COPY)?,
-    })
-}
-
-/// Asserts that these files are refused, and that nothing is written.
-fn assert_refused(
-    rt: &impl Abort,
-    alloc: Global,
-    (log, master): (&[u8], &[u8]),
-    archives: &mut [&[u8]],
-    wanted: RestoreFault,
-) -> Result<(), Fail> {
-    let (written, fault) = restored(alloc, log, master, archives)?;
-    same_at(rt, &fault, &Some(wanted), &wanted);
-    same_at(rt, &written.len(), &0, &wanted);
-    Ok(())
-}
-
-/// The log comes first, then the master record, then one archive after another.
-fn assert_each_refused(rt: &impl Abort, alloc: Global, files: &Files) -> Result<(), Fail> {
-    let Files {
-        log,
-        master,
-        other,
-        first,
-        next,
-    } = files;
-    let torn = log.get(..500).unwrap_or(&[]);
-    let short = master.get(..63).unwrap_or(&[]);
-    let cut = first.get(..574).unwrap_or(&[]);
-    let empty: &[u8] = &[];
-    let broken = |copy| RestoreFault::ChainBroken(CopyId(copy));
-    for (log, master, archives, wanted) in [
-        (empty, short, [cut, next], RestoreFault::BadHeader),
-        (torn, short, [cut, next], RestoreFault::Torn(Lsn(448))),
-        (log, short, [cut, next], RestoreFault::BadHeader),
-        (log, other, [cut, next], RestoreFault::BadChain(Lsn(128))),
-        (log, master, [cut, next], RestoreFault::BadArchive(64)),
-        (log, master, [next, cut], broken(2)),
-        (log, master, [first, first], broken(1)),
-        (log, master, [first, empty], RestoreFault::BadArchive(0)),
-    ] {
-        let mut archives = archives;
-        assert_refused(rt, alloc, (log, master), &mut archives, wanted)?;
-    }
-    assert_refused(rt, alloc, (log, master), &mut [], broken(0))
-}
-
-#[test]
-fn files_are_refused(rt: HostRuntime) -> Result<(), Fail> {
-    let files = files_of(rt.alloc())?;
-    let done = assert_each_refused(&rt, rt.alloc(), &files);
-    drop(files);
-    done
-}
-
-#[test]
-fn a_failing_writer_is_told(rt: HostRuntime) -> Result<(), Fail> {
-    let files = files_of(rt.alloc())?;
+fn a_failing_writer_is_told(rt: HostRuntime) {
     let mut room = [0; 100];
-    let outcome = restore_files(
-        rt.alloc(),
-        &mut files.log.as_slice(),
-        &mut files.master.as_slice(),
-        &mut [files.first.as_slice()],
-        &mut room.as_mut_slice(),
-    );
-    drop(files);
-    same(&rt, &outcome, &Err(RestoreFault::WriteFault(100)));
-    let page = page_bytes(rt.alloc(), 128, 5)?;
+    let files: Files = (COMMITTED_LOG, MASTER, &[COPY]);
+    let fault = fault_of(&rt, files, &mut room.as_mut_slice());
+    assert_fault(&rt, &fault, "E29 WriteFault 100");
+    let page = bytes_of(&rt, FIVE_AT_128);
     same(&rt, &page.get(..100), &Some(room.as_slice()));
-    Ok(())
 }

@@ -1,95 +1,159 @@
 //! Scripts with their replies, and with the pages that their last restore brings back.
 
-mod rows;
+ghost use Rattle.log_records.specs.Log.{IsPageCount};
 
-use crate::engine::{holds_at, same, same_at};
+use crate::asserts::{same, same_at};
+use crate::calls::{Row, put_part, script_of};
+use crate::rows;
 use aries_core::Setup;
-use media_restore::Refused;
+use media_restore::{LoadFault, Refused};
 use page_core::MAX_PAGES;
 use script_run::{FinishFault, finish_script, run_script};
-use std::alloc::Global;
 use std::process::Abort;
-use std::test::Fail;
 
-/// Plays a script, does its restore, and asserts all that is written.
-fn assert_script(
-    rt: &impl Abort,
-    alloc: Global,
+/// Plays the script of these parts and of a restore after them, asserts all that is written, and
+/// tells what comes of the restore.
+fn outcome_of(
+    rt: &(impl Abort + AllocGlobal),
     pages: u32,
-    script: &str,
-    output: &str,
-) -> Result<Result<(), FinishFault>, Fail> {
-    if pages < 1 || pages > MAX_PAGES {
-        return Err(Fail::new("no volume has so many pages"));
-    }
+    parts: &[&str],
+    restore: &str,
+) -> Result<(), FinishFault>
+    requires { IsPageCount pages }
+{
+    let alloc = rt.alloc();
+    let (mut script, mut output) = script_of(rt, parts);
+    put_part(rt, &mut script, &mut output, restore);
     let setup = Setup {
         pages,
         frames: MAX_PAGES,
     };
-    let mut reader = script.as_bytes();
     let mut written = Vec::new(alloc);
-    let ran = run_script(alloc, setup, &mut reader, &mut written)?;
+    let ran = run_script(alloc, setup, &mut script.as_bytes(), &mut written).expect(rt, "a run");
     let outcome = finish_script(alloc, ran, &mut written);
-    holds_at(rt, written.as_slice() == output.as_bytes(), &script);
-    Ok(outcome)
+    let text = str::from_utf8(&written).expect(rt, "a text");
+    same(rt, &text, &output.as_str());
+    outcome
 }
 
-/// Puts the events of a part behind a script, and its replies behind an output.
-fn put_part(script: &mut String, output: &mut String, part: &str) -> Result<(), Fail> {
-    for line in part.split('\n') {
-        let line = line.trim();
-        if let Some((event, reply)) = line.split_once(" -> ") {
-            writeln!(script, "{event}")?;
-            writeln!(output, "{reply}")?;
-        } else if !line.is_empty() {
-            writeln!(output, "{line}")?;
-        }
-    }
-    Ok(())
-}
+const NO_CHECKPOINT: Row = Row {
+    pages: 4,
+    parts: &["gather -> E14 NoCkpt"],
+};
 
-/// Plays the script of these parts, and asserts what comes of its restore.
-fn assert_row(
-    rt: &impl Abort,
-    alloc: Global,
-    pages: u32,
-    parts: &[&str],
-    wanted: Result<(), FinishFault>,
-) -> Result<(), Fail> {
-    let mut script = String::new(alloc);
-    let mut output = String::new(alloc);
-    for part in parts {
-        put_part(&mut script, &mut output, part)?;
+const READ_BEFORE_A_RESTORE: Row = Row {
+    pages: 2,
+    parts: &[rows::IDLE, "full -> copy 1"],
+};
+
+const DROPPED_BEFORE_A_RESTORE: Row = Row {
+    pages: 2,
+    parts: &[rows::IDLE, "full -> copy 1\ndrop 1 -> dropped"],
+};
+
+const OF_TWO_PAGES: &str = "
+    restore 1 all -> page 0 lsn 0
+    page 1 lsn 256 0=9
+";
+
+/// Rows, a restore after each with its lines, or none, and what comes of it.
+static RUNS: [(Row, &str, Result<(), FinishFault>); 25] = [
+    (rows::SUM_WRAPS, "", Ok(())),
+    (rows::CHANGED_AFTER_A_COPY, OF_TWO_PAGES, Ok(())),
+    (
+        rows::COPIED_WHEN_DIRTY,
+        "restore 1 all -> page 0 lsn 128 0=5",
+        Ok(()),
+    ),
+    (
+        rows::COPIED_BEHIND_THE_CURSOR,
+        "restore 1 all -> page 0 lsn 192 0=5",
+        Ok(()),
+    ),
+    (
+        rows::COPIED_AFTER_A_CHANGED_WRITE,
+        "restore 1 all -> page 0 lsn 192 0=6",
+        Ok(()),
+    ),
+    (
+        rows::TAKEN_AT_THE_REDO_POINT,
+        "restore 2 all -> page 0 lsn 128 0=5",
+        Ok(()),
+    ),
+    // No Add is made twice.
+    (
+        rows::ADDED_BEFORE_A_COPY,
+        "restore 1 all -> page 0 lsn 128 0=5",
+        Ok(()),
+    ),
+    // All records are kept, the Set is lost, and a forced record is lost.
+    (
+        rows::ADDED_AND_SET,
+        "restore 1 all -> page 0 lsn 640 0=3",
+        Ok(()),
+    ),
+    (
+        rows::ADDED_AND_SET,
+        "restore 1 7 -> page 0 lsn 512 0=3",
+        Ok(()),
+    ),
+    (
+        rows::ADDED_AND_SET,
+        "restore 1 6 -> E27 CutTooShort 7",
+        Err(FinishFault::Refused(Refused::Load(LoadFault::CutTooShort(7)))),
+    ),
+    (rows::SLOT_HELD, "", Ok(())),
+    (rows::DROPPED_WHILE_READ, "", Ok(())),
+    (
+        rows::WHILE_A_CHECKPOINT_IS_OPEN,
+        "restore 1 all -> page 0 lsn 256 0=5",
+        Ok(()),
+    ),
+    (rows::CHAIN, "restore 3 all -> page 0 lsn 704", Ok(())),
+    (rows::LAST_PAGE_AND_SLOT, "", Ok(())),
+    (rows::ROLLED_BACK, "", Ok(())),
+    (rows::WRITTEN, "", Ok(())),
+    (rows::FOUR_PAGES, "", Ok(())),
+    (rows::WRITTEN_BEFORE_ITS_TURN, "", Ok(())),
+    (NO_CHECKPOINT, "", Ok(())),
+    (rows::TWO_COPIES_AT_ONCE, "", Ok(())),
+    (
+        rows::TWO_COPIES_OF_ONE_PARENT,
+        "
+        restore 3 all -> page 0 lsn 0
+        page 1 lsn 256 0=9
+    ",
+        Ok(()),
+    ),
+    // The order of undo.
+    (
+        rows::THREE_LOSERS,
+        "restore 1 all -> page 0 lsn 832",
+        Ok(()),
+    ),
+    (
+        READ_BEFORE_A_RESTORE,
+        "restore 1 all -> E19 CopyNotComplete",
+        Err(FinishFault::Refused(Refused::Load(LoadFault::CopyNotComplete))),
+    ),
+    (
+        DROPPED_BEFORE_A_RESTORE,
+        "restore 1 all -> E17 NoCopy",
+        Err(FinishFault::Refused(Refused::Load(LoadFault::NoCopy))),
+    ),
+];
+
+#[test]
+fn scripts_are_answered_and_restored(rt: HostRuntime) {
+    for (row, restore, wanted) in &RUNS {
+        let outcome = outcome_of(&rt, row.pages(&rt), row.parts, restore);
+        same_at(&rt, &outcome, wanted, &row.parts);
     }
-    let outcome = assert_script(rt, alloc, pages, &script, &output)?;
-    same_at(rt, &outcome, &wanted, &script.as_str());
-    Ok(())
 }
 
 #[test]
-fn scripts_are_answered_and_restored(rt: HostRuntime) -> Result<(), Fail> {
-    for (pages, parts) in rows::ROWS {
-        assert_row(&rt, rt.alloc(), pages, parts, Ok(()))?;
-    }
-    for (pages, parts, fault) in rows::REFUSED {
-        let wanted = Err(FinishFault::Refused(Refused::Load(fault)));
-        assert_row(&rt, rt.alloc(), pages, parts, wanted)?;
-    }
-    Ok(())
-}
-
-#[test]
-fn sixty_four_transactions_are_open(rt: HostRuntime) -> Result<(), Fail> {
-    let mut script = String::new(rt.alloc());
-    let mut output = String::new(rt.alloc());
-    for number in 1..65u32 {
-        let lsn = 64 * number;
-        writeln!(script, "begin")?;
-        writeln!(output, "began {number} at {lsn}")?;
-    }
-    writeln!(script, "begin")?;
-    writeln!(output, "E9 TooManyTxns")?;
-    let outcome = assert_script(&rt, rt.alloc(), 1, &script, &output)?;
+fn sixty_four_transactions_are_open(rt: HostRuntime) {
+    let row = rows::sixty_four_transactions(&rt);
+    let outcome = outcome_of(&rt, 1, &[&row], "");
     same(&rt, &outcome, &Ok(()));
-    Ok(())
 }

@@ -2,83 +2,57 @@
 
 mod rows;
 
-use crate::engine::{holds_at, same_at};
-use aries_core::{Event, Refusal, Reply};
-use copy_vault::CopyId;
-use event_script::{LastRestore, ReplyLine, ScriptFault, read_script};
-use page_core::TxnNo;
-use std::alloc::Global;
-use std::fmt::Display;
+use crate::asserts::{assert_texts, same_at};
+use event_script::{ScriptFault, read_script};
 use std::io;
 use std::io::{ErrorKind, Read};
-use std::test::Fail;
+use std::process::Abort;
 
-/// Whether a script of this line says this event alone.
-fn is_event(alloc: Global, line: &str, event: Event) -> Result<bool, ScriptFault> {
-    let script = read_script(alloc, &mut line.as_bytes())?;
-    Ok(script.events.as_slice() == [event].as_slice() && script.restore.is_none())
+/// Asserts what scripts say: their events, and their restore, as they are printed for debugging.
+fn assert_said(rt: &(impl Abort + AllocGlobal), table: &[(&str, &str)]) {
+    let alloc = rt.alloc();
+    for (text, said) in table {
+        let script = read_script(alloc, &mut text.as_bytes()).expect(rt, "a script");
+        let (events, restore) = (&script.events, script.restore);
+        let printed = format!(in alloc; "{events:?} {restore:?}").expect(rt, "memory for a text");
+        same_at(rt, &printed.as_str(), said, text);
+    }
 }
 
 #[test]
-fn each_call_has_a_line(rt: HostRuntime) -> Result<(), Fail> {
-    for (line, event) in rows::CALLS {
-        holds_at(&rt, is_event(rt.alloc(), line, event)?, &line);
-    }
-    Ok(())
+fn each_call_has_a_line(rt: HostRuntime) {
+    assert_said(&rt, &rows::CALLS);
+}
+
+#[test]
+fn a_restore_is_last(rt: HostRuntime) {
+    assert_said(&rt, &rows::RESTORES);
 }
 
 /// The fault of a script that a reader gives.
-fn fault_of<R: Read>(alloc: Global, reader: &mut R) -> Option<ScriptFault> {
-    read_script(alloc, reader).err()
+fn fault_of<R: Read>(rt: &impl AllocGlobal, reader: &mut R) -> Option<ScriptFault> {
+    read_script(rt.alloc(), reader).err()
+}
+
+/// Asserts what the numbers of the first bad lines are.
+fn assert_bad(rt: &(impl Abort + AllocGlobal), table: &[(&str, u64)]) {
+    for (text, number) in table {
+        let fault = fault_of(rt, &mut text.as_bytes());
+        same_at(rt, &fault, &Some(ScriptFault::BadLine(*number)), text);
+    }
 }
 
 #[test]
 fn other_lines_are_bad(rt: HostRuntime) {
-    for line in rows::BAD_LINES {
-        let fault = fault_of(rt.alloc(), &mut line.as_bytes());
-        same_at(&rt, &fault, &Some(ScriptFault::BadLine(1)), &line);
-    }
+    assert_bad(&rt, &rows::BAD_LINES);
 }
 
 /// The first bad line counts, and skipped lines count as lines.
 #[test]
 fn the_first_bad_line_is_named(rt: HostRuntime) {
-    for (text, number) in rows::BAD_SCRIPTS {
-        let fault = fault_of(rt.alloc(), &mut text.as_bytes());
-        same_at(&rt, &fault, &Some(ScriptFault::BadLine(number)), &text);
-    }
-    let fault = fault_of(rt.alloc(), &mut b"no\n# \xc3".as_slice());
+    assert_bad(&rt, &rows::BAD_SCRIPTS);
+    let fault = fault_of(&rt, &mut b"no\n# \xc3".as_slice());
     same_at(&rt, &fault, &Some(ScriptFault::Input), &"no text");
-}
-
-/// Whether a script of this text has so many events, and ends with this restore, or with none.
-fn is_script(
-    alloc: Global,
-    text: &str,
-    count: usize,
-    restore: Option<LastRestore>,
-) -> Result<bool, ScriptFault> {
-    let script = read_script(alloc, &mut text.as_bytes())?;
-    Ok(script.events.len() == count && script.restore == restore)
-}
-
-#[test]
-fn a_restore_is_last(rt: HostRuntime) -> Result<(), Fail> {
-    for (text, count, copy, cut) in rows::RESTORES {
-        let restore = LastRestore {
-            copy: CopyId(copy),
-            cut,
-        };
-        holds_at(
-            &rt,
-            is_script(rt.alloc(), text, count, Some(restore))?,
-            &text,
-        );
-    }
-    for (text, count) in rows::WITHOUT_RESTORE {
-        holds_at(&rt, is_script(rt.alloc(), text, count, None)?, &text);
-    }
-    Ok(())
 }
 
 /// Gives line feeds, so many, and then ends, or fails.
@@ -100,46 +74,30 @@ impl Read for Feeds {
     }
 }
 
+/// So many line feeds, whether the reader then fails, and what comes of it.
+static FEEDS: [(usize, bool, Option<ScriptFault>); 3] = [
+    (16_777_216, false, None),
+    (16_777_217, false, Some(ScriptFault::Input)),
+    (3, true, Some(ScriptFault::ReadFault)),
+];
+
 #[test]
 fn an_input_may_be_refused(rt: HostRuntime) {
-    for (left, fails, fault) in [
-        (16_777_216, false, None),
-        (16_777_217, false, Some(ScriptFault::Input)),
-        (3, true, Some(ScriptFault::ReadFault)),
-    ] {
-        let mut reader = Feeds { left, fails };
-        same_at(&rt, &fault_of(rt.alloc(), &mut reader), &fault, &left);
+    for (left, fails, fault) in &FEEDS {
+        let mut reader = Feeds {
+            left: *left,
+            fails: *fails,
+        };
+        same_at(&rt, &fault_of(&rt, &mut reader), fault, left);
     }
-}
-
-/// Whether this line is printed of a value.
-fn prints(alloc: Global, value: &impl Display, line: &str) -> Result<bool, Fail> {
-    let printed = format!(in alloc; "{value}")?;
-    Ok(printed.as_str() == line)
 }
 
 #[test]
-fn a_reply_has_a_line(rt: HostRuntime) -> Result<(), Fail> {
-    for (answer, line) in rows::ANSWERS {
-        holds_at(
-            &rt,
-            prints(rt.alloc(), &ReplyLine(Ok(answer)), line)?,
-            &line,
-        );
-    }
-    let refused = ReplyLine(Err(Refusal::SlotBusy(TxnNo(1))));
-    holds_at(
-        &rt,
-        prints(rt.alloc(), &refused, "E5 SlotBusy 1")?,
-        &"SlotBusy",
-    );
-    Ok(())
+fn a_reply_has_a_line(rt: HostRuntime) {
+    assert_texts(&rt, &rows::REPLIES);
 }
 
 #[test]
-fn a_fault_has_a_line(rt: HostRuntime) -> Result<(), Fail> {
-    for (fault, line) in rows::FAULTS {
-        holds_at(&rt, prints(rt.alloc(), &fault, line)?, &line);
-    }
-    Ok(())
+fn a_fault_has_a_line(rt: HostRuntime) {
+    assert_texts(&rt, &rows::FAULTS);
 }

@@ -1,19 +1,15 @@
 //! What no clause says of redo: that the volume of a log is written, with its known bytes, and
 //! which fault comes of a reader or a writer that fails.
 
-use crate::engine::{holds_at, same, same_at};
+use crate::asserts::{assert_fault, assert_texts, same_at};
+use crate::groups::{Groups, assert_bytes, bytes_of};
 use page_core::Lsn;
-use std::alloc::Global;
 use std::io;
 use std::io::{ErrorKind, Read, Write};
 use std::process::Abort;
-use std::test::Fail;
 use volume_redo::{Fault, redo_stream};
 
-// The parts of the logs in groups of eight bytes, in hexadecimal. `0` is eight zero bytes.
 const ONE_PAGE: &str = "41494d474c4f4731 0100000000000000 0 0 0 0 0 0";
-
-const TWO_PAGES: &str = "41494d474c4f4731 0200000000000000 0 0 0 0 0 0";
 
 const BEGIN: &str = "0100000001000000 0 0 0 0 0 0 4000000000000000";
 
@@ -37,147 +33,100 @@ const SET_SEVEN_SPOILED: &str =
 const SET_IN_PAGE_ONE: &str =
     "0200000001000000 4000000000000000 0 0100000003000100 0 0700000000000000 0 8000000000000000";
 
-// What the four records make: groups of eight bytes at their offsets.
-static OF_FOUR_RECORDS: [(usize, u64); 3] = [
-    (0, 0x0000000001000000),
-    (8, 0xc000000000000000),
-    (40, 0x0c00000000000000),
-];
+const TWO_PAGES: Groups = Groups(&["41494d474c4f4731 0200000000000000"], 64);
 
-fn bytes_of_groups(alloc: Global, parts: &[&str]) -> Result<Vec<u8>, Fail> {
-    let mut bytes = Vec::new(alloc);
-    for part in parts {
-        for group in part.split_whitespace() {
-            bytes.extend_from_slice(&u64::from_str_radix(group, 16)?.to_be_bytes())?;
-        }
-    }
-    Ok(bytes)
-}
+const FOUR_PARTS: &[&str] = &[ONE_PAGE, BEGIN, SET_SEVEN, ADD_FIVE, COMMIT];
 
-fn four_records(alloc: Global) -> Result<Vec<u8>, Fail> {
-    bytes_of_groups(alloc, &[ONE_PAGE, BEGIN, SET_SEVEN, ADD_FIVE, COMMIT])
-}
+const FOUR_RECORDS: Groups = Groups(FOUR_PARTS, 320);
 
-/// So many zero bytes, with these groups of eight bytes at these offsets.
-fn bytes_with(alloc: Global, count: usize, placed: &[(usize, u64)]) -> Result<Vec<u8>, Fail> {
-    let mut bytes = Vec::new(alloc);
-    for place in 0..count / 8 {
-        let mut group = 0u64;
-        for (at, given) in placed {
-            if *at / 8 == place {
-                group = *given;
-            }
-        }
-        bytes.extend_from_slice(&group.to_be_bytes())?;
-    }
-    Ok(bytes)
-}
+/// What the four records make.
+const VOLUME: Groups = Groups(
+    &["0000000001000000 c000000000000000 0 0 0 0c00000000000000"],
+    512,
+);
 
-fn volume_of_four_records(alloc: Global) -> Result<Vec<u8>, Fail> {
-    bytes_with(alloc, 512, &OF_FOUR_RECORDS)
-}
+const CUT: Groups = Groups(FOUR_PARTS, 266);
 
-/// Asserts that a log gives so many bytes, with these groups of eight bytes at these offsets.
-fn assert_volume(
-    rt: &impl Abort,
-    alloc: Global,
-    log: &[u8],
-    count: usize,
-    placed: &[(usize, u64)],
-) -> Result<(), Fail> {
-    let mut volume = Vec::new(alloc);
-    let mut rest = log;
-    same(rt, &redo_stream(alloc, &mut rest, &mut volume), &Ok(()));
-    same(rt, &volume, &bytes_with(alloc, count, placed)?);
-    Ok(())
+const NO_BYTES: Groups = Groups(&[], 0);
+
+const OUTSIDE: Groups = Groups(&[ONE_PAGE, BEGIN, SET_IN_PAGE_ONE], 192);
+
+const REPEATED: Groups = Groups(&[ONE_PAGE, BEGIN, SET_SEVEN, ADD_FIVE, COMMIT, COMMIT], 384);
+
+const SPOILED: Groups = Groups(&[ONE_PAGE, BEGIN, SET_SEVEN_SPOILED, ADD_FIVE, COMMIT], 320);
+
+/// The numbers of a page's slots, and its LSN.
+const NOTHING: &str = "0 0 0 0 0 0 0 0 0 0 0 0 0 0 0 0 0 0 0 0 0 0 0 0 0 0 0 0 0 0 0 \
+                       0 0 0 0 0 0 0 0 0 0 0 0 0 0 0 0 0 0 0 0 0 0 0 0 0 0 0 0 0 0 0 0";
+
+/// What no record makes of two pages.
+const FORMATTED: Groups = Groups(&["0000000001000000", NOTHING, "0100000001000000"], 1024);
+
+const SUM_WRAPS: Groups = Groups(&[ONE_PAGE, BEGIN, SET_ONE, ADD_THE_MOST], 256);
+
+const VOLUME_OF_A_SUM: Groups = Groups(&["0000000001000000 c000000000000000"], 512);
+
+/// Asserts that a log gives a volume.
+fn assert_volume(rt: &(impl Abort + AllocGlobal), log: Groups, volume: Groups) {
+    let alloc = rt.alloc();
+    let log = bytes_of(rt, log);
+    let mut written = Vec::new(alloc);
+    let fault = redo_stream(alloc, &mut log.as_slice(), &mut written).err();
+    assert_fault(rt, &fault, "");
+    assert_bytes(rt, &written, volume);
 }
 
 #[test]
-fn writes_the_volume_of_no_records(rt: HostRuntime) -> Result<(), Fail> {
-    let log = bytes_of_groups(rt.alloc(), &[TWO_PAGES])?;
-    let placed = [(0, 0x0000000001000000), (512, 0x0100000001000000)];
-    assert_volume(&rt, rt.alloc(), &log, 1024, &placed)
+fn writes_the_volume_of_no_records(rt: HostRuntime) {
+    assert_volume(&rt, TWO_PAGES, FORMATTED);
 }
 
 #[test]
-fn writes_the_volume_of_four_records(rt: HostRuntime) -> Result<(), Fail> {
-    let log = four_records(rt.alloc())?;
-    assert_volume(&rt, rt.alloc(), &log, 512, &OF_FOUR_RECORDS)
+fn writes_the_volume_of_four_records(rt: HostRuntime) {
+    assert_volume(&rt, FOUR_RECORDS, VOLUME);
 }
 
 #[test]
-fn writes_the_volume_of_a_sum_that_wraps(rt: HostRuntime) -> Result<(), Fail> {
-    let log = bytes_of_groups(rt.alloc(), &[ONE_PAGE, BEGIN, SET_ONE, ADD_THE_MOST])?;
-    let placed = [(0, 0x0000000001000000), (8, 0xc000000000000000)];
-    assert_volume(&rt, rt.alloc(), &log, 512, &placed)
+fn writes_the_volume_of_a_sum_that_wraps(rt: HostRuntime) {
+    assert_volume(&rt, SUM_WRAPS, VOLUME_OF_A_SUM);
 }
 
-/// Asserts that a reader gives no log, and that nothing is written.
-fn assert_fault<R: Read>(rt: &impl Abort, alloc: Global, reader: &mut R, fault: Fault) {
-    let mut volume = Vec::new(alloc);
-    same(rt, &redo_stream(alloc, reader, &mut volume), &Err(fault));
-    holds_at(rt, volume.is_empty(), &fault);
+/// Asserts that a reader gives no log, by the line of its fault, and that nothing is written.
+fn assert_refused<R: Read>(rt: &(impl Abort + AllocGlobal), reader: &mut R, line: &str) {
+    let mut volume = Vec::new(rt.alloc());
+    let fault = redo_stream(rt.alloc(), reader, &mut volume).err();
+    assert_fault(rt, &fault, line);
+    same_at(rt, &volume.len(), &0, &line);
 }
 
-/// The same of some bytes, and what the fault's line is.
-fn assert_no_log(
-    rt: &impl Abort,
-    alloc: Global,
-    bytes: &[u8],
-    fault: Fault,
-    line: &str,
-) -> Result<(), Fail> {
-    let mut rest = bytes;
-    assert_fault(rt, alloc, &mut rest, fault);
-    same(rt, &fault.to_string(alloc)?.as_str(), &line);
-    Ok(())
+/// The same of some bytes.
+fn assert_no_log(rt: &(impl Abort + AllocGlobal), log: Groups, line: &str) {
+    assert_refused(rt, &mut bytes_of(rt, log).as_slice(), line);
 }
 
 #[test]
-fn writes_nothing_of_a_cut_log(rt: HostRuntime) -> Result<(), Fail> {
-    let log = four_records(rt.alloc())?;
-    let fault = Fault::Torn(Lsn(256));
-    assert_no_log(
-        &rt,
-        rt.alloc(),
-        &log[..log.len().min(266)],
-        fault,
-        "E32 Torn 256",
-    )
+fn writes_nothing_of_a_cut_log(rt: HostRuntime) {
+    assert_no_log(&rt, CUT, "E32 Torn 256");
 }
 
 #[test]
-fn writes_nothing_of_no_bytes(rt: HostRuntime) -> Result<(), Fail> {
-    assert_no_log(&rt, rt.alloc(), &[], Fault::BadHeader, "E30 BadHeader")
-}
-
-fn assert_bad_record(
-    rt: &impl Abort,
-    alloc: Global,
-    parts: &[&str],
-    at: u64,
-    line: &str,
-) -> Result<(), Fail> {
-    let log = bytes_of_groups(alloc, parts)?;
-    assert_no_log(rt, alloc, &log, Fault::BadRecord(Lsn(at)), line)
+fn writes_nothing_of_no_bytes(rt: HostRuntime) {
+    assert_no_log(&rt, NO_BYTES, "E30 BadHeader");
 }
 
 #[test]
-fn writes_nothing_of_a_spoiled_record(rt: HostRuntime) -> Result<(), Fail> {
-    let parts = [ONE_PAGE, BEGIN, SET_SEVEN_SPOILED, ADD_FIVE, COMMIT];
-    assert_bad_record(&rt, rt.alloc(), &parts, 128, "E31 BadRecord 128")
+fn writes_nothing_of_a_spoiled_record(rt: HostRuntime) {
+    assert_no_log(&rt, SPOILED, "E31 BadRecord 128");
 }
 
 #[test]
-fn writes_nothing_of_a_page_outside(rt: HostRuntime) -> Result<(), Fail> {
-    let parts = [ONE_PAGE, BEGIN, SET_IN_PAGE_ONE];
-    assert_bad_record(&rt, rt.alloc(), &parts, 128, "E31 BadRecord 128")
+fn writes_nothing_of_a_page_outside(rt: HostRuntime) {
+    assert_no_log(&rt, OUTSIDE, "E31 BadRecord 128");
 }
 
 #[test]
-fn writes_nothing_of_a_repeated_record(rt: HostRuntime) -> Result<(), Fail> {
-    let parts = [ONE_PAGE, BEGIN, SET_SEVEN, ADD_FIVE, COMMIT, COMMIT];
-    assert_bad_record(&rt, rt.alloc(), &parts, 320, "E31 BadRecord 320")
+fn writes_nothing_of_a_repeated_record(rt: HostRuntime) {
+    assert_no_log(&rt, REPEATED, "E31 BadRecord 320");
 }
 
 /// Gives at most `step` bytes at a read. Each read is interrupted so often before. The read after
@@ -211,195 +160,93 @@ impl<'a> Read for Hesitant<'a> {
     }
 }
 
-impl<'a> Hesitant<'a> {
-    fn new(rest: &'a [u8], step: usize, interruptions: u32) -> Hesitant<'a> {
-        Hesitant {
-            rest,
-            step,
-            interruptions,
+/// How many bytes come at a read of the four records, and how often it is interrupted before.
+static HESITATIONS: [(usize, u32); 5] = [(1, 0), (1, 3), (7, 3), (64, 1), (512, 3)];
+
+#[test]
+fn reads_a_hesitant_reader_to_its_end(rt: HostRuntime) {
+    let log = bytes_of(&rt, FOUR_RECORDS);
+    for (step, interruptions) in &HESITATIONS {
+        let mut reader = Hesitant {
+            rest: &log,
+            step: *step,
+            interruptions: *interruptions,
             interrupted: 0,
             good_reads: None,
-        }
-    }
-
-    /// Gives a byte at a read, and fails after so many reads.
-    fn failing(rest: &'a [u8], good_reads: usize) -> Hesitant<'a> {
-        Hesitant {
-            good_reads: Some(good_reads),
-            ..Hesitant::new(rest, 1, 0)
-        }
+        };
+        let mut volume = Vec::new(rt.alloc());
+        let fault = redo_stream(rt.alloc(), &mut reader, &mut volume).err();
+        assert_fault(&rt, &fault, "");
+        assert_bytes(&rt, &volume, VOLUME);
     }
 }
 
-/// Asserts that such a reader of the four records gives their volume.
-fn assert_hesitant(
-    rt: &impl Abort,
-    alloc: Global,
-    reader: &mut Hesitant<'_>,
-    step: usize,
-) -> Result<(), Fail> {
-    let mut volume = Vec::new(alloc);
-    same(rt, &redo_stream(alloc, reader, &mut volume), &Ok(()));
-    same_at(rt, &volume, &volume_of_four_records(alloc)?, &step);
-    Ok(())
+/// Asserts what comes of a log of which so many bytes are read, one at a read, before a read fails.
+fn assert_failing(rt: &(impl Abort + AllocGlobal), log: &[u8], good_reads: usize, line: &str) {
+    let mut reader = Hesitant {
+        rest: log,
+        step: 1,
+        interruptions: 0,
+        interrupted: 0,
+        good_reads: Some(good_reads),
+    };
+    assert_refused(rt, &mut reader, line);
 }
 
 #[test]
-fn reads_a_hesitant_reader_to_its_end(rt: HostRuntime) -> Result<(), Fail> {
-    let log = four_records(rt.alloc())?;
-    for (step, interruptions) in [(1, 0), (1, 3), (7, 3), (64, 1), (512, 3)] {
-        let mut reader = Hesitant::new(&log, step, interruptions);
-        assert_hesitant(&rt, rt.alloc(), &mut reader, step)?;
+fn writes_nothing_where_a_read_fails(rt: HostRuntime) {
+    let log = bytes_of(&rt, FOUR_RECORDS);
+    for good_reads in 0..321 {
+        assert_failing(&rt, &log, good_reads, "E33 ReadFault");
     }
-    Ok(())
 }
 
 #[test]
-fn writes_nothing_where_a_read_fails(rt: HostRuntime) -> Result<(), Fail> {
-    let log = four_records(rt.alloc())?;
-    for good_reads in 0..=log.len() {
-        let mut reader = Hesitant::failing(&log, good_reads);
-        assert_fault(&rt, rt.alloc(), &mut reader, Fault::ReadFault);
-    }
-    Ok(())
+fn a_bad_record_goes_before_a_later_failure(rt: HostRuntime) {
+    let log = bytes_of(&rt, SPOILED);
+    assert_failing(&rt, &log, 191, "E33 ReadFault");
+    assert_failing(&rt, &log, 192, "E31 BadRecord 128");
+    assert_failing(&rt, &log, 319, "E31 BadRecord 128");
 }
 
-#[test]
-fn a_bad_record_goes_before_a_later_failure(rt: HostRuntime) -> Result<(), Fail> {
-    let parts = [ONE_PAGE, BEGIN, SET_SEVEN_SPOILED, ADD_FIVE, COMMIT];
-    let log = bytes_of_groups(rt.alloc(), &parts)?;
-    for (good_reads, fault) in [
-        (191, Fault::ReadFault),
-        (192, Fault::BadRecord(Lsn(128))),
-        (319, Fault::BadRecord(Lsn(128))),
-    ] {
-        let mut reader = Hesitant::failing(&log, good_reads);
-        assert_fault(&rt, rt.alloc(), &mut reader, fault);
-    }
-    Ok(())
-}
-
-/// Takes at most `step` bytes at a write, and holds `room` in all. When full it fails so, or takes
-/// nothing.
-#[derive(Drop)]
-struct Narrow {
-    held: Vec<u8>,
+/// How a writer takes bytes: at most `step` at a write, and `room` in all. When full it fails so,
+/// or takes nothing. From the byte `first` on, each write is interrupted so often before.
+#[derive(Clone, Copy)]
+struct Limits {
     step: usize,
     room: usize,
     when_full: Option<ErrorKind>,
+    first: usize,
+    interruptions: u32,
+}
+
+/// A writer that takes bytes so.
+#[derive(Drop)]
+struct Narrow {
+    held: Vec<u8>,
+    limits: Limits,
+    interrupted: u32,
 }
 
 impl Write for Narrow {
     fn write(&mut self, buf: &[u8]) -> io::Result<usize> {
-        let left = self.room.saturating_sub(self.held.len());
-        if let (0, Some(kind)) = (left, self.when_full) {
-            return Err(io::Error::from(kind));
-        }
-        let count = buf.len().min(self.step).min(left);
-        self.held.extend_from_slice(&buf[..count])?;
-        Ok(count)
-    }
-
-    fn flush(&mut self) -> io::Result<()> {
-        Ok(())
-    }
-}
-
-impl Narrow {
-    fn new(alloc: Global, step: usize, room: usize, when_full: Option<ErrorKind>) -> Narrow {
-        Narrow {
-            held: Vec::new(alloc),
+        let Limits {
             step,
             room,
             when_full,
-        }
-    }
-}
-
-/// Asserts what comes of a log that is written to a narrow writer, which then holds the first bytes
-/// of the volume.
-fn assert_narrow(
-    rt: &impl Abort,
-    alloc: Global,
-    log: &[u8],
-    writer: &mut Narrow,
-    outcome: Result<(), Fault>,
-    wanted: &[u8],
-) {
-    let mut rest = log;
-    same(rt, &redo_stream(alloc, &mut rest, writer), &outcome);
-    let is_front = Some(writer.held.as_slice()) == wanted.get(..writer.room);
-    holds_at(rt, is_front, &outcome);
-}
-
-#[test]
-fn counts_what_a_narrow_writer_took(rt: HostRuntime) -> Result<(), Fail> {
-    let log = four_records(rt.alloc())?;
-    let wanted = volume_of_four_records(rt.alloc())?;
-    let broken = Some(ErrorKind::BrokenPipe);
-    for (step, room, when_full, outcome) in [
-        (1, 512, broken, Ok(())),
-        (100, 512, broken, Ok(())),
-        (512, 0, broken, Err(Fault::WriteFault(0))),
-        (512, 0, None, Err(Fault::WriteFault(0))),
-        (512, 1, broken, Err(Fault::WriteFault(1))),
-        (1, 7, broken, Err(Fault::WriteFault(7))),
-        (1, 7, None, Err(Fault::WriteFault(7))),
-        (7, 100, broken, Err(Fault::WriteFault(100))),
-        (512, 511, broken, Err(Fault::WriteFault(511))),
-    ] {
-        let mut writer = Narrow::new(rt.alloc(), step, room, when_full);
-        assert_narrow(&rt, rt.alloc(), &log, &mut writer, outcome, &wanted);
-    }
-    Ok(())
-}
-
-/// The bytes of 513 formatted pages, which are more than go out at once.
-fn formatted_volume(alloc: Global) -> Result<Vec<u8>, Fail> {
-    let mut bytes = Vec::new(alloc);
-    for number in 0..513u32 {
-        bytes.extend_from_slice(&number.to_le_bytes())?;
-        bytes.extend_from_slice(&[1, 0, 0, 0])?;
-        bytes.extend_from_slice(&[0; 504])?;
-    }
-    Ok(bytes)
-}
-
-/// To a writer that takes all of them or fails within the last one.
-#[test]
-fn writes_many_pages(rt: HostRuntime) -> Result<(), Fail> {
-    let parts = ["41494d474c4f4731 0102000000000000 0 0 0 0 0 0"];
-    let log = bytes_of_groups(rt.alloc(), &parts)?;
-    let wanted = formatted_volume(rt.alloc())?;
-    let broken = Some(ErrorKind::BrokenPipe);
-    for (room, outcome) in [
-        (262_656, Ok(())),
-        (262_151, Err(Fault::WriteFault(262_151))),
-        (262_144, Err(Fault::WriteFault(262_144))),
-    ] {
-        let mut writer = Narrow::new(rt.alloc(), 4096, room, broken);
-        assert_narrow(&rt, rt.alloc(), &log, &mut writer, outcome, &wanted);
-    }
-    Ok(())
-}
-
-/// Takes one byte at a write. From the byte `first` on, each is taken after so many interruptions.
-#[derive(Drop)]
-struct Interrupted {
-    held: Vec<u8>,
-    first: usize,
-    interruptions: u32,
-    interrupted: u32,
-}
-
-impl Write for Interrupted {
-    fn write(&mut self, buf: &[u8]) -> io::Result<usize> {
-        if self.held.len() >= self.first && self.interrupted < self.interruptions {
+            first,
+            interruptions,
+        } = self.limits;
+        if self.held.len() >= first && self.interrupted < interruptions {
             self.interrupted += 1;
             return Err(io::Error::from(ErrorKind::Interrupted));
         }
         self.interrupted = 0;
-        let count = buf.len().min(1);
+        let left = room.saturating_sub(self.held.len());
+        if let (0, Some(kind)) = (left, when_full) {
+            return Err(io::Error::from(kind));
+        }
+        let count = buf.len().min(step).min(left);
         self.held.extend_from_slice(&buf[..count])?;
         Ok(count)
     }
@@ -409,62 +256,212 @@ impl Write for Interrupted {
     }
 }
 
-impl Interrupted {
-    fn new(alloc: Global, first: usize, interruptions: u32) -> Interrupted {
-        Interrupted {
-            held: Vec::new(alloc),
-            first,
-            interruptions,
-            interrupted: 0,
-        }
-    }
-}
+/// A writer that takes all bytes of a page at once, and breaks then.
+const BROKEN: Limits = Limits {
+    step: 512,
+    room: 512,
+    when_full: Some(ErrorKind::BrokenPipe),
+    first: 0,
+    interruptions: 0,
+};
 
-/// Asserts what comes of a log that is written to such a writer, and which bytes it took.
-fn assert_interrupted(
-    rt: &impl Abort,
-    alloc: Global,
-    log: &[u8],
-    writer: &mut Interrupted,
-    outcome: Result<(), Fault>,
-    wanted: Option<&[u8]>,
-) {
-    let mut rest = log;
-    same(rt, &redo_stream(alloc, &mut rest, writer), &outcome);
-    holds_at(rt, Some(writer.held.as_slice()) == wanted, &outcome);
-}
+/// A writer that takes them one by one.
+const INTERRUPTED: Limits = Limits { step: 1, ..BROKEN };
 
-#[test]
-fn tries_an_interrupted_write_again(rt: HostRuntime) -> Result<(), Fail> {
-    let log = four_records(rt.alloc())?;
-    let wanted = volume_of_four_records(rt.alloc())?;
-    for (first, interruptions, count, outcome) in [
-        (0, 16, 512, Ok(())),
-        (0, 17, 0, Err(Fault::WriteFault(0))),
-        (9, 17, 9, Err(Fault::WriteFault(9))),
-        (511, 17, 511, Err(Fault::WriteFault(511))),
-    ] {
-        let mut writer = Interrupted::new(rt.alloc(), first, interruptions);
-        let taken = wanted.get(..count);
-        assert_interrupted(&rt, rt.alloc(), &log, &mut writer, outcome, taken);
-    }
-    Ok(())
-}
+/// A writer, how many bytes of the volume it takes, and the line of the fault, or no text.
+type Written = (Limits, usize, &'static str);
 
-fn assert_line(rt: &impl Abort, alloc: Global, fault: Fault, line: &str) -> Result<(), Fail> {
-    same(rt, &fault.to_string(alloc)?.as_str(), &line);
-    Ok(())
-}
-
-#[test]
-fn has_its_line(rt: HostRuntime) -> Result<(), Fail> {
+/// Asserts what comes of a log that is written to such writers, which then hold the first bytes of
+/// the volume.
+fn assert_written(rt: &(impl Abort + AllocGlobal), log: Groups, volume: &[u8], table: &[Written]) {
     let alloc = rt.alloc();
-    assert_line(&rt, alloc, Fault::OutOfMemory, "E1 OutOfMemory")?;
-    assert_line(&rt, alloc, Fault::WriteFault(7), "E29 WriteFault 7")?;
-    assert_line(&rt, alloc, Fault::BadHeader, "E30 BadHeader")?;
-    assert_line(&rt, alloc, Fault::BadRecord(Lsn(128)), "E31 BadRecord 128")?;
-    assert_line(&rt, alloc, Fault::Torn(Lsn(256)), "E32 Torn 256")?;
-    assert_line(&rt, alloc, Fault::ReadFault, "E33 ReadFault")?;
-    assert_line(&rt, alloc, Fault::TooLong, "E34 TooLong")?;
-    assert_line(&rt, alloc, Fault::BadChain(Lsn(256)), "E35 BadChain 256")
+    let log = bytes_of(rt, log);
+    for (limits, taken, line) in table {
+        let mut writer = Narrow {
+            held: Vec::new(alloc),
+            limits: *limits,
+            interrupted: 0,
+        };
+        let fault = redo_stream(alloc, &mut log.as_slice(), &mut writer).err();
+        assert_fault(rt, &fault, line);
+        let is_front = Some(writer.held.as_slice()) == volume.get(..*taken);
+        same_at(rt, &is_front, &true, taken);
+    }
+}
+
+static NARROW: [Written; 9] = [
+    (Limits { step: 1, ..BROKEN }, 512, ""),
+    (
+        Limits {
+            step: 100,
+            ..BROKEN
+        },
+        512,
+        "",
+    ),
+    (Limits { room: 0, ..BROKEN }, 0, "E29 WriteFault 0"),
+    (
+        Limits {
+            room: 0,
+            when_full: None,
+            ..BROKEN
+        },
+        0,
+        "E29 WriteFault 0",
+    ),
+    (Limits { room: 1, ..BROKEN }, 1, "E29 WriteFault 1"),
+    (
+        Limits {
+            step: 1,
+            room: 7,
+            ..BROKEN
+        },
+        7,
+        "E29 WriteFault 7",
+    ),
+    (
+        Limits {
+            step: 1,
+            room: 7,
+            when_full: None,
+            ..BROKEN
+        },
+        7,
+        "E29 WriteFault 7",
+    ),
+    (
+        Limits {
+            step: 7,
+            room: 100,
+            ..BROKEN
+        },
+        100,
+        "E29 WriteFault 100",
+    ),
+    (
+        Limits {
+            room: 511,
+            ..BROKEN
+        },
+        511,
+        "E29 WriteFault 511",
+    ),
+];
+
+#[test]
+fn counts_what_a_narrow_writer_took(rt: HostRuntime) {
+    let volume = bytes_of(&rt, VOLUME);
+    assert_written(&rt, FOUR_RECORDS, &volume, &NARROW);
+}
+
+/// The bytes of 513 formatted pages, which are more than go out at once.
+fn formatted_volume(rt: &(impl Abort + AllocGlobal)) -> Vec<u8> {
+    let mut bytes = Vec::new(rt.alloc());
+    for number in 0..513u32 {
+        let front = (u64::from(number) | 1 << 32).to_le_bytes();
+        bytes
+            .extend_from_slice(&front)
+            .expect(rt, "memory for bytes");
+        bytes
+            .extend_from_slice(&[0; 504])
+            .expect(rt, "memory for bytes");
+    }
+    bytes
+}
+
+static WIDE: [Written; 3] = [
+    (
+        Limits {
+            step: 4096,
+            room: 262_656,
+            ..BROKEN
+        },
+        262_656,
+        "",
+    ),
+    (
+        Limits {
+            step: 4096,
+            room: 262_151,
+            ..BROKEN
+        },
+        262_151,
+        "E29 WriteFault 262151",
+    ),
+    (
+        Limits {
+            step: 4096,
+            room: 262_144,
+            ..BROKEN
+        },
+        262_144,
+        "E29 WriteFault 262144",
+    ),
+];
+
+/// To a writer that takes all of them or fails within the last one.
+#[test]
+fn writes_many_pages(rt: HostRuntime) {
+    let log = Groups(&["41494d474c4f4731 0102000000000000"], 64);
+    let volume = formatted_volume(&rt);
+    assert_written(&rt, log, &volume, &WIDE);
+}
+
+static OFTEN_INTERRUPTED: [Written; 4] = [
+    (
+        Limits {
+            interruptions: 16,
+            ..INTERRUPTED
+        },
+        512,
+        "",
+    ),
+    (
+        Limits {
+            interruptions: 17,
+            ..INTERRUPTED
+        },
+        0,
+        "E29 WriteFault 0",
+    ),
+    (
+        Limits {
+            first: 9,
+            interruptions: 17,
+            ..INTERRUPTED
+        },
+        9,
+        "E29 WriteFault 9",
+    ),
+    (
+        Limits {
+            first: 511,
+            interruptions: 17,
+            ..INTERRUPTED
+        },
+        511,
+        "E29 WriteFault 511",
+    ),
+];
+
+#[test]
+fn tries_an_interrupted_write_again(rt: HostRuntime) {
+    let volume = bytes_of(&rt, VOLUME);
+    assert_written(&rt, FOUR_RECORDS, &volume, &OFTEN_INTERRUPTED);
+}
+
+const FAULTS: [(Fault, &str); 8] = [
+    (Fault::OutOfMemory, "E1 OutOfMemory"),
+    (Fault::WriteFault(7), "E29 WriteFault 7"),
+    (Fault::BadHeader, "E30 BadHeader"),
+    (Fault::BadRecord(Lsn(128)), "E31 BadRecord 128"),
+    (Fault::Torn(Lsn(256)), "E32 Torn 256"),
+    (Fault::ReadFault, "E33 ReadFault"),
+    (Fault::TooLong, "E34 TooLong"),
+    (Fault::BadChain(Lsn(256)), "E35 BadChain 256"),
+];
+
+#[test]
+fn has_its_line(rt: HostRuntime) {
+    assert_texts(&rt, &FAULTS);
 }

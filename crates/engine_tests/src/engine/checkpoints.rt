@@ -1,304 +1,188 @@
 //! Checkpoints: rows of calls, their bytes, and what stands where a device or a store fails.
 
-ghost use Rattle.std.specs.Prelude.{◌≤◌};
-
 use super::rows::{assert_parts, assert_row};
-use super::stores::call_over;
-use super::{
-    began, call, commit, done, engine_on, logged, more, point, read, same, set, value, write_begin,
-    write_end, writing, written,
-};
-use aries_core::{Engine, Event, Refusal, Reply};
-use log_store::{MASTER_BYTES, Master, MemDevice, encode_master};
+use super::{called, called_over};
+use crate::asserts::same;
+use crate::groups::{Groups, assert_bytes};
+use crate::rows;
+use fuzzy_ckpt::Point;
+use log_store::{MASTER_BYTES, Master, encode_master};
 use page_core::Lsn;
-use page_store::MemStore;
-use std::alloc::Global;
 use std::process::Abort;
-use std::test::Fail;
 
-/// A dirty page and an open transaction are gathered.
-pub(super) fn of_one_page() -> [(Event, Reply); 8] {
-    [
-        (Event::Begin, began(1, 64)),
-        (set(1, 0, 0, 5), logged(128)),
-        (Event::CkptBegin, logged(192)),
-        (Event::CkptGather, more()),
-        (Event::CkptGather, more()),
-        (Event::CkptGather, more()),
-        (Event::CkptGather, done()),
-        (Event::CkptEnd, point(192, 384, 128)),
-    ]
-}
+/// The records of the checkpoint, from 192 on.
+const RECORDS: Groups = Groups(
+    &[
+        "0700000000000000 0 0 0 0 0 0 c000000000000000 \
+       0800000000000000 c000000000000000 0100000000000000 8000000000000000 0 0 0 0001000000000000 \
+       0900000000000000 c000000000000000 0000000001000000 0100000080000000 \
+       0000000080000000 0 0 4001000000000000 \
+       0a00000000000000 c000000000000000 0 8000000000000000 0 0 0 8001000000000000",
+    ],
+    256,
+);
 
-/// The records of that checkpoint, from 192 on, each eight bytes as one number.
-const RECORDS: [[u64; 8]; 4] = [
-    [
-        0x0700_0000_0000_0000,
-        0,
-        0,
-        0,
-        0,
-        0,
-        0,
-        0xc000_0000_0000_0000,
-    ],
-    [
-        0x0800_0000_0000_0000,
-        0xc000_0000_0000_0000,
-        0x0100_0000_0000_0000,
-        0x8000_0000_0000_0000,
-        0,
-        0,
-        0,
-        0x0001_0000_0000_0000,
-    ],
-    [
-        0x0900_0000_0000_0000,
-        0xc000_0000_0000_0000,
-        0x0000_0000_0100_0000,
-        0x0100_0000_8000_0000,
-        0x0000_0000_8000_0000,
-        0,
-        0,
-        0x4001_0000_0000_0000,
-    ],
-    [
-        0x0a00_0000_0000_0000,
-        0xc000_0000_0000_0000,
-        0,
-        0x8000_0000_0000_0000,
-        0,
-        0,
-        0,
-        0x8001_0000_0000_0000,
-    ],
-];
-
-/// And its master, whose further bytes are 0.
-const MASTER: [u64; 3] = [
-    0x4149_4d47_4d53_5431,
-    0xc000_0000_0000_0000,
-    0x8001_0000_0000_0000,
-];
+/// And its master.
+const MASTER: Groups = Groups(
+    &["41494d474d535431 c000000000000000 8001000000000000"],
+    MASTER_BYTES,
+);
 
 #[test]
-fn a_dirty_page_is_gathered(rt: HostRuntime) -> Result<(), Fail> {
-    assert_row(&rt, rt.alloc(), 1, &of_one_page())
+fn a_dirty_page_is_gathered(rt: HostRuntime) {
+    assert_parts(&rt, 1, &[rows::GATHERED]);
 }
 
-/// Asserts that these LSNs are spelled as that master.
-fn assert_master(rt: &impl Abort, begin: Lsn, end: Lsn) {
-    let master = encode_master(&Master { begin, end });
-    assert!(rt; master.len() == MASTER_BYTES);
-    for (part, number) in master.chunks_exact(8).zip(&MASTER) {
-        same(rt, &part, &number.to_be_bytes().as_slice());
-    }
-    assert!(rt; master[24..].iter().all(|byte| *byte == 0));
+/// Asserts that an engine has this checkpoint, and how its LSNs are spelled.
+fn assert_master(rt: &(impl Abort + AllocGlobal), master: Option<Point>) {
+    let point = master.expect(rt, "a master record");
+    let master = encode_master(&Master {
+        begin: point.begin,
+        end: point.end,
+    });
+    assert_bytes(rt, &master, MASTER);
 }
 
-/// Asserts that the log's device ends with the records, and that the master is that one.
-fn assert_bytes(rt: &impl Abort, engine: &Engine<MemStore, MemDevice>) {
+/// The log's device ends with the records.
+#[test]
+fn a_checkpoint_has_these_bytes(rt: HostRuntime) {
+    let engine = called(&rt, 1, &[rows::GATHERED]);
     let bytes = engine.log().device().bytes();
-    assert!(rt; bytes.len() == 448);
-    for (part, number) in bytes[192..].chunks_exact(8).zip(RECORDS.iter().flatten()) {
-        same(rt, &part, &number.to_be_bytes().as_slice());
-    }
-    assert!(rt; engine.master().is_some());
-    if let Some(point) = engine.master() {
-        assert_master(rt, point.begin, point.end);
-    }
-}
-
-#[test]
-fn a_checkpoint_has_these_bytes(rt: HostRuntime) -> Result<(), Fail> {
-    let device = MemDevice::new(rt.alloc(), 8)?;
-    let mut engine = engine_on(rt.alloc(), 1, device)?;
-    call(&rt, &mut engine, &of_one_page());
-    assert_bytes(&rt, &engine);
+    assert_bytes(&rt, bytes.get(192..).unwrap_or(&[]), RECORDS);
+    assert_master(&rt, engine.master());
     drop(engine);
-    Ok(())
-}
-
-/// The page is dirtied when the cursor has passed it.
-pub(super) fn behind_the_cursor() -> [(Event, Reply); 7] {
-    [
-        (Event::Begin, began(1, 64)),
-        (Event::CkptBegin, logged(128)),
-        (Event::CkptGather, more()),
-        (set(1, 0, 0, 5), logged(192)),
-        (Event::CkptGather, more()),
-        (Event::CkptGather, done()),
-        (Event::CkptEnd, point(128, 320, 128)),
-    ]
 }
 
 #[test]
-fn a_page_changes_behind_the_cursor(rt: HostRuntime) -> Result<(), Fail> {
-    assert_row(&rt, rt.alloc(), 1, &behind_the_cursor())
-}
-
-/// The page is dirty from its second change on.
-pub(super) fn changed_during_a_write() -> [(Event, Reply); 11] {
-    [
-        (Event::Begin, began(1, 64)),
-        (set(1, 0, 0, 5), logged(128)),
-        (write_begin(0), writing(128)),
-        (set(1, 0, 0, 6), logged(192)),
-        (write_end(0), written(128)),
-        (Event::CkptBegin, logged(256)),
-        (Event::CkptGather, more()),
-        (Event::CkptGather, more()),
-        (Event::CkptGather, more()),
-        (Event::CkptGather, done()),
-        (Event::CkptEnd, point(256, 448, 192)),
-    ]
+fn a_page_changes_behind_the_cursor(rt: HostRuntime) {
+    assert_parts(&rt, 1, &[rows::BEHIND_THE_CURSOR]);
 }
 
 #[test]
-fn a_page_changed_during_a_write_is_gathered(rt: HostRuntime) -> Result<(), Fail> {
-    assert_row(&rt, rt.alloc(), 1, &changed_during_a_write())
+fn a_page_changed_during_a_write_is_gathered(rt: HostRuntime) {
+    let parts = [rows::CHANGED_DURING_A_WRITE, rows::GATHERED_AFTER_A_WRITE];
+    assert_parts(&rt, 1, &parts);
+}
+
+const OUT_OF_TURN: &str = "
+    gather -> E14 NoCkpt
+    endckpt -> E14 NoCkpt
+    ckpt -> lsn 64
+    gather -> more
+    gather -> done
+    gather -> done
+    endckpt -> point 64 128 64
+    begin -> began 1 at 192
+    set 1 0 0 5 -> lsn 256
+    ckpt -> lsn 320
+    gather -> more
+    endckpt -> E15 GatherLeft
+    ckpt -> E13 CkptOpen
+    commit 1 -> lsn 448
+";
+
+#[test]
+fn a_checkpoint_is_asked_for_out_of_turn(rt: HostRuntime) {
+    assert_parts(&rt, 1, &[OUT_OF_TURN]);
 }
 
 #[test]
-fn a_checkpoint_is_asked_for_out_of_turn(rt: HostRuntime) -> Result<(), Fail> {
-    let row = [
-        (Event::CkptGather, Err(Refusal::NoCkpt)),
-        (Event::CkptEnd, Err(Refusal::NoCkpt)),
-        (Event::CkptBegin, logged(64)),
-        (Event::CkptGather, more()),
-        (Event::CkptGather, done()),
-        (Event::CkptGather, done()),
-        (Event::CkptEnd, point(64, 128, 64)),
-        (Event::Begin, began(1, 192)),
-        (set(1, 0, 0, 5), logged(256)),
-        (Event::CkptBegin, logged(320)),
-        (Event::CkptGather, more()),
-        (Event::CkptEnd, Err(Refusal::GatherLeft)),
-        (Event::CkptBegin, Err(Refusal::CkptOpen)),
-        (commit(1), logged(448)),
-    ];
-    assert_row(&rt, rt.alloc(), 1, &row)
-}
-
-fn four_dirty_pages() -> [(Event, Reply); 7] {
-    [
-        (Event::Begin, began(1, 64)),
-        (set(1, 0, 0, 1), logged(128)),
-        (set(1, 1, 0, 1), logged(192)),
-        (set(1, 2, 0, 1), logged(256)),
-        (set(1, 3, 0, 1), logged(320)),
-        (Event::CkptBegin, logged(384)),
-        (Event::CkptGather, more()),
-    ]
-}
-
-/// Asserts the replies of a row that goes on where four pages are dirty and three are gathered.
-fn assert_goes_on(rt: &impl Abort, alloc: Global, rest: &[(Event, Reply)]) -> Result<(), Fail> {
-    assert_parts(rt, alloc, 4, &[&four_dirty_pages(), rest])
+fn three_pages_go_into_a_record(rt: HostRuntime) {
+    assert_row(&rt, rows::FOUR_PAGES);
 }
 
 #[test]
-fn three_pages_go_into_a_record(rt: HostRuntime) -> Result<(), Fail> {
-    let rest = [
-        (Event::CkptGather, more()),
-        (Event::CkptGather, more()),
-        (Event::CkptGather, more()),
-        (Event::CkptGather, done()),
-        (Event::CkptEnd, point(384, 640, 128)),
-    ];
-    assert_goes_on(&rt, rt.alloc(), &rest)
-}
-
-/// The fourth page is clean when its turn comes, so its step appends nothing.
-#[test]
-fn a_page_is_written_before_its_turn(rt: HostRuntime) -> Result<(), Fail> {
-    let rest = [
-        (write_begin(3), writing(320)),
-        (write_end(3), written(320)),
-        (Event::CkptGather, more()),
-        (Event::CkptGather, more()),
-        (Event::CkptGather, done()),
-        (Event::CkptEnd, point(384, 576, 128)),
-    ];
-    assert_goes_on(&rt, rt.alloc(), &rest)
+fn a_page_is_written_before_its_turn(rt: HostRuntime) {
+    assert_row(&rt, rows::WRITTEN_BEFORE_ITS_TURN);
 }
 
 /// A write fails before its page is gathered, and the page is gathered as it was.
-fn not_stored() -> [(Event, Reply); 12] {
-    [
-        (Event::Begin, began(1, 64)),
-        (set(1, 0, 0, 5), logged(128)),
-        (write_begin(0), writing(128)),
-        (Event::CkptBegin, logged(192)),
-        (write_end(0), Err(Refusal::StoreFault)),
-        (Event::CkptGather, more()),
-        (write_end(0), written(128)),
-        (Event::CkptGather, more()),
-        (Event::CkptGather, more()),
-        (Event::CkptGather, done()),
-        (Event::CkptEnd, point(192, 384, 128)),
-        (read(0, 0), value(5)),
-    ]
-}
+const NOT_STORED: &str = "
+    begin -> began 1 at 64
+    set 1 0 0 5 -> lsn 128
+    wbegin 0 -> writing 128
+    ckpt -> lsn 192
+    wend 0 -> E22 StoreFault
+    gather -> more
+    wend 0 -> written 128
+    gather -> more
+    gather -> more
+    gather -> done
+    endckpt -> point 192 384 128
+    read 0 0 -> value 5
+";
+
+const POINT: Point = Point {
+    begin: Lsn(192),
+    end: Lsn(384),
+    redo: Lsn(128),
+};
 
 #[test]
-fn a_page_that_was_not_stored_is_gathered(rt: HostRuntime) -> Result<(), Fail> {
-    let engine = call_over(&rt, rt.alloc(), 1, &not_stored())?;
-    same(
-        &rt,
-        &engine.master().map(|point| point.redo),
-        &Some(Lsn(128)),
-    );
+fn a_page_that_was_not_stored_is_gathered(rt: HostRuntime) {
+    let engine = called_over(&rt, 1, &[NOT_STORED]);
+    same(&rt, &engine.master(), &Some(POINT));
     drop(engine);
-    Ok(())
 }
 
-/// A transaction that changes so many pages.
-fn changed_pages(alloc: Global, dirty: u32) -> Result<Vec<(Event, Reply)>, Fail>
-    requires { dirty ≤ 65536 }
-{
-    let mut row = Vec::new(alloc);
-    row.push((Event::Begin, began(1, 64)))?;
-    for page in 0..dirty {
-        row.push((set(1, page, 0, 1), logged(64 * (page as u64 + 2))))?;
-    }
-    Ok(row)
-}
-
-/// A checkpoint that begins at this LSN, with so many records of dirty pages.
-fn large(alloc: Global, begin: u64, records: u32, redo: u64) -> Result<Vec<(Event, Reply)>, Fail>
-    requires begin { begin ≤ 4194432 }
-    requires records { records ≤ 21846 }
-{
-    let mut row = Vec::new(alloc);
-    row.push((Event::CkptBegin, logged(begin)))?;
-    for _ in 0..records + 2 {
-        row.push((Event::CkptGather, more()))?;
-    }
-    row.push((Event::CkptGather, done()))?;
-    let end = begin + 64 * (records as u64 + 2);
-    row.push((Event::CkptEnd, point(begin, end, redo)))?;
-    Ok(row)
-}
+const NO_DIRTY_PAGE: &str = "
+    begin -> began 1 at 64
+    ckpt -> lsn 128
+    gather -> more
+    gather -> more
+    gather -> done
+    endckpt -> point 128 256 128
+";
 
 #[test]
-fn a_large_volume_has_no_dirty_page(rt: HostRuntime) -> Result<(), Fail> {
-    let changes = changed_pages(rt.alloc(), 0)?;
-    let gather = large(rt.alloc(), 128, 0, 128)?;
-    assert_parts(&rt, rt.alloc(), 65_536, &[&changes, &gather])
+fn a_large_volume_has_no_dirty_page(rt: HostRuntime) {
+    assert_parts(&rt, 65_536, &[NO_DIRTY_PAGE]);
 }
 
+const ONE_DIRTY_PAGE: &str = "
+    begin -> began 1 at 64
+    set 1 0 0 1 -> lsn 128
+    ckpt -> lsn 192
+    gather -> more
+    gather -> more
+    gather -> more
+    gather -> done
+    endckpt -> point 192 384 128
+";
+
 #[test]
-fn a_large_volume_has_a_dirty_page(rt: HostRuntime) -> Result<(), Fail> {
-    let changes = changed_pages(rt.alloc(), 1)?;
-    let gather = large(rt.alloc(), 192, 1, 128)?;
-    assert_parts(&rt, rt.alloc(), 65_536, &[&changes, &gather])
+fn a_large_volume_has_a_dirty_page(rt: HostRuntime) {
+    assert_parts(&rt, 65_536, &[ONE_DIRTY_PAGE]);
 }
+
+/// Each page is changed.
+fn changes(rt: &(impl Abort + AllocGlobal)) -> String {
+    let mut part = String::new(rt.alloc());
+    for page in 0..65_536u32 {
+        let lsn = 64 * (page + 2);
+        writeln!(part, "set 1 {page} 0 1 -> lsn {lsn}").expect(rt, "memory for a row");
+    }
+    part
+}
+
+const ALL_GATHERED: &str = "
+    gather -> done
+    endckpt -> point 4194432 5592704 128
+";
 
 /// 65,536 pages go into 21,846 records.
 #[test]
-fn each_page_of_a_large_volume_is_dirty(rt: HostRuntime) -> Result<(), Fail> {
-    let changes = changed_pages(rt.alloc(), 65_536)?;
-    let gather = large(rt.alloc(), 4_194_432, 21_846, 128)?;
-    assert_parts(&rt, rt.alloc(), 65_536, &[&changes, &gather])
+fn each_page_of_a_large_volume_is_dirty(rt: HostRuntime) {
+    let changes = changes(&rt);
+    let gathered = "gather -> more\n"
+        .repeat(rt.alloc(), 21_848)
+        .expect(&rt, "memory for a row");
+    let parts = [
+        "begin -> began 1 at 64",
+        &changes,
+        "ckpt -> lsn 4194432",
+        &gathered,
+        ALL_GATHERED,
+    ];
+    assert_parts(&rt, 65_536, &parts);
 }

@@ -1,221 +1,132 @@
 //! Writes of pages: what the store has of them, and what stands where one of its calls fails.
 
-ghost use Rattle.std.specs.Prelude.{◌≡◌, IfOk};
-ghost use Rattle.page_core.specs.Volume.{formatted_pages};
-
-use super::{
-    assert_replies, began, call, commit, engine_on, events_of, forced, logged, play_on, read, same,
-    set, setup_of, value, write_begin, write_end, writing, written,
-};
-use aries_core::{Engine, Event, Refusal, Reply, play};
+use super::{called, called_on, called_over, failing_device, play_over, played_on, store_of};
+use crate::asserts::same;
+use crate::calls::{call, calls_of};
+use crate::rows;
+use aries_core::Engine;
 use log_records::{DirtyPage, DirtyPages};
-use log_store::{FaultyDevice, LogDevice, MemDevice};
+use log_store::LogDevice;
 use page_core::{Lsn, PageNo};
-use page_store::{FaultyStore, MemStore, PageStore};
-use std::alloc::Global;
+use page_store::PageStore;
 use std::process::Abort;
-use std::test::Fail;
 
-/// The LSN of page 0 as it is stored, and the numbers in its first two slots.
-fn stored<S: PageStore, D: LogDevice>(
-    engine: &mut Engine<S, D>,
-) -> Result<(Lsn, u64, u64), Refusal> {
-    let page = engine.stored(PageNo(0))?;
-    Ok((page.lsn, page.slots[0], page.slots[1]))
-}
-
-/// Asserts which pages are dirty, and how page 0 is stored.
+/// Asserts which pages are dirty, and of page 0 as it is stored its LSN and the numbers in its
+/// first two slots.
 fn assert_pages<S: PageStore, D: LogDevice>(
     rt: &impl Abort,
     engine: &mut Engine<S, D>,
     dirty: Option<DirtyPages>,
-    want: (Lsn, u64, u64),
-) -> Result<(), Fail> {
+    stored: (Lsn, u64, u64),
+) {
     same(rt, &engine.dirty_from(PageNo(0)), &dirty);
-    same(rt, &stored(engine)?, &want);
-    Ok(())
+    let page = engine.stored(PageNo(0)).expect(rt, "a stored page");
+    same(rt, &(page.lsn, page.slots[0], page.slots[1]), &stored);
 }
 
 /// Page 0 is dirty from 192 on.
-fn one_dirty() -> Option<DirtyPages> {
-    Some(DirtyPages::One(DirtyPage {
-        page: 0,
-        rec_lsn: 192,
-    }))
-}
-
-fn changed_during_a_write() -> [(Event, Reply); 5] {
-    [
-        (Event::Begin, began(1, 64)),
-        (set(1, 0, 0, 5), logged(128)),
-        (write_begin(0), writing(128)),
-        (set(1, 0, 0, 6), logged(192)),
-        (write_end(0), written(128)),
-    ]
-}
+const ONE_DIRTY: DirtyPages = DirtyPages::One(DirtyPage {
+    page: 0,
+    rec_lsn: 192,
+});
 
 #[test]
-fn a_page_changes_during_a_write(rt: HostRuntime) -> Result<(), Fail> {
-    let device = MemDevice::new(rt.alloc(), 5)?;
-    let mut engine = engine_on(rt.alloc(), 1, device)?;
-    call(&rt, &mut engine, &changed_during_a_write());
-    let done = assert_pages(&rt, &mut engine, one_dirty(), (Lsn(128), 5, 0));
-    call(&rt, &mut engine, &[(read(0, 0), value(6))]);
+fn a_page_changes_during_a_write(rt: HostRuntime) {
+    let mut engine = called(&rt, 1, &[rows::CHANGED_DURING_A_WRITE]);
+    assert_pages(&rt, &mut engine, Some(ONE_DIRTY), (Lsn(128), 5, 0));
+    let read = calls_of(&rt, &["read 0 0 -> value 6"]);
+    call(&rt, &mut engine, &read);
     drop(engine);
-    done
-}
-
-/// A store of one page whose `k`-th call fails.
-fn failing_store(alloc: Global, k: u64) -> Result<FaultyStore, Fail>
-    ensures { IfOk result (λ store. store.pages ≡ formatted_pages 1) }
-{
-    Ok(FaultyStore::new(alloc, MemStore::new(alloc, 1)?, k)?)
-}
-
-/// Makes the calls of a row over such a store, and asserts their replies.
-pub(super) fn call_over(
-    rt: &impl Abort,
-    alloc: Global,
-    k: u64,
-    row: &[(Event, Reply)],
-) -> Result<Engine<FaultyStore, MemDevice>, Fail> {
-    let device = MemDevice::new(alloc, row.len())?;
-    let store = failing_store(alloc, k)?;
-    let mut engine = Engine::new(alloc, setup_of(1), store, device)?;
-    call(rt, &mut engine, row);
-    Ok(engine)
 }
 
 /// A write is ended again after its store failed, with the image that it began with.
-fn written_again() -> [(Event, Reply); 9] {
-    [
-        (Event::Begin, began(1, 64)),
-        (set(1, 0, 0, 5), logged(128)),
-        (write_begin(0), writing(128)),
-        (write_end(0), Err(Refusal::StoreFault)),
-        (write_begin(0), Err(Refusal::WriteBegun)),
-        (set(1, 0, 0, 6), logged(192)),
-        (write_end(0), written(128)),
-        (write_begin(0), writing(192)),
-        (write_end(0), written(192)),
-    ]
-}
+const WRITTEN_AGAIN: &str = "
+    begin -> began 1 at 64
+    set 1 0 0 5 -> lsn 128
+    wbegin 0 -> writing 128
+    wend 0 -> E22 StoreFault
+    wbegin 0 -> E11 WriteBegun
+    set 1 0 0 6 -> lsn 192
+    wend 0 -> written 128
+    wbegin 0 -> writing 192
+    wend 0 -> written 192
+";
 
 #[test]
-fn a_store_fails(rt: HostRuntime) -> Result<(), Fail> {
-    let mut engine = call_over(&rt, rt.alloc(), 1, &written_again())?;
-    let done = assert_pages(&rt, &mut engine, None, (Lsn(192), 6, 0));
+fn a_store_fails(rt: HostRuntime) {
+    let mut engine = called_over(&rt, 1, &[WRITTEN_AGAIN]);
+    assert_pages(&rt, &mut engine, None, (Lsn(192), 6, 0));
     drop(engine);
-    done
-}
-
-/// Plays the events of a row over such a store, and asserts their replies.
-pub(super) fn play_over(
-    rt: &impl Abort,
-    alloc: Global,
-    k: u64,
-    events: &[Event],
-    row: &[(Event, Reply)],
-) -> Result<(), Fail> {
-    let device = MemDevice::new(alloc, row.len())?;
-    let store = failing_store(alloc, k)?;
-    let played = play(alloc, setup_of(1), store, device, events)?;
-    assert_replies(rt, &played.replies, row);
-    drop(played);
-    Ok(())
 }
 
 #[test]
-fn a_store_fails_in_a_list(rt: HostRuntime) -> Result<(), Fail> {
-    let row = written_again();
-    let events = events_of(rt.alloc(), &row)?;
-    play_over(&rt, rt.alloc(), 1, &events, &row)
+fn a_store_fails_in_a_list(rt: HostRuntime) {
+    play_over(&rt, 1, &[WRITTEN_AGAIN]);
 }
 
 /// The call of the store that fails is the end of the second write.
-fn two_writes() -> [(Event, Reply); 11] {
-    [
-        (Event::Begin, began(1, 64)),
-        (set(1, 0, 0, 5), logged(128)),
-        (write_begin(0), writing(128)),
-        (write_end(0), written(128)),
-        (commit(1), logged(192)),
-        (Event::Begin, began(2, 256)),
-        (set(2, 0, 1, 7), logged(320)),
-        (write_begin(0), writing(320)),
-        (write_end(0), Err(Refusal::StoreFault)),
-        (write_end(0), written(320)),
-        (write_begin(0), Err(Refusal::NotDirty)),
-    ]
-}
+const TWO_WRITES: &str = "
+    begin -> began 1 at 64
+    set 1 0 0 5 -> lsn 128
+    wbegin 0 -> writing 128
+    wend 0 -> written 128
+    commit 1 -> lsn 192
+    begin -> began 2 at 256
+    set 2 0 1 7 -> lsn 320
+    wbegin 0 -> writing 320
+    wend 0 -> E22 StoreFault
+    wend 0 -> written 320
+    wbegin 0 -> E10 NotDirty
+";
 
 #[test]
-fn a_later_write_fails(rt: HostRuntime) -> Result<(), Fail> {
-    let mut engine = call_over(&rt, rt.alloc(), 2, &two_writes())?;
-    let done = assert_pages(&rt, &mut engine, None, (Lsn(320), 5, 7));
+fn a_later_write_fails(rt: HostRuntime) {
+    let mut engine = called_over(&rt, 2, &[TWO_WRITES]);
+    assert_pages(&rt, &mut engine, None, (Lsn(320), 5, 7));
     drop(engine);
-    done
 }
 
 /// No image is kept where the log could not be forced through its LSN.
-fn forced_again() -> [(Event, Reply); 6] {
-    [
-        (Event::Begin, began(1, 64)),
-        (set(1, 0, 0, 5), logged(128)),
-        (write_begin(0), Err(Refusal::LogFault)),
-        (write_end(0), Err(Refusal::NoWrite)),
-        (write_begin(0), writing(128)),
-        (write_end(0), written(128)),
-    ]
-}
+const FORCED_AGAIN: &str = "
+    begin -> began 1 at 64
+    set 1 0 0 5 -> lsn 128
+    wbegin 0 -> E23 LogFault
+    wend 0 -> E12 NoWrite
+    wbegin 0 -> writing 128
+    wend 0 -> written 128
+";
 
-/// A device with room for these records, whose `k`-th call fails.
-fn failing_device(alloc: Global, k: u64) -> Result<FaultyDevice, Fail> {
-    Ok(FaultyDevice::new(MemDevice::new(alloc, 6)?, k))
-}
-
-/// Makes the calls on such a device, and asserts their replies and how far the log is forced.
-fn call_on_failing(rt: &impl Abort, alloc: Global, k: u64) -> Result<(), Fail> {
-    let mut engine = engine_on(alloc, 1, failing_device(alloc, k)?)?;
-    call(rt, &mut engine, &forced_again());
+/// Tries these calls both ways on a device whose `k`-th call fails.
+fn assert_forced_again(rt: &(impl Abort + AllocGlobal), k: u64) {
+    let calls = calls_of(rt, &[FORCED_AGAIN]);
+    let store = store_of(rt, 1);
+    let engine = called_on(rt, 1, store, failing_device(rt, 6, k), &calls);
     same(rt, &engine.log().forced_end(), &Lsn(192));
     drop(engine);
-    Ok(())
-}
-
-/// Plays the calls on such a device, and asserts their replies.
-fn play_on_failing(rt: &impl Abort, alloc: Global, k: u64) -> Result<(), Fail> {
-    let device = failing_device(alloc, k)?;
-    drop(play_on(rt, alloc, 1, device, &forced_again())?);
-    Ok(())
+    let store = store_of(rt, 1);
+    let device = failing_device(rt, 6, k);
+    drop(played_on(rt, 1, store, device, &calls));
 }
 
 #[test]
-fn a_log_is_not_forced_for_a_write(rt: HostRuntime) -> Result<(), Fail> {
-    for k in 2..4 {
-        call_on_failing(&rt, rt.alloc(), k)?;
-        play_on_failing(&rt, rt.alloc(), k)?;
-    }
-    Ok(())
+fn a_log_is_not_forced_for_a_write(rt: HostRuntime) {
+    assert_forced_again(&rt, 2);
+    assert_forced_again(&rt, 3);
 }
 
 /// A write forces the log through its image, and no further.
-fn one_page_of_two() -> [(Event, Reply); 4] {
-    [
-        (Event::Begin, began(1, 64)),
-        (set(1, 0, 0, 5), logged(128)),
-        (set(1, 1, 0, 6), logged(192)),
-        (write_begin(0), writing(128)),
-    ]
-}
+const ONE_PAGE_OF_TWO: &str = "
+    begin -> began 1 at 64
+    set 1 0 0 5 -> lsn 128
+    set 1 1 0 6 -> lsn 192
+    wbegin 0 -> writing 128
+";
 
 #[test]
-fn a_write_forces_its_image_alone(rt: HostRuntime) -> Result<(), Fail> {
-    let device = MemDevice::new(rt.alloc(), 4)?;
-    let mut engine = engine_on(rt.alloc(), 2, device)?;
-    call(&rt, &mut engine, &one_page_of_two());
+fn a_write_forces_its_image_alone(rt: HostRuntime) {
+    let mut engine = called(&rt, 2, &[ONE_PAGE_OF_TWO]);
     same(&rt, &engine.log().forced_end(), &Lsn(192));
-    call(&rt, &mut engine, &[(Event::Force, forced(256))]);
+    let force = calls_of(&rt, &["force -> forced 256"]);
+    call(&rt, &mut engine, &force);
     drop(engine);
-    Ok(())
 }

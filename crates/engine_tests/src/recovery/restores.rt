@@ -1,264 +1,443 @@
 //! Copies are loaded, redone and undone.
 
-use super::rows::Row;
-use super::shown::{Shown, assert_pages, back_to, comp, end, less};
-use super::{device_of, fault_of, loaded_of, redone_of, retired_of, store_of, undone_of};
-use crate::engine::{assert_replies, events_of, same, same_at};
-use aries_core::{Event, Reply, Setup};
+use super::shown::Appended::{BackTo, End, Less};
+use super::shown::{Appended, Shown, assert_appended, assert_pages};
+use super::{redone_of, retired, undone_of};
+use crate::asserts::same_at;
+use crate::calls::{Calls, Row, assert_replies, calls_of};
+use crate::engine::{failing_device, failing_store, setup_of};
+use crate::rows;
 use copy_vault::CopyId;
-use log_records::Record;
 use loser_undo::Undone;
-use media_restore::{LoadFault, Refused, rebuild};
-use std::alloc::Global;
+use media_restore::{LoadFault, Refused, load, rebuild};
 use std::process::Abort;
-use std::test::Fail;
 
 /// All records are kept.
 const ALL: usize = usize::MAX;
 
-/// What of a row is restored: a copy, over the first `cut` records.
+/// What of a row is restored, a copy over the first `cut` records, and what the restore makes: its
+/// pages after redo and after undo, and the records that undo appends. Of the row's device the
+/// `k`-th call fails. 0 is none.
 #[derive(Clone, Copy)]
 struct Restored {
     row: Row,
+    k: u64,
     copy: u32,
     cut: usize,
+    redone: &'static [Shown],
+    undone: &'static [Shown],
+    appended: &'static [Appended],
 }
 
-fn copy_of(row: Row, copy: u32, cut: usize) -> Restored {
-    Restored { row, copy, cut }
-}
-
-/// What comes of the events of a row, played as one list with the restore after them. The replies
-/// are asserted.
+/// What comes of the calls, played as one list with the restore after them. Their replies are
+/// asserted.
 fn rebuilt_of(
-    rt: &impl Abort,
-    alloc: Global,
-    given: Restored,
-) -> Result<Result<Undone, Refused>, Fail> {
-    let calls = given.row.calls(alloc)?;
-    rebuilt_from(rt, alloc, given, &calls)
-}
-
-/// The same, of these calls of the row.
-fn rebuilt_from(
-    rt: &impl Abort,
-    alloc: Global,
-    given: Restored,
-    calls: &[(Event, Reply)],
-) -> Result<Result<Undone, Refused>, Fail> {
-    let Restored { row, copy, cut } = given;
-    let (pages, faults) = (row.pages(), row.faults());
-    let events = events_of(alloc, calls)?;
-    let store = store_of(alloc, pages, faults.store)?;
-    let device = device_of(alloc, calls.len(), faults.device)?;
-    let setup = Setup {
-        pages,
-        frames: pages,
-    };
-    let rebuilt = rebuild(alloc, setup, store, device, &events, CopyId(copy), cut)?;
+    rt: &(impl Abort + AllocGlobal),
+    given: &Restored,
+    calls: &Calls,
+) -> Result<Undone, Refused> {
+    let pages = given.row.pages(rt);
+    let setup = setup_of(pages);
+    let store = failing_store(rt, pages, 0);
+    let device = failing_device(rt, calls.events.len(), given.k);
+    let (events, copy) = (&calls.events, CopyId(given.copy));
+    let rebuilt = rebuild(rt.alloc(), setup, store, device, events, copy, given.cut).expect(
+        rt, "a run",
+    );
     assert_replies(rt, &rebuilt.replies, calls);
-    Ok(rebuilt.outcome)
+    rebuilt.outcome
 }
 
-/// Restores a copy by one call with the events of its row, and asserts what is restored.
-fn assert_rebuilt(
-    rt: &impl Abort,
-    alloc: Global,
-    given: Restored,
-    pages: &[Shown],
-    appended: &[Record],
-) -> Result<(), Fail> {
-    let Ok(undone) = rebuilt_of(rt, alloc, given)? else {
-        return Err(Fail::new("the copy is not restored"));
-    };
-    assert_pages(rt, undone.pages(), pages);
-    let records = undone.records();
-    let count = records.len().saturating_sub(appended.len());
-    same(rt, &records.get(count..).unwrap_or(&[]), &appended);
+/// Asserts the pages after undo, and the records behind so many that it appended.
+fn assert_undone(rt: &impl Abort, undone: Undone, count: usize, given: &Restored) {
+    assert_pages(rt, undone.pages(), given.undone);
+    let behind = undone.records().get(count..).unwrap_or(&[]);
+    assert_appended(rt, behind, given.appended);
     drop(undone);
-    Ok(())
 }
 
-/// Restores a copy, and asserts what redo makes, what undo makes, and what undo appends.
-fn assert_restored(
-    rt: &impl Abort,
-    alloc: Global,
-    given: Restored,
-    redone: &[Shown],
-    undone: &[Shown],
-    appended: &[Record],
-) -> Result<(), Fail> {
-    let Restored { row, copy, cut } = given;
-    let calls = row.calls(alloc)?;
-    let retired = retired_of(rt, alloc, row.pages(), row.faults(), &calls)?;
-    let loaded = loaded_of(alloc, retired, copy, cut)?;
-    let after_redo = redone_of(alloc, loaded)?;
-    assert_pages(rt, after_redo.pages(), redone);
-    let count = after_redo.records().len();
-    let after_undo = undone_of(after_redo)?;
-    assert_pages(rt, after_undo.pages(), undone);
-    let behind = after_undo.records().get(count..).unwrap_or(&[]);
-    same_at(rt, &behind, &appended, &(row, copy, cut));
-    drop(after_undo);
-    assert_rebuilt(rt, alloc, given, undone, appended)
+/// Restores copies step by step, and by one call with the events of their rows, and asserts what is
+/// restored.
+fn assert_each(rt: &(impl Abort + AllocGlobal), table: &[Restored]) {
+    for given in table {
+        let retired = retired(rt, given.row, given.k);
+        let redone = redone_of(rt, retired, given.copy, given.cut);
+        assert_pages(rt, redone.pages(), given.redone);
+        let count = redone.records().len();
+        assert_undone(rt, undone_of(rt, redone), count, given);
+        let calls = calls_of(rt, given.row.parts);
+        let rebuilt = rebuilt_of(rt, given, &calls).expect(rt, "a restore");
+        assert_undone(rt, rebuilt, count, given);
+    }
 }
+
+/// The page is stored before it is copied, and its write forced the log.
+const COPIED_AFTER_A_WRITE: Row = Row {
+    pages: 1,
+    parts: &[
+        rows::IDLE,
+        "
+        begin -> began 1 at 192
+        set 1 0 0 5 -> lsn 256
+        wbegin 0 -> writing 256
+        wend 0 -> written 256
+        full -> copy 1
+        take 1 0 -> taken 256
+        seal 1 -> sealed 1
+    ",
+    ],
+};
+
+/// The log's device fails when the set and the commit are forced.
+const LOST_TAIL: Row = Row {
+    pages: 1,
+    parts: &[
+        rows::IDLE,
+        rows::FULL,
+        "
+        begin -> began 1 at 192
+        set 1 0 0 5 -> lsn 256
+        commit 1 -> E26 CommitUnsure 320
+    ",
+    ],
+};
+
+/// One copy is dropped, and another one is being read.
+const DROPPED_AND_BEING_READ: Row = Row {
+    pages: 2,
+    parts: &[
+        rows::IDLE,
+        "
+        full -> copy 1
+        take 1 0 -> taken 0
+        drop 1 -> dropped
+        full -> copy 2
+    ",
+    ],
+};
+
+/// The first copy is restored of all records, and there is nothing to undo.
+const WHOLE: Restored = Restored {
+    row: rows::COPIED_WHEN_DIRTY,
+    k: 0,
+    copy: 1,
+    cut: ALL,
+    redone: &[],
+    undone: &[],
+    appended: &[],
+};
+
+/// Five in the first slot of the one page, which has this LSN.
+const FIVE_AT_128: Restored = Restored {
+    redone: &[(0, 128, [5, 0, 0])],
+    undone: &[(0, 128, [5, 0, 0])],
+    ..WHOLE
+};
+
+const FIVE_AT_192: Restored = Restored {
+    redone: &[(0, 192, [5, 0, 0])],
+    undone: &[(0, 192, [5, 0, 0])],
+    ..WHOLE
+};
+
+const FIVE_AT_256: Restored = Restored {
+    redone: &[(0, 256, [5, 0, 0])],
+    undone: &[(0, 256, [5, 0, 0])],
+    ..WHOLE
+};
 
 /// The transactions have committed, so undo has nothing to do.
-#[test]
-fn committed_changes_are_restored(rt: HostRuntime) -> Result<(), Fail> {
-    for (row, copy, lsn, number) in [
-        (Row::DirtyAtACheckpoint, 1, 128, 5),
-        (Row::BehindTheCursor, 1, 192, 5),
-        (Row::ChangedDuringAWrite, 1, 192, 6),
-        (Row::TakenAtTheRedoPoint, 1, 128, 5),
-        (Row::TakenAtTheRedoPoint, 2, 128, 5),
-        (Row::AddedBeforeACopy, 1, 128, 5),
-        (Row::WhileACheckpointIsOpen, 1, 256, 5),
-        (Row::LostTail, 1, 256, 5),
-    ] {
-        let pages = [(0, lsn, [number, 0, 0])];
-        assert_restored(
-            &rt,
-            rt.alloc(),
-            copy_of(row, copy, ALL),
-            &pages,
-            &pages,
-            &[],
-        )?;
-    }
-    Ok(())
-}
+static COMMITTED: [Restored; 8] = [
+    FIVE_AT_128,
+    Restored {
+        row: rows::COPIED_BEHIND_THE_CURSOR,
+        ..FIVE_AT_192
+    },
+    Restored {
+        row: rows::COPIED_AFTER_A_CHANGED_WRITE,
+        redone: &[(0, 192, [6, 0, 0])],
+        undone: &[(0, 192, [6, 0, 0])],
+        ..WHOLE
+    },
+    Restored {
+        row: rows::TAKEN_AT_THE_REDO_POINT,
+        ..FIVE_AT_128
+    },
+    Restored {
+        row: rows::TAKEN_AT_THE_REDO_POINT,
+        copy: 2,
+        ..FIVE_AT_128
+    },
+    Restored {
+        row: rows::ADDED_BEFORE_A_COPY,
+        ..FIVE_AT_128
+    },
+    Restored {
+        row: rows::WHILE_A_CHECKPOINT_IS_OPEN,
+        ..FIVE_AT_256
+    },
+    Restored {
+        row: LOST_TAIL,
+        k: 4,
+        ..FIVE_AT_256
+    },
+];
 
 #[test]
-fn a_volume_of_two_pages_is_restored(rt: HostRuntime) -> Result<(), Fail> {
-    let pages = [(0, 0, [0, 0, 0]), (1, 256, [9, 0, 0])];
-    for (row, copy) in [
-        (Row::ChangedAfterACopy, 1),
-        (Row::TwoCopiesOfOneParent, 1),
-        (Row::TwoCopiesOfOneParent, 2),
-        (Row::TwoCopiesOfOneParent, 3),
-    ] {
-        assert_restored(
-            &rt,
-            rt.alloc(),
-            copy_of(row, copy, ALL),
-            &pages,
-            &pages,
-            &[],
-        )?;
-    }
-    Ok(())
+fn committed_changes_are_restored(rt: HostRuntime) {
+    assert_each(&rt, &COMMITTED);
+}
+
+const OF_ONE_PARENT: Restored = Restored {
+    row: rows::TWO_COPIES_OF_ONE_PARENT,
+    redone: &[(0, 0, [0, 0, 0]), (1, 256, [9, 0, 0])],
+    undone: &[(0, 0, [0, 0, 0]), (1, 256, [9, 0, 0])],
+    ..WHOLE
+};
+
+static OF_TWO_PAGES: [Restored; 4] = [
+    Restored {
+        row: rows::CHANGED_AFTER_A_COPY,
+        ..OF_ONE_PARENT
+    },
+    OF_ONE_PARENT,
+    Restored {
+        copy: 2,
+        ..OF_ONE_PARENT
+    },
+    Restored {
+        copy: 3,
+        ..OF_ONE_PARENT
+    },
+];
+
+#[test]
+fn a_volume_of_two_pages_is_restored(rt: HostRuntime) {
+    assert_each(&rt, &OF_TWO_PAGES);
 }
 
 /// Redo repeats what is then undone.
+static LOSER: [Restored; 2] = [
+    Restored {
+        row: rows::ADDED_AND_SET,
+        redone: &[(0, 512, [10, 0, 0])],
+        undone: &[(0, 640, [3, 0, 0])],
+        appended: &[
+            BackTo(1, 576, 512, 320, (0, 8)),
+            Less(1, 640, 576, 192, (0, 5)),
+            End(1, 704, 640),
+        ],
+        ..WHOLE
+    },
+    Restored {
+        row: rows::ADDED_AND_SET,
+        cut: 7,
+        redone: &[(0, 384, [8, 0, 0])],
+        undone: &[(0, 512, [3, 0, 0])],
+        appended: &[Less(1, 512, 320, 192, (0, 5)), End(1, 576, 512)],
+        ..WHOLE
+    },
+];
+
 #[test]
-fn a_loser_is_taken_back(rt: HostRuntime) -> Result<(), Fail> {
-    let all = [
-        comp(1, 576, 512, 320, back_to(0, 8)),
-        comp(1, 640, 576, 192, less(0, 5)),
-        end(1, 704, 640),
-    ];
-    let cut = [comp(1, 512, 320, 192, less(0, 5)), end(1, 576, 512)];
-    for (kept, redone, undone, appended) in [
-        (
-            ALL,
-            (0, 512, [10, 0, 0]),
-            (0, 640, [3, 0, 0]),
-            all.as_slice(),
-        ),
-        (7, (0, 384, [8, 0, 0]), (0, 512, [3, 0, 0]), cut.as_slice()),
-    ] {
-        let given = copy_of(Row::AddedAndSet, 1, kept);
-        assert_restored(&rt, rt.alloc(), given, &[redone], &[undone], appended)?;
-    }
-    Ok(())
+fn a_loser_is_taken_back(rt: HostRuntime) {
+    assert_each(&rt, &LOSER);
 }
 
 /// The records that were not forced may be lost.
+static TAIL: [Restored; 2] = [
+    Restored {
+        row: LOST_TAIL,
+        k: 4,
+        cut: 2,
+        redone: &[(0, 0, [0, 0, 0])],
+        undone: &[(0, 0, [0, 0, 0])],
+        ..WHOLE
+    },
+    Restored {
+        row: LOST_TAIL,
+        k: 4,
+        cut: 4,
+        redone: &[(0, 256, [5, 0, 0])],
+        undone: &[(0, 320, [0, 0, 0])],
+        appended: &[BackTo(1, 320, 256, 192, (0, 0)), End(1, 384, 320)],
+        ..WHOLE
+    },
+];
+
 #[test]
-fn a_tail_is_lost(rt: HostRuntime) -> Result<(), Fail> {
-    let given = copy_of(Row::LostTail, 1, 2);
-    let formatted = [(0, 0, [0, 0, 0])];
-    assert_restored(&rt, rt.alloc(), given, &formatted, &formatted, &[])?;
-    let appended = [comp(1, 320, 256, 192, back_to(0, 0)), end(1, 384, 320)];
-    let given = copy_of(Row::LostTail, 1, 4);
-    let redone = [(0, 256, [5, 0, 0])];
-    let undone = [(0, 320, [0, 0, 0])];
-    assert_restored(&rt, rt.alloc(), given, &redone, &undone, &appended)
+fn a_tail_is_lost(rt: HostRuntime) {
+    assert_each(&rt, &TAIL);
 }
 
 /// One of two changes was taken back before, and is not taken back again.
+const CHAIN: Restored = Restored {
+    row: rows::CHAIN,
+    redone: &[(0, 640, [5, 0, 0])],
+    undone: &[(0, 704, [0, 0, 0])],
+    appended: &[Less(1, 704, 640, 192, (0, 5)), End(1, 768, 704)],
+    ..WHOLE
+};
+
+static COPIES_OF_THE_CHAIN: [Restored; 3] = [
+    CHAIN,
+    Restored { copy: 2, ..CHAIN },
+    Restored { copy: 3, ..CHAIN },
+];
+
 #[test]
-fn a_rollback_is_ended(rt: HostRuntime) -> Result<(), Fail> {
-    let appended = [comp(1, 704, 640, 192, less(0, 5)), end(1, 768, 704)];
-    let redone = [(0, 640, [5, 0, 0])];
-    let undone = [(0, 704, [0, 0, 0])];
-    for copy in 1..4 {
-        let given = copy_of(Row::Chain, copy, ALL);
-        assert_restored(&rt, rt.alloc(), given, &redone, &undone, &appended)?;
-    }
-    Ok(())
+fn a_rollback_is_ended(rt: HostRuntime) {
+    assert_each(&rt, &COPIES_OF_THE_CHAIN);
 }
 
 /// The changes are taken back from the last to the first, whose ever they are.
+static THREE_LOSERS: [Restored; 1] = [Restored {
+    row: rows::THREE_LOSERS,
+    redone: &[(0, 512, [1, 2, 3])],
+    undone: &[(0, 832, [0, 0, 0])],
+    appended: &[
+        End(3, 576, 320),
+        Less(1, 640, 512, 384, (2, 3)),
+        Less(2, 704, 448, 256, (1, 2)),
+        End(2, 768, 704),
+        Less(1, 832, 640, 192, (0, 1)),
+        End(1, 896, 832),
+    ],
+    ..WHOLE
+}];
+
 #[test]
-fn three_losers_are_taken_back(rt: HostRuntime) -> Result<(), Fail> {
-    let appended = [
-        end(3, 576, 320),
-        comp(1, 640, 512, 384, less(2, 3)),
-        comp(2, 704, 448, 256, less(1, 2)),
-        end(2, 768, 704),
-        comp(1, 832, 640, 192, less(0, 1)),
-        end(1, 896, 832),
-    ];
-    let given = copy_of(Row::ThreeLosers, 1, ALL);
-    let redone = [(0, 512, [1, 2, 3])];
-    let undone = [(0, 832, [0, 0, 0])];
-    assert_restored(&rt, rt.alloc(), given, &redone, &undone, &appended)
+fn three_losers_are_taken_back(rt: HostRuntime) {
+    assert_each(&rt, &THREE_LOSERS);
+}
+
+/// A transaction commits, and another one adds until its records may fill the log, and aborts.
+const BEFORE_THE_ADDS: &str = "
+    begin -> began 1 at 192
+    set 1 0 0 7 -> lsn 256
+    commit 1 -> lsn 320
+    begin -> began 2 at 384
+";
+
+const AFTER_THE_ADDS: &str = "
+    add 2 0 0 1 -> E8 LogFull
+    abort 2 -> lsn 33554624
+";
+
+/// Behind 6 records n Adds need n compensations, an Abort and an End: 6 + 2 n + 2 = 1,048,576.
+fn adds(rt: &(impl Abort + AllocGlobal)) -> String {
+    let mut part = String::new(rt.alloc());
+    for number in 7..7 + 524_284u64 {
+        let lsn = 64 * number;
+        writeln!(part, "add 2 0 0 1 -> lsn {lsn}").expect(rt, "memory for a row");
+    }
+    part
 }
 
 /// Undo fills the log to the last record that it may have, at 64 * 1,048,576.
+static FULL_LOG: Restored = Restored {
+    undone: &[(0, 67_108_800, [7, 0, 0])],
+    appended: &[
+        Less(2, 67_108_800, 67_108_736, 384, (0, 1)),
+        End(2, 67_108_864, 67_108_800),
+    ],
+    ..WHOLE
+};
+
 #[test]
-fn a_full_log_is_restored(rt: HostRuntime) -> Result<(), Fail> {
-    let given = copy_of(Row::FullLog, 1, ALL);
-    let appended = [
-        comp(2, 67_108_800, 67_108_736, 384, less(0, 1)),
-        end(2, 67_108_864, 67_108_800),
+fn a_full_log_is_restored(rt: HostRuntime) {
+    let adds = adds(&rt);
+    let parts = [
+        rows::IDLE,
+        rows::FULL,
+        BEFORE_THE_ADDS,
+        &adds,
+        AFTER_THE_ADDS,
     ];
-    let pages = [(0, 67_108_800, [7, 0, 0])];
-    assert_rebuilt(&rt, rt.alloc(), given, &pages, &appended)
+    let calls = calls_of(&rt, &parts);
+    let rebuilt = rebuilt_of(&rt, &FULL_LOG, &calls).expect(&rt, "a restore");
+    assert_undone(&rt, rebuilt, 1_048_574, &FULL_LOG);
 }
 
-/// Asserts that a copy of a row is not loaded, and why.
-fn assert_refused(
-    rt: &impl Abort,
-    alloc: Global,
-    given: Restored,
-    fault: LoadFault,
-) -> Result<(), Fail> {
-    let Restored { row, copy, cut } = given;
-    let calls = row.calls(alloc)?;
-    let retired = retired_of(rt, alloc, row.pages(), row.faults(), &calls)?;
-    let found = fault_of(alloc, retired, copy, cut);
-    same_at(rt, &found, &Some(fault), &(row, copy, cut));
-    let refused = rebuilt_of(rt, alloc, given)?.err();
-    let wanted = Some(Refused::Load(fault));
-    same_at(rt, &refused, &wanted, &(row, copy, cut));
-    Ok(())
+/// A row, the call of its device that fails, a copy and a cut, and why the copy is not loaded.
+static REFUSED: [(Restored, LoadFault); 7] = [
+    (
+        Restored {
+            row: rows::ADDED_AND_SET,
+            cut: 6,
+            ..WHOLE
+        },
+        LoadFault::CutTooShort(7),
+    ),
+    (
+        Restored {
+            row: LOST_TAIL,
+            k: 4,
+            cut: 1,
+            ..WHOLE
+        },
+        LoadFault::CutTooShort(2),
+    ),
+    (
+        Restored {
+            row: COPIED_AFTER_A_WRITE,
+            cut: 3,
+            ..WHOLE
+        },
+        LoadFault::CutTooShort(4),
+    ),
+    (
+        Restored {
+            row: DROPPED_AND_BEING_READ,
+            ..WHOLE
+        },
+        LoadFault::NoCopy,
+    ),
+    (
+        Restored {
+            row: DROPPED_AND_BEING_READ,
+            copy: 2,
+            cut: 0,
+            ..WHOLE
+        },
+        LoadFault::CopyNotComplete,
+    ),
+    (
+        Restored {
+            row: DROPPED_AND_BEING_READ,
+            copy: 3,
+            cut: 0,
+            ..WHOLE
+        },
+        LoadFault::NoCopy,
+    ),
+    (
+        Restored {
+            row: DROPPED_AND_BEING_READ,
+            copy: 0,
+            cut: 0,
+            ..WHOLE
+        },
+        LoadFault::NoCopy,
+    ),
+];
+
+/// Asserts that a copy is not loaded, and why.
+fn assert_refused(rt: &(impl Abort + AllocGlobal), given: &Restored, fault: LoadFault) {
+    let retired = retired(rt, given.row, given.k);
+    let found = match load(rt.alloc(), retired, CopyId(given.copy), given.cut) {
+        Ok(_) => None,
+        Err((_, found)) => Some(found),
+    };
+    same_at(rt, &found, &Some(fault), &given.copy);
+    let calls = calls_of(rt, given.row.parts);
+    let refused = rebuilt_of(rt, given, &calls).err();
+    same_at(rt, &refused, &Some(Refused::Load(fault)), &given.copy);
 }
 
 #[test]
-fn copies_are_not_loaded(rt: HostRuntime) -> Result<(), Fail> {
-    for (row, copy, cut, fault) in [
-        (Row::AddedAndSet, 1, 6, LoadFault::CutTooShort(7)),
-        (Row::LostTail, 1, 1, LoadFault::CutTooShort(2)),
-        (Row::CopiedAfterAWrite, 1, 3, LoadFault::CutTooShort(4)),
-        (Row::DroppedAndBeingRead, 1, ALL, LoadFault::NoCopy),
-        (Row::DroppedAndBeingRead, 2, 0, LoadFault::CopyNotComplete),
-        (Row::DroppedAndBeingRead, 3, 0, LoadFault::NoCopy),
-        (Row::DroppedAndBeingRead, 0, 0, LoadFault::NoCopy),
-    ] {
-        assert_refused(&rt, rt.alloc(), copy_of(row, copy, cut), fault)?;
+fn copies_are_not_loaded(rt: HostRuntime) {
+    for (given, fault) in &REFUSED {
+        assert_refused(&rt, given, *fault);
     }
-    Ok(())
 }

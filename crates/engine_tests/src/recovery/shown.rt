@@ -1,6 +1,6 @@
 //! Pages and records as they are expected.
 
-use crate::engine::{same, same_at};
+use crate::asserts::same;
 use log_records::Record;
 use page_core::{Change, Lsn, Page, PageNo, SlotNo, TxnNo};
 use std::process::Abort;
@@ -8,30 +8,31 @@ use std::process::Abort;
 /// A page: its number, its LSN, and the numbers in its first three slots. Each other slot has 0.
 pub(super) type Shown = (u32, u64, [u64; 3]);
 
-fn page_of(shown: Shown) -> Page {
-    let (number, lsn, [first, second, third]) = shown;
-    let mut slots = [0; 62];
-    slots[0] = first;
-    slots[1] = second;
-    slots[2] = third;
-    Page {
-        number: PageNo(number),
-        lsn: Lsn(lsn),
-        slots,
-    }
-}
-
 /// Asserts that pages are the expected ones.
 pub(super) fn assert_pages(rt: &impl Abort, pages: &[Page], expected: &[Shown]) {
     same(rt, &pages.len(), &expected.len());
-    for (page, &shown) in pages.iter().zip(expected) {
-        same_at(rt, page, &page_of(shown), &shown);
+    for (page, (number, lsn, [first, second, third])) in pages.iter().zip(expected) {
+        let mut wanted = Page::formatted(PageNo(*number));
+        wanted.lsn = Lsn(*lsn);
+        wanted.slots[0] = *first;
+        wanted.slots[1] = *second;
+        wanted.slots[2] = *third;
+        same(rt, page, &wanted);
     }
 }
 
-/// The compensation of a change of page 0.
-pub(super) fn comp(txn: u32, lsn: u64, prev: u64, undo_next: u64, of: (u16, Change)) -> Record {
-    let (slot, change) = of;
+/// A record that undo appends: its transaction, its LSN, and that of the transaction's record before
+/// it. Of a compensation, which is of a change of page 0, also the LSN of what is to be undone next.
+#[derive(Clone, Copy)]
+pub(super) enum Appended {
+    /// An amount is taken away from a slot.
+    Less(u32, u64, u64, u64, (u16, u64)),
+    /// A slot is set back to a number.
+    BackTo(u32, u64, u64, u64, (u16, u64)),
+    End(u32, u64, u64),
+}
+
+fn comp(txn: u32, lsn: u64, prev: u64, undo_next: u64, slot: u16, change: Change) -> Record {
     Record::Comp {
         lsn: Lsn(lsn),
         txn: TxnNo(txn),
@@ -43,21 +44,28 @@ pub(super) fn comp(txn: u32, lsn: u64, prev: u64, undo_next: u64, of: (u16, Chan
     }
 }
 
-pub(super) fn end(txn: u32, lsn: u64, prev: u64) -> Record {
-    Record::End {
-        lsn: Lsn(lsn),
-        txn: TxnNo(txn),
-        prev: Lsn(prev),
+fn record_of(appended: Appended) -> Record {
+    match appended {
+        Appended::Less(txn, lsn, prev, undo_next, (slot, amount)) => {
+            let amount = amount.wrapping_neg();
+            comp(txn, lsn, prev, undo_next, slot, Change::Add { amount })
+        }
+        Appended::BackTo(txn, lsn, prev, undo_next, (slot, after)) => {
+            let change = Change::Set { before: 0, after };
+            comp(txn, lsn, prev, undo_next, slot, change)
+        }
+        Appended::End(txn, lsn, prev) => Record::End {
+            lsn: Lsn(lsn),
+            txn: TxnNo(txn),
+            prev: Lsn(prev),
+        },
     }
 }
 
-/// An amount is taken away from a slot.
-pub(super) fn less(slot: u16, amount: u64) -> (u16, Change) {
-    let amount = amount.wrapping_neg();
-    (slot, Change::Add { amount })
-}
-
-/// A slot is set to a number.
-pub(super) fn back_to(slot: u16, after: u64) -> (u16, Change) {
-    (slot, Change::Set { before: 0, after })
+/// Asserts that these are the records that undo appended.
+pub(super) fn assert_appended(rt: &impl Abort, records: &[Record], expected: &[Appended]) {
+    same(rt, &records.len(), &expected.len());
+    for (record, appended) in records.iter().zip(expected) {
+        same(rt, record, &record_of(*appended));
+    }
 }

@@ -1,35 +1,38 @@
 //! Each call of the store and each call of the log's device fails in turn, and each copy that is
 //! complete then is restored of each log that a crash may leave.
 
-use super::rows::Row;
-use super::{Faults, Tried, engine_of, loaded_of, redone_of, undone_of};
-use aries_core::{Event, Refusal, Reply};
+use super::{redone_of, undone_of};
+use crate::asserts::same_at;
+use crate::calls::{Calls, Row, calls_of};
+use crate::engine::{failing_device, failing_store, setup_of};
+use crate::rows;
+use aries_core::{Engine, Refusal, Reply};
 use copy_coverage::Retired;
 use copy_vault::CopyId;
 use log_records::Record;
 use page_core::{Page, PageNo, TxnNo};
 use page_redo::redo_page;
-use std::alloc::Global;
 use std::process::Abort;
-use std::test::Fail;
 
-const SWEPT: [Row; 8] = [
-    Row::DirtyAtACheckpoint,
-    Row::BehindTheCursor,
-    Row::ChangedDuringAWrite,
-    Row::TakenAtTheRedoPoint,
-    Row::AddedBeforeACopy,
-    Row::AddedAndSet,
-    Row::Chain,
-    Row::TwoCopiesOfOneParent,
+static SWEPT: [Row; 8] = [
+    rows::COPIED_WHEN_DIRTY,
+    rows::COPIED_BEHIND_THE_CURSOR,
+    rows::COPIED_AFTER_A_CHANGED_WRITE,
+    rows::TAKEN_AT_THE_REDO_POINT,
+    rows::ADDED_BEFORE_A_COPY,
+    rows::ADDED_AND_SET,
+    rows::CHAIN,
+    rows::TWO_COPIES_OF_ONE_PARENT,
 ];
 
-/// How a row is called: which call of a store or of a device fails, and whether a call of the
-/// engine is made again that was refused for it.
+/// How a row is called: which call of the store fails, and which one of the log's device, counted
+/// from 1, where 0 is none; and whether a call of the engine is made again that was refused for it.
 #[derive(Clone, Copy)]
-struct Calls {
+struct Sweep<'a> {
     row: Row,
-    faults: Faults,
+    calls: &'a Calls,
+    store: u64,
+    device: u64,
     again: bool,
 }
 
@@ -41,27 +44,25 @@ fn is_fault(reply: Reply) -> bool {
     )
 }
 
-/// Makes the calls of a row, and tells whether the store or the device failed at one of them.
-fn call_each(engine: &mut Tried, row: &[(Event, Reply)], again: bool) -> bool {
+/// What an engine leaves that was called so, and whether the store or the device failed at a call.
+fn run(rt: &(impl Abort + AllocGlobal), sweep: Sweep<'_>) -> (Retired, bool) {
+    let pages = sweep.row.pages(rt);
+    let store = failing_store(rt, pages, sweep.store);
+    let device = failing_device(rt, sweep.calls.events.len(), sweep.device);
+    let mut engine = Engine::new(rt.alloc(), setup_of(pages), store, device).expect(
+        rt,
+        "an engine",
+    );
     let mut has_failed = false;
-    for (event, _) in row {
-        let reply = engine.apply(*event);
-        if is_fault(reply) {
+    for event in &sweep.calls.events {
+        if is_fault(engine.apply(*event)) {
             has_failed = true;
-            if again {
+            if sweep.again {
                 let _ = engine.apply(*event);
             }
         }
     }
-    has_failed
-}
-
-/// What an engine leaves that was called so, and whether a call failed.
-fn run(alloc: Global, calls: Calls) -> Result<(Retired, bool), Fail> {
-    let row = calls.row.calls(alloc)?;
-    let mut engine = engine_of(alloc, calls.row.pages(), row.len(), calls.faults)?;
-    let has_failed = call_each(&mut engine, &row, calls.again);
-    Ok((engine.retire(), has_failed))
+    (engine.retire(), has_failed)
 }
 
 /// Asserts that these are the pages that a log makes of formatted ones.
@@ -69,18 +70,20 @@ fn assert_images(rt: &impl Abort, pages: &[Page], log: &[Record]) {
     for page in pages {
         let mut image = Page::formatted(page.number);
         redo_page(&mut image, log);
-        assert!(rt;
-            *page == image,
-            "page {:?} of {} records",
-            page.number,
-            log.len()
-        );
+        same_at(rt, page, &image, &log.len());
     }
 }
 
 /// Whether a transaction has committed.
-fn is_committed(log: &[Record], txn: TxnNo) -> bool {
-    log.iter().any(|record| matches!(record, Record::Commit { txn: of, .. } if *of == txn))
+fn is_committed(log: &[Record], by: TxnNo) -> bool {
+    for record in log {
+        if let Record::Commit { txn, .. } = *record {
+            if txn == by {
+                return true;
+            }
+        }
+    }
+    false
 }
 
 /// A page with the changes of the committed transactions alone.
@@ -100,95 +103,88 @@ fn committed_page(log: &[Record], number: PageNo) -> Page {
 fn assert_committed(rt: &impl Abort, pages: &[Page], log: &[Record]) {
     for page in pages {
         let committed = committed_page(log, page.number);
-        assert!(rt;
-            page.slots == committed.slots,
-            "page {:?} of {} records",
-            page.number,
-            log.len()
-        );
+        same_at(rt, &page.slots, &committed.slots, &(page.number, log.len()));
     }
 }
 
 /// Restores a copy over these first records of the log, and asserts its pages after redo and after
 /// undo.
-fn assert_restored(
-    rt: &impl Abort,
-    alloc: Global,
-    retired: Retired,
-    copy: u32,
-    kept: &[Record],
-) -> Result<(), Fail> {
-    let loaded = loaded_of(alloc, retired, copy, kept.len())?;
-    let redone = redone_of(alloc, loaded)?;
+fn assert_restored(rt: &(impl Abort + AllocGlobal), retired: Retired, copy: u32, kept: &[Record]) {
+    let redone = redone_of(rt, retired, copy, kept.len());
     assert_images(rt, redone.pages(), kept);
-    let undone = undone_of(redone)?;
+    let undone = undone_of(rt, redone);
     assert_images(rt, undone.pages(), undone.records());
     assert_committed(rt, undone.pages(), kept);
-    Ok(())
+    drop(undone);
 }
 
 /// Restores a copy of each log that a crash may leave.
 fn assert_each_cut(
-    rt: &impl Abort,
-    alloc: Global,
-    calls: Calls,
+    rt: &(impl Abort + AllocGlobal),
+    sweep: Sweep<'_>,
     retired: &Retired,
     copy: u32,
-) -> Result<(), Fail> {
+) {
     let records = retired.log().records();
     for cut in 0..records.len() + 1 {
         if 64 * (cut as u64 + 1) >= retired.forced_end().0 {
-            let (again, _) = run(alloc, calls)?;
-            assert_restored(rt, alloc, again, copy, &records[..cut])?;
+            let (again, _) = run(rt, sweep);
+            assert_restored(rt, again, copy, &records[..cut]);
         }
     }
-    Ok(())
 }
 
 /// Calls a row, restores each copy that is complete then, and tells whether a call failed.
-fn sweep(rt: &impl Abort, alloc: Global, calls: Calls) -> Result<bool, Fail> {
-    let (retired, has_failed) = run(alloc, calls)?;
+fn restore_each(rt: &(impl Abort + AllocGlobal), sweep: Sweep<'_>) -> bool {
+    let (retired, has_failed) = run(rt, sweep);
     for copy in 1..4 {
         if retired.vault().complete(CopyId(copy)).is_some() {
-            assert_each_cut(rt, alloc, calls, &retired, copy)?;
+            assert_each_cut(rt, sweep, &retired, copy);
         }
     }
-    Ok(has_failed)
+    drop(retired);
+    has_failed
 }
 
-#[test]
-fn each_call_of_the_store_fails(rt: HostRuntime) -> Result<(), Fail> {
-    for row in SWEPT {
+/// What fails of an engine.
+#[derive(Clone, Copy)]
+enum Part {
+    Store,
+    Device,
+}
+
+/// Sweeps each row, where one call of this part fails after the other, until none is left. Of a
+/// device it is not the first one, which stores the header: where it fails there is no engine.
+fn sweep_rows(rt: &(impl Abort + AllocGlobal), part: Part) {
+    for row in &SWEPT {
+        let calls = calls_of(rt, row.parts);
         for again in [false, true] {
             for k in 1..100 {
-                let faults = Faults {
-                    store: k,
-                    device: 0,
+                let (store, device) = match part {
+                    Part::Store => (k, 0),
+                    Part::Device => (0, k + 1),
                 };
-                if !sweep(&rt, rt.alloc(), Calls { row, faults, again })? {
+                let sweep = Sweep {
+                    row: *row,
+                    calls: &calls,
+                    store,
+                    device,
+                    again,
+                };
+                if !restore_each(rt, sweep) {
                     break;
                 }
             }
         }
     }
-    Ok(())
 }
 
-/// The first call stores the header: where it fails there is no engine.
 #[test]
-fn each_call_of_the_device_fails(rt: HostRuntime) -> Result<(), Fail> {
-    for row in SWEPT {
-        for again in [false, true] {
-            for k in 2..100 {
-                let faults = Faults {
-                    store: 0,
-                    device: k,
-                };
-                if !sweep(&rt, rt.alloc(), Calls { row, faults, again })? {
-                    break;
-                }
-            }
-        }
-    }
-    Ok(())
+fn each_call_of_the_store_fails(rt: HostRuntime) {
+    sweep_rows(&rt, Part::Store);
+}
+
+#[test]
+fn each_call_of_the_device_fails(rt: HostRuntime) {
+    sweep_rows(&rt, Part::Device);
 }

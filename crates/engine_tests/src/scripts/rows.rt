@@ -1,97 +1,93 @@
 //! Lines, and what each of them says.
 
-use aries_core::{Answer, Event};
+use aries_core::{Answer, Refusal};
 use copy_vault::CopyId;
-use event_script::ScriptFault;
-use page_core::{Lsn, PageNo, SlotNo, TxnNo};
+use event_script::{ReplyLine, ScriptFault};
+use page_core::{Lsn, TxnNo};
 
-const TXN: TxnNo = TxnNo(4_294_967_295);
-
-const PAGE: PageNo = PageNo(65_536);
-
-const SLOT: SlotNo = SlotNo(65_535);
-
-const COPY: CopyId = CopyId(7);
-
-const NUMBER: u64 = 18_446_744_073_709_551_615;
-
-pub const CALLS: [(&str, Event); 18] = [
-    ("begin", Event::Begin),
+/// Scripts of one event, and what they say.
+pub(super) static CALLS: [(&str, &str); 18] = [
+    ("begin", "[Begin] None"),
     (
         "set 4294967295 65536 65535 18446744073709551615",
-        Event::Set {
-            txn: TXN,
-            page: PAGE,
-            slot: SLOT,
-            number: NUMBER,
-        },
+        "[Set { txn: TxnNo(4294967295), page: PageNo(65536), slot: SlotNo(65535), \
+         number: 18446744073709551615 }] None",
     ),
     (
         "add 04294967295  65536 65535 18446744073709551615\r\n",
-        Event::Add {
-            txn: TXN,
-            page: PAGE,
-            slot: SLOT,
-            amount: NUMBER,
-        },
+        "[Add { txn: TxnNo(4294967295), page: PageNo(65536), slot: SlotNo(65535), \
+         amount: 18446744073709551615 }] None",
     ),
     (
         "read 65536 65535",
-        Event::Read {
-            page: PAGE,
-            slot: SLOT,
-        },
+        "[Read { page: PageNo(65536), slot: SlotNo(65535) }] None",
     ),
-    ("commit 00000000004294967295", Event::Commit(TXN)),
-    ("abort 4294967295\n", Event::Abort(TXN)),
-    ("undo 4294967295", Event::UndoStep(TXN)),
-    ("force", Event::Force),
-    ("ckpt", Event::CkptBegin),
-    ("gather", Event::CkptGather),
-    ("endckpt\r", Event::CkptEnd),
-    ("wbegin 65536", Event::WriteBegin(PAGE)),
-    ("wend 65536", Event::WriteEnd(PAGE)),
-    ("full", Event::CopyFull),
-    ("inc 7", Event::CopyInc(COPY)),
+    (
+        "commit 00000000004294967295",
+        "[Commit(TxnNo(4294967295))] None",
+    ),
+    ("abort 4294967295\n", "[Abort(TxnNo(4294967295))] None"),
+    ("undo 4294967295", "[UndoStep(TxnNo(4294967295))] None"),
+    ("force", "[Force] None"),
+    ("ckpt", "[CkptBegin] None"),
+    ("gather", "[CkptGather] None"),
+    ("endckpt\r", "[CkptEnd] None"),
+    ("wbegin 65536", "[WriteBegin(PageNo(65536))] None"),
+    ("wend 65536", "[WriteEnd(PageNo(65536))] None"),
+    ("full", "[CopyFull] None"),
+    ("inc 7", "[CopyInc(CopyId(7))] None"),
     (
         "take 7 65536",
-        Event::Take {
-            copy: COPY,
-            page: PAGE,
-        },
+        "[Take { copy: CopyId(7), page: PageNo(65536) }] None",
     ),
-    ("  seal   7 ", Event::Seal(COPY)),
-    ("drop 7", Event::DropCopy(COPY)),
+    ("  seal   7 ", "[Seal(CopyId(7))] None"),
+    ("drop 7", "[DropCopy(CopyId(7))] None"),
 ];
 
-pub const BAD_LINES: [&str; 23] = [
-    " ",
-    "start",
-    "Begin",
-    " # no comment",
-    "begin 1",
-    "begin\r\r",
-    "commit",
-    "commit 1 2",
-    "commit 4294967296",
-    "commit 000000000000000000001",
-    "commit +5",
-    "commit -1",
-    "commit\t1",
-    "set 1 0 65536 7",
-    "set 1 0 0 18446744073709551616",
-    "set 1 0 0 99999999999999999999",
-    "set 1 0 0",
-    "set 1 0 0 7 7",
-    "take 1",
-    "repair 1 0",
-    "restore 1",
-    "restore 1 some",
-    "restore 4294967296 all",
+/// Scripts with a restore, and without one.
+pub(super) static RESTORES: [(&str, &str); 5] = [
+    (
+        "begin\nrestore 3 all\n# done\n\n",
+        "[Begin] Some(LastRestore { copy: CopyId(3), cut: None })",
+    ),
+    (
+        "restore 3 18446744073709551615",
+        "[] Some(LastRestore { copy: CopyId(3), cut: Some(18446744073709551615) })",
+    ),
+    ("", "[] None"),
+    ("# none\n\r\n", "[] None"),
+    ("begin\nforce\n", "[Begin, Force] None"),
 ];
 
-/// Scripts, each with the number of its first bad line.
-pub const BAD_SCRIPTS: [(&str, u64); 5] = [
+/// Scripts of one line, each with the number of its first bad line.
+pub(super) static BAD_LINES: [(&str, u64); 23] = [
+    (" ", 1),
+    ("start", 1),
+    ("Begin", 1),
+    (" # no comment", 1),
+    ("begin 1", 1),
+    ("begin\r\r", 1),
+    ("commit", 1),
+    ("commit 1 2", 1),
+    ("commit 4294967296", 1),
+    ("commit 000000000000000000001", 1),
+    ("commit +5", 1),
+    ("commit -1", 1),
+    ("commit\t1", 1),
+    ("set 1 0 65536 7", 1),
+    ("set 1 0 0 18446744073709551616", 1),
+    ("set 1 0 0 99999999999999999999", 1),
+    ("set 1 0 0", 1),
+    ("set 1 0 0 7 7", 1),
+    ("take 1", 1),
+    ("repair 1 0", 1),
+    ("restore 1", 1),
+    ("restore 1 some", 1),
+    ("restore 4294967296 all", 1),
+];
+
+/// The same of more lines.
+pub(super) static BAD_SCRIPTS: [(&str, u64); 5] = [
     ("begin\n\n# \u{e4}\r\ncommit x\nbegin y\n", 4),
     ("restore 1 all\n\nbegin\n", 3),
     ("restore 1 all\nrestore 1 all", 2),
@@ -99,58 +95,42 @@ pub const BAD_SCRIPTS: [(&str, u64); 5] = [
     ("begin\n \n", 2),
 ];
 
-/// Scripts, each with how many events it says, and its restore: the copy, and the cut.
-pub const RESTORES: [(&str, usize, u32, Option<u64>); 2] = [
-    ("begin\nrestore 3 all\n# done\n\n", 1, 3, None),
-    (
-        "restore 3 18446744073709551615",
-        0,
-        3,
-        Some(18_446_744_073_709_551_615),
-    ),
-];
-
-pub const WITHOUT_RESTORE: [(&str, usize); 3] = [
-    ("", 0),
-    ("# none\n\r\n", 0),
-    ("begin\nforce\n", 2),
-];
-
 const LSN: Lsn = Lsn(640);
 
-pub const ANSWERS: [(Answer, &str); 16] = [
+pub(super) const REPLIES: [(ReplyLine, &str); 17] = [
     (
-        Answer::Began {
+        ReplyLine(Ok(Answer::Began {
             txn: TxnNo(2),
             lsn: LSN,
-        },
+        })),
         "began 2 at 640",
     ),
-    (Answer::Logged(LSN), "lsn 640"),
-    (Answer::Number(12), "value 12"),
-    (Answer::Undid(LSN), "undid 640"),
-    (Answer::Ended(LSN), "ended 640"),
-    (Answer::Forced(LSN), "forced 640"),
-    (Answer::Writing(LSN), "writing 640"),
-    (Answer::Written(LSN), "written 640"),
-    (Answer::More, "more"),
-    (Answer::Done, "done"),
+    (ReplyLine(Ok(Answer::Logged(LSN))), "lsn 640"),
+    (ReplyLine(Ok(Answer::Number(12))), "value 12"),
+    (ReplyLine(Ok(Answer::Undid(LSN))), "undid 640"),
+    (ReplyLine(Ok(Answer::Ended(LSN))), "ended 640"),
+    (ReplyLine(Ok(Answer::Forced(LSN))), "forced 640"),
+    (ReplyLine(Ok(Answer::Writing(LSN))), "writing 640"),
+    (ReplyLine(Ok(Answer::Written(LSN))), "written 640"),
+    (ReplyLine(Ok(Answer::More)), "more"),
+    (ReplyLine(Ok(Answer::Done)), "done"),
     (
-        Answer::Point {
+        ReplyLine(Ok(Answer::Point {
             begin: Lsn(192),
             end: Lsn(384),
             redo: Lsn(128),
-        },
+        })),
         "point 192 384 128",
     ),
-    (Answer::Copied(CopyId(1)), "copy 1"),
-    (Answer::Taken(LSN), "taken 640"),
-    (Answer::Kept, "kept"),
-    (Answer::Sealed(2), "sealed 2"),
-    (Answer::Dropped, "dropped"),
+    (ReplyLine(Ok(Answer::Copied(CopyId(1)))), "copy 1"),
+    (ReplyLine(Ok(Answer::Taken(LSN))), "taken 640"),
+    (ReplyLine(Ok(Answer::Kept)), "kept"),
+    (ReplyLine(Ok(Answer::Sealed(2))), "sealed 2"),
+    (ReplyLine(Ok(Answer::Dropped)), "dropped"),
+    (ReplyLine(Err(Refusal::SlotBusy(TxnNo(1)))), "E5 SlotBusy 1"),
 ];
 
-pub const FAULTS: [(ScriptFault, &str); 4] = [
+pub(super) static FAULTS: [(ScriptFault, &str); 4] = [
     (ScriptFault::OutOfMemory, "E1 OutOfMemory"),
     (ScriptFault::Input, "imgcopy: input"),
     (ScriptFault::ReadFault, "imgcopy: input"),
