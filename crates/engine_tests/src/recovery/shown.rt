@@ -21,8 +21,9 @@ pub(super) fn assert_pages(rt: &impl Abort, pages: &[Page], expected: &[Shown]) 
     }
 }
 
-/// A record that undo appends: its transaction, its LSN, and that of the transaction's record before
-/// it. Of a compensation, which is of a change of page 0, also the LSN of what is to be undone next.
+/// A record that undo appends: its transaction, its LSN, and that of the transaction's record
+/// before it. Of a compensation, which is of a change of page 0, also the LSN of what is to be
+/// undone next.
 #[derive(Clone, Copy)]
 pub(super) enum Appended {
     /// An amount is taken away from a slot.
