@@ -15,7 +15,6 @@ mod open_transactions;
 mod pending;
 mod pending_change;
 mod seat_set;
-mod slot_sets;
 mod txn_state;
 
 pub use checkpoint_laws::{
