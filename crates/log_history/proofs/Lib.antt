@@ -13,6 +13,7 @@ pub mod Fronts
 pub mod Histories
 pub mod Holds
 pub mod Owned
+pub mod Paged
 pub mod Pendings
 pub mod Pushes
 pub mod Ranks

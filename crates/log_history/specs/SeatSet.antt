@@ -1,5 +1,5 @@
 -- Sets of seats.
-use Rattle.std.specs.Prelude.{ℕ, ◌≡◌, ◌<◌, ◌^◌, ◌==◌, Bool, true, false}
+use Rattle.std.specs.Prelude.{ℕ, ◌≡◌, ◌<◌, ◌^◌, ◌==◌, Bool, true, false, if◌then◌else◌}
 use Rattle.std.specs.Int.{bit_at}
 use Rattle.log_history.specs.declared.seat_set.SeatSet.{SeatSet}
 use Rattle.log_history.specs.declared.seat_set.TheConstants.{SEATS}
@@ -13,6 +13,12 @@ only seat = record { bits = 2 ^ seat }
 
 unfoldable pub has_seat : SeatSet → ℕ → Bool
 has_seat set seat = bit_at set.bits seat == 1
+
+-- the set is another one with this seat in it, or without it
+abbrev pub IsWith : SeatSet → SeatSet → ℕ → Bool → Type 0
+IsWith set was seat present =
+    (other : ℕ) → other < SEATS
+    → has_seat set other ≡ (if other == seat then present else has_seat was other)
 
 -- the set has a seat
 pub record HasSome (set : SeatSet) : Type 0 where

@@ -1,74 +1,114 @@
 //! The seats of those who add to one slot together.
 
 ghost use Rattle.std.specs.Prelude.{ℕ, ◌≡◌, ◌<◌, ◌≤◌, ◌==◌, ◌&&◌, OnOk, OnErr, IfOk};
-ghost use Rattle.std.specs.Prelude.{if◌then◌else◌, slice_index_or, vec_len};
-ghost use Rattle.log_history.specs.Adders.{seats_at, seats_in};
-ghost use Rattle.log_history.specs.SeatSet.{no_seats};
+ghost use Rattle.std.specs.Prelude.{if◌then◌else◌, vec_len};
+ghost use Rattle.log_history.specs.Adders.{seats_among, seats_at, seats_in};
+ghost use Rattle.log_history.specs.SeatSet.{IsWith, no_seats};
 
-use crate::marks::place_of;
-use crate::seat_set::SeatSet;
+use crate::seat_set::{SEATS, SeatSet};
+use crate::slot_sets::SlotSets;
 use page_core::{PageNo, SLOTS, SlotNo};
 use std::alloc::{AllocError, Global};
 
-/// How many sets are made at once.
-const GROUP: usize = 8;
-
-/// Sets of seats by place, in groups of eight. A group takes memory once it has a seat.
+/// The seats of those who add to the slots of a page.
 #[derive(Drop)]
-struct Groups {
-    groups: Vec<Option<Box<[SeatSet; GROUP]>>>,
+enum PageAdders {
+    /// No other slot than this one has seats.
+    One { slot: u16, seats: SeatSet },
+    Several(Box<SlotSets>),
 }
 
-impl Groups {
-    /// No set has a seat.
-    fn new(alloc: Global) -> Groups
-        ensures { (group place : ℕ) → seats_in result group place ≡ no_seats }
+impl PageAdders {
+    /// No slot of the page has a seat.
+    fn new() -> PageAdders
+        ensures { (slot : ℕ) → seats_in result slot ≡ no_seats }
     {
-        Groups {
-            groups: Vec::new(alloc),
+        PageAdders::One {
+            slot: 0,
+            seats: SeatSet::new(),
         }
     }
 
-    /// The set at a place of a group.
-    fn seats(&self, group: usize, place: usize) -> SeatSet
-        ensures { result ≡ seats_in self.now group place }
+    /// The seats of a slot.
+    #[inline(always)]
+    fn seats(&self, slot: u16) -> SeatSet
+        requires { slot < SLOTS }
+        ensures { result ≡ seats_in self.now slot }
     {
-        if group >= self.groups.len() || place >= GROUP {
-            return SeatSet::new();
-        }
-        match &self.groups[group] {
-            Some(seats) => seats[place],
-            None => SeatSet::new(),
+        match self {
+            PageAdders::One { slot: held, seats } => {
+                if *held == slot {
+                    *seats
+                } else {
+                    SeatSet::new()
+                }
+            }
+            PageAdders::Several(sets) => sets.seats(slot),
         }
     }
 
-    /// Puts these seats at a place of a group. Where it had none, this may need memory.
-    fn put(&mut self, group: usize, place: usize, seats: SeatSet) -> Result<(), AllocError>
-        requires { place < GROUP }
-        ensures put { OnOk result ((g p : ℕ) → seats_in self.new g p
-            ≡ (if group == g && place == p then seats else seats_in self.old g p)) }
-        ensures new_place { OnErr result (seats_in self.old group place ≡ no_seats) }
-        ensures err { OnErr result ((g p : ℕ) → seats_in self.new g p ≡ seats_in self.old g p) }
+    /// Puts these seats on a slot. Where it had none, this may need memory.
+    #[inline(always)]
+    fn put(&mut self, alloc: Global, slot: u16, seats: SeatSet) -> Result<(), AllocError>
+        requires { slot < SLOTS }
+        ensures put { OnOk result ((s : ℕ) → s < SLOTS → seats_in self.new s
+            ≡ (if slot == s then seats else seats_in self.old s)) }
+        ensures new_slot { OnErr result (seats_in self.old slot ≡ no_seats) }
+        ensures err { OnErr result ((s : ℕ) → seats_in self.new s ≡ seats_in self.old s) }
     {
-        self.make_groups(group)?;
-        let alloc = *self.groups.allocator();
-        match &mut self.groups[group] {
-            Some(sets) => put_set(sets, place, seats),
-            None => self.groups[group] = Some(sets_with(alloc, place, seats)?),
+        match self {
+            PageAdders::One {
+                slot: held,
+                seats: there,
+            } => {
+                if *held == slot || there.is_empty() {
+                    *held = slot;
+                    *there = seats;
+                } else {
+                    let both = sets_with(alloc, *held, *there, slot, seats)?;
+                    *self = PageAdders::Several(both);
+                }
+                Ok(())
+            }
+            PageAdders::Several(sets) => sets.put(slot, seats),
         }
-        Ok(())
     }
 
-    /// Where this group is behind all others, it and those before it get no sets.
-    fn make_groups(&mut self, group: usize) -> Result<(), AllocError>
-        ensures ok { OnOk result (group < vec_len self.new.groups) }
-        ensures err { OnErr result (vec_len self.new.groups ≤ group) }
-        ensures same { (g p : ℕ) → seats_in self.new g p ≡ seats_in self.old g p }
+    /// Puts a seat into the set of a slot, or takes it out of it, and answers the set as it was.
+    /// Where it had no seats, this may need memory.
+    #[inline(always)]
+    fn put_seat(
+        &mut self,
+        alloc: Global,
+        slot: u16,
+        seat: u8,
+        present: bool,
+    ) -> Result<SeatSet, AllocError>
+        requires slot { slot < SLOTS }
+        requires seat { seat < SEATS }
+        ensures was { IfOk result (λ was. was ≡ seats_in self.old slot) }
+        ensures now { OnOk result (IsWith (seats_in self.new slot) (seats_in self.old slot)
+            seat present) }
+        ensures put { OnOk result ((s : ℕ) → s < SLOTS → seats_in self.new s
+            ≡ (if slot == s then seats_in self.new slot else seats_in self.old s)) }
+        ensures new_slot { OnErr result (seats_in self.old slot ≡ no_seats) }
+        ensures err { OnErr result ((s : ℕ) → seats_in self.new s ≡ seats_in self.old s) }
     {
-        while self.groups.len() <= group {
-            self.groups.push(None)?;
+        match self {
+            PageAdders::One {
+                slot: held,
+                seats: there,
+            } => {
+                if *held == slot {
+                    let was = *there;
+                    *there = was.with(seat, present);
+                    return Ok(was);
+                }
+            }
+            PageAdders::Several(sets) => return sets.put_seat(slot, seat, present),
         }
-        Ok(())
+        self.put(alloc, slot, SeatSet::new().with(seat, present))?;
+        Ok(SeatSet::new())
     }
 }
 
@@ -76,7 +116,8 @@ impl Groups {
 /// whatever the log.
 #[derive(Drop)]
 pub struct Adders {
-    groups: Groups,
+    /// Those of each page, in order, up to the last page that has had seats.
+    pages: Vec<PageAdders>,
 }
 
 impl Adders {
@@ -85,7 +126,7 @@ impl Adders {
         ensures { (page slot : ℕ) → seats_at result page slot ≡ no_seats }
     {
         Adders {
-            groups: Groups::new(alloc),
+            pages: Vec::new(alloc),
         }
     }
 
@@ -93,11 +134,10 @@ impl Adders {
     pub fn seats(&self, page: PageNo, slot: SlotNo) -> SeatSet
         ensures { result ≡ seats_at self.now page slot }
     {
-        if slot.0 as usize >= SLOTS {
+        if slot.0 as usize >= SLOTS || page.0 as usize >= self.pages.len() {
             return SeatSet::new();
         }
-        let place = place_of(page, slot);
-        self.groups.seats(place / GROUP, place % GROUP)
+        self.pages[page.0 as usize].seats(slot.0)
     }
 
     /// Puts these seats on a slot. Where it had none, this may need memory, and is refused on a
@@ -111,32 +151,85 @@ impl Adders {
         if slot.0 as usize >= SLOTS {
             return Err(AllocError);
         }
-        let place = place_of(page, slot);
-        self.groups.put(place / GROUP, place % GROUP, seats)
+        self.make_page(page.0 as usize)?;
+        let alloc = *self.pages.allocator();
+        self.pages[page.0 as usize].put(alloc, slot.0, seats)
+    }
+
+    /// Puts a seat into the set of a slot, or takes it out of it, and answers the set as it was.
+    /// Memory and refusals are as for `put`.
+    #[inline(always)]
+    pub fn put_seat(
+        &mut self,
+        page: PageNo,
+        slot: SlotNo,
+        seat: u8,
+        present: bool,
+    ) -> Result<SeatSet, AllocError>
+        requires { seat < SEATS }
+        ensures was { IfOk result (λ was. was ≡ seats_at self.old page slot) }
+        ensures now { OnOk result (IsWith (seats_at self.new page slot)
+            (seats_at self.old page slot) seat present) }
+        ensures put { OnOk result ((p s : ℕ) → seats_at self.new p s
+            ≡ (if page == p && slot == s then seats_at self.new page slot
+            else seats_at self.old p s)) }
+        ensures new_slot { OnErr result (seats_at self.old page slot ≡ no_seats) }
+        ensures err { OnErr result ((p s : ℕ) → seats_at self.new p s ≡ seats_at self.old p s) }
+    {
+        if slot.0 as usize >= SLOTS {
+            return Err(AllocError);
+        }
+        self.make_page(page.0 as usize)?;
+        let alloc = *self.pages.allocator();
+        self.pages[page.0 as usize].put_seat(alloc, slot.0, seat, present)
+    }
+
+    /// Makes room for a page, where it is behind those with room.
+    #[inline(always)]
+    fn make_page(&mut self, page: usize) -> Result<(), AllocError>
+        ensures ok { OnOk result (page < vec_len self.new.pages) }
+        ensures err { OnErr result (vec_len self.new.pages ≤ page) }
+        ensures same { (p s : ℕ) → seats_at self.new p s ≡ seats_at self.old p s }
+    {
+        if page < self.pages.len() {
+            return Ok(());
+        }
+        self.make_pages(page)
+    }
+
+    /// Makes room for a page and those before it.
+    #[cold]
+    #[inline(never)]
+    fn make_pages(&mut self, page: usize) -> Result<(), AllocError>
+        ensures ok { OnOk result (page < vec_len self.new.pages) }
+        ensures err { OnErr result (vec_len self.new.pages ≤ page) }
+        ensures same { (p s : ℕ) → seats_at self.new p s ≡ seats_at self.old p s }
+    {
+        while self.pages.len() <= page {
+            self.pages.push(PageAdders::new())?;
+        }
+        Ok(())
     }
 }
 
-fn put_set(sets: &mut [SeatSet; GROUP], place: usize, seats: SeatSet)
-    requires { place < GROUP }
-    ensures { (p : ℕ) → slice_index_or sets.new p no_seats
-        ≡ (if place == p then seats else slice_index_or sets.old p no_seats) }
-{
-    sets[place] = seats;
-}
-
-/// The sets of a group of which one place has these seats.
+/// The sets of a page of which two slots have seats.
 #[cold]
 #[inline(never)]
 fn sets_with(
     alloc: Global,
-    place: usize,
+    held: u16,
+    there: SeatSet,
+    slot: u16,
     seats: SeatSet,
-) -> Result<Box<[SeatSet; GROUP]>, AllocError>
-    requires { place < GROUP }
-    ensures { IfOk result (λ sets. (p : ℕ) → slice_index_or sets.value p no_seats
-        ≡ (if place == p then seats else no_seats)) }
+) -> Result<Box<SlotSets>, AllocError>
+    requires { slot < SLOTS }
+    ensures { IfOk result (λ sets. (s : ℕ) → s < SLOTS → seats_among sets.value s
+        ≡ (if slot == s then seats else (if held == s then there else no_seats))) }
 {
-    let mut sets = [SeatSet::new(); GROUP];
-    put_set(&mut sets, place, seats);
+    let mut sets = SlotSets::new(alloc);
+    if (held as usize) < SLOTS {
+        sets.put(held, there)?;
+    }
+    sets.put(slot, seats)?;
     Ok(Box::new(alloc, sets)?)
 }

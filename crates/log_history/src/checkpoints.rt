@@ -71,6 +71,7 @@ impl Checkpoints {
     }
 
     /// The record may come next, as far as the checkpoints say.
+    #[inline(always)]
     pub fn may_note(&self, txns: &OpenTransactions, next: &Record) -> bool
         ensures { IsTrue result ↔ MayNoteCheckpoint txns.now self.now next.now }
     {
@@ -133,6 +134,7 @@ impl Checkpoints {
 
     /// Takes the record as the next one. An `Err` comes where memory is refused, and changes
     /// nothing.
+    #[inline(always)]
     pub fn note(&mut self, next: &Record) -> Result<(), AllocError>
         ensures ok { OnOk result (self.new ≡ noted_checkpoint self.old next.now) }
         ensures err { OnErr result (self.new ≡ self.old) }

@@ -1,7 +1,7 @@
 //! Which open transactions keep others from a slot, by their seats.
 
 ghost use Rattle.std.specs.Prelude.{ℕ, ◌≡◌, ◌≢◌, ◌<◌, ◌==◌, IfOk, IsTrue, OnErr};
-ghost use Rattle.std.specs.Prelude.{if◌then◌else◌};
+ghost use Rattle.std.specs.Prelude.{if◌then◌else◌, false};
 ghost use Rattle.log_history.specs.declared.seat_set.SeatSet.{SeatSet};
 ghost use Rattle.log_history.specs.Claims.{IsWeaker, KeepsHolds, SetsHold, Takes, claim_at};
 ghost use Rattle.log_history.specs.Claims.{claim_of};
@@ -9,6 +9,7 @@ ghost use Rattle.log_history.specs.Claims.{hold_at, hold_in, hold_with, no_claim
 ghost use Rattle.log_history.specs.Claims.{seats_against};
 ghost use Rattle.log_history.specs.Mark.{HasSeat};
 ghost use Rattle.log_history.specs.Marks.{holder_at};
+ghost use Rattle.log_history.specs.SeatSet.{has_seat};
 
 use crate::adders::Adders;
 use crate::mark::Holder;
@@ -43,6 +44,20 @@ impl Hold {
         Hold {
             against_sets: true,
             against_adds: kind == ChangeKind::Set,
+        }
+    }
+
+    /// The transaction of a seat, which is among those who add to the slot, or is not.
+    fn among(adders: SeatSet, seat: u8) -> Hold
+        requires { seat < SEATS }
+        ensures { result ≡ record {
+          against_sets = has_seat adders seat;
+          against_adds = false;
+        } }
+    {
+        Hold {
+            against_sets: adders.contains(seat),
+            against_adds: false,
         }
     }
 }
@@ -130,6 +145,7 @@ impl Claims {
     /// Takes a slot for one more pending change of the transaction of this seat, and answers what
     /// the transaction kept out before; None where another one keeps the change out. Where there is
     /// no memory for it, nothing changes; so it is on a slot that no page has.
+    #[inline(always)]
     pub fn take(
         &mut self,
         page: PageNo,
@@ -208,6 +224,7 @@ impl Claims {
     }
 
     /// Takes a slot that others may add to.
+    #[inline(always)]
     fn join(
         &mut self,
         page: PageNo,
@@ -220,28 +237,25 @@ impl Claims {
         ensures ok { IfOk result (Takes self.old self.new page slot seat kind) }
         ensures err { OnErr result (KeepsHolds self.old self.new) }
     {
-        let adders = self.adders.seats(page, slot);
-        let before = Hold {
-            against_sets: adders.contains(seat),
-            against_adds: false,
-        };
         match kind {
             ChangeKind::Add => {
-                self.adders.put(page, slot, adders.with(seat, true))?;
-                Ok(Some(before))
+                let adders = self.adders.put_seat(page, slot, seat, true)?;
+                Ok(Some(Hold::among(adders, seat)))
             }
             ChangeKind::Set => {
+                let adders = self.adders.seats(page, slot);
                 if !adders.with(seat, false).is_empty() {
                     return Ok(None);
                 }
                 self.marks.put(page, slot, Holder::One { seat, kind })?;
-                Ok(Some(before))
+                Ok(Some(Hold::among(adders, seat)))
             }
         }
     }
 
     /// The transaction of this seat has one pending change less on a slot, and keeps out again what
     /// it kept out before that change.
+    #[inline(always)]
     pub fn release(&mut self, page: PageNo, slot: SlotNo, seat: u8, before: Hold)
         requires seat { seat < SEATS }
         requires weaker { IsWeaker before (hold_at self.old page slot seat) }
@@ -256,6 +270,7 @@ impl Claims {
     }
 
     /// The same of a slot that others may add to.
+    #[inline(always)]
     fn leave(&mut self, page: PageNo, slot: SlotNo, seat: u8, before: Hold)
         requires seat { seat < SEATS }
         requires held { holder_at self.old.marks page slot ≡ Holder.Adders }
@@ -263,8 +278,7 @@ impl Claims {
         ensures { SetsHold self.old self.new page slot seat before }
     {
         if !before.against_sets {
-            let adders = self.adders.seats(page, slot).with(seat, false);
-            let _ = self.adders.put(page, slot, adders);
+            let _ = self.adders.put_seat(page, slot, seat, false);
         }
     }
 }

@@ -15,6 +15,7 @@ mod open_transactions;
 mod pending;
 mod pending_change;
 mod seat_set;
+mod slot_sets;
 mod txn_state;
 
 pub use checkpoint_laws::{

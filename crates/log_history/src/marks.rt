@@ -17,7 +17,7 @@ pub struct Marks {
 }
 
 /// Where a slot stands among all slots of a volume.
-pub fn place_of(page: PageNo, slot: SlotNo) -> usize
+fn place_of(page: PageNo, slot: SlotNo) -> usize
     ensures { result ≡ SLOTS * page + slot }
 {
     SLOTS * page.0 as usize + slot.0 as usize

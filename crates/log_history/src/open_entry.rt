@@ -30,6 +30,7 @@ pub struct OpenEntry {
 
 /// Adds a pending change and takes its slot, unless another transaction keeps it out. Answers
 /// whether it did. An `Err` changes nothing.
+#[inline(always)]
 fn push_pending(
     pending: &mut Vec<Pending>,
     claims: &mut Claims,
@@ -103,6 +104,7 @@ impl OpenEntry {
 
     /// The transaction makes a change, unless another one keeps it out: its Update has this
     /// change's LSN. Answers whether it did. An `Err` changes nothing.
+    #[inline(always)]
     pub fn update(&mut self, claims: &mut Claims, change: PendingChange) -> Result<bool, AllocError>
         requires seat { self.old.seat < SEATS }
         requires held { IsHeld claims.old self.old.seat self.old.pending.items }

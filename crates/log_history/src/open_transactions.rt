@@ -134,6 +134,7 @@ impl OpenTransactions {
 
     /// The record may come next, as far as the transactions say (ARIES, section 3). Whether a Set
     /// names the number that is in its slot, and what the open checkpoint has, they do not say.
+    #[inline(always)]
     pub fn may_note(&self, next: &Record) -> bool
         ensures { IsTrue result ↔ MayNote self.now next.now }
     {
@@ -190,6 +191,7 @@ impl OpenTransactions {
 
     /// The transaction is open, and these are its state, the LSN of its last record, and its
     /// UndoNxt.
+    #[inline(always)]
     fn is_now(&self, txn: TxnNo, phase: TxnPhase, last: Lsn, undo_next: Lsn) -> bool
         ensures { IsTrue result ↔ IsSomeAnd (entry_in self.now txn)
             (IsEntryNow phase last undo_next) }
@@ -250,6 +252,7 @@ impl OpenTransactions {
 
     /// Takes the record as the next one if it may come next, as `may_note` says, and answers
     /// whether it may. Memory and time are as for `note`.
+    #[inline(always)]
     pub fn note_if_may(&mut self, next: &Record) -> Result<bool, AllocError>
         ensures ok { IfOk result (NotesIfMay self.old self.new next.now) }
         ensures err { OnErr result (self.new ≡ self.old) }
@@ -300,6 +303,7 @@ impl OpenTransactions {
     }
 
     /// A transaction begins.
+    #[inline(always)]
     fn begin(&mut self, lsn: Lsn, txn: TxnNo) -> Result<bool, AllocError>
         ensures ok { IfOk result (NotesIfMay self.old self.new (Begin lsn txn)) }
         ensures err { OnErr result (self.new ≡ self.old) }
@@ -313,6 +317,7 @@ impl OpenTransactions {
     }
 
     /// A transaction makes a change.
+    #[inline(always)]
     fn update(&mut self, txn: TxnNo, change: PendingChange) -> Result<bool, AllocError>
         ensures ok { IfOk result (NotesIfMay self.old self.new
             (Update change.lsn txn change.prev change.page change.slot change.change)) }
@@ -329,6 +334,7 @@ impl OpenTransactions {
     }
 
     /// A transaction takes its last pending change back.
+    #[inline(always)]
     fn compensate(
         &mut self,
         lsn: Lsn,
@@ -369,6 +375,7 @@ impl OpenTransactions {
     }
 
     /// A transaction ends, and its changes are to last.
+    #[inline(always)]
     fn commit(&mut self, txn: TxnNo, prev: Lsn) -> bool
         ensures { (lsn : ℕ) → NotesIfMay self.old self.new (Commit lsn txn prev) result }
     {

@@ -1,8 +1,7 @@
 //! Sets of seats: each open transaction has a seat, and no two have the same.
 
 ghost use Rattle.std.specs.Prelude.{ℕ, ◌≡◌, ◌<◌, ◌==◌, ◌↔◌, false, true, IsFalse, IsTrue};
-ghost use Rattle.std.specs.Prelude.{if◌then◌else◌};
-ghost use Rattle.log_history.specs.SeatSet.{HasSome, LacksOne, has_seat, no_seats, only};
+ghost use Rattle.log_history.specs.SeatSet.{HasSome, IsWith, LacksOne, has_seat, no_seats, only};
 
 /// How many seats there are: one for each transaction that may be open.
 pub const SEATS: u8 = 64;
@@ -58,8 +57,7 @@ impl SeatSet {
     /// The set with this seat in it, or without it.
     pub fn with(self, seat: u8, present: bool) -> SeatSet
         requires { seat < SEATS }
-        ensures { (other : ℕ) → other < SEATS
-            → has_seat result other ≡ (if other == seat then present else has_seat self other) }
+        ensures { IsWith result self seat present }
     {
         let mask = 1u64 << seat;
         if present {

@@ -104,11 +104,19 @@ fn if_written(record: Record, bytes: &[u8; RECORD_BYTES]) -> Option<Record>
     ensures found { IfSome result (λ r. (own_lsn r ≡ own_lsn «record») × SpellsRecord r bytes.now) }
     ensures only { SpellsRecord «record» bytes.now → result ≡ Some «record» }
 {
-    if is_record(&record) && encode(&record) == *bytes {
+    if is_record(&record) && is_same(&encode(&record), bytes) {
         Some(record)
     } else {
         None
     }
+}
+
+/// It is a call of its own, so that a compiler has both in memory, and compares many bytes at once.
+#[inline(never)]
+fn is_same(a: &[u8; RECORD_BYTES], b: &[u8; RECORD_BYTES]) -> bool
+    ensures { IsTrue result ↔ (a.now ≡ b.now) }
+{
+    a == b
 }
 
 /// The record of a transaction that has these numbers, if one does.

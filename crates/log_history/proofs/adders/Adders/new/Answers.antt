@@ -1,12 +1,12 @@
-use Rattle.std.proofs.Common.{◌+◌, ◌*◌, ◌/◌, ◌%◌, ◌∙◌, ap, cond}
-use lib.Dec.{ltb}
-use Rattle.log_history.specs.Adders.{seats_at}
+use Rattle.std.proofs.Common.{[], ◌∙◌, ap, zero-le}
+use Rattle.log_history.specs.Adders.{no_adders, seats_at, seats_in}
 use Rattle.log_history.specs.SeatSet.{no_seats}
-use Rattle.log_history.proofs.AdderSets.{none_either}
+use Rattle.log_history.proofs.AdderSets.{adders_at, none_in}
+use Rattle.log_history.proofs.Paged.{at_behind}
 use Rattle.log_history.proofs.adders.Adders.new.Goals as goal
 
 pub returns : goal.returns
 unfolding seats_at
 returns c = λ page slot.
-    ap (λ seats. cond (ltb slot 62) seats no_seats) (c.new.ensures ((62 * page + slot) / 8) ((62 * page + slot) % 8))
-    ∙ none_either (ltb slot 62)
+    ap (λ pages. adders_at pages page slot) c.new.ensures.items
+    ∙ at_behind no_adders seats_in no_seats [] page slot none_in zero-le

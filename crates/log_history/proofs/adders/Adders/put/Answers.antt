@@ -1,40 +1,53 @@
-use Rattle.std.proofs.Common.{◌≤◌, ◌<◌, ◌+◌, ◌*◌, ◌/◌, ◌%◌, ◌∙◌, ap, cond, sym, arith}
-use lib.Dec.{ltb}
-use Rattle.std.proofs.lemmas.Bool.{le-ltb}
+use Rattle.std.proofs.Common.{◌∙◌, sym, arith}
 use Rattle.std.proofs.lemmas.Result.{on_err_weaker, on_ok_weaker}
-use Rattle.log_history.specs.Adders.{seats_at, seats_in}
+use Rattle.log_history.specs.Adders.{no_adders, seats_at, seats_in}
 use Rattle.log_history.specs.SeatSet.{no_seats}
-use Rattle.log_history.proofs.AdderSets.{none_either, places-put}
+use Rattle.log_history.proofs.Holds.{on_err_from}
+use Rattle.log_history.proofs.AdderSets.{none_in}
+use Rattle.log_history.proofs.Paged.{at_behind, at_found, at_no_slot, at_put_on, at_still}
 use Rattle.log_history.proofs.adders.Adders.put.Goals as goal
 
 pub returns-then-slot-ge-SLOTS-clause-new_slot : goal.returns-then-slot-ge-SLOTS-clause-new_slot
 unfolding seats_at
 returns-then-slot-ge-SLOTS-clause-new_slot c =
-    let same = c.slot.view_is in
-    let n = 62 * c.args.page + c.args.slot in
-    let past : 62 ≤ c.args.slot = omega arith in
-    ap (λ b. cond b (seats_in c.args.self.now.groups (n / 8) (n % 8)) no_seats) (le-ltb c.args.slot 62 past)
+    let slot_is = c.slot.view_is in
+    at_no_slot no_adders seats_in no_seats c.args.self.now.pages.items c.args.page c.args.slot (omega arith)
+
+pub returns-in_err-make_page-clause-new_slot : goal.returns-in_err-make_page-clause-new_slot
+unfolding seats_at
+returns-in_err-make_page-clause-new_slot c =
+    let pages = c.make_page.new.self.pages in
+    let page_is = c.page.view_is in
+    on_err_from c.from_residual.result _
+    (sym (c.make_page.ensures.same c.args.page c.args.slot)
+    ∙ at_behind no_adders seats_in no_seats pages.items c.args.page c.args.slot none_in
+    (omega (arith, pages.ok.0, c.in_err-make_page.ensures.err)))
 
 pub returns-clause-put : goal.returns-clause-put
 unfolding seats_at
 returns-clause-put c =
-    let same = c.slot.view_is in
-    let below : c.args.slot < 62 = omega arith in
-    on_ok_weaker c.put.result (λ put p s.
-    places-put (seats_in c.args.self.now.groups) (seats_in c.put.new.self) c.args.page c.args.slot
-    c.place_of-place.result c.args.seats below c.place_of-place.ensures put p s) c.put.ensures.put
+    let pages = c.make_page.new.self.pages in
+    on_ok_weaker c.put.result
+    (λ put. at_put_on no_adders seats_in no_seats pages.items c.args.self.now.pages.items c.args.page c.args.slot
+    c.page.inside.0 c.slot.inside.0 c.index_mut.result.now c.put.new.self c.args.seats c.page.view_is c.slot.view_is
+    (omega (arith, pages.ok.0, c.in_ok-make_page.ensures.ok)) (omega arith) c.index_mut.ensures.value
+    put c.make_page.ensures.same) c.put.ensures.put
 
 pub returns-clause-new_slot : goal.returns-clause-new_slot
 unfolding seats_at
 returns-clause-new_slot c =
-    let n = 62 * c.args.page + c.args.slot in
-    on_err_weaker c.put.result (λ none.
-    ap (λ seats. cond (ltb c.args.slot 62) seats no_seats)
-    (sym (ap (λ k. seats_in c.args.self.now.groups (k / 8) (k % 8)) c.place_of-place.ensures) ∙ none)
-    ∙ none_either (ltb c.args.slot 62)) c.put.ensures.new_place
+    let pages = c.make_page.new.self.pages in
+    on_err_weaker c.put.result
+    (λ free. at_found no_adders seats_in no_seats pages.items c.args.self.now.pages.items c.args.page c.args.slot
+    c.page.inside.0 c.slot.inside.0 c.index_mut.result.now c.page.view_is c.slot.view_is
+    (omega (arith, pages.ok.0, c.in_ok-make_page.ensures.ok)) (omega arith) c.index_mut.ensures.value
+    c.make_page.ensures.same ∙ free) c.put.ensures.new_slot
 
 pub returns-clause-err : goal.returns-clause-err
 unfolding seats_at
 returns-clause-err c =
-    on_err_weaker c.put.result (λ same p s.
-    ap (λ seats. cond (ltb s 62) seats no_seats) (same ((62 * p + s) / 8) ((62 * p + s) % 8))) c.put.ensures.err
+    let pages = c.make_page.new.self.pages in
+    on_err_weaker c.put.result
+    (λ same. at_still no_adders seats_in no_seats pages.items c.args.self.now.pages.items c.page.inside.0
+    c.index_mut.result.now c.put.new.self (omega (arith, pages.ok.0, c.in_ok-make_page.ensures.ok))
+    c.index_mut.ensures.value same c.make_page.ensures.same) c.put.ensures.err

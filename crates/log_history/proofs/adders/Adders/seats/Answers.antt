@@ -1,23 +1,32 @@
-use Rattle.std.proofs.Common.{◌≤◌, ◌<◌, ◌+◌, ◌*◌, ◌/◌, ◌%◌, ◌∙◌, ap, cond, sym, arith}
-use Rattle.std.proofs.lemmas.Bool.{le-ltb, lt-ltb}
-use Rattle.log_history.specs.Adders.{seats_at, seats_in}
+use Rattle.std.proofs.Common.{◌∙◌, refl, sym, arith}
+use Rattle.log_history.specs.Adders.{no_adders, seats_at, seats_in}
 use Rattle.log_history.specs.SeatSet.{no_seats}
+use Rattle.log_history.proofs.AdderSets.{none_in}
+use Rattle.log_history.proofs.Paged.{at_behind, at_found, at_no_slot}
 use Rattle.log_history.proofs.adders.Adders.seats.Goals as goal
+use Rattle.log_history.proofs.adders.Adders.seats.Goals.{then-slot-ge-SLOTS-via-then-slot-ge-SLOTS}
+use Rattle.log_history.proofs.adders.Adders.seats.Goals.{then-slot-ge-SLOTS-via-else-slot-ge-SLOTS+then-page-len}
 
 pub returns-then-slot-ge-SLOTS : goal.returns-then-slot-ge-SLOTS
 unfolding seats_at
 returns-then-slot-ge-SLOTS c =
-    let same = c.slot.view_is in
-    let n = 62 * c.args.page + c.args.slot in
-    let past : 62 ≤ c.args.slot = omega arith in
+    let pages = c.args.self.now.pages in
+    let page_same = c.page.view_is in
+    let slot_same = c.slot.view_is in
     c.new.ensures
-    ∙ sym (ap (λ b. cond b (seats_in c.args.self.now.groups (n / 8) (n % 8)) no_seats) (le-ltb c.args.slot 62 past))
+    ∙ sym (elim c.then-slot-ge-SLOTS.branch [
+      | then-slot-ge-SLOTS-via-then-slot-ge-SLOTS w ↦
+          at_no_slot no_adders seats_in no_seats pages.items c.args.page c.args.slot (omega arith)
+      | then-slot-ge-SLOTS-via-else-slot-ge-SLOTS+then-page-len w ↦
+          at_behind no_adders seats_in no_seats pages.items c.args.page c.args.slot none_in
+          (omega (arith, pages.ok.0))
+    ])
 
 pub returns : goal.returns
 unfolding seats_at
 returns c =
-    let same = c.slot.view_is in
-    let n = 62 * c.args.page + c.args.slot in
-    let below : c.args.slot < 62 = omega arith in
-    c.seats.ensures ∙ ap (λ k. seats_in c.args.self.now.groups (k / 8) (k % 8)) c.place_of-place.ensures
-    ∙ sym (ap (λ b. cond b (seats_in c.args.self.now.groups (n / 8) (n % 8)) no_seats) (lt-ltb c.args.slot 62 below))
+    let pages = c.args.self.now.pages in
+    c.seats.ensures
+    ∙ sym (at_found no_adders seats_in no_seats pages.items pages.items c.args.page c.args.slot c.page.inside.0
+    c.slot.inside.0 c.index.result.now c.page.view_is c.slot.view_is (omega (arith, pages.ok.0)) (omega arith)
+    c.index.ensures (λ p s. refl))
