@@ -2,6 +2,7 @@ pub mod AdderSets
 pub mod AtEnd
 pub mod Barred
 pub mod Begun
+pub mod BlockMarks
 pub mod Chains
 pub mod CheckpointTables
 pub mod Checks
@@ -13,6 +14,7 @@ pub mod Fronts
 pub mod Histories
 pub mod Holds
 pub mod Owned
+pub mod PageHolders
 pub mod Paged
 pub mod Pendings
 pub mod Pushes
@@ -21,7 +23,6 @@ pub mod Room
 pub mod Rows
 pub mod Seatings
 pub mod Settled
-pub mod SlotMarks
 pub mod Slots
 pub mod Steps
 pub mod Stored

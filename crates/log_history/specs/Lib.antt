@@ -4,10 +4,12 @@ pub mod Checkpoint
 pub mod CheckpointTable
 pub mod Claims
 pub mod Committed
+pub mod FewHolders
 pub mod Growth
 pub mod History
 pub mod Linked
 pub mod Mark
+pub mod MarkBlocks
 pub mod Marks
 pub mod OpenEntry
 pub mod OpenList

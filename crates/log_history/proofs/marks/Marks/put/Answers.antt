@@ -1,41 +1,47 @@
-use Rattle.std.proofs.Common.{◌≡◌, ◌∙◌, ◌+◌, ◌*◌, ◌<◌, ◌&&◌, ap, cond, eqb, set, length, arith}
-use Rattle.log_history.specs.Marks.{holder_at}
+use Rattle.std.proofs.Common.{◌≡◌, ◌∙◌, ◌&&◌, ℕ, ap, cond, eqb, sym, arith}
+use Rattle.std.proofs.lemmas.Result.{on_err_weaker, on_ok_weaker}
 use Rattle.log_history.specs.declared.marks.Marks.{Marks}
+use Rattle.log_history.specs.Marks.{holder_at}
 use Rattle.log_history.proofs.Holds.{on_err_from}
-use Rattle.log_history.proofs.SlotMarks.{slot_behind, slot_holder, slot_past, holder-put}
+use Rattle.log_history.proofs.PageHolders.{in-no_slot, in-past}
 use Rattle.log_history.proofs.marks.Marks.put.Goals as goal
-use Rattle.log_history.proofs.marks.Marks.put.Goals.{then-place-len+in_ok-make_page, else-place-len}
+use Rattle.log_history.proofs.marks.Marks.put.Goals.{else-page-len, then-page-len+in_ok-make_pages}
 
 pub returns-then-slot-ge-SLOTS-clause-new_slot : goal.returns-then-slot-ge-SLOTS-clause-new_slot
 unfolding holder_at
 returns-then-slot-ge-SLOTS-clause-new_slot c =
-    let same = c.slot.view_is in slot_past c.args.self.now.marks.items c.args.page c.args.slot (omega arith)
+    let self = c.args.self.now in
+    let slot_same = c.slot.view_is in
+    in-no_slot self.pages.items self.blocks c.args.page c.args.slot (omega arith)
 
-pub returns-in_err-make_page-clause-new_slot : goal.returns-in_err-make_page-clause-new_slot
+pub returns-in_err-make_pages-clause-new_slot : goal.returns-in_err-make_pages-clause-new_slot
 unfolding holder_at
-returns-in_err-make_page-clause-new_slot c =
-    let marks = c.args.self.now.marks in
+returns-in_err-make_pages-clause-new_slot c =
+    let self = c.args.self.now in
+    let page_same = c.page.view_is in
     on_err_from c.from_residual.result _
-    (slot_behind marks.items c.args.page c.args.slot (omega (arith, marks.ok.0)))
+    (in-past self.pages.items self.blocks c.args.page c.args.slot (omega (arith, self.pages.ok.0)))
 
-pub returns-clause-put : goal.returns-clause-put
-unfolding holder_at
-returns-clause-put c = λ p s.
-    let marks = c.args.self.now.marks in
-    let after = c.if-place-len.self.marks in
-    let same = c.slot.view_is in
-    let below : c.args.slot < 62 = omega arith in
-    let put = λ (within : 62 * c.args.page + c.args.slot < length after.items)
-    (kept : slot_holder after.items p s ≡ slot_holder marks.items p s).
-    ap (λ n. slot_holder (set after.items n c.of.result) p s) c.place_of-place.ensures
-    ∙ holder-put after.items c.args.page c.args.slot c.of.result c.args.holder c.of.ensures below within p s
-    ∙ ap (cond (eqb c.args.page p && eqb c.args.slot s) c.args.holder) kept in
-    elim c.if-place-len.branch [
-      | then-place-len+in_ok-make_page w ↦
-          put
-          (omega (arith, after.ok.0, ap (λ (v : Marks). v.marks.len) w.self-is, w.in_ok-make_page.ensures.ok))
-          (ap (λ (v : Marks). slot_holder v.marks.items p s) w.self-is ∙ w.make_page.ensures.same p s)
-      | else-place-len w ↦
-          put (omega (arith, marks.ok.0, after.ok.0, ap (λ (v : Marks). v.marks.len) w.self-is))
-          (ap (λ (v : Marks). slot_holder v.marks.items p s) w.self-is)
-    ]
+pub returns-in_default : goal.returns-in_default
+returns-in_default c =
+    let self = c.args.self.now in
+    let n = c.page.inside.0 in
+    let t = c.slot.inside.0 in
+    let same : (p s : ℕ) → holder_at c.if-page-len.self p s ≡ holder_at self p s = λ p s.
+    elim c.if-page-len.branch [
+      | then-page-len+in_ok-make_pages w ↦
+          ap (λ (m : Marks). holder_at m p s) w.self-is ∙ w.make_pages.ensures.same p s
+      | else-page-len w ↦ ap (λ (m : Marks). holder_at m p s) w.self-is
+    ] in
+    record {
+      put = on_ok_weaker c.hold.result
+          (λ put. λ p s. put p s
+          ∙ ap (cond (eqb n p && eqb t s) c.args.holder) (same p s)
+          ∙ ap (λ k. cond (eqb k p && eqb t s) c.args.holder (holder_at self p s)) c.page.view_is
+          ∙ ap (λ k. cond (eqb c.args.page p && eqb k s) c.args.holder (holder_at self p s)) c.slot.view_is)
+          c.hold.ensures.put;
+      new_slot = on_err_weaker c.hold.result
+          (λ nobody. sym (ap (λ k. holder_at self k t) c.page.view_is ∙ ap (holder_at self c.args.page) c.slot.view_is)
+          ∙ sym (same n t) ∙ nobody) c.hold.ensures.new_slot;
+      err = on_err_weaker c.hold.result (λ still. λ p s. still p s ∙ same p s) c.hold.ensures.err;
+    }
