@@ -1,13 +1,13 @@
 //! The table of open transactions.
 
 ghost use Rattle.std.specs.Prelude.{ℕ, ◌≡◌, ◌+◌, ◌<◌, ◌≤◌, ◌++◌, ◌∷◌, [], List, length, IfOk, OnOk};
-ghost use Rattle.std.specs.Prelude.{OnErr};
+ghost use Rattle.std.specs.Prelude.{OnErr, true, min};
 ghost use Rattle.std.specs.Prelude.{if◌then◌else◌, Some, None};
 ghost use Rattle.log_records.specs.declared.record.Record.{Record};
 ghost use Rattle.log_history.specs.Growth.{MayGrow};
 ghost use Rattle.log_history.specs.Linked.{MayFollow};
 ghost use Rattle.log_history.specs.Transactions.{begun, holder, is_open, last_of, open_in, owed};
-ghost use Rattle.log_history.specs.Transactions.{pending};
+ghost use Rattle.log_history.specs.Transactions.{owed_by, pending};
 ghost use Rattle.log_history.specs.Table.{entry_of, table_of};
 ghost use Rattle.log_history.specs.TxnState.{state_of};
 ghost use Rattle.txn_table.specs.TxnTable.{IsTableOf, next_open};
@@ -24,6 +24,8 @@ use std::marker::Model;
 #[derive(Drop)]
 pub struct TxnTable {
     open: OpenTransactions,
+    /// How many records the open transactions may still need: kept, since each change asks for it.
+    owed: u64,
 }
 
 impl Model for TxnTable {
@@ -32,6 +34,10 @@ impl Model for TxnTable {
     ghost Value = { Table };
 
     ghost view = { λ table. table.open };
+
+    ghost use Rattle.txn_table.specs.TxnTable.{IsOwed};
+
+    ghost invariant = { λ table. IsOwed table.open table.owed };
 }
 
 impl From<OpenTransactions> for TxnTable {
@@ -39,7 +45,8 @@ impl From<OpenTransactions> for TxnTable {
 
     /// The table of a log whose open transactions are known, as a reader of the log has made them.
     fn from(txns: OpenTransactions) -> TxnTable {
-        TxnTable { open: txns }
+        let owed = txns.owed();
+        TxnTable { open: txns, owed }
     }
 }
 
@@ -50,6 +57,7 @@ impl TxnTable {
     {
         TxnTable {
             open: OpenTransactions::new(alloc),
+            owed: 0,
         }
     }
 
@@ -85,7 +93,10 @@ impl TxnTable {
         ensures err { OnErr result (self.new ≡ self.old) }
         ensures growth { OnErr result (MayGrow next.now) }
     {
-        self.open.note(next)
+        let owed = self.owed_after(next);
+        self.open.note(next)?;
+        self.owed = owed;
+        Ok(())
     }
 
     /// How many transactions are open.
@@ -125,6 +136,46 @@ impl TxnTable {
         ensures { (rs : List Record) → IsTableOf rs self.now → owed rs ≤ u64.MAX
             → result ≡ owed rs }
     {
-        self.open.owed()
+        self.owed
     }
+
+    /// How many records they may still need after the next record of the log.
+    fn owed_after(&self, next: &Record) -> u64
+        requires { (rs : List Record) × (IsTableOf rs self.now × MayFollow rs next.now) }
+        ensures { (rs : List Record) → IsTableOf rs self.now → MayFollow rs next.now
+            → result ≡ owed (rs ++ next.now ∷ []) }
+    {
+        match *next {
+            Record::Begin { .. } => self.owed + 2,
+            Record::Update { .. } => self.owed + 1,
+            Record::Comp { .. } => self.owed - 1,
+            Record::Abort { .. } => self.owed - 1,
+            Record::Commit { txn, .. } => self.owed - self.owed_by(txn),
+            Record::End { txn, .. } => self.owed - self.owed_by(txn),
+            Record::BeginChkpt { .. } => self.owed,
+            Record::ChkptPages { .. } => self.owed,
+            Record::ChkptTxns { .. } => self.owed,
+            Record::EndChkpt { .. } => self.owed,
+        }
+    }
+
+    /// How many records an open transaction may still need: one for each pending change, its Abort,
+    /// and its last.
+    fn owed_by(&self, txn: TxnNo) -> u64
+        ensures { (rs : List Record) → IsTableOf rs self.now → is_open rs txn ≡ true
+            → owed_by rs txn ≤ u64.MAX → result ≡ owed_by rs txn }
+    {
+        match self.open.state(txn) {
+            Some(state) => owed_in_state(&state),
+            None => 0,
+        }
+    }
+}
+
+/// How many records a transaction in this state may still need, as far as the type can count them.
+fn owed_in_state(state: &TxnState) -> u64
+    ensures { result ≡ min (state.now.pending + (if state.now.aborted then 1 else 2)) u64.MAX }
+{
+    let last = if state.aborted { 1 } else { 2 };
+    (state.pending as u64).saturating_add(last)
 }

@@ -1,8 +1,8 @@
 use Rattle.std.proofs.Common.{ap, subst, sym, ◌∙◌}
-use Rattle.std.specs.Prelude.{Result, Ok, Err, OnOk}
 use Rattle.log_history.specs.Table.{MayNote, Table, noted}
 use Rattle.log_history.proofs.Checks.{may_note}
 use Rattle.log_history.proofs.Steps.{table_of_push}
+use Rattle.txn_table.proofs.Owed.{owed_next}
 use Rattle.txn_table.proofs.table.TxnTable.note.Goals as goal
 
 pub note-requires : goal.note-requires
@@ -11,12 +11,18 @@ note-requires c =
     subst (λ (t : Table). MayNote t c.args.next.now) (sym (c.self.view_is ∙ c.requires.1.0.made))
     (may_note rs c.args.next.now c.requires.1.1)
 
-on_ok : {T E : Type 0} (r : Result T E) (P Q : Type 0) → (P → Q) → OnOk r P → OnOk r Q
-on_ok (Ok x) P Q step h = step h
-on_ok (Err e) P Q step h = tt
+-- the sum is that of the table with the record
+pub invariant_of-self-2 : goal.invariant_of-self-2
+invariant_of-self-2 c =
+    let rs = c.requires.0 in
+    let of = c.requires.1.0 in
+    let may = c.requires.1.1 in
+    owed_next c.args.self.now c.note.new.self c.owed_after-owed.result rs c.args.next.now of may
+    (c.owed_after-owed.ensures rs of may)
+    (c.in_ok-note.ensures.ok ∙ ap (λ (t : Table). noted t c.args.next.now) c.self.view_is)
 
 pub returns-clause-ok : goal.returns-clause-ok
-returns-clause-ok c = on_ok c.note.result _ _
-    (λ e rs of may. e ∙ ap (λ (t : Table). noted t c.args.next.now) (c.self.view_is ∙ of.made)
-    ∙ sym (table_of_push rs c.args.next.now of.linked may))
-    c.note.ensures.ok
+returns-clause-ok c rs of may =
+    c.in_ok-note.ensures.ok
+    ∙ ap (λ (t : Table). noted t c.args.next.now) (c.self.view_is ∙ of.made)
+    ∙ sym (table_of_push rs c.args.next.now of.linked may)
