@@ -1,8 +1,10 @@
 //! What no clause says: that these calls succeed, and what they make of known records.
 
-use log_records::Record;
-use page_core::{Change, Lsn, Page, PageNo, SlotNo, TxnNo};
-use page_redo::redo_page;
+use crate::asserts::same_at;
+use log_records::{MAX_RECORDS, Record};
+use page_core::{Change, Lsn, Page, PageNo, SlotNo, TxnNo, formatted_pages};
+use page_redo::{by_page, redo_by_page, redo_page};
+use std::alloc::{AllocError, Global};
 
 /// Transaction 1 sets slot 3 of page 0 to 7, adds 5 to it, and commits.
 fn four_records() -> [Record; 4] {
@@ -64,4 +66,63 @@ fn a_page_gets_what_it_lacks(rt: HostRuntime) {
         redo_page(&mut page, &four_records());
         assert!(rt; page == wanted, "a page with LSN {lsn}, once more");
     }
+}
+
+/// The numbers of the records that change page 0, from the redo point on. Page 1 has none.
+#[test]
+fn records_are_listed_by_page(rt: HostRuntime) -> Result<(), AllocError> {
+    let all: [u32; 2] = [1, 2];
+    for (from, skipped) in [
+        (0, 0),
+        (64, 0),
+        (128, 0),
+        (129, 1),
+        (192, 1),
+        (193, 2),
+        (256, 2),
+    ] {
+        let lists = by_page(rt.alloc(), &four_records(), Lsn(from), 2)?;
+        assert!(rt; lists.pages() == 2);
+        same_at(&rt, &lists.of(PageNo(0)), &&all[skipped..], &from);
+        assert!(rt; lists.of(PageNo(1)).is_empty());
+    }
+    Ok(())
+}
+
+/// Transaction 1 adds its number and 1 to a slot of each page.
+fn one_add_a_page(alloc: Global, pages: u32) -> Result<Vec<Record>, AllocError> {
+    let mut records = Vec::with_capacity(alloc, pages as usize)?;
+    for number in 0..pages {
+        let before = u64::from(number) * 64 + 64;
+        records.push(Record::Update {
+            lsn: Lsn(before + 64),
+            txn: TxnNo(1),
+            prev: Lsn(before),
+            page: PageNo(number),
+            slot: SlotNo(3),
+            change: Change::Add {
+                amount: u64::from(number) + 1,
+            },
+        })?;
+    }
+    Ok(records)
+}
+
+/// All pages of the largest volume, each with one Add, by as many threads as there are processors.
+#[test]
+fn each_page_of_a_large_volume_is_redone(rt: HostRuntime) -> Result<(), AllocError> {
+    let alloc = rt.alloc();
+    let records = one_add_a_page(alloc, 65_536)?;
+    assert!(rt; records.len() == 65_536 && records.len() <= MAX_RECORDS);
+    let lists = by_page(alloc, &records, Lsn(64), 65_536)?;
+    assert!(rt; lists.pages() == 65_536);
+    let mut pages = formatted_pages(alloc, 65_536)?;
+    assert!(rt; pages.len() == 65_536);
+    redo_by_page(&rt, &mut pages, &records, &lists);
+    for page in &pages {
+        let number = u64::from(page.number.0);
+        assert!(rt; page.lsn.0 == number * 64 + 128, "page {number}");
+        assert!(rt; page.slots[3] == number + 1, "page {number}");
+    }
+    Ok(())
 }

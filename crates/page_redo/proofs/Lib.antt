@@ -1,4 +1,9 @@
+pub mod Counted
+pub mod Listed
+pub mod Parts
+pub mod Placed
 pub mod Redone
+pub mod Starts
 pub mod Valid
 pub mod Volumes
 pub mod Covering

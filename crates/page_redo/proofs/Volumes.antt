@@ -236,3 +236,24 @@ within_part log k valid = λ i d lt.
     ∙ ap (min n) (length-drop k rs) in
     let below : i < n = omega arith in
     rw (get_or-take n (drop k rs) i d below, get_or-drop k rs i d) (valid.records (k + i) d (omega arith)).within
+
+-- the records below the redo point may be left out
+pub resumed_behind : (log : Log) (from k : ℕ) (pages : List Page) → IsLog log → 64 * k ≤ from - 1
+    → k ≤ length log.records
+    → map (λ page. resume page (drop k log.records) from) pages ≡ map (λ page. resume page log.records from) pages
+resumed_behind log from k [] valid low le = refl
+resumed_behind log from k (page ∷ pages) valid low le =
+    let rs = log.records in
+    let before : All (λ r. own_lsn r < from) (take k rs) = λ i d lt.
+    let small : i < k = omega (arith, length-take k rs) in
+    let own : own_lsn (get_or rs i d) ≡ lsn_of i = (valid.records i d (omega arith)).lsn in
+    let at : get_or (take k rs) i d ≡ get_or rs i d = get_or-take k rs i d small in
+    let is : own_lsn (get_or (take k rs) i d) ≡ lsn_of i = ap own_lsn at ∙ own in
+    omega arith in
+    let same : filter (is_resumed from page.lsn) (drop k rs) ≡ filter (is_resumed from page.lsn) rs =
+    ap (λ (xs : List Record). xs ++ filter (is_resumed from page.lsn) (drop k rs))
+    (sym (none_below (take k rs) from page.lsn before))
+    ∙ sym (filter-append (is_resumed from page.lsn) (take k rs) (drop k rs))
+    ∙ ap (filter (is_resumed from page.lsn)) (take-append-drop k rs) in
+    ap (λ (xs : List Record). image_from page xs ∷ map (λ page. resume page (drop k rs) from) pages) same
+    ∙ ap (λ (ps : List Page). resume page rs from ∷ ps) (resumed_behind log from k pages valid low le)

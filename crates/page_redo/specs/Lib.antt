@@ -1,1 +1,2 @@
+pub mod PageRecords
 pub mod Redo

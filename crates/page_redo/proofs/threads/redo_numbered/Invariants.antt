@@ -1,0 +1,10 @@
+use Rattle.std.proofs.Common.{◌≡◌, take}
+use Rattle.std.specs.List.{filter}
+use Rattle.log_records.specs.Image.{image_from}
+use Rattle.page_redo.specs.PageRecords.{records_at}
+use Rattle.page_redo.specs.Redo.{is_above}
+use Rattle.page_redo.proofs.threads.redo_numbered.Given as goal
+
+abbrev pub invariant-loop-number : goal.invariant-loop-number
+invariant-loop-number l = l.page ≡ image_from l.fn.page
+    (filter (is_above l.fn.page.lsn) (records_at l.records (take l.number-index l.numbers)))

@@ -1,0 +1,88 @@
+//! The redo of a log on all pages of a volume, in several threads.
+
+ghost use Rattle.std.specs.Prelude.{ℕ, ◌≡◌, ◌<◌, ◌≤◌, [], length, map, slice_index_or};
+ghost use Rattle.std.specs.List.{range_with_len};
+ghost use Rattle.log_records.specs.Coverage.{resume};
+ghost use Rattle.log_records.specs.Image.{AreNumbered};
+ghost use Rattle.log_records.specs.Log.{IsLog};
+ghost use Rattle.page_redo.specs.PageRecords.{numbers_on, records_at};
+ghost use Rattle.page_redo.specs.Redo.{redone};
+
+use crate::page_records::{PageRecords, by_page};
+use crate::redo::is_above;
+use crate::volume::redo_pages;
+use log_records::Record;
+use page_core::{LSN_STEP, Lsn, Page};
+use rayon::prelude::*;
+use std::alloc::Global;
+use std::thread::Threads;
+
+/// So many records are worth the threads: to start these takes as long as some thousand records.
+pub const MANY_RECORDS: usize = 16_384;
+
+/// Redoes the records of a log from a redo point on, as `redo_pages` does, and comes to the same
+/// pages. Where there are many, it lists them by page, and hands each page with its list to as many
+/// threads as there are processors. It never refuses: where memory for the lists is refused, the
+/// calling thread goes over the log by itself, and a thread that cannot be started leaves its pages
+/// to the others.
+pub fn redo_pages_in_threads(
+    rt: &(impl Threads + Sync),
+    alloc: Global,
+    pages: &mut [Page],
+    records: &[Record],
+    from: Lsn,
+)
+    requires valid { IsLog (record { pages = length pages.old; records = records.now }) }
+    requires numbered { AreNumbered pages.old }
+    ensures { pages.new ≡ map (λ page. resume page records.now from) pages.old }
+{
+    let first = (from.0.saturating_sub(1) / LSN_STEP) as usize;
+    if first < records.len() && records.len() - first >= MANY_RECORDS {
+        let behind = &records[first..];
+        if let Ok(lists) = by_page(alloc, behind, from, pages.len() as u32) {
+            redo_by_page(rt, pages, behind, &lists);
+            return;
+        }
+    }
+    redo_pages(pages, records, from);
+}
+
+/// Hands each page with the numbers of its records to a thread, which redoes them.
+pub fn redo_by_page(
+    rt: &(impl Threads + Sync),
+    pages: &mut [Page],
+    records: &[Record],
+    lists: &PageRecords,
+)
+    requires numbered { AreNumbered pages.old }
+    requires many { length pages.old ≤ length lists.now }
+    ensures { (from : ℕ)
+        → lists.now ≡ map (numbers_on records.now from) (range_with_len 0 (length lists.now))
+        → pages.new ≡ map (λ page. resume page records.now from) pages.old }
+{
+    par_for_each_mut(
+        rt,
+        pages,
+        |_: usize, page: &mut Page|
+            requires { page.old.number < length lists.now }
+            ensures { page.new ≡ redone page.old (records_at records.entry.now
+                (slice_index_or lists.entry.now page.old.number [])) }
+        {
+            redo_numbered(page, records, lists.of(page.number));
+        },
+    );
+}
+
+/// Redoes on a page the records of these numbers that are above its LSN, in their order.
+fn redo_numbered(page: &mut Page, records: &[Record], numbers: &[u32])
+    ensures { page.new ≡ redone page.old (records_at records.now numbers.now) }
+{
+    let lsn = page.lsn;
+    for number in numbers {
+        if let Some(record) = records.get(*number as usize) {
+            if is_above(lsn, record) {
+                record.redo_on(page);
+            }
+        }
+    }
+}
