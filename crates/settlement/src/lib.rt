@@ -1,0 +1,10 @@
+//! Whether what the sessions of a shared engine were answered stands in its log.
+#![tactic(auto)]
+
+mod marks;
+mod order;
+mod receipt;
+
+pub use marks::mark_records;
+pub use order::check_order;
+pub use receipt::{Receipt, TxnStep};
