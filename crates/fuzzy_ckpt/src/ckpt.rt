@@ -1,5 +1,6 @@
 //! The sessions of a fuzzy checkpoint.
 
+ghost use Rattle.log_store.specs.Stores.{FailsAtNext, StoresForced};
 ghost use Rattle.std.specs.Prelude.{ℕ, ◌≡◌, ◌+◌, ◌<◌, ◌≤◌, ◌↔◌, List, [], ◌∷◌, length, min, true};
 ghost use Rattle.std.specs.Prelude.{IfOk, IfErr, IfSome, IsSome, IsSomeAnd, IsTrue, OnOk, OnErr};
 ghost use Rattle.std.specs.List.{fold};
@@ -127,6 +128,9 @@ impl Ckpt<Pages> {
             AreCovered log.new.log.records (S.stored pool.now.store) (after_pages step)) }
 
         ensures refused { IfErr result (λ c. c ≡ self) }
+        // Memory is taken for a record alone.
+        ensures appends { OnErr result (IsSome (pages_step log.old.log.records
+            (written_of pool.now.states) self.phase (pages_ckpt self)).next) }
         ensures same { OnErr result (log.new.log ≡ log.old.log) }
         ensures valid { IsLog log.new.log }
         ensures forced_end { log.new.forced_end ≡ log.old.forced_end }
@@ -197,6 +201,9 @@ impl Ckpt<Txns> {
             → AreCovered log.new.log.records stored (after_txns step)) }
 
         ensures refused { IfErr result (λ c. c ≡ self) }
+        // Memory is taken for a record alone.
+        ensures appends { OnErr result
+            (IsSome (txns_step log.old.log.records self.phase (txns_ckpt self)).next) }
         ensures same { OnErr result (log.new.log ≡ log.old.log) }
         ensures valid { IsLog log.new.log }
         ensures forced_end { log.new.forced_end ≡ log.old.forced_end }
@@ -257,7 +264,11 @@ impl Ckpt<Gathered> {
             ≡ with_next log.old.log (end_record log.old.log.records self ∷ [])) }
         ensures follows { MayFollow log.old.log.records (end_record log.old.log.records self) }
 
+        ensures called { OnOk result (StoresForced D.called log.old log.new log.new.device) }
+
         ensures failed { IfErr result (FailsAs log.old log.new self) }
+        ensures last_call { IfErr result (λ why. IsLogFault why
+            → FailsAtNext D.called log.old log.new) }
         ensures no_failure { OnOk result (D.failures log.new.device ≡ D.failures log.old.device) }
         ensures cause { IfErr result (λ why. IsLogFault why
             → D.failures log.old.device < D.failures log.new.device) }

@@ -117,7 +117,7 @@ owed_push rs r linked none more still =
     omega (arith, same_open, rest, sum_split rs linked t still after, sum_split rs linked t still (owed_by rs))
 
 -- one that does
-owed_push_last : (rs : List Record) (r : Record) → IsLinked rs → begun_by r ≡ None → is_last r ≡ true
+pub owed_push_last : (rs : List Record) (r : Record) → IsLinked rs → begun_by r ≡ None → is_last r ≡ true
     → is_open rs (txn_of r) ≡ true
     → owed (rs ++ r ∷ []) + owed_by rs (txn_of r) ≡ owed rs
 owed_push_last rs r linked none last still =

@@ -3,4 +3,5 @@ pub mod Faults
 pub mod Inputs
 pub mod Masters
 pub mod Scans
+pub mod Stores
 pub mod WrittenLogs

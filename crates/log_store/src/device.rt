@@ -1,7 +1,9 @@
 //! What a log is kept on: stable storage, in the words of ARIES.
 
 ghost use Rattle.std.specs.Prelude.{ℕ, ◌≡◌, ◌+◌, ◌<◌, ◌≤◌, ◌++◌, List, length, take, OnOk, OnErr};
+ghost use Rattle.std.specs.Prelude.{Result};
 ghost use Rattle.log_store.specs.Device.{KeepsFirst};
+ghost use Rattle.log_store.specs.declared.device.DeviceFault.{DeviceFault};
 
 use std::error::Error;
 use std::fmt;
@@ -11,10 +13,13 @@ pub trait LogDevice {
     /// What is on the device.
     ghost bytes: { Self → List ℕ };
 
-    /// How often `store` was called: a number that contracts alone see. It has no last value.
-    ghost calls: { Self → ℕ };
+    /// What one call of `store` did: the device before it, the offset, the bytes, what it answered,
+    /// and the device after it. A caller that is written for any device has no other way to show
+    /// this than to make the call. A device of which no more is to be known than what follows may
+    /// say that it always holds.
+    ghost called: { Self → ℕ → List ℕ → Result Unit DeviceFault → Self → Type 0 };
 
-    /// How often the device has failed, which is such a number too.
+    /// How often the device has failed: a number that contracts alone see. It has no last value.
     ghost failures: { Self → ℕ };
 
     /// Where its stores may fail: none that ends before this offset does. It never changes, and is
@@ -31,7 +36,7 @@ pub trait LogDevice {
         ensures stored { OnOk result (bytes self.new ≡ take from (bytes self.old) ++ next.now) }
         ensures kept { OnErr result (KeepsFirst from (bytes self.old) (bytes self.new)) }
 
-        ensures called { calls self.new ≡ calls self.old + 1 }
+        ensures called { called self.old from next.now result self.new }
         ensures no_failure { OnOk result (failures self.new ≡ failures self.old) }
         ensures failure { OnErr result (failures self.old < failures self.new) }
 

@@ -1,7 +1,7 @@
 //! A device that fails at one call, to try what is built on a device.
 
-ghost use Rattle.std.specs.Prelude.{◌≡◌, ◌≢◌, ◌-◌, ◌≤◌, length, IsErr};
-ghost use Rattle.log_store.specs.MemDevice.{Stores, after_failure};
+ghost use Rattle.std.specs.Prelude.{◌≡◌, ◌≤◌, length};
+ghost use Rattle.log_store.specs.FaultyDevice.{FaultyStores};
 
 use crate::device::{DeviceFault, LogDevice};
 use crate::mem_device::MemDevice;
@@ -48,7 +48,7 @@ impl FaultyDevice {
 impl LogDevice for FaultyDevice {
     ghost bytes = { λ faulty. faulty.memory.bytes };
 
-    ghost calls = { λ faulty. faulty.memory.calls };
+    ghost called = { λ old from next result new. FaultyStores old from next new result };
 
     ghost failures = { λ faulty. faulty.memory.failures };
 
@@ -59,11 +59,7 @@ impl LogDevice for FaultyDevice {
     fn store(&mut self, from: u64, next: &[u8]) -> Result<(), DeviceFault>
         requires { from ≤ length self.old.memory.bytes }
 
-        ensures counted { self.new.calls_to_fault ≡ self.old.calls_to_fault - 1 }
-        ensures fault { self.old.calls_to_fault ≡ 1
-            → IsErr result × (self.new.memory ≡ after_failure self.old.memory) }
-        ensures others { self.old.calls_to_fault ≢ 1
-            → Stores self.old.memory from next.now self.new.memory result }
+        ensures exact { FaultyStores self.old from next.now self.new result }
     {
         let is_to_fail = self.calls_to_fault == 1;
         self.calls_to_fault = self.calls_to_fault.saturating_sub(1);

@@ -1,7 +1,6 @@
 //! The reading of a whole log, a log that is written, and the master record.
 #![tactic(auto)]
 
-mod calls;
 mod device;
 mod fault;
 mod faulty_device;

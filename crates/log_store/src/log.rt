@@ -1,11 +1,12 @@
 //! A log that is written.
 
-ghost use Rattle.std.specs.Prelude.{ℕ, ◌≡◌, ◌+◌, ◌-◌, ◌*◌, ◌<◌, ◌≤◌, [], ◌∷◌, length, max, Some};
+ghost use Rattle.std.specs.Prelude.{ℕ, ◌≡◌, ◌+◌, ◌-◌, ◌*◌, ◌<◌, ◌≤◌, [], ◌∷◌, length, max, Some, Ok, Err};
 ghost use Rattle.std.specs.Prelude.{IfOk, IfErr, IfSome, OnOk, OnErr};
 ghost use Rattle.log_records.specs.declared.record.Record.{Record};
 ghost use Rattle.log_store.specs.Device.{KeepsFirst};
 ghost use Rattle.log_records.specs.Log.{IsLog, IsPageCount, StandsAt, header_bytes, lsn_of};
 ghost use Rattle.log_records.specs.Log.{with_next};
+ghost use Rattle.log_store.specs.Stores.{FailsAtNext, IsNextCall, StoresForced};
 ghost use Rattle.log_store.specs.WrittenLog.{EndsAtRecord, HasRecordAt, IsWritten, end_up_to};
 
 use crate::device::{DeviceFault, LogDevice};
@@ -53,9 +54,11 @@ impl<D: LogDevice> Log<D> {
         ensures forced_end { IfOk result (λ it. it.forced_end ≡ 64) }
         ensures header { IfOk result (λ it. D.bytes it.device ≡ header_bytes pages) }
 
-        ensures called { IfOk result (λ it. D.calls it.device ≡ D.calls device + 1) }
+        ensures called { IfOk result (λ it.
+            D.called device 0 (header_bytes pages) (Ok tt) it.device) }
         ensures no_failure { IfOk result (λ it. D.failures it.device ≡ D.failures device) }
-        ensures one_call { IfErr result (λ e. D.calls e.1 ≡ D.calls device + 1) }
+        ensures one_call { IfErr result (λ e.
+            D.called device 0 (header_bytes pages) (Err e.0) e.1) }
         ensures failure { IfErr result (λ e. D.failures device < D.failures e.1) }
 
         ensures same_bound { IfOk result (λ it. D.fails_from it.device ≡ D.fails_from device) }
@@ -116,13 +119,11 @@ impl<D: LogDevice> Log<D> {
             → length (D.bytes self.new.device) ≡ self.new.forced_end) }
         ensures idle { OnOk result (self.new.forced_end ≡ self.old.forced_end
             → self.new.device ≡ self.old.device) }
-        ensures called { OnOk result (self.new.forced_end + 64 * D.calls self.old.device
-            ≡ self.old.forced_end + 64 * D.calls self.new.device) }
+        ensures called { OnOk result (StoresForced D.called self.old self.new self.new.device) }
         ensures no_failure { OnOk result (D.failures self.new.device ≡ D.failures self.old.device) }
 
         ensures short { OnErr result (self.new.forced_end < end_up_to self.old.log lsn) }
-        ensures last_call { OnErr result (self.new.forced_end + 64 * (D.calls self.old.device + 1)
-            ≡ self.old.forced_end + 64 * D.calls self.new.device) }
+        ensures last_call { OnErr result (FailsAtNext D.called self.old self.new) }
         ensures failure { OnErr result (D.failures self.old.device < D.failures self.new.device) }
 
         ensures same_bound { D.fails_from self.new.device ≡ D.fails_from self.old.device }
@@ -149,13 +150,11 @@ impl<D: LogDevice> Log<D> {
             → length (D.bytes self.new.device) ≡ self.new.forced_end) }
         ensures idle { OnOk result (self.new.forced_end ≡ self.old.forced_end
             → self.new.device ≡ self.old.device) }
-        ensures called { OnOk result (self.new.forced_end + 64 * D.calls self.old.device
-            ≡ self.old.forced_end + 64 * D.calls self.new.device) }
+        ensures called { OnOk result (StoresForced D.called self.old self.new self.new.device) }
         ensures no_failure { OnOk result (D.failures self.new.device ≡ D.failures self.old.device) }
 
         ensures short { OnErr result (self.new.forced_end < lsn_of (length self.old.log.records)) }
-        ensures last_call { OnErr result (self.new.forced_end + 64 * (D.calls self.old.device + 1)
-            ≡ self.old.forced_end + 64 * D.calls self.new.device) }
+        ensures last_call { OnErr result (FailsAtNext D.called self.old self.new) }
         ensures failure { OnErr result (D.failures self.old.device < D.failures self.new.device) }
 
         ensures same_bound { D.fails_from self.new.device ≡ D.fails_from self.old.device }
@@ -244,7 +243,7 @@ impl<D: LogDevice> Log<D> {
         ensures same { self.new.log ≡ self.old.log }
         ensures stands { KeepsFirst self.old.forced_end
             (D.bytes self.old.device) (D.bytes self.new.device) }
-        ensures called { D.calls self.new.device ≡ D.calls self.old.device + 1 }
+        ensures called { IsNextCall D.called self.old result self.new.device }
         ensures forced { OnOk result (self.new.forced_end ≡ self.old.forced_end + 64) }
         ensures nothing_more { OnOk result (length (D.bytes self.new.device)
             ≡ self.new.forced_end) }

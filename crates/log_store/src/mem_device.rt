@@ -3,9 +3,9 @@
 ghost use Rattle.std.specs.Prelude.{◌≡◌, ◌+◌, ◌*◌, ◌≤◌, [], length, IfOk};
 ghost use Rattle.log_store.specs.MemDevice.{Stores, empty_memory, after_failure};
 
-use crate::calls::Calls;
 use crate::device::{DeviceFault, LogDevice};
 use log_records::{HEADER_BYTES, RECORD_BYTES};
+use page_core::Failures;
 use std::alloc::{AllocError, Global};
 use std::marker::Model;
 
@@ -14,13 +14,13 @@ use std::marker::Model;
 pub struct MemDevice {
     bytes: Vec<u8>,
     room: usize,
-    calls: Calls,
+    failures: Failures,
 }
 
 impl Model for MemDevice {
     ghost use Rattle.std.specs.Prelude.{◌≤◌, vec_len};
     ghost use Rattle.std.specs.Vec.{vec_capacity};
-    ghost use Rattle.log_store.specs.Calls.{call_count, failed_count};
+    ghost use Rattle.page_core.specs.Failures.{failure_count};
     ghost use Rattle.log_store.specs.MemDevice.{Memory};
 
     ghost Value = { Memory };
@@ -28,8 +28,7 @@ impl Model for MemDevice {
     ghost view = { λ device. record {
       bytes = device.bytes.items;
       room = device.room;
-      calls = call_count device.calls;
-      failures = failed_count device.calls;
+      failures = failure_count device.failures;
     } };
 
     ghost invariant = { λ device.
@@ -49,7 +48,7 @@ impl MemDevice {
         Ok(MemDevice {
             bytes: Vec::with_capacity(alloc, room)?,
             room,
-            calls: Calls::None,
+            failures: Failures::None,
         })
     }
 
@@ -64,7 +63,7 @@ impl MemDevice {
     pub(crate) fn fail(&mut self) -> DeviceFault
         ensures { self.new ≡ after_failure self.old }
     {
-        self.calls.add_failed();
+        self.failures.add_one();
         DeviceFault
     }
 }
@@ -72,7 +71,7 @@ impl MemDevice {
 impl LogDevice for MemDevice {
     ghost bytes = { λ device. device.bytes };
 
-    ghost calls = { λ device. device.calls };
+    ghost called = { λ old from next result new. Stores old from next new result };
 
     ghost failures = { λ device. device.failures };
 
@@ -91,7 +90,6 @@ impl LogDevice for MemDevice {
         self.bytes.truncate(from);
         // There is room for these bytes, so this takes no memory.
         self.bytes.extend_from_slice(next).unwrap();
-        self.calls.add_done();
         Ok(())
     }
 }

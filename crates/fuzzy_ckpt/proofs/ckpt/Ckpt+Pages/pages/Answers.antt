@@ -1,5 +1,5 @@
-use Rattle.std.proofs.Common.{◌≡◌, ◌∙◌, ℕ, ◌∷◌, [], sym, ap, subst}
-use Rattle.std.specs.Prelude.{IfSome}
+use Rattle.std.proofs.Common.{◌≡◌, ◌∙◌, ℕ, ◌∷◌, [], refl, sym, ap, subst}
+use Rattle.std.specs.Prelude.{IfSome, IsSome}
 use Rattle.log_records.specs.declared.record.Record.TheVariants.{ChkptPages}
 use Rattle.log_records.specs.DirtyPage.{entries_of}
 use Rattle.log_records.specs.Log.{Log, StandsAt, with_next}
@@ -120,3 +120,12 @@ returns-in-Ok-clause-covered g c =
     (subst (AreCovered (with_next log (ChkptPages (end_of log.records) c.args.self.begin pages ∷ [])).records stored)
     (sym view)
     it.covered)
+
+pub returns-in-Err-clause-appends : goal.returns-in-Err-clause-appends
+returns-in-Err-clause-appends g c =
+    let log = c.args.log.now.log in
+    let it = pool_more g.S.PageStore.stored log c.args.pool.now c.args.self c.phase.inside.from c.dirty_from.result
+    c.in-Some.pages c.requires.pool c.requires.ckpt c.requires.covered
+    (c.phase.view_is ∙ ap (λ (v : CkptView ℕ). v.phase) c.self.view_is)
+    (c.dirty_from.ensures log c.requires.pool) c.in-Some.is in
+    subst (λ (x : Gathering). IsSome x.next) (sym it.step) refl

@@ -1,5 +1,5 @@
 use Rattle.std.proofs.Common.{◌≡◌, ◌∙◌, ℕ, ◌+◌, ◌∷◌, [], get_or, refl, sym, ap, subst, arith}
-use Rattle.std.specs.Prelude.{IfSome}
+use Rattle.std.specs.Prelude.{IfSome, IsSome}
 use Rattle.log_records.specs.declared.record.Record.{Record}
 use Rattle.log_records.specs.Log.{Log, StandsAt, with_next}
 use Rattle.log_records.specs.Coverage.{Covers}
@@ -113,3 +113,12 @@ returns-in-Ok-clause-covered g c = λ stored covered p d lt passed.
     (txns_cover log c.args.self stored
     (txn_record log.records c.args.self.begin t) c.end_of-lsn.ensures.valid c.requires.ckpt
     refl covered p d lt))
+
+pub returns-in-Err-clause-appends : goal.returns-in-Err-clause-appends
+returns-in-Err-clause-appends g c =
+    let log = c.args.log.now.log in
+    let it = table_more log c.args.self c.phase.inside.from c.next_from.result c.in-Some.state
+    c.end_of-lsn.ensures.valid
+    c.requires.table.linked c.requires.ckpt (c.phase.view_is ∙ ap (λ (v : CkptView ℕ). v.phase) c.self.view_is)
+    (c.next_from.ensures log.records c.requires.table) c.in-Some.is in
+    subst (λ (x : Gathering). IsSome x.next) (sym it.0.step) refl

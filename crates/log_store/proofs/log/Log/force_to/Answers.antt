@@ -1,6 +1,7 @@
-use Rattle.std.proofs.Common.{◌≤◌, length, refl, ◌∙◌, arith}
+use Rattle.std.proofs.Common.{◌+◌, ◌≤◌, length, refl, ◌∙◌, arith}
 use Rattle.log_records.specs.Log.{lsn_of}
 use Rattle.log_store.proofs.Devices.{keeps_all, keeps_longer}
+use Rattle.log_store.proofs.Stores.{fails_at_next, forced_push, none_between, on_err}
 use Rattle.log_store.proofs.WrittenLogs.{on_device}
 use Rattle.log_store.proofs.log.Log.force_to.Goals as goal
 
@@ -18,7 +19,8 @@ loop-init g c =
       stands = keeps_all (lsn_of it.forced) (bytes it.device) long;
       nothing_more = λ more. absurd (omega (arith, more));
       idle = λ same. refl;
-      called = refl;
+      reached = record { first = it.forced; next = it.forced; order = omega arith; from = refl; to = refl };
+      called = rw (none_between it.records.items (lsn_of it.forced)) refl;
       no_failure = refl;
       same_bound = refl;
     })
@@ -31,6 +33,7 @@ pub loop-preserved : goal.loop-preserved
 loop-preserved g c =
     let so_far = c.loop.invariant in
     let next = c.in_ok-force_next.ensures in
+    let at = so_far.reached in
     record {
       same = next.same ∙ so_far.same;
       forced = omega (arith, next.forced, so_far.forced);
@@ -39,7 +42,23 @@ loop-preserved g c =
       stands = keeps_longer _ _ _ _ _ so_far.rising so_far.stands next.stands;
       nothing_more = λ more. next.nothing_more;
       idle = λ same. absurd (omega (arith, same, next.forced, so_far.rising));
-      called = omega (arith, next.called, next.forced, so_far.called);
+      reached = record {
+        first = at.first;
+        next = at.next + 1;
+        order = let o = at.order in omega arith;
+        from = at.from;
+        to = let t = at.to in omega (arith, next.forced);
+      };
+      called =
+          forced_push g.D.LogDevice.called _ c.loop.self c.force_next.new.self at so_far.called next.called next.same
+          next.forced;
       no_failure = next.no_failure ∙ so_far.no_failure;
       same_bound = next.same_bound ∙ so_far.same_bound;
     }
+
+pub returns-in_err-force_next-clause-last_call : goal.returns-in_err-force_next-clause-last_call
+returns-in_err-force_next-clause-last_call g c =
+    let next = c.in_err-force_next.ensures in
+    on_err c.from_residual.result _
+    (fails_at_next g.D.LogDevice.called c.args.self.now c.loop.self c.force_next.new.self _
+    c.loop.invariant.called next.called next.same next.not_forced)

@@ -1,6 +1,8 @@
 use Rattle.std.proofs.Common.{◌≡◌, ◌+◌, ◌*◌, ◌<◌, ◌≤◌, length, max}
 use Rattle.log_store.specs.Device.{KeepsFirst}
 use Rattle.log_records.specs.Log.{lsn_of}
+use Rattle.log_store.specs.Stores.{StoresForced}
+use Rattle.log_store.proofs.Stores.{Reached}
 use Rattle.log_store.proofs.log.Log.force_to.Given as goal
 
 abbrev pub invariant-loop : goal.invariant-loop
@@ -14,8 +16,8 @@ invariant-loop g l = record {
   nothing_more : l.initial.self.forced_end < l.self.forced_end
       → length (g.D.LogDevice.bytes l.self.device) ≡ l.self.forced_end;
   idle : l.self.forced_end ≡ l.initial.self.forced_end → l.self.device ≡ l.initial.self.device;
-  called : l.self.forced_end + 64 * g.D.LogDevice.calls l.initial.self.device
-      ≡ l.initial.self.forced_end + 64 * g.D.LogDevice.calls l.self.device;
+  reached : Reached l.initial.self l.self;
+  called : StoresForced g.D.LogDevice.called l.initial.self l.self l.self.device;
   no_failure : g.D.LogDevice.failures l.self.device ≡ g.D.LogDevice.failures l.initial.self.device;
   same_bound : g.D.LogDevice.fails_from l.self.device ≡ g.D.LogDevice.fails_from l.initial.self.device;
 }
