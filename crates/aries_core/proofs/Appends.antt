@@ -1,11 +1,12 @@
 -- An engine whose log, table and pool are in step, and the record of an accepted call.
-use Rattle.std.proofs.Common.{◌≡◌, ◌<◌, ◌++◌, ◌∷◌, [], List, length, refl, sym, ap, ◌∙◌, arith}
+use Rattle.std.proofs.Common.{◌≡◌, ◌<◌, ◌++◌, ◌∷◌, [], List, length, map, refl, sym, ap, ◌∙◌, arith}
 use Rattle.std.specs.Option.{option_map}
 use Rattle.std.proofs.lemmas.List.{length_push}
 use Rattle.page_core.specs.declared.page.Page.{Page}
 use Rattle.buffer_pool.specs.Pool.{IsPoolOf, PoolView, writing_of, written_of}
 use Rattle.log_records.specs.declared.limits.TheConstants.{MAX_RECORDS}
 use Rattle.log_records.specs.declared.record.Record.{Record}
+use Rattle.log_records.specs.Image.{with_record}
 use Rattle.log_records.specs.Log.{IsLog, Log, StandsAt, with_next}
 use Rattle.log_history.specs.Linked.{MayFollow}
 use Rattle.log_history.specs.Table.{Table, table_of}
@@ -54,8 +55,10 @@ kept_next stored s old new pool after ckpts r kept calls noted changed =
 pub appended_is : {S D : Type 0} (stored : S → List Page) (old mid new : WrittenLog D) (pool after : PoolView S)
     (ckpts : MediaView) (r : Record) → mid.log ≡ old.log → mid.forced_end ≡ old.forced_end
     → new.log ≡ with_next mid.log (r ∷ [])
-    → new.forced_end ≡ mid.forced_end → after.store ≡ pool.store → written_of after.states ≡ written_of pool.states
-    → writing_of after.states ≡ writing_of pool.states
+    → new.forced_end ≡ mid.forced_end → after.store ≡ pool.store
+    → after.resident ≡ map (λ page. with_record page r) pool.resident
+    → written_of after.states ≡ written_of pool.states → writing_of after.states ≡ writing_of pool.states
     → (engine_view stored new after ckpts).state ≡ appended (engine_view stored old pool ckpts).state r
-appended_is stored old mid new pool after ckpts r same same_end next next_end store written writing =
-    rw (next ∙ ap (λ (l : Log). with_next l (r ∷ [])) same, next_end ∙ same_end, store, written, writing) refl
+appended_is stored old mid new pool after ckpts r same same_end next next_end store resident written writing =
+    rw (next ∙ ap (λ (l : Log). with_next l (r ∷ [])) same, next_end ∙ same_end, store, resident, written, writing)
+    refl

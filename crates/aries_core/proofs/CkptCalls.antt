@@ -1,7 +1,7 @@
 -- The calls that take a checkpoint: what they make of an engine that is in step with its log.
 use Rattle.std.proofs.Common.{◌≡◌, ℕ, ◌<◌, ◌++◌, List, [], ◌∷◌, length, refl, sym, ap}
 use Rattle.std.proofs.Common.{subst, ◌∙◌, arith, inr}
-use Rattle.std.specs.Prelude.{Option, Some, None, IsSomeAnd, Result, Ok, Err, if◌then◌else◌}
+use Rattle.std.specs.Prelude.{Option, Some, None, IfSome, IsSome, IsSomeAnd, Result, Ok, Err, if◌then◌else◌}
 use Rattle.std.specs.Option.{option_map, option_map_or}
 use Rattle.std.proofs.lemmas.Option.{same_Some}
 use Rattle.page_core.specs.declared.page.Page.{Page}
@@ -9,7 +9,7 @@ use Rattle.log_records.specs.declared.limits.TheConstants.{MAX_RECORDS}
 use Rattle.log_records.specs.declared.record.Record.{Record}
 use Rattle.log_records.specs.declared.record.Record.TheVariants.{BeginChkpt}
 use Rattle.log_records.specs.Log.{IsLog, Log, lsn_of, with_next}
-use Rattle.log_records.specs.Record.{IsOfCheckpoint}
+use Rattle.log_records.specs.Record.{IsOfCheckpoint, change_of}
 use Rattle.log_history.specs.Checkpoint.{Checkpoint, checkpoint_after, open_checkpoint, redo_point}
 use Rattle.log_history.specs.Linked.{MayFollow}
 use Rattle.log_history.specs.Table.{Table}
@@ -37,6 +37,7 @@ use Rattle.aries_core.specs.Step.{Fails, ForcedPart, Step, TakesMemory}
 use Rattle.aries_core.proofs.Fit.{fit_of_step}
 use Rattle.aries_core.proofs.Follows.{follows, gather_record_has, none_is_not_some}
 use Rattle.aries_core.proofs.GatherSteps.{cursor_after_txn, end_ckpt_follows, first_txn, gathering_of, past_is_session}
+use Rattle.aries_core.proofs.Residents.{unchanged}
 use Rattle.aries_core.proofs.Gathers.{PassesPages, PassesTxns, TakesPages, TakesTxn, WasDone}
 use Rattle.aries_core.proofs.Gathers.{at_left, ckpt_end_is, gather_case, pages_record, txn_entry, with_pages, with_txn}
 use Rattle.aries_core.proofs.Refusals.{ckpt_begin_passes, ckpt_end_passes, gather_passes}
@@ -89,7 +90,7 @@ ckpt_begun stored it new table pool ckpts after lsn kept none logged forced is a
     let passes = ckpt_begin_passes s none in
     let room = passes.room in
     let state : (engine_view stored new pool after).state
-    ≡ (effect s event.CkptBegin).state = rw (is, logged, forced) refl in
+    ≡ (effect s event.CkptBegin).state = rw (is, logged, forced, unchanged r pool.resident refl) refl in
     with_record stored it new table pool ckpts after event.CkptBegin (Ok (answer.Logged lsn)) r kept tt
     (none, ap answer.Logged at, state) logged tt passes.idle (omega arith)
     (rw (is, logged) (ap (option_map (session_of pages_left)) (sym (open_push it.log.records r))))
@@ -129,14 +130,23 @@ session_after s c fit is =
           subst (LeavesSession s) (sym (at_left s c none_left left)) (sym (ap (option_map (session_of none_left)) is))
     ]
 
+-- the record of a step changes no page
+no_change : (s : EngineState) → refusal s event.CkptGather ≡ None → (next : Option Record) → gathered_record s ≡ next
+    → IfSome next (λ r. change_of r ≡ None)
+no_change s none None made = tt
+no_change s none (Some r) made =
+    gather_record_has (λ r. change_of r ≡ None) s r none made (λ c pages is finds. refl) (λ c t is finds. refl)
+
 -- the state after a step
 gathered_state : {S D : Type 0} (stored : S → List Page) (it new : WrittenLog D) (pool : PoolView S)
-    (ckpts after : MediaView) (next : Option Record) (v : CkptView Phase) → new.log ≡ with_step it.log next
+    (ckpts after : MediaView) (next : Option Record) (v : CkptView Phase)
+    → IfSome next (λ r. change_of r ≡ None) → new.log ≡ with_step it.log next
     → new.forced_end ≡ it.forced_end → after ≡ record ckpts { session = Some v }
     → (engine_view stored new pool after).state
     ≡ (gather_effect (engine_view stored it pool ckpts).state (record { next = next; ckpt = v })).state
-gathered_state stored it new pool ckpts after None v logged forced is = rw (is, logged, forced) refl
-gathered_state stored it new pool ckpts after (Some r) v logged forced is = rw (is, logged, forced) refl
+gathered_state stored it new pool ckpts after None v none logged forced is = rw (is, logged, forced) refl
+gathered_state stored it new pool ckpts after (Some r) v none logged forced is =
+    rw (is, logged, forced, unchanged r pool.resident none) refl
 
 -- the open checkpoint is the one of the session
 session_is : {S : Type 0} (stored : S → List Page) (s : EngineState) (table : Table) (pool : PoolView S)
@@ -208,15 +218,32 @@ ckpt_gathered stored it new table pool ckpts after v w reply kept none has logge
     let outcome : effect s event.CkptGather ≡ gather_effect s g =
     ap (λ o. option_map_or (λ x. gather_effect s (next_step s x)) o
     (record { answer = answer.Done; state = s })) passes.still_open in
+    let made : gathered_record s
+    ≡ g.next = ap (λ o. option_map_or (λ x. (next_step s x).next) o None) passes.still_open in
     let state : (engine_view stored new pool after).state ≡ (effect s event.CkptGather).state =
-    gathered_state stored it new pool ckpts after g.next g.ckpt next forced now ∙ ap (λ o. o.state) (sym outcome) in
+    gathered_state stored it new pool ckpts after g.next g.ckpt (no_change s none g.next made) next forced now ∙ ap (λ o. o.state) (sym outcome) in
     let answered : reply ≡ (effect s event.CkptGather).answer =
     said ∙ ap (λ (x : CkptView Phase). if is_done (left_of x.phase) then answer.Done else answer.More) ckpt
     ∙ ap (λ o. o.answer) (sym outcome) in
-    let made : gathered_record s
-    ≡ g.next = ap (λ o. option_map_or (λ x. (next_step s x).next) o None) passes.still_open in
     gathered_kept stored it new table pool ckpts after (Ok reply) g.next kept none (none, answered, state) made next
     (rw (now, next) (session_after s c kept.fit passes.still_open))
+
+-- where the session's step appends a record, so does the engine's
+pub gather_takes : {S D : Type 0} (stored : S → List Page) (it : WrittenLog D) (table : Table) (pool : PoolView S)
+    (ckpts : MediaView) (v : CkptView Phase) → IsKept stored (engine_view stored it pool ckpts).state table pool ckpts
+    → refusal (engine_view stored it pool ckpts).state event.CkptGather ≡ None → ckpts.session ≡ Some v
+    → IsSome (gather_step it.log.records (written_of pool.states) v).next
+    → TakesMemory (engine_view stored it pool ckpts).state event.CkptGather
+gather_takes stored it table pool ckpts v kept none has appends =
+    let s = (engine_view stored it pool ckpts).state in
+    let passes = gather_passes s none in
+    let c = passes.ckpt in
+    let same : gather_step it.log.records (written_of pool.states) v ≡ next_step s c =
+    ap (gather_step it.log.records (written_of pool.states))
+    (session_is stored s table pool ckpts c v kept passes.still_open has) in
+    let made : gathered_record s
+    ≡ (next_step s c).next = ap (λ o. option_map_or (λ x. (next_step s x).next) o None) passes.still_open in
+    subst (λ (o : Option Record). IsSome o) (ap (λ (x : Gathering). x.next) same ∙ sym made) appends
 
 -- ---- it ends
 
@@ -241,7 +268,7 @@ ckpt_ended stored it new table pool ckpts after v point kept none has logged for
     let ends : new.forced_end ≡ end_of (it.log.records ++ r ∷ []) = forced ∙ ap (λ (l : Log). end_of l.records) next in
     let outcome = ckpt_end_is s c passes.still_open in
     let state : (engine_view stored new pool after).state ≡ (effect s event.CkptEnd).state =
-    rw (outcome, is, next, ends, named) refl in
+    rw (outcome, is, next, ends, named, unchanged r pool.resident refl) refl in
     let answered : answer.Point point.begin point.end point.redo ≡ (effect s event.CkptEnd).answer =
     rw (outcome, named) refl in
     let room = passes.room in
@@ -270,7 +297,7 @@ ckpt_unforced stored it new table pool ckpts after v kept none has failed is =
     let short = failed.short in
     let longer = ap (λ (l : Log). length l.records) next in
     let state : (engine_view stored new pool after).state
-    ≡ forced_to (closed s c) (lsn_of k) = rw (is, next, at) refl in
+    ≡ forced_to (closed s c) (lsn_of k) = rw (is, next, at, unchanged r pool.resident refl) refl in
     let part : ForcedPart (end (closed s c)) (closed s c) (engine_view stored new pool after).state = record {
       reached = (k, omega (arith, at, short, longer), state);
       no_less = failed.rising;
@@ -288,7 +315,8 @@ ckpt_unforced stored it new table pool ckpts after v kept none has failed is =
 pub ckpt_same : {S D : Type 0} (stored : S → List Page) (it new : WrittenLog D) (table : Table) (pool : PoolView S)
     (ckpts after : MediaView) (call : Event) (why : Refusal)
     → IsKept stored (engine_view stored it pool ckpts).state table pool ckpts
-    → refusal (engine_view stored it pool ckpts).state call ≡ None → TakesMemory call → why ≡ OutOfMemory
+    → refusal (engine_view stored it pool ckpts).state call ≡ None
+    → TakesMemory (engine_view stored it pool ckpts).state call → why ≡ OutOfMemory
     → new.log ≡ it.log → new.forced_end ≡ it.forced_end → after ≡ ckpts
     → CkptCalled stored it new table pool ckpts after call (Err why)
 ckpt_same stored it new table pool ckpts after call why kept none takes is same forced alike =

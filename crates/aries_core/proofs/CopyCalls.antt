@@ -143,5 +143,6 @@ pub asked_is : {S D : Type 0} (stored : S → List Page) (it : WrittenLog D) (po
     → (engine_view stored it after (record media { copies = copies })).state
     ≡ with_copies (engine_view stored it pool media).state copies
 asked_is stored it pool after media copies same rest =
+    let resident = ap (λ v. v.resident) rest in
     let states = ap (λ v. v.states) rest in
-    rw (same, states) refl
+    rw (same, resident, states) refl

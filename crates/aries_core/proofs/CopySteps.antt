@@ -172,7 +172,7 @@ answered old (event.Take copy page) new fit none is =
     ChangesCopies _ (takes old copy page fit none) (fit.noted copy passes.view (ap copy_in passes.is_read)) is
 answered old (event.Seal copy) new fit none is =
     let there = seal_passes old copy none in
-    ChangesCopies _ (copied_sealed old.log old.forced_end old.stored old.copies copy there.0 fit.copied there.1)
+    ChangesCopies _ (copied_sealed old.log old.forced_end old.stored old.copies copy there.0 fit.copied there.1 there.2)
     (fit.noted copy there.0 (ap copy_in there.1)) is
 answered old (event.DropCopy copy) new fit none is =
     let there = drop_passes old copy none in

@@ -7,6 +7,7 @@ use Rattle.page_core.specs.declared.page.Page.{Page}
 use Rattle.page_core.specs.Page.{formatted}
 use Rattle.page_core.specs.Volume.{formatted_pages}
 use Rattle.log_records.proofs.Stored.{stored_later}
+use Rattle.buffer_pool.proofs.Pools.{images_later}
 use Rattle.std.specs.List.{All}
 use Rattle.std.proofs.lemmas.Bool.{cases_lt}
 use Rattle.std.proofs.lemmas.List.{append-nil, length-replicate, length_push, take-append-le, take_all}
@@ -19,7 +20,7 @@ use Rattle.log_history.specs.Transactions.{owed}
 use Rattle.log_history.proofs.Histories.{linked_none, linked_push}
 use Rattle.log_history.proofs.AtEnd.{valid_next}
 use Rattle.copy_vault.specs.Copy.{CopyView}
-use Rattle.copy_vault.specs.Vault.{dropped, reading, state_of}
+use Rattle.copy_vault.specs.Vault.{complete, dropped, reading, state_of}
 use Rattle.copy_coverage.specs.Copied.{AreCopied, copy_in}
 use Rattle.copy_coverage.proofs.Copied.{copied_later}
 use Rattle.aries_core.specs.declared.event.Answer.{Answer}
@@ -68,6 +69,7 @@ fit_stays old event reply new fit forced pages ckpts copied noted stays = record
   room = rw stays.log fit.room;
   forced = forced;
   counted = pages.counted;
+  resident = rw (stays.log, stays.resident) fit.resident;
   stored = pages.stored;
   stable = pages.stable;
   gathered = ckpts.gathered;
@@ -108,6 +110,7 @@ fit_appended s r fit calls =
         written = fit.counted.written;
         writing = fit.counted.writing;
       };
+      resident = images_later s.log r s.resident fit.resident;
       stored = stored_later s.log (r ∷ []) s.stored s.written s.writing fit.stored;
       stable = record { pages = fit.stable.pages; images = fit.stable.images };
       gathered = gathered_later
@@ -133,6 +136,7 @@ fit_grows old event reply new fit numbers forced pages ckpts copied noted grows 
       room = rw grows.log (room_push old.log r fit.room whole);
       forced = forced;
       counted = pages.counted;
+      resident = rw (grows.log, grows.resident) (images_later old.log r old.resident fit.resident);
       stored = pages.stored;
       stable = pages.stable;
       gathered = ckpts.gathered;
@@ -179,10 +183,14 @@ none_some copy e = cc
 not_reading : (copy : CopyView) → ¬ (dropped ≡ reading copy)
 not_reading copy e = cc
 
+not_complete : (copy : CopyView) → ¬ (dropped ≡ complete copy)
+not_complete copy e = cc
+
 no_copies : (s : EngineState) → AreCopied s.log s.forced_end s.stored []
 no_copies s = record {
   few = lit≤ tt;
   each = λ id copy is. absurd (none_some copy (ap copy_in (sym (no_copy id)) ∙ is));
+  decided = λ id copy is. absurd (not_complete copy (sym (no_copy id) ∙ is));
   read = λ id copy is. absurd (not_reading copy (sym (no_copy id) ∙ is));
   covered = λ id copy older is. absurd (none_some copy (ap copy_in (sym (no_copy id)) ∙ is));
 }
@@ -193,6 +201,10 @@ formatted_at pages p d lt = get_or-map-range_with_len formatted 0 pages p p d lt
 lsn_of_formatted : (p : ℕ) → (formatted p).lsn ≡ 0
 unfolding formatted
 lsn_of_formatted p = refl
+
+number_of_formatted : (p : ℕ) → (formatted p).number ≡ p
+unfolding formatted
+number_of_formatted p = refl
 
 get_or-replicate : {X : Type 0} (n : ℕ) (x : X) (i : ℕ) → get_or (replicate n x) i x ≡ x
 get_or-replicate zero x i = refl
@@ -210,6 +222,9 @@ new_is_fit pages count = record {
     written = length-replicate pages 0;
     writing = length-replicate pages None;
   };
+  resident = λ p d lt.
+      let page = formatted_at pages p d (omega (arith, length-map-range_with_len formatted 0 pages)) in
+      rw page (ap formatted (sym (number_of_formatted p)));
   stored = record {
     pages = λ p d lt.
         let page = formatted_at pages p d (omega (arith, length-map-range_with_len formatted 0 pages)) in

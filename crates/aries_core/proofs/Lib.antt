@@ -20,6 +20,7 @@ pub mod PageLaws
 pub mod Plays
 pub mod PoolStates
 pub mod Refusals
+pub mod Residents
 pub mod Retires
 pub mod Rooms
 pub mod Runs

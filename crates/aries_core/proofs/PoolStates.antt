@@ -84,26 +84,27 @@ begun_is stored old new pool ckpts p q within same forced =
 
 pub ended_is : {S D : Type 0} (stored : S → List Page) (it : WrittenLog D) (pool after : PoolView S)
     (ckpts : MediaView) (p : ℕ) (q : Page) → stored after.store ≡ set (stored pool.store) p q
-    → after.states ≡ set pool.states p (write_ended (state_at pool p) q.lsn)
+    → after.resident ≡ pool.resident → after.states ≡ set pool.states p (write_ended (state_at pool p) q.lsn)
     → (engine_view stored it after ckpts).state ≡ ended_write (engine_view stored it pool ckpts).state p q
-ended_is stored it pool after ckpts p q store states =
+ended_is stored it pool after ckpts p q store resident states =
     let ended = write_ended (state_at pool p) q.lsn in
     let written : written_of after.states ≡ set (written_of pool.states) p q.lsn =
     ap written_of states ∙ map-set (λ s. s.written) pool.states p ended in
     let writing : writing_of after.states ≡ set (writing_of pool.states) p None =
     ap writing_of states ∙ map-set (λ s. s.writing) pool.states p ended in
-    rw (store, written, writing) refl
+    rw (store, resident, written, writing) refl
 
 pub repeated_is : {S D : Type 0} (stored : S → List Page) (it : WrittenLog D) (pool after : PoolView S)
     (ckpts : MediaView) (p : ℕ) (q : Page) → stored after.store ≡ set (stored pool.store) p q
-    → after.states ≡ pool.states
+    → after.resident ≡ pool.resident → after.states ≡ pool.states
     → (engine_view stored it after ckpts).state ≡ with_stored (engine_view stored it pool ckpts).state p q
-repeated_is stored it pool after ckpts p q store states = rw (store, states) refl
+repeated_is stored it pool after ckpts p q store resident states = rw (store, resident, states) refl
 
 pub kept_is : {S D : Type 0} (stored : S → List Page) (it : WrittenLog D) (pool after : PoolView S)
-    (ckpts : MediaView) → stored after.store ≡ stored pool.store → after.states ≡ pool.states
+    (ckpts : MediaView) → stored after.store ≡ stored pool.store → after.resident ≡ pool.resident
+    → after.states ≡ pool.states
     → (engine_view stored it after ckpts).state ≡ (engine_view stored it pool ckpts).state
-kept_is stored it pool after ckpts store states = rw (store, states) refl
+kept_is stored it pool after ckpts store resident states = rw (store, resident, states) refl
 
 -- ---- a new engine
 
@@ -122,4 +123,5 @@ new_is {S = S} stored it pool store n copies none log forced is formatted =
     let writing : writing_of pool.states ≡ replicate n None =
     ap (λ (v : PoolView S). writing_of v.states) is ∙ map-replicate (λ s. s.writing) n unwritten in
     let pages : stored pool.store ≡ formatted_pages n = ap (λ (v : PoolView S). stored v.store) is ∙ formatted in
-    rw (log, forced, written, writing, pages, none) refl
+    let resident : pool.resident ≡ formatted_pages n = ap (λ (v : PoolView S). v.resident) is in
+    rw (log, forced, written, writing, resident, pages, none) refl

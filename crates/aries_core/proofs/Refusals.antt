@@ -16,7 +16,8 @@ use Rattle.fuzzy_ckpt.specs.declared.point.Point.{Point}
 use Rattle.copy_vault.specs.declared.fault.CopyFault.{CopyFault}
 use Rattle.copy_vault.specs.declared.copy_id.TheConstants.{MAX_COPIES}
 use Rattle.copy_vault.specs.declared.fault.CopyFault.TheVariants as fault
-use Rattle.copy_vault.specs.Copy.{CopyView}
+use Rattle.copy_vault.specs.declared.fault.CopyFault.TheVariants.{PagesLeft}
+use Rattle.copy_vault.specs.Copy.{CopyView, least_undecided}
 use Rattle.copy_vault.specs.Vault.{CopyState, complete, complete_refusal, drop_refusal, dropped, open_refusal, reading}
 use Rattle.copy_vault.specs.Vault.{seal_refusal, state_of}
 use Rattle.aries_core.specs.declared.event.Event.{Event}
@@ -390,8 +391,13 @@ reading_if_drop (reading copy) none = (copy, refl)
 reading_if_drop (complete copy) none = cc
 reading_if_drop dropped none = cc
 
-reading_if_seal : (state : CopyState) → seal_refusal state ≡ None → (copy : CopyView) × (state ≡ reading copy)
-reading_if_seal (reading copy) none = (copy, refl)
+none_mapped : (f : ℕ → CopyFault) (o : Option ℕ) → option_map f o ≡ None → o ≡ None
+none_mapped f None none = refl
+none_mapped f (Some n) none = cc
+
+reading_if_seal : (state : CopyState) → seal_refusal state ≡ None
+    → (copy : CopyView) × (state ≡ reading copy) × (least_undecided copy.pages ≡ None)
+reading_if_seal (reading copy) none = (copy, refl, none_mapped PagesLeft (least_undecided copy.pages) none)
 reading_if_seal (complete copy) none = cc
 reading_if_seal dropped none = cc
 
@@ -405,7 +411,7 @@ pub drop_passes : (s : EngineState) (copy : ℕ) → copy_refusal s copy ≡ Non
 drop_passes s copy none = reading_if_drop (state_of s.copies copy) (vault_passes _ none)
 
 pub seal_passes : (s : EngineState) (copy : ℕ) → refusal s (event.Seal copy) ≡ None
-    → (c : CopyView) × (state_of s.copies copy ≡ reading c)
+    → (c : CopyView) × (state_of s.copies copy ≡ reading c) × (least_undecided c.pages ≡ None)
 seal_passes s copy none = reading_if_seal (state_of s.copies copy) (vault_passes _ none)
 
 or_none : (a b : Option CopyFault) → option_or a b ≡ None → a ≡ None

@@ -1,10 +1,11 @@
 -- What a step does to the log.
-use Rattle.std.proofs.Common.{◌≡◌, ℕ, ◌++◌, ◌⊎◌, [], ◌∷◌, refl, ap, ◌∙◌, inl, inr}
+use Rattle.std.proofs.Common.{◌≡◌, ℕ, ◌++◌, ◌⊎◌, [], ◌∷◌, map, refl, ap, ◌∙◌, inl, inr}
 use Rattle.std.specs.Prelude.{Option, Some, None, IsSomeAnd, Result, Ok, Err}
 use Rattle.std.specs.Option.{option_map}
 use Rattle.page_core.specs.declared.page.Page.{Page}
 use Rattle.log_history.specs.declared.pending_change.PendingChange.{PendingChange}
 use Rattle.log_records.specs.declared.record.Record.{Record}
+use Rattle.log_records.specs.Image.{with_record}
 use Rattle.log_history.specs.Checkpoint.{Checkpoint, open_checkpoint}
 use Rattle.log_history.specs.Transactions.{last_of, pending}
 use Rattle.log_history.specs.Work.{call_of}
@@ -27,6 +28,7 @@ use Rattle.aries_core.proofs.Refusals.{ckpt_end_passes, commit_not_unsure, gathe
 pub record Stays (old : EngineState) (event : Event) (reply : Result Answer Refusal) (new : EngineState) : Type 0 where
   pub pages : new.pages ≡ old.pages
   pub log : new.log ≡ old.log
+  pub resident : new.resident ≡ old.resident
   pub unseen : shown_call event reply ≡ None
 
 -- the step appends the event's record, which shows the call
@@ -36,28 +38,33 @@ pub record Grows (old : EngineState) (event : Event) (reply : Result Answer Refu
   pub made : record_for old event ≡ Some r
   pub pages : new.pages ≡ old.pages
   pub log : new.log ≡ old.log ++ r ∷ []
+  pub resident : new.resident ≡ map (λ page. with_record page r) old.resident
   pub shown : shown_call event reply ≡ call_of r
 
 -- ---- each reply
 
 -- a step to a state that is known
 stays : (old : EngineState) (event : Event) (reply : Result Answer Refusal) (new state : EngineState) → new ≡ state
-    → state.pages ≡ old.pages → state.log ≡ old.log → shown_call event reply ≡ None → Stays old event reply new
-stays old event reply new state is pages log unseen = record {
+    → state.pages ≡ old.pages → state.log ≡ old.log → state.resident ≡ old.resident → shown_call event reply ≡ None
+    → Stays old event reply new
+stays old event reply new state is pages log resident unseen = record {
   pages = ap (λ (s : EngineState). s.pages) is ∙ pages;
   log = ap (λ (s : EngineState). s.log) is ∙ log;
+  resident = ap (λ (s : EngineState). s.resident) is ∙ resident;
   unseen = unseen;
 }
 
 grows : (old : EngineState) (event : Event) (reply : Result Answer Refusal) (new state : EngineState) (r : Record)
     → new ≡ state → refusal old event ≡ None → record_for old event ≡ Some r → state.pages ≡ old.pages
-    → state.log ≡ old.log ++ r ∷ [] → shown_call event reply ≡ call_of r → Grows old event reply new
-grows old event reply new state r is accepted made pages log shown = record {
+    → state.log ≡ old.log ++ r ∷ [] → state.resident ≡ map (λ page. with_record page r) old.resident
+    → shown_call event reply ≡ call_of r → Grows old event reply new
+grows old event reply new state r is accepted made pages log resident shown = record {
   r = r;
   accepted = accepted;
   made = made;
   pages = ap (λ (s : EngineState). s.pages) is ∙ pages;
   log = ap (λ (s : EngineState). s.log) is ∙ log;
+  resident = ap (λ (s : EngineState). s.resident) is ∙ resident;
   shown = shown;
 }
 
@@ -67,19 +74,19 @@ undo_grows : (old : EngineState) (txn : ℕ) (answer : Answer) (new : EngineStat
     → new ≡ (effect old (event.UndoStep txn)).state → Grows old (event.UndoStep txn) (Ok answer) new
 undo_grows old txn answer new None o none is =
     grows old (event.UndoStep txn) (Ok answer) new (appended old (end_record old txn)) (end_record old txn)
-    (rw o at is) none (rw o refl) refl refl refl
+    (rw o at is) none (rw o refl) refl refl refl refl
 undo_grows old txn answer new (Some p) o none is =
     grows old (event.UndoStep txn) (Ok answer) new (appended old (comp_record old txn p)) (comp_record old txn p)
-    (rw o at is) none (rw o refl) refl refl refl
+    (rw o at is) none (rw o refl) refl refl refl refl
 
 -- the end of a write leaves the log
 write_end_stays : (old : EngineState) (page : ℕ) (answer : Answer) (new : EngineState) (o : Option Page)
     → image_of old page ≡ o → new ≡ (effect old (event.WriteEnd page)).state
     → Stays old (event.WriteEnd page) (Ok answer) new
 write_end_stays old page answer new None o is =
-    stays old (event.WriteEnd page) (Ok answer) new old (rw o at is) refl refl refl
+    stays old (event.WriteEnd page) (Ok answer) new old (rw o at is) refl refl refl refl
 write_end_stays old page answer new (Some image) o is =
-    stays old (event.WriteEnd page) (Ok answer) new (ended_write old page image) (rw o at is) refl refl refl
+    stays old (event.WriteEnd page) (Ok answer) new (ended_write old page image) (rw o at is) refl refl refl refl
 
 -- what stands where the store failed at the end of a write
 pub stored_or_not : (old : EngineState) (page : ℕ) (new : EngineState) → MayBeStored page old new
@@ -105,20 +112,20 @@ gather_stays_or_grows old answer new none is =
       | TakesPages pages finds ↦
           let does = takes_pages old c pages still_open finds in
           inr (grows old event.CkptGather (Ok answer) new _ _ (is ∙ ap (λ o. o.state) does.outcome) none
-          does.made refl refl refl)
+          does.made refl refl refl refl)
       | PassesPages finds ↦
           let does = passes_pages old c still_open finds in
-          inl (stays old event.CkptGather (Ok answer) new _ (is ∙ ap (λ o. o.state) does.outcome) refl refl refl)
+          inl (stays old event.CkptGather (Ok answer) new _ (is ∙ ap (λ o. o.state) does.outcome) refl refl refl refl)
       | TakesTxn t finds ↦
           let does = takes_txn old c t still_open finds in
           inr (grows old event.CkptGather (Ok answer) new _ _ (is ∙ ap (λ o. o.state) does.outcome) none
-          does.made refl refl refl)
+          does.made refl refl refl refl)
       | PassesTxns finds ↦
           let does = passes_txns old c still_open finds in
-          inl (stays old event.CkptGather (Ok answer) new _ (is ∙ ap (λ o. o.state) does.outcome) refl refl refl)
+          inl (stays old event.CkptGather (Ok answer) new _ (is ∙ ap (λ o. o.state) does.outcome) refl refl refl refl)
       | WasDone left ↦
           let does = was_done old c still_open left in
-          inl (stays old event.CkptGather (Ok answer) new _ (is ∙ ap (λ o. o.state) does.outcome) refl refl refl)
+          inl (stays old event.CkptGather (Ok answer) new _ (is ∙ ap (λ o. o.state) does.outcome) refl refl refl refl)
     ]
 
 -- the end of a checkpoint appends its EndChkpt, whether it is forced or not
@@ -132,42 +139,42 @@ ckpt_end_grows old answer new none is =
     let passes = ckpt_end_passes old none in
     let c = passes.ckpt in
     grows old event.CkptEnd (Ok answer) new _ _ (is ∙ ap (λ o. o.state) (ckpt_end_is old c passes.still_open)) none
-    (made_at_end old c passes.still_open) refl refl refl
+    (made_at_end old c passes.still_open) refl refl refl refl
 
 -- an accepted call
 answered : (old : EngineState) (event : Event) (answer : Answer) (new : EngineState) → refusal old event ≡ None
     → answer ≡ (effect old event).answer → new ≡ (effect old event).state
     → Stays old event (Ok answer) new ⊎ Grows old event (Ok answer) new
 answered old event.Begin answer new none given is =
-    inr (grows old event.Begin (Ok answer) new _ _ is none refl refl refl
+    inr (grows old event.Begin (Ok answer) new _ _ is none refl refl refl refl
     (ap (λ (a : Answer). shown_call event.Begin (Ok a)) given))
 answered old (event.Set txn page slot number) answer new none given is =
-    inr (grows old (event.Set txn page slot number) (Ok answer) new _ _ is none refl refl refl refl)
+    inr (grows old (event.Set txn page slot number) (Ok answer) new _ _ is none refl refl refl refl refl)
 answered old (event.Add txn page slot amount) answer new none given is =
-    inr (grows old (event.Add txn page slot amount) (Ok answer) new _ _ is none refl refl refl refl)
+    inr (grows old (event.Add txn page slot amount) (Ok answer) new _ _ is none refl refl refl refl refl)
 answered old (event.Read page slot) answer new none given is =
-    inl (stays old (event.Read page slot) (Ok answer) new _ is refl refl refl)
+    inl (stays old (event.Read page slot) (Ok answer) new _ is refl refl refl refl)
 answered old event.CopyFull answer new none given is =
-    inl (stays old event.CopyFull (Ok answer) new _ is refl refl refl)
+    inl (stays old event.CopyFull (Ok answer) new _ is refl refl refl refl)
 answered old (event.CopyInc parent) answer new none given is =
-    inl (stays old (event.CopyInc parent) (Ok answer) new _ is refl refl refl)
+    inl (stays old (event.CopyInc parent) (Ok answer) new _ is refl refl refl refl)
 answered old (event.Take copy page) answer new none given is =
-    inl (stays old (event.Take copy page) (Ok answer) new _ is refl refl refl)
+    inl (stays old (event.Take copy page) (Ok answer) new _ is refl refl refl refl)
 answered old (event.Seal copy) answer new none given is =
-    inl (stays old (event.Seal copy) (Ok answer) new _ is refl refl refl)
+    inl (stays old (event.Seal copy) (Ok answer) new _ is refl refl refl refl)
 answered old (event.DropCopy copy) answer new none given is =
-    inl (stays old (event.DropCopy copy) (Ok answer) new _ is refl refl refl)
+    inl (stays old (event.DropCopy copy) (Ok answer) new _ is refl refl refl refl)
 answered old (event.Commit txn) answer new none given is =
-    inr (grows old (event.Commit txn) (Ok answer) new _ _ is none refl refl refl refl)
+    inr (grows old (event.Commit txn) (Ok answer) new _ _ is none refl refl refl refl refl)
 answered old (event.Abort txn) answer new none given is =
-    inr (grows old (event.Abort txn) (Ok answer) new _ _ is none refl refl refl refl)
+    inr (grows old (event.Abort txn) (Ok answer) new _ _ is none refl refl refl refl refl)
 answered old (event.UndoStep txn) answer new none given is = inr (undo_grows old txn answer new _ refl none is)
-answered old event.Force answer new none given is = inl (stays old event.Force (Ok answer) new _ is refl refl refl)
+answered old event.Force answer new none given is = inl (stays old event.Force (Ok answer) new _ is refl refl refl refl)
 answered old (event.WriteBegin page) answer new none given is =
-    inl (stays old (event.WriteBegin page) (Ok answer) new _ is refl refl refl)
+    inl (stays old (event.WriteBegin page) (Ok answer) new _ is refl refl refl refl)
 answered old (event.WriteEnd page) answer new none given is = inl (write_end_stays old page answer new _ refl is)
 answered old event.CkptBegin answer new none given is =
-    inr (grows old event.CkptBegin (Ok answer) new _ _ is none refl refl refl refl)
+    inr (grows old event.CkptBegin (Ok answer) new _ _ is none refl refl refl refl refl)
 answered old event.CkptGather answer new none given is = gather_stays_or_grows old answer new none is
 answered old event.CkptEnd answer new none given is = inr (ckpt_end_grows old answer new none is)
 
@@ -181,31 +188,31 @@ not_shown call why other = refl
 refused : (old : EngineState) (event : Event) (why : Refusal) (new : EngineState)
     → refusal old event ≡ Some why → new ≡ old → Stays old event (Err why) new
 refused old event why new some is =
-    stays old event (Err why) new old is refl refl (not_shown event why (λ txn lsn commit unsure.
+    stays old event (Err why) new old is refl refl refl (not_shown event why (λ txn lsn commit unsure.
     commit_not_unsure old txn lsn (rw (commit, unsure) at some)))
 
 -- a call that fails for want of memory or by the device
 failed : (old : EngineState) (event : Event) (why : Refusal) (new : EngineState) → refusal old event ≡ None
     → Fails old event why new → Stays old event (Err why) new ⊎ Grows old event (Err why) new
 failed old event OutOfMemory new none fails =
-    inl (stays old event (Err OutOfMemory) new old fails.1 refl refl
+    inl (stays old event (Err OutOfMemory) new old fails.1 refl refl refl
     (not_shown event OutOfMemory (λ txn lsn commit unsure. (cc))))
 failed old event.Force LogFault new none fails =
-    inl (stays old event.Force (Err LogFault) new _ fails.reached.2 refl refl refl)
+    inl (stays old event.Force (Err LogFault) new _ fails.reached.2 refl refl refl refl)
 failed old (event.Commit txn) (CommitUnsure lsn) new none fails =
-    inr (grows old (event.Commit txn) (Err (CommitUnsure lsn)) new _ _ fails.1.reached.2 none refl refl refl refl)
+    inr (grows old (event.Commit txn) (Err (CommitUnsure lsn)) new _ _ fails.1.reached.2 none refl refl refl refl refl)
 failed old (event.WriteBegin page) LogFault new none fails =
-    inl (stays old (event.WriteBegin page) (Err LogFault) new _ fails.reached.2 refl refl refl)
+    inl (stays old (event.WriteBegin page) (Err LogFault) new _ fails.reached.2 refl refl refl refl)
 failed old (event.WriteEnd page) StoreFault new none fails = elim (stored_or_not old page new fails) [
-  | inl same ↦ inl (stays old (event.WriteEnd page) (Err StoreFault) new _ same refl refl refl)
-  | inr stored ↦ inl (stays old (event.WriteEnd page) (Err StoreFault) new _ stored.2 refl refl refl)
+  | inl same ↦ inl (stays old (event.WriteEnd page) (Err StoreFault) new _ same refl refl refl refl)
+  | inr stored ↦ inl (stays old (event.WriteEnd page) (Err StoreFault) new _ stored.2 refl refl refl refl)
 ]
 failed old event.CkptEnd LogFault new none fails =
     let part = closed_part old new fails in
     inr (grows old event.CkptEnd (Err LogFault) new _ _ part.2.reached.2 none
-    (made_at_end old part.0 part.1) refl refl refl)
+    (made_at_end old part.0 part.1) refl refl refl refl)
 failed old (event.Take copy page) StoreFault new none fails =
-    inl (stays old (event.Take copy page) (Err StoreFault) new old fails refl refl refl)
+    inl (stays old (event.Take copy page) (Err StoreFault) new old fails refl refl refl refl)
 failed old event why new none fails = absurd fails
 
 pub stays_or_grows : (old : EngineState) (event : Event) (reply : Result Answer Refusal) (new : EngineState)

@@ -72,6 +72,7 @@ force_kept stored it new table pool ckpts kept same no_less ends =
           written = fit.counted.written ∙ ap (λ (l : Log). l.pages) (sym same);
           writing = fit.counted.writing ∙ ap (λ (l : Log). l.pages) (sym same);
         };
+        resident = rw same fit.resident;
         stored = rw same fit.stored;
         stable = record {
           pages = All-weaker (λ page. page.lsn < it.forced_end) (λ page. page.lsn < new.forced_end)
@@ -147,7 +148,8 @@ ended stored it table pool after ckpts p lsn kept none within at store states of
     (λ q. after ≡ record (with_state pool p (write_ended (state_at pool p) q.lsn))
     { store = after.store }) q here states in
     let state : (engine_view stored it after ckpts).state ≡ ended_write s p q =
-    ended_is stored it pool after ckpts p q stored_is (ap (λ v. v.states) is) in
+    ended_is stored it pool after ckpts p q stored_is (ap (λ v. v.resident) is)
+    (ap (λ v. v.states) is) in
     let effected : (engine_view stored it after ckpts).state ≡ (effect s (event.WriteEnd p)).state =
     rw ends.there state in
     let said : answer.Written lsn ≡ (effect s (event.WriteEnd p)).answer = rw ends.there (ap answer.Written lsn_is) in
@@ -166,12 +168,13 @@ repeated stored it table pool after ckpts p kept none within either goes_on of_l
     let ends = write_end_passes s p none in
     let q = ends.image in
     let here : (state_at pool p).writing ≡ Some q = sym (image_at stored it pool ckpts p within) ∙ ends.there in
+    let resident = ap (λ v. v.resident) goes_on in
     let states = ap (λ v. v.states) goes_on in
     let may : MayBeStored p s (engine_view stored it after ckpts).state =
     rw ends.there (elim (of_image (state_at pool p).writing
     (λ q. StoresOrKeeps (stored pool.store) p q (stored after.store)) q here either) [
-      | inl stores ↦ inr (repeated_is stored it pool after ckpts p q stores states)
-      | inr keeps ↦ inl (kept_is stored it pool after ckpts keeps states)
+      | inl stores ↦ inr (repeated_is stored it pool after ckpts p q stores resident states)
+      | inr keeps ↦ inl (kept_is stored it pool after ckpts keeps resident states)
     ]) in
     called stored it it table pool after ckpts (event.WriteEnd p) (Err StoreFault) kept tt refl
     (inr (none, may)) of_log

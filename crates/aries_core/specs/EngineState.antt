@@ -1,5 +1,5 @@
 -- What an engine is, and what an accepted call makes of it.
-use Rattle.std.specs.Prelude.{ℕ, ◌≡◌, ◌+◌, ◌<◌, ◌≤◌, List, [], ◌∷◌, ◌++◌, length, max}
+use Rattle.std.specs.Prelude.{ℕ, ◌≡◌, ◌+◌, ◌<◌, ◌≤◌, List, [], ◌∷◌, ◌++◌, length, map, max}
 use Rattle.std.specs.Prelude.{replicate, slice_index, slice_index_or, slice_set, take, Option, Some}
 use Rattle.std.specs.Prelude.{IsSome, None, IfSome, if◌then◌else◌}
 use Rattle.std.specs.List.{All}
@@ -18,7 +18,7 @@ use Rattle.log_history.specs.Checkpoint.{redo_point}
 use Rattle.log_records.specs.declared.record.Record.{Record}
 use Rattle.log_records.specs.declared.record.Record.TheVariants as log
 use Rattle.page_core.specs.declared.page.Page.{Page}
-use Rattle.log_records.specs.Image.{image}
+use Rattle.log_records.specs.Image.{image, with_record}
 use Rattle.log_history.specs.Linked.{IsLinked, number_in}
 use Rattle.log_records.specs.Log.{IsLog, Log, lsn_of}
 use Rattle.log_history.specs.Transactions.{begun, last_lsn, last_of, owed, pending}
@@ -44,27 +44,30 @@ use Rattle.aries_core.specs.declared.event.Event.TheVariants as event
 use Rattle.aries_core.specs.Gather.{Left, is_done, left_of, pages_left, session_of}
 
 -- the page count of the volume, the log, the LSN below which each record is on the device, and the
--- last complete checkpoint below it; the stored pages; of each page the LSN of its last write, and
--- the image that is being written; what is left for the gather of the open checkpoint (all, where
--- none is open); and the image copies in order of their ids
+-- last complete checkpoint below it; the pages in memory, in the order in which they were fetched;
+-- the stored pages; of each page the LSN of its last write, and the image that is being written;
+-- what is left for the gather of the open checkpoint (all, where none is open); and the image
+-- copies in order of their ids
 pub record EngineState : Type 0 where
   pub pages : ℕ
   pub log : List Record
   pub forced_end : ℕ
   pub master : Option Point
+  pub resident : List Page
   pub stored : List Page
   pub written : List ℕ
   pub writing : List (Option Page)
   pub left : Left
   pub copies : List CopyState
 
--- a new engine: its log has a header alone, and its pages are formatted
+-- a new engine: its log has a header alone, and its pages are formatted and all in memory
 abbrev pub new_state : ℕ → EngineState
 new_state pages = record {
   pages = pages;
   log = [];
   forced_end = lsn_of 0;
   master = None;
+  resident = formatted_pages pages;
   stored = formatted_pages pages;
   written = replicate pages 0;
   writing = replicate pages None;
@@ -78,8 +81,12 @@ end s = lsn_of (length s.log)
 
 -- ---- what changes
 
+-- a record comes behind the log, and its change is made on the page, where that is in memory
 abbrev pub appended : EngineState → Record → EngineState
-appended s r = record s { log = s.log ++ r ∷ [] }
+appended s r = record s {
+  log = s.log ++ r ∷ [];
+  resident = map (λ page. with_record page r) s.resident;
+}
 
 abbrev pub forced_to : EngineState → ℕ → EngineState
 forced_to s lsn = record s { forced_end = lsn }
@@ -301,6 +308,10 @@ pub record AreCounted (s : EngineState) : Type 0 where
   pub written : length s.written ≡ s.pages
   pub writing : length s.writing ≡ s.pages
 
+-- each page in memory is as the log makes it
+abbrev pub AreImages : List Record → List Page → Type 0
+AreImages rs resident = All (λ page. page ≡ image rs page.number) resident
+
 -- no stored page, and no image that is being written, shows a change whose record is not forced
 pub record AreStable (s : EngineState) : Type 0 where
   pub pages : All (λ page. page.lsn < s.forced_end) s.stored
@@ -334,6 +345,7 @@ pub record IsFit (s : EngineState) : Type 0 where
   pub room : (n : ℕ) → n ≤ length s.log → length (take n s.log) + owed (take n s.log) ≤ MAX_RECORDS
   pub forced : (k : ℕ) × (k ≤ length s.log) × (s.forced_end ≡ lsn_of k)
   pub counted : AreCounted s
+  pub resident : AreImages s.log s.resident
   pub stored : AreStored s.log s.stored s.written s.writing
   pub stable : AreStable s
   pub gathered : IfSome (open_checkpoint s.log) (IsGathering s.log s.stored s.left)
@@ -363,6 +375,7 @@ engine_view stored it pool ckpts = record {
     log = it.log.records;
     forced_end = it.forced_end;
     master = ckpts.master;
+    resident = pool.resident;
     stored = stored pool.store;
     written = written_of pool.states;
     writing = writing_of pool.states;

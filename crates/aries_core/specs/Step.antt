@@ -1,9 +1,10 @@
 -- One call of the engine: what it may answer, and what stands after it.
-use Rattle.std.specs.Prelude.{ℕ, ◌≡◌, ◌<◌, ◌≤◌, ◌⊎◌, Some, None, IsSomeAnd, Result, Ok}
+use Rattle.std.specs.Prelude.{ℕ, ◌≡◌, ◌<◌, ◌≤◌, ◌⊎◌, Some, None, IsSome, IsSomeAnd, Result, Ok}
 use Rattle.std.specs.Prelude.{Err, List, [], ◌∷◌}
 use Rattle.log_records.specs.Log.{lsn_of}
 use Rattle.log_history.specs.Checkpoint.{open_checkpoint}
-use Rattle.log_store.specs.WrittenLog.{end_up_to}
+use Rattle.log_store.specs.Stores.{FailsAtNext, StoreCall, StoresForced}
+use Rattle.log_store.specs.WrittenLog.{WrittenLog, end_up_to}
 use Rattle.aries_core.specs.declared.event.Answer.{Answer}
 use Rattle.aries_core.specs.declared.event.Answer.TheVariants as answer
 use Rattle.aries_core.specs.declared.event.Event.{Event}
@@ -17,8 +18,10 @@ use Rattle.aries_core.specs.declared.event.Undone.TheVariants as undone
 use Rattle.aries_core.specs.declared.refusal.Refusal.{Refusal}
 use Rattle.aries_core.specs.declared.refusal.Refusal.TheVariants.{CommitUnsure, LogFault}
 use Rattle.aries_core.specs.declared.refusal.Refusal.TheVariants.{OutOfMemory, StoreFault}
-use Rattle.aries_core.specs.EngineState.{EngineState, appended, closed, commit_record, effect, end}
-use Rattle.aries_core.specs.EngineState.{forced_to, image_of, log_of, page_now, with_stored}
+use Rattle.aries_core.specs.EngineState.{EngineState, EngineView, appended, closed, commit_record}
+use Rattle.aries_core.specs.EngineState.{effect, end}
+use Rattle.aries_core.specs.EngineState.{forced_to, gathered_record, image_of, log_of, page_now}
+use Rattle.aries_core.specs.EngineState.{with_stored}
 use Rattle.aries_core.specs.Refusal.{refusal}
 
 -- some records more are forced, but not all below an LSN: the device failed at one of them
@@ -26,23 +29,42 @@ pub record ForcedPart (target : ℕ) (old new : EngineState) : Type 0 where
   pub reached : (k : ℕ) × (lsn_of k < target) × (new ≡ forced_to old (lsn_of k))
   pub no_less : old.forced_end ≤ new.forced_end
 
+-- the log of an engine, with its device
+abbrev pub written_log_of : {S D : Type 0} → EngineView S D → WrittenLog D
+written_log_of it = record {
+  log = log_of it.state;
+  forced_end = it.state.forced_end;
+  room = 0;
+  device = it.device;
+}
+
+-- each record between the two forced ends was stored in order, by one call of the device for each,
+-- and no other call was made
+abbrev pub Forces : {S D : Type 0} → StoreCall D → EngineView S D → EngineView S D → Type 0
+Forces called old new = StoresForced called (written_log_of old) (written_log_of new) new.device
+
+-- they were stored so, then the call of the next record failed, and none was made after it
+abbrev pub FailsForcing : {S D : Type 0} → StoreCall D → EngineView S D → EngineView S D → Type 0
+FailsForcing called old new = FailsAtNext called (written_log_of old) (written_log_of new)
+
 -- the image that was to be stored is, or the old page stays
 abbrev pub MayBeStored : ℕ → EngineState → EngineState → Type 0
 MayBeStored page old new = IsSomeAnd (image_of old page)
     (λ image. (new ≡ old) ⊎ (new ≡ with_stored old page image))
 
--- a call that takes memory is refused some
-abbrev pub TakesMemory : Event → Type 0
-TakesMemory (event.Read page slot) = ⊥
-TakesMemory event.Force = ⊥
-TakesMemory (event.WriteEnd page) = ⊥
-TakesMemory (event.Seal copy) = ⊥
-TakesMemory (event.DropCopy copy) = ⊥
-TakesMemory other = Unit {0}
+-- a call that takes memory is refused some; a step of a gather takes it for a record alone
+abbrev pub TakesMemory : EngineState → Event → Type 0
+TakesMemory s (event.Read page slot) = ⊥
+TakesMemory s event.Force = ⊥
+TakesMemory s (event.WriteEnd page) = ⊥
+TakesMemory s event.CkptGather = IsSome (gathered_record s)
+TakesMemory s (event.Seal copy) = ⊥
+TakesMemory s (event.DropCopy copy) = ⊥
+TakesMemory s other = Unit {0}
 
 -- the call fails so for want of memory or by a device, and this stands then
 abbrev pub Fails : EngineState → Event → Refusal → EngineState → Type 0
-Fails old event OutOfMemory new = TakesMemory event × (new ≡ old)
+Fails old event OutOfMemory new = TakesMemory old event × (new ≡ old)
 Fails old event.Force LogFault new = ForcedPart (end old) old new
 Fails old (event.WriteBegin page) LogFault new =
     ForcedPart (end_up_to (log_of old) (page_now old page).lsn) old new

@@ -3,6 +3,7 @@
 ghost use Rattle.std.specs.Prelude.{ℕ, ◌≡◌, ◌<◌, ◌≤◌, Some, None, IfErr, OnOk};
 ghost use Rattle.aries_core.specs.EngineState.{end};
 ghost use Rattle.aries_core.specs.Refusal.{refusal};
+ghost use Rattle.aries_core.specs.Step.{FailsForcing, Forces};
 ghost use Rattle.aries_core.specs.Step.{IsByDevice, Step, gather_answer, reply_of};
 ghost use Rattle.aries_core.specs.declared.event.Answer.TheVariants as answer;
 ghost use Rattle.aries_core.specs.declared.event.Event.TheVariants as event;
@@ -38,7 +39,7 @@ impl<S: PageStore, D: LogDevice> Engine<S, D> {
     /// into one record; where none is left, it goes on to the open transactions, each of which has
     /// a record of its own; where none is left of these either, it answers `Done`, then and ever
     /// after. Refusals in order: `NoCkpt`, `LogFull`, `OutOfMemory`. A step that appends nothing
-    /// answers neither of the last two.
+    /// takes no memory, and answers neither of the last two.
     pub fn ckpt_gather(&mut self) -> Result<Gathered, Refusal>
         ensures step { Step self.old.state event.CkptGather (reply_of gather_answer result)
             self.new.state }
@@ -75,6 +76,9 @@ impl<S: PageStore, D: LogDevice> Engine<S, D> {
         ensures store { self.new.store ≡ self.old.store }
         ensures refused { IfErr result (λ why. ¬ IsByDevice why
             → self.new.device ≡ self.old.device) }
+        ensures called { OnOk result (Forces D.called self.old self.new) }
+        ensures last_call { IfErr result (λ why. IsByDevice why
+            → FailsForcing D.called self.old self.new) }
         ensures no_failure { OnOk result
             (D.failures self.new.device ≡ D.failures self.old.device) }
         ensures cause { IfErr result (λ why. IsByDevice why

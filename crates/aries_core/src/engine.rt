@@ -14,7 +14,7 @@ ghost use Rattle.aries_core.specs.Refusal.{active_refusal, change_refusal, has_n
 ghost use Rattle.aries_core.specs.Refusal.{page_refusal};
 ghost use Rattle.aries_core.specs.Refusal.{refusal};
 ghost use Rattle.aries_core.specs.Step.{ForcedPart, IsByDevice, IsByStore, IsUnsure, LeavesDevice};
-ghost use Rattle.aries_core.specs.Step.{LeavesStore};
+ghost use Rattle.aries_core.specs.Step.{FailsForcing, Forces, LeavesStore};
 ghost use Rattle.aries_core.specs.Step.{Step, reply_of, undo_answer};
 ghost use Rattle.aries_core.specs.declared.event.Answer.TheVariants as answer;
 ghost use Rattle.aries_core.specs.declared.event.Event.TheVariants as event;
@@ -111,6 +111,9 @@ impl<S: PageStore, D: LogDevice> Engine<S, D> {
         ensures device { LeavesDevice event → self.new.device ≡ self.old.device }
         ensures refused { IfErr result (λ why. ¬ IsByDevice why
             → self.new.device ≡ self.old.device) }
+        ensures called { OnOk result (Forces D.called self.old self.new) }
+        ensures last_call { IfErr result (λ why. IsByDevice why
+            → FailsForcing D.called self.old self.new) }
         ensures no_failure { OnOk result
             (D.failures self.new.device ≡ D.failures self.old.device) }
         ensures cause { IfErr result (λ why. IsByDevice why
@@ -250,6 +253,9 @@ impl<S: PageStore, D: LogDevice> Engine<S, D> {
         ensures store { self.new.store ≡ self.old.store }
         ensures refused { IfErr result (λ why. ¬ IsUnsure why
             → self.new.device ≡ self.old.device) }
+        ensures called { OnOk result (Forces D.called self.old self.new) }
+        ensures last_call { IfErr result (λ why. IsUnsure why
+            → FailsForcing D.called self.old self.new) }
         ensures no_failure { OnOk result
             (D.failures self.new.device ≡ D.failures self.old.device) }
         ensures cause { IfErr result (λ why. IsUnsure why
@@ -317,6 +323,8 @@ impl<S: PageStore, D: LogDevice> Engine<S, D> {
         ensures step { Step self.old.state event.Force (reply_of answer.Forced result)
             self.new.state }
         ensures store { self.new.store ≡ self.old.store }
+        ensures called { OnOk result (Forces D.called self.old self.new) }
+        ensures last_call { OnErr result (FailsForcing D.called self.old self.new) }
         ensures no_failure { OnOk result
             (D.failures self.new.device ≡ D.failures self.old.device) }
         ensures cause { OnErr result (D.failures self.old.device < D.failures self.new.device) }
@@ -342,6 +350,8 @@ impl<S: PageStore, D: LogDevice> Engine<S, D> {
         ensures ok { OnOk result (self.new.state ≡ forced_to self.old.state (end self.old.state)) }
         ensures store { self.new.store ≡ self.old.store }
         ensures err { OnErr result (ForcedPart (end self.old.state) self.old.state self.new.state) }
+        ensures called { OnOk result (Forces D.called self.old self.new) }
+        ensures last_call { OnErr result (FailsForcing D.called self.old self.new) }
         ensures no_failure { OnOk result
             (D.failures self.new.device ≡ D.failures self.old.device) }
         ensures cause { OnErr result

@@ -77,6 +77,8 @@ impl OpenCkpt {
         ensures logged { OnOk result (log.new.log ≡ with_step log.old.log
             (gather_step log.old.log.records (written_of pool.now.states) (view_of self)).next) }
         ensures refused { IfErr result (λ c. view_of c ≡ view_of self) }
+        ensures appends { OnErr result (IsSome (gather_step log.old.log.records
+            (written_of pool.now.states) (view_of self)).next) }
         ensures same { OnErr result (log.new.log ≡ log.old.log) }
         ensures forced_end { log.new.forced_end ≡ log.old.forced_end }
         ensures device { log.new.device ≡ log.old.device }

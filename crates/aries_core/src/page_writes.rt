@@ -3,6 +3,7 @@
 ghost use Rattle.std.specs.Prelude.{◌≡◌, ◌<◌, ◌≤◌, Some, None, IfErr, OnOk};
 ghost use Rattle.aries_core.specs.EngineState.{end};
 ghost use Rattle.aries_core.specs.Refusal.{refusal};
+ghost use Rattle.aries_core.specs.Step.{FailsForcing, Forces};
 ghost use Rattle.aries_core.specs.Step.{IsByDevice, IsByStore, Step, reply_of};
 ghost use Rattle.aries_core.specs.declared.event.Answer.TheVariants as answer;
 ghost use Rattle.aries_core.specs.declared.event.Event.TheVariants as event;
@@ -26,6 +27,9 @@ impl<S: PageStore, D: LogDevice> Engine<S, D> {
         ensures store { self.new.store ≡ self.old.store }
         ensures refused { IfErr result (λ why. ¬ IsByDevice why
             → self.new.device ≡ self.old.device) }
+        ensures called { OnOk result (Forces D.called self.old self.new) }
+        ensures last_call { IfErr result (λ why. IsByDevice why
+            → FailsForcing D.called self.old self.new) }
         ensures no_failure { OnOk result
             (D.failures self.new.device ≡ D.failures self.old.device) }
         ensures cause { IfErr result (λ why. IsByDevice why

@@ -1,7 +1,7 @@
 -- The copies of a volume go on with its log, its stored pages and one another.
 use Rattle.std.proofs.Common.{◌≡◌, ℕ, zero, suc, ◌+◌, ◌-◌, ◌<◌, ◌≤◌, List, [], ◌∷◌, ◌++◌, length, get_or, set, refl}
 use Rattle.std.proofs.Common.{sym, ap}
-use Rattle.std.proofs.Common.{subst, ◌∙◌, arith, cond, inl, inr, replicate}
+use Rattle.std.proofs.Common.{subst, ◌∙◌, arith, cond, inl, inr, replicate, take}
 use Rattle.std.specs.Prelude.{Option, Some, None, IfSome, Bool, true, false, nat_lt}
 use Rattle.std.proofs.lemmas.Bool.{cases_eq}
 use Rattle.std.proofs.Math.ListN.{get_or-eq_default}
@@ -16,11 +16,16 @@ use Rattle.log_records.specs.Coverage.{Covers, IsPast, changes_on}
 use Rattle.log_records.specs.Log.{Log}
 use Rattle.log_records.specs.Record.{own_lsn}
 use Rattle.log_records.proofs.Coverage.{covers_later}
+use Rattle.log_records.proofs.Images.{number-image}
 use Rattle.copy_vault.specs.declared.copy_id.CopyKind.{CopyKind}
 use Rattle.copy_vault.specs.declared.copy_id.CopyKind.TheVariants.{Full, Inc}
 use Rattle.copy_vault.specs.declared.copy_id.TheConstants.{MAX_COPIES}
+use Rattle.copy_vault.specs.declared.copy_id.Decision.{Decision}
 use Rattle.copy_vault.specs.declared.copy_id.Decision.TheVariants.{Taken, Kept}
-use Rattle.copy_vault.specs.Copy.{CopyView, answer_of, decided_by, decision_at, new_copy, undecided, with_decision}
+use Rattle.copy_vault.specs.Copy.{AreDecidedBelow, AreInPlace, CopyView, KeepsOfParent, PageDecision, answer_of}
+use Rattle.copy_vault.specs.Copy.{decided_by, decision_at, kept, least_undecided, new_copy, taken, undecided}
+use Rattle.copy_vault.specs.Copy.{with_decision}
+use Rattle.copy_vault.proofs.Decisions.{all_decided, none_counted}
 use Rattle.copy_vault.specs.Vault.{CopyState, HasParent, complete, decided, decided_in, dropped, opened, reading}
 use Rattle.copy_vault.specs.Vault.{redo_of}
 use Rattle.copy_vault.specs.Vault.{sealed, sealed_in, since_of, state_of, with_state, without}
@@ -47,6 +52,7 @@ pub copied_later : (rs : List Record) (next : Record) (f : ℕ) (stored : List P
 copied_later rs next f stored copies high are = record {
   few = are.few;
   each = are.each;
+  decided = are.decided;
   read = λ id copy is p d lt.
       let early = (are.each id copy (ap copy_in is)).early in
       covers_later rs next p (get_or stored p d) copy.redo (omega arith) (are.read id copy is p d lt);
@@ -63,7 +69,16 @@ copied_forced rs f g stored copies le are = record {
   each = λ id copy is.
       let here = are.each id copy is in
       let early = here.early in
-      record { named = here.named; noted = here.noted; whole = here.whole; early = omega arith; parent = here.parent };
+      record {
+        named = here.named;
+        noted = here.noted;
+        whole = here.whole;
+        early = omega arith;
+        parent = here.parent;
+        in_place = here.in_place;
+        keeps = here.keeps;
+      };
+  decided = are.decided;
   read = are.read;
   covered = λ id copy older is on p.
       if_some (IsCovered rs f copy.redo p) (IsCovered rs g copy.redo p) (page_in (copy ∷ older) p)
@@ -89,6 +104,7 @@ copied_stored rs f stored copies n image are there past newer = record {
   each = λ id copy is.
       let here = are.each id copy is in
       subst (λ (n : ℕ). IsCopyOf n f copies id copy) (sym (length-set stored n image)) here;
+  decided = are.decided;
   read = λ id copy is p d lt.
       let below : p < length stored = omega (arith, length-set stored n image) in
       elim (cases_eq p n) [
@@ -115,6 +131,7 @@ pub record IsChanged (old new : List CopyState) (id : ℕ) (state : CopyState) :
 pub record MayStand (rs : List Record) (forced_end : ℕ) (stored : List Page) (copies : List CopyState) (id : ℕ)
     (state : CopyState) : Type 0 where
   pub each : (copy : CopyView) → copy_in state ≡ Some copy → IsCopyOf (length stored) forced_end copies id copy
+  pub decided : (copy : CopyView) → state ≡ complete copy → AreDecidedBelow (length copy.pages) copy.pages
   pub read : (copy : CopyView) → state ≡ reading copy → (p : ℕ) (d : Page) → p < length stored
       → Covers rs p (get_or stored p d) copy.redo
   pub covered : (copy : CopyView) (older : List CopyView) → copy_in state ≡ Some copy
@@ -164,6 +181,8 @@ copied_changed rs f stored old new id state changed few are stands = record {
           early = here.early;
           parent = subst (λ (k : ℕ). HasParent new k (length stored) copy.kind) (sym same)
               (parent_on old new id (length stored) copy.kind changed.on here.parent);
+          in_place = here.in_place;
+          keeps = here.keeps;
         }
     | inr other ↦
         let here = are.each j copy (ap copy_in (sym (changed.others j other)) ∙ is) in
@@ -174,7 +193,13 @@ copied_changed rs f stored old new id state changed few are stands = record {
           early = here.early;
           parent = parent_on old new j (length stored) copy.kind
               changed.on here.parent;
+          in_place = here.in_place;
+          keeps = here.keeps;
         }
+  ];
+  decided = λ j copy is. elim (cases_eq j id) [
+    | inl same ↦ stands.decided copy (sym changed.here ∙ ap (state_of new) (sym same) ∙ is)
+    | inr other ↦ are.decided j copy (sym (changed.others j other) ∙ is)
   ];
   read = λ j copy is p d lt. elim (cases_eq j id) [
     | inl same ↦ stands.read copy (sym changed.here ∙ ap (state_of new) (sym same) ∙ is) p d lt
@@ -222,6 +247,15 @@ opened_changes copies state = record {
       ]
     ]
 
+not_taken : (page : Page) → ¬ (undecided ≡ taken page)
+not_taken page e = cc
+
+not_kept : ¬ (undecided ≡ kept)
+not_kept e = cc
+
+reading_not_complete : (a b : CopyView) → ¬ (reading a ≡ complete b)
+reading_not_complete a b e = cc
+
 reading_same : (a b : CopyView) → reading a ≡ reading b → a ≡ b
 reading_same a b e = cc
 
@@ -243,7 +277,10 @@ copied_opened rs f stored copies kind begin redo are few noted parent early cove
         whole = length-replicate (length stored) undecided;
         early = early;
         parent = parent;
+        in_place = λ p page is. absurd (not_taken page (sym (none_decided (length stored) p) ∙ is));
+        keeps = λ full p is. absurd (not_kept (sym (none_decided (length stored) p) ∙ is));
       });
+      decided = λ copy is. absurd (reading_not_complete new copy is);
       read = λ copy is p d lt. subst (λ (c : CopyView). Covers rs p (get_or stored p d) c.redo)
           (reading_same new copy is)
           (covers p d lt);
@@ -316,6 +353,54 @@ kept_from rs f p stored copies redo page (Inc parent) (copy ∷ older) are cover
     (λ q. kept_covers rs f p copy.redo redo page q covers below)
     (are.covered parent copy older (ap copy_in on.0) on.1 p)
 
+-- each page that was taken still stands at its number
+placed_with : (pages : List PageDecision) (p : ℕ) (decision : PageDecision) → AreInPlace pages
+    → ((page : Page) → decision ≡ taken page → page.number ≡ p) → AreInPlace (set pages p decision)
+placed_with pages p decision placed here q page is = elim (cases_eq q p) [
+  | inl same ↦ elim (cases_lt p (length pages)) [
+    | inl lt ↦
+        here page (sym (get_or-set_same pages p decision undecided lt)
+        ∙ ap (decision_at (set pages p decision)) (sym same) ∙ is) ∙ sym same
+    | inr le ↦ absurd (not_taken page
+        (sym (get_or-eq_default (set pages p decision) undecided (omega (arith, length-set pages p decision))) ∙ is))
+  ]
+  | inr other ↦ placed q page (sym (get_or-set_other pages p q decision undecided other) ∙ is)
+]
+
+-- a full copy still keeps none
+kept_with : (kind : CopyKind) (pages : List PageDecision) (p : ℕ) (decision : PageDecision)
+    → KeepsOfParent kind pages → (kind ≡ Full → ¬ (decision ≡ kept)) → KeepsOfParent kind (set pages p decision)
+kept_with kind pages p decision keeps here full q is = elim (cases_eq q p) [
+  | inl same ↦ elim (cases_lt p (length pages)) [
+    | inl lt ↦
+        here full (sym (get_or-set_same pages p decision undecided lt)
+        ∙ ap (decision_at (set pages p decision)) (sym same) ∙ is)
+    | inr le ↦ absurd (not_kept
+        (sym (get_or-eq_default (set pages p decision) undecided (omega (arith, length-set pages p decision))) ∙ is))
+  ]
+  | inr other ↦ keeps full q (sym (get_or-set_other pages p q decision undecided other) ∙ is)
+]
+
+taken_same : (a b : Page) → taken a ≡ taken b → a ≡ b
+taken_same a b e = cc
+
+kept_not_taken : (page : Page) → ¬ (kept ≡ taken page)
+kept_not_taken page e = cc
+
+taken_not_kept : (page : Page) → ¬ (taken page ≡ kept)
+taken_not_kept page e = cc
+
+-- 0 stands for the redo point of a parent where there is none: each page is taken
+all_taken : (lsn : ℕ) → cond (nat_lt lsn 0) Kept Taken ≡ Taken
+all_taken lsn = by_test (nat_lt lsn 0) refl
+  where
+    by_test : (b : Bool) → nat_lt lsn 0 ≡ b → cond b Kept Taken ≡ Taken
+    by_test true e = absurd (let lt : lsn < 0 = ltb-true lsn 0 e in omega arith)
+    by_test false e = refl
+
+number_of_past : (rs : List Record) (p : ℕ) (page : Page) → IsPast rs p page → page.number ≡ p
+number_of_past rs p page past = ap (λ (q : Page). q.number) past.made ∙ number-image (take past.count rs) p
+
 few_still : (copies : List CopyState) (id : ℕ) (state : CopyState) → length copies ≤ MAX_COPIES
     → length (with_state copies id state) ≤ MAX_COPIES
 few_still copies id state few = omega (arith, length-set copies (id - 1) state)
@@ -343,7 +428,10 @@ copied_decided rs f stored copies id p copy page are is lt same stable =
             whole = length-set copy.pages p decision ∙ here.whole;
             early = here.early;
             parent = here.parent;
+            in_place = placed_with copy.pages p decision here.in_place (decided_at (answer_of since page));
+            keeps = kept_with copy.kind copy.pages p decision here.keeps (λ full. taken_in_full full);
           });
+      decided = λ c e. absurd (reading_not_complete next c e);
       read = λ c e q d below. subst (λ (c : CopyView). Covers rs q (get_or stored q d) c.redo) (reading_same next c e)
           (are.read id copy is q d below);
       covered = λ c older e. subst (λ (c : CopyView). StandsOn copies c.kind older
@@ -359,6 +447,19 @@ copied_decided rs f stored copies id p copy page are is lt same stable =
           ]);
     }))
   where
+    decided_at : (answer : Decision) (q : Page) → decided_by answer page ≡ taken q → q.number ≡ p
+    decided_at Taken q e =
+        let taken_is : page ≡ q = taken_same page q e in
+        ap (λ (x : Page). x.number) (sym taken_is) ∙ number_of_past rs p page (subst (IsPast rs p) (sym same)
+        (are.read id copy is p page lt).past)
+    decided_at Kept q e = absurd (kept_not_taken q e)
+
+    taken_in_full : copy.kind ≡ Full → ¬ (decided_by (answer_of (since_of copies copy.kind) page) page ≡ kept)
+    taken_in_full full e =
+        let at : answer_of (since_of copies copy.kind) page ≡ Taken =
+        ap (λ (kind : CopyKind). answer_of (since_of copies kind) page) full ∙ all_taken page.lsn in
+        taken_not_kept page (sym (ap (λ (a : Decision). decided_by a page) at) ∙ e)
+
     by_answer : (older : List CopyView) → Covers rs p page copy.redo → StandsOn copies copy.kind older
         → (b : Bool) → nat_lt page.lsn (since_of copies copy.kind) ≡ b
         → IfSome (decided_over (page_in older p) (decided_by (cond b Kept Taken) page)) (IsCovered rs f copy.redo p)
@@ -370,20 +471,25 @@ complete_not_reading a b e = cc
 
 pub copied_sealed : (rs : List Record) (f : ℕ) (stored : List Page) (copies : List CopyState) (id : ℕ)
     (copy : CopyView) → AreCopied rs f stored copies → state_of copies id ≡ reading copy
-    → AreCopied rs f stored (sealed copies id)
-copied_sealed rs f stored copies id copy are is =
+    → least_undecided copy.pages ≡ None → AreCopied rs f stored (sealed copies id)
+copied_sealed rs f stored copies id copy are is all =
     let made : sealed copies id ≡ with_state copies id (complete copy) =
     ap (λ (s : CopyState). with_state copies id (sealed_in s)) is in
     subst (AreCopied rs f stored) (sym made)
     (copied_changed rs f stored copies (with_state copies id (complete copy)) id (complete copy)
     (set_changes copies id copy (complete copy) is) (few_still copies id (complete copy) are.few) are (record {
       each = λ c e. are.each id c (ap copy_in is ∙ e);
+      decided = λ c e. subst (λ (c : CopyView). AreDecidedBelow (length c.pages) c.pages) (complete_same copy c e)
+          (all_decided copy.pages (none_counted copy.pages all));
       read = λ c e p d lt. absurd (complete_not_reading copy c e);
       covered = λ c older e on p. are.covered id c older (ap copy_in is ∙ e) on p;
     }))
 
 none_some : (copy : CopyView) → ¬ (None ≡ Some copy)
 none_some copy e = cc
+
+dropped_not_complete : (copy : CopyView) → ¬ (dropped ≡ complete copy)
+dropped_not_complete copy e = cc
 
 dropped_not_reading : (copy : CopyView) → ¬ (dropped ≡ reading copy)
 dropped_not_reading copy e = cc
@@ -395,6 +501,7 @@ copied_dropped rs f stored copies id copy are is =
     copied_changed rs f stored copies (without copies id) id dropped
     (set_changes copies id copy dropped is) (few_still copies id dropped are.few) are (record {
       each = λ c e. absurd (none_some c e);
+      decided = λ c e. absurd (dropped_not_complete c e);
       read = λ c e p d lt. absurd (dropped_not_reading c e);
       covered = λ c older e on p. absurd (none_some c e);
     })
@@ -406,5 +513,6 @@ pub restorable : (log : Log) (f : ℕ) (stored : List Page) (copies : List CopyS
 restorable log f stored copies count are = record {
   few = are.few;
   each = λ id copy is. subst (λ (n : ℕ). IsCopyOf n f copies id copy) count (are.each id copy (ap copy_in is));
+  decided = are.decided;
   covered = λ id copy older is on p. are.covered id copy older (ap copy_in is) on p;
 }

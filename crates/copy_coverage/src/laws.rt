@@ -1,6 +1,6 @@
 //! Laws of copies, for those who read the contracts.
 
-ghost use Rattle.std.specs.Prelude.{ℕ, ◌≡◌, ◌+◌, ◌≤◌, ◌<◌, ◌++◌, ◌∷◌, [], List, length, slice_set};
+ghost use Rattle.std.specs.Prelude.{ℕ, ◌≡◌, ◌+◌, ◌≤◌, ◌<◌, ◌++◌, ◌∷◌, [], List, length, slice_set, None};
 ghost use Rattle.std.specs.Prelude.{slice_index_or};
 ghost use Rattle.page_core.specs.declared.page.Page.{Page};
 ghost use Rattle.log_records.specs.declared.record.Record.{Record};
@@ -8,14 +8,14 @@ ghost use Rattle.log_records.specs.Coverage.{Covers, IsPast};
 ghost use Rattle.log_records.specs.Record.{own_lsn};
 ghost use Rattle.copy_vault.specs.declared.copy_id.CopyKind.{CopyKind};
 ghost use Rattle.copy_vault.specs.declared.copy_id.TheConstants.{MAX_COPIES};
-ghost use Rattle.copy_vault.specs.Copy.{CopyView};
-ghost use Rattle.copy_vault.specs.Vault.{CopyState, HasParent, decided, opened, reading, sealed};
-ghost use Rattle.copy_vault.specs.Vault.{state_of, without};
+ghost use Rattle.copy_vault.specs.Copy.{CopyView, IsComplete, least_undecided};
+ghost use Rattle.copy_vault.specs.Vault.{CopyState, HasParent, complete, decided, opened, reading};
+ghost use Rattle.copy_vault.specs.Vault.{sealed, state_of, without};
 ghost use Rattle.log_records.specs.Coverage.{resume};
 ghost use Rattle.log_records.specs.Image.{image};
 ghost use Rattle.log_records.specs.Log.{IsLog, Log};
 ghost use Rattle.copy_vault.specs.Chain.{IsChain, IsChainOf, content, last_redo};
-ghost use Rattle.copy_coverage.specs.Copied.{AreCopied, AreRestorable, IsPoint};
+ghost use Rattle.copy_coverage.specs.Copied.{AreCopied, AreRestorable, IsPoint, Restores};
 ghost use Rattle.copy_coverage.specs.Kept.{IsKeptOf};
 
 /// Copies lack nothing below their redo points while the log grows, and more of it is forced.
@@ -59,11 +59,13 @@ pub fn a_copy_decides()
         → AreCopied rs forced_end stored (decided copies id p page) }
 {}
 
-/// A copy that is sealed or dropped leaves each other one as it is.
+/// A copy may be sealed once it has decided of each page, and dropped while it is read. Each other
+/// one stays as it is.
 pub fn a_copy_ends()
     ensures sealed { (rs : List Record) (forced_end : ℕ) (stored : List Page)
         (copies : List CopyState) (id : ℕ) (copy : CopyView)
         → AreCopied rs forced_end stored copies → state_of copies id ≡ reading copy
+        → least_undecided copy.pages ≡ None
         → AreCopied rs forced_end stored (sealed copies id) }
     ensures dropped { (rs : List Record) (forced_end : ℕ) (stored : List Page)
         (copies : List CopyState) (id : ℕ) (copy : CopyView)
@@ -86,4 +88,17 @@ pub fn a_chain_restores()
         → IsKeptOf log forced_end kept → IsChain members → IsChainOf copies id members
         → p < log.pages
         → resume (content members p) kept.records (last_redo members) ≡ image kept.records p }
+{}
+
+/// What holds of copies is enough to restore each complete one: every page of it is decided, those
+/// that it stands on are there, and redo of any log that a crash may leave, from its redo point on,
+/// makes each page what redo of that whole log makes of it.
+pub fn a_complete_copy_restores()
+    ensures complete { (log : Log) (forced_end : ℕ) (copies : List CopyState) (id : ℕ)
+        (copy : CopyView) → AreRestorable log forced_end copies
+        → state_of copies id ≡ complete copy → IsComplete copy.kind copy.pages }
+    ensures restores { (log kept : Log) (forced_end : ℕ) (copies : List CopyState) (id : ℕ)
+        (copy : CopyView) → IsLog log → AreRestorable log forced_end copies
+        → IsKeptOf log forced_end kept → state_of copies id ≡ complete copy
+        → Restores copies log.pages copy kept.records }
 {}

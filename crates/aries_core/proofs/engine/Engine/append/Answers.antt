@@ -2,9 +2,11 @@ use Rattle.std.proofs.Common.{◌≡◌, length, sym, ap, subst, ◌∙◌, arit
 use Rattle.std.specs.Prelude.{Result, Ok, Err, OnOk, is_err, false}
 use Rattle.log_records.specs.Log.{Log, StandsAt, lsn_of}
 use Rattle.aries_core.specs.Call.{Calls}
-use Rattle.aries_core.specs.EngineState.{EngineState, EngineView, IsKept, engine_view, log_of}
+use Rattle.aries_core.specs.EngineState.{EngineState, EngineView, IsKept, appended, engine_view, log_of}
 use Rattle.aries_core.specs.OpenCkpt.{media_view}
 use Rattle.aries_core.proofs.Appends.{appended_is, comes, kept_next}
+use Rattle.aries_core.proofs.Residents.{changed_are}
+use Rattle.aries_core.proofs.engine.Engine.append.Given as given
 use Rattle.aries_core.proofs.engine.Engine.append.Goals as goal
 
 -- what an answer that is no `Err` says
@@ -62,24 +64,46 @@ change-requires g c =
       ),
     )
 
+state_after : (g : given.Over) (c : goal.After-change g)
+    → (engine_view g.S.PageStore.stored c.append.new.self c.change.new.self
+    (media_view c.self.inside.master c.self.inside.session c.self.inside.vault.copies)).state
+    ≡ appended (engine_view g.S.PageStore.stored c.self.inside.log c.self.inside.pool
+    (media_view c.self.inside.master c.self.inside.session c.self.inside.vault.copies)).state c.args.next
+state_after g c =
+    let it = c.self.inside in
+    let r = c.args.next in
+    let stored = g.S.PageStore.stored in
+    let media = media_view it.master it.session it.vault.copies in
+    let s = (engine_view stored it.log it.pool media).state in
+    let calls : Calls s r =
+    subst (λ (v : EngineView g.row.S.Denot g.row.D.Denot). Calls v.state r) (sym c.self.view_is) c.requires in
+    let come = comes stored s it.txns it.pool media r c.self.invariant calls in
+    let changed = c.change.ensures.kept (log_of s) c.self.invariant.pool_of_log come.valid in
+    appended_is stored it.log c.make_room.new.self c.append.new.self it.pool c.change.new.self media r
+    c.make_room.ensures.same c.make_room.ensures.forced_end c.append.ensures.next c.append.ensures.forced_end
+    c.change.ensures.store
+    (changed_are s.log r it.pool.resident c.change.new.self.resident c.self.invariant.pool_of_log.resident
+    changed.resident c.change.ensures.numbers) c.change.ensures.written c.change.ensures.writing
+
 pub invariant_of-self-2 : goal.invariant_of-self-2
 invariant_of-self-2 g c =
     let it = c.self.inside in
     let r = c.args.next in
     let stored = g.S.PageStore.stored in
-    let s = (engine_view stored it.log it.pool (media_view it.master it.session it.vault.copies)).state in
+    let media = media_view it.master it.session it.vault.copies in
+    let s = (engine_view stored it.log it.pool media).state in
     let calls : Calls s r =
     subst (λ (v : EngineView g.row.S.Denot g.row.D.Denot). Calls v.state r) (sym c.self.view_is) c.requires in
-    let come = comes stored s it.txns it.pool (media_view it.master it.session it.vault.copies) r
-    c.self.invariant calls in
-    let state = appended_is stored it.log c.make_room.new.self c.append.new.self it.pool c.change.new.self
-    (media_view it.master it.session it.vault.copies) r
-    c.make_room.ensures.same c.make_room.ensures.forced_end c.append.ensures.next c.append.ensures.forced_end
-    c.change.ensures.store c.change.ensures.written c.change.ensures.writing in
+    let come = comes stored s it.txns it.pool media r c.self.invariant calls in
     let noted = said c.note.result _ (sym c.is_err-else-is_err.ensures.value ∙ c.if-is_err-2.false) c.note.ensures.ok
     s.log c.self.invariant.table_of_log come.may_follow in
     let changed = c.change.ensures.kept (log_of s) c.self.invariant.pool_of_log come.valid in
-    subst (λ (t : EngineState). IsKept stored t c.note.new.self c.change.new.self
-    (media_view it.master it.session it.vault.copies)) (sym state)
-    (kept_next stored s it.txns c.note.new.self it.pool c.change.new.self
-    (media_view it.master it.session it.vault.copies) r c.self.invariant calls noted changed)
+    subst (λ (t : EngineState). IsKept stored t c.note.new.self c.change.new.self media) (sym (state_after g c))
+    (kept_next stored s it.txns c.note.new.self it.pool c.change.new.self media r c.self.invariant calls noted changed)
+
+pub returns-clause-ok : goal.returns-clause-ok
+returns-clause-ok g c =
+    subst (λ (v : EngineView g.row.S.Denot g.row.D.Denot).
+    (engine_view g.S.PageStore.stored c.append.new.self c.change.new.self
+    (media_view c.self.inside.master c.self.inside.session c.self.inside.vault.copies)).state
+    ≡ appended v.state c.args.next) c.self.view_is (state_after g c)

@@ -1,12 +1,15 @@
 use Rattle.std.proofs.Common.{◌≡◌, sym, ap, subst, ◌∙◌}
-use Rattle.std.specs.Prelude.{None, Some}
+use Rattle.std.specs.Prelude.{Err, None, Ok, Some}
 use Rattle.std.specs.Option.{option_map}
-use Rattle.fuzzy_ckpt.specs.Answers.{FailsAs}
+use Rattle.fuzzy_ckpt.specs.Answers.{FailsAs, IsLogFault}
 use Rattle.fuzzy_ckpt.specs.Ckpt.{gathered_ckpt}
+use Rattle.aries_core.specs.declared.event.Answer.TheVariants as answer
 use Rattle.aries_core.specs.declared.event.Event.TheVariants as event
+use Rattle.aries_core.specs.declared.refusal.Refusal.TheVariants.{LogFault}
 use Rattle.aries_core.specs.EngineState.{EngineView, engine_view}
 use Rattle.aries_core.specs.OpenCkpt.{media_view, view_of}
 use Rattle.aries_core.specs.Refusal.{refusal}
+use Rattle.aries_core.specs.Step.{Step}
 use Rattle.aries_core.proofs.CkptCalls.{ckpt_ended, ckpt_unforced}
 use Rattle.aries_core.proofs.engine.Engine.ckpt_end.Goals as goal
 
@@ -40,3 +43,53 @@ invariant_of-self-2 g c =
     c.in-Ok.ensures.logged c.in-Ok.ensures.forced
     (ap (λ o. media_view (Some c.in-Ok.point) o it.vault.copies) c.take.ensures.after)
     c.in-Ok.ensures.point).kept
+
+pub returns-in-Err-LogFault-clause-step : goal.returns-in-Err-LogFault-clause-step
+returns-in-Err-LogFault-clause-step g c =
+    let it = c.self.inside in
+    let stored = g.S.PageStore.stored in
+    let ckpts = media_view it.master it.session it.vault.copies in
+    let after = media_view it.master c.take.new.self it.vault.copies in
+    let none : refusal (engine_view stored it.log it.pool ckpts).state event.CkptEnd ≡ None =
+    subst (λ (v : EngineView g.row.S.Denot g.row.D.Denot). refusal v.state event.CkptEnd ≡ None)
+    (sym c.self.view_is) c.in_ok-find_gathered.ensures.gathered in
+    subst (λ (v : EngineView g.row.S.Denot g.row.D.Denot). Step v.state event.CkptEnd (Err LogFault)
+    (engine_view stored c.finish.new.log it.pool after).state) c.self.view_is
+    (ckpt_unforced stored it.log c.finish.new.log it.txns it.pool ckpts after
+    (gathered_ckpt c.in-Some-into_gathered.ckpt) c.self.invariant none
+    (ap (option_map view_of) (sym c.take.ensures.value ∙ c.in-Some.is) ∙ ap Some (sym c.in-Some-into_gathered.ensures))
+    (subst (FailsAs it.log c.finish.new.log c.in-Some-into_gathered.ckpt) c.in-Err-LogFault.field-0-is
+    c.in-Err-LogFault.ensures.failed) (ap (λ o. media_view it.master o it.vault.copies) c.take.ensures.after)).step
+
+pub returns-clause-step : goal.returns-clause-step
+returns-clause-step g c =
+    let it = c.self.inside in
+    let stored = g.S.PageStore.stored in
+    let ckpts = media_view it.master it.session it.vault.copies in
+    let point = c.in-Ok.point in
+    let after = media_view (Some point) c.take.new.self it.vault.copies in
+    let none : refusal (engine_view stored it.log it.pool ckpts).state event.CkptEnd ≡ None =
+    subst (λ (v : EngineView g.row.S.Denot g.row.D.Denot). refusal v.state event.CkptEnd ≡ None)
+    (sym c.self.view_is) c.in_ok-find_gathered.ensures.gathered in
+    subst (λ (v : EngineView g.row.S.Denot g.row.D.Denot). Step v.state event.CkptEnd
+    (Ok (answer.Point point.begin point.end point.redo)) (engine_view stored c.finish.new.log it.pool after).state)
+    c.self.view_is
+    (ckpt_ended stored it.log c.finish.new.log it.txns it.pool ckpts after
+    (gathered_ckpt c.in-Some-into_gathered.ckpt) point c.self.invariant none
+    (ap (option_map view_of) (sym c.take.ensures.value ∙ c.in-Some.is) ∙ ap Some (sym c.in-Some-into_gathered.ensures))
+    c.in-Ok.ensures.logged c.in-Ok.ensures.forced
+    (ap (λ o. media_view (Some point) o it.vault.copies) c.take.ensures.after) c.in-Ok.ensures.point).step
+
+pub returns-in-Err-LogFault-clause-last_call : goal.returns-in-Err-LogFault-clause-last_call
+returns-in-Err-LogFault-clause-last_call g c =
+    let by_device : IsLogFault c.in-Err-LogFault.field-0 =
+    subst IsLogFault (sym c.in-Err-LogFault.field-0-is) tt in
+    let f = c.in-Err-LogFault.ensures.last_call by_device in
+    rw (← c.self.view_is) (λ (u : Unit {0}). record {
+      before_fault = f.before_fault;
+      stored = f.stored;
+      next = f.next;
+      there = f.there;
+      why = f.why;
+      failed = f.failed;
+    })
