@@ -1,5 +1,6 @@
 # make imgcopy    proves and builds the program, and leaves it at build/imgcopy
-# make demo       plays a day of a small database with image copies, loses its volume and restores it, and shows its pages
+# make demo       plays a day of a small database with image copies, loses its volume and restores it, and shows its
+#                 pages; where the program is not built, rt runs the sources unproved
 # make test       all tests: the gate, which proves every crate and tries its tests, its programs and its must-fail
 #                 edits, and then what make check does, on the program that the gate has built
 # make check      compares the program's answers to the examples and to spoiled logs with the expected ones, and those
@@ -9,7 +10,7 @@
 # make bench      measures the program beside a plain Rust program, prints a table, and draws bench/times.svg
 # make examples   makes the example logs and their expected answers anew
 # make contracts  makes docs/CONTRACTS.md anew, from the sources
-# make install    puts the program and its manual page below PREFIX, by default /usr/local
+# make install    puts the program, its manual page and the guide below PREFIX, by default /usr/local
 # make clean      removes build/, and keeps the proofs that rt keeps for itself
 #
 # IMGCOPY=PROGRAM has demo, check, bench and install take that program, and builds none.
@@ -38,8 +39,8 @@ need = @command -v "$(1)" > /dev/null || { echo "make: the program '$(1)' is mis
 imgcopy: need-rt
 	@tools/build.sh
 
-demo: need-python3 $(PROGRAM)
-	@examples/day.sh "$(IMGCOPY)" build/day
+demo: need-python3
+	@tools/demo.sh "$(IMGCOPY)" build/day
 
 # The last line must be that of the script, so nothing follows it.
 test:
@@ -63,9 +64,11 @@ bench-programs: need-cargo need-rustc
 	@cargo build --quiet --release --offline --locked --manifest-path bench/Cargo.toml --target-dir build/bench
 
 install: $(PROGRAM)
-	@install -d "$(DESTDIR)$(PREFIX)/bin" "$(DESTDIR)$(PREFIX)/share/man/man1"
+	@install -d "$(DESTDIR)$(PREFIX)/bin" "$(DESTDIR)$(PREFIX)/share/man/man1" \
+		"$(DESTDIR)$(PREFIX)/share/doc/imgcopy"
 	@install -m 755 "$(IMGCOPY)" "$(DESTDIR)$(PREFIX)/bin/imgcopy"
 	@install -m 644 docs/imgcopy.1 "$(DESTDIR)$(PREFIX)/share/man/man1/imgcopy.1"
+	@install -m 644 docs/GUIDE.md "$(DESTDIR)$(PREFIX)/share/doc/imgcopy/GUIDE.md"
 
 clean:
 	@rm -rf build

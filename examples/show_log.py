@@ -7,6 +7,7 @@ A line begins with the offset, which is the LSN of a record. The amount of an Ad
 Ends with status 1 if the log has a fault.
 """
 
+import os
 import signal
 import sys
 
@@ -88,10 +89,21 @@ def main(arguments):
     except OSError as error:
         sys.exit(f"show_log.py: {arguments[0]} cannot be read: {error}")
     try:
+        print_log(log)
+    except OSError as error:
+        # Python would try again to write what is left when it ends.
+        os.dup2(os.open(os.devnull, os.O_WRONLY), sys.stdout.fileno())
+        sys.exit(f"show_log.py: the output cannot be written: {error.strerror}")
+
+
+def print_log(log):
+    """Shows the log, and ends with status 1 at its first fault."""
+    try:
         show(log)
     except Fault as fault:
-        print(fault)
+        print(fault, flush=True)
         sys.exit(1)
+    sys.stdout.flush()
 
 
 if __name__ == "__main__":

@@ -9,10 +9,16 @@ import sys
 from log_format import PAGE_SIZE, decode_page
 
 
+MAGICS = {b"AIMGLOG1": "a log", b"AIMGMST1": "a master record", b"AIMGARC1": "an archive of an image copy"}
+
+
 def read_page(path, wanted):
     with open(path, "rb") as volume:
+        kind = MAGICS.get(volume.read(8))
         volume.seek(PAGE_SIZE * wanted)
         page = volume.read(PAGE_SIZE)
+    if kind:
+        sys.exit(f"show_page.py: {path} is {kind} and no volume")
     if len(page) < PAGE_SIZE:
         sys.exit(f"show_page.py: {path} has no page {wanted}")
     return decode_page(page)

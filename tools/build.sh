@@ -1,11 +1,12 @@
 #!/usr/bin/env bash
 # usage: build.sh [PROGRAM..]
-# Proves each program, imgcopy if none is named, and the crates that it stands on, the lowest first, and puts it into
-# build/. What rt says goes to build/prove.log, whose end is shown where rt fails.
+# Proves all crates, those that do not stand on one another side by side, and puts each program, imgcopy if none is
+# named, into build/. What rt says goes to build/prove.log, whose end is shown where rt fails. A crate that was proved
+# before, and has not changed since, takes a moment.
 set -u
 cd "$(dirname "$0")/.." || exit 1
+. tools/lanes.sh
 log=build/prove.log
-proved=
 
 fail() {
     echo "$1. The end of $log:" >&2
@@ -14,28 +15,21 @@ fail() {
     exit 1
 }
 
-libraries_of() {
-    sed -nE "s/^$1( [^:]*)?://p" crates.txt
-}
-
-# Proves a crate once, after those that it uses. What is no folder here is a library of rt's own.
-prove() {
-    local library
-    [ -d "crates/$1" ] && [[ " $proved " != *" $1 "* ]] || return 0
-    for library in $(libraries_of "$1"); do
-        prove "$library"
+# rt takes the lowest crates first, as many at once as it is told, and says "== NAME" once a crate is done.
+prove_all() {
+    local count left
+    count=$(grep -c '^[a-z]' crates.txt)
+    left=$count
+    PYTHONUNBUFFERED=1 rt all check --jobs "$(lanes)" 2>&1 | tee -a "$log" | while read -r mark crate rest; do
+        if [ "$mark" = == ] && [ "$crate" != summary ] && [ -z "$rest" ]; then
+            left=$((left - 1))
+            echo "done: $crate ($((count - left)) of $count crates, $left left)"
+        fi
     done
-    echo "== $1" >> "$log"
-    if [ -e "crates/$1/src/main.rt" ]; then
-        build_program "$1" || fail "$1 is not proved, or does not run"
-    else
-        (cd "crates/$1" && rt lib) >> "$log" 2>&1 || fail "$1 is not proved"
-    fi
-    proved+=" $1"
-    echo "proved $1"
+    return "${PIPESTATUS[0]}"
 }
 
-# rt proves a program before it runs it, and leaves it in out/. It is run as the gate runs it.
+# rt links a program that is proved, and leaves it in out/. It is run as the gate runs it.
 build_program() {
     local input=$PWD/crates/$1/stdin words=()
     [ -e "$input" ] || input=/dev/null
@@ -45,9 +39,10 @@ build_program() {
 
 mkdir -p build
 : > "$log"
+prove_all || fail "not every crate is proved"
 [ $# -gt 0 ] || set -- imgcopy
 for program in "$@"; do
-    prove "$program"
+    build_program "$program" || fail "$program does not run"
     cp -f "crates/$program/out/$program" "build/$program" || exit 1
     echo "built build/$program"
 done

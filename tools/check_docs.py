@@ -74,6 +74,7 @@ def code_of(path):
 
 def documents():
     yield ROOT / "README.md"
+    yield ROOT / "CHANGELOG.md"
     for pattern in ("docs/*.md", "bench/*.md", "crates/*/*.md"):
         yield from sorted(ROOT.glob(pattern))
 
@@ -113,8 +114,18 @@ def fault_of_path(span, folder, sources):
     return None if is_there or fnmatch.filter(sources.names, pattern) else "there is no such file"
 
 
+def fault_of_version():
+    """What is wrong with the version that the manual page tells, or None."""
+    latest = re.search(r"^## (\S+),", (ROOT / "CHANGELOG.md").read_text(encoding="utf-8"), re.MULTILINE)[1]
+    told = re.search(r'^\.TH .*"imgcopy (\S+)"', (ROOT / "docs" / "imgcopy.1").read_text(encoding="utf-8"))
+    if not told or told[1] != latest:
+        return f"docs/imgcopy.1: its first line does not tell version {latest} of CHANGELOG.md"
+    return None
+
+
 def main():
-    sources, count, faults = Sources(), 0, []
+    sources, count = Sources(), 0
+    faults = [fault for fault in [fault_of_version()] if fault]
     for document in documents():
         for line, span in spans(document.read_text(encoding="utf-8")):
             fault = fault_of(span, document.parent, sources)

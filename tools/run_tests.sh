@@ -6,28 +6,16 @@
 # status 0 and its last line begins with 'ok' and its name. The status is 0 if nothing failed.
 set -u
 cd "$(dirname "$0")/.." || exit 1
+. tools/lanes.sh
 passed=0 failed=0 skipped=0
 
-# How many checks the gate makes side by side: one a processor, as far as each has 5 GiB of memory. Told so, rt gives
-# each check one processor; what it does with more costs a third more of their time.
-lanes() {
-    local processors memory limit fit
-    processors=$(nproc)
-    memory=$(awk '/^MemAvailable:/ { print $2 }' /proc/meminfo)
-    limit=$(cat /sys/fs/cgroup/memory.max 2> /dev/null)
-    if [[ $limit =~ ^[0-9]+$ ]] && [ $((limit / 1024)) -lt "$memory" ]; then
-        memory=$((limit / 1024))
-    fi
-    fit=$((memory / 5242880))
-    echo $((fit < 1 ? 1 : fit < processors ? fit : processors))
-}
-
-# The gate leaves each program in out/. An older one is removed first, so that none but the gate's own is checked.
+# The gate leaves each program in out/. An older one is removed first, so that none but the gate's own is checked. Told
+# how many checks to make, rt gives each one processor; what it does with more costs a third more of their time.
 run_gate() {
     program=crates/imgcopy/out/imgcopy
     library_player=crates/library_player/out/library_player
     rm -f "$program" "$library_player"
-    RT_JOBS=${RT_JOBS:-$(lanes)} PYTHONUNBUFFERED=1 rt ci 2>&1 | tee build/gate.log
+    RT_JOBS=$(lanes) PYTHONUNBUFFERED=1 rt ci 2>&1 | tee build/gate.log
     local status=${PIPESTATUS[0]} counts='^([0-9]+) passed, ([0-9]+) failed$'
     if [[ $(tail -n 1 build/gate.log) =~ $counts ]]; then
         passed=${BASH_REMATCH[1]} failed=${BASH_REMATCH[2]}
