@@ -146,6 +146,20 @@ for word in help --help -h; do
     check_refused "Usage: " restore "$call" "$word"
 done
 check_refused "error: unrecognized" "'audit'" "$call" audit
+! grep -q "a similar command" "$work/err" || fail "the words 'audit': a similar command is named"
+for pair in ru/run rerun/run resotre/restore reed/redo hlep/help; do
+    check_refused "error: unrecognized" "'${pair%/*}'" "a similar command exists: '${pair#*/}'" "${pair%/*}"
+    check_refused "error: unrecognized" "'${pair%/*}'" "a similar command exists: '${pair#*/}'" help "${pair%/*}"
+done
+for command in redo run restore; do
+    check_words "$command" --help
+    cp "$work/err" "$work/wanted.err"
+    for rest in "" extra; do
+        check_words help "$command" $rest
+        cmp -s "$work/err" "$work/wanted.err" || fail "help $command $rest: not the text of $command --help"
+    done
+done
+check_refused "Usage: " restore "$call" help help
 redo='Usage: imgcopy redo'
 check_refused "error: " "'extra'" "$redo" redo extra
 check_refused "error: " "'--pages'" "$redo" redo --pages
@@ -162,8 +176,10 @@ restore='Usage: imgcopy restore'
 check_refused "error: " "<MASTER>" "$restore" restore log
 check_refused Write ARCHIVE "$restore" restore -h
 check_commands
-# A word that is no UTF-8.
+# Words that are not UTF-8: the first of them is shown as far as it can be.
 check_words $'redo\xff'
-check_told "error: the words of the command line cannot be read"
+check_told "error: argument 1 is not UTF-8: 'redo�'"
+check_words restore log $'ma\xffster' $'\xfe'
+check_told "error: argument 3 is not UTF-8: 'ma�ster'"
 check_devices
 echo "ok examples: $count examples, the wrong words and the broken devices are as expected"

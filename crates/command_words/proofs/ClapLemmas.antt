@@ -1,5 +1,6 @@
 -- What an error of `clap` explains.
-use Rattle.std.proofs.Common.{◌≡◌, ◌≢◌, ◌⊎◌, ◌<◌, ℕ, true, List, length, slice_index_or, inl, inr, ap, subst, sym, ◌∙◌}
+use Rattle.std.proofs.Common.{◌≡◌, ◌≢◌, ◌⊎◌, ◌<◌, ℕ, true, List, ◌∷◌, codes, length, refl, slice_index_or, inl, inr, ap}
+use Rattle.std.proofs.Common.{subst, sym, ◌∙◌}
 use Rattle.std.specs.Prelude.{Result, Ok, Err, IfErr, IsErrAnd, [], Option, Some, None}
 use Rattle.std.specs.Str.Parse.{ParsesUnsigned}
 use Rattle.std.proofs.lemmas.Option.{none-some, same_Some}
@@ -8,7 +9,8 @@ use Rattle.clap.specs.Words.{is_simple_and_free, kind_of, matches_of, rows_of}
 use Rattle.clap.specs.declared.parser.matches.ArgMatches.{ArgMatches}
 use Rattle.clap.specs.declared.error.Error.{Error}
 use Rattle.clap.specs.declared.error.kind.ErrorKind.TheVariants as kind
-use Rattle.command_words.specs.Command.{Explains, IsRead, Names, apps}
+use Rattle.clap.proofs.OnLiterals.{clap_on_literals}
+use Rattle.command_words.specs.Command.{ExplainsRead, IsRead, Names, apps, redo_app, restore_app, run_app}
 use Rattle.command_words.specs.declared.command.UsageFault.{UsageFault}
 use Rattle.command_words.specs.declared.command.UsageFault.TheVariants.{BadArguments, OutOfMemory}
 
@@ -21,18 +23,18 @@ Becomes error fault = ((kind_of error ≡ kind.OutOfMemory) × (fault ≡ OutOfM
 -- command among `apps`
 explained : (k : ℕ) (words : List Text) (app : App) (error : Error) (fault : UsageFault)
     → k < length apps → slice_index_or apps k app ≡ app
-    → Names words app → HasKind (fault_of app words) error → Becomes error fault → Explains words fault
-explained k words app error fault lt at named has (inl memory) = subst (Explains words) (sym memory.1) tt
+    → Names words app → HasKind (fault_of app words) error → Becomes error fault → ExplainsRead words fault
+explained k words app error fault lt at named has (inl memory) = subst (ExplainsRead words) (sym memory.1) tt
 explained k words app error fault lt at named (inl is) (inr other) = absurd (other.0 is)
 explained k words app error fault lt at named (inr among) (inr other) =
-    subst (Explains words) (sym other.1) (k, app, lt, at, (named, among))
+    subst (ExplainsRead words) (sym other.1) (k, app, lt, at, (named, among))
 
 -- the same of a result that passes the error up, by the clause `kinds` of the parse; `given` is the
 -- command that clap was given
 pub passed_up : {T : Type 0} (k : ℕ) (words : List Text) (given app : App) (error : Error) (r : Result T UsageFault)
     → k < length apps → slice_index_or apps k app ≡ app → given ≡ app → is_simple_and_free app ≡ true
     → Names words app → (is_simple_and_free given ≡ true → HasKind (fault_of given words) error)
-    → IsErrAnd r (Becomes error) → IfErr r (Explains words)
+    → IsErrAnd r (Becomes error) → IfErr r (ExplainsRead words)
 passed_up k words given app error (Ok command) lt at same simple named kinds becomes = tt
 passed_up k words given app error (Err fault) lt at same simple named kinds becomes =
     explained k words app error fault lt at named
@@ -79,3 +81,17 @@ pub is_read : (E : Type 0) (G : Text → Result ℕ E → Type 0) (text : Text) 
 is_read E G text found None number is read parses same = absurd (none-some _ same)
 is_read E G text found (Some value) number is read parses same =
     subst (λ o. IsRead o number) (sym is) (sym (parses text (Ok value) read).1 ∙ same_Some value number same)
+
+-- ---- `NAME --help`
+
+pub help_of_redo : fault_of redo_app (codes "redo" ∷ codes "--help" ∷ []) ≡ kind.DisplayHelp ∷ []
+unfolding clap_on_literals
+help_of_redo = refl
+
+pub help_of_run : fault_of run_app (codes "run" ∷ codes "--help" ∷ []) ≡ kind.DisplayHelp ∷ []
+unfolding clap_on_literals
+help_of_run = refl
+
+pub help_of_restore : fault_of restore_app (codes "restore" ∷ codes "--help" ∷ []) ≡ kind.DisplayHelp ∷ []
+unfolding clap_on_literals
+help_of_restore = refl

@@ -1,4 +1,5 @@
 mod ClapLemmas
 mod NameLemmas
+mod NearestLemmas
 mod RedoLemmas
 mod RequiredLemmas

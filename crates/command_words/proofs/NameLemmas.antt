@@ -1,14 +1,21 @@
 -- What follows from the first word, which names a command or none.
-use Rattle.std.proofs.Common.{◌≡◌, ◌⊎◌, ◌<◌, ◌∙◌, ℕ, List, length, inl, inr, ap, arith, codes, subst, sym, zero, suc}
-use Rattle.std.specs.Prelude.{◌∷◌, Result, Ok, Err, IfErr, Some, [], map, slice_get}
+use Rattle.std.proofs.Common.{◌≡◌, ◌⊎◌, ◌<◌, ◌∙◌, ℕ, Bool, true, false, List, length, inl, inr, ap, arith, codes, get_or, lit<, refl, subst}
+use Rattle.std.proofs.Common.{sym, zero, suc, true≢false}
+use Rattle.std.specs.Prelude.{◌∷◌, Result, Ok, Err, IfErr, IfOk, IsSomeAnd, None, Some, [], if◌then◌else◌, map, slice_get}
 use Rattle.std.specs.List.{slice_index_or}
+use Rattle.std.specs.Str.{bytes_eq}
+use Rattle.std.proofs.lemmas.Slice.Eq.{bytes_eq-Decides}
 use Rattle.std.proofs.lemmas.Option.{none-some, same_Some}
 use Rattle.clap.specs.Words.{App, Text, fault_of}
 use Rattle.command_words.specs.Command.{IsRedo, IsTaken, IsTakenBy, IsUnknown, Names, apps, redo_app, restore_app}
-use Rattle.command_words.specs.Command.{run_app}
+use Rattle.command_words.specs.Command.{AsksForHelp, Explains, ExplainsRead, ExplainsUnknown, Gives}
+use Rattle.command_words.specs.Command.{read_as, run_app}
+use Rattle.clap.specs.declared.error.kind.ErrorKind.TheVariants.{DisplayHelp}
 use Rattle.command_words.specs.declared.command.Command.{Command}
+use Rattle.command_words.specs.declared.command.Command.TheVariants.{Redo, Restore, Run}
 use Rattle.command_words.specs.declared.command.UsageFault.{UsageFault}
-use Rattle.command_words.specs.declared.command.UsageFault.TheVariants.{OutOfMemory}
+use Rattle.command_words.specs.declared.command.UsageFault.TheVariants.{BadArguments, HelpAsked, MisspelledCommand}
+use Rattle.command_words.specs.declared.command.UsageFault.TheVariants.{NoCommand, OutOfMemory, UnknownCommand}
 
 pub first_word : {X : Type 0} (f : X → Text) (xs : List X) (x : X) (word : Text) → Some x ≡ slice_get xs 0
     → word ≡ f x → slice_get (map f xs) 0 ≡ Some word
@@ -92,3 +99,92 @@ unknown name not-redo not-run not-restore not-help not-long not-short = (
     none (suc zero) app lt same = not-run (sym same)
     none (suc (suc zero)) app lt same = not-restore (sym same)
     none (suc (suc (suc k))) app lt same = absurd (omega arith)
+
+-- ---- `help NAME`, read as `NAME --help`
+
+-- words whose first is not `help` are read as they stand
+pub read_as_they_stand : (words : List Text) (name : Text) → slice_get words 0 ≡ Some name
+    → (name ≡ codes "help" → ⊥) → read_as words ≡ words
+read_as_they_stand [] name first other = refl
+read_as_they_stand (a ∷ []) name first other = refl
+read_as_they_stand (a ∷ b ∷ rest) name first other = as_it_stands (bytes_eq a (codes "help")) refl
+  where
+    as_it_stands : (same : Bool) → bytes_eq a (codes "help") ≡ same
+        → (if same then b ∷ codes "--help" ∷ [] else a ∷ b ∷ rest) ≡ a ∷ b ∷ rest
+    as_it_stands true is = absurd (other (sym (same_Some _ _ first) ∙ (bytes_eq-Decides a (codes "help")).0 is))
+    as_it_stands false is = refl
+
+-- `help` and a name
+pub read_for_help : (words : List Text) (name : Text) → slice_get words 0 ≡ Some (codes "help")
+    → slice_get words 1 ≡ Some name → read_as words ≡ name ∷ codes "--help" ∷ []
+read_for_help [] name first second = absurd (none-some _ first)
+read_for_help (a ∷ []) name first second = absurd (none-some _ second)
+read_for_help (a ∷ b ∷ rest) name first second = named (bytes_eq a (codes "help")) refl
+  where
+    named : (same : Bool) → bytes_eq a (codes "help") ≡ same
+        → (if same then b ∷ codes "--help" ∷ [] else a ∷ b ∷ rest) ≡ name ∷ codes "--help" ∷ []
+    named true is = ap (λ n. n ∷ codes "--help" ∷ []) (same_Some _ _ second)
+    named false is =
+        absurd (true≢false (sym ((bytes_eq-Decides a (codes "help")).1 (same_Some _ _ first)) ∙ is))
+
+-- `help` alone
+pub read_alone : (words : List Text) → slice_get words 1 ≡ None → read_as words ≡ words
+read_alone [] second = refl
+read_alone (a ∷ []) second = refl
+read_alone (a ∷ b ∷ rest) second = absurd (none-some _ (sym second))
+
+first_letters : (name a b : Text) → name ≡ a → name ≡ b → get_or a 0 0 ≡ get_or b 0 0
+first_letters name a b is-a is-b = ap (λ (text : Text). get_or text 0 0) (sym is-a ∙ is-b)
+
+no_r : (letter : ℕ) → letter ≡ 114 → letter ≡ 104 → ⊥
+no_r letter r h = omega arith
+
+-- a command's name, which begins with an r, is not `help`
+pub not_help : (name command : Text) → name ≡ command → get_or command 0 0 ≡ 114 → name ≡ codes "help" → ⊥
+not_help name command is first help =
+    no_r (get_or command 0 0) first (first_letters name command (codes "help") is help)
+
+gives_taken : (words : List Text) (command : Command) → Gives words command → IsTaken words
+gives_taken words Redo gives = (0, redo_app, lit< tt, refl, gives)
+gives_taken words (Run pages save) gives = (1, run_app, lit< tt, refl, gives.0)
+gives_taken words (Restore log master archives) gives = (2, restore_app, lit< tt, refl, gives.0)
+
+-- words in which clap finds a fault give no command
+pub help_gives_none : (words : List Text) (app : App) (r : Result Command UsageFault) → IfOk r (Gives words)
+    → (IsTaken words → fault_of app words ≡ []) → fault_of app words ≡ DisplayHelp ∷ [] → IfOk r (λ _. ⊥)
+help_gives_none words app (Err fault) gives takes asks = tt
+help_gives_none words app (Ok command) gives takes asks =
+    not_empty (sym asks ∙ takes (gives_taken words command gives))
+  where
+    not_empty : DisplayHelp ∷ [] ≡ [] → ⊥
+    not_empty e = cc
+
+-- what explains the words that are read explains the words
+pub read_explains : (words read : List Text) (r : Result Command UsageFault) → read_as words ≡ read
+    → IfErr r (ExplainsRead read) → IfErr r (Explains words)
+read_explains words read r is explains = subst (λ w. IfErr r (ExplainsRead w)) (sym is) explains
+
+unknown_read : (words : List Text) (word : Text) (fault : UsageFault) → slice_get words 0 ≡ Some word
+    → ExplainsUnknown word fault → ExplainsRead words fault
+unknown_read words word (UnknownCommand name) first explains =
+    subst (λ o. IsSomeAnd o (λ w. ExplainsUnknown w (UnknownCommand name))) (sym first) explains
+unknown_read words word (MisspelledCommand name near) first explains =
+    subst (λ o. IsSomeAnd o (λ w. ExplainsUnknown w (MisspelledCommand name near))) (sym first) explains
+unknown_read words word OutOfMemory first explains = tt
+unknown_read words word HelpAsked first explains = absurd explains
+unknown_read words word NoCommand first explains = absurd explains
+unknown_read words word (BadArguments error) first explains = absurd explains
+
+-- what explains an unknown word explains the words that begin with it
+pub unknown_explains : (words : List Text) (word : Text) (fault : UsageFault) → slice_get words 0 ≡ Some word
+    → (word ≡ codes "help" → ⊥) → ExplainsUnknown word fault → Explains words fault
+unknown_explains words word fault first other explains =
+    subst (λ w. ExplainsRead w fault) (sym (read_as_they_stand words word first other))
+    (unknown_read words word fault first explains)
+
+-- a first word that asks for help, but is not `help`
+pub help_explains : (words : List Text) (word : Text) → slice_get words 0 ≡ Some word → (word ≡ codes "help" → ⊥)
+    → AsksForHelp word → Explains words HelpAsked
+help_explains words word first other asks =
+    subst (λ w. ExplainsRead w HelpAsked) (sym (read_as_they_stand words word first other))
+    (subst (λ o. IsSomeAnd o AsksForHelp) (sym first) asks)

@@ -1,7 +1,9 @@
 -- Which words give which command, and why others give none.
 use Rattle.std.specs.Prelude.{◌≡◌, ◌≢◌, ◌⊎◌, ◌≤◌, ℕ, List, [], ◌∷◌, Option, IsSomeAnd, Some, codes}
-use Rattle.std.specs.Prelude.{false, map, option_map, pos, slice_get, true, unwrap_or}
+use Rattle.std.specs.Prelude.{◌<◌, false, if◌then◌else◌, length, map, nat_eq, option_map, pos, slice_get, true}
+use Rattle.std.specs.Prelude.{unwrap_or}
 use Rattle.std.specs.List.{All, Any}
+use Rattle.std.specs.Str.{bytes_eq, chars}
 use Rattle.std.specs.Str.Parse.{digits_value, without_leading_plus}
 use Rattle.clap.specs.Built.{AddsArg, AddsInTurn, FitsChain, TakesValue}
 use Rattle.clap.specs.Lexer.{usize_max}
@@ -15,11 +17,13 @@ use Rattle.clap.specs.declared.builder.action.ArgAction.TheVariants.{Append, Set
 use Rattle.clap.specs.declared.builder.value_parser.ValueParser.{ValueParser}
 use Rattle.clap.specs.declared.builder.value_parser.ValueParser.TheVariants.{Signed}
 use Rattle.clap.specs.declared.parser.matches.Found.{Found}
+use Rattle.strsim.specs.Edits.{levenshtein_row}
 use Rattle.command_words.specs.declared.command.Command.{Command}
 use Rattle.command_words.specs.declared.command.Command.TheVariants.{Redo, Restore, Run}
 use Rattle.command_words.specs.declared.command.UsageFault.{UsageFault}
 use Rattle.command_words.specs.declared.command.UsageFault.TheVariants.{BadArguments, HelpAsked}
-use Rattle.command_words.specs.declared.command.UsageFault.TheVariants.{NoCommand, OutOfMemory}
+use Rattle.command_words.specs.declared.command.UsageFault.TheVariants.{MisspelledCommand, NoCommand}
+use Rattle.command_words.specs.declared.command.UsageFault.TheVariants.{OutOfMemory}
 use Rattle.command_words.specs.declared.command.UsageFault.TheVariants.{UnknownCommand}
 
 -- `redo`, which has no arguments
@@ -163,11 +167,50 @@ AsksForHelp name = (name ≡ codes "help") ⊎ ((name ≡ codes "--help") ⊎ (n
 abbrev pub IsUnknown : Text → Type 0
 IsUnknown name = All (λ app. app.top.name ≢ name) apps × (AsksForHelp name → ⊥)
 
+-- the names that a user may have meant
+abbrev pub names : List Text
+names = codes "redo" ∷ codes "run" ∷ codes "restore" ∷ codes "help" ∷ []
+
+-- how many characters are put in, taken out or replaced to make the name out of the word
+abbrev pub edits : Text → Text → ℕ
+edits word name = levenshtein_row nat_eq (chars word) (chars name) (length (chars name))
+
+-- the word is more than two edits away from each name
+abbrev pub IsFar : Text → Type 0
+IsFar word = All (λ name. 2 < edits word name) names
+
+-- the name is at most two edits away from the word, and no other is nearer
+abbrev pub IsNear : Text → Text → Type 0
+IsNear word name = (edits word name ≤ 2) × Any (λ one. one ≡ name) names
+    × All (λ other. edits word name ≤ edits word other) names
+
+-- why an unknown word gives no command; a name that is near is suggested
+abbrev pub ExplainsUnknown : Text → UsageFault → Type 0
+ExplainsUnknown word (UnknownCommand name) = (name.now ≡ word) × IsUnknown word × IsFar word
+ExplainsUnknown word (MisspelledCommand name near) =
+    (name.now ≡ word) × IsUnknown word × IsNear word near.now
+ExplainsUnknown word OutOfMemory = Unit {0}
+ExplainsUnknown word _ = ⊥
+
+-- why words that are read as they stand give no command
+abbrev pub ExplainsRead : List Text → UsageFault → Type 0
+ExplainsRead words HelpAsked = IsSomeAnd (slice_get words 0) AsksForHelp
+ExplainsRead words NoCommand = words ≡ []
+ExplainsRead words (UnknownCommand name) =
+    IsSomeAnd (slice_get words 0) (λ word. ExplainsUnknown word (UnknownCommand name))
+ExplainsRead words (MisspelledCommand name near) =
+    IsSomeAnd (slice_get words 0) (λ word. ExplainsUnknown word (MisspelledCommand name near))
+ExplainsRead words (BadArguments error) =
+    Any (λ app. Names words app × IsAmong (kind_of error) (fault_of app words)) apps
+ExplainsRead words OutOfMemory = Unit {0}
+
+-- `help NAME` is read as `NAME --help`, whatever follows
+abbrev pub read_as : List Text → List Text
+read_as [] = []
+read_as (first ∷ []) = first ∷ []
+read_as (first ∷ name ∷ rest) =
+    if bytes_eq first (codes "help") then name ∷ codes "--help" ∷ [] else first ∷ name ∷ rest
+
 -- why the words give no command; want of memory is no fault of theirs
 abbrev pub Explains : List Text → UsageFault → Type 0
-Explains words HelpAsked = IsSomeAnd (slice_get words 0) AsksForHelp
-Explains words NoCommand = words ≡ []
-Explains words (UnknownCommand name) = (slice_get words 0 ≡ Some name.now) × IsUnknown name.now
-Explains words (BadArguments error) =
-    Any (λ app. Names words app × IsAmong (kind_of error) (fault_of app words)) apps
-Explains words OutOfMemory = Unit {0}
+Explains words = ExplainsRead (read_as words)

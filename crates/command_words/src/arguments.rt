@@ -3,7 +3,7 @@ ghost use Rattle.std.specs.Prelude.{◌≡◌, IfErr, IfOk, Some, [], codes, is_
 ghost use Rattle.clap.specs.Built.{FitsChain, TakesValue};
 ghost use Rattle.clap.specs.Words.{app_of, fault_of, first_value, found_of, matches_of, rows_of};
 ghost use Rattle.clap.specs.Words.{rule_of};
-ghost use Rattle.command_words.specs.Command.{AsksForFiles, AsksForPages, Explains, Names};
+ghost use Rattle.command_words.specs.Command.{AsksForFiles, AsksForPages, ExplainsRead, Names};
 ghost use Rattle.command_words.specs.Command.{PassesPages};
 ghost use Rattle.command_words.specs.Command.{archive_rule, log_rule, master_rule, pages_parser};
 ghost use Rattle.command_words.specs.Command.{pages_rule, redo_app, restore_app, run_app};
@@ -24,7 +24,7 @@ pub(crate) fn redo_matches<'a, S: AsStr>(
     ensures taken { IfOk result (λ _. fault_of redo_app (map S.text words.now) ≡ []) }
     ensures only { IfErr result (λ fault.
         fault_of redo_app (map S.text words.now) ≡ [] → fault ≡ OutOfMemory) }
-    ensures explained { IfErr result (Explains (map S.text words.now)) }
+    ensures explained { IfErr result (ExplainsRead (map S.text words.now)) }
 {
     Ok(redo_command(alloc)?.try_get_matches_from(words)?)
 }
@@ -41,7 +41,7 @@ pub(crate) fn run_matches<'a, S: AsStr>(
     ensures pages { IfOk result (λ it. PassesPages (found_of it)) }
     ensures only { IfErr result (λ fault.
         fault_of run_app (map S.text words.now) ≡ [] → fault ≡ OutOfMemory) }
-    ensures explained { IfErr result (Explains (map S.text words.now)) }
+    ensures explained { IfErr result (ExplainsRead (map S.text words.now)) }
 {
     Ok(run_command(alloc)?.try_get_matches_from(words)?)
 }
@@ -60,7 +60,7 @@ pub(crate) fn restore_matches<'a, S: AsStr>(
         is_some (first_value (found_of it) (codes "master")) ≡ true) }
     ensures only { IfErr result (λ fault.
         fault_of restore_app (map S.text words.now) ≡ [] → fault ≡ OutOfMemory) }
-    ensures explained { IfErr result (Explains (map S.text words.now)) }
+    ensures explained { IfErr result (ExplainsRead (map S.text words.now)) }
 {
     Ok(restore_command(alloc)?.try_get_matches_from(words)?)
 }

@@ -1,10 +1,12 @@
 //! The command line: the first word names a command, and `clap` reads the words after it.
-ghost use Rattle.std.specs.Prelude.{◌≡◌, ◌≢◌, ◌≤◌, ◌⊎◌, IfErr, IfOk, MatchResult, Some, [], codes};
+ghost use Rattle.std.specs.Prelude.{◌≡◌, ◌≢◌, ◌≤◌, ◌⊎◌, ◌∷◌, IfErr, IfOk, MatchOption, MatchResult};
+ghost use Rattle.std.specs.Prelude.{Some, [], codes};
 ghost use Rattle.std.specs.Prelude.{is_some, map, option_map, true, unwrap_or};
 ghost use Rattle.clap.specs.Words.{fault_of, first_value, found_of, kind_of, matched_of, one_of};
 ghost use Rattle.clap.specs.Words.{raw_values, rows_of};
 ghost use Rattle.command_words.specs.Command.{Explains, Gives, HasPages, IsRead, IsRedo, IsTaken};
-ghost use Rattle.command_words.specs.Command.{Names};
+ghost use Rattle.command_words.specs.Command.{ExplainsRead, ExplainsUnknown, IsFar, IsNear};
+ghost use Rattle.command_words.specs.Command.{IsUnknown, Names};
 ghost use Rattle.command_words.specs.Command.{PassesPages, redo_app, restore_app, run_app};
 ghost use Rattle.command_words.specs.declared.command.UsageFault.TheVariants.{BadArguments};
 ghost use Rattle.command_words.specs.declared.command.UsageFault.TheVariants.{OutOfMemory};
@@ -15,6 +17,7 @@ use clap::ArgMatches;
 use clap::error::ErrorKind;
 use std::alloc::{AllocError, Global};
 use std::convert::AsStr;
+use strsim::levenshtein;
 use thiserror::Error;
 
 /// What the program is told to do.
@@ -37,6 +40,8 @@ pub enum Command<'a> {
     },
 }
 
+const NAMES: [&str; 4] = ["redo", "run", "restore", "help"];
+
 const HELP: &str = "\
 Usage: imgcopy <COMMAND>
 
@@ -44,9 +49,9 @@ Commands:
   redo     Write the volume that the log on standard input makes
   run      Play the script on standard input on a formatted volume
   restore  Write the volume that a log and image copies restore
-  help     Print this help
+  help     Print this help, or that of a command
 
-For the arguments of a command, try 'imgcopy <COMMAND> --help'.
+For the arguments of a command, try 'imgcopy help <COMMAND>'.
 ";
 
 /// Why the words give no command. Its `Display` is the whole text for the user, with its last line
@@ -59,6 +64,9 @@ pub enum UsageFault<'a> {
     NoCommand,
     #[error("error: unrecognized command '{0}'\n\n{help}", help = HELP)]
     UnknownCommand(&'a str),
+    /// The word names no command, but it is close to a name.
+    #[error("error: unrecognized command '{0}'\n\n  tip: a similar command exists: '{1}'\n\n{help}", help = HELP)]
+    MisspelledCommand(&'a str, &'static str),
     /// The words after the command's name are wrong, or ask for its help.
     #[error(transparent)]
     BadArguments(clap::Error),
@@ -111,9 +119,54 @@ pub fn command_of<'a, S: AsStr>(
         "redo" => redo_of(alloc, words),
         "run" => run_of(alloc, words),
         "restore" => restore_of(alloc, words),
-        "help" | "--help" | "-h" => Err(UsageFault::HelpAsked),
-        other => Err(UsageFault::UnknownCommand(other)),
+        "help" => match words.get(1) {
+            Some(command) => help_of(alloc, command.as_str()),
+            None => Err(UsageFault::HelpAsked),
+        },
+        "--help" | "-h" => Err(UsageFault::HelpAsked),
+        other => Err(fault_of_unknown(alloc, other)),
     }
+}
+
+/// Reads `help NAME` as `NAME --help`.
+fn help_of<'a>(alloc: Global, name: &'a str) -> Result<Command<'a>, UsageFault<'a>>
+    ensures refused { IfOk result (λ _. ⊥) }
+    ensures explained { IfErr result (ExplainsRead (name.now ∷ codes "--help" ∷ [])) }
+{
+    match name {
+        "redo" => redo_of(alloc, &["redo", "--help"]),
+        "run" => run_of(alloc, &["run", "--help"]),
+        "restore" => restore_of(alloc, &["restore", "--help"]),
+        "help" | "--help" | "-h" => Err(UsageFault::HelpAsked),
+        _ => Err(fault_of_unknown(alloc, name)),
+    }
+}
+
+/// Why a word that names no command gives none.
+fn fault_of_unknown<'a>(alloc: Global, word: &'a str) -> UsageFault<'a>
+    ensures { IsUnknown word.now → ExplainsUnknown word.now result }
+{
+    match nearest(alloc, word) {
+        Ok(Some(name)) => UsageFault::MisspelledCommand(word, name),
+        Ok(None) => UsageFault::UnknownCommand(word),
+        Err(_) => UsageFault::OutOfMemory,
+    }
+}
+
+/// The name that is the fewest edits away from the word, if they are at most two.
+fn nearest(alloc: Global, word: &str) -> Result<Option<&'static str>, AllocError>
+    ensures { IfOk result (λ near. MatchOption near (IsFar word.now) (λ name. IsNear word.now name.now)) }
+{
+    let mut best = None;
+    let mut least = 3;
+    for name in NAMES {
+        let edits = levenshtein(alloc, word, name)?;
+        if edits < least {
+            best = Some(name);
+            least = edits;
+        }
+    }
+    Ok(best)
 }
 
 fn redo_of<'a, S: AsStr>(alloc: Global, words: &'a [S]) -> Result<Command<'a>, UsageFault<'a>>
@@ -122,7 +175,7 @@ fn redo_of<'a, S: AsStr>(alloc: Global, words: &'a [S]) -> Result<Command<'a>, U
     ensures is_redo { IfOk result (λ command. command ≡ Command.Redo) }
     ensures only { IfErr result (λ fault.
         fault_of redo_app (map S.text words.now) ≡ [] → fault ≡ UsageFault.OutOfMemory) }
-    ensures explained { IfErr result (Explains (map S.text words.now)) }
+    ensures explained { IfErr result (ExplainsRead (map S.text words.now)) }
 {
     redo_matches(alloc, words)?;
     Ok(Command::Redo)
@@ -135,7 +188,7 @@ fn run_of<'a, S: AsStr>(alloc: Global, words: &'a [S]) -> Result<Command<'a>, Us
     ensures is_run { IfOk result (λ command. command ≢ Command.Redo) }
     ensures only { IfErr result (λ fault.
         fault_of run_app (map S.text words.now) ≡ [] → fault ≡ UsageFault.OutOfMemory) }
-    ensures explained { IfErr result (Explains (map S.text words.now)) }
+    ensures explained { IfErr result (ExplainsRead (map S.text words.now)) }
 {
     let matches = run_matches(alloc, words)?;
     let pages = pages_in(&matches);
@@ -159,7 +212,7 @@ fn restore_of<'a, S: AsStr>(alloc: Global, words: &'a [S]) -> Result<Command<'a>
     ensures is_restore { IfOk result (λ command. command ≢ Command.Redo) }
     ensures only { IfErr result (λ fault.
         fault_of restore_app (map S.text words.now) ≡ [] → fault ≡ UsageFault.OutOfMemory) }
-    ensures explained { IfErr result (Explains (map S.text words.now)) }
+    ensures explained { IfErr result (ExplainsRead (map S.text words.now)) }
 {
     let matches = restore_matches(alloc, words)?;
     let log = value_in(&matches, "log");

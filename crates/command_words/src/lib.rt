@@ -3,5 +3,7 @@
 
 mod arguments;
 mod command;
+mod words;
 
 pub use command::{Command, UsageFault, command_of};
+pub use words::{WordsFault, words_of};

@@ -10,7 +10,7 @@ mod restore;
 mod save;
 
 use aries_core::Setup;
-use command_words::{Command, command_of};
+use command_words::{Command, command_of, words_of};
 use media_restore::RestoreFault;
 use restore::restore_volume;
 use save::save_files;
@@ -18,16 +18,14 @@ use script_run::{
     FAULT_STATUS, FinishFault, Ran, finish_script, refused_status, restore_status, run_script,
 };
 use std::fmt::Display;
-use std::io::ErrorKind;
+use std::io;
 use std::process::ExitCode;
-use std::rt::Env;
-use std::{env, io};
 use volume_redo::{Fault, redo_stream};
 
 fn main(rt: HostRuntime) -> ExitCode {
     let words = match words_of(&rt) {
         Ok(words) => words,
-        Err(error) => return status_of_words(&rt, &error),
+        Err(fault) => return told_whole(&rt, &fault),
     };
     match command_of(rt.alloc(), words.as_slice()) {
         Ok(Command::Redo) => {
@@ -46,10 +44,7 @@ fn main(rt: HostRuntime) -> ExitCode {
             let done = restore_volume(&rt, rt.alloc(), log, master, &archives, &mut output);
             status_of_files(&rt, done)
         }
-        Err(fault) => {
-            let _ = rt.eprint(&fault);
-            ExitCode::from(FAULT_STATUS)
-        }
+        Err(fault) => told_whole(&rt, &fault),
     }
 }
 
@@ -113,21 +108,13 @@ fn status_of_files(rt: &impl Eprint, done: Result<(), RestoreFault>) -> ExitCode
     }
 }
 
-/// The words of the command line after the program's name.
-fn words_of(rt: &(impl Env + AllocGlobal)) -> io::Result<Vec<String>> {
-    let words = env::args(rt)?.skip(1).collect(rt.alloc())?;
-    Ok(words)
-}
-
-/// Tells on standard error why there are no words, and answers the program's status.
-fn status_of_words(rt: &impl Eprint, error: &io::Error) -> ExitCode
+/// Writes a text that ends with its own line break to standard error, and answers the status of a
+/// fault.
+fn told_whole(rt: &impl Eprint, text: &impl Display) -> ExitCode
     ensures { exit_status result ≡ 2 }
 {
-    // Where even this line cannot be written, the status still tells.
-    let _ = match error.kind() {
-        ErrorKind::OutOfMemory => rt.eprintln(&Fault::OutOfMemory),
-        _ => rt.eprintln(&"error: the words of the command line cannot be read"),
-    };
+    // Where even this cannot be written, the status still tells.
+    let _ = rt.eprint(text);
     ExitCode::from(FAULT_STATUS)
 }
 

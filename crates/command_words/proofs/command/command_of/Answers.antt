@@ -1,7 +1,8 @@
-use Rattle.std.proofs.Common.{Some, ap, map, ◌∙◌}
+use Rattle.std.proofs.Common.{Some, ap, inr, map, refl, ◌∙◌}
 use Rattle.command_words.specs.Command.{redo_app, restore_app, run_app}
 use Rattle.command_words.proofs.NameLemmas.{first_word, not_of_redo, only_by, taken_redo, taken_restore, taken_run}
-use Rattle.command_words.proofs.NameLemmas.{unknown, unnamed}
+use Rattle.command_words.proofs.NameLemmas.{help_explains, not_help, read_as_they_stand, read_explains}
+use Rattle.command_words.proofs.NameLemmas.{unknown, unknown_explains, unnamed}
 use Rattle.command_words.proofs.RedoLemmas.{comes_for_redo, only_for_redo}
 use Rattle.command_words.proofs.command.command_of.Goals as goal
 
@@ -46,19 +47,6 @@ returns-in-restore-clause-redo g c =
     c.in-Some.ensures.value c.as_str.ensures in
     λ redo. absurd (not_of_redo _ c.as_str.result.now first c.in-restore.not-redo redo)
 
-pub returns-in-help-clause-redo : goal.returns-in-help-clause-redo
-returns-in-help-clause-redo g c =
-    let first = first_word g.S.AsStr.text c.args.words.now c.in-Some.name.now c.as_str.result.now
-    c.in-Some.ensures.value c.as_str.ensures in
-    λ redo. absurd (not_of_redo _ c.as_str.result.now first c.in-help.not-redo redo)
-
-pub returns-in-help-clause-only : goal.returns-in-help-clause-only
-returns-in-help-clause-only g c =
-    let first = first_word g.S.AsStr.text c.args.words.now c.in-Some.name.now c.as_str.result.now
-    c.in-Some.ensures.value c.as_str.ensures in
-    λ taken. absurd (unnamed _ c.as_str.result.now first c.in-help.not-redo c.in-help.not-run
-    c.in-help.not-restore taken)
-
 pub returns-in_default-as_str-clause-only : goal.returns-in_default-as_str-clause-only
 returns-in_default-as_str-clause-only g c =
     let first = first_word g.S.AsStr.text c.args.words.now c.in-Some.name.now c.as_str.result.now
@@ -71,15 +59,6 @@ returns-in_default-as_str-clause-redo g c =
     let first = first_word g.S.AsStr.text c.args.words.now c.in-Some.name.now c.as_str.result.now
     c.in-Some.ensures.value c.as_str.ensures in
     λ redo. absurd (not_of_redo _ c.as_str.result.now first c.in_default-as_str.not-redo redo)
-
-pub returns-in_default-as_str-clause-explained : goal.returns-in_default-as_str-clause-explained
-returns-in_default-as_str-clause-explained g c =
-    let first = first_word g.S.AsStr.text c.args.words.now c.in-Some.name.now c.as_str.result.now
-    c.in-Some.ensures.value c.as_str.ensures in
-    let other = unknown c.as_str.result.now c.in_default-as_str.not-redo c.in_default-as_str.not-run
-    c.in_default-as_str.not-restore c.in_default-as_str.not-help c.in_default-as_str.not-text
-    c.in_default-as_str.not-text-2 in
-    (first, other)
 
 pub redo_of-requires : goal.redo_of-requires
 redo_of-requires g c =
@@ -98,3 +77,40 @@ restore_of-requires g c =
     let first = first_word g.S.AsStr.text c.args.words.now c.in-Some.name.now c.as_str.result.now
     c.in-Some.ensures.value c.as_str.ensures in
     first ∙ ap Some c.in-restore.is
+
+pub returns-in-redo-clause-explained : goal.returns-in-redo-clause-explained
+returns-in-redo-clause-explained g c =
+    let first = first_word g.S.AsStr.text c.args.words.now c.in-Some.name.now c.as_str.result.now
+    c.in-Some.ensures.value c.as_str.ensures in
+    read_explains (map g.S.AsStr.text c.args.words.now) _ c.redo_of.result (read_as_they_stand _ c.as_str.result.now first
+    (not_help _ _ c.in-redo.is refl)) c.redo_of.ensures.explained
+
+pub returns-in-run-clause-explained : goal.returns-in-run-clause-explained
+returns-in-run-clause-explained g c =
+    let first = first_word g.S.AsStr.text c.args.words.now c.in-Some.name.now c.as_str.result.now
+    c.in-Some.ensures.value c.as_str.ensures in
+    read_explains (map g.S.AsStr.text c.args.words.now) _ c.run_of.result (read_as_they_stand _ c.as_str.result.now first
+    (not_help _ _ c.in-run.is refl)) c.run_of.ensures.explained
+
+pub returns-in-restore-clause-explained : goal.returns-in-restore-clause-explained
+returns-in-restore-clause-explained g c =
+    let first = first_word g.S.AsStr.text c.args.words.now c.in-Some.name.now c.as_str.result.now
+    c.in-Some.ensures.value c.as_str.ensures in
+    read_explains (map g.S.AsStr.text c.args.words.now) _ c.restore_of.result (read_as_they_stand _ c.as_str.result.now first
+    (not_help _ _ c.in-restore.is refl)) c.restore_of.ensures.explained
+
+pub returns-in_default-as_str-clause-explained : goal.returns-in_default-as_str-clause-explained
+returns-in_default-as_str-clause-explained g c =
+    let first = first_word g.S.AsStr.text c.args.words.now c.in-Some.name.now c.as_str.result.now
+    c.in-Some.ensures.value c.as_str.ensures in
+    let unknown_word = unknown c.as_str.result.now c.in_default-as_str.not-redo c.in_default-as_str.not-run
+    c.in_default-as_str.not-restore c.in_default-as_str.not-help c.in_default-as_str.not-text
+    c.in_default-as_str.not-text-2 in
+    unknown_explains (map g.S.AsStr.text c.args.words.now) _ c.fault_of_unknown.result first c.in_default-as_str.not-help
+    (c.fault_of_unknown.ensures unknown_word)
+
+pub returns-in-text-clause-explained : goal.returns-in-text-clause-explained
+returns-in-text-clause-explained g c =
+    let first = first_word g.S.AsStr.text c.args.words.now c.in-Some.name.now c.as_str.result.now
+    c.in-Some.ensures.value c.as_str.ensures in
+    help_explains (map g.S.AsStr.text c.args.words.now) _ first c.in-text.not-help (inr c.in-text.is)

@@ -1,0 +1,35 @@
+use Rattle.std.proofs.Common.{IfErr, [], codes, refl, subst, sym, ◌∷◌}
+use Rattle.command_words.specs.Command.{ExplainsRead, redo_app, restore_app, run_app}
+use Rattle.command_words.proofs.ClapLemmas.{help_of_redo, help_of_restore, help_of_run}
+use Rattle.command_words.proofs.NameLemmas.{help_gives_none, taken_redo, taken_restore, taken_run}
+use Rattle.command_words.proofs.command.help_of.Goals as goal
+
+pub returns-in-redo-clause-refused : goal.returns-in-redo-clause-refused
+returns-in-redo-clause-refused c =
+    let words = codes "redo" ∷ codes "--help" ∷ [] in
+    help_gives_none words redo_app c.redo_of.result c.redo_of.ensures.ok (taken_redo words refl) help_of_redo
+
+pub returns-in-redo-clause-explained : goal.returns-in-redo-clause-explained
+returns-in-redo-clause-explained c =
+    subst (λ name. IfErr c.redo_of.result (ExplainsRead (name ∷ codes "--help" ∷ []))) (sym c.in-redo.is)
+    c.redo_of.ensures.explained
+
+pub returns-in-run-clause-refused : goal.returns-in-run-clause-refused
+returns-in-run-clause-refused c =
+    let words = codes "run" ∷ codes "--help" ∷ [] in
+    help_gives_none words run_app c.run_of.result c.run_of.ensures.ok (taken_run words refl) help_of_run
+
+pub returns-in-run-clause-explained : goal.returns-in-run-clause-explained
+returns-in-run-clause-explained c =
+    subst (λ name. IfErr c.run_of.result (ExplainsRead (name ∷ codes "--help" ∷ []))) (sym c.in-run.is)
+    c.run_of.ensures.explained
+
+pub returns-in-restore-clause-refused : goal.returns-in-restore-clause-refused
+returns-in-restore-clause-refused c =
+    let words = codes "restore" ∷ codes "--help" ∷ [] in
+    help_gives_none words restore_app c.restore_of.result c.restore_of.ensures.ok (taken_restore words refl) help_of_restore
+
+pub returns-in-restore-clause-explained : goal.returns-in-restore-clause-explained
+returns-in-restore-clause-explained c =
+    subst (λ name. IfErr c.restore_of.result (ExplainsRead (name ∷ codes "--help" ∷ []))) (sym c.in-restore.is)
+    c.restore_of.ensures.explained
