@@ -1,4 +1,4 @@
-//! Laws of checkpoints, for those who read the contracts.
+//! Laws of checkpoints, for readers of the contracts.
 
 ghost use Rattle.std.specs.Prelude.{ℕ, ◌≡◌, ◌<◌, ◌≤◌, ◌↔◌, ◌++◌, List, [], ◌∷◌, false};
 ghost use Rattle.std.specs.Prelude.{Option, Some, None, IsSome, IsSomeAnd, Result, Ok, Err};

@@ -1,4 +1,4 @@
-//! The calls of the engine that make image copies while others change, and write, its pages.
+//! The engine's calls that make image copies while other calls change and write the pages.
 
 ghost use Rattle.std.specs.Prelude.{◌≡◌, ◌<◌, Some, None, IfErr, OnOk};
 ghost use Rattle.std.specs.Option.{option_map_or};

@@ -1,4 +1,4 @@
-//! Laws of image copies, for those who read the contracts.
+//! Laws of image copies, for readers of the contracts.
 
 ghost use Rattle.std.specs.Prelude.{ℕ, ◌≡◌, ◌+◌, List, length, Result, Ok, is_some, map};
 ghost use Rattle.aries_core.specs.Catalogue.{catalogue, catalogue_refusal, entry_of};

@@ -1,5 +1,5 @@
-//! The engine keeps its log, the table of its open transactions and the pool of its pages in step:
-//! each call appends its record, notes it and makes its change.
+//! The engine. Each call appends its record, updates the table of open transactions and changes the
+//! page, so that log, table and pool always agree.
 
 ghost use Rattle.std.specs.Prelude.{ℕ, ◌≡◌, ◌+◌, ◌<◌, ◌≤◌, ◌^◌, length, not, true, Some, None};
 ghost use Rattle.std.specs.Prelude.{IfOk, IfErr, OnOk, OnErr};

@@ -1,4 +1,4 @@
-//! Laws of whole runs, for those who read the contracts.
+//! Laws of whole runs, for readers of the contracts.
 
 ghost use Rattle.std.specs.Prelude.{ℕ, ◌≡◌, ◌≢◌, ◌+◌, ◌<◌, ◌≤◌, ◌++◌, List, [], ◌∷◌, length};
 ghost use Rattle.std.specs.Prelude.{Option, Some, None, Result, Ok, Err, false, slice_index_or};

@@ -1,4 +1,4 @@
-//! The engine for one thread: each call is one event, and appends just its record to the log.
+//! The engine, for one thread. Each call is one event, and appends only its own record to the log.
 #![tactic(auto)]
 
 mod checkpoint;

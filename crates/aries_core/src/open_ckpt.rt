@@ -1,4 +1,4 @@
-//! The session of a checkpoint that is open, whatever it gathers.
+//! The session of an open checkpoint, in whichever phase it is.
 
 ghost use Rattle.std.specs.Prelude.{ℕ, ◌≡◌, false, IfOk, IfErr, IsSome, IsTrue, ◌↔◌, OnOk, OnErr};
 ghost use Rattle.std.specs.Prelude.{MatchOption};

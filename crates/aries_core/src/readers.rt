@@ -1,4 +1,4 @@
-//! What an engine shows of its log and its pages.
+//! Read access to an engine's log and pages.
 
 ghost use Rattle.std.specs.Prelude.{◌≡◌, ◌<◌, ◌≤◌, [], IfErr, IfOk, MatchOption, OnOk};
 ghost use Rattle.log_records.specs.Coverage.{dirty, entries_of, next_dirty};

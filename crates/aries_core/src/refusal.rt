@@ -1,4 +1,4 @@
-//! Why a call of the engine is refused.
+//! The reasons why the engine refuses a call.
 
 use copy_vault::CopyFault;
 use page_core::{Lsn, PageNo, TxnNo};

@@ -1,4 +1,4 @@
-//! What an engine leaves.
+//! Retiring an engine: what it leaves behind.
 
 ghost use Rattle.std.specs.Prelude.{◌≡◌};
 ghost use Rattle.std.specs.Option.{option_map};

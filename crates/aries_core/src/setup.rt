@@ -1,4 +1,4 @@
-//! What an engine is made of.
+//! The parameters of a new engine.
 
 use std::error::Error;
 use std::fmt;

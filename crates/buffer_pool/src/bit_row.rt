@@ -1,4 +1,4 @@
-//! Bits in a row.
+//! A row of bits.
 
 ghost use Rattle.std.specs.Prelude.{◌≡◌, ◌+◌, ◌*◌, ◌/◌, ◌<◌, length, replicate, slice_set};
 ghost use Rattle.std.specs.Prelude.{true, false, IfOk, IfSome, MatchOption};

@@ -1,4 +1,4 @@
-//! What the state of a page says of the page that is stored.
+//! Laws that relate the state of a page to its stored page.
 
 ghost use Rattle.std.specs.Prelude.{ℕ, ◌≡◌, ◌≢◌, ◌<◌, ◌≤◌, [], length, slice_index_or, None};
 ghost use Rattle.std.specs.Prelude.{Some};

@@ -1,4 +1,5 @@
-//! The pages of a volume in memory, which of them are dirty, and their writes to a store.
+//! The buffer pool: the pages of a volume in memory, which of them are dirty, and how they are
+//! written to a store.
 #![tactic(auto)]
 
 mod bit_row;

@@ -1,4 +1,4 @@
-//! What is known of each page beside its content.
+//! What the pool knows of each page besides its content.
 
 ghost use Rattle.std.specs.Prelude.{ℕ, ◌≡◌, ◌<◌, ◌≤◌, [], length, replicate, slice_set, IfOk};
 ghost use Rattle.std.specs.Prelude.{None, Some, IfSome, IsSome, MatchOption};

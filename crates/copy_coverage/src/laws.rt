@@ -1,4 +1,4 @@
-//! Laws of copies, for those who read the contracts.
+//! Laws of copies, for readers of the contracts.
 
 ghost use Rattle.std.specs.Prelude.{ℕ, ◌≡◌, ◌+◌, ◌≤◌, ◌<◌, ◌++◌, ◌∷◌, [], List, length, slice_set, None};
 ghost use Rattle.std.specs.Prelude.{slice_index_or};

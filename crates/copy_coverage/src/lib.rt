@@ -1,5 +1,5 @@
-//! What the image copies of a volume have of its log, while all of it goes on, and what an engine
-//! leaves.
+//! How much of a log the image copies of its volume contain while the log grows, and what a retired
+//! engine leaves.
 #![tactic(auto)]
 
 mod laws;

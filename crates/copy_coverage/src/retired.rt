@@ -1,4 +1,4 @@
-//! What an engine leaves.
+//! What a retired engine leaves.
 
 ghost use Rattle.std.specs.Prelude.{◌≡◌};
 ghost use Rattle.copy_coverage.specs.Retired.{IsRetired};

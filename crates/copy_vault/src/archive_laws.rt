@@ -1,4 +1,4 @@
-//! What holds of the spellings of all copies.
+//! Laws of how copies are spelled as archives.
 
 ghost use Rattle.std.specs.Prelude.{ℕ, ◌≡◌, List};
 ghost use Rattle.copy_vault.specs.Copy.{CopyView};

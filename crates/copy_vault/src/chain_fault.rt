@@ -1,4 +1,4 @@
-//! Why copies are no chain.
+//! The reasons why copies do not form a chain.
 
 ghost use Rattle.std.specs.Prelude.{◌≡◌};
 ghost use Rattle.copy_vault.specs.declared.chain_fault.ChainFault.TheVariants.{OutOfMemory};

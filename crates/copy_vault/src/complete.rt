@@ -1,4 +1,4 @@
-//! An image copy that is complete.
+//! A complete image copy.
 
 ghost use Rattle.std.specs.Prelude.{◌≡◌, ◌<◌, length, IfSome};
 ghost use Rattle.copy_vault.specs.Archive.{header_of};

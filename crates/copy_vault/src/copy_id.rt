@@ -1,4 +1,4 @@
-//! What names an image copy, and what kind it is.
+//! The ID and the kind of an image copy.
 
 use std::marker::Model;
 

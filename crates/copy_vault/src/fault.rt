@@ -1,4 +1,4 @@
-//! Why a vault refuses a call.
+//! The reasons why a vault refuses a call.
 
 ghost use Rattle.std.specs.Prelude.{◌≡◌};
 ghost use Rattle.copy_vault.specs.declared.fault.CopyFault.TheVariants.{OutOfMemory};

@@ -1,5 +1,4 @@
-//! Image copies of a volume: those that are being read and those that are complete, the vault that
-//! keeps them, and their archives.
+//! Image copies of a volume, open and complete; the vault that keeps them; and their archives.
 #![tactic(auto)]
 
 mod archive_fault;

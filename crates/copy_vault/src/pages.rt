@@ -1,4 +1,4 @@
-//! What a complete copy has decided of each of its pages.
+//! What a complete copy decided for each page: taken or kept.
 
 ghost use Rattle.std.specs.Prelude.{◌≡◌, ◌<◌, length};
 ghost use Rattle.copy_vault.specs.Lent.{lent};

@@ -1,4 +1,4 @@
-//! The pages that a copy took, each in a place of its own.
+//! The pages that a copy took, each in its own place.
 
 ghost use Rattle.std.specs.Prelude.{ℕ, ◌≡◌, ◌<◌, ◌≤◌, length, slice_index_or};
 ghost use Rattle.page_core.specs.declared.page.Page.{Page};

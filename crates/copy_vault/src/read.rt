@@ -1,4 +1,4 @@
-//! The reading of an archive, a part at a time.
+//! Reads an archive piece by piece.
 
 ghost use Rattle.std.specs.Prelude.{ℕ, ◌≡◌, ◌+◌, ◌*◌, ◌/◌, ◌<◌, ◌≤◌, ◌++◌, [], List, length, take};
 ghost use Rattle.std.specs.Prelude.{drop, IfOk, IfErr, IfSome, OnOk, Some, MatchResult};

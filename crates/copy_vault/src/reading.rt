@@ -1,4 +1,4 @@
-//! An image copy that is being read.
+//! An open image copy, whose pages are still being read.
 
 ghost use Rattle.std.specs.Prelude.{◌≡◌, ◌≤◌, ◌<◌, ◌↔◌, length, IfOk, IfErr, OnOk, OnErr, IsTrue};
 ghost use Rattle.std.specs.Prelude.{false, None};

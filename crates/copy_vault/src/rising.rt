@@ -1,4 +1,4 @@
-//! What a copy that is read from its archive has decided of each of its pages.
+//! What a copy decided for each page, when it is read back from its archive.
 
 ghost use Rattle.std.specs.Prelude.{◌≡◌, ◌+◌, ◌-◌, ◌^◌, ◌<◌, ◌≤◌, ◌++◌, ◌∷◌, [], length};
 ghost use Rattle.std.specs.Prelude.{replicate, OnOk};

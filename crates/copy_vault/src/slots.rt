@@ -1,4 +1,4 @@
-//! What a copy has decided of each of its pages, while it is read.
+//! What an open copy has decided for each page so far.
 
 ghost use Rattle.std.specs.Prelude.{◌≡◌, ◌<◌, ◌↔◌, length, replicate, slice_set, IfOk, IsTrue};
 ghost use Rattle.copy_vault.specs.Lent.{lent};

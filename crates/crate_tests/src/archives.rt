@@ -1,4 +1,4 @@
-//! The bytes of archives, and which fault those have that are cut or spoiled.
+//! The bytes of archives, and the faults of archives that are cut or damaged.
 
 use crate::asserts::{same, same_at};
 use copy_vault::{

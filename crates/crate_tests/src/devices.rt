@@ -1,4 +1,4 @@
-//! What no clause says: that each call succeeds, and what `read_log` makes of a device.
+//! What no clause says: that each call succeeds, and what `read_log` reads from a device.
 
 ghost use Rattle.std.specs.Prelude.{◌≡◌, []};
 ghost use Rattle.log_records.specs.Log.{StandsAt};

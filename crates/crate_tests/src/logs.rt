@@ -1,5 +1,5 @@
-//! What no clause says: the bytes of known logs, what becomes of a reader's failures, and that each
-//! call succeeds.
+//! What no clause says: the bytes of known logs, how a reader's failures are answered, and that
+//! each call succeeds.
 
 mod readers;
 mod vectors;

@@ -1,5 +1,5 @@
-//! The table of open transactions on short logs, and that each call succeeds. A test is a row of
-//! steps, and one function takes them.
+//! The table of open transactions on short logs, and that each call succeeds. A test is a list of
+//! steps, and one function runs them.
 
 use log_history::{OpenTransactions, PendingChange, TxnState};
 use log_records::Record;

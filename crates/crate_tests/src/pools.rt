@@ -1,5 +1,5 @@
-//! What no clause says of a pool: that each call succeeds, what a row of calls answers, and what
-//! stands after a fault of the store.
+//! What no clause says of a pool: that each call succeeds, what a series of calls answers, and what
+//! is stored after a fault of the store.
 
 ghost use Rattle.log_records.specs.Log.{IsPageCount};
 

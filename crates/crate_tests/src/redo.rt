@@ -1,4 +1,4 @@
-//! What no clause says: that these calls succeed, and what they make of known records.
+//! What no clause says: that these calls succeed, and which pages known records make.
 
 use crate::asserts::same_at;
 use log_records::{MAX_RECORDS, Record};

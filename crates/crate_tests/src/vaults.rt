@@ -1,4 +1,4 @@
-//! That the calls of a vault succeed, and what they refuse.
+//! That the calls of a vault succeed, and which calls it refuses.
 
 use crate::asserts::same;
 use copy_vault::{CopyFault, CopyId, Vault};

@@ -1,6 +1,6 @@
-//! Assertions as calls: a call is cheap to prove in a long test, and what `assert_eq!` writes there
-//! is dear. For the same reason a test drops what has many parts by a call, and not by its end, and
-//! gives a table to a helper that goes over it.
+//! Assertions as calls: in a long test a call is cheap to prove, and what `assert_eq!` writes there
+//! is not. For the same reason a test drops large values by a call, and not at its end, and passes
+//! a table to a helper that goes over it.
 
 use std::fmt::{Debug, Display};
 use std::process::Abort;

@@ -1,5 +1,5 @@
-//! Rows of calls with their replies, as tests write them: text, since that is cheap to prove. A
-//! line of a row is an event as a script says it, an arrow, and the line of its reply.
+//! Series of calls with their replies, as tests write them: as text, since text is cheap to prove.
+//! Each line has an event as a script writes it, an arrow, and the line of its reply.
 
 ghost use Rattle.log_records.specs.Log.{IsPageCount};
 

@@ -1,4 +1,4 @@
-//! Rows of calls with their replies, what a device and a store have of them, and texts.
+//! Series of calls with their replies, what a device and a store then hold, and texts.
 
 ghost use Rattle.std.specs.Prelude.{◌≡◌};
 ghost use Rattle.log_records.specs.Log.{IsPageCount};

@@ -1,4 +1,4 @@
-//! Volumes that are restored from the bytes of files.
+//! Volumes restored from the bytes of files.
 
 use crate::asserts::{assert_fault, same};
 use crate::groups::{Groups, assert_bytes, bytes_of};

@@ -1,5 +1,5 @@
-//! Tests of the engine, of media recovery and of what the program is made of, which try them
-//! through their public items.
+//! Tests of the engine, of media recovery and of the parts of the program, through their public
+//! items.
 #![tactic(auto)]
 
 #[cfg(test)]

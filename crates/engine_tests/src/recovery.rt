@@ -1,4 +1,4 @@
-//! Rows of calls with their replies, and what is restored of their copies.
+//! Series of calls with their replies, and what a restore of their copies gives.
 
 ghost use Rattle.log_records.specs.Log.{IsPageCount};
 

@@ -1,4 +1,4 @@
-//! Rows that several tests try, and the parts that several rows have.
+//! Series of calls that several tests use, and parts that several of them share.
 
 use crate::calls::Row;
 use std::process::Abort;

@@ -1,4 +1,4 @@
-//! Scripts with their replies, and with the pages that their last restore brings back.
+//! Scripts with their replies, and the pages that their last restore gives.
 
 ghost use Rattle.log_records.specs.Log.{IsPageCount};
 

@@ -1,4 +1,4 @@
-//! What no clause says: that scripts are read, and which bytes and texts the definitions mean.
+//! What no clause says: that scripts can be read, and which bytes and texts the definitions mean.
 
 mod rows;
 

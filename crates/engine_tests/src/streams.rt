@@ -1,5 +1,5 @@
-//! What no clause says of redo: that the volume of a log is written, with its known bytes, and
-//! which fault comes of a reader or a writer that fails.
+//! What no clause says of redo: that it writes the volume of a log, with known bytes, and how it
+//! answers a reader or a writer that fails.
 
 use crate::asserts::{assert_fault, assert_texts, same_at};
 use crate::groups::{Groups, assert_bytes, bytes_of};

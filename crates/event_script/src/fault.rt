@@ -1,4 +1,4 @@
-//! Why a script could not be read.
+//! The reasons why a script cannot be read.
 
 ghost use Rattle.std.specs.Prelude.{◌≡◌};
 ghost use Rattle.event_script.specs.declared.fault.ScriptFault.TheVariants.{OutOfMemory};

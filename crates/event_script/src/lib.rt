@@ -1,4 +1,4 @@
-//! The script of a run: from bytes to the engine's events, and from replies to lines.
+//! The script of a run: reads its bytes as events for the engine, and prints replies as lines.
 #![tactic(auto)]
 
 mod call;

@@ -1,4 +1,4 @@
-//! The number that a word is.
+//! Reads a word as a number.
 
 ghost use Rattle.std.specs.Prelude.{◌≡◌};
 ghost use Rattle.event_script.specs.Words.{number_of};

@@ -1,4 +1,4 @@
-//! The reading of a script.
+//! Reads a script.
 
 ghost use Rattle.std.specs.Prelude.{ℕ, ◌≡◌, List, [], ◌∷◌, ◌++◌, IfOk, IfErr, OnOk, IfSome};
 ghost use Rattle.std.specs.Prelude.{if◌then◌else◌};

@@ -1,4 +1,4 @@
-//! The line of a reply.
+//! The line that reports a reply.
 
 use aries_core::{Answer, Reply};
 use std::fmt;

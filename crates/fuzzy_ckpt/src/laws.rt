@@ -1,4 +1,4 @@
-//! Laws of checkpoints that are being taken, for those who go on beside them.
+//! Laws of open checkpoints, for callers who change pages beside them.
 
 ghost use Rattle.std.specs.Prelude.{ℕ, ◌≡◌, ◌<◌, ◌≤◌, ◌∷◌, ◌++◌, [], List, length, slice_set, None};
 ghost use Rattle.std.specs.Prelude.{slice_index_or};

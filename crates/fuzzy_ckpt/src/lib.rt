@@ -1,4 +1,4 @@
-//! Fuzzy checkpoints, taken step by step while transactions and writes of pages go on.
+//! Fuzzy checkpoints, taken step by step while transactions and page writes go on.
 #![tactic(auto)]
 
 mod ckpt;

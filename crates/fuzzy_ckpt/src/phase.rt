@@ -1,4 +1,4 @@
-//! How far a checkpoint has come.
+//! The phases of a checkpoint.
 
 use page_core::{PageNo, TxnNo};
 use std::marker::Model;

@@ -1,4 +1,4 @@
-//! What comes of a checkpoint.
+//! The result of a checkpoint.
 
 use crate::ckpt::Ckpt;
 use crate::phase::Gathered;

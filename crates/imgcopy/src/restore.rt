@@ -1,4 +1,4 @@
-//! The restore of a volume from files.
+//! Restores a volume from files.
 
 ghost use Rattle.std.specs.Prelude.{length, IfErr, OnOk};
 ghost use Rattle.imgcopy.specs.Restore.{LeavesOfSome, WritesSomeVolume};

@@ -1,4 +1,4 @@
-//! The files of a run: its log, its master record and its complete copies.
+//! Saves the files of a run: its log, its master record and its complete copies.
 
 ghost use Rattle.std.specs.Prelude.{◌≡◌};
 ghost use Rattle.imgcopy.specs.declared.save.SaveFault.TheVariants.{OutOfMemory};

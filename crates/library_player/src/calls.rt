@@ -1,5 +1,5 @@
-//! A row of calls of the engine, and the restore of a copy that it made. A call that is refused for
-//! want of memory is made again.
+//! A series of calls of the engine, and a restore of the copy that it made. A call that is refused
+//! for lack of memory is made again.
 #![tactic(auto)]
 
 use aries_core::{Answer, Engine, Event, Played, Refusal, Reply, Setup, play};

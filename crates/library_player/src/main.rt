@@ -1,5 +1,5 @@
-//! Makes calls of the engine where the command line has a word, and then reads a log on standard
-//! input by `read_log`. It tells what came of both.
+//! Plays calls of the engine if the command line has a word, then reads a log from standard input
+//! by `read_log`, and reports both results.
 #![tactic(auto)]
 
 mod calls;

@@ -1,4 +1,4 @@
-//! The seats of those who add to one slot together.
+//! The seats of the transactions that have added to one slot.
 
 ghost use Rattle.std.specs.Prelude.{ℕ, ◌≡◌, ◌<◌, ◌≤◌, ◌==◌, ◌&&◌, OnOk, OnErr, IfOk};
 ghost use Rattle.std.specs.Prelude.{if◌then◌else◌, vec_len};

@@ -1,4 +1,4 @@
-//! Laws of complete checkpoints, for those who read the contracts.
+//! Laws of complete checkpoints, for readers of the contracts.
 
 ghost use Rattle.std.specs.Prelude.{ℕ, ◌↔◌, ◌≤◌, ◌++◌, List, Contains};
 ghost use Rattle.log_records.specs.declared.record.Record.{Record};

@@ -1,4 +1,4 @@
-//! The checkpoints of a log that is read: what decides whether a checkpoint's record may follow.
+//! The checkpoints of a log that is being read: decides whether a checkpoint's record may follow.
 
 ghost use Rattle.std.specs.Prelude.{◌≡◌, ◌↔◌, ◌<◌, ◌/◌, ◌-◌, [], min, slice_get, Some, None};
 ghost use Rattle.std.specs.Prelude.{IfSome, IsSomeAnd, IsTrue, OnErr, OnOk};

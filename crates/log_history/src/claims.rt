@@ -1,4 +1,4 @@
-//! Which open transactions keep others from a slot, by their seats.
+//! Which open transactions have claims on a slot, by their seats.
 
 ghost use Rattle.std.specs.Prelude.{ℕ, ◌≡◌, ◌≢◌, ◌<◌, ◌==◌, IfOk, IsTrue, OnErr};
 ghost use Rattle.std.specs.Prelude.{if◌then◌else◌, false};

@@ -1,5 +1,5 @@
-//! A log that is read is replayed: at each place the records so far have made open transactions,
-//! checkpoints and pages, and these decide whether the next record may follow.
+//! Replays a log while it is read. The records so far have led to a state of transactions,
+//! checkpoints and pages, and that state decides whether the next record may follow.
 
 ghost use Rattle.std.specs.Prelude.{◌↔◌, length, IsTrue};
 ghost use Rattle.log_records.specs.Log.{IsWithin};

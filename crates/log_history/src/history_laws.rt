@@ -1,4 +1,4 @@
-//! Laws of linked logs, for those who read the contracts.
+//! Laws of linked logs, for readers of the contracts.
 
 ghost use Rattle.std.specs.Prelude.{ℕ, ◌≡◌, ◌↔◌, ◌<◌, ◌∷◌, ◌++◌, List, [], take, Some, None};
 ghost use Rattle.std.specs.Prelude.{option_to_list, if◌then◌else◌};

@@ -1,4 +1,4 @@
-//! The transactions of a log, and the chain that their records make: which record may follow.
+//! The transactions of a log and the chains of their records: decides which record may follow.
 #![tactic(auto)]
 
 mod adders;

@@ -1,4 +1,4 @@
-//! Who holds a slot, in one byte.
+//! The holder of a slot, in one byte.
 
 ghost use Rattle.std.specs.Prelude.{◌≡◌};
 ghost use Rattle.log_history.specs.Mark.{HasSeat, holder_of};

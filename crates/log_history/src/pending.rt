@@ -1,4 +1,4 @@
-//! A pending change as it is kept: in forty bytes, since a log may leave half a million of them.
+//! A pending change in compact form: forty bytes, since a log may leave half a million of them.
 
 ghost use Rattle.std.specs.Prelude.{◌≡◌};
 ghost use Rattle.log_history.specs.Pending.{hold_by_kept};

@@ -1,4 +1,4 @@
-//! A change that its transaction may still take back.
+//! A pending change, which its transaction may still undo.
 
 use page_core::{Change, Lsn, PageNo, SlotNo};
 

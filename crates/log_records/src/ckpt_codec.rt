@@ -1,5 +1,5 @@
-//! The bytes of a checkpoint's records. Their fields overlap those of transactions' records, so
-//! they have a layout of their own.
+//! The bytes of checkpoint records. Their fields overlap those of transaction records, so they have
+//! their own layout.
 
 ghost use Rattle.std.specs.Int.{w32, w64, to_le_bytes};
 ghost use Rattle.std.specs.Prelude.{ℕ, ◌++◌, ◌≡◌, ◌+◌, ◌<◌, ◌≤◌, ◌^◌, IfSome, Some, slice_range};

@@ -1,4 +1,4 @@
-//! A record as bytes, and back.
+//! Encodes a record as bytes, and decodes it.
 
 ghost use Rattle.std.specs.Prelude.{◌≡◌, ◌↔◌, IfSome, Some, IsTrue};
 ghost use Rattle.log_records.specs.declared.record.Record.{Record};

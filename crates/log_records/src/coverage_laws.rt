@@ -1,4 +1,4 @@
-//! Laws of pages that are kept elsewhere while their log goes on, for those who read the contracts.
+//! Laws of pages that are kept elsewhere while their log grows, for readers of the contracts.
 
 ghost use Rattle.std.specs.Prelude.{ℕ, ◌≡◌, ◌<◌, ◌≤◌, ◌++◌, ◌∷◌, [], List, length, take, Some};
 ghost use Rattle.std.specs.Prelude.{None};

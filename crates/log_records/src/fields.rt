@@ -1,4 +1,4 @@
-//! The numbers that the bytes of a transaction's record spell.
+//! The numbers that the bytes of a transaction record spell.
 
 ghost use Rattle.std.specs.Prelude.{◌≡◌};
 

@@ -1,4 +1,4 @@
-//! The header of a log names its format and the page count of its volume.
+//! The header of a log, which names its format and the page count of its volume.
 
 ghost use Rattle.std.specs.Prelude.{ℕ, ◌≡◌, ◌↔◌, take, IfSome, Some, IsTrue};
 ghost use Rattle.log_records.specs.Log.{HasHeader, IsPageCount, header_bytes};

@@ -1,4 +1,4 @@
-//! Laws of the spellings, for those who read the contracts.
+//! Laws of spellings, for readers of the contracts.
 
 ghost use Rattle.std.specs.Prelude.{ℕ, ◌≡◌, ◌++◌, List};
 ghost use Rattle.log_records.specs.declared.record.Record.{Record};

@@ -1,4 +1,4 @@
-//! The records of a log and their bytes, a log's spelling, and what its records make of pages.
+//! The records of a log: their bytes, how a log is spelled, and how records change pages.
 #![tactic(auto)]
 
 mod ckpt_codec;

@@ -1,5 +1,5 @@
-//! The place of a record in a log: its own LSN is the offset at which it stands, and the pages that
-//! it names are of the volume.
+//! The place of a record in a log: its LSN is its byte offset, and the pages that it names belong
+//! to the volume.
 
 ghost use Rattle.std.specs.Prelude.{◌≡◌, ◌↔◌, length, IfSome, Some, IsTrue};
 ghost use Rattle.log_records.specs.declared.record.Record.{Record};

@@ -1,4 +1,4 @@
-//! Numbers of a fixed width, written into the bytes of a record, the lowest byte first.
+//! Writes numbers of a fixed width into the bytes of a record, lowest byte first.
 
 ghost use Rattle.std.specs.Int.{w16, w32, w64, to_le_bytes};
 ghost use Rattle.std.specs.Prelude.{◌++◌, ◌≡◌, ◌+◌, ◌≤◌, drop, take};

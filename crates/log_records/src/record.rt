@@ -1,4 +1,4 @@
-//! A record of the log says one thing that a transaction did, or one that a checkpoint found.
+//! A record of the log: one action of a transaction, or one finding of a checkpoint.
 
 use crate::dirty_page::DirtyPages;
 use crate::page_change::PageChange;

@@ -1,4 +1,4 @@
-//! The pages of a volume, in order of their numbers.
+//! The pages of a volume, in the order of their numbers.
 
 ghost use Rattle.std.specs.Prelude.{◌≡◌, length, map};
 ghost use Rattle.log_records.specs.Image.{AreNumbered, with_record};

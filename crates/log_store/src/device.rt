@@ -1,4 +1,4 @@
-//! What a log is kept on: stable storage, in the words of ARIES.
+//! The device that stores a log: stable storage, in the words of ARIES.
 
 ghost use Rattle.std.specs.Prelude.{ℕ, ◌≡◌, ◌+◌, ◌<◌, ◌≤◌, ◌++◌, List, length, take, OnOk, OnErr};
 ghost use Rattle.std.specs.Prelude.{Result};

@@ -1,4 +1,4 @@
-//! Why a log could not be read.
+//! The reasons why a log cannot be read.
 
 ghost use Rattle.std.specs.Prelude.{◌≡◌};
 ghost use Rattle.log_store.specs.declared.fault.LogReadFault.TheVariants.{OutOfMemory};

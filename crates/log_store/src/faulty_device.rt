@@ -1,4 +1,4 @@
-//! A device that fails at one call, to try what is built on a device.
+//! A device that fails at one call, to test what stands on a device.
 
 ghost use Rattle.std.specs.Prelude.{◌≡◌, ◌≤◌, length};
 ghost use Rattle.log_store.specs.FaultyDevice.{FaultyStores};

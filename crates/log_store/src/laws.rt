@@ -1,4 +1,4 @@
-//! Laws of faults and of formats, for those who read the contracts.
+//! Laws of faults and formats, for readers of the contracts.
 
 ghost use Rattle.std.specs.Prelude.{ℕ, ◌≡◌, List};
 ghost use Rattle.log_records.specs.Log.{Log, SpellsLog};

@@ -1,4 +1,4 @@
-//! The reading of a whole log, a log that is written, and the master record.
+//! Reads a whole log, appends to a log on a device, and spells the master record.
 #![tactic(auto)]
 
 mod device;

@@ -1,4 +1,4 @@
-//! A log that was read whole, as a value.
+//! A whole log that was read, as a value.
 
 ghost use Rattle.std.specs.Prelude.{◌≡◌, take};
 ghost use Rattle.log_records.specs.Log.{IsLog};

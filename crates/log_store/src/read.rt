@@ -1,4 +1,4 @@
-//! The reading of a whole log.
+//! Reads a whole log.
 
 ghost use Rattle.std.specs.Prelude.{ℕ, ◌≡◌, [], List, IfOk, IfErr, IfSome, OnOk, MatchResult, Some};
 ghost use Rattle.std.specs.Io.KnownBytes.{IsAtEnd};

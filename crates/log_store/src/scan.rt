@@ -1,4 +1,4 @@
-//! The reading of a log, a part at a time.
+//! Reads a log piece by piece.
 
 ghost use Rattle.std.specs.Prelude.{ℕ, ◌≡◌, ◌+◌, ◌*◌, ◌/◌, ◌<◌, ◌≤◌, ◌++◌, ◌-◌, [], List};
 ghost use Rattle.std.specs.Prelude.{length, take, drop, IfOk, IfErr, IfSome, OnOk};

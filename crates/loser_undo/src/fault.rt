@@ -1,4 +1,4 @@
-//! Why a log is not undone.
+//! The reasons why a log is not undone.
 
 use std::error::Error;
 use std::fmt;

@@ -1,4 +1,4 @@
-//! Laws of the log after undo, for those who read the contracts.
+//! Laws of the log after undo, for readers of the contracts.
 
 ghost use Rattle.std.specs.Prelude.{ℕ, ◌≡◌, ◌+◌, ◌<◌, ◌≤◌, ◌==◌, true, List, [], length, map};
 ghost use Rattle.std.specs.Prelude.{filter, reverse, take};

@@ -1,4 +1,4 @@
-//! A log while undo appends to it.
+//! A log to which undo is appending.
 
 ghost use Rattle.std.specs.Prelude.{◌≡◌, ◌<◌, ◌∷◌, [], true, length, Some};
 ghost use Rattle.std.specs.List.{fold};

@@ -1,4 +1,4 @@
-//! Undo of a whole log.
+//! Undoes a whole log.
 
 ghost use Rattle.std.specs.Prelude.{◌≡◌, ◌↔◌, ◌+◌, ◌<◌, ◌≤◌, drop, length, map, IfOk, IfErr};
 ghost use Rattle.std.specs.Prelude.{IsErrAnd};

@@ -1,4 +1,4 @@
-//! The pages that a chain of copies has.
+//! The pages that a chain of copies contains.
 
 ghost use Rattle.std.specs.Prelude.{◌≡◌, IfOk};
 ghost use Rattle.copy_vault.specs.Chain.{contents, lent};

@@ -1,4 +1,4 @@
-//! The load of a copy.
+//! Loads a copy.
 
 ghost use Rattle.std.specs.Prelude.{◌≡◌, List, map, IfOk, IfErr, OnOk, OnErr, None, Some};
 ghost use Rattle.log_records.specs.Coverage.{resume};

@@ -1,4 +1,4 @@
-//! Why a copy is not loaded, why a loaded one is not redone, and why a restore comes to no end.
+//! The reasons why a copy is not loaded, a loaded copy is not redone, or a restore does not end.
 
 ghost use Rattle.std.specs.Prelude.{◌≡◌};
 ghost use Rattle.media_restore.specs.declared.fault.LoadFault.TheVariants.{OutOfMemory};

@@ -1,4 +1,4 @@
-//! The restore of a volume from files: of a log, a master record and the archives of a chain.
+//! Restores a volume from files: a log, its master record and the archives of a chain.
 
 ghost use Rattle.std.specs.Prelude.{◌≡◌, ◌<◌, ◌≤◌, ◌⊎◌, map, Err, IfOk, IfErr, OnOk};
 ghost use Rattle.log_history.specs.Table.{table_of};

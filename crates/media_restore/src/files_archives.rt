@@ -1,4 +1,4 @@
-//! The archives of a chain, read in their order.
+//! Reads the archives of a chain, in order.
 
 ghost use Rattle.std.specs.Prelude.{◌≡◌, map, Err, IfOk, IfErr, IfSome};
 ghost use Rattle.copy_vault.specs.Archive.{SpellsCopy};

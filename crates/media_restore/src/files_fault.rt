@@ -1,4 +1,4 @@
-//! Why a volume is not restored from files.
+//! The reasons why a volume is not restored from files.
 
 ghost use Rattle.std.specs.Prelude.{◌≡◌};
 ghost use Rattle.media_restore.specs.FilesFault.{of_archive, of_log, of_undo};

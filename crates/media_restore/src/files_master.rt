@@ -1,4 +1,4 @@
-//! The master record of a log that is read.
+//! Checks the master record of a log while the log is read.
 
 ghost use Rattle.std.specs.Prelude.{ℕ, ◌≡◌, ◌↔◌, ◌≤◌, Err, IfOk, IfErr, IfSome, IsTrue, None, Some};
 ghost use Rattle.log_records.specs.declared.record.Record.TheVariants.{EndChkpt};

@@ -1,4 +1,4 @@
-//! Media recovery: a volume is made anew of image copies and the log (ARIES, section 8).
+//! Media recovery: rebuilds a volume from image copies and the log (ARIES, section 8).
 #![tactic(auto)]
 
 mod copied;

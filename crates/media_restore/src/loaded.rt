@@ -1,4 +1,4 @@
-//! A copy that is loaded, and the redo of its log.
+//! A loaded copy, and the redo of its log.
 
 ghost use Rattle.std.specs.Prelude.{◌≡◌, map, IfErr, IfOk};
 ghost use Rattle.log_records.specs.Coverage.{resume};

@@ -1,4 +1,4 @@
-//! A restore from its load to its undo, and a list of events with the restore after it.
+//! A whole restore: load, redo and undo; and the same after playing a list of events.
 
 ghost use Rattle.std.specs.Prelude.{◌≡◌, ◌<◌, ◌≤◌, All, Any, IfErr, IfOk, OnOk, length, None};
 ghost use Rattle.std.specs.Prelude.{Some};

@@ -1,4 +1,4 @@
-//! Laws of what an engine leaves, once it is saved to files.
+//! Laws of what a retired engine saves to files.
 
 ghost use Rattle.std.specs.Prelude.{◌≡◌, ◌⊎◌, List};
 ghost use Rattle.page_core.specs.declared.page.Page.{Page};

@@ -1,4 +1,4 @@
-//! The bytes of a volume, as they are written.
+//! Writes the bytes of a volume.
 
 ghost use Rattle.std.specs.Prelude.{◌≡◌, ◌*◌, ◌<◌, ◌≤◌, length, take, IfErr, OnOk};
 ghost use Rattle.std.specs.Io.KnownBytes.{Appends};

@@ -1,4 +1,4 @@
-//! What a change does to a slot, and what takes it back.
+//! What a change does to a slot, and the change that undoes it.
 
 ghost use Rattle.std.specs.Prelude.{ℕ, ◌≡◌, ◌<◌, ◌^◌};
 ghost use Rattle.page_core.specs.Change.{Replaces, changed, kind_of, undo_of as inverse_of};

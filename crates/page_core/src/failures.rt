@@ -1,4 +1,4 @@
-//! A count of failures that contracts alone see.
+//! A count of failures that only contracts see.
 
 use std::snapshot::Snapshot;
 

@@ -1,4 +1,4 @@
-//! Numbers of a fixed width in a list of bytes, the lowest byte first.
+//! Numbers of a fixed width in a list of bytes, lowest byte first.
 
 ghost use Rattle.std.specs.Prelude.{ℕ, ◌≡◌, ◌+◌, ◌<◌, ◌≤◌, ◌^◌, length, slice_range};
 ghost use Rattle.std.specs.Int.{w16, w32, w64, to_le_bytes};

@@ -1,4 +1,4 @@
-//! Input that is read a part at a time, into a buffer.
+//! Reads input piece by piece into a buffer.
 
 ghost use Rattle.std.specs.Prelude.{◌≡◌, ◌-◌, ◌<◌, ◌≤◌, length, take, drop};
 ghost use Rattle.page_core.specs.Input.{Gives};

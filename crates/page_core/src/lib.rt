@@ -1,4 +1,4 @@
-//! Pages of a volume: their numbers, what a change makes of them, and their bytes.
+//! Pages of a volume: their numbers, how a change alters them, and their bytes.
 #![tactic(auto)]
 
 mod buffer;

@@ -1,4 +1,4 @@
-//! Numbers that name a page, a slot of a page, a place in the log, and a transaction.
+//! Numbers that name a page, a slot of a page, a place in the log, or a transaction.
 
 use std::marker::Model;
 

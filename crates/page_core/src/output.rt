@@ -1,4 +1,4 @@
-//! Output that is written as a whole.
+//! Writes output as a whole.
 
 ghost use Rattle.std.specs.Prelude.{◌<◌, length, take, IfErr, OnOk};
 ghost use Rattle.std.specs.Io.KnownBytes.{Appends};

@@ -1,4 +1,4 @@
-//! The pages of a volume, in a list.
+//! The pages of a volume, as a list.
 
 ghost use Rattle.std.specs.Prelude.{◌≡◌, IfOk};
 ghost use Rattle.page_core.specs.Volume.{AreNumbered, formatted_pages};

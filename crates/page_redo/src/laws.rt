@@ -1,4 +1,4 @@
-//! Laws of the pages that a log makes, for those who read the contracts.
+//! Laws of the pages that a log makes, for readers of the contracts.
 
 ghost use Rattle.std.specs.Prelude.{ℕ, ◌≡◌, ◌≤◌, length, take};
 ghost use Rattle.std.specs.List.{AllByRecursion};

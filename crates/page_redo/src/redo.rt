@@ -1,4 +1,4 @@
-//! The redo of records on pages (ARIES, section 6.2).
+//! Redoes records on pages (ARIES, section 6.2).
 
 ghost use Rattle.std.specs.Prelude.{◌≡◌};
 ghost use Rattle.page_redo.specs.Redo.{is_above, redone};

@@ -1,4 +1,4 @@
-//! The redo of a log on all pages of a volume, in several threads.
+//! Redoes a log on all pages of a volume, in several threads.
 
 ghost use Rattle.std.specs.Prelude.{ℕ, ◌≡◌, ◌<◌, ◌≤◌, [], length, map, slice_index_or};
 ghost use Rattle.std.specs.List.{range_with_len};

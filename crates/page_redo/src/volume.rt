@@ -1,4 +1,4 @@
-//! The redo of a log on all pages of a volume (ARIES, section 6.2).
+//! Redoes a log on all pages of a volume (ARIES, section 6.2).
 
 ghost use Rattle.std.specs.Prelude.{◌≡◌, length, map};
 ghost use Rattle.log_records.specs.Coverage.{resume};

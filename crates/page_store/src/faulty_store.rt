@@ -1,4 +1,4 @@
-//! A store that fails where it is told to, to try what is built on a store.
+//! A store that fails where a test tells it to.
 
 ghost use Rattle.std.specs.Prelude.{◌≡◌, ◌<◌, ◌↔◌, length, replicate, false, true};
 ghost use Rattle.std.specs.Prelude.{slice_get, slice_set, Some, IfOk, IsErr, OnOk, OnErr, IsTrue};

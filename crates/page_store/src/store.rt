@@ -1,4 +1,4 @@
-//! What the pages of a volume are stored on: nonvolatile storage, in the words of ARIES.
+//! The store of a volume's pages: nonvolatile storage, in the words of ARIES.
 
 ghost use Rattle.std.specs.Prelude.{ℕ, ◌≡◌, ◌<◌, List, length, slice_get, slice_set, Some};
 ghost use Rattle.std.specs.Prelude.{IfOk, OnOk, OnErr};

@@ -1,4 +1,4 @@
-//! A volume that is restored from named files.
+//! Restores a volume from named files.
 #![tactic(auto)]
 
 mod late_file;

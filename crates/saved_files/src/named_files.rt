@@ -1,4 +1,4 @@
-//! Files that are read by their names.
+//! Files that are opened and read by their names.
 
 ghost use Rattle.std.specs.Prelude.{ℕ, ◌≡◌, List, Option, IfOk};
 

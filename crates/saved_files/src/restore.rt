@@ -1,4 +1,4 @@
-//! The restore of a volume from named files.
+//! Restores a volume from named files.
 
 ghost use Rattle.std.specs.Prelude.{map, IfErr, OnOk};
 ghost use Rattle.media_restore.specs.Files.{Leaves, WritesVolume};

@@ -1,4 +1,4 @@
-//! The last restore of a script, and its lines.
+//! Runs the last restore of a script, and writes its lines.
 
 ghost use Rattle.std.specs.Prelude.{◌≡◌, ◌<◌, length, take, IfErr, IfOk, OnOk, Err, Ok};
 ghost use Rattle.std.specs.Io.KnownBytes.{Appends};

@@ -1,4 +1,4 @@
-//! Why the last restore of a script came to no end.
+//! The reasons why the last restore of a script did not end.
 
 use media_restore::Refused;
 use std::error::Error;

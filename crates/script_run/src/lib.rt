@@ -1,4 +1,4 @@
-//! A script that is played: its replies as lines, the log as a file, and its last restore.
+//! Plays a script: writes its replies as lines, its log as a file, and its last restored pages.
 #![tactic(auto)]
 
 mod finish;

@@ -1,4 +1,4 @@
-//! Why a log could not be written.
+//! The reasons why a log could not be written.
 
 use std::error::Error;
 use std::fmt;

@@ -1,4 +1,4 @@
-//! The writing of a log, a part at a time.
+//! Writes a log piece by piece.
 
 ghost use Rattle.std.specs.Prelude.{◌≡◌, ◌*◌, ◌<◌, ◌≤◌, length, take, IfErr, OnOk};
 ghost use Rattle.std.specs.List.{flat_map};

@@ -1,4 +1,4 @@
-//! Events that are played in memory.
+//! Plays events in memory.
 
 ghost use Rattle.std.specs.Prelude.{◌≡◌, ◌≤◌, All, IfOk};
 ghost use Rattle.log_records.specs.Log.{IsPageCount};

@@ -1,4 +1,4 @@
-//! The lines of restored pages.
+//! The lines that show restored pages.
 
 ghost use Rattle.std.specs.Prelude.{◌≡◌, ◌++◌, IfOk, OnOk};
 ghost use Rattle.std.specs.String.{string_bytes};

@@ -1,4 +1,4 @@
-//! The lines of replies.
+//! The lines that report replies.
 
 ghost use Rattle.std.specs.Prelude.{◌≡◌, ◌++◌, IfOk, OnOk};
 ghost use Rattle.std.specs.String.{string_bytes};

@@ -1,4 +1,4 @@
-//! A script from its bytes to the lines of its replies.
+//! Runs a script, from its bytes to the lines of its replies.
 
 ghost use Rattle.std.specs.Prelude.{◌≡◌, ◌<◌, ◌≤◌, length, take, IfErr, IfOk, OnOk};
 ghost use Rattle.std.specs.Io.KnownBytes.{Appends, Keeps};

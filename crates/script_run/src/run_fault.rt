@@ -1,4 +1,4 @@
-//! Why a script was not played.
+//! The reasons why a script was not played.
 
 use event_script::ScriptFault;
 use std::error::Error;

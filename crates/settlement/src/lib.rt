@@ -1,4 +1,4 @@
-//! Whether what the sessions of a shared engine were answered stands in its log.
+//! Compares what the sessions of a shared engine were answered with its log.
 #![tactic(auto)]
 
 mod marks;

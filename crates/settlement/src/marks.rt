@@ -1,4 +1,4 @@
-//! The records that receipts speak of.
+//! The records that receipts name.
 
 ghost use Rattle.std.specs.Prelude.{ℕ, ◌≡◌, ◌<◌, ◌≤◌, ◌⊎◌, true, false, length, take, IfErr, IfNone};
 ghost use Rattle.std.specs.Prelude.{◌++◌, List};

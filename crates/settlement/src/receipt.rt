@@ -1,4 +1,4 @@
-//! What a session keeps of each call that was answered.
+//! The receipt that a session keeps for each call that was answered.
 
 use page_core::{ChangeKind, Lsn, PageNo, SlotNo, TxnNo};
 

@@ -1,4 +1,4 @@
-//! The transaction table: the open transactions of a log, kept as its records are noted.
+//! The transaction table: the open transactions of a log, updated as each record is noted.
 #![tactic(auto)]
 
 mod table;

@@ -1,4 +1,4 @@
-//! Redo of a whole log over formatted pages, from bytes to bytes.
+//! Redoes a whole log on formatted pages, from bytes to bytes.
 #![tactic(auto)]
 
 mod fault;

@@ -1,4 +1,4 @@
-//! From the bytes of a log to the bytes of the volume that it makes.
+//! Turns the bytes of a log into the bytes of its volume.
 
 ghost use Rattle.std.specs.Prelude.{◌≡◌, IfErr, OnOk};
 ghost use Rattle.std.specs.Io.KnownBytes.{IsAtEnd};

@@ -1,4 +1,4 @@
-//! Checkpoints: rows of calls, their bytes, and what stands where a device or a store fails.
+//! Checkpoints: series of calls, their bytes, and what is stored after a device or a store fails.
 
 use super::rows::{assert_parts, assert_row};
 use super::{called, called_over};

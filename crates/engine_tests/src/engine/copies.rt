@@ -1,4 +1,4 @@
-//! Image copies: rows of calls with their replies, and what stands where a read of a page fails.
+//! Image copies: series of calls with their replies, and the state after a read of a page fails.
 
 use super::rows::{assert_parts, assert_row};
 use super::{called_over, play_over};

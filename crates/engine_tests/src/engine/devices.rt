@@ -1,4 +1,4 @@
-//! What is on a log's device, where one of its calls fails.
+//! What a log's device holds after one of its calls fails.
 
 use super::{called_on, device_of, failing_device, played_on, setup_of, store_of};
 use crate::asserts::{same, same_at};

@@ -1,4 +1,4 @@
-//! Rows of calls with their replies: each is called one by one, and played as a list.
+//! Series of calls with their replies. Each is called one by one, and played as a list.
 
 ghost use Rattle.log_records.specs.Log.{IsPageCount};
 

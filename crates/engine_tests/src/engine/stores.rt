@@ -1,4 +1,4 @@
-//! Writes of pages: what the store has of them, and what stands where one of its calls fails.
+//! Page writes: what the store holds, and the state after one of its calls fails.
 
 use super::{called, called_on, called_over, failing_device, play_over, played_on, store_of};
 use crate::asserts::same;

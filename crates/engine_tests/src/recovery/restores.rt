@@ -1,4 +1,4 @@
-//! Copies are loaded, redone and undone.
+//! Copies that are loaded, redone and undone.
 
 use super::shown::Appended::{BackTo, End, Less};
 use super::shown::{Appended, Shown, assert_appended, assert_pages};

@@ -1,4 +1,4 @@
-//! Pages and records as they are expected.
+//! Expected pages and records.
 
 use crate::asserts::same;
 use log_records::Record;

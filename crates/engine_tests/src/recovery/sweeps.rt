@@ -1,5 +1,5 @@
-//! Each call of the store and each call of the log's device fails in turn, and each copy that is
-//! complete then is restored of each log that a crash may leave.
+//! Each call of the store and of the log's device fails in turn. Each copy that is then complete is
+//! restored from every log that a crash may leave.
 
 use super::{redone_of, undone_of};
 use crate::asserts::same_at;

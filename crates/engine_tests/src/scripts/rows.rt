@@ -1,4 +1,4 @@
-//! Lines, and what each of them says.
+//! Lines of scripts, and what each of them says.
 
 use aries_core::{Answer, Refusal};
 use copy_vault::CopyId;
