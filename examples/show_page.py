@@ -4,6 +4,7 @@
 usage: show_page.py VOLUME PAGE
 """
 
+import os
 import sys
 
 from log_format import PAGE_SIZE, decode_page
@@ -31,7 +32,12 @@ def main(arguments):
         number, lsn, slots = read_page(arguments[0], int(arguments[1]))
     except (OSError, ValueError) as error:
         sys.exit(f"show_page.py: {arguments[0]} cannot be read: {error}")
-    print(f"page {number} lsn {lsn}", *(f"{slot}={value}" for slot, value in enumerate(slots) if value))
+    try:
+        print(f"page {number} lsn {lsn}", *(f"{slot}={value}" for slot, value in enumerate(slots) if value), flush=True)
+    except OSError as error:
+        # Else Python would try to write the rest once more at its end, and report that too.
+        os.dup2(os.open(os.devnull, os.O_WRONLY), sys.stdout.fileno())
+        sys.exit(f"show_page.py: the output cannot be written: {error.strerror}")
 
 
 if __name__ == "__main__":

@@ -1,4 +1,4 @@
-//! Checks the master record of a log while the log is read.
+//! Reads the master record of a log, and checks that it names a complete checkpoint.
 
 ghost use Rattle.std.specs.Prelude.{ℕ, ◌≡◌, ◌↔◌, ◌≤◌, Err, IfOk, IfErr, IfSome, IsTrue, None, Some};
 ghost use Rattle.log_records.specs.declared.record.Record.TheVariants.{EndChkpt};

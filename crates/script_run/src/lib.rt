@@ -1,4 +1,5 @@
-//! Plays a script: writes its replies as lines, its log as a file, and its last restored pages.
+//! Plays a script: writes its replies as lines, its log as a file, and the pages of its last
+//! restore as lines.
 #![tactic(auto)]
 
 mod finish;
