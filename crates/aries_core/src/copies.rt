@@ -49,10 +49,10 @@ impl<S: PageStore, D: LogDevice> Engine<S, D> {
         Ok(self.vault.open_inc(self.alloc, parent, begin, redo)?)
     }
 
-    /// Has a copy that is being read decide of a page as it is stored: a full copy takes it, an
-    /// incremental one where its LSN is at least the redo point of the copy's parent; else it keeps
-    /// what its parent has. Refusals in order: `NoCopy`, `CopyNotOpen`, `PageOut`, `PageDecided`,
-    /// `OutOfMemory`, `StoreFault`.
+    /// Has an open copy decide on a stored page. A full copy takes it. An incremental copy takes it
+    /// if its LSN is at least the redo point of the parent, and otherwise keeps the parent's page.
+    /// Refusals in order: `NoCopy`, `CopyNotOpen`, `PageOut`, `PageDecided`, `OutOfMemory`,
+    /// `StoreFault`.
     pub fn take(&mut self, copy: CopyId, page: PageNo) -> Result<Took, Refusal>
         ensures step { Step self.old.state (event.Take copy page) (reply_of took_answer result)
             self.new.state }
@@ -77,7 +77,7 @@ impl<S: PageStore, D: LogDevice> Engine<S, D> {
         }
     }
 
-    /// Makes a copy complete, and answers how many pages it has. Refusals in order: `NoCopy`,
+    /// Seals an open copy, and answers how many pages it took. Refusals in order: `NoCopy`,
     /// `CopyNotOpen`, `PagesLeft`. This takes no memory.
     pub fn seal(&mut self, copy: CopyId) -> Result<u32, Refusal>
         ensures step { Step self.old.state (event.Seal copy) (reply_of answer.Sealed result)
@@ -88,8 +88,8 @@ impl<S: PageStore, D: LogDevice> Engine<S, D> {
         Ok(self.vault.seal(copy)?)
     }
 
-    /// Drops a copy that is being read. Its id is not given again. Refusals in order: `NoCopy`,
-    /// `CopyNotOpen`. This takes no memory.
+    /// Drops an open copy. Its id is not given again. Refusals in order: `NoCopy`, `CopyNotOpen`.
+    /// This takes no memory.
     pub fn drop_copy(&mut self, copy: CopyId) -> Result<(), Refusal>
         ensures step { Step self.old.state (event.DropCopy copy)
             (reply_of (λ none. answer.Dropped) result) self.new.state }

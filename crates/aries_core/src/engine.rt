@@ -245,8 +245,8 @@ impl<S: PageStore, D: LogDevice> Engine<S, D> {
         Ok(self.number(page, slot))
     }
 
-    /// Ends a transaction whose changes are to last, forces the log through its Commit and answers
-    /// its LSN. Refusals in order: `NoTxn`, `TxnRolling`, `OutOfMemory`, `CommitUnsure`.
+    /// Commits a transaction, forces the log through its Commit, and answers its LSN. Refusals in
+    /// order: `NoTxn`, `TxnRolling`, `OutOfMemory`, `CommitUnsure`.
     pub fn commit(&mut self, txn: TxnNo) -> Result<Lsn, Refusal>
         ensures step { Step self.old.state (event.Commit txn) (reply_of answer.Logged result)
             self.new.state }
@@ -273,8 +273,8 @@ impl<S: PageStore, D: LogDevice> Engine<S, D> {
         }
     }
 
-    /// Begins to take the changes of a transaction back, and answers the LSN of its Abort. Refusals
-    /// in order: `NoTxn`, `TxnRolling`, `OutOfMemory`.
+    /// Begins to roll back a transaction, and answers the LSN of its Abort. Refusals in order:
+    /// `NoTxn`, `TxnRolling`, `OutOfMemory`.
     pub fn abort(&mut self, txn: TxnNo) -> Result<Lsn, Refusal>
         ensures step { Step self.old.state (event.Abort txn) (reply_of answer.Logged result)
             self.new.state }
@@ -287,9 +287,9 @@ impl<S: PageStore, D: LogDevice> Engine<S, D> {
         Ok(lsn)
     }
 
-    /// Takes the last pending change of a transaction that rolls back out again, or ends the
-    /// transaction where none is left; answers the LSN of the Comp or End. Refusals in order:
-    /// `NoTxn`, `NotRolling`, `OutOfMemory`.
+    /// Undoes the last pending change of a transaction that is rolling back, or ends the
+    /// transaction if none is left; answers the LSN of the Comp or End. Refusals in order: `NoTxn`,
+    /// `NotRolling`, `OutOfMemory`.
     pub fn undo_step(&mut self, txn: TxnNo) -> Result<Undone, Refusal>
         ensures step { Step self.old.state (event.UndoStep txn) (reply_of undo_answer result)
             self.new.state }

@@ -19,7 +19,7 @@ use log_store::LogDevice;
 use page_store::PageStore;
 use std::alloc::Global;
 
-/// What came of a list of events.
+/// The result of playing a list of events.
 #[derive(Drop)]
 pub struct Played<S: PageStore, D: LogDevice> {
     /// A reply for each event, in their order.

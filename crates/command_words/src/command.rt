@@ -20,7 +20,7 @@ use std::convert::AsStr;
 use strsim::levenshtein;
 use thiserror::Error;
 
-/// What the program is told to do.
+/// What the command line tells the program to do.
 #[derive(Debug, Drop, PartialEq, Eq)]
 pub enum Command<'a> {
     /// To redo the log on standard input.

@@ -282,7 +282,7 @@ impl Vault {
         copy.decide(number, page)
     }
 
-    /// Makes a copy complete, and answers how many pages it has. Refusals in order: `NoCopy`,
+    /// Seals an open copy, and answers how many pages it took. Refusals in order: `NoCopy`,
     /// `CopyNotOpen`, `PagesLeft`. This takes no memory.
     pub fn seal(&mut self, id: CopyId) -> Result<u32, CopyFault>
         ensures count { IfOk result (λ taken. taken ≡ taken_in (state_of self.old.copies id)) }
@@ -299,8 +299,8 @@ impl Vault {
         entry.seal()
     }
 
-    /// Drops a copy that is being read. Its id is not given again. Refusals in order: `NoCopy`,
-    /// `CopyNotOpen`. This takes no memory.
+    /// Drops an open copy. Its id is not given again. Refusals in order: `NoCopy`, `CopyNotOpen`.
+    /// This takes no memory.
     pub fn drop_open(&mut self, id: CopyId) -> Result<(), CopyFault>
         ensures dropped { OnOk result (self.new.copies ≡ without self.old.copies id) }
         ensures ok { OnOk result (drop_refusal (state_of self.old.copies id) ≡ None) }

@@ -41,8 +41,8 @@ impl From<AllocError> for SaveFault {
     }
 }
 
-/// Writes the files `log`, with all records, `master`, if there is one, and `copy-<id>` of each
-/// complete copy into a folder that is there.
+/// Writes the files `log`, with all records, `master`, if there is one, and `copy-<id>` for each
+/// complete copy into an existing folder.
 ///
 /// Each file is written beside its name, as `unfinished`, is synced, and then takes the place of an
 /// older file of its name. So at a fault each name has its old file or its new one, whole: those

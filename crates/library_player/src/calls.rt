@@ -279,7 +279,7 @@ fn make_both(alloc: Global) -> Option<bool> {
     Some(called || played)
 }
 
-/// Makes the calls one by one and as a list, restores a copy, and tells what came of it.
+/// Makes the calls one by one and as a list, restores a copy, and reports the results.
 pub fn told_of_calls(alloc: Global) -> &'static str {
     match make_both(alloc) {
         Some(true) => "a call was made again",

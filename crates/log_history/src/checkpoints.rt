@@ -173,7 +173,7 @@ impl Checkpoints {
         Ok(())
     }
 
-    /// Takes back the last record that was noted, which is a transaction's.
+    /// Takes back the last noted record, which is a transaction's.
     pub fn take_back(&mut self)
         ensures { self.new ≡ record self.old { changed = without_last self.old.changed } }
     {

@@ -137,7 +137,7 @@ impl Claims {
         Claim::of(self.marks.holder(page, slot), self.adders.seats(page, slot))
     }
 
-    /// Reaches for what a change of a slot looks at first, so that it comes from memory.
+    /// Prefetches what a change of a slot will look at first.
     pub fn look(&self, page: PageNo, slot: SlotNo) -> u8 {
         self.marks.look(page, slot)
     }

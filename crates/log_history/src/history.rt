@@ -13,8 +13,8 @@ use page_core::{Change, Page, PageNo, SlotNo, formatted_pages};
 use std::alloc::{AllocError, Global};
 use std::marker::Model;
 
-/// What the records of a log make: its open transactions, its checkpoints, and its pages with the
-/// changes of all records (ARIES, sections 3, 5.4 and 6.2).
+/// The state to which the records of a log lead: its open transactions, its checkpoints, and its
+/// pages with the changes of all records (ARIES, sections 3, 5.4 and 6.2).
 #[derive(Drop)]
 pub struct History {
     txns: OpenTransactions,
@@ -69,9 +69,8 @@ impl History {
         self.txns
     }
 
-    /// Reaches for what a change of a slot looks at, so that it comes from memory. For a slot that
-    /// is not there it does nothing. What it answers says nothing, but a compiler must keep the
-    /// look for it.
+    /// Prefetches what a change of a slot will look at. For a slot that is not there it does
+    /// nothing. What it answers says nothing, but a compiler must keep the look for it.
     pub fn look(&self, page: PageNo, slot: SlotNo) -> u64 {
         let seen = match self.pages.get(page.0 as usize) {
             Some(page) => page.lsn.0 ^ *page.slots.get(slot.0 as usize).unwrap_or(&0),

@@ -24,8 +24,8 @@ use page_core::{Change, ChangeKind, Lsn, PageNo, SlotNo, TxnNo};
 use std::alloc::{AllocError, Global};
 use std::marker::Model;
 
-/// The open transactions: what each of them has done, what it may still take back, and which slots
-/// it keeps from the others (ARIES, sections 3 and 4). It takes the records of a log one by one.
+/// The open transactions: what each of them has done, what it may still undo, and which slots it
+/// holds against the others (ARIES, sections 3 and 4). It takes the records of a log one by one.
 #[derive(Drop)]
 pub struct OpenTransactions {
     begun: u32,
@@ -85,8 +85,8 @@ impl OpenTransactions {
         self.list.first_other(seats, txn)
     }
 
-    /// Reaches for what a change of a slot looks at first, so that it comes from memory. What it
-    /// answers says nothing, but a compiler must keep the look for it.
+    /// Prefetches what a change of a slot will look at first. What it answers says nothing, but a
+    /// compiler must keep the look for it.
     pub fn look(&self, page: PageNo, slot: SlotNo) -> u8 {
         self.claims.look(page, slot)
     }

@@ -2,7 +2,7 @@
 
 use page_core::{Change, Lsn, PageNo, SlotNo};
 
-/// A change of an Update that no compensation record has taken back: what a rollback needs of it.
+/// A change of an Update that no compensation record has undone, with what a rollback needs of it.
 #[derive(Clone, Copy, Debug, PartialEq, Eq)]
 pub struct PendingChange {
     /// The Update's own LSN.

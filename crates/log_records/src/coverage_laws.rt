@@ -21,15 +21,15 @@ pub fn covering_goes_down()
         → Covers rs number page high → Covers rs number page low }
 {}
 
-/// A log that grows leaves a page what it was: an image of its past, which lacks nothing below an
-/// LSN that is not above the new record.
+/// A log that grows leaves a page as it was: an image of the log's past, which lacks nothing below
+/// an LSN that is not above the new record.
 pub fn covering_outlasts_new_records()
     ensures { (rs : List Record) (next : Record) (number : ℕ) (page : Page) (bound : ℕ)
         → bound ≤ own_lsn next → Covers rs number page bound
         → Covers (rs ++ next ∷ []) number page bound }
 {}
 
-/// Redo from an LSN below which a page lacks nothing makes it what the whole log makes of it.
+/// Redo from an LSN below which a page lacks nothing turns it into what the whole log makes of it.
 pub fn redo_of_a_covering_page_is_its_image()
     ensures { (log : Log) (number : ℕ) (page : Page) (from : ℕ) → IsLog log
         → Covers log.records number page from

@@ -132,8 +132,8 @@ impl Record {
         }
     }
 
-    /// Redo: makes the record's change on the page, if it makes one of this page. The LSN that the
-    /// page has is not looked at.
+    /// Redoes the record on the page, if it is a change of this page. The LSN that the page has is
+    /// not looked at.
     pub fn redo_on(&self, page: &mut Page)
         ensures { page.new ≡ with_record page.old self.now }
     {

@@ -1,6 +1,6 @@
 //! What an open transaction is doing.
 
-/// An open transaction is active, or it takes its changes back.
+/// Whether an open transaction is active or rolling back.
 #[derive(Clone, Copy, Debug, PartialEq, Eq)]
 pub enum TxnPhase {
     Active,

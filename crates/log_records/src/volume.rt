@@ -7,8 +7,7 @@ ghost use Rattle.log_records.specs.Log.{IsWithin};
 use crate::record::Record;
 use page_core::Page;
 
-/// Makes the change of a record, if it makes one, on the page that it names. Every other page
-/// stays.
+/// Redoes a record on the page that it names, if it is a change. Every other page stays.
 pub fn redo_on_its_page(pages: &mut [Page], next: &Record)
     requires within { IsWithin (length pages.old) next.now }
     requires numbered { AreNumbered pages.old }

@@ -8,7 +8,7 @@ ghost use Rattle.log_store.specs.declared.device.DeviceFault.{DeviceFault};
 use std::error::Error;
 use std::fmt;
 
-/// A device that a log is kept on. It has bytes, and each is named by its offset from the first.
+/// A device that stores a log. It has bytes, and each is named by its offset from the first.
 pub trait LogDevice {
     /// What is on the device.
     ghost bytes: { Self → List ℕ };
@@ -26,7 +26,7 @@ pub trait LogDevice {
     /// 0 where any store may fail.
     ghost fails_from: { Self → ℕ };
 
-    /// Puts these bytes in the place of all that the device has from an offset on.
+    /// Replaces all bytes of the device from an offset on by these bytes.
     ///
     /// An `Err` comes where the device fails, and of nothing else. The bytes before the offset
     /// stand even then. Of the bytes from there on nothing is said.

@@ -8,7 +8,7 @@ use std::alloc::{AllocError, AllocFailed};
 use std::error::Error;
 use std::fmt;
 
-/// Why a log could not be read: the first fault of its bytes, or what kept them from being read.
+/// Why a log could not be read: the first fault of its bytes, or what prevented reading them.
 #[derive(Clone, Copy, Debug, PartialEq, Eq)]
 pub enum LogReadFault {
     /// Memory ran out.

@@ -7,7 +7,7 @@ use crate::device::{DeviceFault, LogDevice};
 use crate::mem_device::MemDevice;
 use std::marker::Model;
 
-/// A device in memory of which one call of `store` fails.
+/// A device in memory that fails at one call of `store`.
 #[derive(Drop)]
 pub struct FaultyDevice {
     device: MemDevice,

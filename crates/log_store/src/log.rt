@@ -16,8 +16,9 @@ use page_core::Lsn;
 use std::alloc::{AllocError, Global};
 use std::marker::Model;
 
-/// A log that is written. It has all of its records in memory, and the first of them on its device
-/// too. These are forced: they outlast every later call and every later fault.
+/// A log that callers append to and force to a device. It has all of its records in memory, and the
+/// first of them on its device too. These are forced: they outlast every later call and every later
+/// fault.
 #[derive(Drop)]
 pub struct Log<D: LogDevice> {
     pages: u32,
@@ -85,8 +86,8 @@ impl<D: LogDevice> Log<D> {
         self.records.reserve(1)
     }
 
-    /// Puts a record at the end, in memory alone: `force_to` and `force` bring it to the device. It
-    /// takes no memory, since `make_room` has made its room.
+    /// Appends a record in memory; `force_to` and `force` bring it to the device. It takes no
+    /// memory, since `make_room` has made its room.
     pub fn append(&mut self, next: Record)
         requires stands { StandsAt self.old.log.pages (lsn_of (length self.old.log.records)) next }
         requires few { length self.old.log.records < MAX_RECORDS }
@@ -181,15 +182,14 @@ impl<D: LogDevice> Log<D> {
         self.records.get(index as usize).copied()
     }
 
-    /// The LSN behind the last record, in bytes: where the next record is to stand.
+    /// The LSN after the last record: where the next record will stand.
     pub fn end(&self) -> Lsn
         ensures { result ≡ lsn_of (length self.now.log.records) }
     {
         Lsn(offset_of(self.records.len()))
     }
 
-    /// The LSN behind the last record that is forced, in bytes. Each record below it is on the
-    /// device.
+    /// The LSN after the last forced record. Each record below it is on the device.
     pub fn forced_end(&self) -> Lsn
         ensures end { result ≡ self.now.forced_end }
         ensures within { result ≤ lsn_of (length self.now.log.records) }

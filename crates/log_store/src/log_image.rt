@@ -51,7 +51,7 @@ impl LogImage {
         &self.records
     }
 
-    /// Leaves out the records behind the first `count`, if there are so many.
+    /// Keeps the first `count` records, or all if there are fewer.
     pub fn keep_first(&mut self, count: usize)
         ensures { self.new ≡ record self.old { records = take count self.old.records } }
     {

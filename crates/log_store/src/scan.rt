@@ -17,7 +17,7 @@ use page_core::{LSN_STEP, Lsn, MAX_TURNS, Turn, keep_from, read_more, zeros};
 use std::alloc::Global;
 use std::io::Read;
 
-/// A log that was read: what a sink made of it, and what its records make.
+/// The result of reading a log: its sink, and the state to which its records lead.
 #[derive(Drop)]
 pub struct Scan<S> {
     pub sink: S,

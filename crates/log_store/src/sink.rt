@@ -6,7 +6,7 @@ ghost use Rattle.log_records.specs.Log.{IsLog, IsPageCount, Log, with_next};
 use log_records::Record;
 use std::alloc::{AllocError, Global};
 
-/// What takes the records of a log as they are read.
+/// Takes the records of a log as they are read.
 pub trait RecordSink {
     /// What the sink holds is what it makes of this log.
     ghost holds: { Self → Log → Type 0 };

@@ -61,9 +61,9 @@ pub fn losers(alloc: Global, log: &[Record], _master: &Master) -> Result<TxnTabl
 }
 
 impl Redone {
-    /// A log, its master record and its pages, whatever has been redone on them. An `Err` comes
-    /// where memory for the table of its open transactions is refused, and hands the records and
-    /// the pages back.
+    /// Takes a log, its master record and its pages, whatever has been redone on them. An `Err`
+    /// comes where memory for the table of its open transactions is refused, and hands the records
+    /// and the pages back.
     pub fn new(
         alloc: Global,
         page_count: u32,
@@ -90,7 +90,7 @@ impl Redone {
         }
     }
 
-    /// The same with the table of its open transactions, where a reader of the log has made it.
+    /// The same, with the table of open transactions that reading the log has made.
     pub fn with_losers(
         page_count: u32,
         records: Vec<Record>,

@@ -77,7 +77,7 @@ impl Undone {
     }
 }
 
-/// Undo of all transactions that are open at the log's end (ARIES, section 6.3). It appends an End
+/// Undoes all transactions that are open at the log's end (ARIES, section 6.3). It appends an End
 /// for each that has nothing pending, and then goes back over the log: it compensates each pending
 /// change, and ends each transaction of which nothing is left. What it appends is redone on the
 /// pages, whatever these have. Where they are those that the log makes, so they are afterwards, and

@@ -20,9 +20,9 @@ use log_store::Master;
 use page_core::{LSN_STEP, Lsn, Page};
 use std::alloc::Global;
 
-/// Loads a complete copy with those that it stands on, and keeps the first `cut` records of the
-/// log, or all where there are fewer. Refusals in order: `NoCopy`, `CopyNotComplete`,
-/// `CutTooShort`, `OutOfMemory`; what was retired is given back then.
+/// Loads a complete copy with its parents, and keeps the first `cut` records of the log, or all if
+/// there are fewer. Refusals in order: `NoCopy`, `CopyNotComplete`, `CutTooShort`, `OutOfMemory`;
+/// what was retired is given back then.
 pub fn load(
     alloc: Global,
     retired: Retired,

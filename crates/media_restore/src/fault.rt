@@ -69,7 +69,7 @@ impl fmt::Display for RedoFault {
 
 impl Error for RedoFault {}
 
-/// Why a restore came to no end: the refusal of its load, of its redo or of its undo.
+/// Why a restore was not done: the refusal of its load, of its redo or of its undo.
 #[derive(Clone, Copy, Debug, PartialEq, Eq)]
 pub enum Refused {
     /// The copy was not loaded.

@@ -12,9 +12,9 @@ use page_core::{Lsn, Page};
 use std::alloc::Global;
 use std::marker::Model;
 
-/// A copy that is loaded: the kept log, its last complete checkpoint, the pages that the copy's
-/// chain has, and the LSN from which on the log is to be redone over them. The type does not say
-/// that these pages lack nothing below that LSN.
+/// A loaded copy: the kept log, its last complete checkpoint, the pages of the copy's chain, and
+/// the LSN from which the log is to be redone on them. The type does not say that these pages lack
+/// nothing below that LSN.
 #[derive(Drop)]
 pub struct Loaded {
     log: LogImage,
@@ -82,14 +82,14 @@ impl Loaded {
         self.master
     }
 
-    /// The pages as the copy's chain has them, in order of their numbers.
+    /// The pages of the copy's chain, in order of their numbers.
     pub fn pages(&self) -> &[Page]
         ensures { result.now ≡ self.now.pages }
     {
         &self.pages
     }
 
-    /// The LSN from which on the log is to be redone over the pages.
+    /// The LSN from which the log is to be redone on the pages.
     pub fn redo_point(&self) -> Lsn
         ensures { result ≡ self.now.redo }
     {

@@ -23,7 +23,7 @@ use loser_undo::{Redone, Undone, undo_all};
 use page_store::PageStore;
 use std::alloc::Global;
 
-/// What came of a list of events, and of the restore after it.
+/// The result of playing a list of events, and of the restore after it.
 #[derive(Drop)]
 pub struct Rebuilt {
     /// A reply for each event, in their order.

@@ -12,8 +12,8 @@ pub enum Change {
     Add { amount: u64 },
 }
 
-/// What a change does to a number, whatever its own numbers are. It decides which changes of two
-/// transactions may stand beside each other on a slot.
+/// Which kind of change it is, without its numbers. It decides which changes of two transactions
+/// may stand beside each other on a slot.
 #[derive(Clone, Copy, Debug, PartialEq, Eq)]
 pub enum ChangeKind {
     Set,
@@ -42,7 +42,7 @@ impl Change {
     }
 }
 
-/// The change that takes a change back.
+/// The change that undoes a change.
 pub fn undo_of(change: &Change) -> Change
     ensures inverse { result ≡ inverse_of change.now }
     // Undoing puts the number back.

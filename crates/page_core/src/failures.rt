@@ -2,8 +2,8 @@
 
 use std::snapshot::Snapshot;
 
-/// How often something has failed. It has the count before the last failure for contracts alone, so
-/// it takes one byte, and the count has no last value.
+/// A count of failures. It has the count before the last failure for contracts alone, so it takes
+/// one byte, and the count has no last value.
 #[derive(Drop)]
 pub enum Failures {
     None,

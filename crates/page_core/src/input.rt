@@ -5,10 +5,10 @@ ghost use Rattle.page_core.specs.Input.{Gives};
 
 use std::io::{ErrorKind, Read};
 
-/// How often a reader is asked for more bytes, at most.
+/// The most times that a reader is asked for more bytes.
 pub const MAX_TURNS: u32 = 134_217_728;
 
-/// What came of asking a reader for more bytes.
+/// The result of asking a reader for more bytes.
 pub enum Turn {
     /// So many more, and none where the read was interrupted.
     More(usize),
@@ -17,7 +17,7 @@ pub enum Turn {
     Failed,
 }
 
-/// Asks a reader for more bytes, behind those that fill the buffer.
+/// Asks a reader for more bytes, after those that fill the buffer.
 pub fn read_more<R: Read>(reader: &mut R, buffer: &mut [u8], filled: usize) -> Turn
     requires { filled < length buffer.old }
     ensures { Gives (R.remaining reader.old) (R.remaining reader.new) filled
@@ -36,8 +36,8 @@ pub fn read_more<R: Read>(reader: &mut R, buffer: &mut [u8], filled: usize) -> T
     }
 }
 
-/// Moves the bytes from here on to the front, of those that fill the buffer, and answers how many
-/// they are.
+/// Moves the filled bytes at and after `from` to the front of the buffer, and answers how many they
+/// are.
 pub fn keep_from(buffer: &mut [u8], from: usize, filled: usize) -> usize
     requires within { from ≤ filled }
     requires filled { filled ≤ length buffer.old }

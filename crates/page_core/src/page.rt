@@ -84,7 +84,7 @@ impl Page {
         }
     }
 
-    /// The same page once more. Unlike a clone, it cannot be refused.
+    /// A copy of the page. Unlike a clone, it cannot be refused.
     pub fn copy(&self) -> Page
         ensures { result ≡ self.now }
     {
@@ -95,8 +95,8 @@ impl Page {
         }
     }
 
-    /// The redo of a change: the slot has the changed number, and the page the record's LSN.
-    /// A slot that no page has is left out.
+    /// Redoes a change: the slot gets the changed number, and the page gets the record's LSN. A
+    /// slot that no page has is left out.
     pub fn apply(&mut self, lsn: Lsn, slot: SlotNo, change: &Change)
         ensures { self.new ≡ put self.old lsn slot change.now }
     {
@@ -117,7 +117,7 @@ impl Page {
         bytes
     }
 
-    /// Puts the bytes of the page in the place of these, as `to_bytes` gives them.
+    /// Overwrites the buffer with the bytes of the page, as `to_bytes` gives them.
     pub fn write_to(&self, bytes: &mut [u8])
         requires { length bytes.old ≡ PAGE_BYTES }
         ensures { bytes.new ≡ page_bytes self.now }

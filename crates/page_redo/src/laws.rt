@@ -12,8 +12,8 @@ pub fn pages_of_logs_are_valid()
     ensures { (log : Log) → IsLog log → AllByRecursion IsPage (redo_all log.records log.pages) }
 {}
 
-/// A page that was stored with the changes of the log's first records, however many, comes by redo
-/// to what the whole log makes of it.
+/// Redo turns a page that was stored with the changes of the log's first records, however many,
+/// into what the whole log makes of it.
 pub fn redo_completes_a_page()
     ensures { (log : Log) (count number : ℕ) → IsLog log → count ≤ length log.records
         → redone (image (take count log.records) number) log.records ≡ image log.records number }

@@ -19,7 +19,7 @@ use page_core::write_out;
 use std::alloc::{AllocError, Global};
 use std::io::Write;
 
-/// Does the last restore of a script, if it has one, and writes a line for each page: its number,
+/// Runs the last restore of a script, if it has one, and writes a line for each page: its number,
 /// its LSN, and the slots that are not 0. Where the restore is refused, the line of the refusal is
 /// written, and it is answered.
 ///

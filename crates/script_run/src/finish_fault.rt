@@ -4,7 +4,7 @@ use media_restore::Refused;
 use std::error::Error;
 use std::fmt;
 
-/// Why the last restore of a script came to no end. Its text is its line.
+/// Why the last restore of a script was not done. Its text is its line.
 #[derive(Clone, Copy, Debug, PartialEq, Eq)]
 pub enum FinishFault {
     /// Memory for the lines was refused. Nothing was written.

@@ -16,7 +16,7 @@ use page_core::write_out;
 use std::alloc::Global;
 use std::io::{Read, Write};
 
-/// What is left of a script that was played.
+/// What a script leaves after it was played.
 #[derive(Drop)]
 pub struct Ran {
     /// The log, its last complete checkpoint and the image copies.

@@ -12,7 +12,7 @@ const REFUSED_STATUS: u8 = 1;
 /// The status of any other fault: of the words, of an input, of the output, or of memory.
 pub const FAULT_STATUS: u8 = 2;
 
-/// The status of a restore from files that came to no end.
+/// The status of a restore from files that was not done.
 pub fn restore_status(fault: &RestoreFault) -> u8
     ensures { result ≡ status_of_restore fault.now }
 {
@@ -22,7 +22,7 @@ pub fn restore_status(fault: &RestoreFault) -> u8
     }
 }
 
-/// The status of a script's last restore that was refused.
+/// The status of a refused last restore of a script.
 pub fn refused_status(why: &Refused) -> u8
     ensures { result ≡ status_of_refused why.now }
 {

@@ -14,7 +14,7 @@ use std::io::{Read, Write};
 /// How many pages are written at once.
 const BUFFER_PAGES: usize = 512;
 
-/// Reads a log to its end, and writes the volume that it makes of formatted pages. Nothing is
+/// Reads a log to its end, and writes the volume that it makes from formatted pages. Nothing is
 /// written before the log is read whole and found right.
 ///
 /// The faults of reading are those of `scan_log`. `WriteFault` comes where the writer fails, takes
