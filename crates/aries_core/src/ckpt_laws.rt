@@ -63,7 +63,7 @@ pub fn the_master_is_the_last_point_answered()
         → new.master ≡ last_point events replies }
 {}
 
-/// Whether a checkpoint is open, the log says: a begin is refused for it just where one is, and a
+/// The log says whether a checkpoint is open: a begin is refused for it just where one is, and a
 /// gather and an end for want of one just where none is.
 pub fn the_log_says_which_checkpoint_is_open()
     ensures begin { (s : EngineState)
@@ -74,8 +74,8 @@ pub fn the_log_says_which_checkpoint_is_open()
         → refusal s event.CkptEnd ≡ Some NoCkpt ↔ open_checkpoint s.log ≡ None }
 {}
 
-/// Whether the gather of an open checkpoint has ended, the replies say: its end is refused for
-/// what is left just where no gather was answered Done since it began.
+/// The replies say whether the gather of an open checkpoint has ended: its end is refused for what
+/// is left just where no gather was answered Done since it began.
 pub fn gather_left_is_exact()
     ensures { (pages : ℕ) (events : List Event) (replies : List (Result Answer Refusal))
         (s : EngineState) → Run (new_state pages) events replies s

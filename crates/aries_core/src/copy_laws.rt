@@ -12,16 +12,16 @@ ghost use Rattle.aries_core.specs.declared.event.Event.{Event};
 ghost use Rattle.aries_core.specs.declared.event.Event.TheVariants as event;
 ghost use Rattle.aries_core.specs.declared.refusal.Refusal.{Refusal};
 
-/// Which copies there are, of which kind, what each has decided of each page, and which are
-/// complete or dropped, events and replies alone say.
+/// Events and replies alone say which copies there are, of which kind, what each has decided for
+/// each page, and which are complete or dropped.
 pub fn the_copies_are_those_answered()
     ensures { (pages : ℕ) (events : List Event) (replies : List (Result Answer Refusal))
         (new : EngineState) → Run (new_state pages) events replies new
         → map entry_of new.copies ≡ catalogue pages events replies }
 {}
 
-/// When a call on copies is refused, their entries say, with whether a master is there and how many
-/// pages the volume has. The refusals are in the order of the checks.
+/// The catalogue's entries say when a call on copies is refused, together with whether a master is
+/// there and how many pages the volume has. The refusals are in the order of the checks.
 pub fn copies_are_refused_by_the_catalogue()
     ensures full { (s : EngineState) → refusal s event.CopyFull
         ≡ catalogue_refusal (is_some s.master) s.pages (map entry_of s.copies) event.CopyFull }

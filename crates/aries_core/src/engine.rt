@@ -105,7 +105,7 @@ impl<S: PageStore + Drop, D: LogDevice + Drop> Engine<S, D> {
 }
 
 impl<S: PageStore, D: LogDevice> Engine<S, D> {
-    /// Does what an event says. Refusals are those of the call of that name.
+    /// Makes the call that an event stands for. Refusals are those of the call of that name.
     pub fn apply(&mut self, event: Event) -> Reply
         ensures step { Step self.old.state event result self.new.state }
         ensures device { LeavesDevice event → self.new.device ≡ self.old.device }

@@ -51,15 +51,15 @@ pub fn log_full_is_exact()
         → let after = (effect s event).state in MAX_RECORDS < length after.log + owed after.log }
 {}
 
-/// The log is the run: read back as calls, it shows the calls that were accepted, in their order,
-/// behind those that it showed before the run.
+/// The log shows the run: read back as calls, it shows the accepted calls in their order, after
+/// those that it showed before the run.
 pub fn log_shows_the_accepted_calls()
     ensures { (old : EngineState) (events : List Event)
         (replies : List (Result Answer Refusal)) (new : EngineState)
         → Run old events replies new → work new.log ≡ work old.log ++ accepted events replies }
 {}
 
-/// The log only grows: a record that stands in it stays where it is.
+/// The log only grows: no record in it changes or moves.
 pub fn the_log_only_grows()
     ensures { (old : EngineState) (events : List Event)
         (replies : List (Result Answer Refusal)) (new : EngineState)
@@ -82,8 +82,8 @@ pub fn an_answered_commit_is_forced()
         × (lsn < new.forced_end) }
 {}
 
-/// Of each Commit that was answered in a run the record stands at its LSN, and is forced: so it
-/// stands in each log that a crash may leave.
+/// The record of each Commit that was answered in a run is at its LSN, and is forced. So it is in
+/// each log that a crash may leave.
 pub fn answered_commits_are_kept()
     ensures forced { (pages : ℕ) (events : List Event) (replies : List (Result Answer Refusal))
         (new : EngineState) → Run (new_state pages) events replies new
@@ -105,7 +105,8 @@ pub fn an_unsure_commit_ends_its_transaction()
         × (new.forced_end ≤ lsn) }
 {}
 
-/// A refusal changes nothing, but for the three that tell of the log's device or of the store.
+/// A refusal changes nothing, except the three that report a fault of the log's device or of the
+/// store.
 pub fn a_refusal_changes_nothing()
     ensures { (old : EngineState) (event : Event) (why : Refusal) (new : EngineState)
         → why ≢ LogFault → why ≢ StoreFault

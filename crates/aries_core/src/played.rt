@@ -28,8 +28,8 @@ pub struct Played<S: PageStore, D: LogDevice> {
     pub engine: Engine<S, D>,
 }
 
-/// Makes an engine, and does what the events say, in their order. A refused event is a reply too,
-/// and the next one is played.
+/// Makes an engine, and makes the calls of the events in order. A refused event is a reply too, and
+/// the next one is played.
 ///
 /// A fault comes before the first event, of want of memory for the replies or for the engine, or
 /// of the log's device at the header. Store and device are dropped then.

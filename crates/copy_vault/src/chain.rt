@@ -16,8 +16,8 @@ use page_core::{Lsn, Page, PageNo};
 use std::alloc::{AllocError, Global};
 use std::marker::Model;
 
-/// A full copy and incremental ones, each the parent of the next, all of them complete. A chain
-/// has each page of the volume: as the last copy that took it has it.
+/// A full copy and incremental ones, each the parent of the next, all of them complete. A chain has
+/// each page of the volume, from the newest copy that took it.
 #[derive(Drop)]
 pub struct Chain<'a> {
     /// The full one first.
@@ -84,7 +84,7 @@ impl<'a> Chain<'a> {
         self.members[self.members.len() - 1].redo()
     }
 
-    /// A page, as the last copy that took it has it.
+    /// A page, from the newest copy that took it.
     pub fn content(&self, number: PageNo) -> &Page
         requires { number < page_count self.now }
         ensures content { result.now ≡ content self.now number }

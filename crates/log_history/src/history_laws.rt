@@ -72,8 +72,8 @@ pub fn work_grows_call_by_call()
         → work (rs ++ r ∷ []) ≡ work rs ++ option_to_list (call_of r) }
 {}
 
-/// In each slot of a linked log stands the committed number with the pending changes of the open
-/// transactions made of it. So where none is open it is the committed number.
+/// In a linked log each slot has the committed number, with the pending changes of the open
+/// transactions made on it. So if no transaction is open, it is the committed number.
 pub fn numbers_are_committed_under_pending_changes()
     ensures pending { (log : Log) (page slot : ℕ) → IsLog log → IsLinked log.records → slot < SLOTS
         → number_in log.records page slot

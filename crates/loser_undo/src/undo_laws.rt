@@ -24,12 +24,12 @@ pub fn undo_takes_back_what_is_pending()
         → AllPairs (λ x y. y.change.lsn < x.change.lsn) (lost_changes log.records) }
 {}
 
-/// Undo changes no record that stands.
+/// Undo only appends: no record changes.
 pub fn undo_only_appends()
     ensures { (rs : List Record) → take (length rs) (after_undo rs) ≡ rs }
 {}
 
-/// A linked log is linked after undo too: its records are such as an engine could have written.
+/// A linked log is still linked after undo: an engine could have written its records.
 pub fn undo_keeps_logs_linked()
     ensures { (log : Log) → IsLog log → IsLinked log.records → IsLinked (after_undo log.records) }
 {}

@@ -77,7 +77,7 @@ pub fn rebuild<S: PageStore + Drop, D: LogDevice + Drop>(
     Ok(Rebuilt { replies, outcome })
 }
 
-/// Restores a volume of what an engine left (ARIES, section 8): loads a complete copy with those
+/// Restores a volume from what an engine left (ARIES, section 8): loads a complete copy with those
 /// that it stands on, keeps the first `cut` records of the log, or all where there are fewer,
 /// redoes these from the copy's redo point on, and undoes the transactions that are open at their
 /// end.

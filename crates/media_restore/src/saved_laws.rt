@@ -20,15 +20,15 @@ pub fn what_is_left_can_be_saved()
         → AreLeft log master copies → AreCovering log copies }
 {}
 
-/// Files to which that was saved are refused for memory or a failing reader alone, and for nothing
-/// that is in them.
+/// A restore from the files that this was saved to is refused only for lack of memory or a failing
+/// reader, and never for what is in them.
 pub fn saved_files_are_right()
     ensures { (log : Log) (master : Master) (copies : List CopyView) (fault : RestoreFault)
         → AreLeft log master copies → Refused (files_of log master copies) fault
         → (fault ≡ restore_fault.OutOfMemory) ⊎ (fault ≡ restore_fault.ReadFault) }
 {}
 
-/// What is restored of such files are the pages that the saved log makes once its open transactions
+/// A restore from such files gives the pages that the saved log makes once its open transactions
 /// are undone, with what was committed.
 pub fn saved_files_restore_what_was_committed()
     ensures { (log : Log) (master : Master) (copies : List CopyView) (pages : List Page)
