@@ -264,7 +264,7 @@ def check_devices(checker):
 WRONG_WORDS = [
     "run", "run --pages", "run --pages 0", "run --pages 65537", "run --pages -1", "run --pages x", "run --pages 1 more",
     "run --pages 1 --pages 1", "run --save .", "run --pages 1 --save", "restore", "restore log", "restore --log log",
-    "rerun", "run --help", "restore --help",
+    "rerun", "help rerun", "help run", "run --help", "restore --help",
 ]
 
 
