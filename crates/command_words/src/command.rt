@@ -155,7 +155,8 @@ fn fault_of_unknown<'a>(alloc: Global, word: &'a str) -> UsageFault<'a>
 
 /// The name that is the fewest edits away from the word, if they are at most two.
 fn nearest(alloc: Global, word: &str) -> Result<Option<&'static str>, AllocError>
-    ensures { IfOk result (λ near. MatchOption near (IsFar word.now) (λ name. IsNear word.now name.now)) }
+    ensures { IfOk result (λ near.
+        MatchOption near (IsFar word.now) (λ name. IsNear word.now name.now)) }
 {
     let mut best = None;
     let mut least = 3;
