@@ -1,15 +1,15 @@
 # make imgcopy    proves and builds the program, and leaves it at build/imgcopy
 # make demo       plays a day of a small database with image copies, loses its volume and restores it, and shows its
-#                 pages; where the program is not built, rt runs the sources unproved
+#                 pages; if the program is not built, rt runs the sources unproved
 # make test       all tests: the gate, which proves every crate and tries its tests, its programs and its must-fail
 #                 edits, and then what make check does, on the program that the gate has built
 # make check      compares the program's answers to the examples and to spoiled logs with the expected ones, and those
 #                 to scripts with a model of the engine, also with each of its allocations refused in turn;
-#                 where rt is used, those of read_log and of the engine too, by a program of their own; and sees
-#                 that the documents name what is there
+#                 if rt is used, those of read_log and of the engine too, by a program of their own; and checks
+#                 that what the documents name is there
 # make bench      measures the program beside a plain Rust program, prints a table, and draws bench/times.svg
-# make examples   makes the example logs and their expected answers anew
-# make contracts  makes docs/CONTRACTS.md anew, from the sources
+# make examples   makes the example logs and their expected answers again
+# make contracts  makes docs/CONTRACTS.md again, from the sources
 # make install    puts the program, its manual page and the guide below PREFIX, by default /usr/local
 # make clean      removes build/, and keeps the proofs that rt keeps for itself
 #
