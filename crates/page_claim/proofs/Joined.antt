@@ -22,7 +22,7 @@ pages_below_more n = let e = map-range_with_len_more (λ (x : ℕ). x) 0 n n (om
 pub new_seat : (claims : PageClaims) (it : ClaimSeat) (seat : Seat (Unit {0}) ClaimView) (n : ℕ) → it.seat ≡ seat → it.ended ≡ false
     → seat.table_id ≡ claims.table.shared.table_id → seat.me.0 ≡ new_view claims.count n → IsNewSeatOf claims it
 new_seat claims it seat n is goes table me = let view : it.seat.me.0 ≡ new_view claims.count n = ap (λ (s : Seat (Unit {0}) ClaimView). s.me.0) is ∙ me in
-    ((ap (λ (s : Seat (Unit {0}) ClaimView). s.table_id) is ∙ table, ap (λ (v : ClaimView). v.count) view), ap (λ (v : ClaimView). v.pages) view, goes)
+    ((ap (λ (s : Seat (Unit {0}) ClaimView). s.table_id) is ∙ table, ap (λ (v : ClaimView). v.count) view), (ap (λ (v : ClaimView). v.pages) view, goes))
 
 times_drawn_by : (page : ℕ) (seats : List ClaimSeat) → times page (drawn_by seats) ≡ sum_by (λ it. held page (view_of it)) seats
 times_drawn_by page [] = refl

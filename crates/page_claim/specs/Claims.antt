@@ -1,5 +1,6 @@
 -- Page claims and their seats, as contracts see them.
-use Rattle.std.specs.Prelude.{◌≡◌, ℕ, ◌+◌, ◌<◌, ◌≤◌, Bool, true, false, ◌||◌, List, [], length, map, min}
+use Rattle.std.specs.Prelude.{◌≡◌, ℕ, ◌+◌, ◌<◌, ◌≤◌, Bool, true, false, ◌||◌}
+use Rattle.std.specs.Prelude.{List, [], length, map, min}
 use Rattle.std.specs.List.{list_any}
 use Rattle.page_claim.specs.declared.rule.ClaimView.{ClaimView}
 use Rattle.page_claim.specs.declared.seats.ClaimSeat.{ClaimSeat}
@@ -28,7 +29,8 @@ was_told_none it = it.ended
 
 -- the seat claims pages of these claims
 abbrev pub IsSeatOf : PageClaims → ClaimSeat → Type 0
-IsSeatOf claims it = (it.seat.table_id ≡ claims.table.shared.table_id) × ((view_of it).count ≡ claims.count)
+IsSeatOf claims it =
+    (it.seat.table_id ≡ claims.table.shared.table_id) × ((view_of it).count ≡ claims.count)
 
 -- each page stands in the one list as often as in the other
 abbrev pub HaveSamePages : List ℕ → List ℕ → Type 0
@@ -39,8 +41,11 @@ abbrev pub AreAmong : List ℕ → List ℕ → Type 0
 AreAmong pages others = (page : ℕ) → times page pages ≤ times page others
 
 -- a seat before its first claim
+abbrev pub IsNewSeat : ClaimSeat → Type 0
+IsNewSeat it = (pages_of it ≡ []) × (was_told_none it ≡ false)
+
 abbrev pub IsNewSeatOf : PageClaims → ClaimSeat → Type 0
-IsNewSeatOf claims it = IsSeatOf claims it × (pages_of it ≡ []) × (was_told_none it ≡ false)
+IsNewSeatOf claims it = IsSeatOf claims it × IsNewSeat it
 
 -- the pages of all seats' lists together
 abbrev pub drawn_by : List ClaimSeat → List ℕ
@@ -53,11 +58,13 @@ is_any_told_none seats = list_any was_told_none seats
 -- the view has what all of the seats have, but those that are left
 pub record HasJoined (view : ClaimView) (left all : List ClaimSeat) : Type 0 where
   pub weights : view.weight + length left ≡ length all
-  pub lists : (page : ℕ) → times page view.pages + times page (drawn_by left) ≡ times page (drawn_by all)
+  pub lists : (page : ℕ)
+      → times page view.pages + times page (drawn_by left) ≡ times page (drawn_by all)
   pub marks : (view.ended || is_any_told_none left) ≡ is_any_told_none all
 
 -- what the word tells of the seats, when no claim follows
 pub record IsLastWord (claims : PageClaims) (seats : List ClaimSeat) (word : ℕ) : Type 0 where
   pub all : is_any_told_none seats ≡ true → page_count claims < word
   pub among : AreAmong (drawn_by seats) (pages_below (min word (page_count claims)))
-  pub whole : length seats ≡ seats_made claims → HaveSamePages (drawn_by seats) (pages_below (min word (page_count claims)))
+  pub whole : length seats ≡ seats_made claims
+      → HaveSamePages (drawn_by seats) (pages_below (min word (page_count claims)))

@@ -1,5 +1,6 @@
 -- What the seats of page claims know, the rule of the word, and the three kinds of step.
-use Rattle.std.specs.Prelude.{◌≡◌, ℕ, ◌+◌, ◌-◌, ◌^◌, ◌<◌, ◌≤◌, ◌==◌, true, false, cond, ◌||◌, List, [], ◌∷◌, ◌++◌, length, min, slice_index, count_by}
+use Rattle.std.specs.Prelude.{◌≡◌, ℕ, ◌+◌, ◌-◌, ◌^◌, ◌<◌, ◌≤◌, ◌==◌, true, false, cond, ◌||◌}
+use Rattle.std.specs.Prelude.{List, [], ◌∷◌, ◌++◌, length, min, slice_index, count_by}
 use Rattle.std.specs.List.{sum_by, flat_map, range_with_len}
 use mathlib.Core.Option.{some}
 use lib.ListN.{get_elem?}
@@ -35,7 +36,8 @@ EachView views P = (id : ℕ) (view : ClaimView) → get_elem? views id ≡ some
 pub record KeepsClaims (terms : ClaimTerms) (word : ℕ) (views : List ClaimView) : Type 0 where
   pub bounded : terms.count + terms.workers < 2 ^ 63
   -- each page below the word stands in the lists, once
-  pub each_once : (page : ℕ) → times page (drawn views) ≡ times page (pages_below (min word terms.count))
+  pub each_once : (page : ℕ)
+      → times page (drawn views) ≡ times page (pages_below (min word terms.count))
   -- who was told that no page is left made a claim past the last page
   pub told : EachView views (λ view. view.ended ≡ true → terms.count < word)
   -- so the word does not wrap
@@ -45,7 +47,8 @@ pub record KeepsClaims (terms : ClaimTerms) (word : ℕ) (views : List ClaimView
   pub counted : EachView views (λ view. 0 < view.weight → view.count ≡ terms.count)
 
 abbrev pub IsFair : ClaimTerms → State (Unit {0}) ClaimView → Type 0
-IsFair terms state = (length state.words ≡ 1) × KeepsClaims terms (slice_index state.words 0) state.views
+IsFair terms state =
+    (length state.words ≡ 1) × KeepsClaims terms (slice_index state.words 0) state.views
 
 -- a seat for so many workers, before its first claim
 abbrev pub new_view : ℕ → ℕ → ClaimView
@@ -62,8 +65,13 @@ with_page view page = record view { pages = view.pages ++ page ∷ [] }
 abbrev pub told_none : ClaimView → ClaimView
 told_none view = record view { ended = true }
 
+-- a seat of the table: its view, and the slots that it holds, which are none
+abbrev pub SeatState : Type 0
+SeatState = Me (Unit {0}) ClaimView
+
 -- a claim that found this number in the word
-pub record IsClaim (step : Step (Unit {0})) (before : Me (Unit {0}) ClaimView) (found : ℕ) (after : Me (Unit {0}) ClaimView) : Type 0 where
+pub record IsClaim (step : Step (Unit {0})) (before : SeatState) (found : ℕ) (after : SeatState)
+    : Type 0 where
   pub slots : after.1 ≡ before.1
   pub page : found < before.0.count → after.0 ≡ with_page before.0 found
   pub none : before.0.count ≤ found → after.0 ≡ told_none before.0
@@ -77,7 +85,12 @@ one_worker view = new_view view.count 1
 
 -- a join: what the seat has then, and what is left to the other
 abbrev pub together : ClaimView → ClaimView → ClaimView
-together view other = record { count = view.count; weight = view.weight + other.weight; pages = view.pages ++ other.pages; ended = view.ended || other.ended }
+together view other = record {
+  count = view.count;
+  weight = view.weight + other.weight;
+  pages = view.pages ++ other.pages;
+  ended = view.ended || other.ended;
+}
 
 abbrev pub spent_view : ClaimView
 spent_view = new_view 0 0

@@ -3,8 +3,8 @@
 ghost use Rattle.std.specs.Prelude.{◌≡◌, ◌<◌, ◌≤◌, ◌++◌, [], ◌∷◌, false, true, length};
 ghost use Rattle.std.specs.Prelude.{IfOk, IfSome, IsNone, IfNone, vec_capacity};
 ghost use Rattle.std.specs.List.{All};
-ghost use Rattle.page_claim.specs.Claims.{IsNewSeatOf, IsSeatOf, page_count, pages_of};
-ghost use Rattle.page_claim.specs.Claims.{seats_made, was_told_none};
+ghost use Rattle.page_claim.specs.Claims.{IsNewSeat, IsNewSeatOf, IsSeatOf};
+ghost use Rattle.page_claim.specs.Claims.{page_count, pages_of, seats_made, was_told_none};
 ghost use Rattle.page_claim.specs.Rule.{new_view};
 
 use crate::rule::{ClaimTerms, ClaimView, Claiming, OneWorker};
@@ -24,7 +24,8 @@ impl PageClaims {
         ensures pages { IfOk result (λ made. page_count made.0 ≡ pages) }
         ensures workers { IfOk result (λ made. seats_made made.0 ≡ workers) }
         ensures count { IfOk result (λ made. length made.1.items ≡ workers) }
-        ensures seats { IfOk result (λ made. All (IsNewSeatOf made.0) made.1.items) }
+        ensures seats { IfOk result (λ made. All (IsSeatOf made.0) made.1.items) }
+        ensures fresh { IfOk result (λ made. All IsNewSeat made.1.items) }
     {
         let room = Vec::with_capacity(alloc, workers as usize)?;
         let terms = ClaimTerms {

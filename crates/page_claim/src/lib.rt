@@ -6,5 +6,4 @@ mod closing;
 mod rule;
 mod seats;
 
-pub use rule::{ClaimTerms, ClaimView, EachPageOnce};
 pub use seats::{ClaimSeat, PageClaims};
