@@ -14,6 +14,8 @@ mod logs;
 #[cfg(test)]
 mod open_transactions;
 #[cfg(test)]
+mod page_claims;
+#[cfg(test)]
 mod pages;
 #[cfg(test)]
 mod pools;

@@ -1,0 +1,4 @@
+pub mod Sums
+pub mod Steps
+pub mod Allowed
+pub mod Joined
