@@ -36,6 +36,11 @@ pub fn read_more<R: Read>(reader: &mut R, buffer: &mut [u8], filled: usize) -> T
     }
 }
 
+/// A reader is asked so often.
+pub fn readers_are_asked_so_often()
+    ensures { MAX_TURNS ≡ 134217728 }
+{}
+
 /// Moves the bytes from here on to the front, of those that fill the buffer, and answers how many
 /// they are.
 pub fn keep_from(buffer: &mut [u8], from: usize, filled: usize) -> usize
