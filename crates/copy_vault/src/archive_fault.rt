@@ -3,12 +3,13 @@
 ghost use Rattle.std.specs.Prelude.{◌≡◌};
 ghost use Rattle.copy_vault.specs.declared.archive_fault.ArchiveFault.TheVariants.{OutOfMemory};
 
+use page_core::FaultName;
 use std::alloc::{AllocError, AllocFailed};
 use std::error::Error;
 use std::fmt;
 
 /// Why an archive could not be read: the first fault of its bytes, or what kept them from being
-/// read.
+/// read. Its text is its line.
 #[derive(Clone, Copy, Debug, PartialEq, Eq)]
 pub enum ArchiveFault {
     /// Memory ran out.
@@ -24,18 +25,16 @@ pub enum ArchiveFault {
 
 impl fmt::Display for ArchiveFault {
     ghost use Rattle.std.specs.Prelude.{Some};
-    ghost use Rattle.copy_vault.specs.FaultText.{text_of};
+    ghost use Rattle.copy_vault.specs.FaultText.{line_of_archive};
 
-    ghost output = { λ fault. Some (text_of fault) };
+    ghost output = { λ fault. Some (line_of_archive fault) };
 
     fn fmt<W: fmt::Write>(&self, f: &mut fmt::Formatter<W>) -> fmt::Result {
         match self {
-            ArchiveFault::OutOfMemory => f.write_str("out of memory"),
-            ArchiveFault::BadArchive(at) => write!(f, "the archive is misspelt at {at}"),
-            ArchiveFault::CountDiffers => {
-                f.write_str("the archive has not as many pages as it says")
-            }
-            ArchiveFault::ReadFault => f.write_str("the archive could not be read"),
+            ArchiveFault::OutOfMemory => write!(f, "{}", FaultName::OutOfMemory),
+            ArchiveFault::BadArchive(at) => write!(f, "{} {at}", FaultName::BadArchive),
+            ArchiveFault::CountDiffers => write!(f, "{}", FaultName::CountDiffers),
+            ArchiveFault::ReadFault => write!(f, "{}", FaultName::ReadFault),
         }
     }
 }
@@ -58,7 +57,7 @@ impl<T: Drop> From<AllocFailed<T>> for ArchiveFault {
     }
 }
 
-/// Why an archive could not be written.
+/// Why an archive could not be written. Its text is its line.
 #[derive(Clone, Copy, Debug, PartialEq, Eq)]
 pub enum ArchiveWriteFault {
     /// Memory ran out. Nothing was written.
@@ -70,16 +69,14 @@ pub enum ArchiveWriteFault {
 
 impl fmt::Display for ArchiveWriteFault {
     ghost use Rattle.std.specs.Prelude.{Some};
-    ghost use Rattle.copy_vault.specs.FaultText.{text_of_write};
+    ghost use Rattle.copy_vault.specs.FaultText.{line_of_write};
 
-    ghost output = { λ fault. Some (text_of_write fault) };
+    ghost output = { λ fault. Some (line_of_write fault) };
 
     fn fmt<W: fmt::Write>(&self, f: &mut fmt::Formatter<W>) -> fmt::Result {
         match self {
-            ArchiveWriteFault::OutOfMemory => f.write_str("out of memory"),
-            ArchiveWriteFault::WriteFault(done) => {
-                write!(f, "the archive could not be written past {done} bytes")
-            }
+            ArchiveWriteFault::OutOfMemory => write!(f, "{}", FaultName::OutOfMemory),
+            ArchiveWriteFault::WriteFault(done) => write!(f, "{} {done}", FaultName::WriteFault),
         }
     }
 }

@@ -4,11 +4,12 @@ ghost use Rattle.std.specs.Prelude.{◌≡◌};
 ghost use Rattle.copy_vault.specs.declared.chain_fault.ChainFault.TheVariants.{OutOfMemory};
 
 use crate::copy_id::CopyId;
+use page_core::FaultName;
 use std::alloc::{AllocError, AllocFailed};
 use std::error::Error;
 use std::fmt;
 
-/// Why copies that are given are no chain.
+/// Why copies that are given are no chain. Its text is its line.
 #[derive(Clone, Copy, Debug, PartialEq, Eq)]
 pub enum ChainFault {
     /// Memory ran out.
@@ -20,16 +21,16 @@ pub enum ChainFault {
 
 impl fmt::Display for ChainFault {
     ghost use Rattle.std.specs.Prelude.{Some};
-    ghost use Rattle.copy_vault.specs.FaultText.{text_of_chain};
+    ghost use Rattle.copy_vault.specs.FaultText.{line_of_chain};
 
-    ghost output = { λ fault. Some (text_of_chain fault) };
+    ghost output = { λ fault. Some (line_of_chain fault) };
 
     fn fmt<W: fmt::Write>(&self, f: &mut fmt::Formatter<W>) -> fmt::Result {
         match self {
-            ChainFault::OutOfMemory => f.write_str("out of memory"),
+            ChainFault::OutOfMemory => write!(f, "{}", FaultName::OutOfMemory),
             ChainFault::ChainBroken(copy) => {
                 let copy = copy.0;
-                write!(f, "copy {copy} does not follow those before it")
+                write!(f, "{} {copy}", FaultName::ChainBroken)
             }
         }
     }

@@ -3,12 +3,12 @@
 ghost use Rattle.std.specs.Prelude.{◌≡◌};
 ghost use Rattle.copy_vault.specs.declared.fault.CopyFault.TheVariants.{OutOfMemory};
 
-use page_core::PageNo;
+use page_core::{FaultName, PageNo};
 use std::alloc::{AllocError, AllocFailed};
 use std::error::Error;
 use std::fmt;
 
-/// Why a vault refuses a call. A refusal changes nothing.
+/// Why a vault refuses a call. A refusal changes nothing. Its text is its line.
 #[derive(Clone, Copy, Debug, PartialEq, Eq)]
 pub enum CopyFault {
     /// Memory ran out.
@@ -27,21 +27,21 @@ pub enum CopyFault {
 
 impl fmt::Display for CopyFault {
     ghost use Rattle.std.specs.Prelude.{Some};
-    ghost use Rattle.copy_vault.specs.FaultText.{text_of_copy};
+    ghost use Rattle.copy_vault.specs.FaultText.{line_of_copy};
 
-    ghost output = { λ fault. Some (text_of_copy fault) };
+    ghost output = { λ fault. Some (line_of_copy fault) };
 
     fn fmt<W: fmt::Write>(&self, f: &mut fmt::Formatter<W>) -> fmt::Result {
         match self {
-            CopyFault::OutOfMemory => f.write_str("out of memory"),
-            CopyFault::NoCopy => f.write_str("no copy has this id"),
-            CopyFault::CopyNotOpen => f.write_str("the copy is complete"),
-            CopyFault::CopyNotComplete => f.write_str("the copy is still being read"),
+            CopyFault::OutOfMemory => write!(f, "{}", FaultName::OutOfMemory),
+            CopyFault::NoCopy => write!(f, "{}", FaultName::NoCopy),
+            CopyFault::CopyNotOpen => write!(f, "{}", FaultName::CopyNotOpen),
+            CopyFault::CopyNotComplete => write!(f, "{}", FaultName::CopyNotComplete),
             CopyFault::PagesLeft(page) => {
                 let page = page.0;
-                write!(f, "page {page} is not decided")
+                write!(f, "{} {page}", FaultName::PagesLeft)
             }
-            CopyFault::TooManyCopies => f.write_str("every id was given"),
+            CopyFault::TooManyCopies => write!(f, "{}", FaultName::TooManyCopies),
         }
     }
 }

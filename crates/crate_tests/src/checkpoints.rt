@@ -136,6 +136,42 @@ fn three_dirty_pages_have_their_bytes(rt: HostRuntime) {
     same(&rt, &decode(&bytes, Lsn(448)), &Some(record));
 }
 
+/// An entry may name any page; that of the log's volume alone it may name in a log.
+#[test]
+fn a_dirty_page_may_have_any_number(rt: HostRuntime) -> Result<(), Fail> {
+    let alloc = rt.alloc();
+    let [begin, update, open, _, _, _, _] = records();
+    for (page, digits) in [
+        (4_000_000_000, [0, 0x28, 0x6b, 0xee]),
+        (65_536, [0, 0, 1, 0]),
+        (u32::MAX, [0xff, 0xff, 0xff, 0xff]),
+    ] {
+        let entry = DirtyPage { page, rec_lsn: 128 };
+        let record = Record::ChkptPages {
+            lsn: Lsn(256),
+            begin: BEGIN,
+            pages: DirtyPages::One(entry),
+        };
+        let bytes = bytes_with(&[
+            (0, 8),
+            (8, 0xc0),
+            (16, 1),
+            (20, digits[0]),
+            (21, digits[1]),
+            (22, digits[2]),
+            (23, digits[3]),
+            (24, 0x80),
+            (57, 1),
+        ]);
+        same_at(&rt, &encode(&record), &bytes, &page);
+        same_at(&rt, &decode(&bytes, Lsn(256)), &Some(record), &page);
+        let log = log_with(alloc, &[begin, update, open, record], (0, b'A'))?;
+        let found = read_log(alloc, &mut log.as_slice()).err();
+        same_at(&rt, &found, &Some(LogReadFault::BadRecord(Lsn(256))), &page);
+    }
+    Ok(())
+}
+
 /// The bytes of a log of one page with these records, of which one byte is another.
 fn log_with(alloc: Global, records: &[Record], other: (usize, u8)) -> Result<Vec<u8>, AllocError> {
     let mut bytes = Vec::new(alloc);

@@ -10,6 +10,8 @@ mod checkpoints;
 #[cfg(test)]
 mod devices;
 #[cfg(test)]
+mod faults;
+#[cfg(test)]
 mod logs;
 #[cfg(test)]
 mod open_transactions;

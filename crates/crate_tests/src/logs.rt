@@ -230,32 +230,3 @@ fn a_reader_that_is_never_ready(rt: HostRuntime) {
     same(&rt, &read, &Err(LogReadFault::ReadFault));
     same(&rt, &reader.calls, &134_217_728);
 }
-
-#[test]
-fn faults_have_texts(rt: HostRuntime) -> Result<(), Fail> {
-    for (fault, text) in [
-        (LogReadFault::OutOfMemory, "out of memory"),
-        (LogReadFault::BadHeader, "the log's header is misspelt"),
-        (
-            LogReadFault::BadRecord(Lsn(128)),
-            "the record at 128 is misspelt",
-        ),
-        (
-            LogReadFault::BadChain(Lsn(192)),
-            "the record at 192 may not follow those before it",
-        ),
-        (
-            LogReadFault::Torn(Lsn(256)),
-            "the log ends within the record at 256",
-        ),
-        (LogReadFault::ReadFault, "the log could not be read"),
-        (
-            LogReadFault::TooLong,
-            "bytes follow the last record that a log may have",
-        ),
-    ] {
-        let printed = format!(in rt.alloc(); "{fault}")?;
-        same(&rt, &printed.as_str(), &text);
-    }
-    Ok(())
-}

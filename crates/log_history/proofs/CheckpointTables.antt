@@ -19,7 +19,8 @@ use Rattle.log_records.specs.declared.record.Record.TheVariants.{ChkptPages, Chk
 use Rattle.log_records.specs.Coverage.{changes, changes_on}
 use Rattle.log_records.specs.DirtyPage.{entries_of}
 use Rattle.log_records.specs.Log.{IsLog, Log, lsn_of}
-use Rattle.log_records.specs.Record.{IsDirtyPage, IsRecord, change_of, own_lsn}
+use Rattle.log_records.specs.Record.{IsDirtyPage, IsPageChange, IsRecord, change_of, own_lsn}
+use Rattle.log_records.proofs.Changes.{valid_change}
 use Rattle.log_records.proofs.Coverage.{at_each, of_each}
 use Rattle.std.proofs.lemmas.List.Elements.{All-cons, All-contains_itself, All-head, All-map, All-nil, All-tail}
 use Rattle.log_history.specs.declared.open_entry.OpenEntry.{OpenEntry}
@@ -28,7 +29,7 @@ use Rattle.log_history.specs.declared.checkpoints.TheConstants.{NO_PAGE}
 use Rattle.log_history.specs.Checked.{GoesWithCheckpoint}
 use Rattle.log_history.specs.Checkpoint.{Checkpoint, checkpoint_after, open_checkpoint, with_pages}
 use Rattle.log_history.specs.CheckpointTable.{AreChanges, Current, MayAddPages, MayAddTxn, MayClose, MayNoteCheckpoint}
-use Rattle.log_history.specs.CheckpointTable.{add_pages, checkpoint_table_of, current_after, current_of, last_page_of}
+use Rattle.log_history.specs.CheckpointTable.{NamesChange, add_pages, checkpoint_table_of, current_after, current_of, last_page_of}
 use Rattle.log_history.specs.CheckpointTable.{noted_checkpoint, page_of}
 use Rattle.log_history.specs.Linked.{ArePagesNow, HasOldTxns, MayEnd, MayRecordPages, MayRecordTxn}
 use Rattle.log_history.specs.Table.{Entry, entry_of, table_of}
@@ -106,7 +107,22 @@ from_word p r small = by_change (change_of r)
 abbrev Names : List Record → ℕ → ℕ → Type 0
 Names rs p lsn = slice_get (map page_of rs) (lsn / LSN_STEP - 1) ≡ Some p
 
+-- a page that a record changes is one that a volume may have
+changed_small : (p : ℕ) (r : Record) → IsRecord r → changes p r ≡ true → p < MAX_PAGES
+changed_small p r is = by_change (change_of r) (valid_change r is).1
+  where
+    by_change : (o : Option PageChange) → IfSome o IsPageChange → option_map_or (λ c. eqb c.page p) o false ≡ true
+        → p < MAX_PAGES
+    by_change None fits named = cc
+    by_change (Some c) fits named = let same = eqb-true c.page p named in let page = fits.page in omega (arith, same, page)
+
 module _ (log : Log) (valid : IsLog log) where
+  small : (p lsn : ℕ) → Contains (changes_on log.records p) lsn → p < NO_PAGE
+  small p lsn has =
+      let each = of_each (λ at. p < NO_PAGE) p log.records (λ k d lt is.
+      changed_small p (get_or log.records k d) (valid.records k d lt).valid is) in
+      each has.0 lsn has.1
+
   named : (p lsn : ℕ) → Contains (changes_on log.records p) lsn → Names log.records p lsn
   named p lsn has =
       let rs = log.records in
@@ -120,8 +136,8 @@ module _ (log : Log) (valid : IsLog log) where
       subst (Names rs p) has.2 (each has.0 lsn has.1)
 
   contained : (at : ℕ) (e : DirtyPage) → IsDirtyPage at e → Names log.records e.page e.rec_lsn
-      → Contains (changes_on log.records e.page) e.rec_lsn
-  contained at e is names =
+      → e.page < NO_PAGE → Contains (changes_on log.records e.page) e.rec_lsn
+  contained at e is names page_there =
       let rs = log.records in
       let p = e.page in
       let i = e.rec_lsn / 64 - 1 in
@@ -134,11 +150,14 @@ module _ (log : Log) (valid : IsLog log) where
       let place = is.rec_lsn.place in
       let same : own_lsn r ≡ e.rec_lsn = omega (arith, own, place.aligned, place.past_header) in
       let each = at_each (Contains (changes_on rs p)) p rs (All-contains_itself (changes_on rs p)) in
-      subst (Contains (changes_on rs p)) same (each i (Begin 0 0) lt (from_word p r is.page word))
+      subst (Contains (changes_on rs p)) same (each i (Begin 0 0) lt (from_word p r page_there word))
 
   one_page : (at : ℕ) (e : DirtyPage) → IsDirtyPage at e
-      → Contains (changes_on log.records e.page) e.rec_lsn ↔ Names log.records e.page e.rec_lsn
-  one_page at e is = (named e.page e.rec_lsn, contained at e is)
+      → Contains (changes_on log.records e.page) e.rec_lsn ↔ NamesChange (map page_of log.records) e
+  one_page at e is = (
+    λ has. (small e.page e.rec_lsn has, named e.page e.rec_lsn has),
+    λ it. contained at e is it.1 it.0,
+  )
 
   pages_now : (lsn begin : ℕ) (pages : DirtyPages) → IsRecord (ChkptPages lsn begin pages)
       → ArePagesNow log.records pages ↔ AreChanges (map page_of log.records) pages

@@ -4,6 +4,7 @@ use Rattle.std.specs.Prelude.{Option, Some, None, IfSome, IsSomeAnd, Contains, s
 use Rattle.std.specs.List.{All, AllByRecursion, fold}
 use Rattle.std.specs.Option.{option_map, option_map_or}
 use Rattle.page_core.specs.declared.numbers.TheConstants.{LSN_STEP}
+use Rattle.log_records.specs.declared.dirty_page.DirtyPage.{DirtyPage}
 use Rattle.log_records.specs.declared.dirty_page.DirtyPages.{DirtyPages}
 use Rattle.log_records.specs.declared.dirty_page.DirtyPages.TheVariants.{One, Two, Three}
 use Rattle.log_records.specs.declared.record.Record.{Record}
@@ -50,11 +51,14 @@ checkpoint_table_of rs = record {
 
 -- ---- which record may come next
 
--- each RecLSN names a record that changed its page
+-- the RecLSN names a record that changed the page
+abbrev pub NamesChange : List ℕ → DirtyPage → Type 0
+NamesChange changed e =
+    (e.page < NO_PAGE) × (slice_get changed (e.rec_lsn / LSN_STEP - 1) ≡ Some e.page)
+
+-- and so does each of these
 abbrev pub AreChanges : List ℕ → DirtyPages → Type 0
-AreChanges changed pages =
-    AllByRecursion (λ e. slice_get changed (e.rec_lsn / LSN_STEP - 1) ≡ Some e.page)
-    (entries_of pages)
+AreChanges changed pages = AllByRecursion (NamesChange changed) (entries_of pages)
 
 pub record MayAddPages (begin : ℕ) (pages : DirtyPages) (c : Current) : Type 0 where
   pub same : begin ≡ c.begin

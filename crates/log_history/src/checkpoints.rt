@@ -3,7 +3,8 @@
 ghost use Rattle.std.specs.Prelude.{◌≡◌, ◌↔◌, ◌<◌, ◌/◌, ◌-◌, [], min, slice_get, Some, None};
 ghost use Rattle.std.specs.Prelude.{IfSome, IsSomeAnd, IsTrue, OnErr, OnOk};
 ghost use Rattle.std.specs.List.{AllByRecursion, fold};
-ghost use Rattle.log_history.specs.CheckpointTable.{AreChanges, last_page_of, page_of};
+ghost use Rattle.log_history.specs.CheckpointTable.{AreChanges, NamesChange, last_page_of};
+ghost use Rattle.log_history.specs.CheckpointTable.{page_of};
 ghost use Rattle.log_records.specs.DirtyPage.{entries_of};
 
 use crate::open_transactions::OpenTransactions;
@@ -246,12 +247,11 @@ fn are_changes(changed: &[u32], pages: &DirtyPages) -> bool
 }
 
 fn is_change(changed: &[u32], entry: DirtyPage) -> bool
-    ensures { IsTrue result
-        ↔ (slice_get changed.now (entry.rec_lsn / LSN_STEP - 1) ≡ Some entry.page) }
+    ensures { IsTrue result ↔ NamesChange changed.now entry }
 {
     let index = (entry.rec_lsn / LSN_STEP).saturating_sub(1);
     match changed.get(index as usize) {
-        Some(page) => *page == entry.page,
+        Some(page) => entry.page < NO_PAGE && *page == entry.page,
         None => false,
     }
 }

@@ -51,9 +51,10 @@ pub record IsPageChange (c : PageChange) : Type 0 where
   pub slot : c.slot < SLOTS
   pub change : IsChange c.change
 
--- a dirty page that the record at `at` may name
+-- a dirty page that the record at `at` may name: any number of a page, since it is the log's page
+-- count that bounds it
 pub record IsDirtyPage (at : ℕ) (e : DirtyPage) : Type 0 where
-  pub page : e.page < MAX_PAGES
+  pub page : e.page < 2 ^ 32
   pub rec_lsn : IsBefore at e.rec_lsn
 
 -- the dirty pages of the record at `at`: their numbers rise

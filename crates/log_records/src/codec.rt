@@ -288,7 +288,7 @@ fn are_dirty_pages(at: Lsn, pages: &DirtyPages) -> bool
 fn is_dirty_page(at: Lsn, entry: DirtyPage) -> bool
     ensures { IsTrue result ↔ IsDirtyPage at entry }
 {
-    entry.page < MAX_PAGES && is_before(at, Lsn(entry.rec_lsn))
+    is_before(at, Lsn(entry.rec_lsn))
 }
 
 fn has_no_before(change: &Change) -> bool

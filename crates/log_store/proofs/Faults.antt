@@ -69,7 +69,7 @@ break_at bytes at b =
     (fits, omega (arith, fits, length-take at bytes, length-log b.before (take at bytes) b.spells))
 
 -- a part of a beginning is a part of the bytes
-range_of_front : (bytes : List ℕ) (n a b : ℕ) → a ≤ b → b ≤ n → n ≤ length bytes
+pub range_of_front : (bytes : List ℕ) (n a b : ℕ) → a ≤ b → b ≤ n → n ≤ length bytes
     → slice_range (take n bytes) a b ≡ slice_range bytes a b
 range_of_front bytes n a b le within long =
     let front = take n bytes in

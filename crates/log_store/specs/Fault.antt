@@ -1,8 +1,9 @@
 -- What may be wrong with the bytes of a log, and which fault is the first.
 use Rattle.std.specs.Prelude.{ℕ, ◌≡◌, ◌+◌, ◌%◌, ◌<◌, ◌≤◌, List, length, take, slice_range, ◌++◌}
-use Rattle.std.specs.Prelude.{Option, codes}
+use Rattle.std.specs.Prelude.{Option}
 use Rattle.std.specs.Io.KnownBytes.{Consumes}
-use Rattle.std.specs.Fmt.{decimal}
+use Rattle.page_core.specs.FaultName.{fault_line, fault_line_with}
+use Rattle.page_core.specs.declared.fault_name.FaultName.TheVariants as name
 use Rattle.page_core.specs.declared.numbers.TheConstants.{LSN_STEP}
 use Rattle.log_store.specs.declared.fault.LogReadFault.{LogReadFault}
 use Rattle.log_store.specs.declared.fault.LogReadFault.TheVariants.{OutOfMemory, BadHeader}
@@ -100,12 +101,11 @@ GaveNoFault before old new ReadFault =
 GaveNoFault before old new other = Unit {0}
 
 -- what is printed of a fault
-abbrev pub text_of : LogReadFault → List ℕ
-text_of OutOfMemory = codes "out of memory"
-text_of BadHeader = codes "the log's header is misspelt"
-text_of (BadRecord at) = codes "the record at " ++ decimal at ++ codes " is misspelt"
-text_of (BadChain at) = codes "the record at " ++ decimal at
-    ++ codes " may not follow those before it"
-text_of (Torn at) = codes "the log ends within the record at " ++ decimal at
-text_of ReadFault = codes "the log could not be read"
-text_of TooLong = codes "bytes follow the last record that a log may have"
+abbrev pub line_of : LogReadFault → List ℕ
+line_of OutOfMemory = fault_line name.OutOfMemory
+line_of BadHeader = fault_line name.BadHeader
+line_of (BadRecord at) = fault_line_with name.BadRecord at
+line_of (BadChain at) = fault_line_with name.BadChain at
+line_of (Torn at) = fault_line_with name.Torn at
+line_of ReadFault = fault_line name.ReadFault
+line_of TooLong = fault_line name.TooLong

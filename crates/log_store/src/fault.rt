@@ -3,12 +3,13 @@
 ghost use Rattle.std.specs.Prelude.{◌≡◌};
 ghost use Rattle.log_store.specs.declared.fault.LogReadFault.TheVariants.{OutOfMemory};
 
-use page_core::Lsn;
+use page_core::{FaultName, Lsn};
 use std::alloc::{AllocError, AllocFailed};
 use std::error::Error;
 use std::fmt;
 
-/// Why a log could not be read: the first fault of its bytes, or what prevented reading them.
+/// Why a log could not be read: the first fault of its bytes, or what prevented reading them. Its
+/// text is its line.
 #[derive(Clone, Copy, Debug, PartialEq, Eq)]
 pub enum LogReadFault {
     /// Memory ran out.
@@ -31,30 +32,28 @@ pub enum LogReadFault {
 
 impl fmt::Display for LogReadFault {
     ghost use Rattle.std.specs.Prelude.{Some};
-    ghost use Rattle.log_store.specs.Fault.{text_of};
+    ghost use Rattle.log_store.specs.Fault.{line_of};
 
-    ghost output = { λ fault. Some (text_of fault) };
+    ghost output = { λ fault. Some (line_of fault) };
 
     fn fmt<W: fmt::Write>(&self, f: &mut fmt::Formatter<W>) -> fmt::Result {
         match self {
-            LogReadFault::OutOfMemory => f.write_str("out of memory"),
-            LogReadFault::BadHeader => f.write_str("the log's header is misspelt"),
+            LogReadFault::OutOfMemory => write!(f, "{}", FaultName::OutOfMemory),
+            LogReadFault::BadHeader => write!(f, "{}", FaultName::BadHeader),
             LogReadFault::BadRecord(at) => {
                 let at = at.0;
-                write!(f, "the record at {at} is misspelt")
+                write!(f, "{} {at}", FaultName::BadRecord)
             }
             LogReadFault::BadChain(at) => {
                 let at = at.0;
-                write!(f, "the record at {at} may not follow those before it")
+                write!(f, "{} {at}", FaultName::BadChain)
             }
             LogReadFault::Torn(at) => {
                 let at = at.0;
-                write!(f, "the log ends within the record at {at}")
+                write!(f, "{} {at}", FaultName::Torn)
             }
-            LogReadFault::ReadFault => f.write_str("the log could not be read"),
-            LogReadFault::TooLong => f.write_str(
-                "bytes follow the last record that a log may have",
-            ),
+            LogReadFault::ReadFault => write!(f, "{}", FaultName::ReadFault),
+            LogReadFault::TooLong => write!(f, "{}", FaultName::TooLong),
         }
     }
 }

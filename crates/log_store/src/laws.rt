@@ -4,7 +4,7 @@ ghost use Rattle.std.specs.Prelude.{ℕ, ◌≡◌, List};
 ghost use Rattle.log_records.specs.Log.{Log, SpellsLog};
 ghost use Rattle.log_history.specs.Linked.{IsLinked};
 ghost use Rattle.log_store.specs.declared.fault.LogReadFault.{LogReadFault};
-ghost use Rattle.log_store.specs.Fault.{HasFault};
+ghost use Rattle.log_store.specs.Fault.{HasFault, IsFirstFault};
 
 use crate::master::MASTER_BYTES;
 
@@ -12,6 +12,12 @@ use crate::master::MASTER_BYTES;
 pub fn spelled_logs_have_no_fault()
     ensures { (log : Log) (bytes : List ℕ) → SpellsLog log bytes → IsLinked log.records
         → (fault : LogReadFault) → ¬ HasFault bytes fault }
+{}
+
+/// No bytes have two first faults.
+pub fn bytes_have_one_first_fault()
+    ensures { (bytes : List ℕ) (a b : LogReadFault) → IsFirstFault bytes a → IsFirstFault bytes b
+        → a ≡ b }
 {}
 
 /// A master record has so many bytes.

@@ -16,7 +16,7 @@ mod sink;
 pub use device::{DeviceFault, LogDevice};
 pub use fault::LogReadFault;
 pub use faulty_device::FaultyDevice;
-pub use laws::{masters_have_this_length, spelled_logs_have_no_fault};
+pub use laws::{bytes_have_one_first_fault, masters_have_this_length, spelled_logs_have_no_fault};
 pub use log::Log;
 pub use log_image::LogImage;
 pub use master::{MASTER_BYTES, Master, decode_master, encode_master, masters_are_spelled_apart};

@@ -1,5 +1,6 @@
 //! The reasons why a log is not undone.
 
+use page_core::FaultName;
 use std::error::Error;
 use std::fmt;
 
@@ -21,8 +22,8 @@ impl fmt::Display for UndoFault {
 
     fn fmt<W: fmt::Write>(&self, f: &mut fmt::Formatter<W>) -> fmt::Result {
         match self {
-            UndoFault::LogFull => f.write_str("E8 LogFull"),
-            UndoFault::OutOfMemory => f.write_str("E1 OutOfMemory"),
+            UndoFault::LogFull => write!(f, "{}", FaultName::LogFull),
+            UndoFault::OutOfMemory => write!(f, "{}", FaultName::OutOfMemory),
         }
     }
 }

@@ -1,5 +1,6 @@
 pub mod Change
 pub mod Failures
+pub mod FaultName
 pub mod Input
 pub mod Page
 pub mod Volume

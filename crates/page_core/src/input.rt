@@ -36,6 +36,11 @@ pub fn read_more<R: Read>(reader: &mut R, buffer: &mut [u8], filled: usize) -> T
     }
 }
 
+/// How many turns a reader is given.
+pub fn readers_are_asked_so_often()
+    ensures { MAX_TURNS ≡ 134217728 }
+{}
+
 /// Moves the filled bytes at and after `from` to the front of the buffer, and answers how many they
 /// are.
 pub fn keep_from(buffer: &mut [u8], from: usize, filled: usize) -> usize

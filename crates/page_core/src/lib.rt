@@ -4,6 +4,7 @@
 mod buffer;
 mod change;
 mod failures;
+mod fault_name;
 pub mod field;
 mod input;
 mod numbers;
@@ -14,7 +15,8 @@ mod volume;
 pub use buffer::zeros;
 pub use change::{Change, ChangeKind, undo_of};
 pub use failures::Failures;
-pub use input::{MAX_TURNS, Turn, keep_from, read_more};
+pub use fault_name::FaultName;
+pub use input::{MAX_TURNS, Turn, keep_from, read_more, readers_are_asked_so_often};
 pub use numbers::{LSN_STEP, Lsn, PageNo, SlotNo, TxnNo};
 pub use output::write_out;
 pub use page::{
