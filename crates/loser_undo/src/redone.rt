@@ -9,7 +9,7 @@ ghost use Rattle.log_history.specs.Transactions.{owed};
 ghost use Rattle.loser_undo.specs.Recovery.{IsRecovery};
 
 use log_records::{MAX_RECORDS, Record};
-use log_store::Master;
+use log_store::{LogImage, Master};
 use page_core::{Lsn, Page};
 use page_redo::redo_pages;
 use std::alloc::{AllocError, Global};
@@ -20,8 +20,7 @@ use txn_table::TxnTable;
 /// changes of the transactions that are open at the log's end. Which these are is known too.
 #[derive(Drop)]
 pub struct Redone {
-    pub(crate) page_count: u32,
-    pub(crate) records: Vec<Record>,
+    pub(crate) log: LogImage,
     pub(crate) master: Master,
     pub(crate) losers: TxnTable,
     pub(crate) pages: Vec<Page>,
@@ -32,29 +31,21 @@ impl Model for Redone {
 
     ghost Value = { Recovery };
 
-    ghost view = { λ it. record {
-      log = record { pages = it.page_count; records = it.records.items };
-      master = it.master;
-      pages = it.pages.items;
-    } };
+    ghost view = { λ it. record { log = it.log; master = it.master; pages = it.pages.items } };
 
-    ghost invariant = { λ it. IsRedone (record {
-      log = record { pages = it.page_count; records = it.records.items };
-      master = it.master;
-      pages = it.pages.items;
-    }) it.losers };
+    ghost invariant = { λ it. IsRedone
+        (record { log = it.log; master = it.master; pages = it.pages.items }) it.losers };
 }
 
 /// The open transactions of a log with their pending changes (the analysis of ARIES, section 6.1).
 /// The log is read from its first record to its last, so the master record is not needed yet. An
 /// `Err` comes where memory for them is refused.
-pub fn losers(alloc: Global, log: &[Record], _master: &Master) -> Result<TxnTable, AllocError>
-    requires linked { IsLinked log.now }
-    requires few { length log.now ≤ MAX_RECORDS }
-    ensures { IfOk result (λ table. table ≡ table_of log.now) }
+pub fn losers(alloc: Global, log: &LogImage, _master: &Master) -> Result<TxnTable, AllocError>
+    requires { IsLinked log.now.records }
+    ensures { IfOk result (λ table. table ≡ table_of log.now.records) }
 {
     let mut table = TxnTable::new(alloc);
-    for record in log {
+    for record in log.records() {
         table.note(record)?;
     }
     Ok(table)
@@ -62,57 +53,37 @@ pub fn losers(alloc: Global, log: &[Record], _master: &Master) -> Result<TxnTabl
 
 impl Redone {
     /// Takes a log, its master record and its pages, whatever has been redone on them. An `Err`
-    /// comes where memory for the table of its open transactions is refused, and hands the records
-    /// and the pages back.
+    /// comes where memory for the table of its open transactions is refused, and hands the log and
+    /// the pages back.
     pub fn new(
         alloc: Global,
-        page_count: u32,
-        records: Vec<Record>,
+        log: LogImage,
         master: Master,
         pages: Vec<Page>,
-    ) -> Result<Redone, (Vec<Record>, Vec<Page>)>
-        requires { IsRecovery (record {
-          log = record { pages = page_count; records = records.items };
-          master = master;
-          pages = pages.items;
-        }) }
-        ensures ok { IfOk result (λ it. it ≡ record {
-          log = record { pages = page_count; records = records.items };
-          master = master;
-          pages = pages.items;
-        }) }
-        ensures err { IfErr result (λ e.
-            (e.0.items ≡ records.items) × (e.1.items ≡ pages.items)) }
+    ) -> Result<Redone, (LogImage, Vec<Page>)>
+        requires { IsRecovery (record { log = log; master = master; pages = pages.items }) }
+        ensures ok { IfOk result (λ it.
+            it ≡ record { log = log; master = master; pages = pages.items }) }
+        ensures err { IfErr result (λ e. (e.0 ≡ log) × (e.1.items ≡ pages.items)) }
     {
-        match losers(alloc, &records, &master) {
-            Ok(losers) => Ok(Redone::with_losers(page_count, records, master, pages, losers)),
-            Err(_) => Err((records, pages)),
+        match losers(alloc, &log, &master) {
+            Ok(losers) => Ok(Redone::with_losers(log, master, pages, losers)),
+            Err(_) => Err((log, pages)),
         }
     }
 
     /// The same, with the table of open transactions that reading the log has made.
-    pub fn with_losers(
-        page_count: u32,
-        records: Vec<Record>,
-        master: Master,
-        pages: Vec<Page>,
-        losers: TxnTable,
-    ) -> Redone
+    pub fn with_losers(log: LogImage, master: Master, pages: Vec<Page>, losers: TxnTable) -> Redone
         requires recovery { IsRecovery (record {
-          log = record { pages = page_count; records = records.items };
+          log = log;
           master = master;
           pages = pages.items;
         }) }
-        requires losers { losers ≡ table_of records.items }
-        ensures { result ≡ record {
-          log = record { pages = page_count; records = records.items };
-          master = master;
-          pages = pages.items;
-        } }
+        requires losers { losers ≡ table_of log.records }
+        ensures { result ≡ record { log = log; master = master; pages = pages.items } }
     {
         Redone {
-            page_count,
-            records,
+            log,
             master,
             losers,
             pages,
@@ -126,14 +97,14 @@ impl Redone {
           pages = map (λ page. resume page self.old.log.records from) self.old.pages;
         } }
     {
-        redo_pages(&mut self.pages, &self.records, from);
+        redo_pages(&mut self.pages, &self.log, from);
     }
 
     /// How many pages the volume has.
     pub fn page_count(&self) -> u32
         ensures { result ≡ self.now.log.pages }
     {
-        self.page_count
+        self.log.pages()
     }
 
     /// Where the last complete checkpoint of the log stands.
@@ -147,7 +118,7 @@ impl Redone {
     pub fn records(&self) -> &[Record]
         ensures { result.now ≡ self.now.log.records }
     {
-        &self.records
+        self.log.records()
     }
 
     /// The pages, in order of their numbers.
@@ -165,6 +136,6 @@ impl Redone {
             < length self.now.log.records + owed self.now.log.records) }
         ensures kept { IsRecovery self.now }
     {
-        self.records.len() as u64 + self.losers.owed() > MAX_RECORDS as u64
+        self.log.records().len() as u64 + self.losers.owed() > MAX_RECORDS as u64
     }
 }

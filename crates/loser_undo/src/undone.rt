@@ -13,7 +13,7 @@ use crate::fault::UndoFault;
 use crate::redone::Redone;
 use crate::undoing::Undoing;
 use log_records::{Record, redo_on_its_page};
-use log_store::Master;
+use log_store::{LogImage, Master};
 use page_core::Page;
 use std::marker::Model;
 
@@ -113,16 +113,15 @@ fn begin(redone: Redone) -> Result<(Undoing, Vec<Page>), Redone>
 {
     let owed = redone.losers.owed() as usize;
     let Redone {
-        page_count,
-        mut records,
+        log,
         master,
         losers,
         pages,
     } = redone;
+    let (page_count, mut records) = log.into_parts();
     if records.reserve(owed).is_err() {
         return Err(Redone {
-            page_count,
-            records,
+            log: LogImage::from_records(page_count, records),
             master,
             losers,
             pages,

@@ -103,20 +103,17 @@ restored_of files log master pages redo it of_log of_master of_chain room made s
 
 -- ---- undo
 
-pub redone_is : (log : Log) (master : Master) (pages : List Page) (redo count : ℕ) (records : List Record)
-    (old new : Recovery) → count ≡ log.pages → records ≡ log.records
-    → old ≡ record { log = record { pages = count; records = records }; master = master; pages = pages }
+pub redone_is : (log : Log) (master : Master) (pages : List Page) (redo : ℕ) (old new : Recovery)
+    → old ≡ record { log = log; master = master; pages = pages }
     → new ≡ record old { pages = map (λ page. resume page old.log.records redo) old.pages }
     → new ≡ record {
       log = log;
       master = master;
       pages = map (λ page. resume page log.records redo) pages;
     }
-redone_is log master pages redo count records old new same_count same_records is made =
-    let parts : ℕ → List Record → Recovery = λ n rs.
-    record { log = record { pages = n; records = rs }; master = master; pages = pages } in
+redone_is log master pages redo old new is made =
     let after : Recovery → Recovery = λ r. record r { pages = map (λ page. resume page r.log.records redo) r.pages } in
-    made ∙ ap after (is ∙ ap (λ (n : ℕ). parts n records) same_count ∙ ap (parts log.pages) same_records)
+    made ∙ ap after is
 
 pub sound_of : (r it new : Recovery) → new ≡ r → it ≡ undone new → (IsWhole new → IsWhole it)
     → (IsWhole new → HasCommitted new.log.records it.pages)

@@ -142,8 +142,7 @@ fn recovered(
     ensures err { IfErr result (λ fault. (fault ≡ OutOfMemory)
         ⊎ ((fault ≡ LogFull) × (MAX_RECORDS < most_records log))) }
 {
-    let (page_count, records) = log.into_parts();
-    let mut redone = Redone::with_losers(page_count, records, master, pages, losers);
+    let mut redone = Redone::with_losers(log, master, pages, losers);
     redone.redo_from(redo);
     match undo_all(redone) {
         Ok(undone) => Ok(undone),

@@ -113,15 +113,13 @@ impl Loaded {
             redo,
         } = self;
         let Master { begin, end } = master;
-        let (page_count, records) = log.into_parts();
-        let (records, pages) = match Redone::new(alloc, page_count, records, master, pages) {
+        let (log, pages) = match Redone::new(alloc, log, master, pages) {
             Ok(mut redone) => {
                 redone.redo_from(redo);
                 return Ok(redone);
             }
             Err(given_back) => given_back,
         };
-        let log = LogImage::from_records(page_count, records);
         let loaded = Loaded::new(log, Master { begin, end }, pages, redo);
         Err((loaded, RedoFault::OutOfMemory))
     }

@@ -1,6 +1,6 @@
 -- Redo of a log on the pages of a volume, record by record, and what it comes to on each page.
 use Rattle.std.proofs.Common.{◌≡◌, ◌≢◌, ℕ, zero, suc, ◌+◌, ◌-◌, ◌*◌, ◌<◌, ◌≤◌, Bool, true, false, cond, List, [], ◌∷◌}
-use Rattle.std.proofs.Common.{◌++◌}
+use Rattle.std.proofs.Common.{◌++◌, subst₂}
 use Rattle.std.proofs.Common.{length, get_or, set, map, take, drop, refl, sym, ap, subst, ◌∙◌, arith, inl, inr, min}
 use Rattle.std.specs.Prelude.{Some, None, ◌&&◌}
 use Rattle.std.specs.List.{All, filter}
@@ -257,3 +257,11 @@ resumed_behind log from k (page ∷ pages) valid low le =
     ∙ ap (filter (is_resumed from page.lsn)) (take-append-drop k rs) in
     ap (λ (xs : List Record). image_from page xs ∷ map (λ page. resume page (drop k rs) from) pages) same
     ∙ ap (λ (ps : List Page). resume page rs from ∷ ps) (resumed_behind log from k pages valid low le)
+
+-- ---- a log over a volume
+
+-- a log is valid over a volume of as many pages as it says
+pub valid_over : (log : Log) (count : ℕ) (rs : List Record) → count ≡ log.pages → rs ≡ log.records → IsLog log
+    → IsLog (record { pages = count; records = rs })
+valid_over log count rs pages records valid =
+    subst₂ (λ (n : ℕ) (xs : List Record). IsLog (record { pages = n; records = xs })) (sym pages) (sym records) valid

@@ -4,7 +4,6 @@ ghost use Rattle.std.specs.Prelude.{ℕ, ◌≡◌, ◌<◌, ◌≤◌, [], leng
 ghost use Rattle.std.specs.List.{range_with_len};
 ghost use Rattle.log_records.specs.Coverage.{resume};
 ghost use Rattle.log_records.specs.Image.{AreNumbered};
-ghost use Rattle.log_records.specs.Log.{IsLog};
 ghost use Rattle.page_redo.specs.PageRecords.{numbers_on, records_at};
 ghost use Rattle.page_redo.specs.Redo.{redone};
 
@@ -12,6 +11,7 @@ use crate::page_records::{PageRecords, by_page};
 use crate::redo::is_above;
 use crate::volume::redo_pages;
 use log_records::Record;
+use log_store::LogImage;
 use page_core::{LSN_STEP, Lsn, Page};
 use rayon::prelude::*;
 use std::alloc::Global;
@@ -29,13 +29,14 @@ pub fn redo_pages_in_threads(
     rt: &(impl Threads + Sync),
     alloc: Global,
     pages: &mut [Page],
-    records: &[Record],
+    log: &LogImage,
     from: Lsn,
 )
-    requires valid { IsLog (record { pages = length pages.old; records = records.now }) }
+    requires count { length pages.old ≡ log.now.pages }
     requires numbered { AreNumbered pages.old }
-    ensures { pages.new ≡ map (λ page. resume page records.now from) pages.old }
+    ensures { pages.new ≡ map (λ page. resume page log.now.records from) pages.old }
 {
+    let records = log.records();
     let first = (from.0.saturating_sub(1) / LSN_STEP) as usize;
     if first < records.len() && records.len() - first >= MANY_RECORDS {
         let behind = &records[first..];
@@ -44,7 +45,7 @@ pub fn redo_pages_in_threads(
             return;
         }
     }
-    redo_pages(pages, records, from);
+    redo_pages(pages, log, from);
 }
 
 /// Hands each page with the numbers of its records to a thread, which redoes them.

@@ -3,21 +3,23 @@
 ghost use Rattle.std.specs.Prelude.{◌≡◌, length, map};
 ghost use Rattle.log_records.specs.Coverage.{resume};
 ghost use Rattle.log_records.specs.Image.{AreNumbered};
-ghost use Rattle.log_records.specs.Log.{AreWithin, IsLog, IsWithin};
+ghost use Rattle.log_records.specs.Log.{AreWithin, IsWithin};
 ghost use Rattle.page_redo.specs.Redo.{redone_all, redone_by};
 
 use crate::redo::is_above;
 use log_records::Record;
+use log_store::LogImage;
 use page_core::{LSN_STEP, Lsn, Page};
 
 /// Redoes the records of a log from a redo point on, over the pages of its volume: on each page the
 /// records at or above that point that are above the page's LSN, in their order. This takes no
 /// memory, and one pass over the records from the redo point on.
-pub fn redo_pages(pages: &mut [Page], records: &[Record], from: Lsn)
-    requires valid { IsLog (record { pages = length pages.old; records = records.now }) }
+pub fn redo_pages(pages: &mut [Page], log: &LogImage, from: Lsn)
+    requires count { length pages.old ≡ log.now.pages }
     requires numbered { AreNumbered pages.old }
-    ensures { pages.new ≡ map (λ page. resume page records.now from) pages.old }
+    ensures { pages.new ≡ map (λ page. resume page log.now.records from) pages.old }
 {
+    let records = log.records();
     let first = (from.0.saturating_sub(1) / LSN_STEP) as usize;
     if first < records.len() {
         redo_records(pages, &records[first..]);

@@ -12,9 +12,7 @@ returns-in-Ok-clause-sound c = λ is.
       master = c.args.master;
       pages = map (λ page. resume page log.records c.args.redo) c.args.pages.items;
     } in
-    let new = redone_is log c.args.master c.args.pages.items c.args.redo c.into_parts-page_count.result.0
-    c.into_parts-page_count.result.1.items c.with_losers-redone.result c.redo_from.new.self
-    c.into_parts-page_count.ensures.parts.0
-    c.into_parts-page_count.ensures.parts.1 c.with_losers-redone.ensures c.redo_from.ensures in
+    let new = redone_is log c.args.master c.args.pages.items c.args.redo c.with_losers-redone.result
+    c.redo_from.new.self c.with_losers-redone.ensures c.redo_from.ensures in
     sound_of r c.in-Ok.undone c.redo_from.new.self new c.in-Ok.ensures.ok
     c.in-Ok.ensures.whole c.in-Ok.ensures.committed is

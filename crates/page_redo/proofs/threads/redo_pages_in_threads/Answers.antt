@@ -6,12 +6,12 @@ use Rattle.log_records.specs.declared.record.Record.{Record}
 use Rattle.log_records.specs.Coverage.{resume}
 use Rattle.log_records.specs.Log.{Log}
 use Rattle.page_redo.specs.PageRecords.{numbers_on}
-use Rattle.page_redo.proofs.Volumes.{resumed_behind}
+use Rattle.page_redo.proofs.Volumes.{resumed_behind, valid_over}
 use Rattle.page_redo.proofs.threads.redo_pages_in_threads.Goals as goal
 
 pub redo_by_page-requires-clause-many : goal.redo_by_page-requires-clause-many
 redo_by_page-requires-clause-many g c =
-    let rs = c.args.records.now in
+    let rs = c.records-records.result.now in
     let k = c.saturating_sub.result / 64 in
     let behind = take (length rs - k) (drop k rs) in
     let n = length c.args.pages.now in
@@ -21,9 +21,11 @@ redo_by_page-requires-clause-many g c =
 
 pub returns-in-Ok : goal.returns-in-Ok
 returns-in-Ok g c =
-    let rs = c.args.records.now in
+    let rs = c.records-records.result.now in
     let pages = c.args.pages.now in
     let log : Log = record { pages = length pages; records = rs } in
+    let valid = valid_over c.args.log.now (length pages) rs c.requires.count c.records-records.ensures.records
+    c.records-records.ensures.valid in
     let k = c.saturating_sub.result / 64 in
     let behind = take (length rs - k) (drop k rs) in
     let n = length pages in
@@ -37,4 +39,5 @@ returns-in-Ok g c =
     ∙ ap (λ (m : ℕ). map (numbers_on behind c.args.from) (range_with_len 0 m)) (sym lists))
     ∙ ap (λ (xs : List Record). map (λ page. resume page xs c.args.from) pages)
     (take_all (length rs - k) (drop k rs) (omega (arith, length-drop k rs)))
-    ∙ resumed_behind log c.args.from k pages c.requires.valid (omega arith) (omega arith)
+    ∙ resumed_behind log c.args.from k pages valid (omega arith) (omega arith)
+    ∙ ap (λ (xs : List Record). map (λ page. resume page xs c.args.from) pages) c.records-records.ensures.records

@@ -7,25 +7,24 @@ use Rattle.loser_undo.proofs.redone.Redone.is_full.Goals as goal
 
 pub overflow_add-result : goal.overflow_add-result
 overflow_add-result c =
-    let it = c.self.inside in
-    let rs = it.records.items in
+    let rs = c.self.inside.log.records in
     let made = c.self.invariant.made in
     let few = made.few in
     let most = owed_few rs made.linked in
     let is = c.owed.ensures rs made (omega (arith, few, most)) in
-    omega (arith, few, most, is, c.len.ensures, it.records.ok.0)
+    omega (arith, few, most, is, ap length c.records.ensures.records)
 
 pub returns-clause-full : goal.returns-clause-full
 returns-clause-full c =
-    let it = c.self.inside in
-    let rs = it.records.items in
+    let rs = c.self.inside.log.records in
     let made = c.self.invariant.made in
     let few = made.few in
     let most = owed_few rs made.linked in
     let is = c.owed.ensures rs made (omega (arith, few, most)) in
-    let sum : c.len.result + c.owed.result ≡ length rs + owed rs =
-    omega (arith, is, c.len.ensures, it.records.ok.0) in
+    let sum : length c.records.result.now + c.owed.result ≡ length rs + owed rs =
+    omega (arith, is, ap length c.records.ensures.records) in
     let now = sum ∙ ap (λ (r : Recovery). length r.log.records + owed r.log.records) c.self.view_is in (
       λ full. subst (λ (n : ℕ). 1048576 < n) now (ltb-true _ _ full),
-      λ past. lt-ltb 1048576 (c.len.result + c.owed.result) (subst (λ (n : ℕ). 1048576 < n) (sym now) past),
+      λ past. lt-ltb 1048576 (length c.records.result.now + c.owed.result)
+          (subst (λ (n : ℕ). 1048576 < n) (sym now) past),
     )
