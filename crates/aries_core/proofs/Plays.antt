@@ -10,9 +10,12 @@ use Rattle.aries_core.specs.declared.event.Event.{Event}
 use Rattle.aries_core.specs.declared.refusal.Refusal.{Refusal}
 use Rattle.aries_core.specs.declared.refusal.Refusal.TheVariants.{CommitUnsure, LogFault, StoreFault}
 use Rattle.log_records.specs.Log.{lsn_of}
-use Rattle.aries_core.specs.EngineState.{EngineState, end, new_state}
+use Rattle.log_store.specs.Stores.{StoreCall}
+use Rattle.aries_core.specs.EngineState.{EngineState, EngineView, end, new_state}
 use Rattle.aries_core.specs.Run.{Run}
-use Rattle.aries_core.specs.Step.{EachTellsOfFault, IsByDevice, IsByStore, IsFaultReply, Step, TellsOfFault}
+use Rattle.aries_core.specs.Step.{FailsForcing, Forces, IsByDevice, IsByStore, IsFaultReply, LeavesStore, Step}
+use Rattle.aries_core.specs.Step.{TellsOfFault}
+use Rattle.aries_core.specs.Storage.{CallOn, CallsDevice, IsStoredOn, MayCallStore, PlaysOn, RunOn, Storage}
 use Rattle.aries_core.proofs.Steps.{stays_or_grows}
 
 -- ---- one step more
@@ -124,23 +127,63 @@ more_if_fault Of start now replies (inr some) fault = some.more
 
 -- ---- each call for itself
 
-each_next : (Of : Refusal → Type 0) (start old new : ℕ) (replies : List (Result Answer Refusal))
-    (reply : Result Answer Refusal) → EachTellsOfFault Of start replies old → TellsOfFault Of old reply new
-    → EachTellsOfFault Of start (replies ++ reply ∷ []) new
-each_next Of start old new [] reply is one =
-    (new, subst (λ before. TellsOfFault Of before reply new) is one, refl)
-each_next Of start old new (first ∷ replies) reply so_far one =
-    (so_far.0, so_far.1, each_next Of so_far.0 old new replies reply so_far.2 one)
+calls_device : {S D : Type 0} (called : StoreCall D) (old new : EngineView S D) (reply : Result Answer Refusal)
+    → IfErr reply (λ why. ¬ IsByDevice why → new.device ≡ old.device) → OnOk reply (Forces called old new)
+    → IfErr reply (λ why. IsByDevice why → FailsForcing called old new)
+    → CallsDevice called old reply new
+calls_device called old new (Ok answer) refused ok failed = ok
+calls_device called old new (Err LogFault) refused ok failed = failed tt
+calls_device called old new (Err (CommitUnsure lsn)) refused ok failed = failed tt
+calls_device called old new (Err other) refused ok failed = refused (λ h. h)
 
-pub each_push : (Of : Refusal → Type 0) {D : Type 0} (failures : D → ℕ) (start : ℕ) (old new : D)
-    (replies : List (Result Answer Refusal)) (reply : Result Answer Refusal)
-    → EachTellsOfFault Of start replies (failures old)
-    → IfErr reply (λ why. ¬ Of why → new ≡ old) → OnOk reply (failures new ≡ failures old)
-    → IfErr reply (λ why. Of why → failures old < failures new)
-    → EachTellsOfFault Of start (replies ++ reply ∷ []) (failures new)
-each_push Of failures start old new replies reply so_far refused no_failure cause =
-    each_next Of start (failures old) (failures new) replies reply so_far
-    (counts Of failures old new reply refused no_failure cause)
+may_call_store : {S D : Type 0} (event : Event) (old new : EngineView S D) (reply : Result Answer Refusal)
+    → (LeavesStore event → new.store ≡ old.store)
+    → IfErr reply (λ why. ¬ IsByStore why → new.store ≡ old.store) → MayCallStore event old reply new
+may_call_store event old new (Ok answer) leaves refused = leaves
+may_call_store event old new (Err StoreFault) leaves refused = tt
+may_call_store event old new (Err other) leaves refused = refused (λ h. h)
+
+-- what the contract of a call says of it
+pub call_on : {S D : Type 0} (on : Storage S D) (old : EngineView S D) (event : Event)
+    (reply : Result Answer Refusal) (new : EngineView S D) → Step old.state event reply new.state
+    → IfErr reply (λ why. ¬ IsByDevice why → new.device ≡ old.device) → OnOk reply (Forces on.called old new)
+    → IfErr reply (λ why. IsByDevice why → FailsForcing on.called old new)
+    → OnOk reply (on.device_failures new.device ≡ on.device_failures old.device)
+    → IfErr reply (λ why. IsByDevice why → on.device_failures old.device < on.device_failures new.device)
+    → (LeavesStore event → new.store ≡ old.store)
+    → IfErr reply (λ why. ¬ IsByStore why → new.store ≡ old.store)
+    → OnOk reply (on.store_failures new.store ≡ on.store_failures old.store)
+    → IfErr reply (λ why. IsByStore why → on.store_failures old.store < on.store_failures new.store)
+    → IsStoredOn on new → CallOn on old event reply new
+call_on on old event reply new step same called last none cause leaves store_same store_none store_cause stored = record {
+  step = step;
+  stored = stored;
+  device = calls_device on.called old new reply same called last;
+  store = may_call_store event old new reply leaves store_same;
+  device_told = counts IsByDevice on.device_failures old.device new.device reply same none cause;
+  store_told = counts IsByStore on.store_failures old.store new.store reply store_same store_none store_cause;
+}
+
+run_on_push : {S D : Type 0} (on : Storage S D) (old : EngineView S D) (events : List Event)
+    (replies : List (Result Answer Refusal)) (mid : EngineView S D) (event : Event) (reply : Result Answer Refusal)
+    (new : EngineView S D) → RunOn on old events replies mid → CallOn on mid event reply new
+    → RunOn on old (events ++ event ∷ []) (replies ++ reply ∷ []) new
+run_on_push on old [] [] mid event reply new is call =
+    (new, subst (λ before. CallOn on before event reply new) is call, refl)
+run_on_push on old (first ∷ events) (answered ∷ replies) mid event reply new run call =
+    (run.0, run.1, run_on_push on run.0 events replies mid event reply new run.2 call)
+run_on_push on old [] (answered ∷ replies) mid event reply new run call = absurd run
+run_on_push on old (first ∷ events) [] mid event reply new run call = absurd run
+
+pub plays_push : {S D : Type 0} (on : Storage S D) (pages : ℕ) (store : S) (device : D) (events : List Event)
+    (replies : List (Result Answer Refusal)) (mid : EngineView S D) (event : Event) (reply : Result Answer Refusal)
+    (new : EngineView S D) → PlaysOn on pages store device events replies mid → CallOn on mid event reply new
+    → PlaysOn on pages store device (events ++ event ∷ []) (replies ++ reply ∷ []) new
+plays_push on pages store device events replies mid event reply new plays call = record {
+  first = plays.first;
+  made = plays.made;
+  run = run_on_push on plays.first events replies mid event reply new plays.run call;
+}
 
 -- ---- a device that has room for a record of each event
 

@@ -10,4 +10,5 @@ pub mod OpenCkpt
 pub mod Refusal
 pub mod Run
 pub mod Step
+pub mod Storage
 pub mod Written

@@ -69,9 +69,12 @@ impl<S: PageStore, D: LogDevice> Model for Engine<S, D> {
 }
 
 impl<S: PageStore + Drop, D: LogDevice + Drop> Engine<S, D> {
-    /// An engine over a formatted volume, with a log without records, whose header is stored. Each
-    /// page has a frame of its own. The store is not called but for its count. Where this call
-    /// fails, store and device are dropped.
+    ghost use Rattle.log_records.specs.Log.{header_bytes};
+    ghost use Rattle.aries_core.specs.Storage.{FailsAtHeader};
+
+    /// An engine over a formatted volume, with a log without records, whose header is stored by one
+    /// call of the device. Each page has a frame of its own. The store is not called but for its
+    /// count. Where this call fails, store and device are dropped.
     pub fn new(alloc: Global, setup: Setup, store: S, device: D) -> Result<Engine<S, D>, PlayFault>
         requires pages { IsPageCount setup.pages }
         requires frames { setup.pages ≤ setup.frames }
@@ -79,9 +82,11 @@ impl<S: PageStore + Drop, D: LogDevice + Drop> Engine<S, D> {
 
         ensures empty { IfOk result (λ it. it.state ≡ new_state setup.pages) }
         ensures store { IfOk result (λ it. it.store ≡ store) }
+        ensures header { IfOk result (λ it.
+            D.called device 0 (header_bytes setup.pages) (Ok tt) it.device) }
         ensures no_failure { IfOk result (λ it. D.failures it.device ≡ D.failures device) }
         ensures cause { IfErr result (λ why. why ≡ PlayFault.LogFault
-            → (left : D) × (D.failures device < D.failures left)) }
+            → FailsAtHeader D.called D.failures setup.pages device) }
         ensures same_bound { IfOk result (λ it. D.fails_from it.device ≡ D.fails_from device) }
         ensures past_bound { IfErr result (λ why. why ≡ PlayFault.LogFault
             → D.fails_from device ≤ 64) }

@@ -7,8 +7,8 @@ ghost use Rattle.aries_core.specs.Accepted.{accepted};
 ghost use Rattle.aries_core.specs.Catalogue.{catalogue, entry_of};
 ghost use Rattle.aries_core.specs.EngineState.{IsFit, new_state};
 ghost use Rattle.aries_core.specs.Run.{Run};
-ghost use Rattle.aries_core.specs.Step.{EachTellsOfFault, IsByDevice, IsByStore};
-ghost use Rattle.aries_core.specs.Step.{IsFaultReply};
+ghost use Rattle.aries_core.specs.Step.{IsByDevice, IsByStore, IsFaultReply};
+ghost use Rattle.aries_core.specs.Storage.{FailsAtHeader, PlaysOn};
 ghost use Rattle.aries_core.specs.Written.{written_by};
 ghost use Rattle.page_core.specs.Volume.{formatted_pages};
 
@@ -54,22 +54,30 @@ pub fn play<S: PageStore + Drop, D: LogDevice + Drop>(
         ≡ catalogue setup.pages events.now it.replies.items) }
     ensures fit { IfOk result (λ it. IsFit it.engine.state) }
 
-    // A reply tells of a fault of the device just where there was one in its call.
-    ensures told { IfOk result (λ it. EachTellsOfFault IsByDevice
-        (D.failures device) it.replies.items (D.failures it.engine.device)) }
+    // Each call was one on the store and the device that were given, as the calls before it left
+    // them, and its reply tells of a fault of theirs just where there was one in it.
+    ensures played { IfOk result (λ it. PlaysOn
+        (record {
+          called = D.called;
+          bytes = D.bytes;
+          device_failures = D.failures;
+          stored = S.stored;
+          store_failures = S.failures;
+        })
+        setup.pages store device events.now it.replies.items it.engine) }
+
+    // So the device failed just where a reply tells of it.
     ensures no_failure { IfOk result (λ it.
         All (λ reply. ¬ IsFaultReply IsByDevice reply) it.replies.items
         → D.failures it.engine.device ≡ D.failures device) }
     ensures failure { IfOk result (λ it. Any (IsFaultReply IsByDevice) it.replies.items
         → D.failures device < D.failures it.engine.device) }
 
-    // And none does where the device has room for a record of each event.
+    // And it does not where it has room for a record of each event.
     ensures within_bound { IfOk result (λ it. lsn_of (length events.now) < D.fails_from device
         → All (λ reply. ¬ IsFaultReply IsByDevice reply) it.replies.items) }
 
-    // And of the store.
-    ensures store_told { IfOk result (λ it. EachTellsOfFault IsByStore
-        (S.failures store) it.replies.items (S.failures it.engine.store)) }
+    // The same of the store.
     ensures no_store_failure { IfOk result (λ it.
         All (λ reply. ¬ IsFaultReply IsByStore reply) it.replies.items
         → S.failures it.engine.store ≡ S.failures store) }
@@ -77,7 +85,7 @@ pub fn play<S: PageStore + Drop, D: LogDevice + Drop>(
         → S.failures store < S.failures it.engine.store) }
 
     ensures cause { IfErr result (λ why. why ≡ PlayFault.LogFault
-        → (left : D) × (D.failures device < D.failures left)) }
+        → FailsAtHeader D.called D.failures setup.pages device) }
     ensures header_fits { IfErr result (λ why. why ≡ PlayFault.LogFault
         → D.fails_from device ≤ 64) }
 {
@@ -86,11 +94,13 @@ pub fn play<S: PageStore + Drop, D: LogDevice + Drop>(
         Err(_) => return Err(PlayFault::OutOfMemory),
     };
     let mut engine = Engine::new(alloc, setup, store, device)?;
+    // What an engine keeps holds of it now, and is seen where it is read.
+    let _ = engine.log();
     for event in events {
         // There is room for each reply, so this takes no memory.
         replies.push(engine.apply(*event)).unwrap();
+        let _ = engine.log();
     }
-    // What an engine keeps holds of it now, and is seen where it is read.
     let _ = &engine.log;
     Ok(Played { replies, engine })
 }

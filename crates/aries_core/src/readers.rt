@@ -2,8 +2,9 @@
 
 ghost use Rattle.std.specs.Prelude.{◌≡◌, ◌<◌, ◌≤◌, [], IfErr, IfOk, MatchOption, OnOk};
 ghost use Rattle.log_records.specs.Coverage.{dirty, entries_of, next_dirty};
+ghost use Rattle.log_store.specs.WrittenLog.{IsWritten};
 ghost use Rattle.aries_core.specs.EngineState.{log_of, stored_page};
-ghost use Rattle.aries_core.specs.Step.{IsByStore};
+ghost use Rattle.aries_core.specs.Step.{IsByStore, written_log_of};
 
 use crate::engine::Engine;
 use crate::refusal::Refusal;
@@ -18,7 +19,11 @@ impl<S: PageStore, D: LogDevice> Engine<S, D> {
         ensures log { result.now.log ≡ log_of self.now.state }
         ensures forced_end { result.now.forced_end ≡ self.now.state.forced_end }
         ensures device { result.now.device ≡ self.now.device }
+        // What is forced is on the device, and what is stored is in the store.
+        ensures records { IsWritten D.bytes (written_log_of self.now) }
+        ensures pages { S.stored self.now.store ≡ self.now.state.stored }
     {
+        let _ = self.log.device();
         &self.log
     }
 

@@ -1,4 +1,4 @@
-use Rattle.std.proofs.Common.{◌≡◌, ◌<◌, ◌+◌, length, [], ◌∷◌, ◌++◌, arith, take, take_all, subst, sym, ap, ◌∙◌}
+use Rattle.std.proofs.Common.{refl, rules, ◌≡◌, ◌<◌, ◌+◌, length, [], ◌∷◌, ◌++◌, arith, take, take_all, subst, sym, ap, ◌∙◌}
 use Rattle.std.proofs.lemmas.List.{length-take, take_more}
 use Rattle.aries_core.specs.declared.event.Event.{Event}
 use Rattle.aries_core.specs.EngineState.{IsFit, EngineView, new_state}
@@ -6,7 +6,8 @@ use Rattle.aries_core.specs.Step.{IsByDevice, IsByStore}
 use Rattle.aries_core.proofs.Calls.{work_of_run}
 use Rattle.aries_core.proofs.Catalogues.{copies_of_run}
 use Rattle.aries_core.proofs.PageLaws.{written_of_run}
-use Rattle.aries_core.proofs.Plays.{by_device, by_store, each_push, run_push, tells_push, within_push}
+use Rattle.aries_core.proofs.Plays.{by_device, by_store, call_on, plays_push, run_push, tells_push, within_push}
+use Rattle.aries_core.proofs.played.play.Invariants.{given_storage}
 use Rattle.aries_core.proofs.played.play.Goals as goal
 
 pub loop-event-preserved : goal.loop-event-preserved
@@ -32,12 +33,12 @@ loop-event-preserved g c =
       store_tells = rw items (tells_push IsByStore by_store g.S.PageStore.failures (g.S.PageStore.failures c.args.store)
           c.loop-event.engine.store c.apply.new.self.store c.loop-event.replies.items c.apply.result so_far.store_tells
           c.apply.ensures.store_refused c.apply.ensures.no_store_failure c.apply.ensures.store_cause);
-      told = rw items (each_push IsByDevice g.D.LogDevice.failures (g.D.LogDevice.failures c.args.device)
-          c.loop-event.engine.device c.apply.new.self.device c.loop-event.replies.items c.apply.result so_far.told
-          c.apply.ensures.refused c.apply.ensures.no_failure c.apply.ensures.cause);
-      store_told = rw items (each_push IsByStore g.S.PageStore.failures (g.S.PageStore.failures c.args.store)
-          c.loop-event.engine.store c.apply.new.self.store c.loop-event.replies.items c.apply.result so_far.store_told
-          c.apply.ensures.store_refused c.apply.ensures.no_store_failure c.apply.ensures.store_cause);
+      on = rw (next, items) (plays_push (given_storage g) c.args.setup.pages c.args.store c.args.device (take i events)
+          c.loop-event.replies.items c.loop-event.engine event c.apply.result c.apply.new.self so_far.on
+          (call_on (given_storage g) c.loop-event.engine event c.apply.result c.apply.new.self c.apply.ensures.step
+          c.apply.ensures.refused c.apply.ensures.called c.apply.ensures.last_call c.apply.ensures.no_failure
+          c.apply.ensures.cause c.apply.ensures.store c.apply.ensures.store_refused c.apply.ensures.no_store_failure
+          c.apply.ensures.store_cause (record { pages = c.log-in-loop-event.ensures.pages; records = c.log-in-loop-event.ensures.records })));
       bound = c.apply.ensures.same_bound ∙ so_far.bound;
       within_bound = rw items (within_push c.args.setup.pages (length events) (g.D.LogDevice.fails_from c.args.device)
           (g.D.LogDevice.fails_from c.loop-event.engine.device) (take i events) c.loop-event.replies.items
@@ -54,7 +55,7 @@ returns-clause-work g c =
 
 pub returns-clause-fit : goal.returns-clause-fit
 returns-clause-fit g c =
-    subst (λ (v : EngineView g.row.S.Denot g.row.D.Denot). IsFit v.state) c.engine.view_is c.engine.invariant.fit
+    subst (λ (v : EngineView g.row.S.Denot g.row.D.Denot). IsFit v.state) c.engine-2.view_is c.engine-2.invariant.fit
 
 pub returns-clause-written : goal.returns-clause-written
 returns-clause-written g c =
@@ -69,3 +70,33 @@ returns-clause-catalogue g c =
     let all : take c.loop-event.event-index c.args.events.now ≡ c.args.events.now = take_all _ _ (omega arith) in
     copies_of_run (new_state c.args.setup.pages) c.args.events.now c.loop-event.replies.items
     c.loop-event.engine.state (rw all at so_far.run)
+
+pub loop-event-init : goal.loop-event-init
+loop-event-init g c = record {
+  count = search rules;
+  room = search rules;
+  run = search rules;
+  tells = search rules;
+  store_tells = search rules;
+  on =
+      let made = c.in_ok-engine.ensures in
+      rw c.in-Ok.ensures.items (record {
+        first = c.in_ok-engine.engine;
+        made = record {
+          state = made.empty;
+          stored = record { pages = c.log.ensures.pages; records = c.log.ensures.records };
+          given = made.store;
+          header = made.header;
+          no_failure = made.no_failure;
+        };
+        run = refl;
+      });
+  bound = search rules;
+  within_bound = search rules;
+}
+
+pub returns-clause-played : goal.returns-clause-played
+returns-clause-played g c =
+    let so_far = c.loop-event.invariant in
+    let all : take c.loop-event.event-index c.args.events.now ≡ c.args.events.now = take_all _ _ (omega arith) in
+    rw all at so_far.on

@@ -4,9 +4,20 @@ use Rattle.std.specs.Vec.{vec_capacity}
 use Rattle.log_records.specs.Log.{lsn_of}
 use Rattle.aries_core.specs.EngineState.{new_state}
 use Rattle.aries_core.specs.Run.{Run}
-use Rattle.aries_core.specs.Step.{EachTellsOfFault, IsByDevice, IsByStore, IsFaultReply}
+use Rattle.aries_core.specs.Step.{IsByDevice, IsByStore, IsFaultReply}
+use Rattle.aries_core.specs.Storage.{PlaysOn, Storage}
 use Rattle.aries_core.proofs.Plays.{Tells}
 use Rattle.aries_core.proofs.played.play.Given as goal
+
+-- what is seen of the store and the device
+abbrev pub given_storage : (g : goal.Over) → Storage g.row.S.Denot g.row.D.Denot
+given_storage g = record {
+  called = g.D.LogDevice.called;
+  bytes = g.D.LogDevice.bytes;
+  device_failures = g.D.LogDevice.failures;
+  stored = g.S.PageStore.stored;
+  store_failures = g.S.PageStore.failures;
+}
 
 abbrev pub invariant-loop-event : goal.invariant-loop-event
 invariant-loop-event g l = record {
@@ -17,10 +28,8 @@ invariant-loop-event g l = record {
       (g.D.LogDevice.failures l.engine.device);
   store_tells : Tells IsByStore (g.S.PageStore.failures l.fn.store) l.replies.items
       (g.S.PageStore.failures l.engine.store);
-  told : EachTellsOfFault IsByDevice (g.D.LogDevice.failures l.fn.device) l.replies.items
-      (g.D.LogDevice.failures l.engine.device);
-  store_told : EachTellsOfFault IsByStore (g.S.PageStore.failures l.fn.store) l.replies.items
-      (g.S.PageStore.failures l.engine.store);
+  on : PlaysOn (given_storage g) l.fn.setup.pages l.fn.store l.fn.device (take l.event-index l.events)
+      l.replies.items l.engine;
   bound : g.D.LogDevice.fails_from l.engine.device ≡ g.D.LogDevice.fails_from l.fn.device;
   within_bound : lsn_of (length l.events) < g.D.LogDevice.fails_from l.fn.device
       → All (λ reply. ¬ IsFaultReply IsByDevice reply) l.replies.items;

@@ -1,0 +1,94 @@
+-- Calls of an engine on the page store and on the log's device that it was given.
+use Rattle.std.specs.Prelude.{ℕ, ◌≡◌, ◌<◌, List, [], ◌∷◌, Result, Ok, Err}
+use Rattle.page_core.specs.declared.page.Page.{Page}
+use Rattle.log_records.specs.Log.{header_bytes}
+use Rattle.log_store.specs.declared.device.DeviceFault.{DeviceFault}
+use Rattle.log_store.specs.Stores.{StoreCall}
+use Rattle.log_store.specs.WrittenLog.{IsWritten}
+use Rattle.aries_core.specs.declared.event.Answer.{Answer}
+use Rattle.aries_core.specs.declared.event.Event.{Event}
+use Rattle.aries_core.specs.declared.refusal.Refusal.{Refusal}
+use Rattle.aries_core.specs.declared.refusal.Refusal.TheVariants.{CommitUnsure, LogFault, StoreFault}
+use Rattle.aries_core.specs.EngineState.{EngineView, new_state}
+use Rattle.aries_core.specs.Step.{FailsForcing, Forces, IsByDevice, IsByStore, LeavesStore, Step}
+use Rattle.aries_core.specs.Step.{TellsOfFault, written_log_of}
+
+-- what contracts see of a store and of a device: what one call of the device did, the bytes on it,
+-- the stored pages, and how often each of the two has failed
+pub record Storage (S D : Type 0) : Type 1 where
+  pub called : StoreCall D
+  pub bytes : D → List ℕ
+  pub device_failures : D → ℕ
+  pub stored : S → List Page
+  pub store_failures : S → ℕ
+
+-- the store has the pages that the state calls stored, and the device the records that it calls
+-- forced
+pub record IsStoredOn {S D : Type 0} (on : Storage S D) (it : EngineView S D) : Type 0 where
+  pub pages : on.stored it.store ≡ it.state.stored
+  pub records : IsWritten on.bytes (written_log_of it)
+
+-- which calls of the device a call of the engine makes: where it is answered, one for each record
+-- that is forced by it; at a fault of the device so many, and then one that fails; else none
+abbrev pub CallsDevice : {S D : Type 0} → StoreCall D → EngineView S D → Result Answer Refusal
+    → EngineView S D → Type 0
+CallsDevice called old (Ok answer) new = Forces called old new
+CallsDevice called old (Err LogFault) new = FailsForcing called old new
+CallsDevice called old (Err (CommitUnsure lsn)) new = FailsForcing called old new
+CallsDevice called old (Err other) new = new.device ≡ old.device
+
+-- the store is not called by an event that ends no write and takes no page, nor where a call is
+-- refused, unless the store fails
+abbrev pub MayCallStore : {S D : Type 0} → Event → EngineView S D → Result Answer Refusal
+    → EngineView S D → Type 0
+MayCallStore event old (Ok answer) new = LeavesStore event → new.store ≡ old.store
+MayCallStore event old (Err StoreFault) new = Unit {0}
+MayCallStore event old (Err other) new = new.store ≡ old.store
+
+-- one call of an engine, with what it does to its store and its device; its reply tells of a fault
+-- of one of them just where there was one in this call
+pub record CallOn {S D : Type 0} (on : Storage S D) (old : EngineView S D) (event : Event)
+    (reply : Result Answer Refusal) (new : EngineView S D) : Type 0 where
+  pub step : Step old.state event reply new.state
+  pub stored : IsStoredOn on new
+  pub device : CallsDevice on.called old reply new
+  pub store : MayCallStore event old reply new
+  pub device_told : TellsOfFault IsByDevice
+      (on.device_failures old.device) reply (on.device_failures new.device)
+  pub store_told : TellsOfFault IsByStore
+      (on.store_failures old.store) reply (on.store_failures new.store)
+
+-- such calls, each of the engine, the store and the device that the one before it left
+abbrev pub RunOn : {S D : Type 0} → Storage S D → EngineView S D → List Event
+    → List (Result Answer Refusal) → EngineView S D → Type 0
+RunOn on old [] [] new = new ≡ old
+RunOn on old (event ∷ events) (reply ∷ replies) new =
+    (mid : _) × CallOn on old event reply mid × RunOn on mid events replies new
+RunOn on old [] (reply ∷ replies) new = ⊥
+RunOn on old (event ∷ events) [] new = ⊥
+
+-- a new engine on this store, which was not called, and on this device, which was called once, for
+-- the log's header
+pub record IsNewOn {S D : Type 0} (on : Storage S D) (pages : ℕ) (store : S) (device : D)
+    (it : EngineView S D) : Type 0 where
+  pub state : it.state ≡ new_state pages
+  pub stored : IsStoredOn on it
+  pub given : it.store ≡ store
+  pub header : on.called device 0 (header_bytes pages) (Ok tt) it.device
+  pub no_failure : on.device_failures it.device ≡ on.device_failures device
+
+-- a new engine on this store and this device gives these replies to these events, and ends so
+pub record PlaysOn {S D : Type 0} (on : Storage S D) (pages : ℕ) (store : S) (device : D)
+    (events : List Event) (replies : List (Result Answer Refusal)) (last : EngineView S D)
+    : Type 0 where
+  pub first : EngineView S D
+  pub made : IsNewOn on pages store device first
+  pub run : RunOn on first events replies last
+
+-- no engine is made on this device: it was called once, for the log's header, and failed
+pub record FailsAtHeader {D : Type 0} (called : StoreCall D) (failures : D → ℕ) (pages : ℕ)
+    (device : D) : Type 0 where
+  pub left : D
+  pub why : DeviceFault
+  pub failed : called device 0 (header_bytes pages) (Err why) left
+  pub more : failures device < failures left
