@@ -1,14 +1,14 @@
 //! A whole restore: load, redo and undo; and the same after playing a list of events.
 
-ghost use Rattle.std.specs.Prelude.{◌≡◌, ◌<◌, ◌≤◌, All, Any, IfErr, IfOk, OnOk, length, None};
+ghost use Rattle.std.specs.Prelude.{◌≡◌, ◌<◌, ◌≤◌, All, IfErr, IfOk, OnOk, length, None};
 ghost use Rattle.std.specs.Prelude.{Some};
 ghost use Rattle.log_records.specs.Log.{IsPageCount, lsn_of};
 ghost use Rattle.copy_coverage.specs.Kept.{IsKeptOf};
 ghost use Rattle.copy_coverage.specs.Retired.{HasRoom};
 ghost use Rattle.loser_undo.specs.Recovery.{IsWhole};
-ghost use Rattle.aries_core.specs.EngineState.{EngineState};
-ghost use Rattle.aries_core.specs.Step.{EachTellsOfFault, IsByDevice, IsByStore};
-ghost use Rattle.aries_core.specs.Step.{IsFaultReply};
+ghost use Rattle.aries_core.specs.EngineState.{EngineState, EngineView};
+ghost use Rattle.aries_core.specs.Step.{IsByDevice, IsFaultReply};
+ghost use Rattle.aries_core.specs.Storage.{FailsAtHeader, PlaysOn};
 ghost use Rattle.page_core.specs.Volume.{formatted_pages};
 ghost use Rattle.media_restore.specs.Load.{kept_log, load_refusal};
 ghost use Rattle.media_restore.specs.Rebuild.{IsRebuilt, IsRestored, RestoreRefuses};
@@ -53,22 +53,26 @@ pub fn rebuild<S: PageStore + Drop, D: LogDevice + Drop>(
     ensures rebuilt { IfOk result (λ it. (e : EngineState)
         × IsRebuilt setup.pages events.now copy cut it.replies.items it.outcome e) }
 
-    // A reply tells of a fault of the device or the store just where there was one in its call.
-    ensures told { IfOk result (λ it. (left : D) × EachTellsOfFault IsByDevice
-        (D.failures device) it.replies.items (D.failures left)) }
-    ensures store_told { IfOk result (λ it. (left : S) × EachTellsOfFault IsByStore
-        (S.failures store) it.replies.items (S.failures left)) }
-    ensures failure { IfOk result (λ it. Any (IsFaultReply IsByDevice) it.replies.items
-        → (left : D) × (D.failures device < D.failures left)) }
-    ensures store_failure { IfOk result (λ it. Any (IsFaultReply IsByStore) it.replies.items
-        → (left : S) × (S.failures store < S.failures left)) }
+    // Its calls were calls on the store and the device that were given, as the calls before left
+    // them, and each reply tells of a fault of theirs just where there was one in its call.
+    ensures played { IfOk result (λ it. (e : EngineView S D)
+        × PlaysOn
+        (record {
+          called = D.called;
+          bytes = D.bytes;
+          device_failures = D.failures;
+          stored = S.stored;
+          store_failures = S.failures;
+        })
+        setup.pages store device events.now it.replies.items e
+        × IsRebuilt setup.pages events.now copy cut it.replies.items it.outcome e.state) }
 
-    // And none of the device does where this has room for a record of each event.
+    // And none tells of the device where this has room for a record of each event.
     ensures within_bound { IfOk result (λ it. lsn_of (length events.now) < D.fails_from device
         → All (λ reply. ¬ IsFaultReply IsByDevice reply) it.replies.items) }
 
     ensures cause { IfErr result (λ why. why ≡ PlayFault.LogFault
-        → (left : D) × (D.failures device < D.failures left)) }
+        → FailsAtHeader D.called D.failures setup.pages device) }
     ensures header_fits { IfErr result (λ why. why ≡ PlayFault.LogFault
         → D.fails_from device ≤ 64) }
 {

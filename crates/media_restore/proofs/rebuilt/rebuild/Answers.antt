@@ -13,16 +13,8 @@ returns-clause-rebuilt g c =
           left.forced_end left.copies left.master came.ok came.err came.kept came.restored came.master,
     )
 
-pub returns-clause-failure : goal.returns-clause-failure
-returns-clause-failure g c =
-    λ told. (c.in_ok-replies.field-0.engine.device, c.in_ok-replies.ensures.failure told)
-
-pub returns-clause-store_failure : goal.returns-clause-store_failure
-returns-clause-store_failure g c =
-    λ told. (c.in_ok-replies.field-0.engine.store, c.in_ok-replies.ensures.store_failure told)
-
-pub returns-clause-told : goal.returns-clause-told
-returns-clause-told g c = (c.in_ok-replies.field-0.engine.device, c.in_ok-replies.ensures.told)
-
-pub returns-clause-store_told : goal.returns-clause-store_told
-returns-clause-store_told g c = (c.in_ok-replies.field-0.engine.store, c.in_ok-replies.ensures.store_told)
+pub returns-clause-played : goal.returns-clause-played
+unfolding returns-clause-rebuilt
+returns-clause-played g c =
+    let played = c.in_ok-replies.field-0 in
+    (played.engine, c.in_ok-replies.ensures.played, (returns-clause-rebuilt g c).1)
