@@ -26,4 +26,6 @@ mod redo;
 #[cfg(test)]
 mod stores;
 #[cfg(test)]
+mod tails;
+#[cfg(test)]
 mod vaults;

@@ -1,11 +1,15 @@
 pub mod Appends
+pub mod Begins
 pub mod Committed
 pub mod Examples
 pub mod Falling
+pub mod Known
 pub mod Loops
 pub mod Lost
+pub mod Named
 pub mod Pages
 pub mod Phases
 pub mod Rising
 pub mod Valid
 pub mod Resumed
+pub mod Tails

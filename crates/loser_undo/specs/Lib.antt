@@ -1,4 +1,5 @@
 pub mod Fault
 pub mod Recovery
 pub mod Steps
+pub mod Tail
 pub mod Undo

@@ -3,12 +3,14 @@
 
 mod fault;
 mod redone;
+mod tail;
 mod undo_laws;
 mod undoing;
 mod undone;
 
 pub use fault::UndoFault;
 pub use redone::{Redone, losers};
+pub use tail::{OpenTxn, complete_checkpoints_begin_tails, open_at_end, open_by_tail};
 pub use undo_laws::{
     undo_commits_nothing, undo_fits_where_records_and_owed_ones_do, undo_keeps_logs_linked,
     undo_leaves_none_open, undo_leaves_what_is_committed, undo_only_appends,
