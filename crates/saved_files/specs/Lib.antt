@@ -1,1 +1,4 @@
+pub mod FileFault
+pub mod Folder
 pub mod LateFile
+pub mod Saved

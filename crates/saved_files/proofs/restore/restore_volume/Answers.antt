@@ -1,4 +1,4 @@
-use Rattle.std.proofs.Common.{◌≡◌, ◌∙◌, refl, ap, map, subst, sym, take_all, arith, List, ℕ, IfErr, OnOk}
+use Rattle.std.proofs.Common.{◌≡◌, ◌∙◌, refl, ap, map, subst, take_all, arith, List, ℕ, IfErr, OnOk}
 use Rattle.std.specs.Prelude.{Option}
 use Rattle.media_restore.specs.Files.{Files, Leaves, WritesVolume}
 use Rattle.saved_files.proofs.restore.restore_volume.Goals as goal

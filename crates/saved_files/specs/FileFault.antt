@@ -1,0 +1,29 @@
+-- A file that was not written.
+use Rattle.std.specs.Prelude.{ℕ, ◌<◌, ◌≤◌, ◌++◌, List, codes, length, take, Option}
+use Rattle.std.specs.Fmt.{decimal}
+use Rattle.std.specs.Io.KnownBytes.{Appends, Keeps}
+use Rattle.copy_vault.specs.declared.archive_fault.ArchiveWriteFault.{ArchiveWriteFault}
+use Rattle.copy_vault.specs.declared.archive_fault.ArchiveWriteFault.TheVariants as archive
+use Rattle.saved_files.specs.declared.file_fault.FileFault.{FileFault}
+use Rattle.saved_files.specs.declared.file_fault.FileFault.TheVariants.{OutOfMemory, WriteFault}
+
+-- what is printed of it
+abbrev pub line_of : FileFault → List ℕ
+line_of OutOfMemory = codes "E1 OutOfMemory"
+line_of (WriteFault done) = codes "E29 WriteFault " ++ decimal done
+
+-- what it is of an archive
+abbrev pub of_archive : ArchiveWriteFault → FileFault
+of_archive archive.OutOfMemory = OutOfMemory
+of_archive (archive.WriteFault done) = WriteFault done
+
+-- the first bytes were written, so many but not all, and nothing else; without memory, nothing
+abbrev pub Leaves : List ℕ → Option (List ℕ) → Option (List ℕ) → FileFault → Type 0
+Leaves bytes old new OutOfMemory = Keeps old new
+Leaves bytes old new (WriteFault done) =
+    (done < length bytes) × Appends old new (take done bytes)
+
+-- no more bytes went out than these
+abbrev pub IsWithin : List ℕ → FileFault → Type 0
+IsWithin bytes OutOfMemory = Unit {0}
+IsWithin bytes (WriteFault done) = done ≤ length bytes

@@ -1,0 +1,74 @@
+-- What stands in a folder under each name.
+use Rattle.std.specs.Prelude.{ℕ, ◌≡◌, ◌≢◌, ◌⊎◌, List, [], codes, ⊤, Option, Some, None}
+
+-- what stands under a name: nothing; a file that was not synced after it was made, so that it is not
+-- known which bytes are stored; or a file of which these bytes are stored
+pub data Entry : Type 0 where
+  absent : Entry
+  unsynced : Entry
+  stored : (bytes : List ℕ) → Entry
+
+-- what stands under each name
+abbrev pub Entries : Type 0
+Entries = List ℕ → Entry
+
+-- the entries of a folder, as far as they are known, change like this
+abbrev pub Changes : (Entries → Entries → Type 0) → Option Entries → Option Entries → Type 0
+Changes like None new = ⊤
+Changes like (Some old) None = ⊥
+Changes like (Some old) (Some new) = like old new
+
+-- each name but this one keeps what stands under it
+abbrev pub KeepsOthers : List ℕ → Entries → Entries → Type 0
+KeepsOthers name old new = (n : List ℕ) → n ≢ name → new n ≡ old n
+
+-- a new file of this name stands there, which has no bytes yet, and the other names are as before
+pub record IsMade (name : List ℕ) (contents : Option (List ℕ)) (old new : Entries) : Type 0 where
+  pub made : new name ≡ unsynced
+  pub empty : contents ≡ Some []
+  pub others : KeepsOthers name old new
+
+-- of the file of this name these bytes are stored, and the other names are as before
+pub record IsSynced (name : List ℕ) (contents : Option (List ℕ)) (old new : Entries) : Type 0 where
+  pub bytes : List ℕ
+  pub whole : contents ≡ Some bytes
+  pub synced : new name ≡ stored bytes
+  pub others : KeepsOthers name old new
+
+-- nothing stands under this name, and the other names are as before
+pub record IsRemoved (name : List ℕ) (old new : Entries) : Type 0 where
+  pub removed : new name ≡ absent
+  pub others : KeepsOthers name old new
+
+-- what stood under a name stands under another one
+pub record IsRenamed (from to : List ℕ) (old new : Entries) : Type 0 where
+  pub moved : new to ≡ old from
+  pub left : from ≢ to → new from ≡ absent
+  pub others : (n : List ℕ) → n ≢ from → n ≢ to → new n ≡ old n
+
+-- all is as before
+abbrev pub IsSame : Entries → Entries → Type 0
+IsSame old new = (n : List ℕ) → new n ≡ old n
+
+-- it was renamed, or all is as before
+abbrev pub RenamesOrKeeps : List ℕ → List ℕ → Entries → Entries → Type 0
+RenamesOrKeeps from to old new = IsRenamed from to old new ⊎ IsSame old new
+
+-- ---- a file that takes the place of an older one
+
+-- the name that a file has while it is written
+abbrev pub unfinished : List ℕ
+unfinished = codes "unfinished"
+
+-- a file of these bytes stands under this name, none is left unfinished, and every other name keeps
+-- what stood under it
+pub record Puts (name bytes : List ℕ) (old new : Entries) : Type 0 where
+  pub put : new name ≡ stored bytes
+  pub finished : new unfinished ≡ absent
+  pub others : (n : List ℕ) → n ≢ unfinished → n ≢ name → new n ≡ old n
+
+-- the name has what it had, or a file of these bytes, whole; and every other one what it had, but
+-- for an unfinished file
+pub record PutsOrKeeps (name bytes : List ℕ) (old new : Entries) : Type 0 where
+  pub either : (new name ≡ stored bytes) ⊎ (new name ≡ old name)
+  pub others : (n : List ℕ) → n ≢ unfinished → n ≢ name → new n ≡ old n
