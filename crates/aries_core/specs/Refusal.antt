@@ -1,12 +1,14 @@
 -- When a call is refused, and what is printed of a refusal.
-use Rattle.std.specs.Prelude.{ℕ, ◌+◌, ◌++◌, ◌&&◌, nat_le, nat_lt, Bool, not, List, length, Option}
+use Rattle.std.specs.Prelude.{ℕ, ◌+◌, ◌&&◌, nat_le, nat_lt, Bool, not, List, length, Option}
 use Rattle.std.specs.Prelude.{Some}
 use Rattle.std.specs.Prelude.{is_some, is_none}
-use Rattle.std.specs.Prelude.{None, if◌then◌else◌, codes, true}
-use Rattle.std.specs.Fmt.{decimal}
+use Rattle.std.specs.Prelude.{None, if◌then◌else◌, true}
 use Rattle.std.specs.Option.{option_map}
 use Rattle.page_core.specs.declared.change.ChangeKind.{ChangeKind}
 use Rattle.page_core.specs.declared.change.ChangeKind.TheVariants as kind
+use Rattle.page_core.specs.FaultName.{fault_line, fault_line_with}
+use Rattle.page_core.specs.declared.fault_name.FaultName.{FaultName}
+use Rattle.page_core.specs.declared.fault_name.FaultName.TheVariants as name
 use Rattle.page_core.specs.declared.page.TheConstants.{SLOTS}
 use Rattle.log_records.specs.declared.limits.TheConstants.{MAX_OPEN, MAX_RECORDS}
 use Rattle.log_history.specs.Checkpoint.{open_checkpoint}
@@ -130,38 +132,38 @@ refusal s (event.Take copy page) =
 refusal s (event.Seal copy) = option_map of_vault (seal_refusal (state_of s.copies copy))
 refusal s (event.DropCopy copy) = copy_refusal s copy
 
--- words, and a number behind them, if there is one
-abbrev pub with_number : List ℕ → Option ℕ → List ℕ
-with_number words None = words
-with_number words (Some number) = words ++ codes " " ++ decimal number
+-- the name, and a number behind it, if there is one
+abbrev pub line_with_any : FaultName → Option ℕ → List ℕ
+line_with_any fault None = fault_line fault
+line_with_any fault (Some number) = fault_line_with fault number
 
 -- what is printed of a refusal
 abbrev pub line_of : Refusal → List ℕ
-line_of OutOfMemory = codes "E1 OutOfMemory"
-line_of NoTxn = codes "E2 NoTxn"
-line_of PageOut = codes "E3 PageOut"
-line_of SlotOut = codes "E4 SlotOut"
-line_of (SlotBusy txn) = codes "E5 SlotBusy " ++ decimal txn
-line_of TxnRolling = codes "E6 TxnRolling"
-line_of NotRolling = codes "E7 NotRolling"
-line_of LogFull = codes "E8 LogFull"
-line_of TooManyTxns = codes "E9 TooManyTxns"
-line_of NotDirty = codes "E10 NotDirty"
-line_of WriteBegun = codes "E11 WriteBegun"
-line_of NoWrite = codes "E12 NoWrite"
-line_of CkptOpen = codes "E13 CkptOpen"
-line_of NoCkpt = codes "E14 NoCkpt"
-line_of GatherLeft = codes "E15 GatherLeft"
-line_of NoMaster = codes "E16 NoMaster"
-line_of NoCopy = codes "E17 NoCopy"
-line_of CopyNotOpen = codes "E18 CopyNotOpen"
-line_of CopyNotComplete = codes "E19 CopyNotComplete"
-line_of PageDecided = codes "E20 PageDecided"
-line_of (PagesLeft page) = codes "E21 PagesLeft " ++ decimal page
-line_of StoreFault = codes "E22 StoreFault"
-line_of LogFault = codes "E23 LogFault"
-line_of TooManyCopies = codes "E25 TooManyCopies"
-line_of (CommitUnsure lsn) = codes "E26 CommitUnsure " ++ decimal lsn
+line_of OutOfMemory = fault_line name.OutOfMemory
+line_of NoTxn = fault_line name.NoTxn
+line_of PageOut = fault_line name.PageOut
+line_of SlotOut = fault_line name.SlotOut
+line_of (SlotBusy txn) = fault_line_with name.SlotBusy txn
+line_of TxnRolling = fault_line name.TxnRolling
+line_of NotRolling = fault_line name.NotRolling
+line_of LogFull = fault_line name.LogFull
+line_of TooManyTxns = fault_line name.TooManyTxns
+line_of NotDirty = fault_line name.NotDirty
+line_of WriteBegun = fault_line name.WriteBegun
+line_of NoWrite = fault_line name.NoWrite
+line_of CkptOpen = fault_line name.CkptOpen
+line_of NoCkpt = fault_line name.NoCkpt
+line_of GatherLeft = fault_line name.GatherLeft
+line_of NoMaster = fault_line name.NoMaster
+line_of NoCopy = fault_line name.NoCopy
+line_of CopyNotOpen = fault_line name.CopyNotOpen
+line_of CopyNotComplete = fault_line name.CopyNotComplete
+line_of PageDecided = fault_line name.PageDecided
+line_of (PagesLeft page) = fault_line_with name.PagesLeft page
+line_of StoreFault = fault_line name.StoreFault
+line_of LogFault = fault_line name.LogFault
+line_of TooManyCopies = fault_line name.TooManyCopies
+line_of (CommitUnsure lsn) = fault_line_with name.CommitUnsure lsn
 
 -- what is printed where an engine cannot be made
 abbrev pub line_of_fault : PlayFault → List ℕ

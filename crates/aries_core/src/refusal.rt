@@ -1,11 +1,11 @@
 //! The reasons why the engine refuses a call.
 
 use copy_vault::CopyFault;
-use page_core::{Lsn, PageNo, TxnNo};
+use page_core::{FaultName, Lsn, PageNo, TxnNo};
 use std::error::Error;
 use std::fmt;
 
-/// Why a call is refused. A refusal changes nothing but what its variant says.
+/// Why a call is refused. A refusal changes nothing but what its variant says. Its text is its line.
 #[derive(Clone, Copy, Debug, PartialEq, Eq)]
 pub enum Refusal {
     /// Memory ran out.
@@ -88,48 +88,48 @@ impl fmt::Display for Refusal {
     ghost output = { λ refusal. Some (line_of refusal) };
 
     fn fmt<W: fmt::Write>(&self, f: &mut fmt::Formatter<W>) -> fmt::Result {
-        let (words, number) = self.parts();
+        let (name, number) = self.parts();
         match number {
-            Some(number) => write!(f, "{words} {number}"),
-            None => f.write_str(words),
+            Some(number) => write!(f, "{name} {number}"),
+            None => write!(f, "{name}"),
         }
     }
 }
 
 impl Refusal {
     ghost use Rattle.std.specs.Prelude.{◌≡◌};
-    ghost use Rattle.aries_core.specs.Refusal.{line_of, with_number};
+    ghost use Rattle.aries_core.specs.Refusal.{line_of, line_with_any};
 
-    /// Its line in two parts: the words, and the number behind them, if it has one.
-    fn parts(&self) -> (&'static str, Option<u64>)
-        ensures { line_of self.now ≡ with_number result.0.now result.1 }
+    /// Its line in two parts: the name, and the number behind it, if it has one.
+    fn parts(&self) -> (FaultName, Option<u64>)
+        ensures { line_of self.now ≡ line_with_any result.0 result.1 }
     {
         match self {
-            Refusal::OutOfMemory => ("E1 OutOfMemory", None),
-            Refusal::NoTxn => ("E2 NoTxn", None),
-            Refusal::PageOut => ("E3 PageOut", None),
-            Refusal::SlotOut => ("E4 SlotOut", None),
-            Refusal::SlotBusy(txn) => ("E5 SlotBusy", Some(txn.0 as u64)),
-            Refusal::TxnRolling => ("E6 TxnRolling", None),
-            Refusal::NotRolling => ("E7 NotRolling", None),
-            Refusal::LogFull => ("E8 LogFull", None),
-            Refusal::TooManyTxns => ("E9 TooManyTxns", None),
-            Refusal::NotDirty => ("E10 NotDirty", None),
-            Refusal::WriteBegun => ("E11 WriteBegun", None),
-            Refusal::NoWrite => ("E12 NoWrite", None),
-            Refusal::CkptOpen => ("E13 CkptOpen", None),
-            Refusal::NoCkpt => ("E14 NoCkpt", None),
-            Refusal::GatherLeft => ("E15 GatherLeft", None),
-            Refusal::NoMaster => ("E16 NoMaster", None),
-            Refusal::NoCopy => ("E17 NoCopy", None),
-            Refusal::CopyNotOpen => ("E18 CopyNotOpen", None),
-            Refusal::CopyNotComplete => ("E19 CopyNotComplete", None),
-            Refusal::PageDecided => ("E20 PageDecided", None),
-            Refusal::PagesLeft(page) => ("E21 PagesLeft", Some(page.0 as u64)),
-            Refusal::StoreFault => ("E22 StoreFault", None),
-            Refusal::LogFault => ("E23 LogFault", None),
-            Refusal::TooManyCopies => ("E25 TooManyCopies", None),
-            Refusal::CommitUnsure(lsn) => ("E26 CommitUnsure", Some(lsn.0)),
+            Refusal::OutOfMemory => (FaultName::OutOfMemory, None),
+            Refusal::NoTxn => (FaultName::NoTxn, None),
+            Refusal::PageOut => (FaultName::PageOut, None),
+            Refusal::SlotOut => (FaultName::SlotOut, None),
+            Refusal::SlotBusy(txn) => (FaultName::SlotBusy, Some(txn.0 as u64)),
+            Refusal::TxnRolling => (FaultName::TxnRolling, None),
+            Refusal::NotRolling => (FaultName::NotRolling, None),
+            Refusal::LogFull => (FaultName::LogFull, None),
+            Refusal::TooManyTxns => (FaultName::TooManyTxns, None),
+            Refusal::NotDirty => (FaultName::NotDirty, None),
+            Refusal::WriteBegun => (FaultName::WriteBegun, None),
+            Refusal::NoWrite => (FaultName::NoWrite, None),
+            Refusal::CkptOpen => (FaultName::CkptOpen, None),
+            Refusal::NoCkpt => (FaultName::NoCkpt, None),
+            Refusal::GatherLeft => (FaultName::GatherLeft, None),
+            Refusal::NoMaster => (FaultName::NoMaster, None),
+            Refusal::NoCopy => (FaultName::NoCopy, None),
+            Refusal::CopyNotOpen => (FaultName::CopyNotOpen, None),
+            Refusal::CopyNotComplete => (FaultName::CopyNotComplete, None),
+            Refusal::PageDecided => (FaultName::PageDecided, None),
+            Refusal::PagesLeft(page) => (FaultName::PagesLeft, Some(page.0 as u64)),
+            Refusal::StoreFault => (FaultName::StoreFault, None),
+            Refusal::LogFault => (FaultName::LogFault, None),
+            Refusal::TooManyCopies => (FaultName::TooManyCopies, None),
+            Refusal::CommitUnsure(lsn) => (FaultName::CommitUnsure, Some(lsn.0)),
         }
     }
 }

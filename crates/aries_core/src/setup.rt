@@ -1,5 +1,6 @@
 //! The parameters of a new engine.
 
+use page_core::FaultName;
 use std::error::Error;
 use std::fmt;
 
@@ -29,8 +30,8 @@ impl fmt::Display for PlayFault {
 
     fn fmt<W: fmt::Write>(&self, f: &mut fmt::Formatter<W>) -> fmt::Result {
         match self {
-            PlayFault::OutOfMemory => f.write_str("E1 OutOfMemory"),
-            PlayFault::LogFault => f.write_str("E23 LogFault"),
+            PlayFault::OutOfMemory => write!(f, "{}", FaultName::OutOfMemory),
+            PlayFault::LogFault => write!(f, "{}", FaultName::LogFault),
         }
     }
 }

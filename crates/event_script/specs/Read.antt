@@ -20,6 +20,12 @@ Refuses input ReadFault = Unit {0}
 Refuses input Input = ¬ IsText input
 Refuses input (BadLine number) = IsText input × IsFirstBad (lines_of input) number
 
+-- the fault is one of the input
+abbrev pub IsOfInput : ScriptFault → Type 0
+IsOfInput OutOfMemory = ⊥
+IsOfInput ReadFault = ⊥
+IsOfInput of_the_input = Unit {0}
+
 -- where the reader failed, what it gave until then is not too long
 abbrev pub GaveNoFault : Option (List ℕ) → Option (List ℕ) → ScriptFault → Type 0
 GaveNoFault old new ReadFault =

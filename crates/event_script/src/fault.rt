@@ -3,6 +3,7 @@
 ghost use Rattle.std.specs.Prelude.{◌≡◌};
 ghost use Rattle.event_script.specs.declared.fault.ScriptFault.TheVariants.{OutOfMemory};
 
+use page_core::FaultName;
 use std::alloc::{AllocError, AllocFailed};
 use std::error::Error;
 use std::fmt;
@@ -30,7 +31,7 @@ impl fmt::Display for ScriptFault {
 
     fn fmt<W: fmt::Write>(&self, f: &mut fmt::Formatter<W>) -> fmt::Result {
         match self {
-            ScriptFault::OutOfMemory => f.write_str("E1 OutOfMemory"),
+            ScriptFault::OutOfMemory => write!(f, "{}", FaultName::OutOfMemory),
             ScriptFault::Input | ScriptFault::ReadFault => f.write_str("imgcopy: input"),
             ScriptFault::BadLine(number) => write!(f, "imgcopy: line {number}"),
         }

@@ -4,6 +4,7 @@
 mod call;
 mod fault;
 mod input;
+mod laws;
 mod line;
 mod number;
 mod read;
@@ -13,6 +14,7 @@ mod words;
 
 pub use fault::ScriptFault;
 pub use input::MAX_SCRIPT_BYTES;
+pub use laws::inputs_have_one_fault;
 pub use read::read_script;
 pub use reply::ReplyLine;
 pub use script::{LastRestore, Script};

@@ -2,6 +2,7 @@ pub mod Archives
 pub mod Groups
 pub mod Loads
 pub mod Masters
+mod OneMasterFault
 pub mod Overlays
 mod Rebuilds
 pub mod Restored

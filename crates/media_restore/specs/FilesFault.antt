@@ -1,6 +1,7 @@
 -- The faults of a restore from files: whence they come, and what is printed of them.
-use Rattle.std.specs.Prelude.{ℕ, List, ◌++◌, codes}
-use Rattle.std.specs.Fmt.{decimal}
+use Rattle.std.specs.Prelude.{ℕ, List}
+use Rattle.page_core.specs.FaultName.{fault_line, fault_line_with}
+use Rattle.page_core.specs.declared.fault_name.FaultName.TheVariants as name
 use Rattle.log_store.specs.declared.fault.LogReadFault.{LogReadFault}
 use Rattle.log_store.specs.declared.fault.LogReadFault.TheVariants as log
 use Rattle.copy_vault.specs.declared.archive_fault.ArchiveFault.{ArchiveFault}
@@ -40,15 +41,15 @@ of_undo undo.OutOfMemory = OutOfMemory
 
 -- what is printed of a fault
 abbrev pub line_of : RestoreFault → List ℕ
-line_of OutOfMemory = codes "E1 OutOfMemory"
-line_of LogFull = codes "E8 LogFull"
-line_of (WriteFault done) = codes "E29 WriteFault " ++ decimal done
-line_of BadHeader = codes "E30 BadHeader"
-line_of (BadRecord at) = codes "E31 BadRecord " ++ decimal at
-line_of (Torn at) = codes "E32 Torn " ++ decimal at
-line_of ReadFault = codes "E33 ReadFault"
-line_of TooLong = codes "E34 TooLong"
-line_of (BadChain at) = codes "E35 BadChain " ++ decimal at
-line_of (BadArchive at) = codes "E36 BadArchive " ++ decimal at
-line_of (ChainBroken copy) = codes "E37 ChainBroken " ++ decimal copy
-line_of CountDiffers = codes "E38 CountDiffers"
+line_of OutOfMemory = fault_line name.OutOfMemory
+line_of LogFull = fault_line name.LogFull
+line_of (WriteFault done) = fault_line_with name.WriteFault done
+line_of BadHeader = fault_line name.BadHeader
+line_of (BadRecord at) = fault_line_with name.BadRecord at
+line_of (Torn at) = fault_line_with name.Torn at
+line_of ReadFault = fault_line name.ReadFault
+line_of TooLong = fault_line name.TooLong
+line_of (BadChain at) = fault_line_with name.BadChain at
+line_of (BadArchive at) = fault_line_with name.BadArchive at
+line_of (ChainBroken copy) = fault_line_with name.ChainBroken copy
+line_of CountDiffers = fault_line name.CountDiffers

@@ -4,6 +4,7 @@ ghost use Rattle.std.specs.Prelude.{◌≡◌};
 ghost use Rattle.media_restore.specs.declared.fault.LoadFault.TheVariants.{OutOfMemory};
 
 use loser_undo::UndoFault;
+use page_core::FaultName;
 use std::alloc::AllocError;
 use std::error::Error;
 use std::fmt;
@@ -29,10 +30,10 @@ impl fmt::Display for LoadFault {
 
     fn fmt<W: fmt::Write>(&self, f: &mut fmt::Formatter<W>) -> fmt::Result {
         match self {
-            LoadFault::OutOfMemory => f.write_str("E1 OutOfMemory"),
-            LoadFault::NoCopy => f.write_str("E17 NoCopy"),
-            LoadFault::CopyNotComplete => f.write_str("E19 CopyNotComplete"),
-            LoadFault::CutTooShort(forced) => write!(f, "E27 CutTooShort {forced}"),
+            LoadFault::OutOfMemory => write!(f, "{}", FaultName::OutOfMemory),
+            LoadFault::NoCopy => write!(f, "{}", FaultName::NoCopy),
+            LoadFault::CopyNotComplete => write!(f, "{}", FaultName::CopyNotComplete),
+            LoadFault::CutTooShort(forced) => write!(f, "{} {forced}", FaultName::CutTooShort),
         }
     }
 }
@@ -62,7 +63,7 @@ impl fmt::Display for RedoFault {
 
     fn fmt<W: fmt::Write>(&self, f: &mut fmt::Formatter<W>) -> fmt::Result {
         match self {
-            RedoFault::OutOfMemory => f.write_str("E1 OutOfMemory"),
+            RedoFault::OutOfMemory => write!(f, "{}", FaultName::OutOfMemory),
         }
     }
 }

@@ -7,7 +7,7 @@ ghost use Rattle.media_restore.specs.declared.files_fault.RestoreFault.TheVarian
 use copy_vault::{ArchiveFault, CopyId};
 use log_store::LogReadFault;
 use loser_undo::UndoFault;
-use page_core::Lsn;
+use page_core::{FaultName, Lsn};
 use std::alloc::{AllocError, AllocFailed};
 use std::error::Error;
 use std::fmt;
@@ -53,30 +53,30 @@ impl fmt::Display for RestoreFault {
 
     fn fmt<W: fmt::Write>(&self, f: &mut fmt::Formatter<W>) -> fmt::Result {
         match self {
-            RestoreFault::OutOfMemory => f.write_str("E1 OutOfMemory"),
-            RestoreFault::LogFull => f.write_str("E8 LogFull"),
-            RestoreFault::WriteFault(done) => write!(f, "E29 WriteFault {done}"),
-            RestoreFault::BadHeader => f.write_str("E30 BadHeader"),
+            RestoreFault::OutOfMemory => write!(f, "{}", FaultName::OutOfMemory),
+            RestoreFault::LogFull => write!(f, "{}", FaultName::LogFull),
+            RestoreFault::WriteFault(done) => write!(f, "{} {done}", FaultName::WriteFault),
+            RestoreFault::BadHeader => write!(f, "{}", FaultName::BadHeader),
             RestoreFault::BadRecord(at) => {
                 let at = at.0;
-                write!(f, "E31 BadRecord {at}")
+                write!(f, "{} {at}", FaultName::BadRecord)
             }
             RestoreFault::Torn(at) => {
                 let at = at.0;
-                write!(f, "E32 Torn {at}")
+                write!(f, "{} {at}", FaultName::Torn)
             }
-            RestoreFault::ReadFault => f.write_str("E33 ReadFault"),
-            RestoreFault::TooLong => f.write_str("E34 TooLong"),
+            RestoreFault::ReadFault => write!(f, "{}", FaultName::ReadFault),
+            RestoreFault::TooLong => write!(f, "{}", FaultName::TooLong),
             RestoreFault::BadChain(at) => {
                 let at = at.0;
-                write!(f, "E35 BadChain {at}")
+                write!(f, "{} {at}", FaultName::BadChain)
             }
-            RestoreFault::BadArchive(at) => write!(f, "E36 BadArchive {at}"),
+            RestoreFault::BadArchive(at) => write!(f, "{} {at}", FaultName::BadArchive),
             RestoreFault::ChainBroken(copy) => {
                 let copy = copy.0;
-                write!(f, "E37 ChainBroken {copy}")
+                write!(f, "{} {copy}", FaultName::ChainBroken)
             }
-            RestoreFault::CountDiffers => f.write_str("E38 CountDiffers"),
+            RestoreFault::CountDiffers => write!(f, "{}", FaultName::CountDiffers),
         }
     }
 }

@@ -9,6 +9,7 @@ mod files_archives;
 mod files_fault;
 mod files_master;
 mod loaded;
+mod master_laws;
 mod rebuilt;
 mod saved_laws;
 mod volume_output;
@@ -18,6 +19,7 @@ pub use fault::{LoadFault, RedoFault, Refused};
 pub use files::restore_files;
 pub use files_fault::RestoreFault;
 pub use loaded::Loaded;
+pub use master_laws::masters_have_one_fault;
 pub use rebuilt::{Rebuilt, rebuild, recover};
 pub use saved_laws::{
     saved_files_are_right, saved_files_restore_what_was_committed, what_is_left_can_be_saved,
