@@ -1,10 +1,8 @@
-//! A script that is played: its replies as lines, the log as a file, and its last restore.
+//! A script that is played: its replies as lines, and its last restore.
 #![tactic(auto)]
 
 mod finish;
 mod finish_fault;
-mod log_fault;
-mod log_file;
 mod memory_play;
 mod page_lines;
 mod reply_lines;
@@ -14,8 +12,6 @@ mod status;
 
 pub use finish::finish_script;
 pub use finish_fault::FinishFault;
-pub use log_fault::LogWriteFault;
-pub use log_file::write_log;
 pub use run::{Ran, run_script};
 pub use run_fault::RunFault;
 pub use status::{FAULT_STATUS, refused_status, restore_status};
