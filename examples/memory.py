@@ -17,6 +17,7 @@ from pathlib import Path
 from typing import NamedTuple
 
 from model_check import WRONG_WORDS
+from recovery_model import fault_lines
 
 EXAMPLES = Path(__file__).resolve().parent
 OUT_OF_MEMORY = (2, b"", b"E1 OutOfMemory\n")
@@ -52,7 +53,7 @@ def run(program, case, environment):
             done = subprocess.run([program, *case.words], stdin=source, capture_output=True, pass_fds=[writing],
                                   env={**os.environ, **environment, "REFUSAL_REPORT": str(writing)})
         refused = report.read() != b""
-    return (done.returncode, done.stdout, done.stderr), refused
+    return (done.returncode, done.stdout, fault_lines(done.stderr)), refused
 
 
 def refuse_each(program, library, case):

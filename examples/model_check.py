@@ -25,7 +25,7 @@ import model_rows
 from log_format import ADD, BEGIN, MOST_RECORDS, RECORD_SIZE, UPDATE, Change, Record, lsn_of
 from make import Draw
 from random_scripts import Script, bad_script, random_script
-from recovery_model import Answer, answer_of, encode_pages, redo_all, redo_file, restore_files, undo_records
+from recovery_model import Answer, answer_of, encode_pages, fault_lines, redo_all, redo_file, restore_files, undo_records
 from script_model import LONGEST_SCRIPT, run
 from spoiled_files import Given, spoil
 
@@ -56,7 +56,7 @@ class Checker:
         with open(source, "rb") as standard_input:
             done = subprocess.run([self.program, *words], stdin=standard_input, capture_output=True, cwd=self.saved,
                                   timeout=MOST_SECONDS)
-        return Answer(done.returncode, done.stdout, done.stderr)
+        return Answer(done.returncode, done.stdout, fault_lines(done.stderr))
 
     def empty_folder(self):
         shutil.rmtree(self.saved, ignore_errors=True)

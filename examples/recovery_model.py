@@ -313,6 +313,11 @@ def redo_file(log):
     return redo_all(records, pages)
 
 
+def fault_lines(error):
+    """Standard error without the lines for a person, which begin with the program's name."""
+    return b"".join(line for line in error.splitlines(keepends=True) if not line.startswith(b"imgcopy: "))
+
+
 class Answer(NamedTuple):
     """What a program gives back."""
 

@@ -23,7 +23,7 @@ from log_format import lsn_of
 from memory import Case, Failure, check, program_and_library, refuse_each
 from memory_scripts import BAD_SCRIPTS, CHAIN, SCRIPTS
 from model_check import difference, difference_of_files
-from recovery_model import Answer, encode_pages, redo_all, undo_records
+from recovery_model import Answer, encode_pages, fault_lines, redo_all, undo_records
 from script_model import CALLS, OUT_OF_MEMORY, Ran, read_script, run
 
 TOLD = f"{OUT_OF_MEMORY}\n".encode()
@@ -123,7 +123,7 @@ def check_restores(program, ran):
             for copy in copies:
                 words = restore_words(ran, copy)
                 done = subprocess.run([program, *words], capture_output=True, cwd=folder)
-                given = Answer(done.returncode, done.stdout, done.stderr)
+                given = Answer(done.returncode, done.stdout, fault_lines(done.stderr))
                 if given != wanted:
                     raise Failure(f"{' '.join(words)} with {cut} records of {ran.answer.output[-80:]!r}:"
                                   f" {difference(given, wanted)}")

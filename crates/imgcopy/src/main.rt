@@ -6,20 +6,23 @@ ghost use Rattle.std.specs.Process.{exit_status};
 ghost use Rattle.log_records.specs.Log.{IsPageCount};
 ghost use Rattle.script_run.specs.Status.{status_of_finish, status_of_restore};
 
-mod restore;
-mod save;
+mod advice;
+mod notes;
+mod system_files;
 
+use advice::{tell_input, tell_stale, tell_unsaved};
 use aries_core::Setup;
 use command_words::{Command, command_of, words_of};
 use media_restore::RestoreFault;
-use restore::restore_volume;
-use save::save_files;
+use notes::Notes;
+use saved_files::{restore_volume, save_files};
 use script_run::{
     FAULT_STATUS, FinishFault, Ran, finish_script, refused_status, restore_status, run_script,
 };
 use std::fmt::Display;
 use std::io;
 use std::process::ExitCode;
+use system_files::{SystemFiles, SystemFolder};
 use volume_redo::{Fault, redo_stream};
 
 fn main(rt: HostRuntime) -> ExitCode {
@@ -39,11 +42,7 @@ fn main(rt: HostRuntime) -> ExitCode {
                 master,
                 archives,
             },
-        ) => {
-            let mut output = io::writer(&rt);
-            let done = restore_volume(&rt, rt.alloc(), log, master, &archives, &mut output);
-            status_of_files(&rt, done)
-        }
+        ) => restore(&rt, log, master, &archives),
         Err(fault) => told_whole(&rt, &fault),
     }
 }
@@ -65,12 +64,37 @@ fn run(rt: &HostRuntime, pages: u32, save: Option<&str>) -> ExitCode
 /// Saves what a script left, and does its last restore.
 fn finish(rt: &HostRuntime, ran: Ran, save: Option<&str>) -> ExitCode {
     if let Some(folder) = save {
-        if let Err(fault) = save_files(rt, rt.alloc(), &ran.retired, folder) {
-            return told(rt, &fault);
+        let notes = Notes::new();
+        let mut made = SystemFolder {
+            files: rt,
+            alloc: rt.alloc(),
+            name: folder,
+            notes: &notes,
+        };
+        if let Err(fault) = save_files(&mut made, rt.alloc(), &ran.retired) {
+            let status = told(rt, &fault);
+            tell_unsaved(rt, folder, &fault, &notes);
+            return status;
         }
+        tell_stale(rt, rt.alloc(), folder, &ran.retired);
     }
     let done = finish_script(rt.alloc(), ran, &mut io::writer(rt));
     status_of_finish(rt, done)
+}
+
+/// Restores a volume from files.
+fn restore(rt: &HostRuntime, log: &str, master: &str, archives: &[&str]) -> ExitCode {
+    let notes = Notes::new();
+    let files = SystemFiles {
+        files: rt,
+        notes: &notes,
+    };
+    let done = restore_volume(&files, rt.alloc(), log, master, archives, &mut io::writer(rt));
+    let status = status_of_files(rt, done);
+    if let Err(fault) = done {
+        tell_input(rt, log, master, archives, &fault, &notes);
+    }
+    status
 }
 
 /// Tells why a script's last restore came to no end, and answers the program's status.

@@ -1,4 +1,3 @@
 mod Faultless
-mod Groups
 mod Runs
 mod Slots

@@ -1,7 +1,6 @@
 pub mod Finish
 pub mod FinishText
 pub mod Left
-pub mod LogFile
 pub mod PageLines
 pub mod ReplyLines
 pub mod Run

@@ -1,11 +1,8 @@
-//! Plays a script: writes its replies as lines, its log as a file, and the pages of its last
-//! restore as lines.
+//! Plays a script: writes its replies as lines, and the pages of its last restore as lines.
 #![tactic(auto)]
 
 mod finish;
 mod finish_fault;
-mod log_fault;
-mod log_file;
 mod memory_play;
 mod page_lines;
 mod reply_lines;
@@ -15,8 +12,6 @@ mod status;
 
 pub use finish::finish_script;
 pub use finish_fault::FinishFault;
-pub use log_fault::LogWriteFault;
-pub use log_file::write_log;
 pub use run::{Ran, run_script};
 pub use run_fault::RunFault;
 pub use status::{FAULT_STATUS, refused_status, restore_status};

@@ -1,0 +1,95 @@
+//! Lines for a person on standard error, behind the line of a fault.
+
+use crate::notes::Notes;
+use copy_coverage::Retired;
+use copy_vault::{CopyId, MAX_COPIES};
+use media_restore::RestoreFault;
+use saved_files::{FileFault, SaveFault, SavedName};
+use std::alloc::{AllocError, Global};
+use std::fs;
+use std::path::Path;
+use std::rt::Files;
+
+/// Names the file in which a restore from files met its fault, and why the system failed there.
+pub fn tell_input(
+    rt: &impl Eprint,
+    log: &str,
+    master: &str,
+    archives: &[&str],
+    fault: &RestoreFault,
+    notes: &Notes,
+) {
+    let (what, name) = match (fault, notes.opened()) {
+        (RestoreFault::OutOfMemory | RestoreFault::LogFull | RestoreFault::WriteFault(_), _) => return,
+        (_, 0) => return,
+        (_, 1) => ("log", log),
+        (_, 2) => ("master record", master),
+        (_, count) => match archives.get(count - 3) {
+            Some(archive) => ("image copy", *archive),
+            None => return,
+        },
+    };
+    let _ = match (fault, notes.error()) {
+        (RestoreFault::ReadFault, Some(error)) => {
+            eprintln!(rt; "imgcopy: {name} ({what}): {error}")
+        }
+        _ => eprintln!(rt; "imgcopy: {name} ({what})"),
+    };
+}
+
+/// Names the file that could not be saved, and why the system failed there.
+pub fn tell_unsaved(rt: &impl Eprint, folder: &str, fault: &SaveFault, notes: &Notes) {
+    let file = fault.file;
+    let _ = match (fault.why, notes.error()) {
+        (FileFault::WriteFault(_), Some(error)) => {
+            eprintln!(rt; "imgcopy: {folder}/{file}: {error}")
+        }
+        _ => eprintln!(rt; "imgcopy: {folder}/{file}: not saved"),
+    };
+}
+
+/// Names the files of a folder that look like those of a run, and are not of this one: they do not
+/// fit the log that was saved beside them.
+pub fn tell_stale<R: Files + Eprint>(rt: &R, alloc: Global, folder: &str, retired: &Retired) {
+    if let Ok(names) = stale_names(rt, alloc, folder, retired) {
+        if !names.is_empty() {
+            let _ = eprintln!(rt; "imgcopy: {folder}: not of this run:{names}");
+        }
+    }
+}
+
+/// The names of those files, each behind a space.
+fn stale_names<R: Files>(
+    files: &R,
+    alloc: Global,
+    folder: &str,
+    retired: &Retired,
+) -> Result<String, AllocError> {
+    let mut names = String::new(alloc);
+    if retired.master().is_none() {
+        put_if_there(files, alloc, folder, SavedName::Master, &mut names)?;
+    }
+    let vault = retired.vault();
+    for id in 1..=MAX_COPIES {
+        if vault.complete(CopyId(id)).is_none() {
+            put_if_there(files, alloc, folder, SavedName::Copy(CopyId(id)), &mut names)?;
+        }
+    }
+    Ok(names)
+}
+
+/// Puts the name behind the others, where a file has it.
+fn put_if_there<R: Files>(
+    files: &R,
+    alloc: Global,
+    folder: &str,
+    file: SavedName,
+    names: &mut String,
+) -> Result<(), AllocError> {
+    let name = format!(in alloc; "{file}")?;
+    let place = Path::new(folder).join(alloc, name.as_str())?;
+    if let Ok(true) = fs::exists(files, place.as_path()) {
+        write!(names, " {file}")?;
+    }
+    Ok(())
+}
