@@ -6,7 +6,7 @@ ghost use Rattle.imgcopy.specs.declared.save.SaveFault.TheVariants.{OutOfMemory}
 use copy_coverage::Retired;
 use copy_vault::{ArchiveWriteFault, CompleteCopy, CopyId, write_archive};
 use log_store::{LogImage, Master, encode_master};
-use page_core::write_out;
+use page_core::{FaultName, write_out};
 use script_run::{LogWriteFault, write_log};
 use std::alloc::{AllocError, Global};
 use std::fs;
@@ -25,11 +25,11 @@ const UNFINISHED: &str = "unfinished";
 /// Why the files of a run were not saved. Its text is its line.
 #[derive(Clone, Copy, Debug, PartialEq, Eq, Error)]
 pub enum SaveFault {
-    #[error("E1 OutOfMemory")]
+    #[error("{name}", name = FaultName::OutOfMemory)]
     OutOfMemory,
     /// A file could not be made or put in its place (0), or so many of its bytes were written and
     /// then no more.
-    #[error("E29 WriteFault {0}")]
+    #[error("{name} {0}", name = FaultName::WriteFault)]
     WriteFault(u64),
 }
 

@@ -1,5 +1,6 @@
 //! Why a log could not be written.
 
+use page_core::FaultName;
 use std::error::Error;
 use std::fmt;
 
@@ -21,8 +22,8 @@ impl fmt::Display for LogWriteFault {
 
     fn fmt<W: fmt::Write>(&self, f: &mut fmt::Formatter<W>) -> fmt::Result {
         match self {
-            LogWriteFault::OutOfMemory => write!(f, "E1 OutOfMemory"),
-            LogWriteFault::WriteFault(done) => write!(f, "E29 WriteFault {done}"),
+            LogWriteFault::OutOfMemory => write!(f, "{}", FaultName::OutOfMemory),
+            LogWriteFault::WriteFault(done) => write!(f, "{} {done}", FaultName::WriteFault),
         }
     }
 }
