@@ -15,6 +15,7 @@ ghost use Rattle.clap.specs.declared.error.kind.ErrorKind.TheVariants as kind;
 use crate::arguments::{redo_matches, restore_matches, run_matches};
 use clap::ArgMatches;
 use clap::error::ErrorKind;
+use page_core::FaultName;
 use std::alloc::{AllocError, Global};
 use std::convert::AsStr;
 use strsim::levenshtein;
@@ -70,7 +71,7 @@ pub enum UsageFault<'a> {
     /// The words after the command's name are wrong, or ask for its help.
     #[error(transparent)]
     BadArguments(clap::Error),
-    #[error("E1 OutOfMemory\n")]
+    #[error("{name}\n", name = FaultName::OutOfMemory)]
     OutOfMemory,
 }
 

@@ -1,4 +1,6 @@
 //! The words of the command line, as the system passes them.
+
+use page_core::FaultName;
 use std::alloc::AllocError;
 use std::env::{self, FillError};
 use std::io::ErrorKind;
@@ -15,7 +17,7 @@ pub enum WordsFault {
     NotUtf8 { place: usize, text: String },
     #[error("error: the words of the command line cannot be read\n")]
     Unreadable,
-    #[error("E1 OutOfMemory\n")]
+    #[error("{name}\n", name = FaultName::OutOfMemory)]
     OutOfMemory,
 }
 

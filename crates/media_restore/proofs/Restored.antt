@@ -6,13 +6,15 @@ use Rattle.std.proofs.KnownBytes.{Keeps-refl}
 use Rattle.std.proofs.lemmas.List.{get_or-map, length-map, same_lists}
 use Rattle.std.proofs.lemmas.List.FromFn.{get_or-map-range_with_len, length-map-range_with_len}
 use Rattle.page_core.specs.declared.page.Page.{Page}
-use Rattle.page_core.specs.Volume.{AreNumbered}
+use Rattle.page_core.specs.Page.{volume_bytes}
+use Rattle.page_core.specs.Volume.{AreNumbered, SpellsVolume}
 use Rattle.log_records.specs.declared.limits.TheConstants.{MAX_RECORDS}
 use Rattle.log_records.specs.declared.record.Record.{Record}
 use Rattle.log_records.specs.Coverage.{resume}
 use Rattle.log_records.specs.Image.{image, image_from, redo_all}
 use Rattle.log_records.specs.Log.{IsLog, Log}
 use Rattle.log_records.proofs.Coverage.{resume_covering}
+use Rattle.log_records.proofs.Images.{numbered-images}
 use Rattle.log_history.specs.Linked.{IsLinked}
 use Rattle.log_store.specs.declared.fault.LogReadFault.{LogReadFault}
 use Rattle.log_store.specs.declared.fault.LogReadFault.TheVariants as log
@@ -26,6 +28,7 @@ use Rattle.copy_vault.proofs.Chains.{contents_numbered, some_members}
 use Rattle.loser_undo.specs.declared.fault.UndoFault.{UndoFault}
 use Rattle.loser_undo.specs.declared.fault.UndoFault.TheVariants as undo
 use Rattle.loser_undo.specs.Recovery.{HasCommitted, IsRecovery, IsWhole, Recovery, appended, undone}
+use Rattle.loser_undo.proofs.Resumed.{numbered_resumed}
 use Rattle.media_restore.specs.declared.files_fault.RestoreFault.{RestoreFault}
 use Rattle.media_restore.specs.declared.files_fault.RestoreFault.TheVariants.{OutOfMemory, LogFull, WriteFault}
 use Rattle.media_restore.specs.declared.files_fault.RestoreFault.TheVariants.{BadHeader, BadRecord, Torn, ReadFault}
@@ -99,6 +102,19 @@ restored_of files log master pages redo it of_log of_master of_chain room made s
       made = made ∙ ap (map (λ page. image_from page (appended log))) same;
       sound = λ covers. sound (same ∙ covering_whole log copies of_log.valid
           (count_in log.pages copies of_chain.of_archives.fit of_chain.chain) covers);
+    }
+
+-- restored pages stand in order of their numbers, so their bytes spell a volume
+pub restored_spelled : (files : Files) (pages : List Page) → IsRestored files pages
+    → SpellsVolume pages (volume_bytes pages)
+restored_spelled files pages it =
+    let chain = contents it.copies in
+    let redo = last_redo it.copies in
+    record {
+      numbered = subst AreNumbered (sym it.made)
+          (numbered-images (redone_of it.log it.copies) (appended it.log)
+          (numbered_resumed chain it.log.records redo (contents_numbered it.copies it.parts.chain)));
+      spelled = refl;
     }
 
 -- ---- undo

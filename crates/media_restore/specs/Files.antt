@@ -2,7 +2,7 @@
 use Rattle.std.specs.Prelude.{ℕ, ◌≡◌, ◌+◌, ◌<◌, ◌≤◌, List, length, map, take, Option, IfSome}
 use Rattle.std.specs.Io.KnownBytes.{Appends, Keeps}
 use Rattle.page_core.specs.declared.page.Page.{Page}
-use Rattle.page_core.specs.Page.{volume_bytes}
+use Rattle.page_core.specs.Volume.{SpellsVolume}
 use Rattle.log_records.specs.declared.limits.TheConstants.{MAX_RECORDS}
 use Rattle.log_records.specs.declared.record.Record.{Record}
 use Rattle.log_records.specs.Coverage.{Covers, resume}
@@ -129,14 +129,18 @@ pub data Refused (files : Files) (fault : RestoreFault) : Type 0 where
 pub record WritesVolume (files : Files) (old new : Option (List ℕ)) : Type 0 where
   pub pages : List Page
   pub from : IsRestored files pages
-  pub written : Appends old new (volume_bytes pages)
+  pub volume : List ℕ
+  pub spells : SpellsVolume pages volume
+  pub written : Appends old new volume
 
 -- the first bytes of it, so many but not all, and nothing else
 pub record WritesPart (files : Files) (old new : Option (List ℕ)) (done : ℕ) : Type 0 where
   pub pages : List Page
   pub from : IsRestored files pages
-  pub within : done < length (volume_bytes pages)
-  pub written : Appends old new (take done (volume_bytes pages))
+  pub volume : List ℕ
+  pub spells : SpellsVolume pages volume
+  pub within : done < length volume
+  pub written : Appends old new (take done volume)
 
 -- what a fault says, and what stands after it
 abbrev pub Leaves : Files → Option (List ℕ) → Option (List ℕ) → RestoreFault → Type 0

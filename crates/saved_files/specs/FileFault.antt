@@ -1,7 +1,8 @@
 -- A file that was not written.
-use Rattle.std.specs.Prelude.{ℕ, ◌<◌, ◌≤◌, ◌++◌, List, codes, length, take, Option}
-use Rattle.std.specs.Fmt.{decimal}
+use Rattle.std.specs.Prelude.{ℕ, ◌<◌, ◌≤◌, List, length, take, Option}
 use Rattle.std.specs.Io.KnownBytes.{Appends, Keeps}
+use Rattle.page_core.specs.FaultName.{fault_line, fault_line_with}
+use Rattle.page_core.specs.declared.fault_name.FaultName.TheVariants as name
 use Rattle.copy_vault.specs.declared.archive_fault.ArchiveWriteFault.{ArchiveWriteFault}
 use Rattle.copy_vault.specs.declared.archive_fault.ArchiveWriteFault.TheVariants as archive
 use Rattle.saved_files.specs.declared.file_fault.FileFault.{FileFault}
@@ -9,8 +10,8 @@ use Rattle.saved_files.specs.declared.file_fault.FileFault.TheVariants.{OutOfMem
 
 -- what is printed of it
 abbrev pub line_of : FileFault → List ℕ
-line_of OutOfMemory = codes "E1 OutOfMemory"
-line_of (WriteFault done) = codes "E29 WriteFault " ++ decimal done
+line_of OutOfMemory = fault_line name.OutOfMemory
+line_of (WriteFault done) = fault_line_with name.WriteFault done
 
 -- what it is of an archive
 abbrev pub of_archive : ArchiveWriteFault → FileFault

@@ -4,6 +4,7 @@ ghost use Rattle.std.specs.Prelude.{◌≡◌};
 ghost use Rattle.saved_files.specs.FileFault.{of_archive};
 
 use copy_vault::ArchiveWriteFault;
+use page_core::FaultName;
 use std::error::Error;
 use std::fmt;
 
@@ -25,8 +26,8 @@ impl fmt::Display for FileFault {
 
     fn fmt<W: fmt::Write>(&self, f: &mut fmt::Formatter<W>) -> fmt::Result {
         match self {
-            FileFault::OutOfMemory => write!(f, "E1 OutOfMemory"),
-            FileFault::WriteFault(done) => write!(f, "E29 WriteFault {done}"),
+            FileFault::OutOfMemory => write!(f, "{}", FaultName::OutOfMemory),
+            FileFault::WriteFault(done) => write!(f, "{} {done}", FaultName::WriteFault),
         }
     }
 }

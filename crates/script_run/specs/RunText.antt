@@ -1,6 +1,7 @@
 -- What is printed where a script is not played, or its replies are not written.
-use Rattle.std.specs.Prelude.{ℕ, ◌++◌, List, codes}
-use Rattle.std.specs.Fmt.{decimal}
+use Rattle.std.specs.Prelude.{ℕ, List}
+use Rattle.page_core.specs.FaultName.{fault_line, fault_line_with}
+use Rattle.page_core.specs.declared.fault_name.FaultName.TheVariants as name
 use Rattle.event_script.specs.Fault.{line_of_fault}
 use Rattle.script_run.specs.declared.run_fault.RunFault.{RunFault}
 use Rattle.script_run.specs.declared.run_fault.RunFault.TheVariants.{Script, OutOfMemory}
@@ -8,5 +9,5 @@ use Rattle.script_run.specs.declared.run_fault.RunFault.TheVariants.{WriteFault}
 
 abbrev pub line_of : RunFault → List ℕ
 line_of (Script fault) = line_of_fault fault
-line_of OutOfMemory = codes "E1 OutOfMemory"
-line_of (WriteFault done) = codes "E29 WriteFault " ++ decimal done
+line_of OutOfMemory = fault_line name.OutOfMemory
+line_of (WriteFault done) = fault_line_with name.WriteFault done

@@ -1,6 +1,7 @@
 //! The reasons why the last restore of a script did not end.
 
 use media_restore::Refused;
+use page_core::FaultName;
 use std::error::Error;
 use std::fmt;
 
@@ -24,9 +25,9 @@ impl fmt::Display for FinishFault {
 
     fn fmt<W: fmt::Write>(&self, f: &mut fmt::Formatter<W>) -> fmt::Result {
         match self {
-            FinishFault::OutOfMemory => write!(f, "E1 OutOfMemory"),
+            FinishFault::OutOfMemory => write!(f, "{}", FaultName::OutOfMemory),
             FinishFault::Refused(why) => write!(f, "{why}"),
-            FinishFault::WriteFault(done) => write!(f, "E29 WriteFault {done}"),
+            FinishFault::WriteFault(done) => write!(f, "{} {done}", FaultName::WriteFault),
         }
     }
 }

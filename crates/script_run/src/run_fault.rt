@@ -1,6 +1,7 @@
 //! The reasons why a script was not played.
 
 use event_script::ScriptFault;
+use page_core::FaultName;
 use std::error::Error;
 use std::fmt;
 
@@ -25,8 +26,8 @@ impl fmt::Display for RunFault {
     fn fmt<W: fmt::Write>(&self, f: &mut fmt::Formatter<W>) -> fmt::Result {
         match self {
             RunFault::Script(fault) => write!(f, "{fault}"),
-            RunFault::OutOfMemory => write!(f, "E1 OutOfMemory"),
-            RunFault::WriteFault(done) => write!(f, "E29 WriteFault {done}"),
+            RunFault::OutOfMemory => write!(f, "{}", FaultName::OutOfMemory),
+            RunFault::WriteFault(done) => write!(f, "{} {done}", FaultName::WriteFault),
         }
     }
 }

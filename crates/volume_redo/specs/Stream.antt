@@ -1,7 +1,9 @@
 -- From the bytes of a log to the bytes of the volume that it makes.
 use Rattle.std.specs.Prelude.{ℕ, ◌<◌, List, [], length, take, Option, IfSome}
 use Rattle.std.specs.Io.KnownBytes.{Appends, Keeps}
-use Rattle.page_core.specs.Page.{volume_bytes}
+use Rattle.page_core.specs.Volume.{SpellsVolume}
+use Rattle.page_core.specs.FaultName.{fault_line, fault_line_with}
+use Rattle.page_core.specs.declared.fault_name.FaultName.TheVariants as name
 use Rattle.log_store.specs.declared.fault.LogReadFault.{LogReadFault}
 use Rattle.log_store.specs.declared.fault.LogReadFault.TheVariants as log
 use Rattle.log_history.specs.Linked.{IsLinked}
@@ -11,9 +13,9 @@ use Rattle.log_store.specs.Fault.{Refuses, GaveNoFault}
 use Rattle.volume_redo.specs.declared.fault.Fault.{Fault}
 use Rattle.volume_redo.specs.declared.fault.Fault.TheVariants as fault
 
--- the bytes of the volume that a log makes
-abbrev pub volume_of : Log → List ℕ
-volume_of l = volume_bytes (redo_all l.records l.pages)
+-- the bytes spell the volume that a log makes
+abbrev pub SpellsVolumeOf : Log → List ℕ → Type 0
+SpellsVolumeOf l bytes = SpellsVolume (redo_all l.records l.pages) bytes
 
 -- the input spells a linked log, and the volume that it makes was written, and nothing else
 pub record WritesVolume (input old new : Option (List ℕ)) : Type 0 where
@@ -21,7 +23,9 @@ pub record WritesVolume (input old new : Option (List ℕ)) : Type 0 where
   pub valid : IsLog made_of
   pub linked : IsLinked made_of.records
   pub read : IfSome input (SpellsLog made_of)
-  pub written : Appends old new (volume_of made_of)
+  pub volume : List ℕ
+  pub spells : SpellsVolumeOf made_of volume
+  pub written : Appends old new volume
 
 -- the input spells a linked log, and the first bytes of its volume were written, so many but not
 -- all, and nothing else
@@ -30,8 +34,10 @@ pub record WritesPart (input old new : Option (List ℕ)) (done : ℕ) : Type 0 
   pub valid : IsLog made_of
   pub linked : IsLinked made_of.records
   pub read : IfSome input (SpellsLog made_of)
-  pub within : done < length (volume_of made_of)
-  pub written : Appends old new (take done (volume_of made_of))
+  pub volume : List ℕ
+  pub spells : SpellsVolumeOf made_of volume
+  pub within : done < length volume
+  pub written : Appends old new (take done volume)
 
 -- nothing was written, and the fault is that of reading the log
 pub record WritesNone (input old new : Option (List ℕ)) (why : LogReadFault) : Type 0 where
@@ -51,6 +57,17 @@ reported (log.BadChain at) = fault.BadChain at
 reported (log.Torn at) = fault.Torn at
 reported log.ReadFault = fault.ReadFault
 reported log.TooLong = fault.TooLong
+
+-- what is printed of a fault
+abbrev pub line_of : Fault → List ℕ
+line_of fault.OutOfMemory = fault_line name.OutOfMemory
+line_of (fault.WriteFault done) = fault_line_with name.WriteFault done
+line_of fault.BadHeader = fault_line name.BadHeader
+line_of (fault.BadRecord at) = fault_line_with name.BadRecord at
+line_of (fault.Torn at) = fault_line_with name.Torn at
+line_of fault.ReadFault = fault_line name.ReadFault
+line_of fault.TooLong = fault_line name.TooLong
+line_of (fault.BadChain at) = fault_line_with name.BadChain at
 
 -- what a fault says, and what stands after it
 abbrev pub Leaves : Option (List ℕ) → Option (List ℕ) → Option (List ℕ) → Fault → Type 0

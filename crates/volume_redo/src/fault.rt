@@ -1,34 +1,62 @@
 //! The faults that the program reports.
 
 use log_store::LogReadFault;
-use page_core::Lsn;
+use page_core::{FaultName, Lsn};
 use std::alloc::AllocError;
-use thiserror::Error;
+use std::error::Error;
+use std::fmt;
 
-/// A fault, whose text is its line: `E`, its number, its name, and then its numbers in decimal.
-#[derive(Clone, Copy, Debug, PartialEq, Eq, Error)]
+/// A fault of redo. Its text is its line.
+#[derive(Clone, Copy, Debug, PartialEq, Eq)]
 pub enum Fault {
-    #[error("E1 OutOfMemory")]
+    /// Memory ran out. Nothing was written.
     OutOfMemory,
     /// The writer failed after so many bytes, or took none.
-    #[error("E29 WriteFault {0}")]
     WriteFault(u64),
-    #[error("E30 BadHeader")]
+    /// The first 64 bytes are no header, or there are fewer.
     BadHeader,
     /// The bytes at this offset are no record, or one that may not stand there.
-    #[error("E31 BadRecord {}", .0.0)]
     BadRecord(Lsn),
     /// The log ends within the record at this offset.
-    #[error("E32 Torn {}", .0.0)]
     Torn(Lsn),
-    #[error("E33 ReadFault")]
+    /// The reader failed, or did not come to an end.
     ReadFault,
-    #[error("E34 TooLong")]
+    /// Bytes follow the last record that a log may have.
     TooLong,
     /// The record at this offset may not follow those before it.
-    #[error("E35 BadChain {}", .0.0)]
     BadChain(Lsn),
 }
+
+impl fmt::Display for Fault {
+    ghost use Rattle.std.specs.Prelude.{Some};
+    ghost use Rattle.volume_redo.specs.Stream.{line_of};
+
+    ghost output = { λ fault. Some (line_of fault) };
+
+    fn fmt<W: fmt::Write>(&self, f: &mut fmt::Formatter<W>) -> fmt::Result {
+        match self {
+            Fault::OutOfMemory => write!(f, "{}", FaultName::OutOfMemory),
+            Fault::WriteFault(done) => write!(f, "{} {done}", FaultName::WriteFault),
+            Fault::BadHeader => write!(f, "{}", FaultName::BadHeader),
+            Fault::BadRecord(at) => {
+                let at = at.0;
+                write!(f, "{} {at}", FaultName::BadRecord)
+            }
+            Fault::Torn(at) => {
+                let at = at.0;
+                write!(f, "{} {at}", FaultName::Torn)
+            }
+            Fault::ReadFault => write!(f, "{}", FaultName::ReadFault),
+            Fault::TooLong => write!(f, "{}", FaultName::TooLong),
+            Fault::BadChain(at) => {
+                let at = at.0;
+                write!(f, "{} {at}", FaultName::BadChain)
+            }
+        }
+    }
+}
+
+impl Error for Fault {}
 
 impl From<AllocError> for Fault {
     ghost use Rattle.std.specs.Prelude.{◌≡◌};

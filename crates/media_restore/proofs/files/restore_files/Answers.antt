@@ -3,7 +3,8 @@ use Rattle.std.specs.Prelude.{Err}
 use Rattle.std.proofs.lemmas.Result.{err_from_is_err_and}
 use Rattle.media_restore.specs.Files.{Files, IsRestored}
 use Rattle.media_restore.specs.declared.files_fault.RestoreFault.TheVariants.{ReadFault}
-use Rattle.media_restore.proofs.Restored.{leaves}
+use Rattle.page_core.specs.Page.{volume_bytes}
+use Rattle.media_restore.proofs.Restored.{leaves, restored_spelled}
 use Rattle.media_restore.proofs.files.restore_files.Goals as goal
 
 pub returns-in_err-undone-clause-err : goal.returns-in_err-undone-clause-err
@@ -30,9 +31,13 @@ returns-in-Ok-clause-ok g c =
       master = g.M.Read.remaining c.args.master.now;
       archives = map g.A.Read.remaining c.args.archives.now;
     } in
+    let pages = c.pages.result.now in
+    let from = subst (IsRestored files) (sym c.pages.ensures) c.in_ok-undone.ensures.ok in
     record {
-      pages = c.pages.result.now;
-      from = subst (IsRestored files) (sym c.pages.ensures) c.in_ok-undone.ensures.ok;
+      pages = pages;
+      from = from;
+      volume = volume_bytes pages;
+      spells = restored_spelled files pages from;
       written = c.in-Ok.ensures.ok;
     }
 
@@ -43,9 +48,13 @@ returns-clause-err g c =
       master = g.M.Read.remaining c.args.master.now;
       archives = map g.A.Read.remaining c.args.archives.now;
     } in
+    let pages = c.pages.result.now in
+    let from = subst (IsRestored files) (sym c.pages.ensures) c.in_ok-undone.ensures.ok in
     record {
-      pages = c.pages.result.now;
-      from = subst (IsRestored files) (sym c.pages.ensures) c.in_ok-undone.ensures.ok;
+      pages = pages;
+      from = from;
+      volume = volume_bytes pages;
+      spells = restored_spelled files pages from;
       within = c.in-Err.ensures.within;
       written = c.in-Err.ensures.err;
     }
