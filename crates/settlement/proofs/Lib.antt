@@ -1,3 +1,4 @@
 pub mod Orders
 pub mod Logged
 pub mod Marking
+pub mod Below

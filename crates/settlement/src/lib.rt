@@ -3,8 +3,10 @@
 
 mod marks;
 mod order;
+mod reads;
 mod receipt;
 
 pub use marks::mark_records;
 pub use order::check_order;
+pub use reads::check_reads;
 pub use receipt::{Receipt, TxnStep};
