@@ -1,6 +1,6 @@
 //! One engine for many threads.
 
-ghost use Rattle.std.specs.Prelude.{◌≡◌, ◌+◌, ◌<◌, ◌≤◌, IfErr, IfOk};
+ghost use Rattle.std.specs.Prelude.{◌≡◌, ◌+◌, ◌<◌, ◌≤◌, [], IfErr, IfOk};
 ghost use Rattle.page_core.specs.Volume.{formatted_pages};
 ghost use Rattle.log_records.specs.Log.{IsPageCount};
 
@@ -88,7 +88,7 @@ impl<S: PageStore, D: LogDevice, G: Ledger> Shared<S, D, G> {
     /// Makes a session. All are made before the engine is shared.
     pub fn session(&mut self, alloc: Global) -> Session<G>
         requires { self.old.sessions < 64 }
-        ensures { self.new.sessions ≡ self.old.sessions + 1 }
+        ensures one_more { self.new.sessions ≡ self.old.sessions + 1 }
         ensures empty { result ≡ [] }
     {
         let Some(spare) = self.spares.pop() else {

@@ -2,3 +2,4 @@ pub mod Orders
 pub mod Logged
 pub mod Marking
 pub mod Below
+pub mod Standing

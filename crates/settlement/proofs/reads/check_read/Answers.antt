@@ -7,13 +7,15 @@ pub returns-then-number_on-number-clause-err : goal.returns-then-number_on-numbe
 returns-then-number_on-number-clause-err c =
     let rs = c.args.records.now in
     let n = length c.args.pages.now in
-    let r = c.in-Read in
-    (ap position r.is, λ holds.
-    let read : WasRead rs r.end r.page r.slot r.number = subst (HoldsAsRead rs) r.is holds in
-    let shown = shown_below (record { pages = n; records = rs }) r.end r.page r.slot c.redo_below-count.result
-    c.number_on.result c.redo_below-count.new.pages c.requires.log c.redo_below-count.ensures.count
-    c.redo_below-count.ensures.redone c.number_on.ensures in
-    c.if-number_on-number.true (shown ∙ sym read.read))
+    let r = c.in-Read in (
+      ap position r.is,
+      λ holds.
+          let read : WasRead rs r.end r.page r.slot r.number = subst (HoldsAsRead rs) r.is holds in
+          let shown = shown_below (record { pages = n; records = rs }) r.end r.page r.slot c.redo_below-count.result
+          c.number_on.result c.redo_below-count.new.pages c.requires.log c.redo_below-count.ensures.count
+          c.redo_below-count.ensures.redone c.number_on.ensures in
+          c.if-number_on-number.true (shown ∙ sym read.read),
+    )
 
 pub returns-clause-ok : goal.returns-clause-ok
 returns-clause-ok c =
