@@ -1,3 +1,5 @@
 pub mod Orders
 pub mod Logged
 pub mod Marking
+pub mod Below
+pub mod Standing

@@ -1,2 +1,4 @@
+pub mod Counts
 pub mod Marks
 pub mod Receipt
+pub mod Session

@@ -83,6 +83,11 @@ pub record WasRead (rs : List Record) (end page slot number : ℕ) : Type 0 wher
   pub within : end ≤ lsn_of (length rs)
   pub read : number ≡ number_in (below rs end) page slot
 
+-- where the receipt is of a read, the log shows what it read
+abbrev pub HoldsAsRead : List Record → Receipt → Type 0
+HoldsAsRead rs (Read end page slot number) = WasRead rs end page slot number
+HoldsAsRead rs other = Unit {0}
+
 -- what the receipt says is so in a log
 abbrev pub HoldsIn : List Record → ℕ → Receipt → Type 0
 HoldsIn rs forced_end (Read end page slot number) = WasRead rs end page slot number

@@ -3,8 +3,12 @@
 
 mod marks;
 mod order;
+mod reads;
 mod receipt;
+mod session_check;
 
 pub use marks::mark_records;
 pub use order::check_order;
+pub use reads::check_reads;
 pub use receipt::{Receipt, TxnStep};
+pub use session_check::check_session;

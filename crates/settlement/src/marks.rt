@@ -28,6 +28,7 @@ pub fn mark_records(
     ensures err { IfErr result (λ at. (i : ℕ) × (i < length receipts.now)
         × ((d : Receipt) → IsUnlogged records.now forced_end marks.old (take i receipts.now)
         (slice_index_or receipts.now i d) at)) }
+    ensures same_length { length marks.new ≡ length marks.old }
 {
     for receipt in receipts {
         if receipt.is_read() {

@@ -1,0 +1,13 @@
+-- What lies under the lock.
+use Rattle.std.specs.Prelude.{ℕ, ◌≡◌}
+use Rattle.settlement.specs.Counts.{updates_in}
+use Rattle.aries_core.specs.EngineState.{EngineView}
+
+-- the engine, and the total of the book: how many changes the sessions' shares count together
+pub record HeldView (S D : Type 0) : Type 0 where
+  pub engine : EngineView S D
+  pub total : ℕ
+
+-- the book counts the changes of the log, each once
+abbrev pub IsCounted : {S D : Type 0} → HeldView S D → Type 0
+IsCounted it = it.total ≡ updates_in it.engine.state.log

@@ -1,0 +1,4 @@
+pub mod Held
+pub mod Shared
+pub mod Undoing
+pub mod Work

@@ -1,0 +1,68 @@
+//! The flusher and the checkpointer of a shared engine.
+
+ghost use Rattle.std.specs.Prelude.{IfOk};
+ghost use Rattle.engine_run.specs.Work.{IsPointed};
+
+use crate::gate::HoldGate;
+use crate::shared::Shared;
+use crate::work::Work;
+use aries_core::{Gathered, Refusal};
+use log_store::LogDevice;
+use page_core::PageNo;
+use page_store::PageStore;
+use std::sync::Wait;
+use std::sync::ledger::Ledger;
+
+impl<S: PageStore, D: LogDevice, G: Ledger> Shared<S, D, G> {
+    /// Writes each page that is dirty when its turn comes, in page order, by two holds: one that
+    /// begins the write, and one that ends it. A page that is clean is passed over, and so is one
+    /// whose write another flusher ended; a write that another one has begun is ended. Any other
+    /// refusal ends the pass and is answered.
+    pub fn flush_pass(&self, rt: &impl Wait, gate: &impl HoldGate) -> Result<(), Refusal> {
+        let pages = self.held.lock(rt).pages();
+        for number in 0..pages {
+            self.flush(rt, gate, PageNo(number))?;
+        }
+        Ok(())
+    }
+
+    /// Writes one page, if it is dirty.
+    fn flush(&self, rt: &impl Wait, gate: &impl HoldGate, page: PageNo) -> Result<(), Refusal> {
+        gate.before(0, page);
+        let begun = self.held.lock(rt).write_begin(page);
+        match begun {
+            Ok(_) | Err(Refusal::WriteBegun) => {}
+            Err(Refusal::NotDirty) => return Ok(()),
+            Err(why) => return Err(why),
+        }
+        gate.before(0, page);
+        let ended = self.held.lock(rt).write_end(page);
+        match ended {
+            Ok(_) | Err(Refusal::NoWrite) => Ok(()),
+            Err(why) => Err(why),
+        }
+    }
+
+    /// Takes one whole checkpoint, by one hold a step, and answers its Point. Where a checkpoint is
+    /// open, it goes on with that one. Any other refusal of a hold ends it and is answered.
+    pub fn checkpoint(&self, rt: &impl Wait, gate: &impl HoldGate) -> Result<Work, Refusal>
+        ensures { IfOk result IsPointed }
+    {
+        gate.before(0, PageNo(0));
+        let begun = self.held.lock(rt).ckpt_begin();
+        match begun {
+            Ok(_) | Err(Refusal::CkptOpen) => {}
+            Err(why) => return Err(why),
+        }
+        for _ in rt.forever() {
+            gate.before(0, PageNo(0));
+            let gathered = self.held.lock(rt).ckpt_gather()?;
+            if gathered == Gathered::Done {
+                break;
+            }
+        }
+        gate.before(0, PageNo(0));
+        let point = self.held.lock(rt).ckpt_end()?;
+        Ok(Work::Pointed(point))
+    }
+}

@@ -1,0 +1,175 @@
+//! What lies under the lock: the engine, and the book that counts its changes.
+
+ghost use Rattle.std.specs.Prelude.{ℕ, ◌≡◌, ◌+◌, ◌<◌, ◌≤◌, IfErr, IfOk, OnErr, OnOk};
+ghost use Rattle.page_core.specs.Volume.{formatted_pages};
+ghost use Rattle.log_records.specs.Log.{IsPageCount};
+ghost use Rattle.settlement.specs.Counts.{updates_in};
+ghost use Rattle.aries_core.specs.EngineState.{IsFit, end, new_state};
+ghost use Rattle.aries_core.specs.Step.{FailsForcing, Forces, IsUnsure, Step, reply_of};
+ghost use Rattle.aries_core.specs.Step.{undo_answer};
+ghost use Rattle.aries_core.specs.declared.event.Answer.TheVariants as answer;
+ghost use Rattle.aries_core.specs.declared.event.Event.TheVariants as event;
+ghost use Rattle.engine_run.specs.Held.{IsCounted};
+
+use aries_core::{Engine, Refusal, Undone};
+use log_store::LogDevice;
+use page_core::{Lsn, PageNo, SlotNo, TxnNo};
+use page_store::PageStore;
+use std::marker::Model;
+use std::sync::ledger::{Book, Ledger, Share};
+
+/// An engine, and the book of the ledger in which each session has a share: its total is the number
+/// of changes in the log. It is what the lock of a shared engine guards. Each method is the call of
+/// that name of the engine, and so one event.
+#[derive(Drop)]
+pub struct Held<S: PageStore, D: LogDevice, G: Ledger> {
+    pub(crate) engine: Engine<S, D>,
+    pub(crate) book: Book<G>,
+}
+
+impl<S: PageStore, D: LogDevice, G: Ledger> Model for Held<S, D, G> {
+    ghost use Rattle.engine_run.specs.Held.{HeldView, IsCounted};
+
+    ghost Value = { HeldView S D };
+
+    ghost view = { λ it. record { engine = it.engine; total = it.book.total } };
+
+    ghost invariant = { λ it. IsCounted (record { engine = it.engine; total = it.book.total }) };
+}
+
+impl<S: PageStore, D: LogDevice, G: Ledger> Held<S, D, G> {
+    /// An engine whose log has no change yet, and a book that has counted none.
+    pub fn new(engine: Engine<S, D>, book: Book<G>) -> Held<S, D, G>
+        requires none { updates_in engine.state.log ≡ 0 }
+        requires empty { book.total ≡ 0 }
+        ensures engine { result.engine ≡ engine }
+    {
+        Held { engine, book }
+    }
+
+    /// The page count of the volume.
+    pub fn pages(&self) -> u32
+        ensures { result ≡ self.now.engine.state.pages }
+    {
+        self.engine.log().pages()
+    }
+
+    /// What holds whenever the lock is free: the engine is fit, and the book has counted the changes
+    /// of its log.
+    pub fn is_as_counted(&self) -> bool
+        ensures fit { IsFit self.now.engine.state }
+        ensures counted { IsCounted self.now }
+    {
+        let _end = self.engine.log_end();
+        true
+    }
+
+    /// Begins a transaction, as `Engine::begin` does.
+    pub fn begin(&mut self) -> Result<(TxnNo, Lsn), Refusal>
+        ensures step { Step self.old.engine.state event.Begin (reply_of (λ a. answer.Began a.0 a.1) result)
+            self.new.engine.state }
+        ensures store { self.new.engine.store ≡ self.old.engine.store }
+        ensures device { self.new.engine.device ≡ self.old.engine.device }
+    {
+        self.engine.begin()
+    }
+
+    /// Puts a number into a slot, as `Engine::set` does, and counts the change in the share of the
+    /// session that asked for it. Nothing is counted at a refusal.
+    pub fn set(
+        &mut self,
+        txn: TxnNo,
+        page: PageNo,
+        slot: SlotNo,
+        number: u64,
+        share: &mut Share<G>,
+    ) -> Result<Lsn, Refusal>
+        requires part { 0 < share.old.parts }
+        ensures step { Step self.old.engine.state (event.Set txn page slot number)
+            (reply_of answer.Logged result) self.new.engine.state }
+        ensures store { self.new.engine.store ≡ self.old.engine.store }
+        ensures device { self.new.engine.device ≡ self.old.engine.device }
+        ensures counted { OnOk result (share.new.amount ≡ share.old.amount + 1) }
+        ensures uncounted { OnErr result (share.new.amount ≡ share.old.amount) }
+        ensures same_parts { share.new.parts ≡ share.old.parts }
+    {
+        let lsn = self.engine.set(txn, page, slot, number)?;
+        self.book.add(share, 1);
+        Ok(lsn)
+    }
+
+    /// Adds to the number in a slot, as `Engine::add` does, and counts the change as `set` does.
+    pub fn add(
+        &mut self,
+        txn: TxnNo,
+        page: PageNo,
+        slot: SlotNo,
+        amount: u64,
+        share: &mut Share<G>,
+    ) -> Result<Lsn, Refusal>
+        requires part { 0 < share.old.parts }
+        ensures step { Step self.old.engine.state (event.Add txn page slot amount)
+            (reply_of answer.Logged result) self.new.engine.state }
+        ensures store { self.new.engine.store ≡ self.old.engine.store }
+        ensures device { self.new.engine.device ≡ self.old.engine.device }
+        ensures counted { OnOk result (share.new.amount ≡ share.old.amount + 1) }
+        ensures uncounted { OnErr result (share.new.amount ≡ share.old.amount) }
+        ensures same_parts { share.new.parts ≡ share.old.parts }
+    {
+        let lsn = self.engine.add(txn, page, slot, amount)?;
+        self.book.add(share, 1);
+        Ok(lsn)
+    }
+
+    /// The log's end, and the number in a slot at that moment, as `Engine::read` tells it.
+    pub fn read(&mut self, page: PageNo, slot: SlotNo) -> Result<(Lsn, u64), Refusal>
+        ensures step { Step self.old.engine.state (event.Read page slot)
+            (reply_of (λ a. answer.Number a.1) result) self.new.engine.state }
+        ensures end { IfOk result (λ a. a.0 ≡ end self.old.engine.state) }
+        ensures same { self.new ≡ self.old }
+    {
+        let number = self.engine.read(page, slot)?;
+        Ok((self.engine.log_end(), number))
+    }
+
+    /// Commits a transaction, as `Engine::commit` does.
+    pub fn commit(&mut self, txn: TxnNo) -> Result<Lsn, Refusal>
+        ensures step { Step self.old.engine.state (event.Commit txn) (reply_of answer.Logged result)
+            self.new.engine.state }
+        ensures store { self.new.engine.store ≡ self.old.engine.store }
+        ensures refused { IfErr result (λ why. ¬ IsUnsure why
+            → self.new.engine.device ≡ self.old.engine.device) }
+        ensures called { OnOk result (Forces D.called self.old.engine self.new.engine) }
+        ensures last_call { IfErr result (λ why. IsUnsure why
+            → FailsForcing D.called self.old.engine self.new.engine) }
+        ensures no_failure { OnOk result
+            (D.failures self.new.engine.device ≡ D.failures self.old.engine.device) }
+        ensures cause { IfErr result (λ why. IsUnsure why
+            → D.failures self.old.engine.device < D.failures self.new.engine.device) }
+        ensures same_bound { D.fails_from self.new.engine.device ≡ D.fails_from self.old.engine.device }
+        ensures past_bound { IfErr result (λ why. IsUnsure why
+            → D.fails_from self.old.engine.device ≤ end self.new.engine.state) }
+    {
+        self.engine.commit(txn)
+    }
+
+    /// Begins to take the changes of a transaction back, as `Engine::abort` does.
+    pub fn abort(&mut self, txn: TxnNo) -> Result<Lsn, Refusal>
+        ensures step { Step self.old.engine.state (event.Abort txn) (reply_of answer.Logged result)
+            self.new.engine.state }
+        ensures store { self.new.engine.store ≡ self.old.engine.store }
+        ensures device { self.new.engine.device ≡ self.old.engine.device }
+    {
+        self.engine.abort(txn)
+    }
+
+    /// Takes one change of a transaction back, or ends it, as `Engine::undo_step` does.
+    pub fn undo_step(&mut self, txn: TxnNo) -> Result<Undone, Refusal>
+        ensures step { Step self.old.engine.state (event.UndoStep txn) (reply_of undo_answer result)
+            self.new.engine.state }
+        ensures store { self.new.engine.store ≡ self.old.engine.store }
+        ensures device { self.new.engine.device ≡ self.old.engine.device }
+    {
+        self.engine.undo_step(txn)
+    }
+}

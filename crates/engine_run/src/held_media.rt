@@ -1,0 +1,167 @@
+//! The calls of a shared engine that write pages, take checkpoints and make copies.
+
+ghost use Rattle.std.specs.Prelude.{ℕ, ◌≡◌, ◌<◌, ◌≤◌, IfErr, IfOk, OnErr, OnOk};
+ghost use Rattle.aries_core.specs.EngineState.{end};
+ghost use Rattle.aries_core.specs.Step.{FailsForcing, Forces, IsByDevice, IsByStore, Step, reply_of};
+ghost use Rattle.aries_core.specs.Step.{gather_answer, took_answer};
+ghost use Rattle.aries_core.specs.declared.event.Answer.TheVariants as answer;
+ghost use Rattle.aries_core.specs.declared.event.Event.TheVariants as event;
+
+use crate::held::Held;
+use aries_core::{Gathered, Refusal, Took};
+use copy_vault::CopyId;
+use fuzzy_ckpt::Point;
+use log_store::LogDevice;
+use page_core::{Lsn, PageNo};
+use page_store::PageStore;
+use std::sync::ledger::Ledger;
+
+impl<S: PageStore, D: LogDevice, G: Ledger> Held<S, D, G> {
+    /// Forces the whole log, as `Engine::force` does.
+    pub fn force(&mut self) -> Result<Lsn, Refusal>
+        ensures step { Step self.old.engine.state event.Force (reply_of answer.Forced result)
+            self.new.engine.state }
+        ensures store { self.new.engine.store ≡ self.old.engine.store }
+        ensures called { OnOk result (Forces D.called self.old.engine self.new.engine) }
+        ensures last_call { OnErr result (FailsForcing D.called self.old.engine self.new.engine) }
+        ensures no_failure { OnOk result
+            (D.failures self.new.engine.device ≡ D.failures self.old.engine.device) }
+        ensures cause { OnErr result (D.failures self.old.engine.device < D.failures self.new.engine.device) }
+        ensures same_bound { D.fails_from self.new.engine.device ≡ D.fails_from self.old.engine.device }
+        ensures past_bound { OnErr result (D.fails_from self.old.engine.device ≤ end self.new.engine.state) }
+    {
+        self.engine.force()
+    }
+
+    /// Begins to write a page, as `Engine::write_begin` does.
+    pub fn write_begin(&mut self, page: PageNo) -> Result<Lsn, Refusal>
+        ensures step { Step self.old.engine.state (event.WriteBegin page) (reply_of answer.Writing result)
+            self.new.engine.state }
+        ensures store { self.new.engine.store ≡ self.old.engine.store }
+        ensures refused { IfErr result (λ why. ¬ IsByDevice why
+            → self.new.engine.device ≡ self.old.engine.device) }
+        ensures called { OnOk result (Forces D.called self.old.engine self.new.engine) }
+        ensures last_call { IfErr result (λ why. IsByDevice why
+            → FailsForcing D.called self.old.engine self.new.engine) }
+        ensures no_failure { OnOk result
+            (D.failures self.new.engine.device ≡ D.failures self.old.engine.device) }
+        ensures cause { IfErr result (λ why. IsByDevice why
+            → D.failures self.old.engine.device < D.failures self.new.engine.device) }
+        ensures same_bound { D.fails_from self.new.engine.device ≡ D.fails_from self.old.engine.device }
+        ensures past_bound { IfErr result (λ why. IsByDevice why
+            → D.fails_from self.old.engine.device ≤ end self.new.engine.state) }
+    {
+        self.engine.write_begin(page)
+    }
+
+    /// Ends a write of a page, as `Engine::write_end` does.
+    pub fn write_end(&mut self, page: PageNo) -> Result<Lsn, Refusal>
+        ensures step { Step self.old.engine.state (event.WriteEnd page) (reply_of answer.Written result)
+            self.new.engine.state }
+        ensures device { self.new.engine.device ≡ self.old.engine.device }
+        ensures refused { IfErr result (λ why. ¬ IsByStore why
+            → self.new.engine.store ≡ self.old.engine.store) }
+        ensures no_failure { OnOk result
+            (S.failures self.new.engine.store ≡ S.failures self.old.engine.store) }
+        ensures cause { IfErr result (λ why. IsByStore why
+            → S.failures self.old.engine.store < S.failures self.new.engine.store) }
+    {
+        self.engine.write_end(page)
+    }
+
+    /// Begins a checkpoint, as `Engine::ckpt_begin` does.
+    pub fn ckpt_begin(&mut self) -> Result<Lsn, Refusal>
+        ensures step { Step self.old.engine.state event.CkptBegin (reply_of answer.Logged result)
+            self.new.engine.state }
+        ensures store { self.new.engine.store ≡ self.old.engine.store }
+        ensures device { self.new.engine.device ≡ self.old.engine.device }
+    {
+        self.engine.ckpt_begin()
+    }
+
+    /// Does one step of the gather of the open checkpoint, as `Engine::ckpt_gather` does.
+    pub fn ckpt_gather(&mut self) -> Result<Gathered, Refusal>
+        ensures step { Step self.old.engine.state event.CkptGather (reply_of gather_answer result)
+            self.new.engine.state }
+        ensures store { self.new.engine.store ≡ self.old.engine.store }
+        ensures device { self.new.engine.device ≡ self.old.engine.device }
+    {
+        self.engine.ckpt_gather()
+    }
+
+    /// Ends the open checkpoint, as `Engine::ckpt_end` does.
+    pub fn ckpt_end(&mut self) -> Result<Point, Refusal>
+        ensures step { Step self.old.engine.state event.CkptEnd
+            (reply_of (λ p. answer.Point p.begin p.end p.redo) result) self.new.engine.state }
+        ensures store { self.new.engine.store ≡ self.old.engine.store }
+        ensures refused { IfErr result (λ why. ¬ IsByDevice why
+            → self.new.engine.device ≡ self.old.engine.device) }
+        ensures called { OnOk result (Forces D.called self.old.engine self.new.engine) }
+        ensures last_call { IfErr result (λ why. IsByDevice why
+            → FailsForcing D.called self.old.engine self.new.engine) }
+        ensures no_failure { OnOk result
+            (D.failures self.new.engine.device ≡ D.failures self.old.engine.device) }
+        ensures cause { IfErr result (λ why. IsByDevice why
+            → D.failures self.old.engine.device < D.failures self.new.engine.device) }
+        ensures same_bound { D.fails_from self.new.engine.device ≡ D.fails_from self.old.engine.device }
+        ensures past_bound { IfErr result (λ why. IsByDevice why
+            → D.fails_from self.old.engine.device ≤ end self.new.engine.state) }
+    {
+        self.engine.ckpt_end()
+    }
+
+    /// Begins a full image copy, as `Engine::copy_full` does.
+    pub fn copy_full(&mut self) -> Result<CopyId, Refusal>
+        ensures step { Step self.old.engine.state event.CopyFull (reply_of answer.Copied result)
+            self.new.engine.state }
+        ensures store { self.new.engine.store ≡ self.old.engine.store }
+        ensures device { self.new.engine.device ≡ self.old.engine.device }
+    {
+        self.engine.copy_full()
+    }
+
+    /// Begins an incremental image copy, as `Engine::copy_inc` does.
+    pub fn copy_inc(&mut self, parent: CopyId) -> Result<CopyId, Refusal>
+        ensures step { Step self.old.engine.state (event.CopyInc parent) (reply_of answer.Copied result)
+            self.new.engine.state }
+        ensures store { self.new.engine.store ≡ self.old.engine.store }
+        ensures device { self.new.engine.device ≡ self.old.engine.device }
+    {
+        self.engine.copy_inc(parent)
+    }
+
+    /// Has a copy decide of a page as it is stored, as `Engine::take` does.
+    pub fn take(&mut self, copy: CopyId, page: PageNo) -> Result<Took, Refusal>
+        ensures step { Step self.old.engine.state (event.Take copy page) (reply_of took_answer result)
+            self.new.engine.state }
+        ensures device { self.new.engine.device ≡ self.old.engine.device }
+        ensures store_refused { IfErr result (λ why. ¬ IsByStore why
+            → self.new.engine.store ≡ self.old.engine.store) }
+        ensures no_store_failure { OnOk result
+            (S.failures self.new.engine.store ≡ S.failures self.old.engine.store) }
+        ensures store_cause { IfErr result (λ why. IsByStore why
+            → S.failures self.old.engine.store < S.failures self.new.engine.store) }
+    {
+        self.engine.take(copy, page)
+    }
+
+    /// Makes a copy complete, as `Engine::seal` does.
+    pub fn seal(&mut self, copy: CopyId) -> Result<u32, Refusal>
+        ensures step { Step self.old.engine.state (event.Seal copy) (reply_of answer.Sealed result)
+            self.new.engine.state }
+        ensures store { self.new.engine.store ≡ self.old.engine.store }
+        ensures device { self.new.engine.device ≡ self.old.engine.device }
+    {
+        self.engine.seal(copy)
+    }
+
+    /// Drops a copy that is being read, as `Engine::drop_copy` does.
+    pub fn drop_copy(&mut self, copy: CopyId) -> Result<(), Refusal>
+        ensures step { Step self.old.engine.state (event.DropCopy copy)
+            (reply_of (λ none. answer.Dropped) result) self.new.engine.state }
+        ensures store { self.new.engine.store ≡ self.old.engine.store }
+        ensures device { self.new.engine.device ≡ self.old.engine.device }
+    {
+        self.engine.drop_copy(copy)
+    }
+}

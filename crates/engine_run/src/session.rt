@@ -1,0 +1,255 @@
+//! A session: one user of a shared engine, with the receipts of its calls.
+
+ghost use Rattle.std.specs.Prelude.{◌≡◌, ◌<◌, ◌++◌, [], ◌∷◌, IfErr, IfOk, OnErr, OnOk, ℕ, vec_capacity, vec_len};
+ghost use Rattle.page_core.specs.declared.change.ChangeKind.TheVariants as kind;
+ghost use Rattle.settlement.specs.declared.receipt.Receipt.TheVariants.{Changed, Read, Stepped};
+ghost use Rattle.settlement.specs.declared.receipt.TxnStep.TheVariants as step;
+ghost use Rattle.engine_run.specs.Undoing.{undo_receipt};
+
+use crate::shared::Shared;
+use aries_core::{Refusal, Undone};
+use log_store::LogDevice;
+use page_core::{ChangeKind, Lsn, PageNo, SlotNo, TxnNo};
+use page_store::PageStore;
+use settlement::{Receipt, TxnStep};
+use std::alloc::Global;
+use std::marker::Model;
+use std::sync::Wait;
+use std::sync::ledger::{Ledger, Share};
+
+/// One user of a shared engine. It keeps a receipt of each call that was answered, in order, and a
+/// share of the ledger, whose amount is the number of its changes.
+#[derive(Drop)]
+pub struct Session<G: Ledger> {
+    share: Share<G>,
+    receipts: Vec<Receipt>,
+}
+
+impl<G: Ledger> Model for Session<G> {
+    ghost use Rattle.std.specs.Prelude.{◌≡◌, List};
+    ghost use Rattle.settlement.specs.Counts.{changes_in};
+    ghost use Rattle.settlement.specs.declared.receipt.Receipt.{Receipt};
+
+    ghost Value = { List Receipt };
+
+    ghost view = { λ it. it.receipts.items };
+
+    ghost invariant = { λ it. (it.share.parts ≡ 1)
+        × (it.share.amount ≡ changes_in it.receipts.items) };
+}
+
+impl<G: Ledger> Session<G> {
+    /// A session that made no call yet, of a share that counts none.
+    pub(crate) fn new(alloc: Global, share: Share<G>) -> Session<G>
+        requires part { share.parts ≡ 1 }
+        requires none { share.amount ≡ 0 }
+        ensures { result ≡ [] }
+    {
+        Session {
+            share,
+            receipts: Vec::new(alloc),
+        }
+    }
+
+    /// The receipts of its calls, in order.
+    pub fn receipts(&self) -> &[Receipt]
+        ensures { result.now ≡ self.now }
+    {
+        &self.receipts
+    }
+
+    /// Begins a transaction, and answers its number and the LSN of its Begin. Refusals are those of
+    /// `Engine::begin`; `OutOfMemory` comes first, where there is no room for the receipt.
+    pub fn begin<S: PageStore, D: LogDevice>(
+        &mut self,
+        rt: &impl Wait,
+        shared: &Shared<S, D, G>,
+    ) -> Result<(TxnNo, Lsn), Refusal>
+        ensures receipt { IfOk result (λ a.
+            self.new ≡ self.old ++ Stepped a.1 a.0 step.Begin ∷ []) }
+        ensures refused { OnErr result (self.new ≡ self.old) }
+    {
+        make_room(&mut self.receipts)?;
+        let (txn, lsn) = shared.held.lock(rt).begin()?;
+        self.receipts.push_reserved(Receipt::Stepped {
+            lsn,
+            txn,
+            step: TxnStep::Begin,
+        });
+        Ok((txn, lsn))
+    }
+
+    /// Puts a number into a slot, and answers the LSN of its Update. Refusals are those of
+    /// `Engine::set`; `OutOfMemory` comes first, where there is no room for the receipt.
+    pub fn set<S: PageStore, D: LogDevice>(
+        &mut self,
+        rt: &impl Wait,
+        shared: &Shared<S, D, G>,
+        txn: TxnNo,
+        page: PageNo,
+        slot: SlotNo,
+        number: u64,
+    ) -> Result<Lsn, Refusal>
+        ensures receipt { IfOk result (λ lsn.
+            self.new ≡ self.old ++ Changed lsn txn page slot kind.Set number ∷ []) }
+        ensures refused { OnErr result (self.new ≡ self.old) }
+    {
+        make_room(&mut self.receipts)?;
+        let lsn = shared
+            .held
+            .lock(rt)
+            .set(txn, page, slot, number, &mut self.share)?;
+        self.receipts.push_reserved(Receipt::Changed {
+            lsn,
+            txn,
+            page,
+            slot,
+            kind: ChangeKind::Set,
+            number,
+        });
+        Ok(lsn)
+    }
+
+    /// Adds to the number in a slot, modulo 2^64, and answers the LSN of its Update. Refusals are
+    /// those of `Engine::add`; `OutOfMemory` comes first, where there is no room for the receipt.
+    pub fn add<S: PageStore, D: LogDevice>(
+        &mut self,
+        rt: &impl Wait,
+        shared: &Shared<S, D, G>,
+        txn: TxnNo,
+        page: PageNo,
+        slot: SlotNo,
+        amount: u64,
+    ) -> Result<Lsn, Refusal>
+        ensures receipt { IfOk result (λ lsn.
+            self.new ≡ self.old ++ Changed lsn txn page slot kind.Add amount ∷ []) }
+        ensures refused { OnErr result (self.new ≡ self.old) }
+    {
+        make_room(&mut self.receipts)?;
+        let lsn = shared
+            .held
+            .lock(rt)
+            .add(txn, page, slot, amount, &mut self.share)?;
+        self.receipts.push_reserved(Receipt::Changed {
+            lsn,
+            txn,
+            page,
+            slot,
+            kind: ChangeKind::Add,
+            number: amount,
+        });
+        Ok(lsn)
+    }
+
+    /// The number in a slot, with the changes of all transactions so far. Refusals are those of
+    /// `Engine::read`; `OutOfMemory` comes first, where there is no room for the receipt.
+    pub fn read<S: PageStore, D: LogDevice>(
+        &mut self,
+        rt: &impl Wait,
+        shared: &Shared<S, D, G>,
+        page: PageNo,
+        slot: SlotNo,
+    ) -> Result<u64, Refusal>
+        ensures receipt { IfOk result (λ number. (end : ℕ)
+            × (self.new ≡ self.old ++ Read end page slot number ∷ [])) }
+        ensures refused { OnErr result (self.new ≡ self.old) }
+    {
+        make_room(&mut self.receipts)?;
+        let (end, number) = shared.held.lock(rt).read(page, slot)?;
+        self.receipts.push_reserved(Receipt::Read {
+            end,
+            page,
+            slot,
+            number,
+        });
+        Ok(number)
+    }
+
+    /// Commits a transaction, and answers the LSN of its Commit, which is forced then. Refusals are
+    /// those of `Engine::commit`; `OutOfMemory` comes first, where there is no room for the
+    /// receipt. A commit that is answered `CommitUnsure` leaves no receipt.
+    pub fn commit<S: PageStore, D: LogDevice>(
+        &mut self,
+        rt: &impl Wait,
+        shared: &Shared<S, D, G>,
+        txn: TxnNo,
+    ) -> Result<Lsn, Refusal>
+        ensures receipt { IfOk result (λ lsn.
+            self.new ≡ self.old ++ Stepped lsn txn step.Commit ∷ []) }
+        ensures refused { OnErr result (self.new ≡ self.old) }
+    {
+        make_room(&mut self.receipts)?;
+        let lsn = shared.held.lock(rt).commit(txn)?;
+        self.receipts.push_reserved(Receipt::Stepped {
+            lsn,
+            txn,
+            step: TxnStep::Commit,
+        });
+        Ok(lsn)
+    }
+
+    /// Begins to take the changes of a transaction back, and answers the LSN of its Abort. Refusals
+    /// are those of `Engine::abort`; `OutOfMemory` comes first, where there is no room for the
+    /// receipt.
+    pub fn abort<S: PageStore, D: LogDevice>(
+        &mut self,
+        rt: &impl Wait,
+        shared: &Shared<S, D, G>,
+        txn: TxnNo,
+    ) -> Result<Lsn, Refusal>
+        ensures receipt { IfOk result (λ lsn.
+            self.new ≡ self.old ++ Stepped lsn txn step.Abort ∷ []) }
+        ensures refused { OnErr result (self.new ≡ self.old) }
+    {
+        make_room(&mut self.receipts)?;
+        let lsn = shared.held.lock(rt).abort(txn)?;
+        self.receipts.push_reserved(Receipt::Stepped {
+            lsn,
+            txn,
+            step: TxnStep::Abort,
+        });
+        Ok(lsn)
+    }
+
+    /// Takes the last pending change of a transaction that rolls back out again, or ends it where
+    /// none is left. Refusals are those of `Engine::undo_step`; `OutOfMemory` comes first, where
+    /// there is no room for the receipt.
+    pub fn undo_step<S: PageStore, D: LogDevice>(
+        &mut self,
+        rt: &impl Wait,
+        shared: &Shared<S, D, G>,
+        txn: TxnNo,
+    ) -> Result<Undone, Refusal>
+        ensures receipt { IfOk result (λ done.
+            self.new ≡ self.old ++ undo_receipt txn done ∷ []) }
+        ensures refused { OnErr result (self.new ≡ self.old) }
+    {
+        make_room(&mut self.receipts)?;
+        let done = shared.held.lock(rt).undo_step(txn)?;
+        match done {
+            Undone::Undid(lsn) => self.receipts.push_reserved(Receipt::Stepped {
+                lsn,
+                txn,
+                step: TxnStep::Comp,
+            }),
+            Undone::Ended(lsn) => self.receipts.push_reserved(Receipt::Stepped {
+                lsn,
+                txn,
+                step: TxnStep::End,
+            }),
+        }
+        Ok(done)
+    }
+}
+
+/// Makes room for one receipt more.
+fn make_room(receipts: &mut Vec<Receipt>) -> Result<(), Refusal>
+    ensures room { OnOk result (vec_len receipts.new < vec_capacity receipts.new) }
+    ensures same { receipts.new.items ≡ receipts.old.items }
+    ensures err { IfErr result (λ why. why ≡ Refusal.OutOfMemory) }
+{
+    if receipts.reserve(1).is_err() {
+        return Err(Refusal::OutOfMemory);
+    }
+    Ok(())
+}

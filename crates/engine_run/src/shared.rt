@@ -1,0 +1,100 @@
+//! One engine for many threads.
+
+ghost use Rattle.std.specs.Prelude.{◌≡◌, ◌+◌, ◌<◌, ◌≤◌, [], IfErr, IfOk};
+ghost use Rattle.page_core.specs.Volume.{formatted_pages};
+ghost use Rattle.log_records.specs.Log.{IsPageCount};
+
+use crate::held::Held;
+use crate::session::Session;
+use crate::spare::Spare;
+use aries_core::{Engine, PlayFault, Setup};
+use log_store::LogDevice;
+use page_store::PageStore;
+use std::alloc::Global;
+use std::marker::Model;
+use std::sync::Mutex;
+use std::sync::ledger::{Blank, Ledger};
+
+/// How many sessions an engine can have.
+pub const MAX_SESSIONS: u32 = 64;
+
+/// An engine behind one lock, for its sessions, a flusher, a checkpointer and copies. Each call of
+/// theirs is one hold of the lock or several, and each hold is one event.
+#[derive(Drop)]
+pub struct Shared<S: PageStore, D: LogDevice, G: Ledger> {
+    pub(crate) held: Mutex<Held<S, D, G>>,
+    /// The shares of the sessions that are not made yet.
+    spares: Vec<Mutex<Spare<G>>>,
+    sessions: u32,
+}
+
+impl<S: PageStore, D: LogDevice, G: Ledger> Model for Shared<S, D, G> {
+    ghost use Rattle.std.specs.Prelude.{◌≡◌, ◌+◌, vec_len};
+    ghost use Rattle.engine_run.specs.Shared.{SharedView};
+
+    ghost Value = { SharedView };
+
+    ghost view = { λ it. record { sessions = it.sessions } };
+
+    ghost invariant = { λ it. it.sessions + vec_len it.spares ≡ 64 };
+}
+
+impl<S: PageStore + Drop, D: LogDevice + Drop, G: Ledger> Shared<S, D, G> {
+    /// An engine over a formatted volume, as `Engine::new` makes it, and no session. The ledger `G`
+    /// is opened here: it has a part for each session that may be made, and one more.
+    pub fn new(
+        alloc: Global,
+        blank: Blank,
+        setup: Setup,
+        store: S,
+        device: D,
+    ) -> Result<Shared<S, D, G>, PlayFault>
+        requires name { blank.name ≡ G.name }
+        requires parts { blank.parts ≡ G.parts }
+        requires sessions { blank.parts ≡ 65 }
+        requires pages { IsPageCount setup.pages }
+        requires frames { setup.pages ≤ setup.frames }
+        requires formatted { S.stored store ≡ formatted_pages setup.pages }
+
+        ensures sessions { IfOk result (λ it. it.sessions ≡ 0) }
+        ensures past_bound { IfErr result (λ why. why ≡ PlayFault.LogFault
+            → D.fails_from device ≤ 64) }
+    {
+        let (book, mut rest) = blank.open::<G>();
+        let mut spares = Vec::new(alloc);
+        for _ in 0..MAX_SESSIONS {
+            let spare = Spare::new(rest.split_off(1, 0));
+            if spares.push(Mutex::new(spare)).is_err() {
+                return Err(PlayFault::OutOfMemory);
+            }
+        }
+        let engine = Engine::new(alloc, setup, store, device)?;
+        Ok(Shared {
+            held: Mutex::new(Held::new(engine, book)),
+            spares,
+            sessions: 0,
+        })
+    }
+}
+
+impl<S: PageStore, D: LogDevice, G: Ledger> Shared<S, D, G> {
+    /// How many sessions were made.
+    pub fn sessions(&self) -> u32
+        ensures { result ≡ self.now.sessions }
+    {
+        self.sessions
+    }
+
+    /// Makes a session. All are made before the engine is shared.
+    pub fn session(&mut self, alloc: Global) -> Session<G>
+        requires { self.old.sessions < 64 }
+        ensures one_more { self.new.sessions ≡ self.old.sessions + 1 }
+        ensures empty { result ≡ [] }
+    {
+        let Some(spare) = self.spares.pop() else {
+            unreachable!();
+        };
+        self.sessions += 1;
+        Session::new(alloc, spare.into_inner().into_share())
+    }
+}
