@@ -1,0 +1,5 @@
+//! Tests of the engine for many threads, through its public items.
+#![tactic(auto)]
+
+#[cfg(test)]
+mod sessions;
