@@ -2,4 +2,3 @@ pub mod Orders
 pub mod Logged
 pub mod Marking
 pub mod Below
-pub mod Standing
