@@ -136,6 +136,15 @@ fn three_dirty_pages_have_their_bytes(rt: HostRuntime) {
     same(&rt, &decode(&bytes, Lsn(448)), &Some(record));
 }
 
+/// The record of a checkpoint that names one dirty page.
+fn naming(page: u32) -> Record {
+    Record::ChkptPages {
+        lsn: Lsn(256),
+        begin: BEGIN,
+        pages: DirtyPages::One(DirtyPage { page, rec_lsn: 128 }),
+    }
+}
+
 /// An entry may name any page; that of the log's volume alone it may name in a log.
 #[test]
 fn a_dirty_page_may_have_any_number(rt: HostRuntime) -> Result<(), Fail> {
@@ -146,12 +155,6 @@ fn a_dirty_page_may_have_any_number(rt: HostRuntime) -> Result<(), Fail> {
         (65_536, [0, 0, 1, 0]),
         (u32::MAX, [0xff, 0xff, 0xff, 0xff]),
     ] {
-        let entry = DirtyPage { page, rec_lsn: 128 };
-        let record = Record::ChkptPages {
-            lsn: Lsn(256),
-            begin: BEGIN,
-            pages: DirtyPages::One(entry),
-        };
         let bytes = bytes_with(&[
             (0, 8),
             (8, 0xc0),
@@ -163,9 +166,9 @@ fn a_dirty_page_may_have_any_number(rt: HostRuntime) -> Result<(), Fail> {
             (24, 0x80),
             (57, 1),
         ]);
-        same_at(&rt, &encode(&record), &bytes, &page);
-        same_at(&rt, &decode(&bytes, Lsn(256)), &Some(record), &page);
-        let log = log_with(alloc, &[begin, update, open, record], (0, b'A'))?;
+        same_at(&rt, &encode(&naming(page)), &bytes, &page);
+        same_at(&rt, &decode(&bytes, Lsn(256)), &Some(naming(page)), &page);
+        let log = log_with(alloc, &[begin, update, open, naming(page)], (0, b'A'))?;
         let found = read_log(alloc, &mut log.as_slice()).err();
         same_at(&rt, &found, &Some(LogReadFault::BadRecord(Lsn(256))), &page);
     }
