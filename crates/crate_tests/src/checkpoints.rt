@@ -5,6 +5,7 @@ use log_records::{DirtyPage, DirtyPages, Record, TxnPhase, decode, encode, encod
 use log_store::{LogReadFault, Master, decode_master, encode_master, read_log};
 use page_core::{Change, Lsn, PageNo, SlotNo, TxnNo};
 use std::alloc::{AllocError, Global};
+use std::process::Abort;
 use std::test::Fail;
 
 const FIRST: TxnNo = TxnNo(1);
@@ -145,33 +146,39 @@ fn naming(page: u32) -> Record {
     }
 }
 
-/// An entry may name any page; that of the log's volume alone it may name in a log.
+/// Asserts that a record may name this page, which has these bytes, and that a log of one page may
+/// not have it.
+fn assert_spelled(
+    rt: &(impl Abort + AllocGlobal),
+    page: u32,
+    digits: [u8; 4],
+) -> Result<(), AllocError> {
+    let bytes = bytes_with(&[
+        (0, 8),
+        (8, 0xc0),
+        (16, 1),
+        (20, digits[0]),
+        (21, digits[1]),
+        (22, digits[2]),
+        (23, digits[3]),
+        (24, 0x80),
+        (57, 1),
+    ]);
+    same_at(rt, &encode(&naming(page)), &bytes, &page);
+    same_at(rt, &decode(&bytes, Lsn(256)), &Some(naming(page)), &page);
+    let [begin, update, open, _, _, _, _] = records();
+    let log = log_with(rt.alloc(), &[begin, update, open, naming(page)], (0, b'A'))?;
+    let found = read_log(rt.alloc(), &mut log.as_slice()).err();
+    same_at(rt, &found, &Some(LogReadFault::BadRecord(Lsn(256))), &page);
+    Ok(())
+}
+
+/// An entry may name any page; in a log it may name those of the volume alone.
 #[test]
 fn a_dirty_page_may_have_any_number(rt: HostRuntime) -> Result<(), Fail> {
-    let alloc = rt.alloc();
-    let [begin, update, open, _, _, _, _] = records();
-    for (page, digits) in [
-        (4_000_000_000, [0, 0x28, 0x6b, 0xee]),
-        (65_536, [0, 0, 1, 0]),
-        (u32::MAX, [0xff, 0xff, 0xff, 0xff]),
-    ] {
-        let bytes = bytes_with(&[
-            (0, 8),
-            (8, 0xc0),
-            (16, 1),
-            (20, digits[0]),
-            (21, digits[1]),
-            (22, digits[2]),
-            (23, digits[3]),
-            (24, 0x80),
-            (57, 1),
-        ]);
-        same_at(&rt, &encode(&naming(page)), &bytes, &page);
-        same_at(&rt, &decode(&bytes, Lsn(256)), &Some(naming(page)), &page);
-        let log = log_with(alloc, &[begin, update, open, naming(page)], (0, b'A'))?;
-        let found = read_log(alloc, &mut log.as_slice()).err();
-        same_at(&rt, &found, &Some(LogReadFault::BadRecord(Lsn(256))), &page);
-    }
+    assert_spelled(&rt, 4_000_000_000, [0, 0x28, 0x6b, 0xee])?;
+    assert_spelled(&rt, 65_536, [0, 0, 1, 0])?;
+    assert_spelled(&rt, u32::MAX, [0xff, 0xff, 0xff, 0xff])?;
     Ok(())
 }
 
