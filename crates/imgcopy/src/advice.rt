@@ -20,7 +20,8 @@ pub fn tell_input(
     notes: &Notes,
 ) {
     let (what, name) = match (fault, notes.opened()) {
-        (RestoreFault::OutOfMemory | RestoreFault::LogFull | RestoreFault::WriteFault(_), _) => return,
+        (RestoreFault::OutOfMemory | RestoreFault::LogFull | RestoreFault::WriteFault(_), _) =>
+            return,
         (_, 0) => return,
         (_, 1) => ("log", log),
         (_, 2) => ("master record", master),
@@ -72,7 +73,13 @@ fn stale_names<R: Files>(
     let vault = retired.vault();
     for id in 1..=MAX_COPIES {
         if vault.complete(CopyId(id)).is_none() {
-            put_if_there(files, alloc, folder, SavedName::Copy(CopyId(id)), &mut names)?;
+            put_if_there(
+                files,
+                alloc,
+                folder,
+                SavedName::Copy(CopyId(id)),
+                &mut names,
+            )?;
         }
     }
     Ok(names)

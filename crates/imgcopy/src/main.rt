@@ -89,10 +89,17 @@ fn restore(rt: &HostRuntime, log: &str, master: &str, archives: &[&str]) -> Exit
         files: rt,
         notes: &notes,
     };
-    let done = restore_volume(&files, rt.alloc(), log, master, archives, &mut io::writer(rt));
-    let status = status_of_files(rt, done);
-    if let Err(fault) = done {
-        tell_input(rt, log, master, archives, &fault, &notes);
+    let done = restore_volume(
+        &files,
+        rt.alloc(),
+        log,
+        master,
+        archives,
+        &mut io::writer(rt),
+    );
+    let status = status_of_files(rt, &done);
+    if let Err(fault) = &done {
+        tell_input(rt, log, master, archives, fault, &notes);
     }
     status
 }
@@ -119,15 +126,15 @@ fn told(rt: &impl Eprint, fault: &impl Display) -> ExitCode
 }
 
 /// Tells why a volume is not restored from files, and answers the program's status.
-fn status_of_files(rt: &impl Eprint, done: Result<(), RestoreFault>) -> ExitCode
-    ensures done { OnOk done (exit_status result ≡ 0) }
-    ensures fault { IfErr done (λ fault. exit_status result ≡ status_of_restore fault) }
+fn status_of_files(rt: &impl Eprint, done: &Result<(), RestoreFault>) -> ExitCode
+    ensures done { OnOk done.now (exit_status result ≡ 0) }
+    ensures fault { IfErr done.now (λ fault. exit_status result ≡ status_of_restore fault) }
 {
     match done {
         Ok(()) => ExitCode::SUCCESS,
         Err(fault) => {
-            let _ = rt.eprintln(&fault);
-            ExitCode::from(restore_status(&fault))
+            let _ = rt.eprintln(fault);
+            ExitCode::from(restore_status(fault))
         }
     }
 }
