@@ -4,6 +4,7 @@ This is for the other scripts. It is written from the formats and the rules alon
 fast. Records, and which of them may follow which, are those of log_format.py.
 """
 
+import re
 import struct
 from functools import lru_cache
 from typing import NamedTuple
@@ -313,9 +314,14 @@ def redo_file(log):
     return redo_all(records, pages)
 
 
+# The line of a bad script, which begins as a line for a person does.
+SCRIPT_FAULT = re.compile(rb"imgcopy: (line [0-9]+|input)\n")
+
+
 def fault_lines(error):
     """Standard error without the lines for a person, which begin with the program's name."""
-    return b"".join(line for line in error.splitlines(keepends=True) if not line.startswith(b"imgcopy: "))
+    return b"".join(line for line in error.splitlines(keepends=True)
+                    if SCRIPT_FAULT.fullmatch(line) or not line.startswith(b"imgcopy: "))
 
 
 class Answer(NamedTuple):
