@@ -100,19 +100,36 @@ check_commands() {
     : > "$work/-log"
     (cd "$work" && "$program" restore -- -log master > out 2> err < /dev/null)
     status=$?
-    check_fault "E30 BadHeader" "restore -- -log master"
+    check_fault "E30 BadHeader" "restore -- -log master" "imgcopy: -log (log)"
     # A folder without a name is none, and not the current one.
     (cd "$work" && "$program" run --save= --pages=1 > out 2> err < /dev/null)
     status=$?
-    check_fault "E29 WriteFault 0" "run --save="
+    check_fault "E29 WriteFault 0" "run --save=" "imgcopy: *log: *"
     [ ! -e "$work/log" ] || fail "run --save=: there is a log"
+    # The folder is not there, and neither is the master record.
+    (cd "$work" && "$program" run --save none --pages=1 > out 2> err < /dev/null)
+    status=$?
+    check_fault "E29 WriteFault 0" "run --save none" "imgcopy: none/log: No such file or directory*"
+    (cd "$work" && "$program" restore day/log none day/copy-1 > out 2> err < /dev/null)
+    status=$?
+    check_fault "E33 ReadFault" "restore day/log none" "imgcopy: none (master record): No such file or directory*"
+    # Files of another run are named, and the run goes well.
+    : > "$work/day/copy-7"
+    "$program" run --save="$work/day" --pages=1 < /dev/null > "$work/out" 2> "$work/err" || fail "run --save: status $?"
+    [ "$(cat "$work/err")" = "imgcopy: $work/day: not of this run: copy-7" ] ||
+        fail "run --save beside copy-7: standard error '$(cat "$work/err")'"
 }
 
-# check_fault LINE NAME: the run that has just ended gave this line, status 2 and no output.
+# check_fault LINE NAME [BEHIND]: the run that has just ended gave this line, and behind it what this pattern says, or
+# nothing; status 2, and no output.
 check_fault() {
     [ "$status" -eq 2 ] || fail "$2: status $status, expected 2"
     [ ! -s "$work/out" ] || fail "$2: something on standard output"
-    [ "$(cat "$work/err")" = "$1" ] || fail "$2: standard error '$(head -n 1 "$work/err")', expected '$1'"
+    [ "$(head -n 1 "$work/err")" = "$1" ] || fail "$2: standard error '$(head -n 1 "$work/err")', expected '$1'"
+    local behind
+    behind=$(tail -n +2 "$work/err")
+    # shellcheck disable=SC2053  # the third word is a pattern
+    [[ $behind == ${3-} ]] || fail "$2: behind the fault's line stands '$behind', expected '${3-}'"
 }
 
 check_devices() {
