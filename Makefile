@@ -1,13 +1,15 @@
-# make imgcopy    proves and builds the program, and leaves it at build/imgcopy
+# make imgcopy    proves and builds the program, and leaves it at build/imgcopy, and a bank for the demo beside it
 # make demo       plays a day of a small database with image copies, loses its volume and restores it, and shows its
-#                 pages; if the program is not built, rt runs the sources unproved
+#                 pages; if the program is not built, rt runs the sources unproved; then, if it is built, a day of a
+#                 bank with many threads
 # make test       all tests: the gate, which proves every crate and tries its tests, its programs and its must-fail
 #                 edits, and then what make check does, on the program that the gate has built
 # make check      compares the program's answers to the examples and to spoiled logs with the expected ones, and those
 #                 to scripts with a model of the engine, also with each of its allocations refused in turn;
 #                 if rt is used, those of read_log and of the engine too, by a program of their own; and checks
 #                 that what the documents name is there
-# make bench      measures the program beside a plain Rust program, prints a table, and draws bench/times.svg
+# make bench      measures the program beside a plain Rust program, prints a table, and draws bench/times.svg; if rt is
+#                 used, it then measures copies of a shared engine by many workers, and draws bench/copies.svg
 # make examples   makes the example logs and their expected answers again
 # make contracts  makes docs/CONTRACTS.md again, from the sources
 # make install    puts the program, its manual page and the guide below PREFIX, by default /usr/local
@@ -37,10 +39,11 @@ need = @command -v "$(1)" > /dev/null || { echo "make: the program '$(1)' is mis
 .PHONY: need-rt need-python3 need-cargo need-rustc need-imgcopy
 
 imgcopy: need-rt
-	@tools/build.sh
+	@tools/build.sh imgcopy bank
 
 demo: need-python3
 	@tools/demo.sh "$(IMGCOPY)" build/day
+	@tools/bank.sh build/bank
 
 # The last line must be that of the script, so nothing follows it.
 test:
@@ -53,6 +56,11 @@ bench: need-python3 bench-programs $(PROGRAM)
 	@python3 bench/run.py --imgcopy "$(IMGCOPY)" --tools $(BENCH_PROGRAMS) --rounds $(ROUNDS) > build/bench.md
 	@cat build/bench.md
 	@python3 bench/draw.py build/bench.md bench/times.svg
+ifeq ($(IMGCOPY),$(BUILT))
+	@tools/build.sh copy_bench
+	@python3 bench/copies.py build/copy_bench $(ROUNDS) bench/copies.svg > build/copies.md
+	@cat build/copies.md
+endif
 
 examples: need-python3
 	@python3 examples/make.py

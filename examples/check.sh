@@ -96,6 +96,9 @@ check_commands() {
     "$program" run --save="$work/day" --pages=1 < /dev/null > "$work/out" || fail "run --save --pages=1: status $?"
     [ -s "$work/day/log" ] || fail "run --save: there is no log"
     "$program" run --pages 65536 < /dev/null > "$work/out" || fail "run --pages 65536: status $?"
+    "$program" run --frames 65536 --pages 1 < /dev/null > "$work/out" || fail "run --frames 65536: status $?"
+    check_frames --pages 2 --frames 1
+    check_frames --frames=1 --pages=2
     # A file whose name begins like an option: it is opened, and is no log of 64 bytes.
     : > "$work/-log"
     (cd "$work" && "$program" restore -- -log master > out 2> err < /dev/null)
@@ -104,7 +107,7 @@ check_commands() {
     # A folder without a name is none, and not the current one.
     (cd "$work" && "$program" run --save= --pages=1 > out 2> err < /dev/null)
     status=$?
-    check_fault "E29 WriteFault 0" "run --save=" "imgcopy: *log: *"
+    check_fault "E29 WriteFault 0" "run --save=" "imgcopy: --save names no folder"
     [ ! -e "$work/log" ] || fail "run --save=: there is a log"
     # The folder is not there, and neither is the master record.
     (cd "$work" && "$program" run --save none --pages=1 > out 2> err < /dev/null)
@@ -118,6 +121,17 @@ check_commands() {
     "$program" run --save="$work/day" --pages=1 < /dev/null > "$work/out" 2> "$work/err" || fail "run --save: status $?"
     [ "$(cat "$work/err")" = "imgcopy: $work/day: not of this run: copy-7" ] ||
         fail "run --save beside copy-7: standard error '$(cat "$work/err")'"
+}
+
+# check_frames WORDS..: with these words there is one frame for two pages, so one has to be written before the other is
+# read. Without `--frames` there is a frame for each.
+check_frames() {
+    local calls=(begin "set 1 0 0 5" "read 1 0" "wbegin 0" "wend 0" "read 1 0" "read 0 0")
+    printf '%s\n' "${calls[@]}" | "$program" run "$@" > "$work/out" || fail "run $*: status $?"
+    printf '%s\n' "began 1 at 64" "lsn 128" "E24 PoolFull" "writing 128" "written 128" "value 0" "value 5" |
+        cmp -s - "$work/out" || fail "run $*: the replies are '$(tr '\n' ';' < "$work/out")'"
+    printf '%s\n' "${calls[@]}" | "$program" run --pages 2 > "$work/out" || fail "run --pages 2: status $?"
+    [ "$(sed -n 3p "$work/out")" = "value 0" ] || fail "run --pages 2: page 1 is not read beside page 0"
 }
 
 # check_fault LINE NAME [BEHIND]: the run that has just ended gave this line, and behind it what this pattern says, or
@@ -135,11 +149,42 @@ check_fault() {
 check_devices() {
     "$program" redo < "$examples" > "$work/out" 2> "$work/err"
     status=$?
-    check_fault "E33 ReadFault" "an input that cannot be read"
+    check_fault "E33 ReadFault" "an input that cannot be read" "imgcopy: standard input: Is a directory*"
     : > "$work/out"
     "$program" redo < "$examples/four_records.log" > /dev/full 2> "$work/err"
     status=$?
-    check_fault "E29 WriteFault 0" "an output that is full"
+    check_fault "E29 WriteFault 0" "an output that is full" "imgcopy: standard output: No space left on device*"
+    : > "$work/out"
+    "$program" run --pages=1 < "$examples" 2> "$work/err"
+    status=$?
+    check_fault "imgcopy: input" "a script that cannot be read" "imgcopy: standard input: Is a directory*"
+    "$program" run --pages=1 < "$examples/day.script" > /dev/full 2> "$work/err"
+    status=$?
+    check_fault "E29 WriteFault 0" "replies that cannot be written" "imgcopy: standard output: No space left*"
+}
+
+# check_line TEXT WHY: a script of this one line is bad for this reason.
+check_line() {
+    printf '%s\n' "$1" | "$program" run --pages=1 > "$work/out" 2> "$work/err"
+    status=$?
+    check_fault "imgcopy: line 1" "the line '$1'" "imgcopy: line 1: $2"
+}
+
+check_lines() {
+    check_line "   " "it has spaces alone"
+    check_line "bgin" "unknown call"
+    check_line "begin 1" "after this call's name stand 0 words"
+    check_line "read 0" "after this call's name stand 2 words"
+    check_line "restore 1 all more" "after this call's name stand 2 words"
+    check_line "set 1 0 0 18446744073709551616" "a number is misspelled or too large"
+    check_line "take 1 -1" "a number is misspelled or too large"
+    check_line "restore 1 most" "a number is misspelled or too large"
+    printf 'begin\nrestore 1 all\n# the end\nbegin\n' | "$program" run --pages=1 > "$work/out" 2> "$work/err"
+    status=$?
+    check_fault "imgcopy: line 4" "a line behind a restore" "imgcopy: line 4: nothing may follow a restore"
+    printf 'begin\n\xff\n' | "$program" run --pages=1 > "$work/out" 2> "$work/err"
+    status=$?
+    check_fault "imgcopy: input" "a script that is not UTF-8" "imgcopy: standard input: not UTF-8, or over*"
 }
 
 check_examples
@@ -187,12 +232,19 @@ check_refused "error: " "--pages <N>" "$run" run
 for pages in --pages=0 --pages=65537 --pages=x --pages=; do
     check_refused "error: " "--pages <N>" --help run "$pages"
 done
-check_refused "error: " "'--frames'" "$run" run --pages=1 --frames=1
+for frames in --frames=0 --frames=65537 --frames=x --frames=; do
+    check_refused "error: " "--frames <B>" --help run --pages=1 "$frames"
+done
+check_refused "error: " "--frames <B>" --help run --pages=1 --frames
+check_refused "error: " "--pages <N>" "$run" run --frames=1
+check_refused "error: " "'--sync'" "$run" run --pages=1 --sync=1
+check_refused Play "65536 if not given" "$run" run --help
 check_refused Play --save "$run" run --help
 restore='Usage: imgcopy restore'
 check_refused "error: " "<MASTER>" "$restore" restore log
 check_refused Write ARCHIVE "$restore" restore -h
 check_commands
+check_lines
 # Words that are not UTF-8: the first of them is shown as far as it can be.
 check_words $'redo\xff'
 check_told "error: argument 1 is not UTF-8: 'redo�'"

@@ -1,7 +1,7 @@
 """The engine by its rules: what each call answers, and what it leaves. For the other scripts.
 
 Each call is a method that gives its reply, or raises the Refusal that is its reply. The store and the device never
-fail, memory is ample, and all pages are resident.
+fail, and memory is ample.
 """
 
 from bisect import bisect_right
@@ -10,8 +10,11 @@ from collections import defaultdict
 from log_checkpoints import (ACTIVE, BEGIN_CHKPT, CHKPT_PAGES, CHKPT_TXNS, END_CHKPT, MOST_ENTRIES, ROLLING,
                              CheckpointRecord)
 from log_format import (ABORT, ADD, BEGIN, COMMIT, MOST_OPEN, MOST_RECORDS, SET, SLOTS, UPDATE, Change, Record, lsn_of)
-from recovery_model import (MOST_COPIES, Copy, Page, Refusal, Transactions, compensation, encode_log, encode_master,
-                            ending, is_change, restore)
+from recovery_model import (MOST_COPIES, Copy, Page, Refusal, Transactions, compensation, content, encode_log,
+                            encode_master, ending, is_change, restore, resume)
+
+
+MOST_FRAMES = 65_536
 
 
 class Checkpoint:
@@ -28,13 +31,16 @@ class Checkpoint:
 
 
 class Engine:
-    def __init__(self, pages):
+    def __init__(self, pages, frames=MOST_FRAMES):
         self.pages = pages
+        self.frames = frames
+        self.resident = {}  # the pages in memory, in the order in which they were fetched
         self.log = []
         self.forced = 0  # how many records are forced
         self.transactions = Transactions()
         self.current = {}  # the pages that were changed; all others are formatted
         self.stored = {}  # the pages that were written; all others are formatted
+        self.written = {}  # by page: the LSN in the last answer to the end of a write, or to a repair
         self.changes = defaultdict(list)  # by page: the LSNs of its changes
         self.images = {}  # of the writes in progress, by page
         self.checkpoint = None
@@ -64,6 +70,7 @@ class Engine:
         if holders:
             raise Refusal(5, min(holders))
         self.need_room(records=1, owed=1)
+        self.bring_in(page)
         before = self.page(page).slots[slot] if kind == SET else 0
         change = Change(page, slot, kind, before, value)
         return f"lsn {self.append(Record(UPDATE, number, transaction.last, change, lsn=self.end()))}"
@@ -75,6 +82,7 @@ class Engine:
 
     def read(self, page, slot):
         self.need_slot(page, slot)
+        self.bring_in(page)
         return f"value {self.page(page).slots[slot]}"
 
     def commit(self, number):
@@ -90,12 +98,26 @@ class Engine:
         if not transaction.is_aborted:
             raise Refusal(7)
         if transaction.pending:
+            self.bring_in(transaction.pending[-1].change.page)
             return f"undid {self.append(compensation(transaction, self.end()))}"
         return f"ended {self.append(ending(transaction, self.end()))}"
 
     def force(self):
         self.forced = len(self.log)
         return f"forced {lsn_of(self.forced)}"
+
+    def bring_in(self, page):
+        """Fetches a page that is not in memory: into a free frame, or that of the clean page that was fetched earliest."""
+        if page in self.resident:
+            return
+        is_full = len(self.resident) >= self.frames
+        clean = next((other for other in self.resident if self.rec_lsn(other) is None), None)
+        if is_full and clean is None:
+            raise Refusal(24)
+        self.read_stored(page)
+        if is_full:
+            del self.resident[clean]
+        self.resident[page] = None
 
     # Writes of pages
 
@@ -114,13 +136,14 @@ class Engine:
         self.need_page(page)
         if page not in self.images:
             raise Refusal(12)
-        self.stored[page] = self.images.pop(page)
-        return f"written {self.stored[page].lsn}"
+        self.write_stored(page, self.images[page])
+        self.written[page] = self.images.pop(page).lsn
+        return f"written {self.written[page]}"
 
     def rec_lsn(self, page):
-        """The LSN of the first change that the stored page lacks, or None where it lacks none."""
+        """The LSN of the first change that no write has ended with, or None where there is none."""
         lsns = self.changes[page]
-        index = bisect_right(lsns, self.stored_page(page).lsn)
+        index = bisect_right(lsns, self.written.get(page, 0))
         return lsns[index] if index < len(lsns) else None
 
     def dirty(self):
@@ -201,7 +224,7 @@ class Engine:
         self.need_page(page)
         if page in copy.taken or page in copy.kept:
             raise Refusal(20)
-        stored = self.stored_page(page)
+        stored = self.read_stored(page)
         if copy.parent and stored.lsn < self.copies[copy.parent - 1].redo:
             copy.kept.add(page)
             return "kept"
@@ -218,6 +241,21 @@ class Engine:
     def drop(self, number):
         self.open_copy(number).is_dropped = True
         return "dropped"
+
+    def repair(self, number, page):
+        """Stores the page as the copies up to this one and the log give it."""
+        chain = self.chain(number)
+        self.need_page(page)
+        if page in self.images:
+            raise Refusal(11)
+        changes = [record for record in self.log if is_change(record) and record.change.page == page]
+        rebuilt = resume([content(chain)[page]], changes, chain[-1].redo)[0]
+        if rebuilt != self.page(page):
+            raise AssertionError(f"copy {number} does not give page {page}")
+        self.force_to(rebuilt.lsn)
+        self.write_stored(page, rebuilt)
+        self.written[page] = rebuilt.lsn
+        return f"repaired {rebuilt.lsn}"
 
     def copy(self, number):
         if not 1 <= number <= len(self.copies) or self.copies[number - 1].is_dropped:
@@ -284,8 +322,13 @@ class Engine:
     def page(self, number):
         return self.current.get(number) or Page(number)
 
-    def stored_page(self, number):
+    # The store and the device, which fail in another engine
+
+    def read_stored(self, number):
         return self.stored.get(number) or Page(number)
+
+    def write_stored(self, number, page):
+        self.stored[number] = page
 
     def transaction(self, number):
         if number not in self.transactions.open:

@@ -1,13 +1,16 @@
 #!/usr/bin/env python3
-"""Refuses each allocation of what the program does not call: `read_log`, the engine, and media recovery.
+"""Refuses each allocation of what the program does not call: `read_log`, the engine, media recovery, and an engine for
+many threads.
 
 usage: library_memory.py LIBRARY_PLAYER LIBRARY
 
 LIBRARY is refuse_memory.rs, built as a library for LD_PRELOAD, and LIBRARY_PLAYER the program of that crate. Without a
-word it reads a log by `read_log` and tells what came of it, and each example log goes to it as in memory.py. With a
-word it first makes calls of the engine, one by one and as a list, restores a copy, and makes a call again that was
-refused for want of memory: each has to get the reply that it has with all of its memory, and the pages have to be the
-same. It then reads an empty input, which needs no memory.
+word it reads a log by `read_log` and tells what came of it, and each example log goes to it as in memory.py. With the
+word `play` it first makes calls of the engine, one by one and as a list, restores a copy, and makes a call again that
+was refused for want of memory: each has to get the reply that it has with all of its memory, and the pages have to be
+the same. With the word `share` it does so with a shared engine: a session, checkpoints, a flush pass, a copy by three
+workers, and the end of the run, which gives all back where it is refused. It then reads an empty input, which needs no
+memory.
 """
 
 import os
@@ -34,23 +37,26 @@ def played(line):
 
 
 def count_refused(player, library):
-    """How many allocations were refused while it read, and while it made calls."""
+    """How many allocations were refused while it read, while it made calls, and while it shared an engine."""
     reading = [check(player, library, case, OUT_OF_MEMORY) for case in logs()]
-    once = Case(["play"], Path(os.devnull), played(b"each call was made once"))
-    playing = check(player, library, once, played(b"a call was made again"))
-    if 0 in reading or playing == 0:
+    counts = []
+    for word in ("play", "share"):
+        once = Case([word], Path(os.devnull), played(b"each call was made once"))
+        counts.append(check(player, library, once, played(b"a call was made again")))
+    if 0 in reading or 0 in counts:
         raise Failure("no allocation was refused")
-    return sum(reading), playing
+    return sum(reading), *counts
 
 
 def main(arguments):
     try:
         if len(arguments) != 2 or not all(map(os.path.isfile, arguments)):
             raise Failure("two arguments are wanted, the program and the library that refuses")
-        reading, playing = count_refused(*map(os.path.abspath, arguments))
+        reading, playing, sharing = count_refused(*map(os.path.abspath, arguments))
     except (Failure, OSError) as failure:
         sys.exit(f"library_memory.py: {failure}")
-    print(f"ok library_memory: {reading} refused allocations of read_log are told, and {playing} of engine and restore")
+    print(f"ok library_memory: {reading} refused allocations of read_log are told, {playing} of engine and restore,"
+          f" and {sharing} of a shared engine")
 
 
 if __name__ == "__main__":

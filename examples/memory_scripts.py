@@ -58,7 +58,7 @@ CHAIN = Script("a chain beside writes", 3, f"""
     wbegin 1; add 2 1 1 1; wend 1; {CHECKPOINT}
     inc 1; take 2 0; wbegin 1; take 2 1; wend 1; {takes(2, 2, 1, 0)}
     commit 2; begin; add 3 1 0 25; wbegin 1; ckpt; {GATHERS}; wend 1; gather; endckpt; endckpt
-    inc 2; {takes(3, 0, 1, 2)}; add 3 2 0 7; begin; set 4 2 1 9; abort 3; undo 3; set 4 1 0 1; wend 1; undo 3; undo 3
+    inc 2; {takes(3, 0, 1, 2)}; add 3 2 0 7; repair 3 2; repair 1 1; repair 2 0; begin; set 4 2 1 9; abort 3; undo 3; set 4 1 0 1; wend 1; undo 3; undo 3
     """, "restore 3 all")
 
 MANY = Script("many transactions, half of them taken back", 7, f"""

@@ -22,8 +22,10 @@ from pathlib import Path
 
 import model_file_rows
 import model_rows
+from engine_model import MOST_FRAMES
 from log_format import ADD, BEGIN, MOST_RECORDS, RECORD_SIZE, UPDATE, Change, Record, lsn_of
 from make import Draw
+from model_frame_rows import FRAME_ROWS
 from random_scripts import Script, bad_script, random_script
 from recovery_model import Answer, answer_of, encode_pages, fault_lines, redo_all, redo_file, restore_files, undo_records
 from script_model import LONGEST_SCRIPT, run
@@ -95,8 +97,14 @@ class Checker:
         self.write({name: files[name] for name in changed if name in files})
 
 
+def run_script(script):
+    return run(script.text, script.pages, frames=script.frames)
+
+
 def run_words(script):
-    return ["run", "--pages", str(script.pages)]
+    """The frames stand before the pages, or are left out where the program has as many by itself."""
+    frames = [] if script.frames == MOST_FRAMES else ["--frames", str(script.frames)]
+    return ["run", *frames, "--pages", str(script.pages)]
 
 
 def difference(given, wanted, text=b""):
@@ -130,8 +138,8 @@ def difference_of_files(given, wanted):
 
 def check_seed(checker, seed):
     script = random_script(seed)
-    ran = run(script.text, script.pages)
-    name = f"script {seed} on {script.pages} pages"
+    ran = run_script(script)
+    name = f"script {seed} on {script.pages} pages with {script.frames} frames"
     checker.check_run(name, script, ran)
     wanted = answer_of(redo_file, ran.files["log"])
     if wanted.output != encode_pages(map(ran.engine.page, range(script.pages))):
@@ -142,7 +150,7 @@ def check_seed(checker, seed):
         check_spoiled(checker, name, ran, seed)
     if seed % 4 == 0:
         script = bad_script(seed)
-        checker.check(f"bad script {seed}", run(script.text, script.pages).answer, run_words(script), script.text)
+        checker.check(f"bad script {seed}", run_script(script).answer, run_words(script), script.text)
 
 
 def check_copies(checker, name, ran):
@@ -159,8 +167,7 @@ def check_copies(checker, name, ran):
 
 @lru_cache(maxsize=None)
 def files_of_another(seed):
-    script = random_script(seed)
-    return run(script.text, script.pages).files
+    return run_script(random_script(seed)).files
 
 
 def check_spoiled(checker, name, ran, seed):
@@ -177,9 +184,9 @@ def check_spoiled(checker, name, ran, seed):
 
 def check_rows(checker):
     saved = {}
-    for row in model_rows.ROWS:
-        script, wanted = Script(row.pages, row.script()), Answer(row.status, row.output())
-        ran = run(script.text, script.pages)
+    for row in [*model_rows.ROWS, *FRAME_ROWS]:
+        script, wanted = Script(row.pages, row.script(), row.frames), Answer(row.status, row.output())
+        ran = run_script(script)
         if ran.answer != wanted:
             raise Failure(f"the model, {row.name}: {difference(ran.answer, wanted, script.text)}")
         check_bytes_of(row, ran.files)
@@ -252,24 +259,37 @@ def check_devices(checker):
         return
     with open("/dev/full", "wb") as full, open(checker.folder / "input", "rb") as source:
         done = subprocess.run([checker.program, *words], stdin=source, stdout=full, stderr=subprocess.PIPE)
-    if (done.returncode, done.stderr) != (2, b"E29 WriteFault 0\n"):
+    if (done.returncode, fault_lines(done.stderr)) != (2, b"E29 WriteFault 0\n"):
         checker.differences.append(f"an output that is full: status {done.returncode} and {done.stderr!r}")
     folder = os.open(checker.saved, os.O_RDONLY)
     done = subprocess.run([checker.program, *words], stdin=folder, capture_output=True)
     os.close(folder)
-    if (done.returncode, done.stdout, done.stderr) != (2, b"", b"imgcopy: input\n"):
+    if (done.returncode, done.stdout, fault_lines(done.stderr)) != (2, b"", b"imgcopy: input\n"):
         checker.differences.append(f"an input that cannot be read: status {done.returncode} and {done.stderr!r}")
 
 
 WRONG_WORDS = [
     "run", "run --pages", "run --pages 0", "run --pages 65537", "run --pages -1", "run --pages x", "run --pages 1 more",
-    "run --pages 1 --pages 1", "run --save .", "run --pages 1 --save", "restore", "restore log", "restore --log log",
+    "run --pages 1 --pages 1", "run --frames 1", "run --pages 1 --frames", "run --pages 1 --frames 0",
+    "run --frames 0 --pages 1", "run --pages 1 --frames 65537", "run --pages 1 --frames -1", "run --pages 1 --frames x",
+    "run --pages 1 --frames 1 --frames 1", "run --save .", "run --pages 1 --save", "restore", "restore log", "restore --log log",
     "rerun", "help rerun", "help run", "run --help", "restore --help",
 ]
 
 
+RIGHT_WORDS = [
+    "run --pages 1", "run --pages 65536", "run --pages 2 --frames 1", "run --frames 1 --pages 2",
+    "run --pages 1 --frames 65536", "run --frames=65536 --pages=65536", "run --save . --frames 2 --pages 1",
+]
+
+
 def check_words(checker):
-    """Wrong words: nothing on standard output, something on standard error, and status 2."""
+    """Wrong words: nothing on standard output, something on standard error, and status 2. Right ones, with a script of
+    no calls: nothing is said."""
+    for words in RIGHT_WORDS:
+        checker.counts["words"] += 1
+        if checker.program is not None and checker.answer(words.split()) != Answer(0):
+            checker.differences.append(f"the words '{words}': {checker.answer(words.split())}")
     for words in WRONG_WORDS:
         checker.counts["words"] += 1
         if checker.program is None:

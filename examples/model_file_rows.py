@@ -30,6 +30,7 @@ class FileRow(NamedTuple):
         return bytes.fromhex(self.answer).ljust(512, b"\0")
 
 
+INCREMENTS = "two incremental copies of one parent"
 CHAIN = "a chain, and a rollback that was begun"
 DIRTY = "a page that is dirty all the time"
 COPIED = "a change after the copy"
@@ -47,6 +48,14 @@ FILE_ROWS = [
     FileRow("an archive with a page too few", COPIED, "log master copy-1", "E38 CountDiffers", (("copy-1", 576, ""),)),
     FileRow("an archive with a byte too many", COPIED, "log master copy-1", "E38 CountDiffers",
             (("copy-1", 1088, "00"),)),
+    FileRow("a page that is cut, behind one with a byte too many", INCREMENTS, "log master copy-1 copy-2",
+            "E38 CountDiffers", (("copy-1", 1000, ""), ("copy-2", 576, "00"))),
+    FileRow("a page that is cut, before a whole archive", INCREMENTS, "log master copy-1 copy-2",
+            "E36 BadArchive 576", (("copy-1", 1000, ""),)),
+    FileRow("a redo point at the log's end", DIRTY, "log master copy-1", "E39 RedoBeyondLog",
+            (("copy-1", 24, "0002"), ("copy-1", 32, "0002")), status=1),
+    FileRow("a page at the log's end", DIRTY, "log master copy-1", "E40 PageBeyondLog 0", (("copy-1", 72, "0002"),),
+            status=1),
     FileRow("an archive that is cut in its header", COPIED, "log master copy-1", "E36 BadArchive 0",
             (("copy-1", 63, ""),)),
     FileRow("an archive without bytes", COPIED, "log master copy-1", "E36 BadArchive 0", (("copy-1", 0, ""),)),

@@ -6,6 +6,8 @@ is a name in capitals stands for the lines of that name.
 
 from typing import NamedTuple
 
+from engine_model import MOST_FRAMES
+
 PARTS = {
     "IDLE": """
         ckpt -> lsn 64
@@ -88,13 +90,15 @@ PARTS = {
 
 
 class Row(NamedTuple):
-    """`files` has some bytes of the files that are saved, by their offsets, in hexadecimal digits."""
+    """`files` has some bytes of the files that are saved, by their offsets, in hexadecimal digits. A row is played with
+    as many frames as the program has by itself, where it tells no other number."""
 
     name: str
     pages: int
     lines: str
     status: int = 0
     files: dict = {}
+    frames: int = MOST_FRAMES
 
     def pairs(self):
         return pairs_of(self.lines)
@@ -408,6 +412,50 @@ ROWS = [
         seal 3 -> sealed 1
         restore 3 all -> page 0 lsn 0 | page 1 lsn 256 0=9
         """, files={"copy-2": {8: "02000000 02000000 02000000 01000000 8001000000000000 8001000000000000 01000000"}}),
+    Row("a page repaired", 2, """
+        IDLE
+        full -> copy 1
+        take 1 0 -> taken 0
+        take 1 1 -> taken 0
+        seal 1 -> sealed 2
+        begin -> began 1 at 192
+        set 1 0 0 5 -> lsn 256
+        wbegin 0 -> writing 256
+        repair 1 0 -> E11 WriteBegun
+        wend 0 -> written 256
+        full -> copy 2
+        repair 2 0 -> E19 CopyNotComplete
+        repair 1 0 -> repaired 256
+        take 2 0 -> taken 256
+        set 1 0 0 6 -> lsn 320
+        repair 1 0 -> repaired 320
+        wbegin 0 -> E10 NotDirty
+        repair 3 0 -> E17 NoCopy
+        repair 3 2 -> E17 NoCopy
+        repair 1 2 -> E3 PageOut
+        repair 1 1 -> repaired 0
+        commit 1 -> lsn 384
+        restore 1 all -> page 0 lsn 320 0=6 | page 1 lsn 0
+        """),
+    Row("a dirty page repaired beside a gather", 1, """
+        IDLE
+        FULL
+        begin -> began 1 at 192
+        set 1 0 0 5 -> lsn 256
+        ckpt -> lsn 320
+        repair 1 0 -> repaired 256
+        set 1 0 0 6 -> lsn 384
+        gather -> more
+        gather -> more
+        gather -> more
+        gather -> done
+        endckpt -> point 320 576 320
+        inc 1 -> copy 2
+        take 2 0 -> taken 256
+        seal 2 -> sealed 1
+        repair 2 0 -> repaired 384
+        restore 2 all -> page 0 lsn 704
+        """),
     Row("the order of undo", 1, """
         IDLE
         FULL

@@ -1,22 +1,23 @@
 #!/usr/bin/env python3
 """Random scripts in which much happens at once: for model_check.py.
 
-usage: random_scripts.py SEED     writes the script of this seed, and says how many pages it is for
+usage: random_scripts.py SEED     writes the script of this seed, and says for how many pages and frames
 
 A script comes of some actors that take turns: transactions on few slots, checkpoints, writers, copies, and one that
-asks for what must be refused. Each actor is a generator. It gives an event and is sent the reply of the model. The
-same seed gives the same script.
+asks for what must be refused. Some scripts have few frames, so that pages leave memory. Each actor is a generator. It
+gives an event and is sent the reply of the model. The same seed gives the same script.
 """
 
 import sys
 from typing import NamedTuple
 
-from engine_model import Engine
+from engine_model import MOST_FRAMES, Engine
 from log_format import SLOTS
 from make import Draw
 from script_model import read_event
 
 MOST_COPIES_READ = 6
+MOST_PAGES_FEW, MOST_FEW_FRAMES = 12, 8  # of the scripts that are played with few frames
 BIG = 2**64 - 1
 SKIPPED = ["\n", "\r\n", "#\n", "# set 1 0 0 5\n", "#restore 1 all\n", "# \u00e9\u4e2d \u2603\r\n"]
 
@@ -24,6 +25,7 @@ SKIPPED = ["\n", "\r\n", "#\n", "# set 1 0 0 5\n", "#restore 1 all\n", "# \u00e9
 class Script(NamedTuple):
     pages: int
     text: bytes
+    frames: int = MOST_FRAMES
 
 
 class Play:
@@ -32,7 +34,9 @@ class Play:
     def __init__(self, seed):
         self.draw = draw = Draw(seed)
         self.pages = draw.one_of([1, 1, 2, 2, 3, 4, 5, 7, 9, 13, 40]) if seed % 200 else 3000
-        self.engine = Engine(self.pages)
+        few = seed % 3 == 0 and self.pages <= MOST_PAGES_FEW
+        self.frames = 1 + seed // 3 % min(MOST_FEW_FRAMES, self.pages) if few else MOST_FRAMES
+        self.engine = Engine(self.pages, self.frames)
         self.events = []
         slots = draw.one_of([1, 1, 2, 3, 8])
         self.places = [(self.page(), draw.one_of([0, 1, 3, 61, draw.below(SLOTS)])) for _ in range(slots)]
@@ -149,6 +153,17 @@ def forcing(play):
         yield "force"
 
 
+def repairs(play):
+    """Repairs of pages from any complete copy."""
+    while True:
+        yield from play.waits()
+        complete = [copy.number for copy in play.engine.complete_copies()]
+        if complete:
+            yield f"repair {play.draw.one_of(complete)} {play.page()}"
+        else:
+            yield None
+
+
 def mistakes(play):
     """Events with any numbers, of which most are refused."""
     draw = play.draw
@@ -161,7 +176,7 @@ def mistakes(play):
             f"set {transaction} {page} {slot} {play.value()}", f"add {transaction} {page} {slot} {play.value()}",
             f"read {page} {slot}", f"commit {transaction}", f"abort {transaction}", f"undo {transaction}", "gather",
             "endckpt", "ckpt", f"wbegin {page}", f"wend {page}", "full", f"inc {copy}", f"take {copy} {page}",
-            f"seal {copy}", f"drop {copy}", f"undo {transaction}", f"take {copy} {page}"])
+            f"seal {copy}", f"drop {copy}", f"undo {transaction}", f"take {copy} {page}", f"repair {copy} {page}"])
         yield from play.waits()
 
 
@@ -172,6 +187,7 @@ def actors(play):
     chosen += [writers(play) for _ in range(draw.one_of([0, 1, 1, 3]))]
     chosen += [copies(play) for _ in range(1 + draw.below(draw.one_of([1, 2, MOST_COPIES_READ])))]
     chosen += [forcing(play)] * draw.below(2)
+    chosen += [repairs(play)] * draw.below(2)
     chosen += [mistakes(play)] if play.mistakes else []
     most = max(1, len(chosen) // 2)
     return [[checkpoints(play), None, draw.one_of([1, 3, 9, 9 * most])],
@@ -196,7 +212,7 @@ def random_script(seed):
     finish_copies(play)
     last = restore_line(play)
     lines = [*play.events, *([last] if last else [])]
-    return Script(play.pages, spelt(draw, lines))
+    return Script(play.pages, spelt(draw, lines), play.frames)
 
 
 def end_checkpoint(play):
@@ -256,7 +272,7 @@ BAD_LINES = [
     "set 1 0 0 18446744073709551616", "set 4294967296 0 0 5", "set 1 4294967296 0 5", "set 1 0 65536 5",
     "set 1 0 0 000000000000000000005", "add 1 0 0 99999999999999999999", "read 0", "read 0 0 0", "commit", "abort 1 1",
     "undo", "undo 1 1", "force 1", "ckpt 0", "gather 1", "endckpt 1", "wbegin", "wend x", "full 1", "inc", "inc 1 1",
-    "take 1", "take 1 0 0", "seal", "drop", "repair 1 0", "save 1", "undoto 1 64", "extend 3", "restore", "restore 1",
+    "take 1", "take 1 0 0", "seal", "drop", "repair", "repair 1", "repair 1 0 0", "repair 1 4294967296", "save 1", "undoto 1 64", "extend 3", "restore", "restore 1",
     "restore 1 all all", "restore all", "restore all 1", "restore 1 All", "restore 1 18446744073709551616",
     "restore 4294967296 all", "restore 1 -1", "begin\tnow", "set\t1 0 0 5", "begin,", "begin # now", "hello",
     " ", "   \r", " # begin", "begin\r ", "restore 1 all\nbegin", "restore 1 all\nrestore 1 all",
@@ -278,7 +294,7 @@ def bad_script(seed):
         bad = draw.one_of(BAD_LINES).encode()
     encoded = [line.encode() for line in lines]
     text = b"\n".join([*encoded[:at], bad, *encoded[at:]])
-    return Script(play.pages, text + b"\n" * draw.below(2))
+    return Script(play.pages, text + b"\n" * draw.below(2), play.frames)
 
 
 def main(arguments):
@@ -286,7 +302,7 @@ def main(arguments):
         sys.exit("usage: random_scripts.py SEED")
     script = random_script(int(arguments[0]))
     sys.stdout.buffer.write(script.text)
-    print(f"for --pages {script.pages}", file=sys.stderr)
+    print(f"for --pages {script.pages} --frames {script.frames}", file=sys.stderr)
 
 
 if __name__ == "__main__":

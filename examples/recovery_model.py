@@ -18,10 +18,11 @@ NAMES = {
     2: "NoTxn", 3: "PageOut", 4: "SlotOut", 5: "SlotBusy", 6: "TxnRolling", 7: "NotRolling", 8: "LogFull",
     9: "TooManyTxns", 10: "NotDirty", 11: "WriteBegun", 12: "NoWrite", 13: "CkptOpen", 14: "NoCkpt", 15: "GatherLeft",
     16: "NoMaster", 17: "NoCopy", 18: "CopyNotOpen", 19: "CopyNotComplete", 20: "PageDecided", 21: "PagesLeft",
-    25: "TooManyCopies", 27: "CutTooShort", 29: "WriteFault", 30: "BadHeader", 31: "BadRecord", 32: "Torn",
-    33: "ReadFault", 34: "TooLong", 35: "BadChain", 36: "BadArchive", 37: "ChainBroken", 38: "CountDiffers",
+    22: "StoreFault", 23: "LogFault", 24: "PoolFull", 25: "TooManyCopies", 26: "CommitUnsure", 27: "CutTooShort", 29: "WriteFault",
+    30: "BadHeader", 31: "BadRecord", 32: "Torn", 33: "ReadFault", 34: "TooLong", 35: "BadChain", 36: "BadArchive",
+    37: "ChainBroken", 38: "CountDiffers", 39: "RedoBeyondLog", 40: "PageBeyondLog", 41: "Unsound",
 }
-STATUS_1 = {8, 17, 19, 27, 37}
+STATUS_1 = {8, 17, 19, 27, 37, 39, 40, 41}
 
 MOST_COPIES = 1024
 MASTER_MAGIC = b"AIMGMST1"
@@ -253,22 +254,47 @@ def read_master(data, log):
     return begin, end
 
 
-def read_archive(data):
-    if data is None:
-        raise Refusal(33)
-    copy, taken = read_archive_header(data[:ARCHIVE.size])
+def read_chain(archives, pages, end):
+    """The copies of a chain, for a volume of so many pages and a log that ends there. All headers come first. Then
+    each archive's first page is read, in order; a further page is read once the chain has given the one before it."""
+    if not archives:
+        raise Refusal(37, 0)
+    chain, readings = [], []
+    for data in archives:
+        if data is None:
+            raise Refusal(33)
+        copy, taken = read_archive_header(data[:ARCHIVE.size])
+        if copy.pages != pages or copy.parent != (chain[-1].number if chain else 0):
+            raise Refusal(37, copy.number)
+        chain.append(copy)
+        readings.append(page_numbers(copy, taken, data, end))
+    if any(copy.redo >= end for copy in chain):
+        raise Refusal(39)
+    at_hand = [next(reading, None) for reading in readings]
+    for given in range(pages):
+        at_hand = [next(reading, None) if number == given else number for reading, number in zip(readings, at_hand)]
+    return chain
+
+
+def page_numbers(copy, taken, data, end):
+    """Puts the pages into the copy one by one, and gives the number of each. What follows the last one is looked at
+    before that is given."""
     at, last = ARCHIVE.size, -1
-    for _ in range(taken):
+    for left in reversed(range(taken)):
         if at == len(data):
             raise Refusal(38)
         page = read_page(data[at:at + PAGE_SIZE])
         if page is None or not last < page.number < copy.pages:
             raise Refusal(36, at)
+        if page.lsn >= end:
+            raise Refusal(40, page.number)
         copy.taken[page.number] = page
         at, last = at + PAGE_SIZE, page.number
-    if at != len(data):
+        if left == 0 and at != len(data):
+            raise Refusal(38)
+        yield last
+    if taken == 0 and at != len(data):
         raise Refusal(38)
-    return copy
 
 
 def read_archive_header(data):
@@ -298,15 +324,7 @@ def restore_files(log, master, archives):
     """The pages that these files give. A file that cannot be read is None."""
     pages, records = read_log(log)
     read_master(master, records)
-    if not archives:
-        raise Refusal(37, 0)
-    chain = []
-    for data in archives:
-        copy = read_archive(data)
-        if copy.pages != pages or copy.parent != (chain[-1].number if chain else 0):
-            raise Refusal(37, copy.number)
-        chain.append(copy)
-    return restore(chain, records)
+    return restore(read_chain(archives, pages, lsn_of(len(records))), records)
 
 
 def redo_file(log):

@@ -13,7 +13,11 @@ unsafe extern "C" {
     fn __libc_realloc(old: *mut u8, size: usize) -> *mut u8;
     fn getenv(name: *const c_char) -> *const c_char;
     fn write(file: c_int, bytes: *const u8, count: usize) -> isize;
+    fn __errno_location() -> *mut c_int;
 }
+
+/// As `errno.h` has it on Linux.
+const OUT_OF_MEMORY: c_int = 12;
 
 /// Which allocation from now on is refused: 1 is the next one, and 0 is none.
 static LEFT: AtomicUsize = AtomicUsize::new(0);
@@ -42,12 +46,16 @@ fn number_in<T: FromStr>(variable: &CStr) -> Option<T> {
 }
 
 fn is_refused() -> bool {
-    let left = LEFT.load(Ordering::SeqCst);
-    LEFT.store(left.saturating_sub(1), Ordering::SeqCst);
-    if left == 1 {
-        unsafe { write(REPORT.load(Ordering::SeqCst), c"!".as_ptr().cast(), 1) };
+    // Threads allocate at the same time.
+    let left = LEFT.fetch_update(Ordering::SeqCst, Ordering::SeqCst, |left| left.checked_sub(1));
+    if left == Ok(1) {
+        unsafe {
+            write(REPORT.load(Ordering::SeqCst), c"!".as_ptr().cast(), 1);
+            // The start of a thread looks at it.
+            *__errno_location() = OUT_OF_MEMORY;
+        }
     }
-    left == 1
+    left == Ok(1)
 }
 
 #[unsafe(no_mangle)]

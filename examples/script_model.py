@@ -3,7 +3,7 @@
 import re
 from typing import NamedTuple
 
-from engine_model import Engine
+from engine_model import MOST_FRAMES, Engine
 from recovery_model import Answer, Refusal
 
 LONGEST_SCRIPT = 16_777_216
@@ -33,6 +33,7 @@ CALLS = {
     "take": ("CP", Engine.take),
     "seal": ("C", Engine.seal),
     "drop": ("C", Engine.drop),
+    "repair": ("CP", Engine.repair),
 }
 
 
@@ -47,7 +48,7 @@ class Event(NamedTuple):
     def reply(self, engine):
         """What the engine answers to this event."""
         try:
-            return CALLS[self.word][1](engine, *self.numbers)
+            return getattr(engine, CALLS[self.word][1].__name__)(*self.numbers)
         except Refusal as refusal:
             return refusal.line()
 
@@ -101,13 +102,13 @@ class Ran(NamedTuple):
     files: dict = {}
 
 
-def run(data, pages, refused=None):
+def run(data, pages, refused=None, frames=MOST_FRAMES):
     """What the script gives, where the call of the number `refused`, from 0, finds no memory: it changes nothing."""
     try:
         events = read_script(data)
     except BadScript as bad:
         return Ran(Answer(2, error=f"imgcopy: {bad}\n".encode()))
-    engine, lines, status = Engine(pages), [], 0
+    engine, lines, status = Engine(pages, frames), [], 0
     last = events.pop() if events and events[-1].word == "restore" else None
     for number, event in enumerate(events):
         lines.append(OUT_OF_MEMORY if number == refused else event.reply(engine))

@@ -14,7 +14,9 @@ passed=0 failed=0 skipped=0
 run_gate() {
     program=crates/imgcopy/out/imgcopy
     library_player=crates/library_player/out/library_player
-    rm -f "$program" "$library_player"
+    fault_player=crates/fault_player/out/fault_player
+    bank=crates/bank/out/bank
+    rm -f "$program" "$library_player" "$fault_player" "$bank"
     RT_JOBS=$(lanes) PYTHONUNBUFFERED=1 rt ci 2>&1 | tee build/gate.log
     local status=${PIPESTATUS[0]} counts='^([0-9]+) passed, ([0-9]+) failed$'
     if [[ $(tail -n 1 build/gate.log) =~ $counts ]]; then
@@ -50,17 +52,38 @@ skip() {
     skipped=$((skipped + 1))
 }
 
-# Runs a script whose last argument is the library that refuses allocations.
-refuse_memory() {
-    local library=build/refuse_memory.so source=examples/refuse_memory.rs
+# preload NAME COMMAND..: runs a script whose last argument is this library for LD_PRELOAD.
+preload() {
+    local library=build/$1.so source=examples/$1.rs
+    shift
     [ "$library" -nt "$source" ] || rustc --edition 2024 --crate-type cdylib -O -o "$library" "$source" || return
     python3 "$@" "$library"
+}
+
+# Runs a script whose last argument is the library that refuses allocations.
+refuse_memory() {
+    preload refuse_memory "$@"
 }
 
 # The gate has built this program. Else it is built here.
 library_memory() {
     "$is_gate" || tools/build.sh library_player || return
     refuse_memory examples/library_memory.py "$library_player"
+}
+
+few_threads() {
+    "$is_gate" || tools/build.sh library_player || return
+    preload few_threads examples/few_threads.py "$library_player"
+}
+
+fault_sweeps() {
+    "$is_gate" || tools/build.sh fault_player || return
+    examples/fault_sweeps.py "$fault_player"
+}
+
+bank() {
+    "$is_gate" || tools/build.sh bank || return
+    examples/bank.py "$bank"
 }
 
 run_checks() {
@@ -70,12 +93,18 @@ run_checks() {
     check day "$program" python3 -- examples/day.sh "$program" build/day
     check memory "$program" python3 rustc -- refuse_memory examples/memory.py "$program"
     check run_memory "$program" python3 rustc -- refuse_memory examples/run_memory.py "$program"
+    check unsaved "$program" python3 -- python3 examples/unsaved.py "$program"
     check faults "$program" python3 -- python3 examples/faults.py "$program"
     check model "$program" python3 -- python3 examples/model_check.py "$program"
     if "$uses_rt"; then
         check library_memory "$program" rt python3 rustc -- library_memory
+        check few_threads "$program" rt python3 rustc -- few_threads
+        check fault_sweeps "$program" rt python3 -- fault_sweeps
+        check bank "$program" rt python3 -- bank
     else
-        skip library_memory "it has rt prove another program"
+        for name in library_memory few_threads fault_sweeps bank; do
+            skip "$name" "it has rt prove another program"
+        done
     fi
 }
 
@@ -94,7 +123,7 @@ if [ "$1" = --gate ]; then
     run_gate
 else
     is_gate=false
-    program=$1 library_player=build/library_player
+    program=$1 library_player=build/library_player fault_player=build/fault_player bank=build/bank
 fi
 run_checks
 counts="$passed passed, $failed failed"

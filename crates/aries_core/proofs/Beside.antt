@@ -23,13 +23,13 @@ use Rattle.aries_core.specs.declared.event.Event.TheVariants as event
 use Rattle.aries_core.specs.declared.refusal.Refusal.{Refusal}
 use Rattle.aries_core.specs.declared.refusal.Refusal.TheVariants.{CommitUnsure, LogFault, OutOfMemory, StoreFault}
 use Rattle.aries_core.specs.Call.{record_for}
-use Rattle.aries_core.specs.EngineState.{EngineState, IsFit, IsGathering, IsMasterOf, effect, image_of}
+use Rattle.aries_core.specs.EngineState.{EngineState, IsFit, IsGathering, IsMasterOf, effect, image_of, page_now}
 use Rattle.aries_core.specs.Gather.{Left, session_of}
 use Rattle.aries_core.specs.Step.{Fails, Step}
 use Rattle.aries_core.proofs.Follows.{undo_has}
 use Rattle.aries_core.proofs.Gathers.{AreGathered}
 use Rattle.aries_core.proofs.Steps.{stored_or_not}
-use Rattle.aries_core.proofs.Writes.{Begins, Ends, Leaves, PageStep, Repeats}
+use Rattle.aries_core.proofs.Writes.{Begins, Ends, Leaves, PageStep, Repairs, Repeats, repairs_newer}
 
 -- ---- events beside checkpoints
 
@@ -72,6 +72,7 @@ answered old (event.CopyInc parent) new beside is = keeps old new _ is refl refl
 answered old (event.Take copy page) new beside is = keeps old new _ is refl refl
 answered old (event.Seal copy) new beside is = keeps old new _ is refl refl
 answered old (event.DropCopy copy) new beside is = keeps old new _ is refl refl
+answered old (event.Repair copy page) new beside is = keeps old new _ is refl refl
 answered old (event.Commit txn) new beside is = keeps old new _ is refl refl
 answered old (event.Abort txn) new beside is = keeps old new _ is refl refl
 answered old (event.UndoStep txn) new beside is = undo_keeps old txn new _ refl is
@@ -94,6 +95,12 @@ failed old (event.WriteEnd page) StoreFault new beside fails = elim (stored_or_n
 ]
 failed old event.CkptEnd LogFault new beside fails = absurd beside
 failed old (event.Take copy page) StoreFault new beside fails = keeps old new old fails refl refl
+failed old (event.Repair copy page) LogFault new beside fails = keeps old new _ fails.reached.2 refl refl
+failed old (event.Repair copy page) StoreFault new beside fails = elim fails [
+  | inl kept ↦ keeps old new _ kept refl refl
+  | inr stored ↦ keeps old new _ stored refl refl
+]
+failed old event StoreFault new beside fails = keeps old new old fails.1 refl refl
 failed old event why new beside fails = absurd fails
 
 pub keeps_ckpts : (old : EngineState) (event : Event) (reply : Result Answer Refusal) (new : EngineState)
@@ -114,6 +121,7 @@ of_transaction s (event.CopyInc parent) r beside made = absurd (cc)
 of_transaction s (event.Take copy page) r beside made = absurd (cc)
 of_transaction s (event.Seal copy) r beside made = absurd (cc)
 of_transaction s (event.DropCopy copy) r beside made = absurd (cc)
+of_transaction s (event.Repair copy page) r beside made = absurd (cc)
 of_transaction s (event.Commit txn) r beside made = subst IsOfTransaction (same_Some _ _ made) tt
 of_transaction s (event.Abort txn) r beside made = subst IsOfTransaction (same_Some _ _ made) tt
 of_transaction s (event.UndoStep txn) r beside made = undo_has IsOfTransaction s txn r made (λ p last. tt) (λ last. tt)
@@ -152,6 +160,12 @@ stores old new fit (Repeats page repeats) =
     let there : page < length old.stored = omega arith in
     let image = repeats.ends.image in
     StoresOne page image image there (of_image old page image image fit there repeats.ends.there) repeats.stored
+stores old new fit (Repairs page repairs) =
+    let count = fit.counted.stored in
+    let within = repairs.within in
+    let there : page < length old.stored = omega arith in
+    let now = page_now old page in
+    StoresOne page now now there (repairs_newer old page now fit there) repairs.stored
 
 -- ---- the open checkpoint
 

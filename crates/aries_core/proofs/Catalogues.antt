@@ -131,6 +131,7 @@ answered old event.CkptGather answer new given is =
     same_copies old new _ is (gather_has (λ s. s.copies ≡ old.copies) old refl (λ left. refl) (λ r left. refl))
 answered old event.CkptEnd answer new given is =
     same_copies old new _ is (ckpt_end_has (λ s. s.copies ≡ old.copies) old refl (λ c. refl))
+answered old (event.Repair copy page) answer new given is = same_copies old new _ is refl
 answered old event.CopyFull answer new given is = made new _ is ∙ opens old.copies Full old.pages _ _
 answered old (event.CopyInc parent) answer new given is = made new _ is ∙ opens old.copies (Inc parent) old.pages _ _
 answered old (event.Take copy page) answer new given is = took old copy page answer new given is
@@ -153,6 +154,12 @@ failed old (event.WriteEnd page) StoreFault new fails = elim (stored_or_not old 
 ]
 failed old event.CkptEnd LogFault new fails = same_copies old new _ (closed_part old new fails).2.reached.2 refl
 failed old (event.Take copy page) StoreFault new fails = same_copies old new _ fails refl
+failed old (event.Repair copy page) LogFault new fails = same_copies old new _ fails.reached.2 refl
+failed old (event.Repair copy page) StoreFault new fails = elim fails [
+  | inl kept ↦ same_copies old new _ kept refl
+  | inr stored ↦ same_copies old new _ stored refl
+]
+failed old event StoreFault new fails = same_copies old new _ fails.1 refl
 failed old event why new fails = absurd fails
 
 pub copies_of_step : (old : EngineState) (event : Event) (reply : Result Answer Refusal) (new : EngineState)

@@ -37,7 +37,7 @@ use Rattle.aries_core.specs.Step.{Fails, ForcedPart, Step, TakesMemory}
 use Rattle.aries_core.proofs.Fit.{fit_of_step}
 use Rattle.aries_core.proofs.Follows.{follows, gather_record_has, none_is_not_some}
 use Rattle.aries_core.proofs.GatherSteps.{cursor_after_txn, end_ckpt_follows, first_txn, gathering_of, past_is_session}
-use Rattle.aries_core.proofs.Residents.{unchanged}
+use Rattle.buffer_pool.proofs.Pools.{none_changes}
 use Rattle.aries_core.proofs.Gathers.{PassesPages, PassesTxns, TakesPages, TakesTxn, WasDone}
 use Rattle.aries_core.proofs.Gathers.{at_left, ckpt_end_is, gather_case, pages_record, txn_entry, with_pages, with_txn}
 use Rattle.aries_core.proofs.Refusals.{ckpt_begin_passes, ckpt_end_passes, gather_passes}
@@ -90,7 +90,7 @@ ckpt_begun stored it new table pool ckpts after lsn kept none logged forced is a
     let passes = ckpt_begin_passes s none in
     let room = passes.room in
     let state : (engine_view stored new pool after).state
-    ≡ (effect s event.CkptBegin).state = rw (is, logged, forced, unchanged r pool.resident refl) refl in
+    ≡ (effect s event.CkptBegin).state = rw (is, logged, forced, none_changes r pool.resident refl) refl in
     with_record stored it new table pool ckpts after event.CkptBegin (Ok (answer.Logged lsn)) r kept tt
     (none, ap answer.Logged at, state) logged tt passes.idle (omega arith)
     (rw (is, logged) (ap (option_map (session_of pages_left)) (sym (open_push it.log.records r))))
@@ -146,7 +146,7 @@ gathered_state : {S D : Type 0} (stored : S → List Page) (it new : WrittenLog 
     ≡ (gather_effect (engine_view stored it pool ckpts).state (record { next = next; ckpt = v })).state
 gathered_state stored it new pool ckpts after None v none logged forced is = rw (is, logged, forced) refl
 gathered_state stored it new pool ckpts after (Some r) v none logged forced is =
-    rw (is, logged, forced, unchanged r pool.resident none) refl
+    rw (is, logged, forced, none_changes r pool.resident none) refl
 
 -- the open checkpoint is the one of the session
 session_is : {S : Type 0} (stored : S → List Page) (s : EngineState) (table : Table) (pool : PoolView S)
@@ -268,7 +268,7 @@ ckpt_ended stored it new table pool ckpts after v point kept none has logged for
     let ends : new.forced_end ≡ end_of (it.log.records ++ r ∷ []) = forced ∙ ap (λ (l : Log). end_of l.records) next in
     let outcome = ckpt_end_is s c passes.still_open in
     let state : (engine_view stored new pool after).state ≡ (effect s event.CkptEnd).state =
-    rw (outcome, is, next, ends, named, unchanged r pool.resident refl) refl in
+    rw (outcome, is, next, ends, named, none_changes r pool.resident refl) refl in
     let answered : answer.Point point.begin point.end point.redo ≡ (effect s event.CkptEnd).answer =
     rw (outcome, named) refl in
     let room = passes.room in
@@ -297,7 +297,7 @@ ckpt_unforced stored it new table pool ckpts after v kept none has failed is =
     let short = failed.short in
     let longer = ap (λ (l : Log). length l.records) next in
     let state : (engine_view stored new pool after).state
-    ≡ forced_to (closed s c) (lsn_of k) = rw (is, next, at, unchanged r pool.resident refl) refl in
+    ≡ forced_to (closed s c) (lsn_of k) = rw (is, next, at, none_changes r pool.resident refl) refl in
     let part : ForcedPart (end (closed s c)) (closed s c) (engine_view stored new pool after).state = record {
       reached = (k, omega (arith, at, short, longer), state);
       no_less = failed.rising;

@@ -14,7 +14,7 @@ use Rattle.aries_core.specs.declared.event.Answer.{Answer}
 use Rattle.aries_core.specs.declared.event.Event.{Event}
 use Rattle.aries_core.specs.declared.event.Event.TheVariants as event
 use Rattle.aries_core.specs.declared.refusal.Refusal.{Refusal}
-use Rattle.aries_core.specs.declared.refusal.Refusal.TheVariants.{LogFault, OutOfMemory}
+use Rattle.aries_core.specs.declared.refusal.Refusal.TheVariants.{LogFault, OutOfMemory, StoreFault}
 use Rattle.aries_core.specs.EngineState.{EngineState, IsFit, IsGathering, IsMasterOf, begin_ckpt_record, closed, effect}
 use Rattle.aries_core.specs.EngineState.{end, end_ckpt_record, forced_to, log_of, point_of}
 use Rattle.aries_core.specs.EventFits.{EventFits}
@@ -181,11 +181,13 @@ ckpts_fit old event.CkptBegin (Err why) new fit numbers forces pages kind (inl b
     subst FitsCkpts (sym both.1) (ckpts_now old fit)
 ckpts_fit old event.CkptBegin (Err OutOfMemory) new fit numbers forces pages kind (inr both) =
     subst FitsCkpts (sym both.1.1) (ckpts_now old fit)
+ckpts_fit old event.CkptBegin (Err StoreFault) new fit numbers forces pages kind (inr both) = absurd both.1.0
 ckpts_fit old event.CkptBegin (Err why) new fit numbers forces pages kind (inr both) = absurd both.1
 ckpts_fit old event.CkptGather (Err why) new fit numbers forces pages kind (inl both) =
     subst FitsCkpts (sym both.1) (ckpts_now old fit)
 ckpts_fit old event.CkptGather (Err OutOfMemory) new fit numbers forces pages kind (inr both) =
     subst FitsCkpts (sym both.1.1) (ckpts_now old fit)
+ckpts_fit old event.CkptGather (Err StoreFault) new fit numbers forces pages kind (inr both) = absurd both.1.0
 ckpts_fit old event.CkptGather (Err why) new fit numbers forces pages kind (inr both) = absurd both.1
 ckpts_fit old event.CkptEnd (Err why) new fit numbers forces pages kind (inl both) =
     subst FitsCkpts (sym both.1) (ckpts_now old fit)
@@ -193,6 +195,7 @@ ckpts_fit old event.CkptEnd (Err OutOfMemory) new fit numbers forces pages kind 
     subst FitsCkpts (sym both.1.1) (ckpts_now old fit)
 ckpts_fit old event.CkptEnd (Err LogFault) new fit numbers forces pages kind
     (inr both) = unforced_fit old new fit both.1
+ckpts_fit old event.CkptEnd (Err StoreFault) new fit numbers forces pages kind (inr both) = absurd both.1.0
 ckpts_fit old event.CkptEnd (Err why) new fit numbers forces pages kind (inr both) = absurd both.1
 ckpts_fit old event reply new fit numbers forces pages kind step =
     beside_fit old event reply new fit numbers tt forces pages kind step

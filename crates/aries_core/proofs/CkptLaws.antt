@@ -15,7 +15,7 @@ use Rattle.aries_core.specs.declared.event.Event.{Event}
 use Rattle.aries_core.specs.declared.event.Event.TheVariants as event
 use Rattle.aries_core.specs.declared.refusal.Refusal.{Refusal}
 use Rattle.aries_core.specs.declared.refusal.Refusal.TheVariants.{CkptOpen, GatherLeft, LogFault, LogFull, NoCkpt}
-use Rattle.aries_core.specs.declared.refusal.Refusal.TheVariants.{OutOfMemory}
+use Rattle.aries_core.specs.declared.refusal.Refusal.TheVariants.{OutOfMemory, StoreFault}
 use Rattle.aries_core.specs.CkptReplies.{gather_from, point_from, with_gather, with_point}
 use Rattle.aries_core.specs.EngineState.{EngineState, IsFit, IsMasterOf, effect, end, end_ckpt_record}
 use Rattle.aries_core.specs.Gather.{is_done}
@@ -139,14 +139,17 @@ failed_point : (old : EngineState) (why : Refusal) (new : EngineState) → Fails
     → new.master ≡ old.master
 failed_point old OutOfMemory new fails = same_master old new old fails.1 refl
 failed_point old LogFault new fails = same_master old new _ (closed_part old new fails).2.reached.2 refl
+failed_point old StoreFault new fails = absurd fails.0
 failed_point old why new fails = absurd fails
 
 failed_begin : (old : EngineState) (why : Refusal) (new : EngineState) → Fails old event.CkptBegin why new → new ≡ old
 failed_begin old OutOfMemory new fails = fails.1
+failed_begin old StoreFault new fails = absurd fails.0
 failed_begin old why new fails = absurd fails
 
 failed_gather : (old : EngineState) (why : Refusal) (new : EngineState) → Fails old event.CkptGather why new → new ≡ old
 failed_gather old OutOfMemory new fails = fails.1
+failed_gather old StoreFault new fails = absurd fails.0
 failed_gather old why new fails = absurd fails
 
 pub master_of_step : (old : EngineState) (event : Event) (reply : Result Answer Refusal) (new : EngineState)
@@ -304,6 +307,7 @@ told_step old event.CkptEnd (Err why) new done tells (inl both) = same_tells old
 told_step old event.CkptEnd (Err OutOfMemory) new done tells (inr both) = same_tells old new done tells both.1.1
 told_step old event.CkptEnd (Err LogFault) new done tells (inr both) = none_tells new done
     (unforced_at old new both.1).1
+told_step old event.CkptEnd (Err StoreFault) new done tells (inr both) = absurd both.1.0
 told_step old event.CkptEnd (Err why) new done tells (inr both) = absurd both.1
 told_step old event reply new done tells step = beside_tells old event reply new done tt tells step
 

@@ -75,11 +75,11 @@ all_forced old (event ∷ events) (reply ∷ replies) new ends run =
 all_forced old [] (reply ∷ replies) new ends run = absurd run
 all_forced old (event ∷ events) [] new ends run = absurd run
 
-pub commits_are_forced : (pages : ℕ) (events : List Event) (replies : List (Result Answer Refusal))
-    (new : EngineState) → Run (new_state pages) events replies new
+pub commits_are_forced : (pages frames : ℕ) (events : List Event) (replies : List (Result Answer Refusal))
+    (new : EngineState) → Run (new_state pages frames) events replies new
     → All (λ commit. StandsIn new.log commit × (commit.lsn < new.forced_end)) (answered_commits events replies)
-commits_are_forced pages events replies new run =
-    all_forced (new_state pages) events replies new (0, omega arith, refl) run
+commits_are_forced pages frames events replies new run =
+    all_forced (new_state pages frames) events replies new (0, omega arith, refl) run
 
 -- a record below the forced end is among those that are kept
 stays_kept : (s : EngineState) (kept : Log) (commit : AnsweredCommit) → IsKeptOf (log_of s) s.forced_end kept
@@ -94,8 +94,8 @@ stays_kept s kept commit is (stands, below) =
       is = λ d. get_or-take is.count s.log stands.place d past ∙ stands.is d;
     })
 
-pub commits_are_kept : (pages : ℕ) (events : List Event) (replies : List (Result Answer Refusal))
-    (new : EngineState) (kept : Log) → Run (new_state pages) events replies new
+pub commits_are_kept : (pages frames : ℕ) (events : List Event) (replies : List (Result Answer Refusal))
+    (new : EngineState) (kept : Log) → Run (new_state pages frames) events replies new
     → IsKeptOf (log_of new) new.forced_end kept → All (StandsIn kept.records) (answered_commits events replies)
-commits_are_kept pages events replies new kept run is =
-    λ k d lt. stays_kept new kept _ is (commits_are_forced pages events replies new run k d lt)
+commits_are_kept pages frames events replies new kept run is =
+    λ k d lt. stays_kept new kept _ is (commits_are_forced pages frames events replies new run k d lt)

@@ -145,4 +145,5 @@ pub asked_is : {S D : Type 0} (stored : S → List Page) (it : WrittenLog D) (po
 asked_is stored it pool after media copies same rest =
     let resident = ap (λ v. v.resident) rest in
     let states = ap (λ v. v.states) rest in
-    rw (same, resident, states) refl
+    let frames = ap (λ v. v.frames) rest in
+    rw (same, frames, resident, states) refl

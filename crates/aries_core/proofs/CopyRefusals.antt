@@ -16,12 +16,12 @@ use Rattle.fuzzy_ckpt.specs.declared.point.Point.{Point}
 use Rattle.aries_core.specs.declared.event.Event.{Event}
 use Rattle.aries_core.specs.declared.event.Event.TheVariants as event
 use Rattle.aries_core.specs.declared.refusal.Refusal.{Refusal}
-use Rattle.aries_core.specs.declared.refusal.Refusal.TheVariants.{NoMaster, PageDecided, PageOut, PagesLeft}
+use Rattle.aries_core.specs.declared.refusal.Refusal.TheVariants.{NoMaster, PageDecided, PageOut, PagesLeft, WriteBegun}
 use Rattle.aries_core.specs.declared.refusal.Refusal.TheVariants.{TooManyCopies}
-use Rattle.aries_core.specs.Catalogue.{Entry, catalogue_refusal, count_refusal, entry_of, has_mark, has_no_mark}
+use Rattle.aries_core.specs.Catalogue.{Entry, catalogue_refusal, count_refusal, entry_at, entry_of, has_mark, has_no_mark}
 use Rattle.aries_core.specs.Catalogue.{mark_of}
 use Rattle.aries_core.specs.Catalogue.{marks_of, not_decided, parent_refusal, reading_refusal}
-use Rattle.aries_core.specs.EngineState.{EngineState}
+use Rattle.aries_core.specs.EngineState.{EngineState, image_of}
 use Rattle.aries_core.specs.Refusal.{has_decided, of_vault, or_else, refusal, refused_if}
 use Rattle.aries_core.proofs.Catalogues.{entries, entry_is}
 
@@ -135,3 +135,22 @@ seal_by_catalogue s copy =
 pub drop_by_catalogue : (s : EngineState) (copy : ℕ)
     → refusal s (event.DropCopy copy) ≡ by_catalogue s (event.DropCopy copy)
 drop_by_catalogue s copy = reading_is (state_of s.copies copy) ∙ ap reading_refusal (sym (entry_is s.copies copy))
+
+complete_is : (state : CopyState) → option_map of_vault (complete_refusal state) ≡ parent_refusal (entry_of state)
+complete_is (reading copy) = refl
+complete_is (complete copy) = refl
+complete_is dropped = refl
+
+-- one after another, from either end
+or_else_assoc : (a b c : Option Refusal) → or_else a (or_else b c) ≡ or_else (or_else a b) c
+or_else_assoc None b c = refl
+or_else_assoc (Some why) b c = refl
+
+pub repair_by_catalogue : (s : EngineState) (copy page : ℕ) → refusal s (event.Repair copy page)
+    ≡ or_else (by_catalogue s (event.Repair copy page)) (refused_if (is_some (image_of s page)) WriteBegun)
+repair_by_catalogue s copy page =
+    let out = refused_if (nat_le s.pages page) PageOut in
+    let begun = refused_if (is_some (image_of s page)) WriteBegun in
+    ap (λ (o : Option Refusal). or_else o (or_else out begun)) (complete_is (state_of s.copies copy)
+    ∙ ap parent_refusal (sym (entry_is s.copies copy)))
+    ∙ or_else_assoc (parent_refusal (entry_at (entries s.copies) copy)) out begun

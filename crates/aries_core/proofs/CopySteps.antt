@@ -51,10 +51,10 @@ pub data CopyStep (old new : EngineState) : Type 0 where
 
 -- ---- a copy begins
 
-early_redo : (s : EngineState) → IsFit s → (master : Option Point) → s.master ≡ master
-    → option_map_or (λ p. p.redo) master 0 ≤ s.forced_end
-early_redo s fit None is = omega arith
-early_redo s fit (Some point) is =
+early_redo : (s : EngineState) → IsFit s → (master : Option Point) → s.master ≡ master → IsSome master
+    → option_map_or (λ p. p.redo) master 0 < s.forced_end
+early_redo s fit None is some = cc
+early_redo s fit (Some point) is some =
     let named = subst (λ (o : Option Point). IfSome o (IsMasterOf s.log s.stored s.forced_end)) is fit.master in
     let low = redo_before_end (log_of s) point.begin point.end named.complete fit.valid in
     let same = named.same_redo in
@@ -88,7 +88,7 @@ opens s kind fit few some parent =
     subst (λ (n : ℕ). HasParent s.copies (length s.copies + 1) n kind
     → AreCopied s.log s.forced_end s.stored (opened s.copies kind n begin redo)) fit.counted.stored
     (λ has. copied_opened s.log s.forced_end s.stored s.copies kind begin redo fit.copied few
-    (noted_by s fit s.master refl some) has (early_redo s fit s.master refl)
+    (noted_by s fit s.master refl some) has (early_redo s fit s.master refl some)
     (λ p d lt. covered_by s fit s.master refl p d lt))
     parent
 
@@ -159,6 +159,7 @@ answered old event.CkptGather new fit none is =
     leaves old new _ is (gather_has (λ s. s.copies ≡ old.copies) old refl (λ left. refl) (λ r left. refl))
 answered old event.CkptEnd new fit none is =
     leaves old new _ is (ckpt_end_has (λ s. s.copies ≡ old.copies) old refl (λ c. refl))
+answered old (event.Repair copy page) new fit none is = leaves old new _ is refl
 answered old event.CopyFull new fit none is =
     let some = full_passes old none in
     ChangesCopies _ (opens old Full fit (full_is_few old none) some tt) some is
@@ -191,6 +192,12 @@ failed old (event.WriteEnd page) StoreFault new fails = elim (stored_or_not old 
 ]
 failed old event.CkptEnd LogFault new fails = leaves old new _ (closed_part old new fails).2.reached.2 refl
 failed old (event.Take copy page) StoreFault new fails = leaves old new old fails refl
+failed old (event.Repair copy page) LogFault new fails = leaves old new _ fails.reached.2 refl
+failed old (event.Repair copy page) StoreFault new fails = elim fails [
+  | inl kept ↦ leaves old new _ kept refl
+  | inr stored ↦ leaves old new _ stored refl
+]
+failed old event StoreFault new fails = leaves old new old fails.1 refl
 failed old event why new fails = absurd fails
 
 pub copy_step : (old : EngineState) (event : Event) (reply : Result Answer Refusal) (new : EngineState) → IsFit old

@@ -1,21 +1,25 @@
 -- Each engine is fit: a new one, and one after a step.
-use Rattle.std.proofs.Common.{◌≡◌, ℕ, zero, suc, get_or, replicate, ◌+◌, ◌<◌, ◌≤◌, ◌++◌, List, [], ◌∷◌, length, take}
-use Rattle.std.proofs.Common.{lit≤, refl, sym, ap, ◌⊎◌, ◌∙◌, subst, arith, inl, inr}
-use Rattle.std.specs.Prelude.{Option, Result, Some, None}
+use Rattle.std.proofs.Common.{◌≡◌, ℕ, zero, suc, get_or, replicate, ◌+◌, ◌<◌, ◌≤◌, ◌++◌, List, [], ◌∷◌, length, map, take}
+use Rattle.std.proofs.Common.{lit≤, refl, sym, ap, ◌⊎◌, ◌∙◌, subst, arith, inl, inr, true≢false}
+use Rattle.std.specs.Prelude.{IfSome, Option, Result, Some, None}
 use Rattle.std.proofs.lemmas.List.FromFn.{get_or-map-range_with_len, length-map-range_with_len}
 use Rattle.page_core.specs.declared.page.Page.{Page}
 use Rattle.page_core.specs.Page.{formatted}
 use Rattle.page_core.specs.Volume.{formatted_pages}
 use Rattle.log_records.proofs.Stored.{stored_later}
-use Rattle.buffer_pool.proofs.Pools.{images_later}
+use Rattle.log_records.specs.Image.{image, with_record}
+use Rattle.buffer_pool.proofs.Pools.{images_later, resident_later}
+use Rattle.buffer_pool.specs.Frames.{IsResident}
+use Rattle.buffer_pool.specs.Pool.{is_clean}
 use Rattle.std.specs.List.{All}
 use Rattle.std.proofs.lemmas.Bool.{cases_lt}
 use Rattle.std.proofs.lemmas.List.{append-nil, length-replicate, length_push, take-append-le, take_all}
-use Rattle.std.proofs.lemmas.List.Elements.{All-head, All-tail}
+use Rattle.std.proofs.lemmas.List.Elements.{All-head, All-nil, All-tail}
 use Rattle.log_records.specs.declared.limits.TheConstants.{MAX_RECORDS}
 use Rattle.log_records.specs.declared.record.Record.{Record}
-use Rattle.log_records.specs.Log.{IsPageCount}
-use Rattle.log_records.specs.Record.{own_lsn}
+use Rattle.log_records.specs.Log.{IsPageCount, StandsAt}
+use Rattle.log_records.specs.Record.{IsOfTransaction, change_of, own_lsn}
+use Rattle.log_history.specs.Linked.{MayFollow}
 use Rattle.log_history.specs.Transactions.{owed}
 use Rattle.log_history.proofs.Histories.{linked_none, linked_push}
 use Rattle.log_history.proofs.AtEnd.{valid_next}
@@ -27,7 +31,7 @@ use Rattle.aries_core.specs.declared.event.Answer.{Answer}
 use Rattle.aries_core.specs.declared.event.Event.{Event}
 use Rattle.aries_core.specs.declared.refusal.Refusal.{Refusal}
 use Rattle.aries_core.specs.Call.{Calls}
-use Rattle.aries_core.specs.EngineState.{EngineState, HaveMaster, IsFit, appended, end, log_of, new_state}
+use Rattle.aries_core.specs.EngineState.{EngineState, HaveMaster, IsFit, appended, end, log_of, new_state, with_page}
 use Rattle.aries_core.specs.EventFits.{EventFits}
 use Rattle.aries_core.specs.Run.{Run}
 use Rattle.aries_core.specs.Step.{Step}
@@ -38,8 +42,9 @@ use Rattle.aries_core.proofs.Follows.{follows}
 use Rattle.aries_core.proofs.Forces.{EndsAtRecord, Forces, forces}
 use Rattle.aries_core.proofs.Rooms.{room_grows}
 use Rattle.aries_core.proofs.Stands.{stands}
-use Rattle.aries_core.proofs.Steps.{Grows, Stays, stays_or_grows}
-use Rattle.aries_core.proofs.Writes.{GoesOn, PagesFit, page_step, pages_fit}
+use Rattle.aries_core.proofs.Steps.{Grows, Stays, start, stays_or_grows}
+use Rattle.aries_core.proofs.PageComes.{dirty_after, dirty_before, start_dirty, start_fit, start_held, start_images}
+use Rattle.aries_core.proofs.Writes.{GoesOn, PageStep, PagesFit, page_step, pages_fit}
 
 -- ---- after a step
 
@@ -60,16 +65,21 @@ goes_on old event reply new forces (inr grows) = record {
 }
 
 fit_stays : (old : EngineState) (event : Event) (reply : Result Answer Refusal) (new : EngineState) → IsFit old
-    → EndsAtRecord new → PagesFit new → FitsCkpts new
+    → IsFit (start old event reply) → PageStep old new → EndsAtRecord new → PagesFit new → FitsCkpts new
     → AreCopied new.log new.forced_end new.stored new.copies → HaveMaster new.master new.copies
     → Stays old event reply new → IsFit new
-fit_stays old event reply new fit forced pages ckpts copied noted stays = record {
+fit_stays old event reply new fit from step forced pages ckpts copied noted stays = record {
   valid = rw (stays.pages, stays.log) fit.valid;
   linked = rw stays.log fit.linked;
   room = rw stays.log fit.room;
   forced = forced;
   counted = pages.counted;
-  resident = rw (stays.log, stays.resident) fit.resident;
+  resident = rw (stays.log, stays.resident) (start_images old event reply from);
+  held = λ q lt dirty.
+      let within : q < old.pages = omega (arith, lt, stays.pages) in
+      rw stays.resident (start_held old event reply from q within
+      (ap (λ (rs : List Record). is_clean rs old.written q) (sym stays.log)
+      ∙ dirty_before old new q fit step within dirty));
   stored = pages.stored;
   stable = pages.stable;
   gathered = ckpts.gathered;
@@ -93,17 +103,42 @@ forced_low s r fit own =
     let at = fit.forced.2 in
     omega arith
 
+-- what the record of a call is, at the end of the log
+pub record Comes (s : EngineState) (r : Record) : Type 0 where
+  pub of_transaction : IsOfTransaction r
+  pub may_follow : MayFollow s.log r
+  pub room : length (s.log ++ r ∷ []) + owed (s.log ++ r ∷ []) ≤ MAX_RECORDS
+  pub stands_at : StandsAt s.pages (end s) r
+
+pub comes : (s : EngineState) (r : Record) → IsFit s → Calls s r → Comes s r
+comes s r fit calls = record {
+  of_transaction = calls.of_transaction;
+  may_follow = follows s calls.call r fit calls.accepted calls.made;
+  room = room_grows s calls.call r fit calls.accepted calls.made;
+  stands_at = stands s calls.call r fit calls.fits calls.accepted calls.made;
+}
+
+pub comes_few : (s : EngineState) (r : Record) → Comes s r → length s.log < MAX_RECORDS
+comes_few s r come = let room = come.room in omega (arith, length_push s.log r)
+
+-- with a page more in memory
+pub comes_with : (s : EngineState) (p : ℕ) (r : Record) → Comes s r → Comes (with_page s p) r
+comes_with s p r come = record {
+  of_transaction = come.of_transaction;
+  may_follow = come.may_follow;
+  room = come.room;
+  stands_at = come.stands_at;
+}
+
 -- the state with the record of an accepted call at the end of its log
-pub fit_appended : (s : EngineState) (r : Record) → IsFit s → Calls s r → IsFit (appended s r)
-fit_appended s r fit calls =
-    let may = follows s calls.call r fit calls.accepted calls.made in
-    let whole = room_grows s calls.call r fit calls.accepted calls.made in
-    let few : length s.log < MAX_RECORDS = omega (arith, length_push s.log r) in
-    let at = stands s calls.call r fit calls.fits calls.accepted calls.made in
+pub fit_appended : (s : EngineState) (r : Record) → IsFit s → Comes s r
+    → IfSome (change_of r) (λ c. IsResident s.resident c.page) → IsFit (appended s r)
+fit_appended s r fit come there =
+    let at = come.stands_at in
     record {
-      valid = valid_next (log_of s) r fit.valid few at;
-      linked = linked_push s.log r fit.linked may;
-      room = room_push s.log r fit.room whole;
+      valid = valid_next (log_of s) r fit.valid (comes_few s r come) at;
+      linked = linked_push s.log r fit.linked come.may_follow;
+      room = room_push s.log r fit.room come.room;
       forced = (fit.forced.0, omega (arith, fit.forced.1, length_push s.log r), fit.forced.2);
       counted = record {
         stored = fit.counted.stored;
@@ -111,32 +146,42 @@ fit_appended s r fit calls =
         writing = fit.counted.writing;
       };
       resident = images_later s.log r s.resident fit.resident;
+      held = λ q lt dirty.
+          resident_later s.resident r q ∙ dirty_after s r q fit lt at.lsn there dirty;
       stored = stored_later s.log (r ∷ []) s.stored s.written s.writing fit.stored;
       stable = record { pages = fit.stable.pages; images = fit.stable.images };
       gathered = gathered_later
-          (log_of s) r s.stored s.left fit.valid fit.linked calls.of_transaction may at.lsn fit.gathered;
+          (log_of s) r s.stored s.left fit.valid fit.linked come.of_transaction come.may_follow at.lsn fit.gathered;
       master = master_now s r fit at.lsn;
       copied = copied_later s.log r s.forced_end s.stored s.copies (forced_low s r fit at.lsn) fit.copied;
       noted = fit.noted;
     }
 
 fit_grows : (old : EngineState) (event : Event) (reply : Result Answer Refusal) (new : EngineState) → IsFit old
+    → IsFit (start old event reply) → PageStep old new
     → EventFits event → EndsAtRecord new → PagesFit new → FitsCkpts new
     → AreCopied new.log new.forced_end new.stored new.copies → HaveMaster new.master new.copies
     → Grows old event reply new → IsFit new
-fit_grows old event reply new fit numbers forced pages ckpts copied noted grows =
+fit_grows old event reply new fit from step numbers forced pages ckpts copied noted grows =
     let r = grows.r in
     let may = follows old event r fit grows.accepted grows.made in
     let whole = room_grows old event r fit grows.accepted grows.made in
     let few : length old.log < MAX_RECORDS = omega (arith, length_push old.log r) in
+    let at = stands old event r fit numbers grows.accepted grows.made in
     record {
-      valid = rw (grows.pages, grows.log)
-          (valid_next (log_of old) r fit.valid few (stands old event r fit numbers grows.accepted grows.made));
+      valid = rw (grows.pages, grows.log) (valid_next (log_of old) r fit.valid few at);
       linked = rw grows.log (linked_push old.log r fit.linked may);
       room = rw grows.log (room_push old.log r fit.room whole);
       forced = forced;
       counted = pages.counted;
-      resident = rw (grows.log, grows.resident) (images_later old.log r old.resident fit.resident);
+      resident = rw (grows.log, grows.resident)
+          (images_later old.log r (start old event reply).resident (start_images old event reply from));
+      held = λ q lt dirty.
+          let within : q < old.pages = omega (arith, lt, grows.pages) in
+          rw grows.resident (resident_later (start old event reply).resident r q
+          ∙ start_dirty old event reply from r q fit within at grows.needs
+          (ap (λ (rs : List Record). is_clean rs old.written q) (sym grows.log)
+          ∙ dirty_before old new q fit step within dirty));
       stored = pages.stored;
       stable = pages.stable;
       gathered = ckpts.gathered;
@@ -156,9 +201,11 @@ fit_of_step old event reply new fit numbers step =
     let ckpts = ckpts_fit old event reply new fit numbers forces stored kind step in
     let copied = copies_fit old event reply new fit numbers forces stored kind step in
     let noted = noted_fit old event reply new fit step in
+    let from = start_fit old event reply new fit step in
     elim kind [
-      | inl stays ↦ fit_stays old event reply new fit forces.at_record pages ckpts copied noted stays
-      | inr grows ↦ fit_grows old event reply new fit numbers forces.at_record pages ckpts copied noted grows
+      | inl stays ↦ fit_stays old event reply new fit from stored forces.at_record pages ckpts copied noted stays
+      | inr grows ↦
+          fit_grows old event reply new fit from stored numbers forces.at_record pages ckpts copied noted grows
     ]
 
 pub fit_of_run : (old : EngineState) (events : List Event) (replies : List (Result Answer Refusal)) (new : EngineState)
@@ -202,17 +249,13 @@ lsn_of_formatted : (p : ℕ) → (formatted p).lsn ≡ 0
 unfolding formatted
 lsn_of_formatted p = refl
 
-number_of_formatted : (p : ℕ) → (formatted p).number ≡ p
-unfolding formatted
-number_of_formatted p = refl
-
 get_or-replicate : {X : Type 0} (n : ℕ) (x : X) (i : ℕ) → get_or (replicate n x) i x ≡ x
 get_or-replicate zero x i = refl
 get_or-replicate (suc n) x zero = refl
 get_or-replicate (suc n) x (suc i) = get_or-replicate n x i
 
-pub new_is_fit : (pages : ℕ) → IsPageCount pages → IsFit (new_state pages)
-new_is_fit pages count = record {
+pub new_is_fit : (pages frames : ℕ) → IsPageCount pages → IsFit (new_state pages frames)
+new_is_fit pages frames count = record {
   valid = record { pages = count; count = omega arith; records = λ i d lt. absurd (omega arith) };
   linked = linked_none;
   room = room_of_none;
@@ -222,9 +265,8 @@ new_is_fit pages count = record {
     written = length-replicate pages 0;
     writing = length-replicate pages None;
   };
-  resident = λ p d lt.
-      let page = formatted_at pages p d (omega (arith, length-map-range_with_len formatted 0 pages)) in
-      rw page (ap formatted (sym (number_of_formatted p)));
+  resident = All-nil (λ page. page ≡ image [] page.number);
+  held = λ q lt dirty. absurd (true≢false dirty);
   stored = record {
     pages = λ p d lt.
         let page = formatted_at pages p d (omega (arith, length-map-range_with_len formatted 0 pages)) in
@@ -243,10 +285,10 @@ new_is_fit pages count = record {
   };
   gathered = tt;
   master = tt;
-  copied = no_copies (new_state pages);
+  copied = no_copies (new_state pages frames);
   noted = λ id copy is. absurd (none_some copy (ap copy_in (sym (no_copy id)) ∙ is));
 }
   where
     room_of_none : (n : ℕ) → n ≤ 0
-        → length (take n (new_state pages).log) + owed (take n (new_state pages).log) ≤ MAX_RECORDS
-    room_of_none n le = rw (take_all n (new_state pages).log (omega arith)) (omega arith)
+        → length (take n (new_state pages frames).log) + owed (take n (new_state pages frames).log) ≤ MAX_RECORDS
+    room_of_none n le = rw (take_all n (new_state pages frames).log (omega arith)) (omega arith)

@@ -132,6 +132,7 @@ follows s (event.CopyInc parent) r fit none made = absurd (cc)
 follows s (event.Take copy page) r fit none made = absurd (cc)
 follows s (event.Seal copy) r fit none made = absurd (cc)
 follows s (event.DropCopy copy) r fit none made = absurd (cc)
+follows s (event.Repair copy page) r fit none made = absurd (cc)
 follows s (event.Commit txn) r fit none made =
     subst (MayFollow s.log) (same_Some _ _ made) (commit_follows s txn (active_passes s txn none))
 follows s (event.Abort txn) r fit none made =

@@ -17,7 +17,7 @@ use Rattle.aries_core.specs.declared.refusal.Refusal.{Refusal}
 use Rattle.aries_core.specs.declared.refusal.Refusal.TheVariants.{OutOfMemory, StoreFault, LogFault, CommitUnsure}
 use Rattle.aries_core.specs.EngineState.{EngineState, appended, closed, commit_record, comp_record, effect, end}
 use Rattle.aries_core.specs.EngineState.{end_ckpt_record, end_record, forced_through, forced_to, image_of, log_of}
-use Rattle.aries_core.specs.EngineState.{page_now}
+use Rattle.aries_core.specs.EngineState.{page_now, with_page}
 use Rattle.aries_core.specs.Step.{Fails, ForcedPart, Step}
 use Rattle.aries_core.proofs.Gathers.{ckpt_end_has, closed_part, gather_has}
 use Rattle.aries_core.proofs.Steps.{stored_or_not}
@@ -36,6 +36,11 @@ same_forces old ends = record { at_record = ends; no_less = omega arith }
 
 appended_forces : (old : EngineState) (r : Record) → EndsAtRecord old → Forces old (appended old r)
 appended_forces old r (k, le, e) =
+    record { at_record = (k, omega (arith, length_push old.log r), e); no_less = omega arith }
+
+fetched_forces : (old : EngineState) (page : ℕ) (r : Record) → EndsAtRecord old
+    → Forces old (appended (with_page old page) r)
+fetched_forces old page r (k, le, e) =
     record { at_record = (k, omega (arith, length_push old.log r), e); no_less = omega arith }
 
 all_forces : (old : EngineState) → EndsAtRecord old → Forces old (forced_to old (end old))
@@ -80,7 +85,7 @@ commit_forces old txn ends =
 undo_forces : (old : EngineState) (txn : ℕ) (o : Option PendingChange) → last_of (pending old.log txn) ≡ o
     → EndsAtRecord old → Forces old (effect old (event.UndoStep txn)).state
 undo_forces old txn None o ends = rw o (appended_forces old (end_record old txn) ends)
-undo_forces old txn (Some p) o ends = rw o (appended_forces old (comp_record old txn p) ends)
+undo_forces old txn (Some p) o ends = rw o (fetched_forces old p.page (comp_record old txn p) ends)
 
 write_end_forces : (old : EngineState) (page : ℕ) (o : Option Page) → image_of old page ≡ o → EndsAtRecord old
     → Forces old (effect old (event.WriteEnd page)).state
@@ -108,14 +113,17 @@ ckpt_end_forces old ends =
 
 effect_forces : (old : EngineState) (event : Event) → EndsAtRecord old → Forces old (effect old event).state
 effect_forces old event.Begin ends = appended_forces old _ ends
-effect_forces old (event.Set txn page slot number) ends = appended_forces old _ ends
-effect_forces old (event.Add txn page slot amount) ends = appended_forces old _ ends
-effect_forces old (event.Read page slot) ends = same_forces old ends
+effect_forces old (event.Set txn page slot number) ends = fetched_forces old page _ ends
+effect_forces old (event.Add txn page slot amount) ends = fetched_forces old page _ ends
+effect_forces old (event.Read page slot) ends = record { at_record = ends; no_less = omega arith }
 effect_forces old event.CopyFull ends = record { at_record = ends; no_less = omega arith }
 effect_forces old (event.CopyInc parent) ends = record { at_record = ends; no_less = omega arith }
 effect_forces old (event.Take copy page) ends = record { at_record = ends; no_less = omega arith }
 effect_forces old (event.Seal copy) ends = record { at_record = ends; no_less = omega arith }
 effect_forces old (event.DropCopy copy) ends = record { at_record = ends; no_less = omega arith }
+effect_forces old (event.Repair copy page) ends =
+    let through = through_forces old (page_now old page).lsn ends in
+    record { at_record = through.at_record; no_less = through.no_less }
 effect_forces old (event.Commit txn) ends = commit_forces old txn ends
 effect_forces old (event.Abort txn) ends = appended_forces old _ ends
 effect_forces old (event.UndoStep txn) ends = undo_forces old txn (last_of (pending old.log txn)) refl ends
@@ -148,6 +156,16 @@ failed_forces old event.CkptEnd LogFault new ends fails =
     (part_forces (closed old part.0) new _ (omega arith) part.2)
 failed_forces old (event.Take copy page) StoreFault new ends fails = subst (Forces old) (sym fails)
     (same_forces old ends)
+failed_forces old (event.Repair copy page) LogFault new ends fails =
+    part_forces old new _ (up_to_is_record old (page_now old page).lsn) fails
+failed_forces old (event.Repair copy page) StoreFault new ends fails =
+    let through = through_forces old (page_now old page).lsn ends in
+    elim fails [
+      | inl kept ↦ subst (Forces old) (sym kept) through
+      | inr stored ↦ subst (Forces old) (sym stored)
+          (record { at_record = through.at_record; no_less = through.no_less })
+    ]
+failed_forces old event StoreFault new ends fails = subst (Forces old) (sym fails.1) (same_forces old ends)
 failed_forces old event why new ends fails = absurd fails
 
 pub forces : (old : EngineState) (event : Event) (reply : Result Answer Refusal) (new : EngineState) → EndsAtRecord old

@@ -22,7 +22,11 @@ use Rattle.aries_core.specs.declared.refusal.Refusal.{Refusal}
 use Rattle.aries_core.specs.declared.refusal.Refusal.TheVariants.{LogFull, NoTxn, PageOut, SlotBusy, TooManyTxns}
 use Rattle.aries_core.specs.declared.refusal.Refusal.TheVariants.{TxnRolling}
 use Rattle.aries_core.specs.EngineState.{EngineState, IsFit, commit_record, effect, end, new_state, update_record}
-use Rattle.aries_core.specs.Refusal.{active_refusal, has_no_room, or_else, page_refusal, refused_if, refusal}
+use Rattle.aries_core.specs.EngineState.{with_page}
+use Rattle.buffer_pool.specs.Frames.{is_resident}
+use Rattle.buffer_pool.proofs.Pools.{resident_later}
+use Rattle.aries_core.proofs.PageComes.{page_comes}
+use Rattle.aries_core.specs.Refusal.{active_refusal, frame_refusal, has_no_room, or_else, page_refusal, refused_if, refusal}
 use Rattle.aries_core.proofs.Fit.{fit_of_step, new_is_fit}
 use Rattle.aries_core.proofs.Follows.{add_follows}
 use Rattle.aries_core.proofs.Refusals.{change_passes}
@@ -33,7 +37,7 @@ an_add = event.Add 1 0 0 1
 
 -- what stands after a Begin and so many Adds, on a volume of one page
 unfoldable pub filled : ℕ → EngineState
-filled zero = (effect (new_state 1) event.Begin).state
+filled zero = (effect (new_state 1 1) event.Begin).state
 filled (suc n) = (effect (filled n) an_add).state
 
 record Filled (n : ℕ) (s : EngineState) : Type 0 where
@@ -44,6 +48,7 @@ record Filled (n : ℕ) (s : EngineState) : Type 0 where
   active : is_rolling s.log 1 ≡ false
   count : length s.log ≡ n + 1
   owes : owed s.log ≡ n + 2
+  frame : frame_refusal s 0 ≡ None
 
 -- ---- what passes
 
@@ -53,9 +58,17 @@ passes test why not_so = ap (λ b. refused_if b why) not_so
 then : (a b c : Option Refusal) → a ≡ None → b ≡ c → or_else a b ≡ c
 then a b c none same = ap (λ o. or_else o b) none ∙ same
 
+or_else_none : (a : Option Refusal) → or_else a None ≡ a
+or_else_none None = refl
+or_else_none (Some why) = refl
+
 active_now : (n : ℕ) (s : EngineState) → Filled n s → active_refusal s 1 ≡ None
 active_now n s is =
     then _ _ None (passes _ NoTxn (ap not is.still_open)) (passes _ TxnRolling is.active)
+
+-- a page that is in memory needs no frame
+frame_there : (s : EngineState) (p : ℕ) → is_resident s.resident p ≡ true → frame_refusal s p ≡ None
+frame_there s p there = rw there refl
 
 -- an Add is refused only for want of room
 add_now : (n : ℕ) (s : EngineState) → Filled n s → refusal s an_add ≡ refused_if (has_no_room s 2) LogFull
@@ -66,7 +79,8 @@ add_now n s is =
     let place : page_refusal s 0 0 ≡ None = then _ _ None (passes _ PageOut within) refl in
     let other = λ (o : ℕ). not (eqb o 1) && list_any (keeps_out 0 0 kind.Add) (pending s.log o) in
     let free : holder s.log 0 0 kind.Add 1 ≡ None = ap (λ (ts : List ℕ). least (filter other ts)) is.alone in
-    then _ _ room (active_now n s is) (then _ _ room place (then _ _ room (ap (option_map SlotBusy) free) refl))
+    then _ _ room (active_now n s is) (then _ _ room place (then _ _ room (ap (option_map SlotBusy) free)
+    (ap (or_else room) is.frame ∙ or_else_none room)))
 
 -- and so is a Begin, as long as few are open
 begin_now : (s : EngineState) → length (open_in s.log) < MAX_OPEN
@@ -79,7 +93,7 @@ begun_is_fit : IsFit (filled 0)
 unfolding filled
 begun_is_fit =
     let one : IsPageCount 1 = record { least = omega arith; most = omega arith } in
-    fit_of_step (new_state 1) event.Begin (Ok _) (filled 0) (new_is_fit 1 one) tt (refl, refl, refl)
+    fit_of_step (new_state 1 1) event.Begin (Ok _) (filled 0) (new_is_fit 1 1 one) tt (refl, refl, refl)
 
 filled_none : Filled 0 (filled 0)
 unfolding filled
@@ -91,6 +105,7 @@ filled_none = record {
   active = refl;
   count = refl;
   owes = refl;
+  frame = refl;
 }
 
 adds_room : (n : ℕ) (s : EngineState) → Filled n s → n < 524286 → refusal s an_add ≡ None
@@ -115,6 +130,9 @@ filled_more n s is few =
       active = is_rolling_push s.log r 1 refl ∙ ap (λ b. b || false) is.active;
       count = omega (arith, length_push s.log r);
       owes = omega (arith, length_push s.log r, more);
+      frame = frame_there (effect s an_add).state 0
+          (resident_later (with_page s 0).resident r 0
+          ∙ page_comes s 0 is.fit (let one = is.one_page in omega arith));
     }
 
 filled_is : (n : ℕ) → n ≤ 524286 → Filled n (filled n)

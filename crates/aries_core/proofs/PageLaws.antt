@@ -42,6 +42,7 @@ clean_is_stored s p d fit within e =
 
 not_answered : (written : List ℕ) (event : Event) (why : Refusal) → with_write written event (Err why) ≡ written
 not_answered written (event.WriteEnd page) why = refl
+not_answered written (event.Repair copy page) why = refl
 not_answered written event why = refl
 
 same_written : (old new state : EngineState) → new ≡ state → state.written ≡ old.written → new.written ≡ old.written
@@ -75,6 +76,9 @@ answered old (event.CopyInc parent) answer new none given is = same_written old 
 answered old (event.Take copy page) answer new none given is = same_written old new _ is refl
 answered old (event.Seal copy) answer new none given is = same_written old new _ is refl
 answered old (event.DropCopy copy) answer new none given is = same_written old new _ is refl
+answered old (event.Repair copy page) answer new none given is =
+    ap (λ (s : EngineState). s.written) is
+    ∙ ap (λ (a : Answer). with_write old.written (event.Repair copy page) (Ok a)) (sym given)
 answered old (event.Commit txn) answer new none given is = same_written old new _ is refl
 answered old (event.Abort txn) answer new none given is = same_written old new _ is refl
 answered old (event.UndoStep txn) answer new none given is = undo_written old txn new _ refl is
@@ -99,6 +103,12 @@ failed old (event.WriteEnd page) StoreFault new fails = elim (stored_or_not old 
 ]
 failed old event.CkptEnd LogFault new fails = same_written old new _ (closed_part old new fails).2.reached.2 refl
 failed old (event.Take copy page) StoreFault new fails = same_written old new _ fails refl
+failed old (event.Repair copy page) LogFault new fails = same_written old new _ fails.reached.2 refl
+failed old (event.Repair copy page) StoreFault new fails = elim fails [
+  | inl kept ↦ same_written old new _ kept refl
+  | inr stored ↦ same_written old new _ stored refl
+]
+failed old event StoreFault new fails = same_written old new _ fails.1 refl
 failed old event why new fails = absurd fails
 
 written_of_step : (old : EngineState) (event : Event) (reply : Result Answer Refusal) (new : EngineState)

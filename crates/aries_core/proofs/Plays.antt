@@ -1,5 +1,5 @@
 -- A run that goes on by one step, and what its replies tell of the device.
-use Rattle.std.proofs.Common.{◌≡◌, ◌⊎◌, ℕ, ◌+◌, ◌<◌, ◌≤◌, ◌++◌, List, [], ◌∷◌, length, refl, ap, subst, ◌∙◌, arith}
+use Rattle.std.proofs.Common.{◌≡◌, ◌⊎◌, ℕ, ◌+◌, ◌-◌, ◌/◌, ◌<◌, ◌≤◌, ◌++◌, List, [], ◌∷◌, length, take, drop, refl, sym, ap, subst, ◌∙◌, arith}
 use Rattle.std.proofs.Common.{inl, inr}
 use Rattle.std.specs.Prelude.{Result, Ok, Err, All, Any, IfErr, OnOk}
 use Rattle.std.proofs.lemmas.List.{length_push}
@@ -10,13 +10,16 @@ use Rattle.aries_core.specs.declared.event.Event.{Event}
 use Rattle.aries_core.specs.declared.refusal.Refusal.{Refusal}
 use Rattle.aries_core.specs.declared.refusal.Refusal.TheVariants.{CommitUnsure, LogFault, StoreFault}
 use Rattle.log_records.specs.Log.{lsn_of}
-use Rattle.log_store.specs.Stores.{StoreCall}
+use Rattle.log_records.specs.declared.record.Record.{Record}
+use Rattle.log_store.specs.Stores.{StoreCall, StoresEach, records_between}
 use Rattle.aries_core.specs.EngineState.{EngineState, EngineView, end, new_state}
 use Rattle.aries_core.specs.Run.{Run}
-use Rattle.aries_core.specs.Step.{FailsForcing, Forces, IsByDevice, IsByStore, IsFaultReply, LeavesStore, Step}
+use Rattle.aries_core.specs.declared.event.Event.TheVariants as event
+use Rattle.aries_core.specs.Step.{FailsForcing, Forces, IsAtRepair, IsByDevice, IsByStore, IsFaultReply, LeavesStore}
+use Rattle.aries_core.specs.Step.{Step}
 use Rattle.aries_core.specs.Step.{TellsOfFault}
 use Rattle.aries_core.specs.Storage.{CallOn, CallsDevice, IsStoredOn, MayCallStore, PlaysOn, RunOn, Storage}
-use Rattle.aries_core.proofs.Steps.{stays_or_grows}
+use Rattle.aries_core.proofs.Steps.{stays_or_grows, stored_or_not}
 
 -- ---- one step more
 
@@ -52,15 +55,20 @@ Tells Of start replies now = NoFault Of replies start now ⊎ SomeFault Of repli
 pub tells_none : (Of : Refusal → Type 0) (start now : ℕ) → now ≡ start → Tells Of start [] now
 tells_none Of start now same = inl (record { sound = All-nil (IsSound Of); same = same })
 
+-- what is left as it was has not failed
+pub left_sound : (Of : Refusal → Type 0) {D : Type 0} (failures : D → ℕ) (old new : D) (reply : Result Answer Refusal)
+    → IfErr reply (λ why. ¬ Of why → new ≡ old) → IfErr reply (λ why. ¬ Of why → failures new ≡ failures old)
+left_sound Of failures old new (Ok answer) same = tt
+left_sound Of failures old new (Err why) same = λ h. ap failures (same h)
+
 -- what a step says of the failures
 counts : (Of : Refusal → Type 0) {D : Type 0} (failures : D → ℕ) (old new : D) (reply : Result Answer Refusal)
-    → IfErr reply (λ why. ¬ Of why → new ≡ old) → OnOk reply (failures new ≡ failures old)
+    → IfErr reply (λ why. ¬ Of why → failures new ≡ failures old) → OnOk reply (failures new ≡ failures old)
     → IfErr reply (λ why. Of why → failures old < failures new)
     → TellsOfFault Of (failures old) reply (failures new)
-counts Of failures old new (Ok answer) refused no_failure cause =
+counts Of failures old new (Ok answer) sound no_failure cause =
     record { sound = λ h. no_failure; fault = λ h. absurd h }
-counts Of failures old new (Err why) refused no_failure cause =
-    record { sound = λ h. ap failures (refused h); fault = cause }
+counts Of failures old new (Err why) sound no_failure cause = record { sound = sound; fault = cause }
 
 pub by_device : (why : Refusal) → IsByDevice why ⊎ (¬ IsByDevice why)
 by_device LogFault = inl tt
@@ -104,12 +112,12 @@ tells_next Of start old new replies reply (inl bad) (inr so_far) one = inr (reco
 pub tells_push : (Of : Refusal → Type 0) → ((why : Refusal) → Of why ⊎ (¬ Of why)) → {D : Type 0} (failures : D → ℕ)
     (start : ℕ) (old new : D) (replies : List (Result Answer Refusal))
     (reply : Result Answer Refusal) → Tells Of start replies (failures old)
-    → IfErr reply (λ why. ¬ Of why → new ≡ old) → OnOk reply (failures new ≡ failures old)
+    → IfErr reply (λ why. ¬ Of why → failures new ≡ failures old) → OnOk reply (failures new ≡ failures old)
     → IfErr reply (λ why. Of why → failures old < failures new)
     → Tells Of start (replies ++ reply ∷ []) (failures new)
-tells_push Of decides failures start old new replies reply tells refused no_failure cause =
+tells_push Of decides failures start old new replies reply tells sound no_failure cause =
     tells_next Of start (failures old) (failures new) replies reply (fault_or_sound Of decides reply) tells
-    (counts Of failures old new reply refused no_failure cause)
+    (counts Of failures old new reply sound no_failure cause)
 
 not_both : (Of : Refusal → Type 0) (replies : List (Result Answer Refusal)) → All (IsSound Of) replies
     → Any (IsFaultReply Of) replies → ⊥
@@ -127,17 +135,58 @@ more_if_fault Of start now replies (inr some) fault = some.more
 
 -- ---- each call for itself
 
-calls_device : {S D : Type 0} (called : StoreCall D) (old new : EngineView S D) (reply : Result Answer Refusal)
-    → IfErr reply (λ why. ¬ IsByDevice why → new.device ≡ old.device) → OnOk reply (Forces called old new)
+-- at a fault of the store the forced end stays, but for a repair
+same_end : (old : EngineState) (event : Event) (new : EngineState) → ¬ IsAtRepair event StoreFault
+    → Step old event (Err StoreFault) new → new.forced_end ≡ old.forced_end
+same_end old event new other (inl both) = ap (λ (s : EngineState). s.forced_end) both.1
+same_end old (event.Repair copy page) new other (inr both) = absurd (other tt)
+same_end old (event.WriteEnd page) new other (inr both) = elim (stored_or_not old page new both.1) [
+  | inl same ↦ ap (λ (s : EngineState). s.forced_end) same
+  | inr stored ↦ ap (λ (s : EngineState). s.forced_end) stored.2
+]
+same_end old (event.Take copy page) new other (inr both) = ap (λ (s : EngineState). s.forced_end) both.1
+same_end old event new other (inr both) = ap (λ (s : EngineState). s.forced_end) both.1.1
+
+-- where nothing more is forced and the device is as it was, each record that is forced was stored
+none_between : (rs : List Record) (lsn : ℕ) → records_between rs lsn lsn ≡ []
+none_between rs lsn =
+    let none : lsn / 64 - 1 - (lsn / 64 - 1) ≡ 0 = omega arith in
+    ap (λ (n : ℕ). take n (drop (lsn / 64 - 1) rs)) none
+
+forces_none : {S D : Type 0} (called : StoreCall D) (old new : EngineView S D)
+    → new.state.forced_end ≡ old.state.forced_end → new.device ≡ old.device → Forces called old new
+forces_none called old new same device =
+    let none : records_between new.state.log old.state.forced_end new.state.forced_end ≡ [] =
+    ap (records_between new.state.log old.state.forced_end) same
+    ∙ none_between new.state.log old.state.forced_end in
+    subst (λ (rs : List Record). StoresEach called old.device rs new.device) (sym none) device
+
+at_repair : (event : Event) → IsAtRepair event StoreFault ⊎ (¬ IsAtRepair event StoreFault)
+at_repair (event.Repair copy page) = inl tt
+at_repair event = inr (λ h. h)
+
+calls_device : {S D : Type 0} (called : StoreCall D) (asked : Event) (old new : EngineView S D)
+    (reply : Result Answer Refusal) → Step old.state asked reply new.state
+    → IfErr reply (λ why. ¬ IsByDevice why → ¬ IsAtRepair asked why → new.device ≡ old.device)
+    → OnOk reply (Forces called old new) → IfErr reply (λ why. IsAtRepair asked why → Forces called old new)
     → IfErr reply (λ why. IsByDevice why → FailsForcing called old new)
     → CallsDevice called old reply new
-calls_device called old new (Ok answer) refused ok failed = ok
-calls_device called old new (Err LogFault) refused ok failed = failed tt
-calls_device called old new (Err (CommitUnsure lsn)) refused ok failed = failed tt
-calls_device called old new (Err other) refused ok failed = refused (λ h. h)
+calls_device called asked old new (Ok answer) step refused ok first failed = ok
+calls_device called asked old new (Err LogFault) step refused ok first failed = failed tt
+calls_device called asked old new (Err (CommitUnsure lsn)) step refused ok first failed = failed tt
+calls_device called asked old new (Err StoreFault) step refused ok first failed = elim (at_repair asked) [
+  | inl repair ↦ first repair
+  | inr other ↦
+      forces_none called old new (same_end old.state asked new.state other step) (refused (λ h. h) other)
+]
+calls_device called asked old new (Err other) step refused ok first failed = refused (λ h. h) (by_event asked)
+  where
+    by_event : (call : Event) → ¬ IsAtRepair call other
+    by_event (event.Repair copy page) = λ h. h
+    by_event call = λ h. h
 
 may_call_store : {S D : Type 0} (event : Event) (old new : EngineView S D) (reply : Result Answer Refusal)
-    → (LeavesStore event → new.store ≡ old.store)
+    → (LeavesStore old.state event → new.store ≡ old.store)
     → IfErr reply (λ why. ¬ IsByStore why → new.store ≡ old.store) → MayCallStore event old reply new
 may_call_store event old new (Ok answer) leaves refused = leaves
 may_call_store event old new (Err StoreFault) leaves refused = tt
@@ -146,23 +195,27 @@ may_call_store event old new (Err other) leaves refused = refused (λ h. h)
 -- what the contract of a call says of it
 pub call_on : {S D : Type 0} (on : Storage S D) (old : EngineView S D) (event : Event)
     (reply : Result Answer Refusal) (new : EngineView S D) → Step old.state event reply new.state
-    → IfErr reply (λ why. ¬ IsByDevice why → new.device ≡ old.device) → OnOk reply (Forces on.called old new)
+    → IfErr reply (λ why. ¬ IsByDevice why → ¬ IsAtRepair event why → new.device ≡ old.device)
+    → OnOk reply (Forces on.called old new) → IfErr reply (λ why. IsAtRepair event why → Forces on.called old new)
     → IfErr reply (λ why. IsByDevice why → FailsForcing on.called old new)
+    → IfErr reply (λ why. ¬ IsByDevice why → on.device_failures new.device ≡ on.device_failures old.device)
     → OnOk reply (on.device_failures new.device ≡ on.device_failures old.device)
     → IfErr reply (λ why. IsByDevice why → on.device_failures old.device < on.device_failures new.device)
-    → (LeavesStore event → new.store ≡ old.store)
+    → (LeavesStore old.state event → new.store ≡ old.store)
     → IfErr reply (λ why. ¬ IsByStore why → new.store ≡ old.store)
     → OnOk reply (on.store_failures new.store ≡ on.store_failures old.store)
     → IfErr reply (λ why. IsByStore why → on.store_failures old.store < on.store_failures new.store)
     → IsStoredOn on new → CallOn on old event reply new
-call_on on old event reply new step same called last none cause leaves store_same store_none store_cause stored = record {
-  step = step;
-  stored = stored;
-  device = calls_device on.called old new reply same called last;
-  store = may_call_store event old new reply leaves store_same;
-  device_told = counts IsByDevice on.device_failures old.device new.device reply same none cause;
-  store_told = counts IsByStore on.store_failures old.store new.store reply store_same store_none store_cause;
-}
+call_on on old event reply new step same called first last sound none cause leaves store_same store_none store_cause
+    stored = record {
+      step = step;
+      stored = stored;
+      device = calls_device on.called event old new reply step same called first last;
+      store = may_call_store event old new reply leaves store_same;
+      device_told = counts IsByDevice on.device_failures old.device new.device reply sound none cause;
+      store_told = counts IsByStore on.store_failures old.store new.store reply
+          (left_sound IsByStore on.store_failures old.store new.store reply store_same) store_none store_cause;
+    }
 
 run_on_push : {S D : Type 0} (on : Storage S D) (old : EngineView S D) (events : List Event)
     (replies : List (Result Answer Refusal)) (mid : EngineView S D) (event : Event) (reply : Result Answer Refusal)
@@ -203,18 +256,18 @@ run_adds old [] (reply ∷ replies) new run = absurd run
 run_adds old (event ∷ events) [] new run = absurd run
 
 -- a log of fewer records ends before the bound from which on the device fails, now as at the start
-pub within_push : (pages n start now : ℕ) (events : List Event) (replies : List (Result Answer Refusal))
+pub within_push : (pages frames n start now : ℕ) (events : List Event) (replies : List (Result Answer Refusal))
     (old : EngineState) (event : Event) (reply : Result Answer Refusal) (new : EngineState)
-    → Run (new_state pages) events replies old → Step old event reply new → length events < n → now ≡ start
+    → Run (new_state pages frames) events replies old → Step old event reply new → length events < n → now ≡ start
     → IfErr reply (λ why. IsByDevice why → now ≤ end new) → (lsn_of n < start → All (IsSound IsByDevice) replies)
     → lsn_of n < start → All (IsSound IsByDevice) (replies ++ reply ∷ [])
-within_push pages n start now events replies old event reply new run step within same past so_far fits =
+within_push pages frames n start now events replies old event reply new run step within same past so_far fits =
     All-push (IsSound IsByDevice) replies reply (so_far fits) (sound_here reply past)
   where
     few : length new.log ≤ n
     few = omega (
       arith,
-      run_adds (new_state pages) events replies old run,
+      run_adds (new_state pages frames) events replies old run,
       step_adds old event reply new step,
       within,
     )

@@ -1,11 +1,12 @@
 -- What the pool says of the engine's state.
 use Rattle.std.proofs.Common.{◌≡◌, ℕ, ◌<◌, ◌≤◌, Bool, true, false, List, [], ◌∷◌, zero, suc, length, replicate, set}
-use Rattle.std.proofs.Common.{map, refl, sym, ap, ◌∙◌, max}
+use Rattle.std.proofs.Common.{cond, get_or, map, refl, sym, ap, ◌∙◌, max}
 use Rattle.std.specs.Prelude.{Option, Some, None, is_none, is_some}
 use Rattle.std.proofs.lemmas.Bool.{le-leb, lt-leb}
 use Rattle.std.proofs.lemmas.List.{get_or-map, map-set, set-get_or}
 use Rattle.page_core.specs.declared.page.Page.{Page}
-use Rattle.buffer_pool.specs.Pool.{IsPoolOf, PoolView, new_pool, state_at, unwritten, with_state, write_begun}
+use Rattle.page_core.specs.Page.{formatted}
+use Rattle.buffer_pool.specs.Pool.{IsPoolOf, PoolView, is_clean, state_at, unwritten, new_pool, with_state, write_begun}
 use Rattle.buffer_pool.specs.Pool.{write_ended}
 use Rattle.buffer_pool.specs.Pool.{writing_of, written_of}
 use Rattle.log_records.specs.Coverage.{rec_lsn}
@@ -15,7 +16,8 @@ use Rattle.aries_core.specs.declared.event.Event.TheVariants as event
 use Rattle.aries_core.specs.declared.refusal.Refusal.TheVariants.{NoWrite, NotDirty, PageOut, WriteBegun}
 use Rattle.aries_core.specs.EngineState.{MediaView, EngineState, begun_write, ended_write, engine_view, forced_through}
 use Rattle.aries_core.specs.EngineState.{image_of}
-use Rattle.aries_core.specs.EngineState.{new_state, rec_lsn_of, with_stored}
+use Rattle.aries_core.specs.EngineState.{new_state, rec_lsn_of, stored_page, with_page, with_stored}
+use Rattle.buffer_pool.specs.Frames.{fetched, is_resident}
 use Rattle.page_core.specs.Volume.{formatted_pages}
 use Rattle.aries_core.specs.Refusal.{refusal}
 
@@ -84,27 +86,28 @@ begun_is stored old new pool ckpts p q within same forced =
 
 pub ended_is : {S D : Type 0} (stored : S → List Page) (it : WrittenLog D) (pool after : PoolView S)
     (ckpts : MediaView) (p : ℕ) (q : Page) → stored after.store ≡ set (stored pool.store) p q
-    → after.resident ≡ pool.resident → after.states ≡ set pool.states p (write_ended (state_at pool p) q.lsn)
+    → after.frames ≡ pool.frames → after.resident ≡ pool.resident
+    → after.states ≡ set pool.states p (write_ended (state_at pool p) q.lsn)
     → (engine_view stored it after ckpts).state ≡ ended_write (engine_view stored it pool ckpts).state p q
-ended_is stored it pool after ckpts p q store resident states =
+ended_is stored it pool after ckpts p q store frames resident states =
     let ended = write_ended (state_at pool p) q.lsn in
     let written : written_of after.states ≡ set (written_of pool.states) p q.lsn =
     ap written_of states ∙ map-set (λ s. s.written) pool.states p ended in
     let writing : writing_of after.states ≡ set (writing_of pool.states) p None =
     ap writing_of states ∙ map-set (λ s. s.writing) pool.states p ended in
-    rw (store, resident, written, writing) refl
+    rw (store, frames, resident, written, writing) refl
 
 pub repeated_is : {S D : Type 0} (stored : S → List Page) (it : WrittenLog D) (pool after : PoolView S)
     (ckpts : MediaView) (p : ℕ) (q : Page) → stored after.store ≡ set (stored pool.store) p q
-    → after.resident ≡ pool.resident → after.states ≡ pool.states
+    → after.frames ≡ pool.frames → after.resident ≡ pool.resident → after.states ≡ pool.states
     → (engine_view stored it after ckpts).state ≡ with_stored (engine_view stored it pool ckpts).state p q
-repeated_is stored it pool after ckpts p q store resident states = rw (store, resident, states) refl
+repeated_is stored it pool after ckpts p q store frames resident states = rw (store, frames, resident, states) refl
 
 pub kept_is : {S D : Type 0} (stored : S → List Page) (it : WrittenLog D) (pool after : PoolView S)
-    (ckpts : MediaView) → stored after.store ≡ stored pool.store → after.resident ≡ pool.resident
-    → after.states ≡ pool.states
+    (ckpts : MediaView) → stored after.store ≡ stored pool.store → after.frames ≡ pool.frames
+    → after.resident ≡ pool.resident → after.states ≡ pool.states
     → (engine_view stored it after ckpts).state ≡ (engine_view stored it pool ckpts).state
-kept_is stored it pool after ckpts store resident states = rw (store, resident, states) refl
+kept_is stored it pool after ckpts store frames resident states = rw (store, frames, resident, states) refl
 
 -- ---- a new engine
 
@@ -112,16 +115,43 @@ map-replicate : {X Y : Type 0} (f : X → Y) (n : ℕ) (x : X) → map f (replic
 map-replicate f zero x = refl
 map-replicate f (suc n) x = ap (λ ys. f x ∷ ys) (map-replicate f n x)
 
-pub new_is : {S D : Type 0} (stored : S → List Page) (it : WrittenLog D) (pool : PoolView S) (store : S) (n : ℕ)
+pub new_is : {S D : Type 0} (stored : S → List Page) (it : WrittenLog D) (pool : PoolView S) (store : S) (n frames : ℕ)
     (copies : List CopyState) → copies ≡ [] → it.log ≡ record { pages = n; records = [] } → it.forced_end ≡ 64
-    → pool ≡ new_pool store n
-    → stored store ≡ formatted_pages n
-    → (engine_view stored it pool (record { master = None; session = None; copies = copies })).state ≡ new_state n
-new_is {S = S} stored it pool store n copies none log forced is formatted =
+    → pool ≡ new_pool store n frames → stored store ≡ formatted_pages n
+    → (engine_view stored it pool (record { master = None; session = None; copies = copies })).state
+    ≡ new_state n frames
+new_is {S = S} stored it pool store n frames copies none log forced is formatted =
     let written : written_of pool.states ≡ replicate n 0 =
     ap (λ (v : PoolView S). written_of v.states) is ∙ map-replicate (λ s. s.written) n unwritten in
     let writing : writing_of pool.states ≡ replicate n None =
     ap (λ (v : PoolView S). writing_of v.states) is ∙ map-replicate (λ s. s.writing) n unwritten in
     let pages : stored pool.store ≡ formatted_pages n = ap (λ (v : PoolView S). stored v.store) is ∙ formatted in
-    let resident : pool.resident ≡ formatted_pages n = ap (λ (v : PoolView S). v.resident) is in
-    rw (log, forced, written, writing, resident, pages, none) refl
+    let resident : pool.resident ≡ [] = ap (λ (v : PoolView S). v.resident) is in
+    let limit : pool.frames ≡ frames = ap (λ (v : PoolView S). v.frames) is in
+    rw (log, forced, written, writing, resident, limit, pages, none) refl
+
+-- ---- a page comes in
+
+pub fetched_is : {S D : Type 0} (stored : S → List Page) (it : WrittenLog D) (pool after : PoolView S)
+    (ckpts : MediaView) (p : ℕ) → is_resident pool.resident p ≡ false
+    → stored after.store ≡ stored pool.store → after.frames ≡ pool.frames → after.states ≡ pool.states
+    → after.resident ≡ fetched pool.frames (is_clean it.log.records (written_of pool.states)) pool.resident
+    (get_or (stored pool.store) p (formatted p))
+    → (engine_view stored it after ckpts).state ≡ with_page (engine_view stored it pool ckpts).state p
+fetched_is stored it pool after ckpts p absent store frames states resident =
+    rw (store, frames, states, resident, absent) refl
+
+-- a page did not come in, where the store failed
+pub stayed_is : {S D : Type 0} (stored : S → List Page) (it mid : WrittenLog D) (pool after : PoolView S)
+    (ckpts : MediaView) → mid.log ≡ it.log → mid.forced_end ≡ it.forced_end
+    → stored after.store ≡ stored pool.store → after.frames ≡ pool.frames → after.resident ≡ pool.resident
+    → after.states ≡ pool.states
+    → (engine_view stored mid after ckpts).state ≡ (engine_view stored it pool ckpts).state
+stayed_is stored it mid pool after ckpts same end store frames resident states =
+    rw (same, end, store, frames, resident, states) refl
+
+-- a page that is in memory is not fetched
+pub resident_is : (s : EngineState) (p : ℕ) → is_resident s.resident p ≡ true → s ≡ with_page s p
+resident_is s p there =
+    ap (λ pages. let v : EngineState = record s { resident = pages } in v)
+    (sym (ap (λ b. cond b s.resident (fetched s.frames (is_clean s.log s.written) s.resident (stored_page s p))) there))

@@ -2,7 +2,7 @@
 use Rattle.std.proofs.Common.{◌≡◌, ℕ, ◌+◌, ◌<◌, ◌≤◌, ◌⊎◌, Bool, true, false, ◌&&◌, not, length, refl, sym, ap, ◌∙◌, inl}
 use Rattle.std.proofs.Common.{inr}
 use Rattle.std.specs.Prelude.{Option, Some, None, IsSome, is_none, is_some, nat_le, nat_lt, List, if◌then◌else◌}
-use Rattle.std.specs.Option.{option_map, option_or}
+use Rattle.std.specs.Option.{option_map, option_map_or, option_or}
 use Rattle.std.proofs.lemmas.Option.{cond_some, same_Some}
 use Rattle.std.proofs.lemmas.Bool.{not-false, leb-false, ltb-false, ltb-true}
 use Rattle.page_core.specs.declared.change.ChangeKind.{ChangeKind}
@@ -11,7 +11,8 @@ use Rattle.page_core.specs.declared.page.TheConstants.{SLOTS}
 use Rattle.log_records.specs.declared.limits.TheConstants.{MAX_OPEN, MAX_RECORDS}
 use Rattle.log_records.specs.declared.record.Record.{Record}
 use Rattle.log_history.specs.Checkpoint.{Checkpoint, open_checkpoint}
-use Rattle.log_history.specs.Transactions.{holder, is_open, is_rolling, open_in, owed}
+use Rattle.log_history.specs.Transactions.{holder, is_open, is_rolling, last_of, open_in, owed, pending}
+use Rattle.log_history.specs.declared.pending_change.PendingChange.{PendingChange}
 use Rattle.fuzzy_ckpt.specs.declared.point.Point.{Point}
 use Rattle.copy_vault.specs.declared.fault.CopyFault.{CopyFault}
 use Rattle.copy_vault.specs.declared.copy_id.TheConstants.{MAX_COPIES}
@@ -26,11 +27,11 @@ use Rattle.aries_core.specs.declared.refusal.Refusal.{Refusal}
 use Rattle.aries_core.specs.declared.refusal.Refusal.TheVariants.{CkptOpen, CommitUnsure, GatherLeft, LogFull, NoCkpt}
 use Rattle.aries_core.specs.declared.refusal.Refusal.TheVariants.{NoMaster, NoTxn, PageDecided, NoWrite, NotDirty}
 use Rattle.aries_core.specs.declared.refusal.Refusal.TheVariants.{NotRolling, PageOut, SlotBusy, SlotOut, TooManyTxns}
-use Rattle.aries_core.specs.declared.refusal.Refusal.TheVariants.{TxnRolling, WriteBegun}
+use Rattle.aries_core.specs.declared.refusal.Refusal.TheVariants.{PoolFull, TxnRolling, WriteBegun}
 use Rattle.aries_core.specs.EngineState.{EngineState, gathered_record, image_of, rec_lsn_of}
 use Rattle.aries_core.specs.Gather.{Left, is_done, none_left, pages_left, txns_left}
 use Rattle.aries_core.specs.Refusal.{active_refusal, change_refusal, ckpt_refusal, copy_refusal, of_vault, has_no_room}
-use Rattle.aries_core.specs.Refusal.{or_else, page_refusal, refused_if, refusal}
+use Rattle.aries_core.specs.Refusal.{frame_refusal, or_else, page_refusal, refused_if, refusal, rolling_refusal}
 
 -- ---- one test, and two
 
@@ -67,6 +68,7 @@ pub record ChangePasses (s : EngineState) (txn page slot : ℕ) (kind : ChangeKi
   pub place : SlotIn s page slot
   pub free : holder s.log page slot kind txn ≡ None
   pub room : HasRoom s 2
+  pub frame : frame_refusal s page ≡ None
 
 pub record BeginPasses (s : EngineState) : Type 0 where
   pub few : length (open_in s.log) < MAX_OPEN
@@ -96,12 +98,17 @@ change_passes s txn page slot kind none =
     let active = none_of_both _ _ none in
     let place = none_of_both _ _ active.1 in
     let rest = none_of_both _ _ place.1 in
+    let room = none_of_both _ _ rest.1 in
     record {
       active = active_passes s txn active.0;
       place = slot_passes s page slot place.0;
       free = not_busy _ rest.0;
-      room = has_room s 2 _ rest.1;
+      room = has_room s 2 _ room.0;
+      frame = room.1;
     }
+
+pub read_passes : (s : EngineState) (page slot : ℕ) → refusal s (event.Read page slot) ≡ None → SlotIn s page slot
+read_passes s page slot none = slot_passes s page slot (none_of_both (page_refusal s page slot) _ none).0
 
 pub begin_passes : (s : EngineState) → refusal s event.Begin ≡ None → BeginPasses s
 begin_passes s none =
@@ -110,7 +117,8 @@ begin_passes s none =
 
 pub undo_passes : (s : EngineState) (txn : ℕ) → refusal s (event.UndoStep txn) ≡ None → RollsIn s txn
 undo_passes s txn none =
-    let both = none_of_both _ _ none in
+    let rolls = none_of_both (rolling_refusal s txn) _ none in
+    let both = none_of_both _ _ rolls.0 in
     record { still_open = not-false _ (not_refused _ _ both.0); rolling = not-false _ (not_refused _ _ both.1) }
 
 -- ---- a Commit is not refused as unsure
@@ -154,6 +162,16 @@ not_of_both : (first second : Bool) (a b why : Refusal) → (a ≡ why → ⊥) 
 not_of_both first second a b why not_a not_b some =
     elim (one_of_both first second a b why some) [ inl same ↦ not_a same | inr same ↦ not_b same ]
 
+-- a page that finds no frame is refused for that
+frame_not_full : (s : EngineState) (page : ℕ) → frame_refusal s page ≡ Some LogFull → ⊥
+frame_not_full s page full = not_of_one _ PoolFull LogFull (λ same. (cc)) full
+
+-- the first of two refusals, where the second is another one
+full_first : (test : Bool) (b : Option Refusal) → (b ≡ Some LogFull → ⊥)
+    → or_else (refused_if test LogFull) b ≡ Some LogFull → test ≡ true
+full_first true b never full = refl
+full_first false b never full = absurd (never full)
+
 -- a Begin is refused for room alone
 pub begin_full : (s : EngineState) → refusal s event.Begin ≡ Some LogFull
     → (length (open_in s.log) < MAX_OPEN) × (MAX_RECORDS < length s.log + owed s.log + 3)
@@ -172,18 +190,31 @@ change_full s txn page slot kind full =
     let place = second_of_both (page_refusal s page slot) _ LogFull
     (not_of_both _ _ PageOut SlotOut LogFull (λ same. (cc)) (λ same. (cc))) active.1 in
     let free = second_of_both (option_map SlotBusy (holder s.log page slot kind txn)) _ LogFull
-    (busy_not_full (holder s.log page slot kind txn)) place.1 in
-    (active_passes s txn active.0, not_busy _ free.0, ltb-true _ _ (refused_so _ _ _ free.1).0)
+    (busy_not_full (holder s.log page slot kind txn)) place.1 in (
+      active_passes s txn active.0,
+      not_busy _ free.0,
+      ltb-true _ _ (full_first (has_no_room s 2) (frame_refusal s page)
+          (frame_not_full s page) free.1),
+    )
 
 -- no other call is
 pub active_not_full : (s : EngineState) (txn : ℕ) → active_refusal s txn ≡ Some LogFull → ⊥
 active_not_full s txn full = not_of_both _ _ NoTxn TxnRolling LogFull (λ same. (cc)) (λ same. (cc)) full
 
-pub read_not_full : (s : EngineState) (page slot : ℕ) → page_refusal s page slot ≡ Some LogFull → ⊥
-read_not_full s page slot full = not_of_both _ _ PageOut SlotOut LogFull (λ same. (cc)) (λ same. (cc)) full
+pub read_not_full : (s : EngineState) (page slot : ℕ) → refusal s (event.Read page slot) ≡ Some LogFull → ⊥
+read_not_full s page slot full =
+    frame_not_full s page (second_of_both (page_refusal s page slot) _ LogFull
+    (not_of_both _ _ PageOut SlotOut LogFull (λ same. (cc)) (λ same. (cc))) full).1
 
 pub undo_not_full : (s : EngineState) (txn : ℕ) → refusal s (event.UndoStep txn) ≡ Some LogFull → ⊥
-undo_not_full s txn full = not_of_both _ _ NoTxn NotRolling LogFull (λ same. (cc)) (λ same. (cc)) full
+undo_not_full s txn full =
+    let frame = second_of_both (rolling_refusal s txn) _ LogFull
+    (not_of_both _ _ NoTxn NotRolling LogFull (λ same. (cc)) (λ same. (cc))) full in
+    by_last (last_of (pending s.log txn)) frame.1
+  where
+    by_last : (o : Option PendingChange) → option_map_or (λ p. frame_refusal s p.page) o None ≡ Some LogFull → ⊥
+    by_last None e = (cc)
+    by_last (Some p) e = frame_not_full s p.page e
 
 pub write_begin_not_full : (s : EngineState) (page : ℕ) → refusal s (event.WriteBegin page) ≡ Some LogFull → ⊥
 write_begin_not_full s page full =
@@ -363,12 +394,18 @@ take_not_full s copy page full =
     not_of_both _ _ PageOut PageDecided LogFull (λ same. (cc)) (λ same. (cc))
     (second_of_both (copy_refusal s copy) _ LogFull (vault_not_full _) full).1
 
+repair_not_full : (s : EngineState) (copy page : ℕ) → refusal s (event.Repair copy page) ≡ Some LogFull → ⊥
+repair_not_full s copy page full =
+    not_of_both _ _ PageOut WriteBegun LogFull (λ same. (cc)) (λ same. (cc))
+    (second_of_both (option_map of_vault (complete_refusal (state_of s.copies copy))) _ LogFull (vault_not_full _) full).1
+
 abbrev pub IsOfCopies : Event → Type 0
 IsOfCopies event.CopyFull = Unit {0}
 IsOfCopies (event.CopyInc parent) = Unit {0}
 IsOfCopies (event.Take copy page) = Unit {0}
 IsOfCopies (event.Seal copy) = Unit {0}
 IsOfCopies (event.DropCopy copy) = Unit {0}
+IsOfCopies (event.Repair copy page) = Unit {0}
 IsOfCopies other = ⊥
 
 pub copy_not_full : (s : EngineState) (event : Event) → IsOfCopies event → refusal s event ≡ Some LogFull → ⊥
@@ -379,6 +416,7 @@ copy_not_full s (event.CopyInc parent) is full = vault_not_full _ full
 copy_not_full s (event.Take copy page) is full = take_not_full s copy page full
 copy_not_full s (event.Seal copy) is full = vault_not_full _ full
 copy_not_full s (event.DropCopy copy) is full = vault_not_full _ full
+copy_not_full s (event.Repair copy page) is full = repair_not_full s copy page full
 copy_not_full s event is full = absurd is
 
 -- a copy that is to be read on is being read
@@ -469,3 +507,23 @@ full_passes s none = master_if s.master
 pub full_is_few : (s : EngineState) → refusal s event.CopyFull ≡ None → length s.copies < MAX_COPIES
 full_is_few s none =
     few_ids s.copies (vault_passes _ (none_of_both (refused_if (is_none s.master) NoMaster) _ none).1)
+
+-- a page may be repaired: the copy is complete, and no write of the page is in progress
+pub record RepairPasses (s : EngineState) (copy page : ℕ) : Type 0 where
+  pub view : CopyView
+  pub is_complete : state_of s.copies copy ≡ complete view
+  pub within : page < s.pages
+  pub idle : image_of s page ≡ None
+
+pub repair_passes : (s : EngineState) (copy page : ℕ) → refusal s (event.Repair copy page) ≡ None
+    → RepairPasses s copy page
+repair_passes s copy page none =
+    let both = none_of_both (option_map of_vault (complete_refusal (state_of s.copies copy))) _ none in
+    let there = complete_if (state_of s.copies copy) (vault_passes _ both.0) in
+    let rest = none_of_both (refused_if (nat_le s.pages page) PageOut) _ both.1 in
+    record {
+      view = there.0;
+      is_complete = there.1;
+      within = leb-false _ _ (not_refused _ _ rest.0);
+      idle = none_by_test (image_of s page) (not_refused _ _ rest.1);
+    }

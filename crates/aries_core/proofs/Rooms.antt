@@ -57,6 +57,7 @@ grows_within s (event.CopyInc parent) r fit none made = absurd (cc)
 grows_within s (event.Take copy page) r fit none made = absurd (cc)
 grows_within s (event.Seal copy) r fit none made = absurd (cc)
 grows_within s (event.DropCopy copy) r fit none made = absurd (cc)
+grows_within s (event.Repair copy page) r fit none made = absurd (cc)
 grows_within s (event.Commit txn) r fit none made =
     subst (λ (q : Record). HasRoom s (needs q)) (same_Some _ _ made) (room_now s fit)
 grows_within s (event.Abort txn) r fit none made =
@@ -151,6 +152,7 @@ past_if_full s (event.CopyInc parent) fit full = absurd (copy_not_full s (event.
 past_if_full s (event.Take copy page) fit full = absurd (copy_not_full s (event.Take copy page) tt full)
 past_if_full s (event.Seal copy) fit full = absurd (copy_not_full s (event.Seal copy) tt full)
 past_if_full s (event.DropCopy copy) fit full = absurd (copy_not_full s (event.DropCopy copy) tt full)
+past_if_full s (event.Repair copy page) fit full = absurd (copy_not_full s (event.Repair copy page) tt full)
 past_if_full s (event.Commit txn) fit full = absurd (active_not_full s txn full)
 past_if_full s (event.Abort txn) fit full = absurd (active_not_full s txn full)
 past_if_full s (event.UndoStep txn) fit full = absurd (undo_not_full s txn full)

@@ -142,6 +142,7 @@ stands s (event.CopyInc parent) r fit fits none made = absurd (cc)
 stands s (event.Take copy page) r fit fits none made = absurd (cc)
 stands s (event.Seal copy) r fit fits none made = absurd (cc)
 stands s (event.DropCopy copy) r fit fits none made = absurd (cc)
+stands s (event.Repair copy page) r fit fits none made = absurd (cc)
 stands s (event.Commit txn) r fit fits none made =
     subst (StandsAtEnd s) (same_Some _ _ made) (commit_stands s txn fit (active_passes s txn none).still_open)
 stands s (event.Abort txn) r fit fits none made =

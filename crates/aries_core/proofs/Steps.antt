@@ -1,11 +1,12 @@
 -- What a step does to the log.
 use Rattle.std.proofs.Common.{◌≡◌, ℕ, ◌++◌, ◌⊎◌, [], ◌∷◌, map, refl, ap, ◌∙◌, inl, inr}
-use Rattle.std.specs.Prelude.{Option, Some, None, IsSomeAnd, Result, Ok, Err}
-use Rattle.std.specs.Option.{option_map}
+use Rattle.std.specs.Prelude.{Option, Some, None, IfSome, IsSomeAnd, Result, Ok, Err}
+use Rattle.std.specs.Option.{option_map, option_map_or}
 use Rattle.page_core.specs.declared.page.Page.{Page}
 use Rattle.log_history.specs.declared.pending_change.PendingChange.{PendingChange}
 use Rattle.log_records.specs.declared.record.Record.{Record}
 use Rattle.log_records.specs.Image.{with_record}
+use Rattle.log_records.specs.Record.{change_of}
 use Rattle.log_history.specs.Checkpoint.{Checkpoint, open_checkpoint}
 use Rattle.log_history.specs.Transactions.{last_of, pending}
 use Rattle.log_history.specs.Work.{call_of}
@@ -17,18 +18,23 @@ use Rattle.aries_core.specs.declared.refusal.Refusal.{Refusal}
 use Rattle.aries_core.specs.declared.refusal.Refusal.TheVariants.{OutOfMemory, StoreFault, LogFault, CommitUnsure}
 use Rattle.aries_core.specs.Accepted.{shown_call}
 use Rattle.aries_core.specs.EngineState.{EngineState, appended, comp_record, effect, end_ckpt_record, end_record}
-use Rattle.aries_core.specs.EngineState.{ended_write, image_of, with_stored}
+use Rattle.aries_core.specs.EngineState.{ended_write, image_of, page_needed, with_page, with_stored}
 use Rattle.aries_core.specs.Refusal.{refusal}
 use Rattle.aries_core.specs.Step.{Fails, MayBeStored, Step}
 use Rattle.aries_core.proofs.Gathers.{PassesPages, PassesTxns, TakesPages, TakesTxn, WasDone, ckpt_end_is, closed_part}
 use Rattle.aries_core.proofs.Gathers.{gather_case, passes_pages, passes_txns, takes_pages, takes_txn, was_done}
 use Rattle.aries_core.proofs.Refusals.{ckpt_end_passes, commit_not_unsure, gather_passes}
 
+-- the state whose log and pages an answered call changes: that with the page which it needs in memory
+abbrev pub start : EngineState → Event → Result Answer Refusal → EngineState
+start old event (Ok answer) = option_map_or (with_page old) (page_needed old event) old
+start old event (Err why) = old
+
 -- the step leaves the log as it is, and shows no call
 pub record Stays (old : EngineState) (event : Event) (reply : Result Answer Refusal) (new : EngineState) : Type 0 where
   pub pages : new.pages ≡ old.pages
   pub log : new.log ≡ old.log
-  pub resident : new.resident ≡ old.resident
+  pub resident : new.resident ≡ (start old event reply).resident
   pub unseen : shown_call event reply ≡ None
 
 -- the step appends the event's record, which shows the call
@@ -38,14 +44,16 @@ pub record Grows (old : EngineState) (event : Event) (reply : Result Answer Refu
   pub made : record_for old event ≡ Some r
   pub pages : new.pages ≡ old.pages
   pub log : new.log ≡ old.log ++ r ∷ []
-  pub resident : new.resident ≡ map (λ page. with_record page r) old.resident
+  pub resident : new.resident ≡ map (λ page. with_record page r) (start old event reply).resident
+  pub needs : IfSome (change_of r) (λ c. start old event reply ≡ with_page old c.page)
   pub shown : shown_call event reply ≡ call_of r
 
 -- ---- each reply
 
 -- a step to a state that is known
 stays : (old : EngineState) (event : Event) (reply : Result Answer Refusal) (new state : EngineState) → new ≡ state
-    → state.pages ≡ old.pages → state.log ≡ old.log → state.resident ≡ old.resident → shown_call event reply ≡ None
+    → state.pages ≡ old.pages → state.log ≡ old.log → state.resident ≡ (start old event reply).resident
+    → shown_call event reply ≡ None
     → Stays old event reply new
 stays old event reply new state is pages log resident unseen = record {
   pages = ap (λ (s : EngineState). s.pages) is ∙ pages;
@@ -56,15 +64,18 @@ stays old event reply new state is pages log resident unseen = record {
 
 grows : (old : EngineState) (event : Event) (reply : Result Answer Refusal) (new state : EngineState) (r : Record)
     → new ≡ state → refusal old event ≡ None → record_for old event ≡ Some r → state.pages ≡ old.pages
-    → state.log ≡ old.log ++ r ∷ [] → state.resident ≡ map (λ page. with_record page r) old.resident
+    → state.log ≡ old.log ++ r ∷ []
+    → state.resident ≡ map (λ page. with_record page r) (start old event reply).resident
+    → IfSome (change_of r) (λ c. start old event reply ≡ with_page old c.page)
     → shown_call event reply ≡ call_of r → Grows old event reply new
-grows old event reply new state r is accepted made pages log resident shown = record {
+grows old event reply new state r is accepted made pages log resident needs shown = record {
   r = r;
   accepted = accepted;
   made = made;
   pages = ap (λ (s : EngineState). s.pages) is ∙ pages;
   log = ap (λ (s : EngineState). s.log) is ∙ log;
   resident = ap (λ (s : EngineState). s.resident) is ∙ resident;
+  needs = needs;
   shown = shown;
 }
 
@@ -73,11 +84,13 @@ undo_grows : (old : EngineState) (txn : ℕ) (answer : Answer) (new : EngineStat
     → last_of (pending old.log txn) ≡ o → refusal old (event.UndoStep txn) ≡ None
     → new ≡ (effect old (event.UndoStep txn)).state → Grows old (event.UndoStep txn) (Ok answer) new
 undo_grows old txn answer new None o none is =
-    grows old (event.UndoStep txn) (Ok answer) new (appended old (end_record old txn)) (end_record old txn)
-    (rw o at is) none (rw o refl) refl refl refl refl
+    let r = end_record old txn in
+    grows old (event.UndoStep txn) (Ok answer) new (appended old r) r
+    (rw o at is) none (rw o refl) refl refl (rw o refl) tt refl
 undo_grows old txn answer new (Some p) o none is =
-    grows old (event.UndoStep txn) (Ok answer) new (appended old (comp_record old txn p)) (comp_record old txn p)
-    (rw o at is) none (rw o refl) refl refl refl refl
+    let r = comp_record old txn p in
+    grows old (event.UndoStep txn) (Ok answer) new (appended (with_page old p.page) r) r
+    (rw o at is) none (rw o refl) refl refl (rw o refl) (rw o refl) refl
 
 -- the end of a write leaves the log
 write_end_stays : (old : EngineState) (page : ℕ) (answer : Answer) (new : EngineState) (o : Option Page)
@@ -112,14 +125,14 @@ gather_stays_or_grows old answer new none is =
       | TakesPages pages finds ↦
           let does = takes_pages old c pages still_open finds in
           inr (grows old event.CkptGather (Ok answer) new _ _ (is ∙ ap (λ o. o.state) does.outcome) none
-          does.made refl refl refl refl)
+          does.made refl refl refl tt refl)
       | PassesPages finds ↦
           let does = passes_pages old c still_open finds in
           inl (stays old event.CkptGather (Ok answer) new _ (is ∙ ap (λ o. o.state) does.outcome) refl refl refl refl)
       | TakesTxn t finds ↦
           let does = takes_txn old c t still_open finds in
           inr (grows old event.CkptGather (Ok answer) new _ _ (is ∙ ap (λ o. o.state) does.outcome) none
-          does.made refl refl refl refl)
+          does.made refl refl refl tt refl)
       | PassesTxns finds ↦
           let does = passes_txns old c still_open finds in
           inl (stays old event.CkptGather (Ok answer) new _ (is ∙ ap (λ o. o.state) does.outcome) refl refl refl refl)
@@ -139,19 +152,19 @@ ckpt_end_grows old answer new none is =
     let passes = ckpt_end_passes old none in
     let c = passes.ckpt in
     grows old event.CkptEnd (Ok answer) new _ _ (is ∙ ap (λ o. o.state) (ckpt_end_is old c passes.still_open)) none
-    (made_at_end old c passes.still_open) refl refl refl refl
+    (made_at_end old c passes.still_open) refl refl refl tt refl
 
 -- an accepted call
 answered : (old : EngineState) (event : Event) (answer : Answer) (new : EngineState) → refusal old event ≡ None
     → answer ≡ (effect old event).answer → new ≡ (effect old event).state
     → Stays old event (Ok answer) new ⊎ Grows old event (Ok answer) new
 answered old event.Begin answer new none given is =
-    inr (grows old event.Begin (Ok answer) new _ _ is none refl refl refl refl
+    inr (grows old event.Begin (Ok answer) new _ _ is none refl refl refl refl tt
     (ap (λ (a : Answer). shown_call event.Begin (Ok a)) given))
 answered old (event.Set txn page slot number) answer new none given is =
-    inr (grows old (event.Set txn page slot number) (Ok answer) new _ _ is none refl refl refl refl refl)
+    inr (grows old (event.Set txn page slot number) (Ok answer) new _ _ is none refl refl refl refl refl refl)
 answered old (event.Add txn page slot amount) answer new none given is =
-    inr (grows old (event.Add txn page slot amount) (Ok answer) new _ _ is none refl refl refl refl refl)
+    inr (grows old (event.Add txn page slot amount) (Ok answer) new _ _ is none refl refl refl refl refl refl)
 answered old (event.Read page slot) answer new none given is =
     inl (stays old (event.Read page slot) (Ok answer) new _ is refl refl refl refl)
 answered old event.CopyFull answer new none given is =
@@ -164,17 +177,19 @@ answered old (event.Seal copy) answer new none given is =
     inl (stays old (event.Seal copy) (Ok answer) new _ is refl refl refl refl)
 answered old (event.DropCopy copy) answer new none given is =
     inl (stays old (event.DropCopy copy) (Ok answer) new _ is refl refl refl refl)
+answered old (event.Repair copy page) answer new none given is =
+    inl (stays old (event.Repair copy page) (Ok answer) new _ is refl refl refl refl)
 answered old (event.Commit txn) answer new none given is =
-    inr (grows old (event.Commit txn) (Ok answer) new _ _ is none refl refl refl refl refl)
+    inr (grows old (event.Commit txn) (Ok answer) new _ _ is none refl refl refl refl tt refl)
 answered old (event.Abort txn) answer new none given is =
-    inr (grows old (event.Abort txn) (Ok answer) new _ _ is none refl refl refl refl refl)
+    inr (grows old (event.Abort txn) (Ok answer) new _ _ is none refl refl refl refl tt refl)
 answered old (event.UndoStep txn) answer new none given is = inr (undo_grows old txn answer new _ refl none is)
 answered old event.Force answer new none given is = inl (stays old event.Force (Ok answer) new _ is refl refl refl refl)
 answered old (event.WriteBegin page) answer new none given is =
     inl (stays old (event.WriteBegin page) (Ok answer) new _ is refl refl refl refl)
 answered old (event.WriteEnd page) answer new none given is = inl (write_end_stays old page answer new _ refl is)
 answered old event.CkptBegin answer new none given is =
-    inr (grows old event.CkptBegin (Ok answer) new _ _ is none refl refl refl refl refl)
+    inr (grows old event.CkptBegin (Ok answer) new _ _ is none refl refl refl refl tt refl)
 answered old event.CkptGather answer new none given is = gather_stays_or_grows old answer new none is
 answered old event.CkptEnd answer new none given is = inr (ckpt_end_grows old answer new none is)
 
@@ -200,7 +215,7 @@ failed old event OutOfMemory new none fails =
 failed old event.Force LogFault new none fails =
     inl (stays old event.Force (Err LogFault) new _ fails.reached.2 refl refl refl refl)
 failed old (event.Commit txn) (CommitUnsure lsn) new none fails =
-    inr (grows old (event.Commit txn) (Err (CommitUnsure lsn)) new _ _ fails.1.reached.2 none refl refl refl refl refl)
+    inr (grows old (event.Commit txn) (Err (CommitUnsure lsn)) new _ _ fails.1.reached.2 none refl refl refl refl tt refl)
 failed old (event.WriteBegin page) LogFault new none fails =
     inl (stays old (event.WriteBegin page) (Err LogFault) new _ fails.reached.2 refl refl refl refl)
 failed old (event.WriteEnd page) StoreFault new none fails = elim (stored_or_not old page new fails) [
@@ -210,9 +225,18 @@ failed old (event.WriteEnd page) StoreFault new none fails = elim (stored_or_not
 failed old event.CkptEnd LogFault new none fails =
     let part = closed_part old new fails in
     inr (grows old event.CkptEnd (Err LogFault) new _ _ part.2.reached.2 none
-    (made_at_end old part.0 part.1) refl refl refl refl)
+    (made_at_end old part.0 part.1) refl refl refl tt refl)
 failed old (event.Take copy page) StoreFault new none fails =
     inl (stays old (event.Take copy page) (Err StoreFault) new old fails refl refl refl refl)
+failed old (event.Repair copy page) LogFault new none fails =
+    inl (stays old (event.Repair copy page) (Err LogFault) new _ fails.reached.2 refl refl refl refl)
+failed old (event.Repair copy page) StoreFault new none fails = elim fails [
+  | inl kept ↦ inl (stays old (event.Repair copy page) (Err StoreFault) new _ kept refl refl refl refl)
+  | inr stored ↦ inl (stays old (event.Repair copy page) (Err StoreFault) new _ stored refl refl refl refl)
+]
+failed old event StoreFault new none fails =
+    inl (stays old event (Err StoreFault) new old fails.1 refl refl refl
+    (not_shown event StoreFault (λ txn lsn commit unsure. (cc))))
 failed old event why new none fails = absurd fails
 
 pub stays_or_grows : (old : EngineState) (event : Event) (reply : Result Answer Refusal) (new : EngineState)

@@ -34,7 +34,7 @@ pub record Called {S D : Type 0} (stored : S → List Page) (it new : WrittenLog
   pub kept : IsKept stored (engine_view stored new after ckpts).state table after ckpts
 
 -- a step that leaves the log and the table
-called : {S D : Type 0} (stored : S → List Page) (it new : WrittenLog D) (table : Table)
+pub called : {S D : Type 0} (stored : S → List Page) (it new : WrittenLog D) (table : Table)
     (pool after : PoolView S) (ckpts : MediaView)
     (call : Event) (reply : Result Answer Refusal)
     → IsKept stored (engine_view stored it pool ckpts).state table pool ckpts
@@ -73,6 +73,7 @@ force_kept stored it new table pool ckpts kept same no_less ends =
           writing = fit.counted.writing ∙ ap (λ (l : Log). l.pages) (sym same);
         };
         resident = rw same fit.resident;
+        held = rw same fit.held;
         stored = rw same fit.stored;
         stable = record {
           pages = All-weaker (λ page. page.lsn < it.forced_end) (λ page. page.lsn < new.forced_end)
@@ -148,7 +149,7 @@ ended stored it table pool after ckpts p lsn kept none within at store states of
     (λ q. after ≡ record (with_state pool p (write_ended (state_at pool p) q.lsn))
     { store = after.store }) q here states in
     let state : (engine_view stored it after ckpts).state ≡ ended_write s p q =
-    ended_is stored it pool after ckpts p q stored_is (ap (λ v. v.resident) is)
+    ended_is stored it pool after ckpts p q stored_is (ap (λ v. v.frames) is) (ap (λ v. v.resident) is)
     (ap (λ v. v.states) is) in
     let effected : (engine_view stored it after ckpts).state ≡ (effect s (event.WriteEnd p)).state =
     rw ends.there state in
@@ -168,13 +169,14 @@ repeated stored it table pool after ckpts p kept none within either goes_on of_l
     let ends = write_end_passes s p none in
     let q = ends.image in
     let here : (state_at pool p).writing ≡ Some q = sym (image_at stored it pool ckpts p within) ∙ ends.there in
+    let frames = ap (λ v. v.frames) goes_on in
     let resident = ap (λ v. v.resident) goes_on in
     let states = ap (λ v. v.states) goes_on in
     let may : MayBeStored p s (engine_view stored it after ckpts).state =
     rw ends.there (elim (of_image (state_at pool p).writing
     (λ q. StoresOrKeeps (stored pool.store) p q (stored after.store)) q here either) [
-      | inl stores ↦ inr (repeated_is stored it pool after ckpts p q stores resident states)
-      | inr keeps ↦ inl (kept_is stored it pool after ckpts keeps resident states)
+      | inl stores ↦ inr (repeated_is stored it pool after ckpts p q stores frames resident states)
+      | inr keeps ↦ inl (kept_is stored it pool after ckpts keeps frames resident states)
     ]) in
     called stored it it table pool after ckpts (event.WriteEnd p) (Err StoreFault) kept tt refl
     (inr (none, may)) of_log

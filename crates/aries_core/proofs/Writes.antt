@@ -1,13 +1,13 @@
 -- What a step does to the stored pages, and to the images that are being written.
 use Rattle.std.proofs.Common.{◌≡◌, ℕ, ◌*◌, ◌<◌, ◌≤◌, ◌++◌, List, length, get_or, set, take}
-use Rattle.std.proofs.Common.{refl, sym, ap, subst, ◌∙◌, arith, inl, inr}
+use Rattle.std.proofs.Common.{◌⊎◌, refl, sym, ap, subst, ◌∙◌, arith, inl, inr}
 use Rattle.std.specs.Prelude.{Option, Some, None, IfSome, Result, Ok, Err}
 use Rattle.std.specs.List.{All}
 use Rattle.std.proofs.lemmas.Bool.{cases_eq, cases_lt}
 use Rattle.std.proofs.lemmas.List.{get_or-set_other, get_or-set_same, get_or_past, length-set, take_all}
 use Rattle.std.proofs.lemmas.List.Elements.{All-set, All-weaker}
 use Rattle.page_core.specs.declared.page.Page.{Page}
-use Rattle.log_records.specs.Coverage.{AreStored}
+use Rattle.log_records.specs.Coverage.{AreStored, IsWriting}
 use Rattle.log_records.proofs.Stored.{past_is_older, past_now, stored_begun, stored_ended, stored_failed, stored_later}
 use Rattle.log_history.specs.declared.pending_change.PendingChange.{PendingChange}
 use Rattle.log_records.specs.declared.record.Record.{Record}
@@ -15,6 +15,7 @@ use Rattle.log_records.specs.declared.record.Record.TheVariants.{Begin}
 use Rattle.log_records.specs.Image.{image}
 use Rattle.log_history.specs.Transactions.{last_of, pending}
 use Rattle.log_store.specs.WrittenLog.{end_up_to}
+use Rattle.buffer_pool.proofs.Repaired.{stored_half, stored_repaired}
 use Rattle.log_records.proofs.Images.{lsn-image}
 use Rattle.aries_core.specs.declared.event.Answer.{Answer}
 use Rattle.aries_core.specs.declared.event.Event.{Event}
@@ -22,14 +23,14 @@ use Rattle.aries_core.specs.declared.event.Event.TheVariants as event
 use Rattle.aries_core.specs.declared.refusal.Refusal.{Refusal}
 use Rattle.aries_core.specs.declared.refusal.Refusal.TheVariants.{CommitUnsure, LogFault, OutOfMemory, StoreFault}
 use Rattle.aries_core.specs.EngineState.{AreCounted, AreStable, EngineState, IsFit, effect, ended_write, image_of}
-use Rattle.aries_core.specs.EngineState.{log_of, page_now}
+use Rattle.aries_core.specs.EngineState.{forced_through, log_of, page_now, with_stored}
 use Rattle.aries_core.specs.Refusal.{refusal}
 use Rattle.aries_core.specs.Step.{Fails, Step}
 use Rattle.aries_core.proofs.Gathers.{ckpt_end_has, closed_part, gather_has}
-use Rattle.aries_core.proofs.Refusals.{WriteBegins, WriteEnds, write_begin_passes, write_end_passes}
+use Rattle.aries_core.proofs.Refusals.{WriteBegins, WriteEnds, repair_passes, write_begin_passes, write_end_passes}
 use Rattle.aries_core.proofs.Steps.{stored_or_not}
 
--- ---- the four things that a step may do to the pages
+-- ---- the five things that a step may do to the pages
 
 -- it leaves them
 pub record LeavesPages (old new : EngineState) : Type 0 where
@@ -62,11 +63,22 @@ pub record RepeatsWrite (old : EngineState) (page : ℕ) (new : EngineState) : T
   pub written : new.written ≡ old.written
   pub writing : new.writing ≡ old.writing
 
+-- it stores a page as it is now, while no write of it is in progress; that may count as its last write
+pub record RepairsPage (old : EngineState) (page : ℕ) (new : EngineState) : Type 0 where
+  pub within : page < old.pages
+  pub idle : image_of old page ≡ None
+  pub log : new.log ≡ old.log
+  pub stored : new.stored ≡ set old.stored page (page_now old page)
+  pub written : (new.written ≡ set old.written page (page_now old page).lsn) ⊎ (new.written ≡ old.written)
+  pub writing : new.writing ≡ old.writing
+  pub forced : end_up_to (log_of old) (page_now old page).lsn ≤ new.forced_end
+
 pub data PageStep (old new : EngineState) : Type 0 where
   Leaves : LeavesPages old new → PageStep old new
   Begins : (page : ℕ) → BeginsWrite old page new → PageStep old new
   Ends : (page : ℕ) → EndsWrite old page new → PageStep old new
   Repeats : (page : ℕ) → RepeatsWrite old page new → PageStep old new
+  Repairs : (page : ℕ) → RepairsPage old page new → PageStep old new
 
 -- ---- each step does one of them
 
@@ -107,6 +119,34 @@ ended old page new none is =
       writing = ap (λ (s : EngineState). s.writing) done;
     })
 
+repaired : (old : EngineState) (copy page : ℕ) (new : EngineState) → refusal old (event.Repair copy page) ≡ None
+    → new ≡ (effect old (event.Repair copy page)).state → PageStep old new
+repaired old copy page new none is =
+    let passes = repair_passes old copy page none in
+    Repairs page (record {
+      within = passes.within;
+      idle = passes.idle;
+      log = ap (λ (s : EngineState). s.log) is;
+      stored = ap (λ (s : EngineState). s.stored) is;
+      written = inl (ap (λ (s : EngineState). s.written) is);
+      writing = ap (λ (s : EngineState). s.writing) is;
+      forced = let forced_is = ap (λ (s : EngineState). s.forced_end) is in omega arith;
+    })
+
+half_repaired : (old : EngineState) (copy page : ℕ) (new : EngineState) → refusal old (event.Repair copy page) ≡ None
+    → new ≡ with_stored (forced_through old (page_now old page).lsn) page (page_now old page) → PageStep old new
+half_repaired old copy page new none is =
+    let passes = repair_passes old copy page none in
+    Repairs page (record {
+      within = passes.within;
+      idle = passes.idle;
+      log = ap (λ (s : EngineState). s.log) is;
+      stored = ap (λ (s : EngineState). s.stored) is;
+      written = inr (ap (λ (s : EngineState). s.written) is);
+      writing = ap (λ (s : EngineState). s.writing) is;
+      forced = let forced_is = ap (λ (s : EngineState). s.forced_end) is in omega arith;
+    })
+
 answered : (old : EngineState) (event : Event) (new : EngineState) → refusal old event ≡ None
     → new ≡ (effect old event).state → PageStep old new
 answered old event.Begin new none is = leaves old new _ is refl refl refl
@@ -118,6 +158,7 @@ answered old (event.CopyInc parent) new none is = leaves old new _ is refl refl 
 answered old (event.Take copy page) new none is = leaves old new _ is refl refl refl
 answered old (event.Seal copy) new none is = leaves old new _ is refl refl refl
 answered old (event.DropCopy copy) new none is = leaves old new _ is refl refl refl
+answered old (event.Repair copy page) new none is = repaired old copy page new none is
 answered old (event.Commit txn) new none is = leaves old new _ is refl refl refl
 answered old (event.Abort txn) new none is = leaves old new _ is refl refl refl
 answered old (event.UndoStep txn) new none is = undo_leaves old txn new _ refl is
@@ -157,6 +198,12 @@ failed old (event.WriteEnd page) StoreFault new none fails =
 failed old event.CkptEnd LogFault new none fails =
     leaves old new _ (closed_part old new fails).2.reached.2 refl refl refl
 failed old (event.Take copy page) StoreFault new none fails = leaves old new old fails refl refl refl
+failed old (event.Repair copy page) LogFault new none fails = leaves old new _ fails.reached.2 refl refl refl
+failed old (event.Repair copy page) StoreFault new none fails = elim fails [
+  | inl kept ↦ leaves old new _ kept refl refl refl
+  | inr stored ↦ half_repaired old copy page new none stored
+]
+failed old event StoreFault new none fails = leaves old new old fails.1 refl refl refl
 failed old event why new none fails = absurd fails
 
 pub page_step : (old : EngineState) (event : Event) (reply : Result Answer Refusal) (new : EngineState)
@@ -324,8 +371,59 @@ repeated_fit old new page fit goes repeats =
       };
     }
 
+-- the page as it is now is newer than the stored one
+pub repairs_newer : (s : EngineState) (n : ℕ) (d : Page) → IsFit s → n < length s.stored
+    → IsWriting s.log n (get_or s.stored n d) (page_now s n)
+repairs_newer s n d fit there = record {
+  past = past_now s.log n;
+  newer = past_is_older (log_of s) n (get_or s.stored n d) fit.valid (fit.stored.pages n d there).past;
+}
+
+repaired_fit : (old new : EngineState) (page : ℕ) → IsFit old → GoesOn old new → RepairsPage old page new → PagesFit new
+repaired_fit old new page fit goes repairs =
+    let counted = fit.counted in
+    let now = page_now old page in
+    let within = repairs.within in
+    let there : page < length old.stored = let count = counted.stored in omega arith in
+    let known : page < length old.written = let count = counted.written in omega arith in
+    let below : now.lsn < new.forced_end =
+    let stable = image_is_stable old page fit in let forced = repairs.forced in omega arith in
+    let past = past_now old.log page in
+    let stored_count = ap length repairs.stored ∙ length-set old.stored page now ∙ counted.stored ∙ sym goes.pages in
+    let writing_count = ap length repairs.writing ∙ counted.writing ∙ sym goes.pages in
+    let stable : AreStable new = record {
+      pages = rw repairs.stored
+          (All-set (λ page. page.lsn < new.forced_end) old.stored page now below (pages_later old new fit goes));
+      images = λ p. rw repairs.writing (images_later old new fit goes p);
+    } in
+    elim repairs.written [
+      | inl written ↦ record {
+        counted = record {
+          stored = stored_count;
+          written = ap length written ∙ length-set old.written page now.lsn ∙ counted.written ∙ sym goes.pages;
+          writing = writing_count;
+        };
+        stored = rw (repairs.log, repairs.stored, written, repairs.writing)
+            (stored_repaired old.log old.stored old.written old.writing page now fit.stored there known
+            repairs.idle past);
+        stable = stable;
+      }
+      | inr written ↦ record {
+        counted = record {
+          stored = stored_count;
+          written = ap length written ∙ counted.written ∙ sym goes.pages;
+          writing = writing_count;
+        };
+        stored = rw (repairs.log, repairs.stored, written, repairs.writing)
+            (stored_half old.log old.stored old.written old.writing page now fit.stored there repairs.idle past
+            (λ d. (repairs_newer old page d fit there).newer));
+        stable = stable;
+      }
+    ]
+
 pub pages_fit : (old new : EngineState) → IsFit old → GoesOn old new → PageStep old new → PagesFit new
 pages_fit old new fit goes (Leaves left) = left_fit old new fit goes left
 pages_fit old new fit goes (Begins page begins) = begun_fit old new page fit goes begins
 pages_fit old new fit goes (Ends page ends) = ended_fit old new page fit goes ends
 pages_fit old new fit goes (Repeats page repeats) = repeated_fit old new page fit goes repeats
+pages_fit old new fit goes (Repairs page repairs) = repaired_fit old new page fit goes repairs

@@ -28,6 +28,7 @@ record_for s (event.CopyInc parent) = None
 record_for s (event.Take copy page) = None
 record_for s (event.Seal copy) = None
 record_for s (event.DropCopy copy) = None
+record_for s (event.Repair copy page) = None
 record_for s (event.Commit txn) = Some (commit_record s txn)
 record_for s (event.Abort txn) = Some (abort_record s txn)
 record_for s (event.UndoStep txn) =

@@ -109,7 +109,7 @@ reading_refusal (being_read kind marks) = None
 reading_refusal (is_complete kind marks) = Some CopyNotOpen
 reading_refusal was_dropped = Some NoCopy
 
--- a copy that is to be a parent
+-- a copy that is to be a parent, or to repair a page
 abbrev pub parent_refusal : Entry → Option Refusal
 parent_refusal (being_read kind marks) = Some CopyNotComplete
 parent_refusal (is_complete kind marks) = None
@@ -143,4 +143,6 @@ catalogue_refusal has_master pages entries (event.Seal copy) =
     (option_map PagesLeft (position has_no_mark (marks_of (entry_at entries copy))))
 catalogue_refusal has_master pages entries (event.DropCopy copy) =
     reading_refusal (entry_at entries copy)
+catalogue_refusal has_master pages entries (event.Repair copy page) =
+    or_else (parent_refusal (entry_at entries copy)) (refused_if (nat_le pages page) PageOut)
 catalogue_refusal has_master pages entries other = None

@@ -1,7 +1,7 @@
 -- What an engine is, and what an accepted call makes of it.
 use Rattle.std.specs.Prelude.{ℕ, ◌≡◌, ◌+◌, ◌<◌, ◌≤◌, List, [], ◌∷◌, ◌++◌, length, map, max}
 use Rattle.std.specs.Prelude.{replicate, slice_index, slice_index_or, slice_set, take, Option, Some}
-use Rattle.std.specs.Prelude.{IsSome, None, IfSome, if◌then◌else◌}
+use Rattle.std.specs.Prelude.{IsSome, IsSomeAnd, None, IfSome, false, if◌then◌else◌}
 use Rattle.std.specs.List.{All}
 use Rattle.std.specs.Option.{option_map, option_map_or}
 use Rattle.page_core.specs.declared.change.Change.{Change}
@@ -9,7 +9,8 @@ use Rattle.page_core.specs.declared.change.Change.TheVariants.{Set, Add}
 use Rattle.page_core.specs.Change.{undo_of}
 use Rattle.page_core.specs.Page.{formatted}
 use Rattle.page_core.specs.Volume.{formatted_pages}
-use Rattle.buffer_pool.specs.Pool.{IsPoolOf, PoolView, writing_of, written_of}
+use Rattle.buffer_pool.specs.Frames.{IsResident, fetched, is_resident}
+use Rattle.buffer_pool.specs.Pool.{IsPoolOf, PoolView, is_clean, writing_of, written_of}
 use Rattle.log_records.specs.Coverage.{AreStored, rec_lsn}
 use Rattle.log_records.specs.declared.limits.TheConstants.{MAX_RECORDS}
 use Rattle.log_history.specs.declared.pending_change.PendingChange.{PendingChange}
@@ -44,8 +45,9 @@ use Rattle.aries_core.specs.declared.event.Event.TheVariants as event
 use Rattle.aries_core.specs.Gather.{Left, is_done, left_of, pages_left, session_of}
 
 -- the page count of the volume, the log, the LSN below which each record is on the device, and the
--- last complete checkpoint below it; the pages in memory, in the order in which they were fetched;
--- the stored pages; of each page the LSN of its last write, and the image that is being written;
+-- last complete checkpoint below it; how many frames there are; the pages in memory, in the order
+-- in which they were fetched; the stored pages; of each page the LSN of its last write, and the
+-- image that is being written;
 -- what is left for the gather of the open checkpoint (all, where none is open); and the image
 -- copies in order of their ids
 pub record EngineState : Type 0 where
@@ -53,6 +55,7 @@ pub record EngineState : Type 0 where
   pub log : List Record
   pub forced_end : ℕ
   pub master : Option Point
+  pub frames : ℕ
   pub resident : List Page
   pub stored : List Page
   pub written : List ℕ
@@ -60,14 +63,16 @@ pub record EngineState : Type 0 where
   pub left : Left
   pub copies : List CopyState
 
--- a new engine: its log has a header alone, and its pages are formatted and all in memory
-abbrev pub new_state : ℕ → EngineState
-new_state pages = record {
+-- a new engine with so many pages and frames: its log has a header alone, its pages are formatted,
+-- and none is in memory
+abbrev pub new_state : ℕ → ℕ → EngineState
+new_state pages frames = record {
   pages = pages;
   log = [];
   forced_end = lsn_of 0;
   master = None;
-  resident = formatted_pages pages;
+  frames = frames;
+  resident = [];
   stored = formatted_pages pages;
   written = replicate pages 0;
   writing = replicate pages None;
@@ -114,6 +119,13 @@ ended_write s page image = record s {
   writing = slice_set s.writing page None;
 }
 
+-- the page is stored as it is now, and the stored page is that of its last write
+abbrev pub repaired : EngineState → ℕ → Page → EngineState
+repaired s page image = record s {
+  stored = slice_set s.stored page image;
+  written = slice_set s.written page image.lsn;
+}
+
 -- the gather of the open checkpoint has this left
 abbrev pub gathering : EngineState → Left → EngineState
 gathering s left = record s { left = left }
@@ -130,6 +142,15 @@ with_copies s copies = record s { copies = copies }
 abbrev pub stored_page : EngineState → ℕ → Page
 stored_page s page = slice_index_or s.stored page (formatted page)
 
+-- the state with a page in memory: where it is not, it is fetched into a free frame, or into that
+-- of the clean page that was fetched earliest
+abbrev pub with_page : EngineState → ℕ → EngineState
+with_page s page = record s {
+  resident =
+      if is_resident s.resident page then s.resident
+      else fetched s.frames (is_clean s.log s.written) s.resident (stored_page s page);
+}
+
 -- the page as it is now
 abbrev pub page_now : EngineState → ℕ → Page
 page_now s page = image s.log page
@@ -141,6 +162,18 @@ image_of s page = slice_index_or s.writing page None
 -- its RecLSN, where it is dirty
 abbrev pub rec_lsn_of : EngineState → ℕ → Option ℕ
 rec_lsn_of s page = rec_lsn s.log page (slice_index s.written page)
+
+-- the page that a call needs in memory, if it needs one
+abbrev pub page_needed : EngineState → Event → Option ℕ
+page_needed s (event.Set txn page slot number) = Some page
+page_needed s (event.Add txn page slot amount) = Some page
+page_needed s (event.Read page slot) = Some page
+page_needed s (event.UndoStep txn) = option_map (λ p. p.page) (last_of (pending s.log txn))
+page_needed s other = None
+
+-- the call has to fetch a page
+abbrev pub Fetches : EngineState → Event → Type 0
+Fetches s event = IsSomeAnd (page_needed s event) (λ page. is_resident s.resident page ≡ false)
 
 -- ---- the record of a call
 
@@ -202,7 +235,7 @@ undo_effect s txn =
     option_map_or (λ p. record {
       answer = answer.Undid (end s);
       state =
-          appended s (comp_record s txn p);
+          appended (with_page s p.page) (comp_record s txn p);
     })
     (last_of (pending s.log txn))
     (record { answer = answer.Ended (end s); state = appended s (end_record s txn) })
@@ -255,11 +288,13 @@ effect s event.Begin = record {
   state = appended s (log.Begin (end s) (next_txn s));
 }
 effect s (event.Set txn page slot number) =
-    logged s (update_record s txn page slot (Set (number_in s.log page slot) number))
-effect s (event.Add txn page slot amount) = logged s (update_record s txn page slot (Add amount))
+    logged (with_page s page)
+    (update_record s txn page slot (Set (number_in s.log page slot) number))
+effect s (event.Add txn page slot amount) =
+    logged (with_page s page) (update_record s txn page slot (Add amount))
 effect s (event.Read page slot) = record {
   answer = answer.Number (number_in s.log page slot);
-  state = s;
+  state = with_page s page;
 }
 effect s (event.Commit txn) = record {
   answer = answer.Logged (end s);
@@ -295,6 +330,10 @@ effect s (event.DropCopy copy) = record {
   answer = answer.Dropped;
   state = with_copies s (without s.copies copy);
 }
+effect s (event.Repair copy page) = record {
+  answer = answer.Repaired (page_now s page).lsn;
+  state = repaired (forced_through s (page_now s page).lsn) page (page_now s page);
+}
 
 -- the master record of a complete checkpoint
 abbrev pub master_record : Point → Master
@@ -311,6 +350,10 @@ pub record AreCounted (s : EngineState) : Type 0 where
 -- each page in memory is as the log makes it
 abbrev pub AreImages : List Record → List Page → Type 0
 AreImages rs resident = All (λ page. page ≡ image rs page.number) resident
+
+-- each dirty page is in memory
+abbrev pub AreHeld : EngineState → Type 0
+AreHeld s = (p : ℕ) → p < s.pages → is_clean s.log s.written p ≡ false → IsResident s.resident p
 
 -- no stored page, and no image that is being written, shows a change whose record is not forced
 pub record AreStable (s : EngineState) : Type 0 where
@@ -346,6 +389,7 @@ pub record IsFit (s : EngineState) : Type 0 where
   pub forced : (k : ℕ) × (k ≤ length s.log) × (s.forced_end ≡ lsn_of k)
   pub counted : AreCounted s
   pub resident : AreImages s.log s.resident
+  pub held : AreHeld s
   pub stored : AreStored s.log s.stored s.written s.writing
   pub stable : AreStable s
   pub gathered : IfSome (open_checkpoint s.log) (IsGathering s.log s.stored s.left)
@@ -375,6 +419,7 @@ engine_view stored it pool ckpts = record {
     log = it.log.records;
     forced_end = it.forced_end;
     master = ckpts.master;
+    frames = pool.frames;
     resident = pool.resident;
     stored = stored pool.store;
     written = written_of pool.states;

@@ -8,6 +8,7 @@ pub mod EventFits
 pub mod Gather
 pub mod OpenCkpt
 pub mod Refusal
+pub mod Repair
 pub mod Run
 pub mod Step
 pub mod Storage

@@ -3,7 +3,7 @@ use Rattle.std.specs.Prelude.{ℕ, ◌+◌, ◌&&◌, nat_le, nat_lt, Bool, not,
 use Rattle.std.specs.Prelude.{Some}
 use Rattle.std.specs.Prelude.{is_some, is_none}
 use Rattle.std.specs.Prelude.{None, if◌then◌else◌, true}
-use Rattle.std.specs.Option.{option_map}
+use Rattle.std.specs.Option.{option_map, option_map_or}
 use Rattle.page_core.specs.declared.change.ChangeKind.{ChangeKind}
 use Rattle.page_core.specs.declared.change.ChangeKind.TheVariants as kind
 use Rattle.page_core.specs.FaultName.{fault_line, fault_line_with}
@@ -12,11 +12,14 @@ use Rattle.page_core.specs.declared.fault_name.FaultName.TheVariants as name
 use Rattle.page_core.specs.declared.page.TheConstants.{SLOTS}
 use Rattle.log_records.specs.declared.limits.TheConstants.{MAX_OPEN, MAX_RECORDS}
 use Rattle.log_history.specs.Checkpoint.{open_checkpoint}
-use Rattle.log_history.specs.Transactions.{holder, is_open, is_rolling, open_in, owed}
+use Rattle.log_history.specs.Transactions.{holder, is_open, is_rolling, last_of, open_in, owed}
+use Rattle.log_history.specs.Transactions.{pending}
+use Rattle.buffer_pool.specs.Frames.{is_full, is_resident}
+use Rattle.buffer_pool.specs.Pool.{is_clean}
 use Rattle.copy_vault.specs.declared.fault.CopyFault.{CopyFault}
 use Rattle.copy_vault.specs.declared.fault.CopyFault.TheVariants as fault
 use Rattle.copy_vault.specs.Copy.{decision_at, is_undecided}
-use Rattle.copy_vault.specs.Vault.{CopyState, complete, drop_refusal, dropped, inc_refusal}
+use Rattle.copy_vault.specs.Vault.{CopyState, complete, complete_refusal, drop_refusal, dropped, inc_refusal}
 use Rattle.copy_vault.specs.Vault.{open_refusal, reading, seal_refusal, state_of}
 use Rattle.aries_core.specs.declared.event.Event.{Event}
 use Rattle.aries_core.specs.declared.event.Event.TheVariants as event
@@ -30,7 +33,7 @@ use Rattle.aries_core.specs.declared.refusal.Refusal.TheVariants.{NoMaster, NoCo
 use Rattle.aries_core.specs.declared.refusal.Refusal.TheVariants.{CopyNotComplete, PageDecided}
 use Rattle.aries_core.specs.declared.refusal.Refusal.TheVariants.{PagesLeft, TooManyCopies}
 use Rattle.aries_core.specs.declared.refusal.Refusal.TheVariants.{StoreFault, LogFault}
-use Rattle.aries_core.specs.declared.refusal.Refusal.TheVariants.{CommitUnsure}
+use Rattle.aries_core.specs.declared.refusal.Refusal.TheVariants.{CommitUnsure, PoolFull}
 use Rattle.aries_core.specs.declared.setup.PlayFault.{PlayFault}
 use Rattle.aries_core.specs.declared.setup.PlayFault.TheVariants as play
 use Rattle.aries_core.specs.EngineState.{EngineState, gathered_record, image_of, rec_lsn_of}
@@ -59,13 +62,25 @@ active_refusal s txn =
     or_else (refused_if (not (is_open s.log txn)) NoTxn)
     (refused_if (is_rolling s.log txn) TxnRolling)
 
+-- of a call that only a transaction may make that rolls back
+abbrev pub rolling_refusal : EngineState → ℕ → Option Refusal
+rolling_refusal s txn =
+    or_else (refused_if (not (is_open s.log txn)) NoTxn)
+    (refused_if (not (is_rolling s.log txn)) NotRolling)
+
+-- of a call that needs a page in memory: it has to come in, and no frame can be had for it
+abbrev pub frame_refusal : EngineState → ℕ → Option Refusal
+frame_refusal s page =
+    refused_if (not (is_resident s.resident page) && is_full s.frames (is_clean s.log s.written) s.resident)
+    PoolFull
+
 -- of a change: an Update owes its own compensation, so it takes room for two records
 abbrev pub change_refusal : EngineState → ℕ → ℕ → ℕ → ChangeKind → Option Refusal
 change_refusal s txn page slot kind =
     or_else (active_refusal s txn)
     (or_else (page_refusal s page slot)
     (or_else (option_map SlotBusy (holder s.log page slot kind txn))
-    (refused_if (has_no_room s 2) LogFull)))
+    (or_else (refused_if (has_no_room s 2) LogFull) (frame_refusal s page))))
 
 -- of a call that needs an open checkpoint
 abbrev pub ckpt_refusal : EngineState → Option Refusal
@@ -91,19 +106,20 @@ has_decided (complete copy) page = true
 has_decided dropped page = true
 
 -- the refusal that needs neither memory nor a device, in the order of the checks; a Begin owes two
--- more records, and a step of a gather that appends nothing needs no room
+-- more records, a step of a gather that appends nothing needs no room, and a step of a rollback
+-- that has nothing left to undo needs no page
 abbrev pub refusal : EngineState → Event → Option Refusal
 refusal s event.Begin =
     or_else (refused_if (nat_le MAX_OPEN (length (open_in s.log))) TooManyTxns)
     (refused_if (has_no_room s 3) LogFull)
 refusal s (event.Set txn page slot number) = change_refusal s txn page slot kind.Set
 refusal s (event.Add txn page slot amount) = change_refusal s txn page slot kind.Add
-refusal s (event.Read page slot) = page_refusal s page slot
+refusal s (event.Read page slot) = or_else (page_refusal s page slot) (frame_refusal s page)
 refusal s (event.Commit txn) = active_refusal s txn
 refusal s (event.Abort txn) = active_refusal s txn
 refusal s (event.UndoStep txn) =
-    or_else (refused_if (not (is_open s.log txn)) NoTxn)
-    (refused_if (not (is_rolling s.log txn)) NotRolling)
+    or_else (rolling_refusal s txn)
+    (option_map_or (λ p. frame_refusal s p.page) (last_of (pending s.log txn)) None)
 refusal s event.Force = None
 refusal s (event.WriteBegin page) =
     or_else (refused_if (nat_le s.pages page) PageOut)
@@ -131,6 +147,10 @@ refusal s (event.Take copy page) =
     (refused_if (has_decided (state_of s.copies copy) page) PageDecided))
 refusal s (event.Seal copy) = option_map of_vault (seal_refusal (state_of s.copies copy))
 refusal s (event.DropCopy copy) = copy_refusal s copy
+refusal s (event.Repair copy page) =
+    or_else (option_map of_vault (complete_refusal (state_of s.copies copy)))
+    (or_else (refused_if (nat_le s.pages page) PageOut)
+    (refused_if (is_some (image_of s page)) WriteBegun))
 
 -- the name, and a number behind it, if there is one
 abbrev pub line_with_any : FaultName → Option ℕ → List ℕ
@@ -162,6 +182,7 @@ line_of PageDecided = fault_line name.PageDecided
 line_of (PagesLeft page) = fault_line_with name.PagesLeft page
 line_of StoreFault = fault_line name.StoreFault
 line_of LogFault = fault_line name.LogFault
+line_of PoolFull = fault_line name.PoolFull
 line_of TooManyCopies = fault_line name.TooManyCopies
 line_of (CommitUnsure lsn) = fault_line_with name.CommitUnsure lsn
 

@@ -1,6 +1,7 @@
 -- One call of the engine: what it may answer, and what stands after it.
 use Rattle.std.specs.Prelude.{ℕ, ◌≡◌, ◌<◌, ◌≤◌, ◌⊎◌, Some, None, IsSome, IsSomeAnd, Result, Ok}
-use Rattle.std.specs.Prelude.{Err, List, [], ◌∷◌}
+use Rattle.std.specs.Prelude.{Err, List, [], ◌∷◌, false}
+use Rattle.buffer_pool.specs.Frames.{is_resident}
 use Rattle.log_records.specs.Log.{lsn_of}
 use Rattle.log_history.specs.Checkpoint.{open_checkpoint}
 use Rattle.log_store.specs.Stores.{FailsAtNext, StoreCall, StoresForced}
@@ -19,10 +20,11 @@ use Rattle.aries_core.specs.declared.refusal.Refusal.{Refusal}
 use Rattle.aries_core.specs.declared.refusal.Refusal.TheVariants.{CommitUnsure, LogFault}
 use Rattle.aries_core.specs.declared.refusal.Refusal.TheVariants.{OutOfMemory, StoreFault}
 use Rattle.aries_core.specs.EngineState.{EngineState, EngineView, appended, closed, commit_record}
-use Rattle.aries_core.specs.EngineState.{effect, end}
+use Rattle.aries_core.specs.EngineState.{Fetches, effect, end}
 use Rattle.aries_core.specs.EngineState.{forced_to, gathered_record, image_of, log_of, page_now}
 use Rattle.aries_core.specs.EngineState.{with_stored}
 use Rattle.aries_core.specs.Refusal.{refusal}
+use Rattle.aries_core.specs.Repair.{MayBeRepaired}
 
 -- some records more are forced, but not all below an LSN: the device failed at one of them
 pub record ForcedPart (target : ℕ) (old new : EngineState) : Type 0 where
@@ -52,15 +54,23 @@ abbrev pub MayBeStored : ℕ → EngineState → EngineState → Type 0
 MayBeStored page old new = IsSomeAnd (image_of old page)
     (λ image. (new ≡ old) ⊎ (new ≡ with_stored old page image))
 
--- a call that takes memory is refused some; a step of a gather takes it for a record alone
+-- a call that takes memory is refused some; a step of a gather takes it for a record alone, and a
+-- read for a page that it fetches
 abbrev pub TakesMemory : EngineState → Event → Type 0
-TakesMemory s (event.Read page slot) = ⊥
+TakesMemory s (event.Read page slot) = is_resident s.resident page ≡ false
 TakesMemory s event.Force = ⊥
 TakesMemory s (event.WriteEnd page) = ⊥
 TakesMemory s event.CkptGather = IsSome (gathered_record s)
 TakesMemory s (event.Seal copy) = ⊥
 TakesMemory s (event.DropCopy copy) = ⊥
 TakesMemory s other = Unit {0}
+
+-- a page does not come into memory, nor is it changed: for want of memory, or since the store failed
+-- at a page that is not there
+abbrev pub FailsFetching : EngineState → ℕ → Refusal → Type 0
+FailsFetching s page OutOfMemory = Unit {0}
+FailsFetching s page StoreFault = is_resident s.resident page ≡ false
+FailsFetching s page other = ⊥
 
 -- the call fails so for want of memory or by a device, and this stands then
 abbrev pub Fails : EngineState → Event → Refusal → EngineState → Type 0
@@ -76,6 +86,10 @@ Fails old event.CkptEnd LogFault new =
     IsSomeAnd (open_checkpoint old.log)
     (λ c. let after = closed old c in ForcedPart (end after) after new)
 Fails old (event.Take copy page) StoreFault new = new ≡ old
+Fails old (event.Repair copy page) LogFault new =
+    ForcedPart (end_up_to (log_of old) (page_now old page).lsn) old new
+Fails old (event.Repair copy page) StoreFault new = MayBeRepaired page old new
+Fails old event StoreFault new = Fetches old event × (new ≡ old)
 Fails old event refusal new = ⊥
 
 -- from old, an engine may reply so to the event and go on to new
@@ -123,19 +137,26 @@ abbrev pub IsByStore : Refusal → Type 0
 IsByStore StoreFault = Unit {0}
 IsByStore other = ⊥
 
+-- the store failed at a repair: the log was forced before that
+abbrev pub IsAtRepair : Event → Refusal → Type 0
+IsAtRepair (event.Repair copy page) why = IsByStore why
+IsAtRepair event why = ⊥
+
 -- the event forces nothing, so no call of the log's device is made
 abbrev pub LeavesDevice : Event → Type 0
 LeavesDevice (event.Commit txn) = ⊥
 LeavesDevice event.Force = ⊥
 LeavesDevice (event.WriteBegin page) = ⊥
 LeavesDevice event.CkptEnd = ⊥
+LeavesDevice (event.Repair copy page) = ⊥
 LeavesDevice other = Unit {0}
 
--- the event ends no write and takes no page, so no call of the page store is made
-abbrev pub LeavesStore : Event → Type 0
-LeavesStore (event.WriteEnd page) = ⊥
-LeavesStore (event.Take copy page) = ⊥
-LeavesStore other = Unit {0}
+-- the event ends no write, takes, repairs and fetches no page, so no call of the page store is made
+abbrev pub LeavesStore : EngineState → Event → Type 0
+LeavesStore s (event.WriteEnd page) = ⊥
+LeavesStore s (event.Take copy page) = ⊥
+LeavesStore s (event.Repair copy page) = ⊥
+LeavesStore s other = ¬ Fetches s other
 
 -- a reply that tells of a fault of such a kind
 abbrev pub IsFaultReply : (Refusal → Type 0) → Result Answer Refusal → Type 0

@@ -28,20 +28,22 @@ pub record IsStoredOn {S D : Type 0} (on : Storage S D) (it : EngineView S D) : 
   pub pages : on.stored it.store ≡ it.state.stored
   pub records : IsWritten on.bytes (written_log_of it)
 
--- which calls of the device a call of the engine makes: where it is answered, one for each record
--- that is forced by it; at a fault of the device so many, and then one that fails; else none
+-- which calls of the device a call of the engine makes: where it is answered, or the store failed,
+-- one for each record that is forced by it; at a fault of the device so many, and then one that
+-- fails; else none
 abbrev pub CallsDevice : {S D : Type 0} → StoreCall D → EngineView S D → Result Answer Refusal
     → EngineView S D → Type 0
 CallsDevice called old (Ok answer) new = Forces called old new
 CallsDevice called old (Err LogFault) new = FailsForcing called old new
 CallsDevice called old (Err (CommitUnsure lsn)) new = FailsForcing called old new
+CallsDevice called old (Err StoreFault) new = Forces called old new
 CallsDevice called old (Err other) new = new.device ≡ old.device
 
--- the store is not called by an event that ends no write and takes no page, nor where a call is
--- refused, unless the store fails
+-- the store is not called by an event that ends no write, takes, repairs and fetches no page, nor where a
+-- call is refused, unless the store fails
 abbrev pub MayCallStore : {S D : Type 0} → Event → EngineView S D → Result Answer Refusal
     → EngineView S D → Type 0
-MayCallStore event old (Ok answer) new = LeavesStore event → new.store ≡ old.store
+MayCallStore event old (Ok answer) new = LeavesStore old.state event → new.store ≡ old.store
 MayCallStore event old (Err StoreFault) new = Unit {0}
 MayCallStore event old (Err other) new = new.store ≡ old.store
 
@@ -71,7 +73,7 @@ RunOn on old (event ∷ events) [] new = ⊥
 -- the log's header
 pub record IsNewOn {S D : Type 0} (on : Storage S D) (pages : ℕ) (store : S) (device : D)
     (it : EngineView S D) : Type 0 where
-  pub state : it.state ≡ new_state pages
+  pub state : it.state ≡ new_state pages it.state.frames
   pub stored : IsStoredOn on it
   pub given : it.store ≡ store
   pub header : on.called device 0 (header_bytes pages) (Ok tt) it.device

@@ -6,9 +6,10 @@ use Rattle.aries_core.specs.declared.event.Event.{Event}
 use Rattle.aries_core.specs.declared.event.Event.TheVariants as event
 use Rattle.aries_core.specs.declared.refusal.Refusal.{Refusal}
 
--- an accepted end of a write answers the LSN that the page was written with
+-- an accepted end of a write, or repair, answers the LSN that the page was written with
 abbrev pub with_write : List ℕ → Event → Result Answer Refusal → List ℕ
 with_write written (event.WriteEnd page) (Ok (answer.Written lsn)) = slice_set written page lsn
+with_write written (event.Repair copy page) (Ok (answer.Repaired lsn)) = slice_set written page lsn
 with_write written event reply = written
 
 abbrev pub written_from : List ℕ → List Event → List (Result Answer Refusal) → List ℕ
@@ -17,6 +18,6 @@ written_from written (event ∷ events) [] = written
 written_from written (event ∷ events) (reply ∷ replies) =
     written_from (with_write written event reply) events replies
 
--- of each page the LSN in the last accepted end of a write of it, or 0
+-- of each page the LSN in the last accepted end of a write or repair of it, or 0
 abbrev pub written_by : ℕ → List Event → List (Result Answer Refusal) → List ℕ
 written_by pages events replies = written_from (replicate pages 0) events replies

@@ -58,8 +58,8 @@ pub fn an_unforced_checkpoint_leaves_the_master()
 
 /// The master is the last Point that was answered, so events and replies alone say which it is.
 pub fn the_master_is_the_last_point_answered()
-    ensures { (pages : ℕ) (events : List Event) (replies : List (Result Answer Refusal))
-        (new : EngineState) → Run (new_state pages) events replies new
+    ensures { (pages frames : ℕ) (events : List Event) (replies : List (Result Answer Refusal))
+        (new : EngineState) → Run (new_state pages frames) events replies new
         → new.master ≡ last_point events replies }
 {}
 
@@ -77,8 +77,8 @@ pub fn the_log_says_which_checkpoint_is_open()
 /// The replies say whether the gather of an open checkpoint has ended: its end is refused for what
 /// is left just where no gather was answered Done since it began.
 pub fn gather_left_is_exact()
-    ensures { (pages : ℕ) (events : List Event) (replies : List (Result Answer Refusal))
-        (s : EngineState) → Run (new_state pages) events replies s
+    ensures { (pages frames : ℕ) (events : List Event) (replies : List (Result Answer Refusal))
+        (s : EngineState) → Run (new_state pages frames) events replies s
         → IsSome (open_checkpoint s.log)
         → refusal s event.CkptEnd ≡ Some GatherLeft ↔ gather_ended events replies ≡ false }
 {}

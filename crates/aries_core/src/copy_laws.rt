@@ -2,8 +2,8 @@
 
 ghost use Rattle.std.specs.Prelude.{ℕ, ◌≡◌, ◌+◌, List, length, Result, Ok, is_some, map};
 ghost use Rattle.aries_core.specs.Catalogue.{catalogue, catalogue_refusal, entry_of};
-ghost use Rattle.aries_core.specs.EngineState.{EngineState, new_state};
-ghost use Rattle.aries_core.specs.Refusal.{refusal};
+ghost use Rattle.aries_core.specs.EngineState.{EngineState, image_of, new_state};
+ghost use Rattle.aries_core.specs.Refusal.{or_else, refusal, refused_if};
 ghost use Rattle.aries_core.specs.Run.{Run};
 ghost use Rattle.aries_core.specs.Step.{Step};
 ghost use Rattle.aries_core.specs.declared.event.Answer.{Answer};
@@ -11,17 +11,19 @@ ghost use Rattle.aries_core.specs.declared.event.Answer.TheVariants as answer;
 ghost use Rattle.aries_core.specs.declared.event.Event.{Event};
 ghost use Rattle.aries_core.specs.declared.event.Event.TheVariants as event;
 ghost use Rattle.aries_core.specs.declared.refusal.Refusal.{Refusal};
+ghost use Rattle.aries_core.specs.declared.refusal.Refusal.TheVariants.{WriteBegun};
 
 /// Events and replies alone say which copies there are, of which kind, what each has decided for
 /// each page, and which are complete or dropped.
 pub fn the_copies_are_those_answered()
-    ensures { (pages : ℕ) (events : List Event) (replies : List (Result Answer Refusal))
-        (new : EngineState) → Run (new_state pages) events replies new
+    ensures { (pages frames : ℕ) (events : List Event) (replies : List (Result Answer Refusal))
+        (new : EngineState) → Run (new_state pages frames) events replies new
         → map entry_of new.copies ≡ catalogue pages events replies }
 {}
 
 /// The catalogue's entries say when a call on copies is refused, together with whether a master is
-/// there and how many pages the volume has. The refusals are in the order of the checks.
+/// there and how many pages the volume has. The refusals are in the order of the checks. Of a
+/// repair they say all but that a write of the page is in progress, which comes last.
 pub fn copies_are_refused_by_the_catalogue()
     ensures full { (s : EngineState) → refusal s event.CopyFull
         ≡ catalogue_refusal (is_some s.master) s.pages (map entry_of s.copies) event.CopyFull }
@@ -34,6 +36,10 @@ pub fn copies_are_refused_by_the_catalogue()
         ≡ catalogue_refusal (is_some s.master) s.pages (map entry_of s.copies) call }
     ensures drop { (s : EngineState) (copy : ℕ) → let call = event.DropCopy copy in refusal s call
         ≡ catalogue_refusal (is_some s.master) s.pages (map entry_of s.copies) call }
+    ensures repair { (s : EngineState) (copy page : ℕ) → let call = event.Repair copy page in
+        refusal s call ≡ or_else
+        (catalogue_refusal (is_some s.master) s.pages (map entry_of s.copies) call)
+        (refused_if (is_some (image_of s page)) WriteBegun) }
 {}
 
 /// The id that is answered to the begin of a copy is its place in the catalogue, counted from 1.

@@ -2,19 +2,22 @@
 //! page, so that log, table and pool always agree.
 
 ghost use Rattle.std.specs.Prelude.{ℕ, ◌≡◌, ◌+◌, ◌<◌, ◌≤◌, ◌^◌, length, not, true, Some, None};
-ghost use Rattle.std.specs.Prelude.{IfOk, IfErr, OnOk, OnErr};
-ghost use Rattle.log_history.specs.Linked.{number_in};
+ghost use Rattle.std.specs.Prelude.{IfOk, IfErr, IfSome, OnOk, OnErr};
+ghost use Rattle.buffer_pool.specs.Frames.{IsResident};
+ghost use Rattle.buffer_pool.specs.Pool.{IsFrameCount};
 ghost use Rattle.page_core.specs.Volume.{formatted_pages};
 ghost use Rattle.log_records.specs.Log.{IsPageCount};
+ghost use Rattle.log_records.specs.Record.{change_of};
 ghost use Rattle.log_history.specs.Transactions.{is_open, last_lsn};
 ghost use Rattle.aries_core.specs.Call.{Calls};
-ghost use Rattle.aries_core.specs.EngineState.{IsFit, appended, end, forced_to, new_state};
+ghost use Rattle.aries_core.specs.EngineState.{Fetches, IsFit, appended, end, forced_to, new_state};
 ghost use Rattle.aries_core.specs.EngineState.{update_record};
-ghost use Rattle.aries_core.specs.Refusal.{active_refusal, change_refusal, has_no_room};
-ghost use Rattle.aries_core.specs.Refusal.{page_refusal};
+ghost use Rattle.aries_core.specs.Refusal.{active_refusal, change_refusal, frame_refusal};
+ghost use Rattle.aries_core.specs.Refusal.{has_no_room};
+ghost use Rattle.aries_core.specs.Refusal.{page_refusal, rolling_refusal};
 ghost use Rattle.aries_core.specs.Refusal.{refusal};
-ghost use Rattle.aries_core.specs.Step.{ForcedPart, IsByDevice, IsByStore, IsUnsure, LeavesDevice};
-ghost use Rattle.aries_core.specs.Step.{FailsForcing, Forces, LeavesStore};
+ghost use Rattle.aries_core.specs.Step.{ForcedPart, IsAtRepair, IsByDevice, IsByStore, IsUnsure};
+ghost use Rattle.aries_core.specs.Step.{FailsForcing, Forces, LeavesDevice, LeavesStore};
 ghost use Rattle.aries_core.specs.Step.{Step, reply_of, undo_answer};
 ghost use Rattle.aries_core.specs.declared.event.Answer.TheVariants as answer;
 ghost use Rattle.aries_core.specs.declared.event.Event.TheVariants as event;
@@ -73,14 +76,15 @@ impl<S: PageStore + Drop, D: LogDevice + Drop> Engine<S, D> {
     ghost use Rattle.aries_core.specs.Storage.{FailsAtHeader};
 
     /// An engine over a formatted volume, with a log without records, whose header is stored by one
-    /// call of the device. Each page has a frame of its own. The store is not called but for its
-    /// count. Where this call fails, store and device are dropped.
+    /// call of the device. No page is in memory yet. The store is not called but for its count.
+    /// Where this call fails, store and device are dropped.
     pub fn new(alloc: Global, setup: Setup, store: S, device: D) -> Result<Engine<S, D>, PlayFault>
         requires pages { IsPageCount setup.pages }
-        requires frames { setup.pages ≤ setup.frames }
+        requires frames { IsFrameCount setup.frames }
         requires formatted { S.stored store ≡ formatted_pages setup.pages }
 
-        ensures empty { IfOk result (λ it. it.state ≡ new_state setup.pages) }
+        ensures empty { IfOk result (λ it.
+            it.state ≡ new_state setup.pages setup.frames) }
         ensures store { IfOk result (λ it. it.store ≡ store) }
         ensures header { IfOk result (λ it.
             D.called device 0 (header_bytes setup.pages) (Ok tt) it.device) }
@@ -91,7 +95,7 @@ impl<S: PageStore + Drop, D: LogDevice + Drop> Engine<S, D> {
         ensures past_bound { IfErr result (λ why. why ≡ PlayFault.LogFault
             → D.fails_from device ≤ 64) }
     {
-        let Ok(pool) = Pool::new(alloc, store) else {
+        let Ok(pool) = Pool::new(alloc, store, setup.frames) else {
             return Err(PlayFault::OutOfMemory);
         };
         match Log::new(alloc, setup.pages, device) {
@@ -114,11 +118,15 @@ impl<S: PageStore, D: LogDevice> Engine<S, D> {
     pub fn apply(&mut self, event: Event) -> Reply
         ensures step { Step self.old.state event result self.new.state }
         ensures device { LeavesDevice event → self.new.device ≡ self.old.device }
-        ensures refused { IfErr result (λ why. ¬ IsByDevice why
+        ensures refused { IfErr result (λ why. ¬ IsByDevice why → ¬ IsAtRepair event why
             → self.new.device ≡ self.old.device) }
         ensures called { OnOk result (Forces D.called self.old self.new) }
+        ensures forced_first { IfErr result (λ why. IsAtRepair event why
+            → Forces D.called self.old self.new) }
         ensures last_call { IfErr result (λ why. IsByDevice why
             → FailsForcing D.called self.old self.new) }
+        ensures sound { IfErr result (λ why. ¬ IsByDevice why
+            → D.failures self.new.device ≡ D.failures self.old.device) }
         ensures no_failure { OnOk result
             (D.failures self.new.device ≡ D.failures self.old.device) }
         ensures cause { IfErr result (λ why. IsByDevice why
@@ -127,7 +135,7 @@ impl<S: PageStore, D: LogDevice> Engine<S, D> {
         ensures past_bound { IfErr result (λ why. IsByDevice why
             → D.fails_from self.old.device ≤ end self.new.state) }
 
-        ensures store { LeavesStore event → self.new.store ≡ self.old.store }
+        ensures store { LeavesStore self.old.state event → self.new.store ≡ self.old.store }
         ensures store_refused { IfErr result (λ why. ¬ IsByStore why
             → self.new.store ≡ self.old.store) }
         ensures no_store_failure { OnOk result
@@ -177,6 +185,7 @@ impl<S: PageStore, D: LogDevice> Engine<S, D> {
             }),
             Event::Seal(copy) => self.seal(copy).map(Answer::Sealed),
             Event::DropCopy(copy) => self.drop_copy(copy).map(|_| Answer::Dropped),
+            Event::Repair { copy, page } => self.repair(copy, page).map(Answer::Repaired),
         }
     }
 
@@ -200,8 +209,9 @@ impl<S: PageStore, D: LogDevice> Engine<S, D> {
         Ok((txn, lsn))
     }
 
-    /// Puts a number into a slot, and answers the LSN of its Update. Refusals in order: `NoTxn`,
-    /// `TxnRolling`, `PageOut`, `SlotOut`, `SlotBusy`, `LogFull`, `OutOfMemory`.
+    /// Puts a number into a slot, and answers the LSN of its Update. A page that is not in memory
+    /// is read from the store first. Refusals in order: `NoTxn`, `TxnRolling`, `PageOut`,
+    /// `SlotOut`, `SlotBusy`, `LogFull`, `PoolFull`, `OutOfMemory`, `StoreFault`.
     pub fn set(
         &mut self,
         txn: TxnNo,
@@ -211,15 +221,23 @@ impl<S: PageStore, D: LogDevice> Engine<S, D> {
     ) -> Result<Lsn, Refusal>
         ensures step { Step self.old.state (event.Set txn page slot number)
             (reply_of answer.Logged result) self.new.state }
-        ensures store { self.new.store ≡ self.old.store }
         ensures device { self.new.device ≡ self.old.device }
+        ensures store { ¬ Fetches self.old.state (event.Set txn page slot number)
+            → self.new.store ≡ self.old.store }
+        ensures store_refused { IfErr result (λ why. ¬ IsByStore why
+            → self.new.store ≡ self.old.store) }
+        ensures no_store_failure { OnOk result
+            (S.failures self.new.store ≡ S.failures self.old.store) }
+        ensures store_cause { IfErr result (λ why. IsByStore why
+            → S.failures self.old.store < S.failures self.new.store) }
     {
         let prev = self.find_changeable(txn, page, slot, ChangeKind::Set)?;
-        let change = Change::Set {
-            before: self.number(page, slot),
+        // The number before is read where the page is in memory.
+        let ahead = Change::Set {
+            before: 0,
             after: number,
         };
-        self.update(txn, prev, page, slot, change)
+        self.update(txn, prev, page, slot, ahead)
     }
 
     /// Adds to the number in a slot, modulo 2^64, and answers the LSN of its Update. Refusals are
@@ -233,20 +251,40 @@ impl<S: PageStore, D: LogDevice> Engine<S, D> {
     ) -> Result<Lsn, Refusal>
         ensures step { Step self.old.state (event.Add txn page slot amount)
             (reply_of answer.Logged result) self.new.state }
-        ensures store { self.new.store ≡ self.old.store }
         ensures device { self.new.device ≡ self.old.device }
+        ensures store { ¬ Fetches self.old.state (event.Add txn page slot amount)
+            → self.new.store ≡ self.old.store }
+        ensures store_refused { IfErr result (λ why. ¬ IsByStore why
+            → self.new.store ≡ self.old.store) }
+        ensures no_store_failure { OnOk result
+            (S.failures self.new.store ≡ S.failures self.old.store) }
+        ensures store_cause { IfErr result (λ why. IsByStore why
+            → S.failures self.old.store < S.failures self.new.store) }
     {
         let prev = self.find_changeable(txn, page, slot, ChangeKind::Add)?;
         self.update(txn, prev, page, slot, Change::Add { amount })
     }
 
-    /// The number in a slot, with the changes of all transactions so far. Refusals in order:
-    /// `PageOut`, `SlotOut`.
-    pub fn read(&self, page: PageNo, slot: SlotNo) -> Result<u64, Refusal>
-        ensures { Step self.now.state (event.Read page slot) (reply_of answer.Number result)
-            self.now.state }
+    /// The number in a slot, with the changes of all transactions so far. A page that is not in
+    /// memory is read from the store first; of one that is, this takes no memory. Refusals in
+    /// order: `PageOut`, `SlotOut`, `PoolFull`, `OutOfMemory`, `StoreFault`.
+    pub fn read(&mut self, page: PageNo, slot: SlotNo) -> Result<u64, Refusal>
+        ensures step { Step self.old.state (event.Read page slot) (reply_of answer.Number result)
+            self.new.state }
+        ensures log { self.new.state.log ≡ self.old.state.log }
+        ensures device { self.new.device ≡ self.old.device }
+        ensures store { ¬ Fetches self.old.state (event.Read page slot)
+            → self.new.store ≡ self.old.store }
+        ensures store_refused { IfErr result (λ why. ¬ IsByStore why
+            → self.new.store ≡ self.old.store) }
+        ensures no_store_failure { OnOk result
+            (S.failures self.new.store ≡ S.failures self.old.store) }
+        ensures store_cause { IfErr result (λ why. IsByStore why
+            → S.failures self.old.store < S.failures self.new.store) }
     {
         self.find_slot(page, slot)?;
+        self.find_frame(page)?;
+        self.bring_in(page)?;
         Ok(self.number(page, slot))
     }
 
@@ -293,27 +331,39 @@ impl<S: PageStore, D: LogDevice> Engine<S, D> {
     }
 
     /// Undoes the last pending change of a transaction that is rolling back, or ends the
-    /// transaction if none is left; answers the LSN of the Comp or End. Refusals in order: `NoTxn`,
-    /// `NotRolling`, `OutOfMemory`.
+    /// transaction if none is left; answers the LSN of the Comp or End. The page of the change is
+    /// read from the store first, where it is not in memory; to end a transaction no page is
+    /// needed. Refusals in order: `NoTxn`, `NotRolling`, `PoolFull`, `OutOfMemory`, `StoreFault`.
     pub fn undo_step(&mut self, txn: TxnNo) -> Result<Undone, Refusal>
         ensures step { Step self.old.state (event.UndoStep txn) (reply_of undo_answer result)
             self.new.state }
-        ensures store { self.new.store ≡ self.old.store }
         ensures device { self.new.device ≡ self.old.device }
+        ensures store { ¬ Fetches self.old.state (event.UndoStep txn)
+            → self.new.store ≡ self.old.store }
+        ensures store_refused { IfErr result (λ why. ¬ IsByStore why
+            → self.new.store ≡ self.old.store) }
+        ensures no_store_failure { OnOk result
+            (S.failures self.new.store ≡ S.failures self.old.store) }
+        ensures store_cause { IfErr result (λ why. IsByStore why
+            → S.failures self.old.store < S.failures self.new.store) }
     {
         let prev = self.find_rolling(txn)?;
         let lsn = self.log.end();
         match self.txns.last_pending(txn) {
             Some(last) => {
-                self.append(Record::Comp {
-                    lsn,
-                    txn,
-                    prev,
-                    undo_next: last.prev,
-                    page: last.page,
-                    slot: last.slot,
-                    change: undo_of(&last.change),
-                })?;
+                self.find_frame(last.page)?;
+                self.append_fetching(
+                    last.page,
+                    Record::Comp {
+                        lsn,
+                        txn,
+                        prev,
+                        undo_next: last.prev,
+                        page: last.page,
+                        slot: last.slot,
+                        change: undo_of(&last.change),
+                    },
+                )?;
                 Ok(Undone::Undid(lsn))
             }
             None => {
@@ -397,9 +447,8 @@ impl<S: PageStore, D: LogDevice> Engine<S, D> {
 
     /// The LSN of the last record of a transaction that rolls back.
     fn find_rolling(&self, txn: TxnNo) -> Result<Lsn, Refusal>
-        ensures refused { IfErr result (λ why.
-            refusal self.now.state (event.UndoStep txn) ≡ Some why) }
-        ensures rolling { OnOk result (refusal self.now.state (event.UndoStep txn) ≡ None) }
+        ensures refused { IfErr result (λ why. rolling_refusal self.now.state txn ≡ Some why) }
+        ensures rolling { OnOk result (rolling_refusal self.now.state txn ≡ None) }
         ensures last { IfOk result (λ last. last ≡ last_lsn self.now.state.log txn) }
         ensures still_open { OnOk result (is_open self.now.state.log txn ≡ true) }
     {
@@ -423,6 +472,8 @@ impl<S: PageStore, D: LogDevice> Engine<S, D> {
         ensures refused { IfErr result (λ why.
             change_refusal self.now.state txn page slot kind ≡ Some why) }
         ensures free { OnOk result (change_refusal self.now.state txn page slot kind ≡ None) }
+        ensures place { OnOk result (page_refusal self.now.state page slot ≡ None) }
+        ensures frame { OnOk result (frame_refusal self.now.state page ≡ None) }
         ensures last { IfOk result (λ last. last ≡ last_lsn self.now.state.log txn) }
     {
         let last = self.find_active(txn)?;
@@ -433,15 +484,8 @@ impl<S: PageStore, D: LogDevice> Engine<S, D> {
         if !self.has_room(2) {
             return Err(Refusal::LogFull);
         }
+        self.find_frame(page)?;
         Ok(last)
-    }
-
-    /// The number in a slot that is there.
-    fn number(&self, page: PageNo, slot: SlotNo) -> u64
-        requires { page_refusal self.now.state page slot ≡ None }
-        ensures { result ≡ number_in self.now.state.log page slot }
-    {
-        self.pool.current(page).slots[slot.0 as usize]
     }
 
     /// Whether records and owed records stay within the limit, with so many more.
@@ -452,40 +496,11 @@ impl<S: PageStore, D: LogDevice> Engine<S, D> {
         self.log.records().len() as u64 + self.txns.owed() + more <= MAX_RECORDS as u64
     }
 
-    /// Appends the Update of a change that may be made.
-    fn update(
-        &mut self,
-        txn: TxnNo,
-        prev: Lsn,
-        page: PageNo,
-        slot: SlotNo,
-        change: Change,
-    ) -> Result<Lsn, Refusal>
-        requires last { prev ≡ last_lsn self.old.state.log txn }
-        requires called { Calls self.old.state (update_record self.old.state txn page slot change) }
-        ensures ok { IfOk result (λ lsn. (lsn ≡ end self.old.state)
-            × (self.new.state ≡ appended self.old.state
-            (update_record self.old.state txn page slot change))) }
-        ensures err { IfErr result (λ why. (why ≡ Refusal.OutOfMemory)
-            × (self.new.state ≡ self.old.state)) }
-        ensures store { self.new.store ≡ self.old.store }
-        ensures device { self.new.device ≡ self.old.device }
-    {
-        let lsn = self.log.end();
-        self.append(Record::Update {
-            lsn,
-            txn,
-            prev,
-            page,
-            slot,
-            change,
-        })?;
-        Ok(lsn)
-    }
-
-    /// Appends the record of an accepted call, notes it and makes its change.
-    fn append(&mut self, next: Record) -> Result<(), Refusal>
-        requires { Calls self.old.state next }
+    /// Appends the record of an accepted call, notes it and makes its change, whose page is in
+    /// memory.
+    pub(crate) fn append(&mut self, next: Record) -> Result<(), Refusal>
+        requires called { Calls self.old.state next }
+        requires there { IfSome (change_of next) (λ c. IsResident self.old.state.resident c.page) }
         ensures ok { OnOk result (self.new.state ≡ appended self.old.state next) }
         ensures err { IfErr result (λ why. (why ≡ Refusal.OutOfMemory)
             × (self.new.state ≡ self.old.state)) }

@@ -59,6 +59,11 @@ pub enum Event {
     Seal(CopyId),
     /// Drops an image copy that is being read.
     DropCopy(CopyId),
+    /// Stores a page anew, rebuilt from a complete image copy and the log.
+    Repair {
+        copy: CopyId,
+        page: PageNo,
+    },
 }
 
 /// What an accepted call answers.
@@ -96,6 +101,8 @@ pub enum Answer {
     Sealed(u32),
     /// The copy is dropped.
     Dropped,
+    /// The LSN of the page that was rebuilt and stored.
+    Repaired(Lsn),
 }
 
 /// What a step of a rollback did.

@@ -32,7 +32,8 @@ ghost use Rattle.aries_core.specs.declared.refusal.Refusal.TheVariants.{LogFull,
 /// A new engine is fit: its log has a spelling, is linked, and has room for what open transactions
 /// may still need.
 pub fn a_new_engine_is_fit()
-    ensures { (pages : ℕ) → IsPageCount pages → IsFit (new_state pages) }
+    ensures { (pages frames : ℕ) → IsPageCount pages
+        → IsFit (new_state pages frames) }
 {}
 
 /// An engine stays fit, whatever calls come and whatever its device does.
@@ -85,12 +86,12 @@ pub fn an_answered_commit_is_forced()
 /// The record of each Commit that was answered in a run is at its LSN, and is forced. So it is in
 /// each log that a crash may leave.
 pub fn answered_commits_are_kept()
-    ensures forced { (pages : ℕ) (events : List Event) (replies : List (Result Answer Refusal))
-        (new : EngineState) → Run (new_state pages) events replies new
+    ensures forced { (pages frames : ℕ) (events : List Event) (replies : List (Result Answer Refusal))
+        (new : EngineState) → Run (new_state pages frames) events replies new
         → All (λ commit. StandsIn new.log commit × (commit.lsn < new.forced_end))
         (answered_commits events replies) }
-    ensures kept { (pages : ℕ) (events : List Event) (replies : List (Result Answer Refusal))
-        (new : EngineState) (kept : Log) → Run (new_state pages) events replies new
+    ensures kept { (pages frames : ℕ) (events : List Event) (replies : List (Result Answer Refusal))
+        (new : EngineState) (kept : Log) → Run (new_state pages frames) events replies new
         → IsKeptOf (log_of new) new.forced_end kept
         → All (StandsIn kept.records) (answered_commits events replies) }
 {}
@@ -136,7 +137,7 @@ pub fn stored_pages_cover_their_rec_lsn()
 /// The LSN of the last write of each page is the one that its last accepted end of a write
 /// answered, so events and replies alone say with the log which pages are dirty.
 pub fn the_written_lsns_are_those_answered()
-    ensures { (pages : ℕ) (events : List Event) (replies : List (Result Answer Refusal))
-        (new : EngineState) → Run (new_state pages) events replies new
+    ensures { (pages frames : ℕ) (events : List Event) (replies : List (Result Answer Refusal))
+        (new : EngineState) → Run (new_state pages frames) events replies new
         → new.written ≡ written_by pages events replies }
 {}

@@ -7,12 +7,14 @@ mod copies;
 mod copy_laws;
 mod engine;
 mod event;
+mod fetches;
 mod laws;
 mod open_ckpt;
 mod page_writes;
 mod played;
 mod readers;
 mod refusal;
+mod repair;
 mod retire;
 mod setup;
 

@@ -11,6 +11,7 @@ ghost use Rattle.aries_core.specs.Step.{IsByDevice, IsByStore, IsFaultReply};
 ghost use Rattle.aries_core.specs.Storage.{FailsAtHeader, PlaysOn};
 ghost use Rattle.aries_core.specs.Written.{written_by};
 ghost use Rattle.page_core.specs.Volume.{formatted_pages};
+ghost use Rattle.buffer_pool.specs.Pool.{IsFrameCount};
 
 use crate::engine::Engine;
 use crate::event::{Event, Reply};
@@ -41,11 +42,11 @@ pub fn play<S: PageStore + Drop, D: LogDevice + Drop>(
     events: &[Event],
 ) -> Result<Played<S, D>, PlayFault>
     requires pages { IsPageCount setup.pages }
-    requires frames { setup.pages ≤ setup.frames }
+    requires frames { IsFrameCount setup.frames }
     requires formatted { S.stored store ≡ formatted_pages setup.pages }
 
     ensures run { IfOk result (λ it.
-        Run (new_state setup.pages) events.now it.replies.items it.engine.state) }
+        Run (new_state setup.pages setup.frames) events.now it.replies.items it.engine.state) }
     ensures work { IfOk result (λ it.
         work it.engine.state.log ≡ accepted events.now it.replies.items) }
     ensures written { IfOk result (λ it.
@@ -65,6 +66,7 @@ pub fn play<S: PageStore + Drop, D: LogDevice + Drop>(
           store_failures = S.failures;
         })
         setup.pages store device events.now it.replies.items it.engine) }
+    ensures frames { IfOk result (λ it. it.engine.state.frames ≡ setup.frames) }
 
     // So the device failed just where a reply tells of it.
     ensures no_failure { IfOk result (λ it.

@@ -8,6 +8,7 @@ ghost use Rattle.aries_core.specs.Step.{IsByStore, written_log_of};
 
 use crate::engine::Engine;
 use crate::refusal::Refusal;
+use copy_vault::Vault;
 use log_records::DirtyPages;
 use log_store::{Log, LogDevice};
 use page_core::{Page, PageNo};
@@ -25,6 +26,13 @@ impl<S: PageStore, D: LogDevice> Engine<S, D> {
     {
         let _ = self.log.device();
         &self.log
+    }
+
+    /// Its image copies.
+    pub fn copies(&self) -> &Vault
+        ensures { result.now.copies ≡ self.now.state.copies }
+    {
+        &self.vault
     }
 
     /// The dirty page table from a page on: up to three dirty pages in order of their numbers, each

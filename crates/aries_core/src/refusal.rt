@@ -51,9 +51,13 @@ pub enum Refusal {
     PageDecided,
     /// Nothing is decided yet of this page, the least such one.
     PagesLeft(PageNo),
-    /// The page store failed. The write stays in progress with its image, and may be ended again;
-    /// the old page is stored, or the image.
+    /// The page store failed. At the end of a write, the write stays in progress with its image, and
+    /// may be ended again; the old page is stored, or the image. At a repair the log is forced
+    /// through the page's LSN, the old page is stored, or the rebuilt one, and the page is as dirty
+    /// as before. At a call that reads a page, nothing changed.
     StoreFault,
+    /// The page has to come in, each frame is taken, and none has a clean page.
+    PoolFull,
     /// All 1,024 ids of copies were given, dropped ones counted.
     TooManyCopies,
     /// The log's device failed. The records that were stored before the fault count as forced.
@@ -128,6 +132,7 @@ impl Refusal {
             Refusal::PagesLeft(page) => (FaultName::PagesLeft, Some(page.0 as u64)),
             Refusal::StoreFault => (FaultName::StoreFault, None),
             Refusal::LogFault => (FaultName::LogFault, None),
+            Refusal::PoolFull => (FaultName::PoolFull, None),
             Refusal::TooManyCopies => (FaultName::TooManyCopies, None),
             Refusal::CommitUnsure(lsn) => (FaultName::CommitUnsure, Some(lsn.0)),
         }

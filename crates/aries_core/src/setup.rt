@@ -9,7 +9,7 @@ use std::fmt;
 pub struct Setup {
     /// How many pages the volume has: 1 to 65,536.
     pub pages: u32,
-    /// How many pages are held in memory at most.
+    /// How many frames there are for pages in memory: 1 to 65,536.
     pub frames: u32,
 }
 

@@ -1,6 +1,9 @@
 pub mod Bits
 pub mod Columns
 pub mod Dirty
+pub mod Fetching
 pub mod PageSets
 pub mod Pools
+pub mod Repaired
 pub mod States
+pub mod Taken

@@ -1,22 +1,21 @@
 -- A pool of a log, while the log grows and writes go on.
 use Rattle.std.proofs.Common.{◌≡◌, ◌≢◌, ℕ, zero, suc, ◌<◌, ◌≤◌, List, [], ◌∷◌, ◌++◌, length, get_or, set, map}
-use Rattle.std.proofs.Common.{refl, sym, ap, subst, ◌∙◌, arith, inl, inr, replicate}
-use Rattle.std.specs.Prelude.{Option, Some, None, IfSome, ◌==◌, false, Vec}
+use Rattle.std.proofs.Common.{refl, sym, ap, subst, ◌∙◌, arith, inl, inr, replicate, Bool, ◌||◌, true≢false}
+use Rattle.std.specs.Prelude.{Option, Some, None, IfSome, IsSome, ◌==◌, false, is_none}
 use Rattle.std.specs.List.{All}
 use Rattle.std.specs.Option.{option_map_or}
-use Rattle.std.specs.Vec.{with_items}
 use Rattle.std.proofs.lemmas.Bool.{cases_eq, eq-eqb, ne_eqb}
 use Rattle.std.proofs.lemmas.List.{get_or-map, get_or-replicate, get_or-set_other, get_or-set_same, length-map}
 use Rattle.std.proofs.lemmas.List.{get_or_push, length-replicate, length-set, length_push, map-set, set-get_or}
-use Rattle.std.proofs.lemmas.List.{with_items_is}
-use Rattle.std.proofs.lemmas.List.Elements.{All-map, All-weaker}
+use Rattle.std.proofs.lemmas.List.Folds.{list_any_at, list_any_none}
+use Rattle.std.proofs.lemmas.List.Elements.{All-map, All-nil, All-weaker}
 use Rattle.std.proofs.lemmas.List.FromFn.{get_or-map-range_with_len, length-map-range_with_len}
 use Rattle.page_core.specs.declared.page.Page.{Page}
 use Rattle.page_core.specs.Page.{formatted}
-use Rattle.page_core.specs.Volume.{AreNumbered, formatted_pages}
+use Rattle.page_core.specs.Volume.{formatted_pages}
 use Rattle.log_records.specs.declared.record.Record.{Record}
 use Rattle.log_records.specs.declared.page_change.PageChange.{PageChange}
-use Rattle.log_records.specs.Image.{image, with_record}
+use Rattle.log_records.specs.Image.{image, with_change, with_record}
 use Rattle.log_records.specs.Log.{IsLog, IsPageCount, IsWithin, Log, lsn_of}
 use Rattle.log_records.specs.Record.{change_of, own_lsn}
 use Rattle.log_records.specs.Log.{with_next}
@@ -25,8 +24,9 @@ use Rattle.log_records.proofs.Images.{image_from-append, number-image, number-wi
 use Rattle.page_store.specs.Store.{StoresOrKeeps}
 use Rattle.log_records.specs.Coverage.{AreStored, IsPast}
 use Rattle.log_records.proofs.Stored.{past_is_older, past_now, stored_begun, stored_ended, stored_failed, stored_later}
-use Rattle.buffer_pool.specs.Pool.{IsPoolOf, IsStateOf, IsWhole, PageState, PoolView, changed, new_pool, state_at}
-use Rattle.buffer_pool.specs.Pool.{state_in, unwritten, with_state}
+use Rattle.buffer_pool.specs.Frames.{IsResident, is_resident}
+use Rattle.buffer_pool.specs.Pool.{AreHeld, IsPoolOf, IsStateOf, PageState, PoolView, changed, is_clean_in, new_pool}
+use Rattle.buffer_pool.specs.Pool.{state_at, state_in, unwritten, whole_pool, with_state}
 use Rattle.buffer_pool.specs.Pool.{write_begun, write_ended, writing_of, written_of}
 use Rattle.buffer_pool.proofs.States.{state_begun, state_changed, state_ended, state_new, state_same}
 
@@ -45,7 +45,7 @@ states_set P states n s here others there p d lt =
     ]
 
 -- a column that a new state leaves
-column_same : {X : Type 0} (part : PageState → X) (states : List PageState) (n : ℕ) (s : PageState)
+pub column_same : {X : Type 0} (part : PageState → X) (states : List PageState) (n : ℕ) (s : PageState)
     → n < length states → part s ≡ part (get_or states n unwritten)
     → map part (set states n s) ≡ map part states
 column_same part states n s there same =
@@ -53,7 +53,7 @@ column_same part states n s there same =
     ∙ ap (set (map part states) n) (same ∙ sym (get_or-map part states n unwritten (part s) there))
     ∙ set-get_or (map part states) n (part s)
 
-at_column : (states : List PageState) (n : ℕ) → n < length states
+pub at_column : (states : List PageState) (n : ℕ) → n < length states
     → get_or (writing_of states) n None ≡ (get_or states n unwritten).writing
 at_column states n there = get_or-map (λ (s : PageState). s.writing) states n unwritten None there
 
@@ -93,18 +93,34 @@ page_is_there stored_in log next pool c some valid is =
     (change_within log.pages next within) in
     omega (arith, is.pages)
 
+-- the same pages are resident
+pub resident_later : (pages : List Page) (next : Record) (n : ℕ)
+    → is_resident (map (λ page. with_record page next) pages) n ≡ is_resident pages n
+resident_later [] next n = refl
+resident_later (page ∷ pages) next n =
+    ap (λ (k : ℕ). (k == n) || is_resident (map (λ page. with_record page next) pages) n)
+    (number-with_record page next)
+    ∙ ap (λ (b : Bool). (page.number == n) || b) (resident_later pages next n)
+
 -- what a pool is after a record more, if each state is
 later : {S : Type 0} (stored_in : S → List Page) (log : Log) (next : Record) (pool : PoolView S)
     (states : List PageState)
     → IsLog (with_next log (next ∷ [])) → IsPoolOf stored_in log pool → length states ≡ length pool.states
     → written_of states ≡ written_of pool.states → writing_of states ≡ writing_of pool.states
     → ((p : ℕ) (d : PageState) → p < length states → IsStateOf (with_next log (next ∷ [])) p (get_or states p d))
+    → AreHeld pool.resident states
     → IsPoolOf stored_in (with_next log (next ∷ []))
     (record pool { resident = map (λ page. with_record page next) pool.resident; states = states })
-later stored_in log next pool states valid is count written writing each = record {
+later stored_in log next pool states valid is count written writing each held = record {
   valid = valid;
   pages = is.pages ∙ sym count;
+  few = omega (arith, is.few, length-map pool.resident (λ (page : Page). with_record page next));
+  within = All-map (λ page. page.number < length states) (λ page. with_record page next) pool.resident
+      (All-weaker (λ page. page.number < length pool.states)
+      (λ page. (with_record page next).number < length states)
+      (λ page lt. omega (arith, number-with_record page next, count)) pool.resident is.within);
   resident = images_later log.records next pool.resident is.resident;
+  held = λ p lt dirty. resident_later pool.resident next p ∙ held p lt dirty;
   states = each;
   stored = rw (written, writing)
       (stored_later log.records (next ∷ []) (stored_in pool.store) (written_of pool.states)
@@ -121,15 +137,17 @@ pool_same stored_in log next pool none valid is =
     state_same log next p (get_or pool.states p d) is.valid (own_is log next valid)
     (ap (λ (o : Option PageChange). option_map_or (λ c. c.page == p) o false) none)
     (is.states p d lt))
+    is.held
 
 -- one that changes a page
 pub pool_changed : {S : Type 0} (stored_in : S → List Page) (log : Log) (next : Record) (pool : PoolView S)
-    (c : PageChange) → change_of next ≡ Some c → IsLog (with_next log (next ∷ [])) → IsPoolOf stored_in log pool
+    (c : PageChange) → change_of next ≡ Some c → IsResident pool.resident c.page → IsLog (with_next log (next ∷ []))
+    → IsPoolOf stored_in log pool
     → IsPoolOf stored_in (with_next log (next ∷ [])) (record pool {
       resident = map (λ page. with_record page next) pool.resident;
       states = set pool.states c.page (changed (state_in pool.states c.page) (own_lsn next));
     })
-pool_changed stored_in log next pool c some valid is =
+pool_changed stored_in log next pool c some here valid is =
     let there = page_is_there stored_in log next pool c some valid is in
     let states = pool.states in
     let n = c.page in
@@ -148,6 +166,20 @@ pool_changed stored_in log next pool c some valid is =
     (ap (λ (o : Option PageChange). option_map_or (λ x. x.page == p) o false) some
     ∙ ne_eqb n p (λ same. other (sym same)))
     (is.states p d lt)) there)
+    (λ p lt dirty. elim (cases_eq p n) [
+      | inl same ↦ subst (IsResident pool.resident) (sym same) here
+      | inr other ↦ is.held p (omega (arith, length-set states n new))
+          (ap (λ (s : PageState). is_none s.rec_lsn) (sym (get_or-set_other states n p new unwritten other)) ∙ dirty)
+    ])
+
+-- a record that changes no page leaves them
+pub none_changes : (r : Record) (pages : List Page) → change_of r ≡ None
+    → map (λ page. with_record page r) pages ≡ pages
+none_changes r [] none = refl
+none_changes r (page ∷ pages) none =
+    ap (λ (q : Page). q ∷ map (λ page. with_record page r) pages)
+    (ap (λ (o : Option PageChange). option_map_or (with_change page (own_lsn r)) o page) none)
+    ∙ ap (λ (qs : List Page). page ∷ qs) (none_changes r pages none)
 
 pub changed_at : (before after : List PageState) (n lsn own : ℕ)
     → after ≡ set before n (changed (state_in before n) lsn)
@@ -173,33 +205,6 @@ pub numbers_later : (pages : List Page) (next : Record)
 numbers_later [] next = refl
 numbers_later (page ∷ pages) next = rw (number-with_record page next, numbers_later pages next) refl
 
--- the pages that the code has after it
-pub frames_later : {Z : Type 0} (frames : Vec Page Z) (now pages : List Page) (next : Record) → now ≡ frames.items
-    → pages ≡ map (λ page. with_record page next) now
-    → (with_items frames pages).items ≡ map (λ page. with_record page next) frames.items
-frames_later frames now pages next is e =
-    let step = λ (page : Page). with_record page next in
-    let same : pages ≡ map step frames.items = e ∙ ap (map step) is in
-    let count : length pages ≡ length frames.items = ap length same ∙ length-map frames.items step in
-    with_items_is frames pages (omega (arith, frames.ok.0)) ∙ same
-
-pub whole_later : (stored frames frames' : List Page) (states states' : List PageState) (next : Record)
-    → IsWhole stored frames states → frames' ≡ map (λ page. with_record page next) frames
-    → length states' ≡ length states → IsWhole stored frames' states'
-whole_later stored frames frames' states states' next is e count =
-    let step = λ (page : Page). with_record page next in
-    let long : length frames' ≡ length frames = ap length e ∙ length-map frames step in
-    record {
-      few = omega (arith, is.few);
-      stored_count = is.stored_count ∙ sym count;
-      stored_numbers = is.stored_numbers;
-      frame_count = long ∙ is.frame_count ∙ sym count;
-      frame_numbers = subst AreNumbered (sym e) (λ k d lt.
-          let below : k < length frames = omega (arith, length-map frames step) in
-          ap (λ (page : Page). page.number) (get_or-map step frames k d d below)
-          ∙ number-with_record (get_or frames k d) next ∙ is.frame_numbers k d below);
-    }
-
 -- ---- the store alone is another, with the same pages
 
 pub pool_kept : {S : Type 0} (stored_in : S → List Page) (log : Log) (pool : PoolView S) (store : S)
@@ -208,21 +213,51 @@ pub pool_kept : {S : Type 0} (stored_in : S → List Page) (log : Log) (pool : P
 pool_kept stored_in log pool store same is = record {
   valid = is.valid;
   pages = is.pages;
+  few = is.few;
+  within = is.within;
   resident = is.resident;
+  held = is.held;
   states = is.states;
   stored =
       subst (λ (pages : List Page). AreStored log.records pages (written_of pool.states) (writing_of pool.states))
       (sym same) is.stored;
 }
 
+-- ---- one state is another
+
+none_some : {X : Type 0} (x : X) → None ≡ Some x → ⊥
+none_some x e = cc
+
+pub within_set : (pages : List Page) (states : List PageState) (n : ℕ) (s : PageState)
+    → All (λ page. page.number < length states) pages → All (λ page. page.number < length (set states n s)) pages
+within_set pages states n s within =
+    All-weaker (λ page. page.number < length states) (λ page. page.number < length (set states n s))
+    (λ page lt. omega (arith, length-set states n s)) pages within
+
+-- a page that is dirty then was dirty before
+pub held_set : (pages : List Page) (states : List PageState) (n : ℕ) (s : PageState) → n < length states
+    → (is_none s.rec_lsn ≡ false → is_clean_in states n ≡ false)
+    → AreHeld pages states → AreHeld pages (set states n s)
+held_set pages states n s there was held = λ p lt dirty.
+    let below : p < length states = omega (arith, length-set states n s) in
+    elim (cases_eq p n) [
+      | inl same ↦
+          let at : get_or (set states n s) p unwritten ≡ s =
+          ap (λ (k : ℕ). get_or (set states n s) k unwritten) same ∙ get_or-set_same states n s unwritten there in
+          subst (IsResident pages) (sym same)
+          (held n there (was (ap (λ (x : PageState). is_none x.rec_lsn) (sym at) ∙ dirty)))
+      | inr other ↦ held p below
+          (ap (λ (x : PageState). is_none x.rec_lsn) (sym (get_or-set_other states n p s unwritten other)) ∙ dirty)
+    ]
+
 -- ---- a write begins
 
 pub pool_begun : {S : Type 0} (stored_in : S → List Page) (log : Log) (pool : PoolView S) (q : Page)
     → q.number < length pool.states → q ≡ image log.records q.number
-    → length (stored_in pool.store) ≡ length pool.states
+    → length (stored_in pool.store) ≡ length pool.states → IsSome (state_at pool q.number).rec_lsn
     → IsPoolOf stored_in log pool
     → IsPoolOf stored_in log (with_state pool q.number (write_begun (state_at pool q.number) q))
-pool_begun stored_in log pool q there now count is =
+pool_begun stored_in log pool q there now count changed is =
     let n = q.number in
     let states = pool.states in
     let old = state_at pool n in
@@ -239,9 +274,12 @@ pool_begun stored_in log pool q there now count is =
     record {
       valid = is.valid;
       pages = is.pages ∙ sym (length-set states n new);
+      few = is.few;
+      within = within_set pool.resident states n new is.within;
       resident = is.resident;
+      held = held_set pool.resident states n new there (λ dirty. dirty) is.held;
       states = states_set (IsStateOf log) states n new
-          (state_begun log n old q is.valid now (is.states n unwritten there))
+          (state_begun log n old q is.valid now changed (is.states n unwritten there))
           (λ p d lt other. is.states p d lt) there;
       stored = rw (
         column_same (λ (s : PageState). s.written) states n new there refl,
@@ -270,7 +308,10 @@ pool_ended stored_in log pool store n q there here count stores is =
     record {
       valid = is.valid;
       pages = is.pages ∙ sym (length-set states n new);
+      few = is.few;
+      within = within_set pool.resident states n new is.within;
       resident = is.resident;
+      held = held_set pool.resident states n new there (λ dirty. not_idle old.rec_lsn refl) is.held;
       states = states_set (IsStateOf log) states n new (state_ended log n old q here (is.states n unwritten there))
           (λ p d lt other. is.states p d lt) there;
       stored = rw (
@@ -280,6 +321,10 @@ pool_ended stored_in log pool store n q there here count stores is =
             (λ (s : PageState). s.writing) states n new,
       ) ended;
     }
+  where
+    not_idle : (o : Option ℕ) → (state_at pool n).rec_lsn ≡ o → is_none o ≡ false
+    not_idle None clean = absurd (none_some q (sym ((is.states n unwritten there).idle clean) ∙ here))
+    not_idle (Some x) dirty = refl
 
 -- ---- a write fails
 
@@ -297,7 +342,10 @@ pool_failed stored_in log pool store n q there here count either is = elim eithe
       record {
         valid = is.valid;
         pages = is.pages;
+        few = is.few;
+        within = is.within;
         resident = is.resident;
+        held = is.held;
         states = is.states;
         stored = rw stores failed;
       }
@@ -334,17 +382,26 @@ formatted_now n = λ p d lt.
     get_or-map-range_with_len formatted 0 n p p d below (omega arith) in
     rw here (ap formatted (sym (number-image [] p)))
 
-pub pool_new : {S : Type 0} (stored_in : S → List Page) (store : S) (n : ℕ) → IsPageCount n
-    → stored_in store ≡ formatted_pages n
-    → IsPoolOf stored_in (record { pages = n; records = [] }) (new_pool store n)
-pool_new stored_in store n count holds = record {
+-- a pool of nothing but unwritten pages
+pub pool_of_none : {S : Type 0} (stored_in : S → List Page) (store : S) (n frames : ℕ) (resident : List Page)
+    → IsPageCount n → stored_in store ≡ formatted_pages n → length resident ≤ frames
+    → All (λ page. page.number < n) resident → All (λ page. page ≡ image [] page.number) resident
+    → IsPoolOf stored_in (record { pages = n; records = [] })
+    (record (new_pool store n frames) { resident = resident })
+pool_of_none stored_in store n frames resident count holds few within now = record {
   valid = record {
     pages = count;
     count = omega arith;
     records = λ i d lt. absurd (omega arith);
   };
   pages = sym (length-replicate n unwritten);
-  resident = formatted_now n;
+  few = few;
+  within = subst (λ (k : ℕ). All (λ page. page.number < k) resident) (sym (length-replicate n unwritten)) within;
+  resident = now;
+  held = λ p lt dirty.
+      let below : p < n = omega (arith, length-replicate n unwritten) in
+      absurd (true≢false (sym (ap (λ (s : PageState). is_none s.rec_lsn)
+      (get_or-replicate n p unwritten unwritten below)) ∙ dirty));
   states = λ p d lt.
       let below : p < n = omega (arith, length-replicate n unwritten) in
       rw (get_or-replicate n p unwritten d below) (state_new n p);
@@ -355,6 +412,45 @@ pool_new stored_in store n count holds = record {
         (λ (s : PageState). s.writing) n unwritten,
   ) (stored_new n);
 }
+
+pub pool_new : {S : Type 0} (stored_in : S → List Page) (store : S) (n frames : ℕ) → IsPageCount n
+    → stored_in store ≡ formatted_pages n
+    → IsPoolOf stored_in (record { pages = n; records = [] }) (new_pool store n frames)
+pool_new stored_in store n frames count holds =
+    pool_of_none stored_in store n frames [] count holds (omega arith) (All-nil (λ page. page.number < n))
+    (All-nil (λ page. page ≡ image [] page.number))
+
+pub formatted_within : (n : ℕ) → All (λ page. page.number < n) (formatted_pages n)
+unfolding formatted
+formatted_within n = λ p d lt.
+    let below : p < n = omega (arith, length-map-range_with_len formatted 0 n) in
+    let here : get_or (formatted_pages n) p d ≡ formatted p =
+    get_or-map-range_with_len formatted 0 n p p d below (omega arith) in
+    rw here below
+
+-- a formatted page is not among those before it
+pub next_absent : (n : ℕ) → is_resident (formatted_pages n) (formatted n).number ≡ false
+unfolding formatted
+next_absent n =
+    list_any_none (λ (page : Page). page.number == n) (formatted_pages n) (λ p d lt.
+    let low : (get_or (formatted_pages n) p d).number < n = formatted_within n p d lt in
+    ne_eqb (get_or (formatted_pages n) p d).number n (λ same. omega (arith, low, same)))
+
+-- every page is among as many as there are
+pub formatted_all : (n p : ℕ) → p < n → IsResident (formatted_pages n) p
+unfolding formatted
+formatted_all n p lt =
+    list_any_at (λ (page : Page). page.number == p) (formatted_pages n) p (formatted p)
+    (omega (arith, length-map-range_with_len formatted 0 n))
+    (ap (λ (page : Page). page.number == p) (get_or-map-range_with_len formatted 0 n p p (formatted p) lt (omega arith))
+    ∙ eq-eqb p p refl)
+
+pub pool_whole : {S : Type 0} (stored_in : S → List Page) (store : S) (n : ℕ) → IsPageCount n
+    → stored_in store ≡ formatted_pages n
+    → IsPoolOf stored_in (record { pages = n; records = [] }) (whole_pool store n)
+pool_whole stored_in store n count holds =
+    pool_of_none stored_in store n n (formatted_pages n) count holds
+    (omega (arith, length-map-range_with_len formatted 0 n)) (formatted_within n) (formatted_now n)
 
 -- ---- what is stored
 

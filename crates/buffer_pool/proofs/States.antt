@@ -1,8 +1,9 @@
 -- The state of a page, while its log grows and writes of it go on.
 use Rattle.std.proofs.Common.{◌≡◌, ℕ, ◌*◌, ◌<◌, ◌≤◌, Bool, true, false, cond, List, [], ◌∷◌, ◌++◌, length, take}
 use Rattle.std.proofs.Common.{refl, sym, ap, subst, ◌∙◌, arith}
-use Rattle.std.specs.Prelude.{Option, Some, None, IfSome, is_some}
+use Rattle.std.specs.Prelude.{Option, Some, None, IfSome, IsSome, is_some}
 use Rattle.std.specs.Option.{option_and_then, unwrap_or}
+use Rattle.std.proofs.lemmas.Bool.{false≢true}
 use Rattle.std.proofs.lemmas.List.{length_push, take_all}
 use Rattle.page_core.specs.declared.page.Page.{Page}
 use Rattle.log_records.specs.declared.record.Record.{Record}
@@ -45,6 +46,7 @@ state_same log next p s valid own other is = record {
   image = image_later log next s.writing is.image;
   since = is.since ∙ since_same s.writing is.image;
   dirty = is.dirty ∙ rec_same log next p s.written valid own other is.written;
+  idle = is.idle;
 }
   where
     since_same : (o : Option Page) → IfSome o (λ q. q.lsn < lsn_of (length log.records))
@@ -73,6 +75,7 @@ state_changed log next p s valid own here is = record {
   since = since_noted s.writing s.since is.image is.since;
   dirty = ap (λ (o : Option ℕ). Some (unwrap_or o (own_lsn next))) is.dirty
       ∙ rec_noted log next p s.written valid own here is.written;
+  idle = λ clean. absurd (cc);
 }
   where
     since_noted : (o : Option Page) (since : Option ℕ) → IfSome o (λ q. q.lsn < lsn_of (length log.records))
@@ -96,14 +99,15 @@ image_below log p valid =
     omega arith
 
 pub state_begun : (log : Log) (p : ℕ) (s : PageState) (q : Page) → IsLog log → q ≡ image log.records p
-    → IsStateOf log p s → IsStateOf log p (write_begun s q)
-state_begun log p s q valid now is =
+    → IsSome s.rec_lsn → IsStateOf log p s → IsStateOf log p (write_begun s q)
+state_begun log p s q valid now noted is =
     subst (λ (x : Page). IsStateOf log p (write_begun s x)) (sym now)
     (record {
       written = is.written;
       image = image_below log p valid;
       since = sym (image_is_clean log p valid);
       dirty = is.dirty;
+      idle = λ clean. absurd (false≢true (subst IsSome clean noted));
     })
 
 pub state_ended : (log : Log) (p : ℕ) (s : PageState) (q : Page) → s.writing ≡ Some q → IsStateOf log p s
@@ -114,9 +118,10 @@ state_ended log p s q here is = record {
   image = tt;
   since = refl;
   dirty = is.since ∙ ap (option_and_then (λ x. rec_lsn log.records p x.lsn)) here;
+  idle = λ clean. refl;
 }
 
 -- ---- the log's beginning
 
 pub state_new : (pages p : ℕ) → IsStateOf (record { pages = pages; records = [] }) p unwritten
-state_new pages p = record { written = omega arith; image = tt; since = refl; dirty = refl }
+state_new pages p = record { written = omega arith; image = tt; since = refl; dirty = refl; idle = λ clean. refl }

@@ -1,4 +1,5 @@
 pub mod BitRow
+pub mod Frames
 pub mod PageSet
 pub mod PageStates
 pub mod Pool

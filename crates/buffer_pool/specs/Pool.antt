@@ -1,6 +1,7 @@
 -- A pool of pages that are changed as their log grows, and written to a store meanwhile.
-use Rattle.std.specs.Prelude.{ℕ, ◌≡◌, ◌<◌, ◌≤◌, List, length, map, replicate, slice_index_or}
-use Rattle.std.specs.Prelude.{slice_set, Option, None, Some, IfSome, is_some, if◌then◌else◌}
+use Rattle.std.specs.Prelude.{ℕ, ◌≡◌, ◌<◌, ◌≤◌, Bool, false, List, [], length, map, replicate}
+use Rattle.std.specs.Prelude.{slice_index, slice_index_or, slice_set, Option, None, Some, IfSome}
+use Rattle.std.specs.Prelude.{is_none, is_some, if◌then◌else◌}
 use Rattle.std.specs.List.{All}
 use Rattle.std.specs.Option.{option_and_then, unwrap_or}
 use Rattle.page_core.specs.declared.page.Page.{Page}
@@ -10,6 +11,9 @@ use Rattle.log_records.specs.Image.{image}
 use Rattle.log_records.specs.Log.{IsLog, Log, lsn_of}
 use Rattle.log_records.specs.Coverage.{AreStored, dirty, next_dirty, rec_lsn}
 use Rattle.log_records.specs.declared.dirty_page.DirtyPage.{DirtyPage}
+use Rattle.log_records.specs.declared.record.Record.{Record}
+use Rattle.buffer_pool.specs.declared.frame.TheConstants.{MAX_FRAMES}
+use Rattle.buffer_pool.specs.Frames.{IsResident}
 
 -- what a pool knows of a page beside its content: the LSN of its last write, its RecLSN where it is
 -- dirty, and, while it is being written, the image and the LSN of the first change since
@@ -19,10 +23,12 @@ pub record PageState : Type 0 where
   pub writing : Option Page
   pub since : Option ℕ
 
--- the store, the resident pages in the order in which they were fetched, and the state of each page
--- of the volume
+-- the store, how many frames there are, for how many more pages memory is at hand, the resident
+-- pages in the order in which they were fetched, and the state of each page of the volume
 pub record PoolView (S : Type 0) : Type 0 where
   pub store : S
+  pub frames : ℕ
+  pub room : ℕ
   pub resident : List Page
   pub states : List PageState
 
@@ -47,21 +53,39 @@ written_of states = map (λ (s : PageState). s.written) states
 abbrev pub writing_of : List PageState → List (Option Page)
 writing_of states = map (λ (s : PageState). s.writing) states
 
+-- the page is not in the dirty page table of the log and these last writes
+abbrev pub is_clean : List Record → List ℕ → ℕ → Bool
+is_clean rs written number = is_none (rec_lsn rs number (slice_index written number))
+
+-- by its state the page is not dirty
+abbrev pub is_clean_in : List PageState → ℕ → Bool
+is_clean_in states number = is_none (state_in states number).rec_lsn
+
 -- ---- a pool and its log
 
--- the state of a page is what the log and its last write make it
+-- the state of a page is what the log and its last write make it, and a page that is being written
+-- is dirty
 pub record IsStateOf (log : Log) (number : ℕ) (state : PageState) : Type 0 where
   pub written : state.written < lsn_of (length log.records)
   pub image : IfSome state.writing (λ q. q.lsn < lsn_of (length log.records))
   pub since : state.since ≡ option_and_then (λ q. rec_lsn log.records number q.lsn) state.writing
   pub dirty : state.rec_lsn ≡ rec_lsn log.records number state.written
+  pub idle : state.rec_lsn ≡ None → state.writing ≡ None
+
+-- each dirty page is resident
+abbrev pub AreHeld : List Page → List PageState → Type 0
+AreHeld resident states = (p : ℕ) → p < length states → is_clean_in states p ≡ false
+    → IsResident resident p
 
 -- the pool is that of this log
 pub record IsPoolOf {S : Type 0} (stored_in : S → List Page) (log : Log)
     (pool : PoolView S) : Type 0 where
   pub valid : IsLog log
   pub pages : log.pages ≡ length pool.states
+  pub few : length pool.resident ≤ pool.frames
+  pub within : All (λ page. page.number < length pool.states) pool.resident
   pub resident : All (λ page. page ≡ image log.records page.number) pool.resident
+  pub held : AreHeld pool.resident pool.states
   pub states : (p : ℕ) (d : PageState) → p < length pool.states
       → IsStateOf log p (slice_index_or pool.states p d)
   pub stored : AreStored log.records (stored_in pool.store) (written_of pool.states)
@@ -100,15 +124,25 @@ write_ended state lsn = record {
   since = None;
 }
 
+-- the page is stored as it is now, with this LSN: it is not dirty, and not being written
+abbrev pub repaired : ℕ → PageState
+repaired lsn = record unwritten { written = lsn }
+
 -- ---- calls of a pool
 
--- a new pool of so many pages: all are resident, as they are formatted
-abbrev pub new_pool : {S : Type 0} → S → ℕ → PoolView S
-new_pool store pages = record {
+-- a new pool of so many pages and frames: no page is resident
+abbrev pub new_pool : {S : Type 0} → S → ℕ → ℕ → PoolView S
+new_pool store pages frames = record {
   store = store;
-  resident = formatted_pages pages;
+  frames = frames;
+  room = 0;
+  resident = [];
   states = replicate pages unwritten;
 }
+
+-- and one with a frame for each page: all are resident, as they are formatted
+abbrev pub whole_pool : {S : Type 0} → S → ℕ → PoolView S
+whole_pool store pages = record (new_pool store pages pages) { resident = formatted_pages pages }
 
 -- the state of one page is another
 abbrev pub with_state : {S : Type 0} → PoolView S → ℕ → PageState → PoolView S
@@ -116,10 +150,13 @@ with_state pool number state = record pool { states = slice_set pool.states numb
 
 -- ---- the invariant
 
--- each page is stored and has a frame and a state, and they stand in order of their numbers
-pub record IsWhole (stored frames : List Page) (states : List PageState) : Type 0 where
+-- each page is stored and has a state, and they stand in order of their numbers
+pub record IsWhole (stored : List Page) (states : List PageState) : Type 0 where
   pub few : length states ≤ MAX_PAGES
   pub stored_count : length stored ≡ length states
   pub stored_numbers : AreNumbered stored
-  pub frame_count : length frames ≡ length states
-  pub frame_numbers : AreNumbered frames
+
+-- so many frames are few enough
+pub record IsFrameCount (frames : ℕ) : Type 0 where
+  pub least : 1 ≤ frames
+  pub most : frames ≤ MAX_FRAMES

@@ -1,13 +1,14 @@
 //! Laws that relate the state of a page to its stored page.
 
 ghost use Rattle.std.specs.Prelude.{ℕ, ◌≡◌, ◌≢◌, ◌<◌, ◌≤◌, [], length, slice_index_or, None};
-ghost use Rattle.std.specs.Prelude.{Some};
+ghost use Rattle.std.specs.Prelude.{Some, IsSome};
 ghost use Rattle.std.specs.List.{All, Contains};
 ghost use Rattle.log_records.specs.Coverage.{Covers};
 ghost use Rattle.log_records.specs.Image.{image};
 ghost use Rattle.log_records.specs.Log.{Log};
 ghost use Rattle.page_core.specs.declared.page.Page.{Page};
 ghost use Rattle.log_records.specs.declared.dirty_page.DirtyPage.{DirtyPage};
+ghost use Rattle.buffer_pool.specs.Frames.{IsResident};
 ghost use Rattle.buffer_pool.specs.Pool.{IsEntryOf, IsPoolOf, PoolView, next_in, state_at};
 
 use page_store::PageStore;
@@ -23,6 +24,17 @@ pub fn stored_pages_cover_their_rec_lsns<S: PageStore>()
         → IsPoolOf S.stored log pool → number < length pool.states
         → number < length (S.stored pool.store) → (state_at pool number).rec_lsn ≡ None
         → slice_index_or (S.stored pool.store) number d ≡ image log.records number }
+{}
+
+/// In the pool of a log each dirty page is resident, and a page that is being written is dirty. So
+/// no frame is given up whose page has a change that is not stored, or a write in progress.
+pub fn dirty_pages_are_resident<S: PageStore>()
+    ensures dirty { (log : Log) (pool : PoolView S) (number : ℕ)
+        → IsPoolOf S.stored log pool → number < length pool.states
+        → IsSome (state_at pool number).rec_lsn → IsResident pool.resident number }
+    ensures writing { (log : Log) (pool : PoolView S) (number : ℕ)
+        → IsPoolOf S.stored log pool → number < length pool.states
+        → IsSome (state_at pool number).writing → IsSome (state_at pool number).rec_lsn }
 {}
 
 /// The next dirty pages of a pool from a number on pass over none. Each of them is dirty as its

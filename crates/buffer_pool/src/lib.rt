@@ -1,8 +1,10 @@
-//! The buffer pool: the pages of a volume in memory, which of them are dirty, and how they are
+//! The buffer pool: pages of a volume in memory, which of them are dirty, and how they are
 //! written to a store.
 #![tactic(auto)]
 
 mod bit_row;
+mod frame;
+mod frames;
 mod laws;
 mod page_image;
 mod page_set;
@@ -10,6 +12,9 @@ mod page_states;
 mod pool;
 mod rec_lsns;
 
-pub use laws::{next_dirty_pages_pass_over_none, stored_pages_cover_their_rec_lsns};
+pub use frame::MAX_FRAMES;
+pub use laws::{
+    dirty_pages_are_resident, next_dirty_pages_pass_over_none, stored_pages_cover_their_rec_lsns,
+};
 pub use page_image::PageImage;
 pub use pool::Pool;

@@ -5,7 +5,7 @@ ghost use Rattle.std.specs.Prelude.{None, Some, IfSome, IsSome, MatchOption};
 ghost use Rattle.std.specs.Option.{option_copied, unwrap_or};
 ghost use Rattle.log_records.specs.Coverage.{entries_of, next_dirty};
 ghost use Rattle.buffer_pool.specs.PageStates.{AreClean, IsFirstDirty, dirty_in};
-ghost use Rattle.buffer_pool.specs.Pool.{changed, state_in, unwritten, write_begun, write_ended};
+ghost use Rattle.buffer_pool.specs.Pool.{changed, is_clean_in, state_in, unwritten, write_begun, write_ended};
 
 use crate::page_image::PageImage;
 use crate::rec_lsns::RecLsns;
@@ -69,6 +69,13 @@ impl PageStates {
         ensures { result ≡ (state_in self.now number).rec_lsn }
     {
         self.rec_lsns.of(number)
+    }
+
+    /// Whether a page is not dirty.
+    pub(crate) fn is_clean(&self, number: PageNo) -> bool
+        ensures { result ≡ is_clean_in self.now number }
+    {
+        self.rec_lsns.has_none(number)
     }
 
     /// The image of a page that is being written, if it is.

@@ -1,34 +1,39 @@
 //! The buffer pool.
 
-ghost use Rattle.std.specs.Prelude.{ℕ, ◌≡◌, ◌<◌, List, [], ◌∷◌, length, map, replicate};
-ghost use Rattle.std.specs.Prelude.{None, Some, IfSome, IsNone, IsSome, MatchOption, is_some};
-ghost use Rattle.std.specs.Prelude.{slice_get, slice_set, IfOk, OnOk, OnErr};
+ghost use Rattle.std.specs.Prelude.{ℕ, ◌≡◌, ◌<◌, List, [], ◌∷◌, false, length, map, slice_get};
+ghost use Rattle.std.specs.Prelude.{slice_index_or, slice_set, None, Some, IfSome, IsNone, IsSome};
+ghost use Rattle.std.specs.Prelude.{MatchOption, is_some, IfOk, OnOk, OnErr};
 ghost use Rattle.std.specs.List.{Contains};
 ghost use Rattle.page_core.specs.declared.page.Page.{Page};
 ghost use Rattle.page_core.specs.Volume.{AreNumbered, formatted_pages};
-ghost use Rattle.log_records.specs.Image.{image};
-ghost use Rattle.log_records.specs.Log.{IsLog, IsPageCount, Log};
-ghost use Rattle.log_records.specs.Log.{with_next};
+ghost use Rattle.log_records.specs.Image.{image, with_record};
+ghost use Rattle.log_records.specs.Log.{IsLog, IsPageCount, Log, with_next};
 ghost use Rattle.log_records.specs.Coverage.{dirty, entries_of, next_dirty};
+ghost use Rattle.log_records.specs.Record.{change_of};
 ghost use Rattle.page_store.specs.Store.{StoresOrKeeps};
-ghost use Rattle.buffer_pool.specs.Pool.{IsPoolOf, new_pool, state_at, with_state, write_begun};
-ghost use Rattle.buffer_pool.specs.Pool.{write_ended, writing_of, written_of};
+ghost use Rattle.buffer_pool.specs.Frames.{IsResident, fetched, is_full, is_resident};
+ghost use Rattle.buffer_pool.specs.Pool.{IsPoolOf, is_clean, new_pool, repaired, state_at};
+ghost use Rattle.buffer_pool.specs.Pool.{whole_pool};
+ghost use Rattle.buffer_pool.specs.Pool.{with_state, write_begun, write_ended, writing_of};
+ghost use Rattle.buffer_pool.specs.Pool.{written_of};
 
+use crate::frames::Frames;
 use crate::page_image::PageImage;
 use crate::page_states::PageStates;
-use log_records::{DirtyPages, Record, redo_on_its_page};
-use page_core::{Lsn, Page, PageNo, formatted_pages};
+use log_records::{DirtyPages, Record};
+use page_core::{Lsn, Page, PageNo};
 use page_store::{PageStore, StoreFault};
 use std::alloc::{AllocError, Global};
 use std::marker::Model;
 
-/// The pages of a volume in memory, over a store. It knows which pages are dirty, and which are
-/// being written.
+/// Pages of a volume in memory, over a store of all of them. It knows which pages are dirty, and
+/// which are being written.
 #[derive(Drop)]
 pub struct Pool<S: PageStore> {
     store: S,
-    /// The pages as they are now, in order of their numbers.
-    frames: Vec<Page>,
+    /// How many frames may be taken.
+    limit: u32,
+    frames: Frames,
     states: PageStates,
 }
 
@@ -39,29 +44,53 @@ impl<S: PageStore> Model for Pool<S> {
 
     ghost view = { λ it. record {
       store = it.store;
-      resident = it.frames.items;
+      frames = it.limit;
+      room = it.frames.room;
+      resident = it.frames.pages;
       states = it.states;
     } };
 
-    ghost invariant = { λ it. IsWhole (S.stored it.store) it.frames.items it.states };
+    ghost invariant = { λ it. IsWhole (S.stored it.store) it.states };
 }
 
 impl<S: PageStore + Drop> Pool<S> {
-    /// A pool of all pages of a store, each formatted and clean. It calls nothing of the store but
-    /// its count. `AllocError` comes where memory is refused. The store is dropped then.
-    pub fn new(alloc: Global, store: S) -> Result<Pool<S>, AllocError>
+    /// A pool of so many frames over a store whose pages are formatted. No page is resident. It
+    /// calls nothing of the store but its count. `AllocError` comes where memory is refused. The
+    /// store is dropped then.
+    pub fn new(alloc: Global, store: S, frames: u32) -> Result<Pool<S>, AllocError>
         requires { (n : ℕ) × (IsPageCount n × (S.stored store ≡ formatted_pages n)) }
 
         ensures new { IfOk result (λ pool. (n : ℕ) → S.stored store ≡ formatted_pages n
-            → pool ≡ new_pool store n) }
+            → pool ≡ new_pool store n frames) }
         ensures empty { IfOk result (λ pool. (n : ℕ) → S.stored store ≡ formatted_pages n
             → IsPoolOf S.stored (record { pages = n; records = [] }) pool) }
     {
         let count = store.pages();
-        let frames = formatted_pages(alloc, count)?;
         let states = PageStates::new(alloc, count)?;
         Ok(Pool {
             store,
+            limit: frames,
+            frames: Frames::new(alloc),
+            states,
+        })
+    }
+
+    /// A pool over such a store that has a frame for each page. All pages are resident, as they
+    /// are formatted. Memory and calls of the store are as for `new`.
+    pub fn whole(alloc: Global, store: S) -> Result<Pool<S>, AllocError>
+        requires { (n : ℕ) × (IsPageCount n × (S.stored store ≡ formatted_pages n)) }
+
+        ensures new { IfOk result (λ pool. (n : ℕ) → S.stored store ≡ formatted_pages n
+            → pool ≡ record (whole_pool store n) { room = pool.room }) }
+        ensures empty { IfOk result (λ pool. (n : ℕ) → S.stored store ≡ formatted_pages n
+            → IsPoolOf S.stored (record { pages = n; records = [] }) pool) }
+    {
+        let count = store.pages();
+        let frames = Frames::formatted(alloc, count)?;
+        let states = PageStates::new(alloc, count)?;
+        Ok(Pool {
+            store,
+            limit: count,
             frames,
             states,
         })
@@ -75,22 +104,88 @@ impl<S: PageStore> Pool<S> {
         ensures stored { result ≡ length (S.stored self.now.store) }
         ensures numbered { AreNumbered (S.stored self.now.store) }
     {
-        self.frames.len() as u32
+        self.states.count()
     }
 
-    /// The page as it is now, with each change so far.
+    /// Whether a page is in memory.
+    pub fn is_resident(&self, number: PageNo) -> bool
+        ensures { result ≡ is_resident self.now.resident number }
+    {
+        self.frames.is_resident(number)
+    }
+
+    /// Whether no frame can be had for a page that comes in: each is taken, and none has a clean
+    /// page.
+    pub fn is_full(&self) -> bool
+        ensures { (log : Log) → IsPoolOf S.stored log self.now
+            → result ≡ is_full self.now.frames
+            (is_clean log.records (written_of self.now.states)) self.now.resident }
+    {
+        self.frames.len() >= self.limit as usize && self.frames.first_clean(&self.states).is_none()
+    }
+
+    /// Makes room for one page to come in. `AllocError` comes where it is refused. The pages stay.
+    pub fn make_room(&mut self) -> Result<(), AllocError>
+        ensures room { OnOk result (0 < self.new.room) }
+        ensures same { self.new ≡ record self.old { room = self.new.room } }
+        ensures kept { (log : Log) → IsPoolOf S.stored log self.old
+            → IsPoolOf S.stored log self.new }
+    {
+        self.frames.make_room()
+    }
+
+    /// Fetches a page from the store into a free frame, or, where none is free, into that of the
+    /// clean page that was fetched earliest, which is given up. It takes no memory, since
+    /// `make_room` has made its room.
+    ///
+    /// An `Err` comes where the store fails, and of nothing else. No frame is given up then.
+    pub fn fetch(&mut self, number: PageNo) -> Result<(), StoreFault>
+        requires within { number < length self.old.states }
+        requires absent { is_resident self.old.resident number ≡ false }
+        requires room { 0 < self.old.room }
+        requires frame { (log : Log) × (IsPoolOf S.stored log self.old
+            × (is_full self.old.frames (is_clean log.records (written_of self.old.states))
+            self.old.resident ≡ false)) }
+
+        ensures fetched { OnOk result ((log : Log) (d : Page) → IsPoolOf S.stored log self.old
+            → self.new.resident ≡ fetched self.old.frames
+            (is_clean log.records (written_of self.old.states)) self.old.resident
+            (slice_index_or (S.stored self.old.store) number d)) }
+        ensures resident { OnOk result (IsResident self.new.resident number) }
+        ensures stays { OnErr result (self.new ≡ record self.old { store = self.new.store }) }
+
+        ensures stored { S.stored self.new.store ≡ S.stored self.old.store }
+        ensures frames { self.new.frames ≡ self.old.frames }
+        ensures states { self.new.states ≡ self.old.states }
+        ensures kept { (log : Log) → IsPoolOf S.stored log self.old
+            → IsPoolOf S.stored log self.new }
+
+        ensures no_failure { OnOk result
+            (S.failures self.new.store ≡ S.failures self.old.store) }
+        ensures failure { OnErr result (S.failures self.old.store < S.failures self.new.store) }
+    {
+        let page = self.store.read(number)?;
+        if self.frames.len() < self.limit as usize {
+            self.frames.put(page);
+        } else {
+            self.frames.replace(page, &self.states);
+        }
+        Ok(())
+    }
+
+    /// A resident page as it is now, with each change so far.
     pub fn current(&self, number: PageNo) -> &Page
-        requires { number < length self.now.states }
+        requires { IsResident self.now.resident number }
 
         ensures resident { Contains self.now.resident result.now }
         ensures numbered { result.now.number ≡ number }
         ensures image { (log : Log) → IsPoolOf S.stored log self.now
             → result.now ≡ image log.records number }
     {
-        &self.frames[number.0 as usize]
+        self.frames.page(number)
     }
 
-    /// The page as the store has it.
+    /// The page as the store has it. It comes into no frame.
     ///
     /// An `Err` comes where the store fails, and of nothing else. Each stored page stays even then.
     pub fn stored(&mut self, number: PageNo) -> Result<Page, StoreFault>
@@ -111,23 +206,25 @@ impl<S: PageStore> Pool<S> {
         self.store.read(number)
     }
 
-    /// Makes the change of the log's next record, if it makes one, on its page, which is dirty
-    /// then. It takes no memory and does not call the store.
+    /// Makes the change of the log's next record, if it makes one, on its page, which is resident,
+    /// and dirty then. It takes no memory and does not call the store.
     pub fn change(&mut self, next: &Record)
-        requires { (log : Log) × (IsPoolOf S.stored log self.old
+        requires next { (log : Log) × (IsPoolOf S.stored log self.old
             × IsLog (with_next log (next.now ∷ []))) }
+        requires resident { IfSome (change_of next.now) (λ c. IsResident self.old.resident c.page) }
 
         ensures kept { (log : Log) → IsPoolOf S.stored log self.old
             → IsLog (with_next log (next.now ∷ []))
             → IsPoolOf S.stored (with_next log (next.now ∷ [])) self.new }
         ensures store { self.new.store ≡ self.old.store }
-        ensures numbers { map (λ page. page.number) self.new.resident
-            ≡ map (λ page. page.number) self.old.resident }
+        ensures frames { self.new.frames ≡ self.old.frames }
+        ensures pages { self.new.resident
+            ≡ map (λ page. with_record page next.now) self.old.resident }
         ensures written { written_of self.new.states ≡ written_of self.old.states }
         ensures writing { writing_of self.new.states ≡ writing_of self.old.states }
     {
-        redo_on_its_page(&mut self.frames, next);
         if let Some(change) = next.change() {
+            self.frames.redo(change.page, next);
             self.states.change(change.page, next.lsn());
         }
     }
@@ -149,25 +246,26 @@ impl<S: PageStore> Pool<S> {
         self.states.image(number).is_some()
     }
 
-    /// The image of a page for a write of it: the page as it is now. It is all the memory that a
-    /// write takes. `AllocError` comes where it is refused.
+    /// The image of a resident page for a write of it: the page as it is now. It is all the memory
+    /// that a write takes. `AllocError` comes where it is refused.
     pub fn image_of(&self, number: PageNo) -> Result<PageImage, AllocError>
-        requires { number < length self.now.states }
+        requires { IsResident self.now.resident number }
 
         ensures resident { IfOk result (λ image. Contains self.now.resident image) }
         ensures numbered { IfOk result (λ image. image.number ≡ number) }
         ensures image { IfOk result (λ it. (log : Log) → IsPoolOf S.stored log self.now
             → it ≡ image log.records number) }
     {
-        PageImage::of(*self.frames.allocator(), &self.frames[number.0 as usize])
+        PageImage::of(self.frames.allocator(), self.frames.page(number))
     }
 
-    /// Begins a write of the page that this is the image of, and answers the image's LSN. The
+    /// Begins a write of the dirty page that this is the image of, and answers the image's LSN. The
     /// image is kept until the write has ended. It takes no memory and does not call the store.
     pub fn write_begin(&mut self, image: PageImage) -> Lsn
         requires within { image.number < length self.old.states }
         requires current { Contains self.old.resident image }
         requires idle { IsNone (state_at self.old image.number).writing }
+        requires dirty { IsSome (state_at self.old image.number).rec_lsn }
 
         ensures lsn { result ≡ image.lsn }
         ensures begun { self.new ≡ with_state self.old image.number
@@ -216,6 +314,38 @@ impl<S: PageStore> Pool<S> {
         self.store.write(number, page)?;
         self.states.end_write(number, lsn);
         Ok(lsn)
+    }
+
+    /// Stores a page as it is now, of which no write is in progress. It is not dirty then. It need
+    /// not be resident, and a frame that has it stays as it is. The stored page is not read, so it
+    /// may be one that no read gives. It takes no memory.
+    ///
+    /// An `Err` comes where the store fails, and of nothing else. The stored page is the old one or
+    /// this one then, and the page is as dirty as before.
+    pub fn repair(&mut self, number: PageNo, rebuilt: &Page) -> Result<(), StoreFault>
+        requires within { number < length self.old.states }
+        requires idle { IsNone (state_at self.old number).writing }
+        requires now { (log : Log) × (IsPoolOf S.stored log self.old
+            × (rebuilt.now ≡ image log.records number)) }
+
+        ensures stored { OnOk result
+            (S.stored self.new.store ≡ slice_set (S.stored self.old.store) number rebuilt.now) }
+        ensures clean { OnOk result (self.new ≡ record (with_state self.old number
+            (repaired rebuilt.now.lsn)) { store = self.new.store }) }
+
+        ensures either { OnErr result
+            (StoresOrKeeps (S.stored self.old.store) number rebuilt.now (S.stored self.new.store)) }
+        ensures stays { OnErr result (self.new ≡ record self.old { store = self.new.store }) }
+
+        ensures kept { (log : Log) → IsPoolOf S.stored log self.old
+            → rebuilt.now ≡ image log.records number → IsPoolOf S.stored log self.new }
+        ensures no_failure { OnOk result
+            (S.failures self.new.store ≡ S.failures self.old.store) }
+        ensures failure { OnErr result (S.failures self.old.store < S.failures self.new.store) }
+    {
+        self.store.write(number, rebuilt)?;
+        self.states.end_write(number, rebuilt.lsn);
+        Ok(())
     }
 
     /// The next dirty pages from a page number on, in order of their numbers: as many as there are,

@@ -1,7 +1,7 @@
 //! The RecLSNs of all pages.
 
 ghost use Rattle.std.specs.Prelude.{ℕ, ◌≡◌, ◌<◌, ◌≤◌, length, replicate, slice_index_or};
-ghost use Rattle.std.specs.Prelude.{slice_set, IfOk, None, Some, MatchOption};
+ghost use Rattle.std.specs.Prelude.{slice_set, is_none, IfOk, None, Some, MatchOption};
 ghost use Rattle.std.specs.Option.{unwrap_or};
 ghost use Rattle.buffer_pool.specs.RecLsns.{HasNoneDirty, IsFirstEntry};
 
@@ -48,6 +48,16 @@ impl RecLsns {
         ensures { result ≡ slice_index_or self.now number None }
     {
         self.lsns[number.0 as usize]
+    }
+
+    /// Whether a page has none.
+    pub(crate) fn has_none(&self, number: PageNo) -> bool
+        ensures { result ≡ is_none (slice_index_or self.now number None) }
+    {
+        match self.lsns.get(number.0 as usize) {
+            Some(rec_lsn) => rec_lsn.is_none(),
+            None => true,
+        }
     }
 
     /// A page is dirty from an LSN on, if it was not before.

@@ -1,16 +1,19 @@
 -- What an error of `clap` explains.
 use Rattle.std.proofs.Common.{◌≡◌, ◌≢◌, ◌⊎◌, ◌<◌, ℕ, true, List, ◌∷◌, codes, length, refl, slice_index_or, inl, inr, ap}
-use Rattle.std.proofs.Common.{subst, sym, ◌∙◌}
+use Rattle.std.proofs.Common.{lit<, subst, sym, unwrap_or, ◌∙◌}
 use Rattle.std.specs.Prelude.{Result, Ok, Err, IfErr, IsErrAnd, [], Option, Some, None}
 use Rattle.std.specs.Str.Parse.{ParsesUnsigned}
 use Rattle.std.proofs.lemmas.Option.{none-some, same_Some}
 use Rattle.clap.specs.Words.{App, HasKind, HasMatchesOf, ReadsOne, Text, fault_of, found_of, is_simple}
-use Rattle.clap.specs.Words.{is_simple_and_free, kind_of, matches_of, rows_of}
+use Rattle.clap.specs.Words.{is_simple_and_free, kind_of, matches_of, one_text, rows_of, without_minus}
 use Rattle.clap.specs.declared.parser.matches.ArgMatches.{ArgMatches}
+use Rattle.clap.specs.declared.parser.matches.Found.{Found}
 use Rattle.clap.specs.declared.error.Error.{Error}
 use Rattle.clap.specs.declared.error.kind.ErrorKind.TheVariants as kind
+use Rattle.clap.proofs.CallerReads.{signed_reads}
 use Rattle.clap.proofs.OnLiterals.{clap_on_literals}
-use Rattle.command_words.specs.Command.{ExplainsRead, IsRead, Names, apps, redo_app, restore_app, run_app}
+use Rattle.command_words.specs.Command.{ExplainsRead, IsFramesRead, IsRead, Names, PassesFrames, apps, redo_app}
+use Rattle.command_words.specs.Command.{restore_app, run_app}
 use Rattle.command_words.specs.declared.command.UsageFault.{UsageFault}
 use Rattle.command_words.specs.declared.command.UsageFault.TheVariants.{BadArguments, OutOfMemory}
 
@@ -81,6 +84,21 @@ pub is_read : (E : Type 0) (G : Text → Result ℕ E → Type 0) (text : Text) 
 is_read E G text found None number is read parses same = absurd (none-some _ same)
 is_read E G text found (Some value) number is read parses same =
     subst (λ o. IsRead o number) (sym is) (sym (parses text (Ok value) read).1 ∙ same_Some value number same)
+
+-- the number of a count that may be left out, where `number` is what was read or else 65,536
+pub frames_read : (E : Type 0) (G : Text → Result ℕ E → Type 0) (found : Found) (r : Option ℕ) (number : ℕ)
+    → PassesFrames found → (one_text found (codes "frames") ≡ None → r ≡ None)
+    → ((t : Text) → one_text found (codes "frames") ≡ Some t → ReadsOne G t r)
+    → ((u : Text) (x : Result ℕ E) → G u x → ParsesUnsigned 32 10 u x) → number ≡ unwrap_or r 65536
+    → IsFramesRead (one_text found (codes "frames")) number
+frames_read E G found r number (inl absent) none value parses is =
+    subst (λ o. IsFramesRead o number) (sym absent) (is ∙ ap (λ o. unwrap_or o 65536) (none absent))
+frames_read E G found r number (inr it) none value parses is =
+    let read = value (without_minus it.0) it.1 in
+    let got = signed_reads E G 32 1 65536 it.0 r read parses (lit< tt) it.2 in
+    let same : number ≡ got.0 = is ∙ ap (λ o. unwrap_or o 65536) got.1 in
+    subst (λ o. IsFramesRead o number) (sym it.1)
+    (is_read E G (without_minus it.0) (Some (without_minus it.0)) r number refl read parses (got.1 ∙ ap Some (sym same)))
 
 -- ---- `NAME --help`
 

@@ -1,5 +1,6 @@
 mod ClapLemmas
 mod NameLemmas
 mod NearestLemmas
+mod OptionalLemmas
 mod RedoLemmas
 mod RequiredLemmas

@@ -146,7 +146,7 @@ not_help name command is first help =
 
 gives_taken : (words : List Text) (command : Command) → Gives words command → IsTaken words
 gives_taken words Redo gives = (0, redo_app, lit< tt, refl, gives)
-gives_taken words (Run pages save) gives = (1, run_app, lit< tt, refl, gives.0)
+gives_taken words (Run pages frames save) gives = (1, run_app, lit< tt, refl, gives.0)
 gives_taken words (Restore log master archives) gives = (2, restore_app, lit< tt, refl, gives.0)
 
 -- words in which clap finds a fault give no command

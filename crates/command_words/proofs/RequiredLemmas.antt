@@ -1,12 +1,12 @@
 -- What `clap` requires was given.
-use Rattle.std.proofs.Common.{◌≡◌, ◌<◌, ◌||◌, ◌∙◌, ℕ, List, [], ◌∷◌, ◌++◌, Some, length, true, false, refl, sym}
+use Rattle.std.proofs.Common.{◌≡◌, ◌⊎◌, ◌<◌, ◌||◌, ◌∙◌, ℕ, List, [], ◌∷◌, ◌++◌, None, Some, length, true, false, refl, sym}
 use Rattle.std.proofs.Common.{ap, subst, inl, inr, arith, codes, is_some, lit<}
 use Rattle.std.specs.List.{All, slice_index_or}
 use Rattle.std.specs.Prelude.{◌≤◌, zero, suc}
 use Rattle.std.specs.Str.{bytes_eq}
 use Rattle.std.proofs.lemmas.List.Elements.{All-get_or, All-nil}
 use Rattle.std.proofs.lemmas.Slice.Eq.{bytes_eq-Decides}
-use Rattle.clap.specs.Built.{AddsArg, FitsChain, HasDistinctIds, IsParsedFrom, IsPlain, IsPlainArg, TakesValue}
+use Rattle.clap.specs.Built.{AddsArg, FitsChain, HasDistinctIds, IsParsedFrom, IsPlain, IsPlainArg, SameRules, TakesValue}
 use Rattle.clap.specs.Facts.{least_values}
 use Rattle.clap.specs.Words.{App, Rule, app_of, args_of, first_value, found_of, groups_of, one_text, rule_of, with_rule}
 use Rattle.clap.specs.declared.builder.arg.Arg.{Arg}
@@ -15,8 +15,9 @@ use Rattle.clap.specs.declared.builder.command.Command.TheViews.{out-Command as 
 use Rattle.clap.specs.declared.parser.matches.ArgMatches.{ArgMatches}
 use Rattle.clap.proofs.CallerLemmas.{added_plain, required_in_chain}
 use Rattle.clap.proofs.CallerReads.{required_reads}
-use Rattle.command_words.specs.Command.{AsksForFiles, AsksForPages, PassesPages, archive_rule, log_rule}
-use Rattle.command_words.specs.Command.{master_rule, pages_parser, pages_rule, save_rule}
+use Rattle.command_words.specs.Command.{AsksForFiles, AsksForPages, PassesCount, PassesFrames, PassesPages}
+use Rattle.command_words.specs.Command.{archive_rule, count_parser, frames_rule, log_rule, master_rule, pages_rule, save_rule}
+use Rattle.command_words.proofs.OptionalLemmas.{passed_if_given}
 
 -- a command with one more argument, as clap reads it
 pub app_with : (old new : Parser) (a : Arg) (app : App) (rule : Rule) → AddsArg old a new → a.global ≡ false
@@ -27,109 +28,134 @@ app_with old new a app rule added local same is =
 same_length : (x y : List ℕ) → bytes_eq x y ≡ true → length x ≡ length y
 same_length x y same = ap length ((bytes_eq-Decides x y).0 same)
 
-two_apart : (a b : Arg) → length a.id.now ≡ 5 → length b.id.now ≡ 4 → HasDistinctIds (a ∷ b ∷ [])
-two_apart a b la lb zero zero d e lj lk same = refl
-two_apart a b la lb (suc zero) (suc zero) d e lj lk same = refl
-two_apart a b la lb zero (suc zero) d e lj lk same =
-    let same : length a.id.now ≡ length b.id.now = same_length _ _ same in
-    absurd (omega arith)
-two_apart a b la lb (suc zero) zero d e lj lk same =
-    let same : length b.id.now ≡ length a.id.now = same_length _ _ same in
-    absurd (omega arith)
-two_apart a b la lb (suc (suc j)) k d e lj lk same = absurd (omega arith)
-two_apart a b la lb j (suc (suc k)) d e lj lk same = absurd (omega arith)
+three_apart : (a b c : Arg) → (length a.id.now ≡ length b.id.now → ⊥) → (length a.id.now ≡ length c.id.now → ⊥)
+    → (length b.id.now ≡ length c.id.now → ⊥) → HasDistinctIds (a ∷ b ∷ c ∷ [])
+three_apart a b c ab ac bc zero zero d e lj lk same = refl
+three_apart a b c ab ac bc (suc zero) (suc zero) d e lj lk same = refl
+three_apart a b c ab ac bc (suc (suc zero)) (suc (suc zero)) d e lj lk same = refl
+three_apart a b c ab ac bc zero (suc zero) d e lj lk same = absurd (ab (same_length _ _ same))
+three_apart a b c ab ac bc (suc zero) zero d e lj lk same = absurd (ab (sym (same_length _ _ same)))
+three_apart a b c ab ac bc zero (suc (suc zero)) d e lj lk same = absurd (ac (same_length _ _ same))
+three_apart a b c ab ac bc (suc (suc zero)) zero d e lj lk same = absurd (ac (sym (same_length _ _ same)))
+three_apart a b c ab ac bc (suc zero) (suc (suc zero)) d e lj lk same = absurd (bc (same_length _ _ same))
+three_apart a b c ab ac bc (suc (suc zero)) (suc zero) d e lj lk same = absurd (bc (sym (same_length _ _ same)))
+three_apart a b c ab ac bc (suc (suc (suc j))) k d e lj lk same = absurd (omega arith)
+three_apart a b c ab ac bc j (suc (suc (suc k))) d e lj lk same = absurd (omega arith)
 
-three_apart : (a b c : Arg) → length a.id.now ≡ 3 → length b.id.now ≡ 6 → length c.id.now ≡ 7
-    → HasDistinctIds (a ∷ b ∷ c ∷ [])
-three_apart a b c la lb lc zero zero d e lj lk same = refl
-three_apart a b c la lb lc (suc zero) (suc zero) d e lj lk same = refl
-three_apart a b c la lb lc (suc (suc zero)) (suc (suc zero)) d e lj lk same = refl
-three_apart a b c la lb lc zero (suc zero) d e lj lk same =
-    let same : length a.id.now ≡ length b.id.now = same_length _ _ same in
-    absurd (omega arith)
-three_apart a b c la lb lc (suc zero) zero d e lj lk same =
-    let same : length b.id.now ≡ length a.id.now = same_length _ _ same in
-    absurd (omega arith)
-three_apart a b c la lb lc zero (suc (suc zero)) d e lj lk same =
-    let same : length a.id.now ≡ length c.id.now = same_length _ _ same in
-    absurd (omega arith)
-three_apart a b c la lb lc (suc (suc zero)) zero d e lj lk same =
-    let same : length c.id.now ≡ length a.id.now = same_length _ _ same in
-    absurd (omega arith)
-three_apart a b c la lb lc (suc zero) (suc (suc zero)) d e lj lk same =
-    let same : length b.id.now ≡ length c.id.now = same_length _ _ same in
-    absurd (omega arith)
-three_apart a b c la lb lc (suc (suc zero)) (suc zero) d e lj lk same =
-    let same : length c.id.now ≡ length b.id.now = same_length _ _ same in
-    absurd (omega arith)
-three_apart a b c la lb lc (suc (suc (suc j))) k d e lj lk same = absurd (omega arith)
-three_apart a b c la lb lc j (suc (suc (suc k))) d e lj lk same = absurd (omega arith)
+-- the arguments of a command of three, as it keeps them
+record KeepsThree (cmd : Parser) (a b c : Arg) : Type 0 where
+  x : Arg
+  y : Arg
+  z : Arg
+  list : args_of cmd ≡ x ∷ y ∷ z ∷ []
+  x_is : SameRules a x
+  y_is : SameRules b y
+  z_is : SameRules c z
+  plain : IsPlain cmd
+  globals : (fields_of cmd).has_globals ≡ false
+  negates : (fields_of cmd).subcommand_negates_reqs ≡ false
 
--- the number of pages, of a command of two arguments
-pages_of : (start mid cmd : Parser) (a b : Arg) (m : ArgMatches) → AddsArg start a mid → AddsArg mid b cmd
+keeps_three : (start one two cmd : Parser) (a b c : Arg) → AddsArg start a one → AddsArg one b two → AddsArg two c cmd
     → args_of start ≡ [] → groups_of start ≡ [] → (fields_of start).has_globals ≡ false
-    → (fields_of start).subcommand_negates_reqs ≡ false
-    → FitsChain a → FitsChain b → TakesValue a → length a.id.now ≡ 5 → length b.id.now ≡ 4
-    → a.id.now ≡ codes "pages" → a.value_parser ≡ Some pages_parser → IsParsedFrom cmd m
-    → PassesPages (found_of m)
-pages_of start mid cmd a b m first second args groups globals negates fit-a fit-b value la lb named parser p =
-    let one : args_of mid ≡ first.arg ∷ [] = first.args ∙ ap (λ l. l ++ first.arg ∷ []) args in
-    let list : args_of cmd ≡ first.arg ∷ second.arg ∷ [] = second.args ∙ ap (λ l. l ++ second.arg ∷ []) one in
-    let start-plain : IsPlain start = (subst (All IsPlainArg) (sym args) (All-nil IsPlainArg), groups) in
-    let mid-plain : IsPlain mid = added_plain start mid a first start-plain fit-a.0 in
-    let plain : IsPlain cmd = added_plain mid cmd b second mid-plain fit-b.0 in
-    let elem : slice_index_or (args_of cmd) 0 a ≡ first.arg = ap (λ l. slice_index_or l 0 a) list in
-    let elem-b : (e : Arg) → slice_index_or (args_of cmd) 1 e ≡ second.arg = λ e. ap (λ l. slice_index_or l 1 e) list in
-    let lt : 0 < length (args_of cmd) = subst (λ l. 0 < length l) (sym list) (lit< tt) in
-    let wanted : (slice_index_or (args_of cmd) 0 a).required ≡ true =
-    ap (λ x. x.required) elem ∙ (first.rules.required ∙ value.0) in
-    let mid-globals : (fields_of mid).has_globals ≡ false =
-    first.globals ∙ (ap (λ g. g || a.global) globals ∙ ap (λ g. false || g) fit-a.1) in
-    let no-globals : (fields_of cmd).has_globals ≡ false =
-    second.globals ∙ (ap (λ g. g || b.global) mid-globals ∙ ap (λ g. false || g) fit-b.1) in
-    let same-id : (slice_index_or (args_of cmd) 0 a).id ≡ a.id = ap (λ x. x.id) elem ∙ first.rules.id in
-    let same-now : (slice_index_or (args_of cmd) 0 a).id.now ≡ a.id.now = ap (λ x. x.now) same-id in
-    let is-set = ap (λ x. x.action) elem ∙ first.rules.action _ value.1 in
-    let no-delim = ap (λ x. x.val_delim) elem ∙ (first.rules.val_delim ∙ value.2) in
-    let some-value = subst (λ x. 1 ≤ least_values x) (sym elem) (first.rules.least value.1 value.3) in
-    let same-parser : (slice_index_or (args_of cmd) 0 a).value_parser ≡ Some pages_parser =
-    ap (λ x. x.value_parser) elem ∙ first.rules.parser pages_parser parser in
-    let len-a : length (slice_index_or (args_of cmd) 0 a).id.now ≡ 5 = ap length same-now ∙ la in
-    let len-b : (e : Arg) → length (slice_index_or (args_of cmd) 1 e).id.now ≡ 4 =
-    λ e. ap (λ x. length x.id.now) (elem-b e) ∙ (ap (λ x. length x.now) second.rules.id ∙ lb) in
-    let got = required_reads cmd m p plain no-globals (second.negates ∙ (first.negates ∙ negates)) 0 a lt
-    wanted is-set no-delim some-value (only cmd a (ap length list) len-a len-b)
-    (λ empty. fit-a.2 (sym same-now ∙ empty))
-    (λ auto. fit-a.3 (elim auto [ inl h ↦ inl (sym same-now ∙ h) | inr h ↦ inr (sym same-now ∙ h) ]))
-    pages_parser same-parser in
-    (got.0, ap (one_text (found_of m)) (sym (same-now ∙ named)) ∙ got.1, got.2)
+    → (fields_of start).subcommand_negates_reqs ≡ false → FitsChain a → FitsChain b → FitsChain c
+    → KeepsThree cmd a b c
+keeps_three start one two cmd a b c first second third args groups globals negates fit-a fit-b fit-c =
+    let args-1 : args_of one ≡ first.arg ∷ [] = first.args ∙ ap (λ l. l ++ first.arg ∷ []) args in
+    let args-2 : args_of two ≡ first.arg ∷ second.arg ∷ [] =
+    second.args ∙ ap (λ l. l ++ second.arg ∷ []) args-1 in
+    let plain-0 : IsPlain start = (subst (All IsPlainArg) (sym args) (All-nil IsPlainArg), groups) in
+    let plain-1 : IsPlain one = added_plain start one a first plain-0 fit-a.0 in
+    let plain-2 : IsPlain two = added_plain one two b second plain-1 fit-b.0 in
+    record {
+      x = first.arg;
+      y = second.arg;
+      z = third.arg;
+      list = third.args ∙ ap (λ l. l ++ third.arg ∷ []) args-2;
+      x_is = first.rules;
+      y_is = second.rules;
+      z_is = third.rules;
+      plain = added_plain two cmd c third plain-2 fit-c.0;
+      globals = local two cmd c third fit-c.1
+          (local one two b second fit-b.1 (local start one a first fit-a.1 globals));
+      negates = third.negates ∙ (second.negates ∙ (first.negates ∙ negates));
+    }
   where
-    only : (cmd : Parser) (a : Arg) → length (args_of cmd) ≡ 2 → length (slice_index_or (args_of cmd) 0 a).id.now ≡ 5
-        → ((e : Arg) → length (slice_index_or (args_of cmd) 1 e).id.now ≡ 4)
-        → (j : ℕ) (e : Arg) → j < length (args_of cmd)
-        → bytes_eq (slice_index_or (args_of cmd) j e).id.now (slice_index_or (args_of cmd) 0 a).id.now ≡ true → j ≡ 0
-    only cmd a two la lb zero e lj same = refl
-    only cmd a two la lb (suc zero) e lj same =
-        let at : length (slice_index_or (args_of cmd) 1 e).id.now ≡ 4 = lb e in
-        let equal : length (slice_index_or (args_of cmd) 1 e).id.now
-        ≡ length (slice_index_or (args_of cmd) 0 a).id.now = same_length _ _ same in
-        absurd (omega arith)
-    only cmd a two la lb (suc (suc j)) e lj same = absurd (omega arith)
+    local : (old new : Parser) (d : Arg) → AddsArg old d new → d.global ≡ false → (fields_of old).has_globals ≡ false
+        → (fields_of new).has_globals ≡ false
+    local old new d added own none = added.globals ∙ (ap (λ g. g || d.global) none ∙ ap (λ g. false || g) own)
 
-pub pages_passed : (cmd : Parser) (m : ArgMatches) → AsksForPages cmd → IsParsedFrom cmd m → PassesPages (found_of m)
-pages_passed cmd m it p =
+-- the ids of a command of three arguments are apart, as their lengths are
+kept_apart : (cmd : Parser) (a b c : Arg) (it : KeepsThree cmd a b c) → length a.id.now ≡ 5 → length b.id.now ≡ 6
+    → length c.id.now ≡ 4 → HasDistinctIds (args_of cmd)
+kept_apart cmd a b c it la lb lc =
+    let lx : length it.x.id.now ≡ 5 = ap (λ i. length i.now) it.x_is.id ∙ la in
+    let ly : length it.y.id.now ≡ 6 = ap (λ i. length i.now) it.y_is.id ∙ lb in
+    let lz : length it.z.id.now ≡ 4 = ap (λ i. length i.now) it.z_is.id ∙ lc in
+    subst HasDistinctIds (sym it.list) (three_apart it.x it.y it.z (λ same. omega arith) (λ same. omega arith)
+    (λ same. omega arith))
+
+-- the command of the three arguments of `run`
+kept : (cmd : Parser) (it : AsksForPages cmd) → KeepsThree it.made.chain.2.2.0 it.pages it.frames it.save
+kept cmd it =
     let made = it.made in
     let chain = made.chain in
-    let id-a : it.pages.id.now ≡ codes "pages" = ap (λ r. r.id) it.pages_is in
-    let id-b : it.save.id.now ≡ codes "save" = ap (λ r. r.id) it.save_is in
-    pages_of made.start chain.0 chain.2.0 it.pages it.save m chain.1 chain.2.1 made.no_arguments made.no_groups
-    made.no_globals made.keeps (All-get_or FitsChain (it.pages ∷ it.save ∷ []) 0 it.pages (lit< tt) made.fit)
-    (All-get_or FitsChain (it.pages ∷ it.save ∷ []) 1 it.save (lit< tt) made.fit) it.required
-    (ap length id-a) (ap length id-b) id-a it.parsed (subst (λ c. IsParsedFrom c m) (sym chain.2.2) p)
+    let all = it.pages ∷ it.frames ∷ it.save ∷ [] in
+    keeps_three made.start chain.0 chain.2.0 chain.2.2.0 it.pages it.frames it.save chain.1 chain.2.1 chain.2.2.1
+    made.no_arguments made.no_groups made.no_globals made.keeps
+    (All-get_or FitsChain all 0 it.pages (lit< tt) made.fit) (All-get_or FitsChain all 1 it.frames (lit< tt) made.fit)
+    (All-get_or FitsChain all 2 it.save (lit< tt) made.fit)
+
+apart : (cmd : Parser) (it : AsksForPages cmd) → HasDistinctIds (args_of it.made.chain.2.2.0)
+apart cmd it = kept_apart it.made.chain.2.2.0 it.pages it.frames it.save (kept cmd it)
+    (ap (λ r. length r.id) it.pages_is) (ap (λ r. length r.id) it.frames_is) (ap (λ r. length r.id) it.save_is)
+
+-- the number of pages
+pub pages_passed : (cmd : Parser) (m : ArgMatches) → AsksForPages cmd → IsParsedFrom cmd m → PassesPages (found_of m)
+pages_passed cmd m it p =
+    let at = kept cmd it in
+    let last : Parser = it.made.chain.2.2.0 in
+    let a = it.pages in
+    let value = it.required in
+    let fit = All-get_or FitsChain (a ∷ it.frames ∷ it.save ∷ []) 0 a (lit< tt) it.made.fit in
+    let elem : slice_index_or (args_of last) 0 a ≡ at.x = ap (λ l. slice_index_or l 0 a) at.list in
+    let lt : 0 < length (args_of last) = subst (λ l. 0 < length l) (sym at.list) (lit< tt) in
+    let same-now : (slice_index_or (args_of last) 0 a).id.now ≡ a.id.now =
+    ap (λ x. x.id.now) elem ∙ ap (λ x. x.now) at.x_is.id in
+    let got = required_reads last m (subst (λ c. IsParsedFrom c m) (sym it.made.chain.2.2.2) p)
+    at.plain at.globals at.negates 0 a lt (ap (λ x. x.required) elem ∙ (at.x_is.required ∙ value.0))
+    (ap (λ x. x.action) elem ∙ at.x_is.action _ value.1) (ap (λ x. x.val_delim) elem ∙ (at.x_is.val_delim ∙ value.2))
+    (subst (λ x. 1 ≤ least_values x) (sym elem) (at.x_is.least value.1 value.3))
+    (λ j e lj same. apart cmd it j 0 a e lj lt same)
+    (λ empty. fit.2 (sym same-now ∙ empty))
+    (λ auto. fit.3 (elim auto [ inl h ↦ inl (sym same-now ∙ h) | inr h ↦ inr (sym same-now ∙ h) ]))
+    count_parser (ap (λ x. x.value_parser) elem ∙ at.x_is.parser count_parser it.pages_parsed) in
+    (got.0, ap (one_text (found_of m)) (sym (same-now ∙ ap (λ r. r.id) it.pages_is)) ∙ got.1, got.2)
+
+-- the number of frames, if it was given
+pub frames_passed : (cmd : Parser) (m : ArgMatches) → AsksForPages cmd → IsParsedFrom cmd m → PassesFrames (found_of m)
+frames_passed cmd m it p =
+    let at = kept cmd it in
+    let last : Parser = it.made.chain.2.2.0 in
+    let b = it.frames in
+    let fit = All-get_or FitsChain (it.pages ∷ b ∷ it.save ∷ []) 1 b (lit< tt) it.made.fit in
+    let elem : slice_index_or (args_of last) 1 b ≡ at.y = ap (λ l. slice_index_or l 1 b) at.list in
+    let lt : 1 < length (args_of last) = subst (λ l. 1 < length l) (sym at.list) (lit< tt) in
+    let same-now : (slice_index_or (args_of last) 1 b).id.now ≡ b.id.now =
+    ap (λ x. x.id.now) elem ∙ ap (λ x. x.now) at.y_is.id in
+    subst (λ id. (one_text (found_of m) id ≡ None) ⊎ PassesCount (found_of m) id)
+    (same-now ∙ ap (λ r. r.id) it.frames_is)
+    (passed_if_given last m (subst (λ c. IsParsedFrom c m) (sym it.made.chain.2.2.2) p) at.plain at.globals 1 b lt
+    (λ j e lj same. apart cmd it j 1 b e lj lt same)
+    (λ empty. fit.2 (sym same-now ∙ empty))
+    (λ auto. fit.3 (elim auto [ inl h ↦ inl (sym same-now ∙ h) | inr h ↦ inr (sym same-now ∙ h) ]))
+    (ap (λ x. x.value_parser) elem ∙ at.y_is.parser count_parser it.frames_parsed))
 
 files_apart : (cmd : Parser) (it : AsksForFiles cmd) → HasDistinctIds (it.log ∷ it.master ∷ it.archive ∷ [])
-files_apart cmd it = three_apart it.log it.master it.archive (ap (λ r. length r.id) it.log_is)
-    (ap (λ r. length r.id) it.master_is) (ap (λ r. length r.id) it.archive_is)
+files_apart cmd it =
+    let log : length it.log.id.now ≡ 3 = ap (λ r. length r.id) it.log_is in
+    let master : length it.master.id.now ≡ 6 = ap (λ r. length r.id) it.master_is in
+    let archive : length it.archive.id.now ≡ 7 = ap (λ r. length r.id) it.archive_is in
+    three_apart it.log it.master it.archive (λ same. omega arith) (λ same. omega arith) (λ same. omega arith)
 
 pub log_given : (cmd : Parser) (m : ArgMatches) → AsksForFiles cmd → IsParsedFrom cmd m
     → is_some (first_value (found_of m) (codes "log")) ≡ true
@@ -149,33 +175,39 @@ master_given cmd m it p =
 
 -- ---- a command that is made of its arguments
 
-pub asks_for_pages : (start mid cmd : Parser) (a b : Arg) → args_of start ≡ [] → groups_of start ≡ []
+all_fit : (a b e : Arg) → FitsChain a → FitsChain b → FitsChain e → (k : ℕ) (d : Arg) → k < length (a ∷ b ∷ e ∷ [])
+    → FitsChain (slice_index_or (a ∷ b ∷ e ∷ []) k d)
+all_fit a b e fit-a fit-b fit-e zero d lt = fit-a
+all_fit a b e fit-a fit-b fit-e (suc zero) d lt = fit-b
+all_fit a b e fit-a fit-b fit-e (suc (suc zero)) d lt = fit-e
+all_fit a b e fit-a fit-b fit-e (suc (suc (suc k))) d lt = absurd (omega arith)
+
+pub asks_for_pages : (start one two cmd : Parser) (a b e : Arg) → args_of start ≡ [] → groups_of start ≡ []
     → (fields_of start).has_globals ≡ false → (fields_of start).subcommand_negates_reqs ≡ false
-    → FitsChain a → FitsChain b → rule_of a ≡ pages_rule → rule_of b ≡ save_rule → TakesValue a
-    → a.value_parser ≡ Some pages_parser → AddsArg start a mid → AddsArg mid b cmd → AsksForPages cmd
-asks_for_pages start mid cmd a b args groups globals negates fit-a fit-b rule-a rule-b value parser first second =
-    record {
+    → FitsChain a → FitsChain b → FitsChain e → rule_of a ≡ pages_rule → rule_of b ≡ frames_rule
+    → rule_of e ≡ save_rule → TakesValue a → a.value_parser ≡ Some count_parser → b.value_parser ≡ Some count_parser
+    → AddsArg start a one → AddsArg one b two → AddsArg two e cmd → AsksForPages cmd
+asks_for_pages start one two cmd a b e args groups globals negates fit-a fit-b fit-e rule-a rule-b rule-e value
+    parser-a parser-b first second third = record {
       pages = a;
-      save = b;
+      frames = b;
+      save = e;
       made = record {
         start = start;
         no_arguments = args;
         no_groups = groups;
         no_globals = globals;
         keeps = negates;
-        chain = (mid, first, (cmd, second, refl));
-        fit = λ k d lt. both k d lt;
+        chain = (one, first, (two, second, (cmd, third, refl)));
+        fit = λ k d lt. all_fit a b e fit-a fit-b fit-e k d lt;
       };
       pages_is = rule-a;
-      save_is = rule-b;
+      frames_is = rule-b;
+      save_is = rule-e;
       required = value;
-      parsed = parser;
+      pages_parsed = parser-a;
+      frames_parsed = parser-b;
     }
-  where
-    both : (k : ℕ) (d : Arg) → k < length (a ∷ b ∷ []) → FitsChain (slice_index_or (a ∷ b ∷ []) k d)
-    both zero d lt = fit-a
-    both (suc zero) d lt = fit-b
-    both (suc (suc k)) d lt = absurd (omega arith)
 
 pub asks_for_files : (start one two cmd : Parser) (a b e : Arg) → args_of start ≡ [] → groups_of start ≡ []
     → (fields_of start).has_globals ≡ false → (fields_of start).subcommand_negates_reqs ≡ false
@@ -194,7 +226,7 @@ asks_for_files start one two cmd a b e args groups globals negates fit-a fit-b f
         no_globals = globals;
         keeps = negates;
         chain = (one, first, (two, second, (cmd, third, refl)));
-        fit = λ k d lt. all k d lt;
+        fit = λ k d lt. all_fit a b e fit-a fit-b fit-e k d lt;
       };
       log_is = rule-a;
       master_is = rule-b;
@@ -202,9 +234,3 @@ asks_for_files start one two cmd a b e args groups globals negates fit-a fit-b f
       log_required = value-a;
       master_required = value-b;
     }
-  where
-    all : (k : ℕ) (d : Arg) → k < length (a ∷ b ∷ e ∷ []) → FitsChain (slice_index_or (a ∷ b ∷ e ∷ []) k d)
-    all zero d lt = fit-a
-    all (suc zero) d lt = fit-b
-    all (suc (suc zero)) d lt = fit-e
-    all (suc (suc (suc k))) d lt = absurd (omega arith)

@@ -1,7 +1,7 @@
 -- Which words give which command, and why others give none.
-use Rattle.std.specs.Prelude.{◌≡◌, ◌≢◌, ◌⊎◌, ◌≤◌, ℕ, List, [], ◌∷◌, Option, IsSomeAnd, Some, codes}
-use Rattle.std.specs.Prelude.{◌<◌, false, if◌then◌else◌, length, map, nat_eq, option_map, pos, slice_get, true}
-use Rattle.std.specs.Prelude.{unwrap_or}
+use Rattle.std.specs.Prelude.{◌≡◌, ◌≢◌, ◌⊎◌, ◌≤◌, ℕ, List, [], ◌∷◌, None, Option, IsSomeAnd, Some, codes}
+use Rattle.std.specs.Prelude.{◌<◌, false, if◌then◌else◌, length, map, nat_eq, option_map, pos}
+use Rattle.std.specs.Prelude.{slice_get, true, unwrap_or}
 use Rattle.std.specs.List.{All, Any}
 use Rattle.std.specs.Str.{bytes_eq, chars}
 use Rattle.std.specs.Str.Parse.{digits_value, without_leading_plus}
@@ -22,7 +22,8 @@ use Rattle.command_words.specs.declared.command.Command.{Command}
 use Rattle.command_words.specs.declared.command.Command.TheVariants.{Redo, Restore, Run}
 use Rattle.command_words.specs.declared.command.UsageFault.{UsageFault}
 use Rattle.command_words.specs.declared.command.UsageFault.TheVariants.{BadArguments, HelpAsked}
-use Rattle.command_words.specs.declared.command.UsageFault.TheVariants.{MisspelledCommand, NoCommand}
+use Rattle.command_words.specs.declared.command.UsageFault.TheVariants.{MisspelledCommand}
+use Rattle.command_words.specs.declared.command.UsageFault.TheVariants.{NoCommand}
 use Rattle.command_words.specs.declared.command.UsageFault.TheVariants.{OutOfMemory}
 use Rattle.command_words.specs.declared.command.UsageFault.TheVariants.{UnknownCommand}
 
@@ -31,16 +32,24 @@ abbrev pub redo_app : App
 redo_app = new_app (codes "redo")
 
 -- a number from 1 to 65,536
-abbrev pub pages_parser : ValueParser
-pages_parser = Signed (pos 1) (pos 65536)
+abbrev pub count_parser : ValueParser
+count_parser = Signed (pos 1) (pos 65536)
 
 abbrev pub pages_rule : Rule
 pages_rule = record (new_rule (codes "pages")) {
   long = Some (codes "pages");
   action = Some Set;
   value_names = 1;
-  parser = Some pages_parser;
+  parser = Some count_parser;
   required = true;
+}
+
+abbrev pub frames_rule : Rule
+frames_rule = record (new_rule (codes "frames")) {
+  long = Some (codes "frames");
+  action = Some Set;
+  value_names = 1;
+  parser = Some count_parser;
 }
 
 abbrev pub save_rule : Rule
@@ -50,9 +59,10 @@ save_rule = record (new_rule (codes "save")) {
   value_names = 1;
 }
 
--- `run --pages N [--save FOLDER]`
+-- `run --pages N [--frames B] [--save FOLDER]`
 abbrev pub run_app : App
-run_app = with_rule (with_rule (new_app (codes "run")) pages_rule) save_rule
+run_app =
+    with_rule (with_rule (with_rule (new_app (codes "run")) pages_rule) frames_rule) save_rule
 
 abbrev pub log_rule : Rule
 log_rule = record (new_rule (codes "log")) {
@@ -101,22 +111,29 @@ abbrev pub IsRead : Option Text → ℕ → Type 0
 IsRead text number =
     IsSomeAnd text (λ digits. digits_value 10 (without_leading_plus digits) ≡ number)
 
+-- the number that the text says, or 65,536 frames where there is no text
+abbrev pub IsFramesRead : Option Text → ℕ → Type 0
+IsFramesRead None frames = frames ≡ 65536
+IsFramesRead (Some text) frames = IsRead (Some text) frames
+
 -- the words give this command, with the values that clap matches after its name
 abbrev pub Gives : List Text → Command → Type 0
 Gives words Redo = IsTakenBy words redo_app
-Gives words (Run pages save) = let rows = matches_of run_app words in
+Gives words (Run pages frames save) = let rows = matches_of run_app words in
     IsTakenBy words run_app × IsRead (one_of (codes "pages") rows) pages
+    × IsFramesRead (one_of (codes "frames") rows) frames
     × (option_map (λ name. name.now) save ≡ first_of (codes "save") rows)
 Gives words (Restore log master archives) = let rows = matches_of restore_app words in
     IsTakenBy words restore_app × (first_of (codes "log") rows ≡ Some log.now)
     × (first_of (codes "master") rows ≡ Some master.now)
     × (map (λ name. name.now) archives.items ≡ unwrap_or (all_of (codes "archive") rows) [])
 
--- a volume has 1 to 65,536 pages
-abbrev pub HasPages : Command → Type 0
-HasPages Redo = Unit {0}
-HasPages (Run pages save) = (1 ≤ pages) × (pages ≤ 65536)
-HasPages (Restore log master archives) = Unit {0}
+-- a volume has 1 to 65,536 pages, and 1 to 65,536 frames are there for them
+abbrev pub HasCounts : Command → Type 0
+HasCounts Redo = Unit {0}
+HasCounts (Run pages frames save) =
+    (1 ≤ pages) × (pages ≤ 65536) × (1 ≤ frames) × (frames ≤ 65536)
+HasCounts (Restore log master archives) = Unit {0}
 
 -- clap builds the command of these arguments, one after another
 pub record IsMadeOf (command : Parser) (arguments : List Arg) : Type 0 where
@@ -128,15 +145,18 @@ pub record IsMadeOf (command : Parser) (arguments : List Arg) : Type 0 where
   pub chain : AddsInTurn AddsArg start arguments command
   pub fit : All FitsChain arguments
 
--- the number of pages is required, and then a folder may be named
+-- the number of pages is required, and then the number of frames and a folder may be told
 pub record AsksForPages (command : Parser) : Type 0 where
   pub pages : Arg
+  pub frames : Arg
   pub save : Arg
-  pub made : IsMadeOf command (pages ∷ save ∷ [])
+  pub made : IsMadeOf command (pages ∷ frames ∷ save ∷ [])
   pub pages_is : rule_of pages ≡ pages_rule
+  pub frames_is : rule_of frames ≡ frames_rule
   pub save_is : rule_of save ≡ save_rule
   pub required : TakesValue pages
-  pub parsed : pages.value_parser ≡ Some pages_parser
+  pub pages_parsed : pages.value_parser ≡ Some count_parser
+  pub frames_parsed : frames.value_parser ≡ Some count_parser
 
 -- two files are required, and then more may be named
 pub record AsksForFiles (command : Parser) : Type 0 where
@@ -150,10 +170,19 @@ pub record AsksForFiles (command : Parser) : Type 0 where
   pub log_required : TakesValue log
   pub master_required : TakesValue master
 
--- what was found has a number of pages that clap let through
+-- what was found has a number of this name, and clap let it through
+abbrev pub PassesCount : Found → Text → Type 0
+PassesCount found name = (text : Text) × (one_text found name ≡ Some (without_minus text))
+    × Accepts false count_parser text
+
+-- the number of pages is there
 abbrev pub PassesPages : Found → Type 0
-PassesPages found = (text : Text) × (one_text found (codes "pages") ≡ Some (without_minus text))
-    × Accepts false pages_parser text
+PassesPages found = PassesCount found (codes "pages")
+
+-- the number of frames is there, or it was not given
+abbrev pub PassesFrames : Found → Type 0
+PassesFrames found =
+    (one_text found (codes "frames") ≡ None) ⊎ PassesCount found (codes "frames")
 
 -- the words of `redo`, written out; `--` only ends the options
 abbrev pub IsRedo : List Text → Type 0

@@ -4,16 +4,18 @@ ghost use Rattle.clap.specs.Built.{FitsChain, TakesValue};
 ghost use Rattle.clap.specs.Words.{app_of, fault_of, first_value, found_of, matches_of, rows_of};
 ghost use Rattle.clap.specs.Words.{rule_of};
 ghost use Rattle.command_words.specs.Command.{AsksForFiles, AsksForPages, ExplainsRead, Names};
-ghost use Rattle.command_words.specs.Command.{PassesPages};
-ghost use Rattle.command_words.specs.Command.{archive_rule, log_rule, master_rule, pages_parser};
-ghost use Rattle.command_words.specs.Command.{pages_rule, redo_app, restore_app, run_app};
-ghost use Rattle.command_words.specs.Command.{save_rule};
+ghost use Rattle.command_words.specs.Command.{PassesFrames, PassesPages};
+ghost use Rattle.command_words.specs.Command.{archive_rule, count_parser, frames_rule, log_rule};
+ghost use Rattle.command_words.specs.Command.{master_rule, pages_rule, redo_app, restore_app};
+ghost use Rattle.command_words.specs.Command.{run_app, save_rule};
 ghost use Rattle.command_words.specs.declared.command.UsageFault.TheVariants.{OutOfMemory};
 
 use crate::command::UsageFault;
 use clap::{Arg, ArgAction, ArgMatches};
 use std::alloc::{AllocError, Global};
 use std::convert::AsStr;
+
+const MOST_FRAMES: i64 = 65_536;
 
 /// What `clap` makes of the words of `redo`.
 pub(crate) fn redo_matches<'a, S: AsStr>(
@@ -39,6 +41,7 @@ pub(crate) fn run_matches<'a, S: AsStr>(
     ensures rows { IfOk result (λ it.
         rows_of (found_of it) ≡ matches_of run_app (map S.text words.now)) }
     ensures pages { IfOk result (λ it. PassesPages (found_of it)) }
+    ensures frames { IfOk result (λ it. PassesFrames (found_of it)) }
     ensures only { IfErr result (λ fault.
         fault_of run_app (map S.text words.now) ≡ [] → fault ≡ OutOfMemory) }
     ensures explained { IfErr result (ExplainsRead (map S.text words.now)) }
@@ -83,6 +86,7 @@ fn run_command<'a>(alloc: Global) -> Result<clap::Command<'a>, AllocError>
         .about("Play the script on standard input on a formatted volume")
         .bin_name("imgcopy run")?
         .arg(pages_arg(alloc))?
+        .arg(frames_arg(alloc))?
         .arg(save_arg(alloc))
 }
 
@@ -102,7 +106,7 @@ fn pages_arg<'a>(alloc: Global) -> Arg<'a>
     ensures rule { rule_of result ≡ pages_rule }
     ensures fits { FitsChain result }
     ensures value { TakesValue result }
-    ensures parser { result.value_parser ≡ Some pages_parser }
+    ensures parser { result.value_parser ≡ Some count_parser }
 {
     Arg::new(alloc, "pages")
         .long("pages")
@@ -111,6 +115,19 @@ fn pages_arg<'a>(alloc: Global) -> Arg<'a>
         .required(true)
         .action(ArgAction::Set)
         .value_parser(clap::value_parser!(u32).range(1..=65_536))
+}
+
+fn frames_arg<'a>(alloc: Global) -> Arg<'a>
+    ensures rule { rule_of result ≡ frames_rule }
+    ensures fits { FitsChain result }
+    ensures parser { result.value_parser ≡ Some count_parser }
+{
+    Arg::new(alloc, "frames")
+        .long("frames")
+        .value_name("B")
+        .help("How many pages may be in memory at a time, 1 to 65536; 65536 if not given")
+        .action(ArgAction::Set)
+        .value_parser(clap::value_parser!(u32).range(1..=MOST_FRAMES))
 }
 
 fn save_arg<'a>(alloc: Global) -> Arg<'a>

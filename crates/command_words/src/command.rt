@@ -4,10 +4,10 @@ ghost use Rattle.std.specs.Prelude.{Some, [], codes};
 ghost use Rattle.std.specs.Prelude.{is_some, map, option_map, true, unwrap_or};
 ghost use Rattle.clap.specs.Words.{fault_of, first_value, found_of, kind_of, matched_of, one_of};
 ghost use Rattle.clap.specs.Words.{raw_values, rows_of};
-ghost use Rattle.command_words.specs.Command.{Explains, Gives, HasPages, IsRead, IsRedo, IsTaken};
-ghost use Rattle.command_words.specs.Command.{ExplainsRead, ExplainsUnknown, IsFar, IsNear};
-ghost use Rattle.command_words.specs.Command.{IsUnknown, Names};
-ghost use Rattle.command_words.specs.Command.{PassesPages, redo_app, restore_app, run_app};
+ghost use Rattle.command_words.specs.Command.{Explains, Gives, HasCounts, IsRead, IsRedo, IsTaken};
+ghost use Rattle.command_words.specs.Command.{ExplainsRead, ExplainsUnknown, IsFar, IsFramesRead};
+ghost use Rattle.command_words.specs.Command.{IsNear, IsUnknown, Names, PassesFrames, PassesPages};
+ghost use Rattle.command_words.specs.Command.{redo_app, restore_app, run_app};
 ghost use Rattle.command_words.specs.declared.command.UsageFault.TheVariants.{BadArguments};
 ghost use Rattle.command_words.specs.declared.command.UsageFault.TheVariants.{OutOfMemory};
 ghost use Rattle.clap.specs.declared.error.kind.ErrorKind.TheVariants as kind;
@@ -26,10 +26,12 @@ use thiserror::Error;
 pub enum Command<'a> {
     /// To redo the log on standard input.
     Redo,
-    /// To play the script on standard input on a volume of so many pages, 1 to 65,536. The log, the
-    /// master record and the copies go into the folder, if one is named.
+    /// To play the script on standard input on a volume of so many pages, with memory for so many of
+    /// them at a time, each 1 to 65,536. The log, the master record and the copies go into the
+    /// folder, if one is named.
     Run {
         pages: u32,
+        frames: u32,
         save: Option<&'a str>,
     },
     /// To restore a volume of these files: the log, its master record, and the archives of a chain
@@ -40,6 +42,9 @@ pub enum Command<'a> {
         archives: Vec<&'a str>,
     },
 }
+
+/// As many frames as a volume has pages at most, so that no page has to leave memory.
+const DEFAULT_FRAMES: u32 = 65_536;
 
 const NAMES: [&str; 4] = ["redo", "run", "restore", "help"];
 
@@ -102,7 +107,7 @@ pub fn command_of<'a, S: AsStr>(
     words: &'a [S],
 ) -> Result<Command<'a>, UsageFault<'a>>
     ensures ok { IfOk result (Gives (map S.text words.now)) }
-    ensures pages { IfOk result HasPages }
+    ensures counts { IfOk result HasCounts }
     ensures only { IfErr result (λ fault.
         IsTaken (map S.text words.now) → fault ≡ UsageFault.OutOfMemory) }
     ensures explained { IfErr result (Explains (map S.text words.now)) }
@@ -186,7 +191,7 @@ fn redo_of<'a, S: AsStr>(alloc: Global, words: &'a [S]) -> Result<Command<'a>, U
 fn run_of<'a, S: AsStr>(alloc: Global, words: &'a [S]) -> Result<Command<'a>, UsageFault<'a>>
     requires { Names (map S.text words.now) run_app }
     ensures ok { IfOk result (Gives (map S.text words.now)) }
-    ensures pages { IfOk result HasPages }
+    ensures counts { IfOk result HasCounts }
     ensures is_run { IfOk result (λ command. command ≢ Command.Redo) }
     ensures only { IfErr result (λ fault.
         fault_of run_app (map S.text words.now) ≡ [] → fault ≡ UsageFault.OutOfMemory) }
@@ -194,8 +199,13 @@ fn run_of<'a, S: AsStr>(alloc: Global, words: &'a [S]) -> Result<Command<'a>, Us
 {
     let matches = run_matches(alloc, words)?;
     let pages = pages_in(&matches);
+    let frames = frames_in(&matches);
     let save = matches.get_str("save");
-    Ok(Command::Run { pages, save })
+    Ok(Command::Run {
+        pages,
+        frames,
+        save,
+    })
 }
 
 fn pages_in(matches: &ArgMatches<'_>) -> u32
@@ -207,10 +217,20 @@ fn pages_in(matches: &ArgMatches<'_>) -> u32
     matches.get_one::<u32>("pages").unwrap()
 }
 
+fn frames_in(matches: &ArgMatches<'_>) -> u32
+    requires { PassesFrames (found_of matches.now) }
+    ensures least { 1 ≤ result }
+    ensures most { result ≤ 65536 }
+    ensures read { IsFramesRead
+        (one_of (codes "frames") (rows_of (found_of matches.now))) result }
+{
+    matches.get_one::<u32>("frames").unwrap_or(DEFAULT_FRAMES)
+}
+
 fn restore_of<'a, S: AsStr>(alloc: Global, words: &'a [S]) -> Result<Command<'a>, UsageFault<'a>>
     requires { Names (map S.text words.now) restore_app }
     ensures ok { IfOk result (Gives (map S.text words.now)) }
-    ensures pages { IfOk result HasPages }
+    ensures counts { IfOk result HasCounts }
     ensures is_restore { IfOk result (λ command. command ≢ Command.Redo) }
     ensures only { IfErr result (λ fault.
         fault_of restore_app (map S.text words.now) ≡ [] → fault ≡ UsageFault.OutOfMemory) }

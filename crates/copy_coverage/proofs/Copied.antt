@@ -264,7 +264,7 @@ some_same a b e = cc
 
 pub copied_opened : (rs : List Record) (f : ℕ) (stored : List Page) (copies : List CopyState) (kind : CopyKind)
     (begin redo : ℕ) → AreCopied rs f stored copies → length copies < MAX_COPIES → IsPoint begin redo
-    → HasParent copies (length copies + 1) (length stored) kind → redo ≤ f
+    → HasParent copies (length copies + 1) (length stored) kind → redo < f
     → ((p : ℕ) (d : Page) → p < length stored → Covers rs p (get_or stored p d) redo)
     → AreCopied rs f stored (opened copies kind (length stored) begin redo)
 copied_opened rs f stored copies kind begin redo are few noted parent early covers =

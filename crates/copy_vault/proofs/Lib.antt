@@ -1,4 +1,9 @@
 pub mod ArchiveReads
+pub mod ArchiveSteps
+pub mod ChainEnds
+pub mod ChainOnly
+pub mod ChainOpens
+pub mod ChainSteps
 pub mod Chains
 pub mod Decisions
 pub mod Fronts

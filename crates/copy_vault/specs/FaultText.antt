@@ -8,6 +8,8 @@ use Rattle.copy_vault.specs.declared.archive_fault.ArchiveWriteFault.{ArchiveWri
 use Rattle.copy_vault.specs.declared.archive_fault.ArchiveWriteFault.TheVariants as write
 use Rattle.copy_vault.specs.declared.chain_fault.ChainFault.{ChainFault}
 use Rattle.copy_vault.specs.declared.chain_fault.ChainFault.TheVariants as chain
+use Rattle.copy_vault.specs.declared.chain_read_fault.ChainReadFault.{ChainReadFault}
+use Rattle.copy_vault.specs.declared.chain_read_fault.ChainReadFault.TheVariants as read
 use Rattle.copy_vault.specs.declared.fault.CopyFault.{CopyFault}
 use Rattle.copy_vault.specs.declared.fault.CopyFault.TheVariants as copy
 
@@ -32,3 +34,12 @@ line_of_copy copy.TooManyCopies = fault_line name.TooManyCopies
 abbrev pub line_of_chain : ChainFault → List ℕ
 line_of_chain chain.OutOfMemory = fault_line name.OutOfMemory
 line_of_chain (chain.ChainBroken id) = fault_line_with name.ChainBroken id
+
+abbrev pub line_of_chain_read : ChainReadFault → List ℕ
+line_of_chain_read read.OutOfMemory = fault_line name.OutOfMemory
+line_of_chain_read (read.BadArchive at) = fault_line_with name.BadArchive at
+line_of_chain_read (read.ChainBroken id) = fault_line_with name.ChainBroken id
+line_of_chain_read read.CountDiffers = fault_line name.CountDiffers
+line_of_chain_read read.ReadFault = fault_line name.ReadFault
+line_of_chain_read read.RedoBeyondLog = fault_line name.RedoBeyondLog
+line_of_chain_read (read.PageBeyondLog page) = fault_line_with name.PageBeyondLog page

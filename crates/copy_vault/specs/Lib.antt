@@ -3,6 +3,8 @@ pub mod ArchiveFault
 pub mod ArchiveRead
 pub mod ArchiveWrite
 pub mod Chain
+pub mod ChainRead
+pub mod ChainReading
 pub mod Copy
 pub mod FaultText
 pub mod Held

@@ -1,12 +1,18 @@
 //! Image copies of a volume, open and complete; the vault that keeps them; and their archives.
 #![tactic(auto)]
 
+mod archive_cursor;
 mod archive_fault;
 mod archive_laws;
 mod chain;
 mod chain_fault;
+mod chain_laws;
+mod chain_pages;
+mod chain_read_fault;
+mod chain_reader;
 mod complete;
 mod copy_id;
+mod cursors;
 mod fault;
 mod header;
 mod header_codec;
@@ -26,6 +32,10 @@ pub use archive_laws::{
 };
 pub use chain::Chain;
 pub use chain_fault::ChainFault;
+pub use chain_laws::a_chain_is_not_refused;
+pub use chain_pages::read_chain_pages;
+pub use chain_read_fault::ChainReadFault;
+pub use chain_reader::ChainReader;
 pub use complete::CompleteCopy;
 pub use copy_id::{CopyId, CopyKind, Decision, MAX_COPIES};
 pub use fault::CopyFault;

@@ -137,6 +137,38 @@ fn a_call_fails(rt: HostRuntime) -> Result<(), Fail> {
     Ok(())
 }
 
+/// A record that is stored by a call that fails is not counted as forced, and is stored again.
+#[test]
+fn a_call_fails_late(rt: HostRuntime) -> Result<(), Fail> {
+    let alloc = rt.alloc();
+    for k in 2..5 {
+        let device = FaultyDevice::late(MemDevice::new(alloc, 3)?, k);
+        let mut log = log_on(alloc, device)?;
+        let end = Lsn(64 * (k - 1));
+        let done = log.force();
+        same_at(
+            &rt,
+            &(done, log.forced_end(), log.device().bytes().len()),
+            &(Err(DeviceFault), end, 64 * k as usize),
+            &format_args!("call {k} fails"),
+        );
+        assert_forced(&rt, alloc, &mut log);
+        drop(log);
+    }
+    Ok(())
+}
+
+/// Where there is no room, a device that fails late stores nothing either.
+#[test]
+fn a_call_without_room_stores_nothing(rt: HostRuntime) -> Result<(), Fail> {
+    let mut device = FaultyDevice::late(MemDevice::new(rt.alloc(), 0)?, 1);
+    same(&rt, &device.store(0, &[7; 65]), &Err(DeviceFault));
+    same(&rt, &device.bytes().len(), &0);
+    same(&rt, &device.store(0, &[7; 64]), &Ok(()));
+    same(&rt, &device.bytes(), &[7; 64].as_slice());
+    Ok(())
+}
+
 #[test]
 fn the_header_is_stored_again(rt: HostRuntime) -> Result<(), Fail> {
     let alloc = rt.alloc();

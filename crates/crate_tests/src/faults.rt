@@ -1,7 +1,7 @@
 //! The lines of faults.
 
 use crate::asserts::same;
-use copy_vault::{ArchiveFault, ArchiveWriteFault, ChainFault, CopyFault, CopyId};
+use copy_vault::{ArchiveFault, ArchiveWriteFault, ChainFault, ChainReadFault, CopyFault, CopyId};
 use log_store::LogReadFault;
 use page_core::{Lsn, PageNo};
 use std::alloc::AllocGlobal;
@@ -38,6 +38,25 @@ fn faults_of_an_archive_have_lines(rt: HostRuntime) -> Result<(), Fail> {
         &rt,
         &ArchiveWriteFault::WriteFault(100),
         "E29 WriteFault 100",
+    )
+}
+
+#[test]
+fn faults_of_a_chain_have_lines(rt: HostRuntime) -> Result<(), Fail> {
+    prints(&rt, &ChainReadFault::OutOfMemory, "E1 OutOfMemory")?;
+    prints(&rt, &ChainReadFault::ReadFault, "E33 ReadFault")?;
+    prints(&rt, &ChainReadFault::BadArchive(64), "E36 BadArchive 64")?;
+    prints(
+        &rt,
+        &ChainReadFault::ChainBroken(CopyId(3)),
+        "E37 ChainBroken 3",
+    )?;
+    prints(&rt, &ChainReadFault::CountDiffers, "E38 CountDiffers")?;
+    prints(&rt, &ChainReadFault::RedoBeyondLog, "E39 RedoBeyondLog")?;
+    prints(
+        &rt,
+        &ChainReadFault::PageBeyondLog(PageNo(7)),
+        "E40 PageBeyondLog 7",
     )
 }
 

@@ -6,6 +6,8 @@ mod archives;
 #[cfg(test)]
 mod asserts;
 #[cfg(test)]
+mod chain_readers;
+#[cfg(test)]
 mod checkpoints;
 #[cfg(test)]
 mod devices;

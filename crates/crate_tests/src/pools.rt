@@ -27,11 +27,28 @@ enum Row {
     WriteBegin(u32, u64),
     /// The LSN of the image, or `None` at a fault.
     WriteEnd(u32, Option<u64>),
+    /// The LSN of the page that is stored anew, as it is now, or `None` at a fault.
+    Repair(u32, Option<u64>),
     /// The LSN of the stored page and the number in its slot 0, or `None` at a fault.
     Stored(u32, Option<(u64, u64)>),
     DirtyFrom(u32, Option<DirtyPages>),
+    /// What comes of a page that is needed.
+    Bring(u32, Brought),
     /// How many calls it takes to go over all dirty pages, and how many these are.
     Walk(u32, u32),
+}
+
+/// What comes of a page that is needed in memory.
+#[derive(Clone, Copy, Debug, PartialEq, Eq)]
+enum Brought {
+    /// It is there.
+    Resident,
+    /// It was fetched.
+    Fetched,
+    /// No frame can be had for it.
+    NoFrame,
+    /// The store failed.
+    Fault,
 }
 
 /// A pool that follows a log, and how many records the log has.
@@ -67,6 +84,7 @@ impl<S: PageStore> Play<S> {
 
     fn set(&mut self, rt: &impl Abort, page: u32, number: u64) {
         assert!(rt; 1 <= self.records && self.records < 1_000_000 && page < self.pool.pages());
+        assert!(rt; self.pool.is_resident(PageNo(page)));
         self.pool.change(&Record::Update {
             lsn: Lsn(64 * (self.records + 1)),
             txn: TxnNo(1),
@@ -82,7 +100,7 @@ impl<S: PageStore> Play<S> {
     }
 
     fn current(&self, rt: &impl Abort, page: u32) -> (u64, u64) {
-        assert!(rt; page < self.pool.pages());
+        assert!(rt; self.pool.is_resident(PageNo(page)));
         let now = self.pool.current(PageNo(page));
         (now.lsn.0, now.slots[0])
     }
@@ -95,6 +113,8 @@ impl<S: PageStore> Play<S> {
 
     fn write_begin(&mut self, rt: &impl Abort, page: u32) -> Result<u64, AllocError> {
         assert!(rt; page < self.pool.pages() && !self.pool.is_writing(PageNo(page)));
+        assert!(rt; self.pool.is_resident(PageNo(page)));
+        assert!(rt; self.pool.rec_lsn(PageNo(page)).is_some());
         let image = self.pool.image_of(PageNo(page))?;
         Ok(self.pool.write_begin(image).0)
     }
@@ -107,11 +127,38 @@ impl<S: PageStore> Play<S> {
         }
     }
 
+    /// Stores a page anew that a frame has.
+    fn repair(&mut self, rt: &impl Abort, page: u32) -> Option<u64> {
+        assert!(rt; page < self.pool.pages() && !self.pool.is_writing(PageNo(page)));
+        assert!(rt; self.pool.is_resident(PageNo(page)));
+        let rebuilt = self.pool.current(PageNo(page)).copy();
+        match self.pool.repair(PageNo(page), &rebuilt) {
+            Ok(()) => Some(rebuilt.lsn.0),
+            Err(_) => None,
+        }
+    }
+
     fn stored(&mut self, rt: &impl Abort, page: u32) -> Option<(u64, u64)> {
         assert!(rt; page < self.pool.pages());
         match self.pool.stored(PageNo(page)) {
             Ok(stored) => Some((stored.lsn.0, stored.slots[0])),
             Err(_) => None,
+        }
+    }
+
+    fn bring(&mut self, rt: &impl Abort, page: u32) -> Result<Brought, AllocError> {
+        assert!(rt; page < self.pool.pages());
+        let number = PageNo(page);
+        if self.pool.is_resident(number) {
+            return Ok(Brought::Resident);
+        }
+        if self.pool.is_full() {
+            return Ok(Brought::NoFrame);
+        }
+        self.pool.make_room()?;
+        match self.pool.fetch(number) {
+            Ok(()) => Ok(Brought::Fetched),
+            Err(_) => Ok(Brought::Fault),
         }
     }
 
@@ -156,11 +203,17 @@ impl<S: PageStore> Play<S> {
             Row::WriteEnd(page, lsn) => {
                 same_at(rt, &self.write_end(rt, page), &lsn, &row);
             }
+            Row::Repair(page, lsn) => {
+                same_at(rt, &self.repair(rt, page), &lsn, &row);
+            }
             Row::Stored(page, stored) => {
                 same_at(rt, &self.stored(rt, page), &stored, &row);
             }
             Row::DirtyFrom(cursor, dirty) => {
                 same_at(rt, &self.pool.dirty_from(PageNo(cursor)), &dirty, &row);
+            }
+            Row::Bring(page, brought) => {
+                same_at(rt, &self.bring(rt, page)?, &brought, &row);
             }
             Row::Walk(calls, pages) => {
                 same_at(rt, &self.walk(rt), &(calls, pages), &row);
@@ -179,14 +232,36 @@ impl<S: PageStore> Play<S> {
     }
 }
 
-/// Plays rows on a new pool of so many pages, whose log has a Begin, and whose store fails at its
-/// `k`-th call.
+/// Plays rows on a new pool with a frame for each of so many pages, whose log has a Begin, and
+/// whose store fails at its `k`-th call.
 fn run(rt: &impl Abort, alloc: Global, pages: u32, k: u64, rows: &[Row]) -> Result<(), AllocError>
     requires { IsPageCount pages }
 {
     let store = FaultyStore::new(alloc, MemStore::new(alloc, pages)?, k)?;
     let mut play = Play {
-        pool: Pool::new(alloc, store)?,
+        pool: Pool::whole(alloc, store)?,
+        records: 0,
+    };
+    play.begin(rt);
+    let done = play.follow_each(rt, rows);
+    drop(play);
+    done
+}
+
+/// The same of a pool of so many frames, in which no page is resident.
+fn run_in_frames(
+    rt: &impl Abort,
+    alloc: Global,
+    pages: u32,
+    frames: u32,
+    k: u64,
+    rows: &[Row],
+) -> Result<(), AllocError>
+    requires { IsPageCount pages }
+{
+    let store = FaultyStore::new(alloc, MemStore::new(alloc, pages)?, k)?;
+    let mut play = Play {
+        pool: Pool::new(alloc, store, frames)?,
         records: 0,
     };
     play.begin(rt);
@@ -272,6 +347,24 @@ fn a_write_fails(rt: HostRuntime) -> Result<(), AllocError> {
     run(&rt, rt.alloc(), 1, 1, &rows)
 }
 
+/// A repair that the store fails at may be made again. The frame is as it was.
+#[test]
+fn a_page_is_stored_anew(rt: HostRuntime) -> Result<(), AllocError> {
+    let rows = [
+        Row::Set(0, 5),
+        Row::Repair(0, None),
+        Row::State(0, Some(128), false),
+        Row::Repair(0, Some(128)),
+        Row::State(0, None, false),
+        Row::Stored(0, Some((128, 5))),
+        Row::Current(0, 128, 5),
+        Row::Repair(0, Some(128)),
+        Row::Set(0, 6),
+        Row::State(0, Some(192), false),
+    ];
+    run(&rt, rt.alloc(), 1, 1, &rows)
+}
+
 #[test]
 fn a_read_fails(rt: HostRuntime) -> Result<(), AllocError> {
     let rows = [
@@ -305,4 +398,72 @@ fn the_largest_pool_is_walked(rt: HostRuntime) -> Result<(), AllocError> {
         Row::Walk(21_845, 65_535),
     ];
     run(&rt, rt.alloc(), 65_536, 0, &rows)
+}
+
+/// Where no frame is free, the clean page goes that was fetched earliest; that it was needed again
+/// moves nothing. Where the store fails, none goes.
+#[test]
+fn a_page_is_given_up_for_another(rt: HostRuntime) -> Result<(), AllocError> {
+    let rows = [
+        Row::Bring(0, Brought::Fetched),
+        Row::Bring(1, Brought::Fetched),
+        Row::Bring(0, Brought::Resident),
+        Row::Bring(2, Brought::Fetched),
+        Row::Bring(0, Brought::Fault),
+        Row::Bring(1, Brought::Resident),
+        Row::Bring(2, Brought::Resident),
+        Row::Bring(0, Brought::Fetched),
+        Row::Bring(2, Brought::Resident),
+        Row::Bring(1, Brought::Fetched),
+        Row::Bring(0, Brought::Resident),
+    ];
+    run_in_frames(&rt, rt.alloc(), 3, 2, 4, &rows)
+}
+
+/// A dirty page keeps its frame, also while it is being written.
+#[test]
+fn a_dirty_page_keeps_its_frame(rt: HostRuntime) -> Result<(), AllocError> {
+    let rows = [
+        Row::Bring(0, Brought::Fetched),
+        Row::Set(0, 5),
+        Row::Bring(1, Brought::NoFrame),
+        Row::WriteBegin(0, 128),
+        Row::Bring(1, Brought::NoFrame),
+        Row::Set(0, 6),
+        Row::WriteEnd(0, Some(128)),
+        Row::Bring(1, Brought::NoFrame),
+        Row::WriteBegin(0, 192),
+        Row::WriteEnd(0, Some(192)),
+        Row::Bring(1, Brought::Fetched),
+        Row::Current(1, 0, 0),
+        Row::Bring(0, Brought::Fetched),
+        Row::Current(0, 192, 6),
+    ];
+    run_in_frames(&rt, rt.alloc(), 2, 1, 0, &rows)
+}
+
+/// A page that was dirty goes as soon as its turn by the order of fetch comes.
+#[test]
+fn dirty_pages_are_passed_over(rt: HostRuntime) -> Result<(), AllocError> {
+    let rows = [
+        Row::Bring(2, Brought::Fetched),
+        Row::Bring(0, Brought::Fetched),
+        Row::Bring(3, Brought::Fetched),
+        Row::Set(2, 5),
+        Row::Bring(1, Brought::Fetched),
+        Row::Bring(2, Brought::Resident),
+        Row::Bring(3, Brought::Resident),
+        Row::WriteBegin(2, 128),
+        Row::WriteEnd(2, Some(128)),
+        Row::Bring(0, Brought::Fetched),
+        Row::Bring(3, Brought::Resident),
+        Row::Bring(1, Brought::Resident),
+        Row::Bring(2, Brought::Fetched),
+        Row::Bring(1, Brought::Resident),
+        Row::Bring(0, Brought::Resident),
+        Row::Current(2, 128, 5),
+        Row::Bring(3, Brought::Fetched),
+        Row::Bring(1, Brought::Fetched),
+    ];
+    run_in_frames(&rt, rt.alloc(), 4, 3, 0, &rows)
 }

@@ -180,6 +180,68 @@ fn a_damaged_page_is_read_once_it_is_written(rt: HostRuntime) -> Result<(), Fail
     Ok(())
 }
 
+/// The second call writes page 0 before it is damaged, and so does not mend it; the fifth does.
+#[test]
+fn a_page_is_damaged_from_a_call_on(rt: HostRuntime) -> Result<(), Fail> {
+    let alloc = rt.alloc();
+    let mut store = FaultyStore::new(alloc, MemStore::new(alloc, 2)?, 0)?;
+    store.damage_from(PageNo(0), 2);
+    let calls = [
+        (Call::Read(0), Ok(0)),
+        (Call::Write(0, 5), Ok(5)),
+        (Call::Read(0), Err(StoreFault)),
+        (Call::Read(1), Ok(0)),
+        (Call::Write(0, 6), Ok(6)),
+        (Call::Read(0), Ok(6)),
+    ];
+    assert_calls(&rt, &mut store, &calls);
+    let written = [page_with(0, 6), Page::formatted(PageNo(1))];
+    same(&rt, &store.stored(), &written.as_slice());
+    Ok(())
+}
+
+/// A read that is to fail late leaves all pages, and a write leaves the new one.
+#[test]
+fn a_store_fails_late(rt: HostRuntime) -> Result<(), Fail> {
+    let alloc = rt.alloc();
+    let mut store = FaultyStore::late(alloc, MemStore::new(alloc, 2)?, 2)?;
+    let calls = [
+        (Call::Read(1), Ok(0)),
+        (Call::Write(1, 5), Err(StoreFault)),
+        (Call::Read(1), Ok(5)),
+        (Call::Write(0, 6), Ok(6)),
+    ];
+    assert_calls(&rt, &mut store, &calls);
+    same(
+        &rt,
+        &store.stored(),
+        &[page_with(0, 6), page_with(1, 5)].as_slice(),
+    );
+    let mut store = FaultyStore::late(alloc, MemStore::new(alloc, 2)?, 1)?;
+    assert_calls(
+        &rt,
+        &mut store,
+        &[(Call::Read(1), Err(StoreFault)), (Call::Read(1), Ok(0))],
+    );
+    Ok(())
+}
+
+/// The write that fails late stores the page, but mends nothing.
+#[test]
+fn a_late_write_mends_nothing(rt: HostRuntime) -> Result<(), Fail> {
+    let alloc = rt.alloc();
+    let mut store = FaultyStore::late(alloc, MemStore::new(alloc, 2)?, 1)?;
+    store.damage(PageNo(1));
+    let calls = [
+        (Call::Write(1, 5), Err(StoreFault)),
+        (Call::Read(1), Err(StoreFault)),
+        (Call::Write(1, 6), Ok(6)),
+        (Call::Read(1), Ok(6)),
+    ];
+    assert_calls(&rt, &mut store, &calls);
+    Ok(())
+}
+
 #[test]
 fn a_page_is_swapped_in(rt: HostRuntime) -> Result<(), Fail> {
     let mut store = MemStore::new(rt.alloc(), 3)?;

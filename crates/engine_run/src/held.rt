@@ -4,8 +4,8 @@ ghost use Rattle.std.specs.Prelude.{ℕ, ◌≡◌, ◌+◌, ◌<◌, ◌≤◌,
 ghost use Rattle.page_core.specs.Volume.{formatted_pages};
 ghost use Rattle.log_records.specs.Log.{IsPageCount};
 ghost use Rattle.settlement.specs.Counts.{updates_in};
-ghost use Rattle.aries_core.specs.EngineState.{IsFit, end, new_state};
-ghost use Rattle.aries_core.specs.Step.{FailsForcing, Forces, IsUnsure, Step, reply_of};
+ghost use Rattle.aries_core.specs.EngineState.{Fetches, IsFit, end, new_state};
+ghost use Rattle.aries_core.specs.Step.{FailsForcing, Forces, IsByStore, IsUnsure, Step, reply_of};
 ghost use Rattle.aries_core.specs.Step.{undo_answer};
 ghost use Rattle.aries_core.specs.declared.event.Answer.TheVariants as answer;
 ghost use Rattle.aries_core.specs.declared.event.Event.TheVariants as event;
@@ -66,8 +66,8 @@ impl<S: PageStore, D: LogDevice, G: Ledger> Held<S, D, G> {
 
     /// Begins a transaction, as `Engine::begin` does.
     pub fn begin(&mut self) -> Result<(TxnNo, Lsn), Refusal>
-        ensures step { Step self.old.engine.state event.Begin (reply_of (λ a. answer.Began a.0 a.1) result)
-            self.new.engine.state }
+        ensures step { Step self.old.engine.state event.Begin
+            (reply_of (λ a. answer.Began a.0 a.1) result) self.new.engine.state }
         ensures store { self.new.engine.store ≡ self.old.engine.store }
         ensures device { self.new.engine.device ≡ self.old.engine.device }
     {
@@ -87,7 +87,14 @@ impl<S: PageStore, D: LogDevice, G: Ledger> Held<S, D, G> {
         requires part { 0 < share.old.parts }
         ensures step { Step self.old.engine.state (event.Set txn page slot number)
             (reply_of answer.Logged result) self.new.engine.state }
-        ensures store { self.new.engine.store ≡ self.old.engine.store }
+        ensures store { ¬ Fetches self.old.engine.state (event.Set txn page slot number)
+            → self.new.engine.store ≡ self.old.engine.store }
+        ensures store_refused { IfErr result (λ why. ¬ IsByStore why
+            → self.new.engine.store ≡ self.old.engine.store) }
+        ensures no_store_failure { OnOk result
+            (S.failures self.new.engine.store ≡ S.failures self.old.engine.store) }
+        ensures store_cause { IfErr result (λ why. IsByStore why
+            → S.failures self.old.engine.store < S.failures self.new.engine.store) }
         ensures device { self.new.engine.device ≡ self.old.engine.device }
         ensures counted { OnOk result (share.new.amount ≡ share.old.amount + 1) }
         ensures uncounted { OnErr result (share.new.amount ≡ share.old.amount) }
@@ -110,7 +117,14 @@ impl<S: PageStore, D: LogDevice, G: Ledger> Held<S, D, G> {
         requires part { 0 < share.old.parts }
         ensures step { Step self.old.engine.state (event.Add txn page slot amount)
             (reply_of answer.Logged result) self.new.engine.state }
-        ensures store { self.new.engine.store ≡ self.old.engine.store }
+        ensures store { ¬ Fetches self.old.engine.state (event.Add txn page slot amount)
+            → self.new.engine.store ≡ self.old.engine.store }
+        ensures store_refused { IfErr result (λ why. ¬ IsByStore why
+            → self.new.engine.store ≡ self.old.engine.store) }
+        ensures no_store_failure { OnOk result
+            (S.failures self.new.engine.store ≡ S.failures self.old.engine.store) }
+        ensures store_cause { IfErr result (λ why. IsByStore why
+            → S.failures self.old.engine.store < S.failures self.new.engine.store) }
         ensures device { self.new.engine.device ≡ self.old.engine.device }
         ensures counted { OnOk result (share.new.amount ≡ share.old.amount + 1) }
         ensures uncounted { OnErr result (share.new.amount ≡ share.old.amount) }
@@ -126,7 +140,16 @@ impl<S: PageStore, D: LogDevice, G: Ledger> Held<S, D, G> {
         ensures step { Step self.old.engine.state (event.Read page slot)
             (reply_of (λ a. answer.Number a.1) result) self.new.engine.state }
         ensures end { IfOk result (λ a. a.0 ≡ end self.old.engine.state) }
-        ensures same { self.new ≡ self.old }
+        ensures log { self.new.engine.state.log ≡ self.old.engine.state.log }
+        ensures store { ¬ Fetches self.old.engine.state (event.Read page slot)
+            → self.new.engine.store ≡ self.old.engine.store }
+        ensures store_refused { IfErr result (λ why. ¬ IsByStore why
+            → self.new.engine.store ≡ self.old.engine.store) }
+        ensures no_store_failure { OnOk result
+            (S.failures self.new.engine.store ≡ S.failures self.old.engine.store) }
+        ensures store_cause { IfErr result (λ why. IsByStore why
+            → S.failures self.old.engine.store < S.failures self.new.engine.store) }
+        ensures device { self.new.engine.device ≡ self.old.engine.device }
     {
         let number = self.engine.read(page, slot)?;
         Ok((self.engine.log_end(), number))
@@ -146,7 +169,8 @@ impl<S: PageStore, D: LogDevice, G: Ledger> Held<S, D, G> {
             (D.failures self.new.engine.device ≡ D.failures self.old.engine.device) }
         ensures cause { IfErr result (λ why. IsUnsure why
             → D.failures self.old.engine.device < D.failures self.new.engine.device) }
-        ensures same_bound { D.fails_from self.new.engine.device ≡ D.fails_from self.old.engine.device }
+        ensures same_bound { D.fails_from self.new.engine.device
+            ≡ D.fails_from self.old.engine.device }
         ensures past_bound { IfErr result (λ why. IsUnsure why
             → D.fails_from self.old.engine.device ≤ end self.new.engine.state) }
     {
@@ -167,7 +191,14 @@ impl<S: PageStore, D: LogDevice, G: Ledger> Held<S, D, G> {
     pub fn undo_step(&mut self, txn: TxnNo) -> Result<Undone, Refusal>
         ensures step { Step self.old.engine.state (event.UndoStep txn) (reply_of undo_answer result)
             self.new.engine.state }
-        ensures store { self.new.engine.store ≡ self.old.engine.store }
+        ensures store { ¬ Fetches self.old.engine.state (event.UndoStep txn)
+            → self.new.engine.store ≡ self.old.engine.store }
+        ensures store_refused { IfErr result (λ why. ¬ IsByStore why
+            → self.new.engine.store ≡ self.old.engine.store) }
+        ensures no_store_failure { OnOk result
+            (S.failures self.new.engine.store ≡ S.failures self.old.engine.store) }
+        ensures store_cause { IfErr result (λ why. IsByStore why
+            → S.failures self.old.engine.store < S.failures self.new.engine.store) }
         ensures device { self.new.engine.device ≡ self.old.engine.device }
     {
         self.engine.undo_step(txn)

@@ -2,7 +2,8 @@
 
 ghost use Rattle.std.specs.Prelude.{ℕ, ◌≡◌, ◌<◌, ◌≤◌, IfErr, IfOk, OnErr, OnOk};
 ghost use Rattle.aries_core.specs.EngineState.{end};
-ghost use Rattle.aries_core.specs.Step.{FailsForcing, Forces, IsByDevice, IsByStore, Step, reply_of};
+ghost use Rattle.aries_core.specs.Step.{FailsForcing, Forces, IsByDevice, IsByStore, Step};
+ghost use Rattle.aries_core.specs.Step.{reply_of};
 ghost use Rattle.aries_core.specs.Step.{gather_answer, took_answer};
 ghost use Rattle.aries_core.specs.declared.event.Answer.TheVariants as answer;
 ghost use Rattle.aries_core.specs.declared.event.Event.TheVariants as event;
@@ -26,17 +27,20 @@ impl<S: PageStore, D: LogDevice, G: Ledger> Held<S, D, G> {
         ensures last_call { OnErr result (FailsForcing D.called self.old.engine self.new.engine) }
         ensures no_failure { OnOk result
             (D.failures self.new.engine.device ≡ D.failures self.old.engine.device) }
-        ensures cause { OnErr result (D.failures self.old.engine.device < D.failures self.new.engine.device) }
-        ensures same_bound { D.fails_from self.new.engine.device ≡ D.fails_from self.old.engine.device }
-        ensures past_bound { OnErr result (D.fails_from self.old.engine.device ≤ end self.new.engine.state) }
+        ensures cause { OnErr result
+            (D.failures self.old.engine.device < D.failures self.new.engine.device) }
+        ensures same_bound { D.fails_from self.new.engine.device
+            ≡ D.fails_from self.old.engine.device }
+        ensures past_bound { OnErr result
+            (D.fails_from self.old.engine.device ≤ end self.new.engine.state) }
     {
         self.engine.force()
     }
 
     /// Begins to write a page, as `Engine::write_begin` does.
     pub fn write_begin(&mut self, page: PageNo) -> Result<Lsn, Refusal>
-        ensures step { Step self.old.engine.state (event.WriteBegin page) (reply_of answer.Writing result)
-            self.new.engine.state }
+        ensures step { Step self.old.engine.state (event.WriteBegin page)
+            (reply_of answer.Writing result) self.new.engine.state }
         ensures store { self.new.engine.store ≡ self.old.engine.store }
         ensures refused { IfErr result (λ why. ¬ IsByDevice why
             → self.new.engine.device ≡ self.old.engine.device) }
@@ -47,7 +51,8 @@ impl<S: PageStore, D: LogDevice, G: Ledger> Held<S, D, G> {
             (D.failures self.new.engine.device ≡ D.failures self.old.engine.device) }
         ensures cause { IfErr result (λ why. IsByDevice why
             → D.failures self.old.engine.device < D.failures self.new.engine.device) }
-        ensures same_bound { D.fails_from self.new.engine.device ≡ D.fails_from self.old.engine.device }
+        ensures same_bound { D.fails_from self.new.engine.device
+            ≡ D.fails_from self.old.engine.device }
         ensures past_bound { IfErr result (λ why. IsByDevice why
             → D.fails_from self.old.engine.device ≤ end self.new.engine.state) }
     {
@@ -56,8 +61,8 @@ impl<S: PageStore, D: LogDevice, G: Ledger> Held<S, D, G> {
 
     /// Ends a write of a page, as `Engine::write_end` does.
     pub fn write_end(&mut self, page: PageNo) -> Result<Lsn, Refusal>
-        ensures step { Step self.old.engine.state (event.WriteEnd page) (reply_of answer.Written result)
-            self.new.engine.state }
+        ensures step { Step self.old.engine.state (event.WriteEnd page)
+            (reply_of answer.Written result) self.new.engine.state }
         ensures device { self.new.engine.device ≡ self.old.engine.device }
         ensures refused { IfErr result (λ why. ¬ IsByStore why
             → self.new.engine.store ≡ self.old.engine.store) }
@@ -103,7 +108,8 @@ impl<S: PageStore, D: LogDevice, G: Ledger> Held<S, D, G> {
             (D.failures self.new.engine.device ≡ D.failures self.old.engine.device) }
         ensures cause { IfErr result (λ why. IsByDevice why
             → D.failures self.old.engine.device < D.failures self.new.engine.device) }
-        ensures same_bound { D.fails_from self.new.engine.device ≡ D.fails_from self.old.engine.device }
+        ensures same_bound { D.fails_from self.new.engine.device
+            ≡ D.fails_from self.old.engine.device }
         ensures past_bound { IfErr result (λ why. IsByDevice why
             → D.fails_from self.old.engine.device ≤ end self.new.engine.state) }
     {
@@ -122,8 +128,8 @@ impl<S: PageStore, D: LogDevice, G: Ledger> Held<S, D, G> {
 
     /// Begins an incremental image copy, as `Engine::copy_inc` does.
     pub fn copy_inc(&mut self, parent: CopyId) -> Result<CopyId, Refusal>
-        ensures step { Step self.old.engine.state (event.CopyInc parent) (reply_of answer.Copied result)
-            self.new.engine.state }
+        ensures step { Step self.old.engine.state (event.CopyInc parent)
+            (reply_of answer.Copied result) self.new.engine.state }
         ensures store { self.new.engine.store ≡ self.old.engine.store }
         ensures device { self.new.engine.device ≡ self.old.engine.device }
     {
@@ -132,8 +138,8 @@ impl<S: PageStore, D: LogDevice, G: Ledger> Held<S, D, G> {
 
     /// Has a copy decide of a page as it is stored, as `Engine::take` does.
     pub fn take(&mut self, copy: CopyId, page: PageNo) -> Result<Took, Refusal>
-        ensures step { Step self.old.engine.state (event.Take copy page) (reply_of took_answer result)
-            self.new.engine.state }
+        ensures step { Step self.old.engine.state (event.Take copy page)
+            (reply_of took_answer result) self.new.engine.state }
         ensures device { self.new.engine.device ≡ self.old.engine.device }
         ensures store_refused { IfErr result (λ why. ¬ IsByStore why
             → self.new.engine.store ≡ self.old.engine.store) }
@@ -163,5 +169,37 @@ impl<S: PageStore, D: LogDevice, G: Ledger> Held<S, D, G> {
         ensures device { self.new.engine.device ≡ self.old.engine.device }
     {
         self.engine.drop_copy(copy)
+    }
+
+    /// Stores a page anew, from a complete copy and the log, as `Engine::repair` does.
+    pub fn repair(&mut self, copy: CopyId, page: PageNo) -> Result<Lsn, Refusal>
+        ensures step { Step self.old.engine.state (event.Repair copy page)
+            (reply_of answer.Repaired result) self.new.engine.state }
+        ensures refused { IfErr result (λ why. ¬ IsByDevice why → ¬ IsByStore why
+            → self.new.engine.device ≡ self.old.engine.device) }
+        ensures called { OnOk result (Forces D.called self.old.engine self.new.engine) }
+        ensures forced_first { IfErr result (λ why. IsByStore why
+            → Forces D.called self.old.engine self.new.engine) }
+        ensures last_call { IfErr result (λ why. IsByDevice why
+            → FailsForcing D.called self.old.engine self.new.engine) }
+        ensures no_failure { OnOk result
+            (D.failures self.new.engine.device ≡ D.failures self.old.engine.device) }
+        ensures sound { IfErr result (λ why. ¬ IsByDevice why
+            → D.failures self.new.engine.device ≡ D.failures self.old.engine.device) }
+        ensures cause { IfErr result (λ why. IsByDevice why
+            → D.failures self.old.engine.device < D.failures self.new.engine.device) }
+        ensures same_bound { D.fails_from self.new.engine.device
+            ≡ D.fails_from self.old.engine.device }
+        ensures past_bound { IfErr result (λ why. IsByDevice why
+            → D.fails_from self.old.engine.device ≤ end self.new.engine.state) }
+
+        ensures store_refused { IfErr result (λ why. ¬ IsByStore why
+            → self.new.engine.store ≡ self.old.engine.store) }
+        ensures no_store_failure { OnOk result
+            (S.failures self.new.engine.store ≡ S.failures self.old.engine.store) }
+        ensures store_cause { IfErr result (λ why. IsByStore why
+            → S.failures self.old.engine.store < S.failures self.new.engine.store) }
+    {
+        self.engine.repair(copy, page)
     }
 }

@@ -1,17 +1,32 @@
 //! One engine for many threads: each call is one hold of the one lock round it.
 #![tactic(auto)]
 
+mod check_sessions;
+mod check_works;
+mod copier;
+mod fault;
 mod flush;
 mod gate;
 mod held;
 mod held_media;
+mod laws;
+mod repair;
+mod room;
 mod session;
+mod settling;
 mod shared;
 mod spare;
 mod work;
+mod worker;
 
+pub use fault::SettleFault;
 pub use gate::{HoldGate, OpenGate};
 pub use held::Held;
+pub use laws::{
+    a_session_reads_its_own_writes, an_acknowledged_commit_is_kept, an_answered_copy_restores,
+    each_change_was_answered_once, what_is_wrong_is_not_settled,
+};
 pub use session::Session;
+pub use settling::{Unsettled, settle};
 pub use shared::{MAX_SESSIONS, Shared};
 pub use work::Work;

@@ -1,9 +1,11 @@
 //! A session: one user of a shared engine, with the receipts of its calls.
 
-ghost use Rattle.std.specs.Prelude.{◌≡◌, ◌<◌, ◌++◌, [], ◌∷◌, IfErr, IfOk, OnErr, OnOk, ℕ, vec_capacity, vec_len};
+ghost use Rattle.std.specs.Prelude.{◌≡◌, ◌<◌, ◌++◌, [], ◌∷◌, IfErr, IfOk, OnErr, OnOk, ℕ};
+ghost use Rattle.std.specs.Prelude.{vec_capacity, vec_len};
 ghost use Rattle.page_core.specs.declared.change.ChangeKind.TheVariants as kind;
 ghost use Rattle.settlement.specs.declared.receipt.Receipt.TheVariants.{Changed, Read, Stepped};
 ghost use Rattle.settlement.specs.declared.receipt.TxnStep.TheVariants as step;
+ghost use Rattle.settlement.specs.Counts.{changes_in};
 ghost use Rattle.engine_run.specs.Undoing.{undo_receipt};
 
 use crate::shared::Shared;
@@ -56,6 +58,16 @@ impl<G: Ledger> Session<G> {
         ensures { result.now ≡ self.now }
     {
         &self.receipts
+    }
+
+    /// How many of them are of changes: the amount of its share.
+    pub fn changes(&self) -> usize
+        ensures { result ≡ changes_in self.now }
+    {
+        self.receipts
+            .iter()
+            .filter(|receipt| matches!(receipt, Receipt::Changed { .. }))
+            .count()
     }
 
     /// Begins a transaction, and answers its number and the LSN of its Begin. Refusals are those of

@@ -2,6 +2,7 @@
 
 ghost use Rattle.std.specs.Prelude.{◌≡◌, ◌+◌, ◌<◌, ◌≤◌, [], IfErr, IfOk};
 ghost use Rattle.page_core.specs.Volume.{formatted_pages};
+ghost use Rattle.buffer_pool.specs.Pool.{IsFrameCount};
 ghost use Rattle.log_records.specs.Log.{IsPageCount};
 
 use crate::held::Held;
@@ -24,8 +25,8 @@ pub const MAX_SESSIONS: u32 = 64;
 pub struct Shared<S: PageStore, D: LogDevice, G: Ledger> {
     pub(crate) held: Mutex<Held<S, D, G>>,
     /// The shares of the sessions that are not made yet.
-    spares: Vec<Mutex<Spare<G>>>,
-    sessions: u32,
+    pub(crate) spares: Vec<Mutex<Spare<G>>>,
+    pub(crate) sessions: u32,
 }
 
 impl<S: PageStore, D: LogDevice, G: Ledger> Model for Shared<S, D, G> {
@@ -53,7 +54,7 @@ impl<S: PageStore + Drop, D: LogDevice + Drop, G: Ledger> Shared<S, D, G> {
         requires parts { blank.parts ≡ G.parts }
         requires sessions { blank.parts ≡ 65 }
         requires pages { IsPageCount setup.pages }
-        requires frames { setup.pages ≤ setup.frames }
+        requires frames { IsFrameCount setup.frames }
         requires formatted { S.stored store ≡ formatted_pages setup.pages }
 
         ensures sessions { IfOk result (λ it. it.sessions ≡ 0) }

@@ -66,14 +66,34 @@ pub(crate) fn calls_of(rt: &(impl Abort + AllocGlobal), parts: &[&str]) -> Calls
     }
 }
 
-/// Asserts that these are the replies of the calls.
-pub(crate) fn assert_replies(rt: &(impl Abort + AllocGlobal), replies: &[Reply], calls: &Calls) {
+/// The lines of replies.
+fn lines_of(rt: &(impl Abort + AllocGlobal), replies: &[Reply]) -> String {
     let mut lines = String::new(rt.alloc());
     for reply in replies {
         let line = ReplyLine(*reply);
         writeln!(lines, "{line}").expect(rt, "memory for an output");
     }
-    same(rt, &lines, &calls.replies);
+    lines
+}
+
+/// Asserts that these are the replies of the calls.
+pub(crate) fn assert_replies(rt: &(impl Abort + AllocGlobal), replies: &[Reply], calls: &Calls) {
+    same(rt, &lines_of(rt, replies), &calls.replies);
+}
+
+/// Makes the calls, one by one.
+fn replies_to<S: PageStore, D: LogDevice>(
+    rt: &(impl Abort + AllocGlobal),
+    engine: &mut Engine<S, D>,
+    calls: &Calls,
+) -> Vec<Reply> {
+    let mut replies = Vec::new(rt.alloc());
+    for event in &calls.events {
+        replies
+            .push(engine.apply(*event))
+            .expect(rt, "memory for replies");
+    }
+    replies
 }
 
 /// Makes the calls, one by one, and asserts their replies.
@@ -82,11 +102,14 @@ pub(crate) fn call<S: PageStore, D: LogDevice>(
     engine: &mut Engine<S, D>,
     calls: &Calls,
 ) {
-    let mut replies = Vec::new(rt.alloc());
-    for event in &calls.events {
-        replies
-            .push(engine.apply(*event))
-            .expect(rt, "memory for replies");
-    }
-    assert_replies(rt, &replies, calls);
+    assert_replies(rt, &replies_to(rt, engine, calls), calls);
+}
+
+/// Makes the calls, one by one, and tells whether these are their replies.
+pub(crate) fn answers<S: PageStore, D: LogDevice>(
+    rt: &(impl Abort + AllocGlobal),
+    engine: &mut Engine<S, D>,
+    calls: &Calls,
+) -> bool {
+    lines_of(rt, &replies_to(rt, engine, calls)) == calls.replies
 }

@@ -7,6 +7,8 @@ ghost use Rattle.page_core.specs.Volume.{formatted_pages};
 mod checkpoints;
 mod copies;
 mod devices;
+mod frames;
+mod repairs;
 mod rows;
 mod stores;
 
@@ -42,6 +44,22 @@ pub(crate) fn failing_store(rt: &(impl Abort + AllocGlobal), pages: u32, k: u64)
     ensures { result.pages ≡ formatted_pages pages }
 {
     FaultyStore::new(rt.alloc(), store_of(rt, pages), k).expect(rt, "memory for a store")
+}
+
+/// Such a store, of which no call fails. This page is damaged once so many calls were made.
+pub(crate) fn damaged_store(
+    rt: &(impl Abort + AllocGlobal),
+    pages: u32,
+    page: PageNo,
+    calls: u64,
+) -> FaultyStore
+    requires { IsPageCount pages }
+    ensures { result.pages ≡ formatted_pages pages }
+{
+    let mut store = failing_store(rt, pages, 0);
+    assert!(rt; (page.0 as usize) < store.stored().len());
+    store.damage_from(page, calls);
+    store
 }
 
 /// A device in memory with room for so many records.
@@ -132,7 +150,7 @@ fn play_over(rt: &(impl Abort + AllocGlobal), k: u64, parts: &[&str]) {
     drop(played_on(rt, 1, store, device, &calls));
 }
 
-const REFUSALS: [(Refusal, &str); 25] = [
+const REFUSALS: [(Refusal, &str); 26] = [
     (Refusal::OutOfMemory, "E1 OutOfMemory"),
     (Refusal::NoTxn, "E2 NoTxn"),
     (Refusal::PageOut, "E3 PageOut"),
@@ -156,6 +174,7 @@ const REFUSALS: [(Refusal, &str); 25] = [
     (Refusal::PagesLeft(PageNo(7)), "E21 PagesLeft 7"),
     (Refusal::StoreFault, "E22 StoreFault"),
     (Refusal::LogFault, "E23 LogFault"),
+    (Refusal::PoolFull, "E24 PoolFull"),
     (Refusal::TooManyCopies, "E25 TooManyCopies"),
     (Refusal::CommitUnsure(Lsn(192)), "E26 CommitUnsure 192"),
 ];

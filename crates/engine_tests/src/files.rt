@@ -6,6 +6,7 @@ use media_restore::{RestoreFault, restore_files};
 use page_core::PAGE_BYTES;
 use std::io::Write;
 use std::process::Abort;
+use std::thread::Threads;
 
 // A transaction sets slot 0 of the one page to 5, and a checkpoint is made.
 const CHANGED: &str = "41494d474c4f4731 0100000000000000 0 0 0 0 0 0 \
@@ -58,6 +59,67 @@ const NEXT_COPY: Groups = Groups(
     64,
 );
 
+// A full copy of the same page, with a redo point at the log's end, and with an LSN there.
+const COPY_PAST_LOG: Groups = Groups(
+    &[
+        "41494d4741524331 0100000001000000 0100000000000000 0002000000000000 0002000000000000 \
+       0100000000000000 0 0 0000000001000000",
+    ],
+    576,
+);
+
+const PAGE_PAST_LOG: Groups = Groups(&[COPY_BYTES, "0002000000000000"], 577);
+
+// A page of two was changed between two checkpoints, and copied whole after the first one and as an
+// increment after the second.
+const CHANGED_BETWEEN: Groups = Groups(
+    &[
+        "41494d474c4f4731 0200000000000000 0 0 0 0 0 0 \
+     0700000000000000 0 0 0 0 0 0 4000000000000000 \
+     0a00000000000000 4000000000000000 0 4000000000000000 0 0 0 8000000000000000 \
+     0100000001000000 0 0 0 0 0 0 c000000000000000 \
+     0200000001000000 c000000000000000 0 0100000000000100 0 0900000000000000 0 0001000000000000 \
+     0400000001000000 0001000000000000 0 0 0 0 0 4001000000000000 \
+     0700000000000000 0 0 0 0 0 0 8001000000000000 \
+     0a00000000000000 8001000000000000 0 8001000000000000 0 0 0 c001000000000000",
+    ],
+    512,
+);
+
+const LATER_MASTER: Groups = Groups(&["41494d474d535431 8001000000000000 c001000000000000"], 64);
+
+const ZEROS_OF_A_PAGE: &str = "0 0 0 0 0 0 0 0 0 0 0 0 0 0 0 0 0 0 0 0 0 0 0 0 0 0 0 0 0 0 0 0 \
+     0 0 0 0 0 0 0 0 0 0 0 0 0 0 0 0 0 0 0 0 0 0 0 0 0 0 0 0 0 0 0";
+
+const BOTH_PAGES: [&str; 4] = [
+    "41494d4741524331 0200000001000000 0100000000000000 4000000000000000 4000000000000000 \
+     0200000000000000 0 0",
+    "0000000001000000",
+    ZEROS_OF_A_PAGE,
+    "0100000001000000",
+];
+
+const FULL_OF_TWO: Groups = Groups(&BOTH_PAGES, 1_088);
+
+const CUT_IN_ITS_SECOND_PAGE: Groups = Groups(&BOTH_PAGES, 1_000);
+
+const CHANGED_PAGE: &str = "0100000001000000 0001000000000000 0900000000000000";
+
+const INCREMENT: [&str; 2] = [
+    "41494d4741524331 0200000002000000 0200000001000000 8001000000000000 8001000000000000 \
+     0100000000000000 0 0",
+    CHANGED_PAGE,
+];
+
+const INC_OF_TWO: Groups = Groups(&INCREMENT, 576);
+
+const INC_WITH_A_BYTE_MORE: Groups = Groups(&INCREMENT, 577);
+
+const BOTH_RESTORED: Groups = Groups(
+    &["0000000001000000", ZEROS_OF_A_PAGE, CHANGED_PAGE],
+    2 * PAGE_BYTES,
+);
+
 const EMPTY: Groups = Groups(&[], 0);
 
 // Pages with an LSN, and a number in slot 0.
@@ -78,7 +140,7 @@ type Restored = (Files, &'static str, Groups);
 
 /// What comes of a restore of these files to a writer.
 fn fault_of<W: Write>(
-    rt: &(impl Abort + AllocGlobal),
+    rt: &(impl Abort + AllocGlobal + Threads + Sync),
     (log, master, archives): Files,
     writer: &mut W,
 ) -> Option<RestoreFault> {
@@ -98,6 +160,7 @@ fn fault_of<W: Write>(
             .expect(rt, "memory for archives");
     }
     restore_files(
+        rt,
         alloc,
         &mut log.as_slice(),
         &mut master.as_slice(),
@@ -108,7 +171,7 @@ fn fault_of<W: Write>(
 }
 
 /// Asserts what comes of restores of files, and what is written.
-fn assert_each(rt: &(impl Abort + AllocGlobal), table: &[Restored]) {
+fn assert_each(rt: &(impl Abort + AllocGlobal + Threads + Sync), table: &[Restored]) {
     for (files, line, volume) in table {
         let mut written = Vec::new(rt.alloc());
         let fault = fault_of(rt, *files, &mut written);
@@ -142,7 +205,79 @@ fn the_redo_point_is_that_of_the_last_copy(rt: HostRuntime) {
     assert_each(&rt, &ON_A_LATE_COPY);
 }
 
-/// The log comes first, then the master record, then one archive after another. Nothing is written.
+/// The pages come from the last archive that has them. The archives are read side by side, and the
+/// first fault that is met so is answered.
+static SIDE_BY_SIDE: [Restored; 4] = [
+    (
+        (CHANGED_BETWEEN, LATER_MASTER, &[FULL_OF_TWO, INC_OF_TWO]),
+        "",
+        BOTH_RESTORED,
+    ),
+    (
+        (
+            CHANGED_BETWEEN,
+            LATER_MASTER,
+            &[CUT_IN_ITS_SECOND_PAGE, INC_OF_TWO],
+        ),
+        "E36 BadArchive 576",
+        EMPTY,
+    ),
+    (
+        (
+            CHANGED_BETWEEN,
+            LATER_MASTER,
+            &[FULL_OF_TWO, INC_WITH_A_BYTE_MORE],
+        ),
+        "E38 CountDiffers",
+        EMPTY,
+    ),
+    (
+        (
+            CHANGED_BETWEEN,
+            LATER_MASTER,
+            &[CUT_IN_ITS_SECOND_PAGE, INC_WITH_A_BYTE_MORE],
+        ),
+        "E38 CountDiffers",
+        EMPTY,
+    ),
+];
+
+#[test]
+fn archives_are_read_side_by_side(rt: HostRuntime) {
+    assert_each(&rt, &SIDE_BY_SIDE);
+}
+
+/// Nothing may lie past the log's end. The master record is looked at before, and a page behind all
+/// headers.
+static PAST_THE_LOG: [Restored; 4] = [
+    (
+        (COMMITTED_LOG, MASTER, &[COPY_PAST_LOG]),
+        "E39 RedoBeyondLog",
+        EMPTY,
+    ),
+    (
+        (COMMITTED_LOG, OTHER_MASTER, &[COPY_PAST_LOG]),
+        "E35 BadChain 128",
+        EMPTY,
+    ),
+    (
+        (COMMITTED_LOG, MASTER, &[PAGE_PAST_LOG]),
+        "E40 PageBeyondLog 0",
+        EMPTY,
+    ),
+    (
+        (COMMITTED_LOG, MASTER, &[PAGE_PAST_LOG, EMPTY]),
+        "E36 BadArchive 0",
+        EMPTY,
+    ),
+];
+
+#[test]
+fn copies_do_not_reach_past_the_log(rt: HostRuntime) {
+    assert_each(&rt, &PAST_THE_LOG);
+}
+
+/// The log comes first, then the master record, then the archives. Nothing is written.
 static REFUSED: [Restored; 9] = [
     (
         (EMPTY, SHORT_MASTER, &[CUT_COPY, NEXT_COPY]),

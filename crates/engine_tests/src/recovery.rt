@@ -4,6 +4,7 @@ ghost use Rattle.log_records.specs.Log.{IsPageCount};
 
 mod archives;
 mod chains;
+mod losers;
 mod restores;
 mod shown;
 mod sweeps;
@@ -15,6 +16,7 @@ use copy_vault::CopyId;
 use loser_undo::{Redone, Undone, undo_all};
 use media_restore::load;
 use std::process::Abort;
+use std::thread::Threads;
 
 /// What an engine leaves that made the calls on a device whose `k`-th call fails. 0 is none. Their
 /// replies are asserted.
@@ -33,12 +35,20 @@ fn retired(rt: &(impl Abort + AllocGlobal), row: Row, k: u64) -> Retired {
 }
 
 /// A copy that is loaded, over the first `cut` records, and redone.
-fn redone_of(rt: &(impl Abort + AllocGlobal), retired: Retired, copy: u32, cut: usize) -> Redone {
+fn redone_of(
+    rt: &(impl Abort + AllocGlobal + Threads + Sync),
+    retired: Retired,
+    copy: u32,
+    cut: usize,
+) -> Redone {
     let alloc = rt.alloc();
     let loaded = load(alloc, retired, CopyId(copy), cut)
         .ok()
         .expect(rt, "a copy that is loaded");
-    loaded.redo(alloc).ok().expect(rt, "a log that is redone")
+    loaded
+        .redo(rt, alloc)
+        .ok()
+        .expect(rt, "a log that is redone")
 }
 
 fn undone_of(rt: &impl Abort, redone: Redone) -> Undone {

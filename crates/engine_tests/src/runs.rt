@@ -10,11 +10,12 @@ use media_restore::{LoadFault, Refused};
 use page_core::MAX_PAGES;
 use script_run::{FinishFault, finish_script, run_script};
 use std::process::Abort;
+use std::thread::Threads;
 
 /// Plays the script of these parts and of a restore after them, asserts all that is written, and
 /// tells what comes of the restore.
 fn outcome_of(
-    rt: &(impl Abort + AllocGlobal),
+    rt: &(impl Abort + AllocGlobal + Threads + Sync),
     pages: u32,
     parts: &[&str],
     restore: &str,
@@ -30,7 +31,7 @@ fn outcome_of(
     };
     let mut written = Vec::new(alloc);
     let ran = run_script(alloc, setup, &mut script.as_bytes(), &mut written).expect(rt, "a run");
-    let outcome = finish_script(alloc, ran, &mut written);
+    let outcome = finish_script(rt, alloc, ran, &mut written);
     let text = str::from_utf8(&written).expect(rt, "a text");
     same(rt, &text, &output.as_str());
     outcome

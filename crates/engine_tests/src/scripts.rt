@@ -3,7 +3,7 @@
 mod rows;
 
 use crate::asserts::{assert_texts, same_at};
-use event_script::{ScriptFault, read_script};
+use event_script::{LineFault, ScriptFault, read_script};
 use std::io;
 use std::io::{ErrorKind, Read};
 use std::process::Abort;
@@ -34,11 +34,11 @@ fn fault_of<R: Read>(rt: &impl AllocGlobal, reader: &mut R) -> Option<ScriptFaul
     read_script(rt.alloc(), reader).err()
 }
 
-/// Asserts what the numbers of the first bad lines are.
-fn assert_bad(rt: &(impl Abort + AllocGlobal), table: &[(&str, u64)]) {
-    for (text, number) in table {
+/// Asserts what the numbers of the first bad lines are, and why they are bad.
+fn assert_bad(rt: &(impl Abort + AllocGlobal), table: &[(&str, u64, LineFault)]) {
+    for (text, number, why) in table {
         let fault = fault_of(rt, &mut text.as_bytes());
-        same_at(rt, &fault, &Some(ScriptFault::BadLine(*number)), text);
+        same_at(rt, &fault, &Some(ScriptFault::BadLine(*number, *why)), text);
     }
 }
 
@@ -100,4 +100,5 @@ fn a_reply_has_a_line(rt: HostRuntime) {
 #[test]
 fn a_fault_has_a_line(rt: HostRuntime) {
     assert_texts(&rt, &rows::FAULTS);
+    assert_texts(&rt, &rows::REASONS);
 }

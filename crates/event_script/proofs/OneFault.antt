@@ -1,7 +1,8 @@
 -- The input of a script has one fault at most.
 use Rattle.std.proofs.Common.{◌≡◌, ℕ, ◌+◌, ◌-◌, ◌<◌, ◌≤◌, List, [], ◌∷◌, ◌++◌, take, drop, refl, sym, ap, subst}
 use Rattle.std.proofs.Common.{◌∙◌, arith, inl, inr}
-use Rattle.std.specs.Prelude.{Option, None, Some, IsSome}
+use Rattle.std.specs.Prelude.{Option, None, Some, IsSome, get_or}
+use Rattle.event_script.specs.LineFault.{why_bad}
 use Rattle.std.proofs.lemmas.Bool.{cases_lt}
 use Rattle.std.proofs.lemmas.List.{append_assoc, append-nil, take-append-drop, take-take}
 use Rattle.event_script.specs.declared.fault.ScriptFault.{ScriptFault}
@@ -47,9 +48,11 @@ one_fault input ReadFault b first second one two = absurd first
 one_fault input Input OutOfMemory first second one two = absurd second
 one_fault input Input ReadFault first second one two = absurd second
 one_fault input Input Input first second one two = refl
-one_fault input Input (BadLine n) first second one two = absurd (one two.0)
-one_fault input (BadLine m) OutOfMemory first second one two = absurd second
-one_fault input (BadLine m) ReadFault first second one two = absurd second
-one_fault input (BadLine m) Input first second one two = absurd (two one.0)
-one_fault input (BadLine m) (BadLine n) first second one two =
-    ap BadLine (same_line (lines_of input) m n one.1 two.1)
+one_fault input Input (BadLine n w) first second one two = absurd (one two.0)
+one_fault input (BadLine m v) OutOfMemory first second one two = absurd second
+one_fault input (BadLine m v) ReadFault first second one two = absurd second
+one_fault input (BadLine m v) Input first second one two = absurd (two one.0)
+one_fault input (BadLine m v) (BadLine n w) first second one two =
+    let same : m ≡ n = same_line (lines_of input) m n one.1 two.1 in
+    let why : v ≡ w = one.2 ∙ ap (λ (k : ℕ). why_bad (get_or (lines_of input) (k - 1) [])) same ∙ sym two.2 in
+    ap (λ (k : ℕ). BadLine k v) same ∙ ap (BadLine n) why

@@ -4,6 +4,8 @@ use Rattle.std.specs.Prelude.{refl, Option, Some, None}
 use Rattle.std.specs.Prelude.{◌≢◌, Bool, true, false, IfSome, MatchOption, if◌then◌else◌}
 use Rattle.std.specs.Option.{is_some}
 use Rattle.std.proofs.lemmas.List.{append_assoc, append-nil, length-append, take_at}
+use Rattle.std.proofs.Math.Seq.{get_or-append_seam}
+use Rattle.std.specs.Prelude.{get_or}
 use Rattle.std.proofs.Common.{arith, sym, ap, ◌∙◌}
 use Rattle.aries_core.specs.declared.event.Event.{Event}
 use Rattle.event_script.specs.declared.script.LastRestore.{LastRestore}
@@ -159,3 +161,19 @@ stops all lines left text line next_left number said after fits e count good is 
     first_bad all lines line (lines_left next_left) (number + 1) said
     (carried all lines line text.now next_left (e ∙ ap (λ (l : Option (Bor (List ℕ))). lines ++ lines_left l) is) parts)
     (omega arith) good (taken ∙ ap (λ (b : Bool). if b then Some after else None) refused)
+
+-- the line at that number is the one that may not stand there
+pub stopped : (all lines : List (List ℕ)) (left : Option (Bor (List ℕ))) (text : Bor (List ℕ)) (line : List ℕ)
+    (next_left : Option (Bor (List ℕ))) (number : ℕ)
+    → all ≡ lines ++ lines_left left → length lines ≡ number → left ≡ Some text
+    → MatchOption next_left (lines_of text.now ≡ line ∷ []) (λ rest. lines_of text.now ≡ line ∷ lines_of rest.now)
+    → line ≡ get_or all ((number + 1) - 1) []
+stopped all lines left text line next_left number e count is parts =
+    let here : all ≡ lines ++ line ∷ lines_left next_left =
+    carried all lines line text.now next_left
+    (e ∙ ap (λ (l : Option (Bor (List ℕ))). lines ++ lines_left l) is) parts
+    ∙ append_assoc lines (line ∷ []) (lines_left next_left) in
+    let place : (number + 1) - 1 ≡ length lines = omega (arith, count) in
+    sym (ap (λ (k : ℕ). get_or all k []) place
+    ∙ ap (λ (ls : List (List ℕ)). get_or ls (length lines) []) here
+    ∙ get_or-append_seam lines line (lines_left next_left) [])

@@ -11,4 +11,4 @@ abbrev pub line_of_fault : ScriptFault → List ℕ
 line_of_fault OutOfMemory = fault_line name.OutOfMemory
 line_of_fault Input = codes "imgcopy: input"
 line_of_fault ReadFault = codes "imgcopy: input"
-line_of_fault (BadLine number) = codes "imgcopy: line " ++ decimal number
+line_of_fault (BadLine number why) = codes "imgcopy: line " ++ decimal number

@@ -1,4 +1,5 @@
 pub mod Fault
+pub mod LineFault
 pub mod Read
 pub mod Reply
 pub mod Script

@@ -1,9 +1,10 @@
 -- When a script is refused.
-use Rattle.std.specs.Prelude.{ℕ, ◌≤◌, List, length, IsUtf8, Option}
+use Rattle.std.specs.Prelude.{ℕ, ◌≡◌, ◌-◌, ◌≤◌, List, [], get_or, length, IsUtf8, Option}
 use Rattle.std.specs.Io.KnownBytes.{Consumes}
 use Rattle.event_script.specs.declared.fault.ScriptFault.{ScriptFault}
 use Rattle.event_script.specs.declared.fault.ScriptFault.TheVariants.{OutOfMemory, Input, ReadFault}
 use Rattle.event_script.specs.declared.fault.ScriptFault.TheVariants.{BadLine}
+use Rattle.event_script.specs.LineFault.{why_bad}
 use Rattle.event_script.specs.Script.{IsFirstBad}
 use Rattle.event_script.specs.Words.{lines_of}
 
@@ -12,13 +13,15 @@ pub record IsText (input : List ℕ) : Type 0 where
   pub short : length input ≤ 16777216
   pub utf8 : IsUtf8 input
 
--- an input that is refused is no text, and a bad line is the first one of a text; memory and the
--- reader are no part of the input
+-- an input that is refused is no text, and a bad line is the first one of a text, and is bad for the
+-- reason that is told; memory and the reader are no part of the input
 abbrev pub Refuses : List ℕ → ScriptFault → Type 0
 Refuses input OutOfMemory = Unit {0}
 Refuses input ReadFault = Unit {0}
 Refuses input Input = ¬ IsText input
-Refuses input (BadLine number) = IsText input × IsFirstBad (lines_of input) number
+Refuses input (BadLine number why) =
+    IsText input × IsFirstBad (lines_of input) number
+    × (why ≡ why_bad (get_or (lines_of input) (number - 1) []))
 
 -- the fault is one of the input
 abbrev pub IsOfInput : ScriptFault → Type 0

@@ -5,7 +5,7 @@ use Rattle.aries_core.specs.declared.event.Answer.{Answer}
 use Rattle.aries_core.specs.declared.event.Answer.TheVariants.{Began, Logged, Number, Undid, Ended}
 use Rattle.aries_core.specs.declared.event.Answer.TheVariants.{Forced, Writing, Written, More, Done}
 use Rattle.aries_core.specs.declared.event.Answer.TheVariants.{Point, Copied, Taken, Kept, Sealed}
-use Rattle.aries_core.specs.declared.event.Answer.TheVariants.{Dropped}
+use Rattle.aries_core.specs.declared.event.Answer.TheVariants.{Dropped, Repaired}
 use Rattle.aries_core.specs.declared.refusal.Refusal.{Refusal}
 use Rattle.aries_core.specs.Refusal.{line_of as line_of_refusal}
 
@@ -27,6 +27,7 @@ line_of_answer (Taken lsn) = codes "taken " ++ decimal lsn
 line_of_answer Kept = codes "kept"
 line_of_answer (Sealed count) = codes "sealed " ++ decimal count
 line_of_answer Dropped = codes "dropped"
+line_of_answer (Repaired lsn) = codes "repaired " ++ decimal lsn
 
 abbrev pub line_of_reply : Result Answer Refusal → List ℕ
 line_of_reply (Ok answer) = line_of_answer answer

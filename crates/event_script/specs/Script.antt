@@ -8,7 +8,7 @@ use Rattle.aries_core.specs.declared.event.Event.TheVariants.{Begin, Set, Add, R
 use Rattle.aries_core.specs.declared.event.Event.TheVariants.{UndoStep, Force, WriteBegin, WriteEnd}
 use Rattle.aries_core.specs.declared.event.Event.TheVariants.{CkptBegin, CkptGather, CkptEnd}
 use Rattle.aries_core.specs.declared.event.Event.TheVariants.{CopyFull, CopyInc, Take, Seal}
-use Rattle.aries_core.specs.declared.event.Event.TheVariants.{DropCopy}
+use Rattle.aries_core.specs.declared.event.Event.TheVariants.{DropCopy, Repair}
 use Rattle.event_script.specs.declared.call.Args.{Args}
 use Rattle.event_script.specs.declared.call.Args.TheVariants.{Nothing, One, Two, Four}
 use Rattle.event_script.specs.declared.line.Line.{Line}
@@ -46,6 +46,10 @@ page_calls = (codes "wbegin", WriteBegin) ∷ (codes "wend", WriteEnd) ∷ []
 
 abbrev pub copy_calls : List (List ℕ × (ℕ → Event))
 copy_calls = (codes "inc", CopyInc) ∷ (codes "seal", Seal) ∷ (codes "drop", DropCopy) ∷ []
+
+-- the calls of a page of a copy
+abbrev pub copied_page_calls : List (List ℕ × (ℕ → ℕ → Event))
+copied_page_calls = (codes "take", Take) ∷ (codes "repair", Repair) ∷ []
 
 -- the calls that change a slot: transaction, page, slot and number
 abbrev pub changes : List (List ℕ × (ℕ → ℕ → ℕ → ℕ → Event))
@@ -93,24 +97,25 @@ call_of_one name number = do
       (or_else (called (entry_of page_calls name) number)
       (called (entry_of copy_calls name) number))
 
--- a page and a slot, or a copy and a page
+-- a page and a slot
+abbrev pub read_of : ℕ → ℕ → Option Event
+read_of page slot = do
+  page ← in_u32 page
+  slot ← in_u16 slot
+  Some (Read page slot)
+
+-- a copy and a page
+abbrev pub call_of_copied_page : List ℕ → ℕ → ℕ → Option Event
+call_of_copied_page name copy page = do
+  call ← entry_of copied_page_calls name
+  copy ← in_u32 copy
+  page ← in_u32 page
+  Some (call copy page)
+
 abbrev pub call_of_two : List ℕ → ℕ → ℕ → Option Event
 call_of_two name first second =
     if bytes_eq name (codes "read") then read_of first second
-    else if bytes_eq name (codes "take") then take_of first second
-    else None
-  where
-    read_of : ℕ → ℕ → Option Event
-    read_of page slot = do
-      page ← in_u32 page
-      slot ← in_u16 slot
-      Some (Read page slot)
-
-    take_of : ℕ → ℕ → Option Event
-    take_of copy page = do
-      copy ← in_u32 copy
-      page ← in_u32 page
-      Some (Take copy page)
+    else call_of_copied_page name first second
 
 abbrev pub change_of : List ℕ → ℕ → ℕ → ℕ → ℕ → Option Event
 change_of name txn page slot number = do

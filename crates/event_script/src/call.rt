@@ -1,10 +1,10 @@
 //! The call that a line names.
 
 ghost use Rattle.std.specs.Prelude.{◌≡◌};
-ghost use Rattle.event_script.specs.Script.{args_of, call_of, call_of_none, call_of_one};
-ghost use Rattle.event_script.specs.Script.{call_of_two, called, change_of, checkpoint_calls};
-ghost use Rattle.event_script.specs.Script.{copy_calls, entry_of, page_calls, plain_calls};
-ghost use Rattle.event_script.specs.Script.{txn_calls};
+ghost use Rattle.event_script.specs.Script.{args_of, call_of, call_of_copied_page, call_of_none};
+ghost use Rattle.event_script.specs.Script.{call_of_one, call_of_two, called, change_of};
+ghost use Rattle.event_script.specs.Script.{checkpoint_calls, copy_calls, entry_of, page_calls};
+ghost use Rattle.event_script.specs.Script.{plain_calls, read_of, txn_calls};
 ghost use Rattle.event_script.specs.Words.{words_of};
 
 use crate::number::number_of;
@@ -135,20 +135,36 @@ fn call_of_one(name: &[u8], number: u64) -> Option<Event>
     }
 }
 
+fn call_of_copied_page(name: &[u8], copy: u64, page: u64) -> Option<Event>
+    ensures { result ≡ call_of_copied_page name.now copy page }
+{
+    let copy = CopyId(u32::try_from(copy).ok()?);
+    let page = PageNo(u32::try_from(page).ok()?);
+    if name == b"take".as_slice() {
+        Some(Event::Take { copy, page })
+    } else if name == b"repair".as_slice() {
+        Some(Event::Repair { copy, page })
+    } else {
+        None
+    }
+}
+
+fn read_of(page: u64, slot: u64) -> Option<Event>
+    ensures { result ≡ read_of page slot }
+{
+    Some(Event::Read {
+        page: PageNo(u32::try_from(page).ok()?),
+        slot: SlotNo(u16::try_from(slot).ok()?),
+    })
+}
+
 fn call_of_two(name: &[u8], first: u64, second: u64) -> Option<Event>
     ensures { result ≡ call_of_two name.now first second }
 {
-    let first = u32::try_from(first).ok()?;
-    match name {
-        b"read" => Some(Event::Read {
-            page: PageNo(first),
-            slot: SlotNo(u16::try_from(second).ok()?),
-        }),
-        b"take" => Some(Event::Take {
-            copy: CopyId(first),
-            page: PageNo(u32::try_from(second).ok()?),
-        }),
-        _ => None,
+    if name == b"read".as_slice() {
+        read_of(first, second)
+    } else {
+        call_of_copied_page(name, first, second)
     }
 }
 

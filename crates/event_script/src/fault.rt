@@ -3,6 +3,7 @@
 ghost use Rattle.std.specs.Prelude.{◌≡◌};
 ghost use Rattle.event_script.specs.declared.fault.ScriptFault.TheVariants.{OutOfMemory};
 
+use crate::line_fault::LineFault;
 use page_core::FaultName;
 use std::alloc::{AllocError, AllocFailed};
 use std::error::Error;
@@ -18,9 +19,9 @@ pub enum ScriptFault {
     Input,
     /// The reader failed, or did not come to an end. It has the line of `Input`.
     ReadFault,
-    /// The line of this number is bad, and none before it is. Lines are counted from 1, with those
-    /// that are skipped.
-    BadLine(u64),
+    /// The line of this number is bad, for this reason, and none before it is. Lines are counted
+    /// from 1, with those that are skipped.
+    BadLine(u64, LineFault),
 }
 
 impl fmt::Display for ScriptFault {
@@ -33,7 +34,7 @@ impl fmt::Display for ScriptFault {
         match self {
             ScriptFault::OutOfMemory => write!(f, "{}", FaultName::OutOfMemory),
             ScriptFault::Input | ScriptFault::ReadFault => f.write_str("imgcopy: input"),
-            ScriptFault::BadLine(number) => write!(f, "imgcopy: line {number}"),
+            ScriptFault::BadLine(number, _) => write!(f, "imgcopy: line {number}"),
         }
     }
 }

@@ -10,6 +10,7 @@ ghost use Rattle.event_script.specs.Words.{lines_of};
 use crate::fault::ScriptFault;
 use crate::input::read_input;
 use crate::line::{Line, line_of};
+use crate::line_fault::why_bad;
 use crate::script::Script;
 use crate::words::next_line;
 use std::alloc::{AllocError, Global};
@@ -56,7 +57,7 @@ fn script_in(alloc: Global, input: &[u8]) -> Result<Script, ScriptFault>
         let (line, behind) = next_line(text);
         number += 1;
         if !take_line(&mut script, line)? {
-            return Err(ScriptFault::BadLine(number));
+            return Err(ScriptFault::BadLine(number, why_bad(line)));
         }
         left = behind;
     }

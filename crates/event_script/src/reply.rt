@@ -77,6 +77,10 @@ impl fmt::Display for AnswerLine {
                 let lsn = lsn.0;
                 write!(f, "taken {lsn}")
             }
+            Answer::Repaired(lsn) => {
+                let lsn = lsn.0;
+                write!(f, "repaired {lsn}")
+            }
             Answer::Sealed(count) => write!(f, "sealed {count}"),
             Answer::More => write!(f, "more"),
             Answer::Done => write!(f, "done"),

@@ -3,14 +3,17 @@
 use crate::notes::Notes;
 use copy_coverage::Retired;
 use copy_vault::{CopyId, MAX_COPIES};
+use event_script::{MAX_SCRIPT_BYTES, ScriptFault};
 use media_restore::RestoreFault;
 use saved_files::{FileFault, SaveFault, SavedName};
+use script_run::RunFault;
 use std::alloc::{AllocError, Global};
 use std::fs;
 use std::path::Path;
 use std::rt::Files;
 
-/// Names the file in which a restore from files met its fault, and why the system failed there.
+/// Names the file in which a restore from files met its fault, the one that was read last, and why
+/// the system failed there.
 pub fn tell_input(
     rt: &impl Eprint,
     log: &str,
@@ -19,13 +22,23 @@ pub fn tell_input(
     fault: &RestoreFault,
     notes: &Notes,
 ) {
-    let (what, name) = match (fault, notes.opened()) {
-        (RestoreFault::OutOfMemory | RestoreFault::LogFull | RestoreFault::WriteFault(_), _) =>
-            return,
-        (_, 0) => return,
-        (_, 1) => ("log", log),
-        (_, 2) => ("master record", master),
-        (_, count) => match archives.get(count - 3) {
+    let place = match (fault, notes.read_last()) {
+        // These are no fault of one file, or are seen once all headers were read.
+        (
+            RestoreFault::OutOfMemory
+            | RestoreFault::LogFull
+            | RestoreFault::WriteFault(_)
+            | RestoreFault::RedoBeyondLog
+            | RestoreFault::ChainBroken(CopyId(0)),
+            _,
+        ) => return,
+        (_, Some(place)) => place,
+        (_, None) => return,
+    };
+    let (what, name) = match place {
+        0 => ("log", log),
+        1 => ("master record", master),
+        _ => match archives.get(place - 2) {
             Some(archive) => ("image copy", *archive),
             None => return,
         },
@@ -38,8 +51,41 @@ pub fn tell_input(
     };
 }
 
+/// Tells what is wrong with a script that was not played, or why its replies could not be written.
+pub fn tell_script(rt: &impl Eprint, fault: &RunFault, input: &Notes, output: &Notes) {
+    let _ = match fault {
+        RunFault::Script(ScriptFault::BadLine(number, why)) => {
+            eprintln!(rt; "imgcopy: line {number}: {why}")
+        }
+        RunFault::Script(ScriptFault::Input) => {
+            eprintln!(rt; "imgcopy: standard input: not UTF-8, or over {MAX_SCRIPT_BYTES} bytes")
+        }
+        RunFault::Script(ScriptFault::ReadFault) => return tell_unread(rt, input),
+        RunFault::WriteFault(_) => return tell_unwritten(rt, output),
+        RunFault::Script(ScriptFault::OutOfMemory) | RunFault::OutOfMemory => return,
+    };
+}
+
+/// Tells why the system failed to read standard input.
+pub fn tell_unread(rt: &impl Eprint, notes: &Notes) {
+    if let Some(error) = notes.error() {
+        let _ = eprintln!(rt; "imgcopy: standard input: {error}");
+    }
+}
+
+/// Tells why the system failed to write standard output.
+pub fn tell_unwritten(rt: &impl Eprint, notes: &Notes) {
+    if let Some(error) = notes.error() {
+        let _ = eprintln!(rt; "imgcopy: standard output: {error}");
+    }
+}
+
 /// Names the file that could not be saved, and why the system failed there.
 pub fn tell_unsaved(rt: &impl Eprint, folder: &str, fault: &SaveFault, notes: &Notes) {
+    if folder.is_empty() {
+        let _ = eprintln!(rt; "imgcopy: --save names no folder");
+        return;
+    }
     let file = fault.file;
     let _ = match (fault.why, notes.error()) {
         (FileFault::WriteFault(_), Some(error)) => {

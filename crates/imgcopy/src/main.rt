@@ -3,6 +3,7 @@
 
 ghost use Rattle.std.specs.Prelude.{◌≡◌, IfErr, OnOk};
 ghost use Rattle.std.specs.Process.{exit_status};
+ghost use Rattle.buffer_pool.specs.Pool.{IsFrameCount};
 ghost use Rattle.log_records.specs.Log.{IsPageCount};
 ghost use Rattle.script_run.specs.Status.{status_of_finish, status_of_restore};
 
@@ -10,11 +11,11 @@ mod advice;
 mod notes;
 mod system_files;
 
-use advice::{tell_input, tell_stale, tell_unsaved};
+use advice::{tell_input, tell_script, tell_stale, tell_unread, tell_unsaved, tell_unwritten};
 use aries_core::Setup;
 use command_words::{Command, command_of, words_of};
 use media_restore::RestoreFault;
-use notes::Notes;
+use notes::{Noted, Notes};
 use saved_files::{restore_volume, save_files};
 use script_run::{
     FAULT_STATUS, FinishFault, Ran, finish_script, refused_status, restore_status, run_script,
@@ -22,6 +23,7 @@ use script_run::{
 use std::fmt::Display;
 use std::io;
 use std::process::ExitCode;
+use std::thread::Threads;
 use system_files::{SystemFiles, SystemFolder};
 use volume_redo::{Fault, redo_stream};
 
@@ -31,38 +33,75 @@ fn main(rt: HostRuntime) -> ExitCode {
         Err(fault) => return told_whole(&rt, &fault),
     };
     match command_of(rt.alloc(), words.as_slice()) {
-        Ok(Command::Redo) => {
-            let done = redo_stream(rt.alloc(), &mut rt.stdin(), &mut io::writer(&rt));
-            status_of(&rt, done)
-        }
-        Ok(Command::Run { pages, save }) => run(&rt, pages, save),
+        Ok(Command::Redo) => redo(&rt),
+        Ok(
+            Command::Run {
+                pages,
+                frames,
+                save,
+            },
+        ) => run(&rt, &rt, Setup { pages, frames }, save),
         Ok(
             Command::Restore {
                 log,
                 master,
                 archives,
             },
-        ) => restore(&rt, log, master, &archives),
+        ) => restore(&rt, &rt, log, master, &archives),
         Err(fault) => told_whole(&rt, &fault),
     }
 }
 
+/// Rebuilds the volume of the log on standard input.
+fn redo(rt: &HostRuntime) -> ExitCode {
+    let (input, output) = (Notes::new(), Notes::new());
+    let done = redo_stream(
+        rt.alloc(),
+        &mut noted(rt.stdin(), &input),
+        &mut noted(io::writer(rt), &output),
+    );
+    let status = status_of(rt, &done);
+    match done {
+        Err(Fault::ReadFault) => tell_unread(rt, &input),
+        Err(Fault::WriteFault(_)) => tell_unwritten(rt, &output),
+        _ => {}
+    }
+    status
+}
+
 /// Plays the script on standard input, saves what it leaves, and does its last restore.
-fn run(rt: &HostRuntime, pages: u32, save: Option<&str>) -> ExitCode
-    requires { IsPageCount pages }
+fn run(
+    rt: &HostRuntime,
+    threads: &(impl Threads + Sync),
+    setup: Setup,
+    save: Option<&str>,
+) -> ExitCode
+    requires pages { IsPageCount setup.pages }
+    requires frames { IsFrameCount setup.frames }
 {
-    let setup = Setup {
-        pages,
-        frames: pages,
-    };
-    match run_script(rt.alloc(), setup, &mut rt.stdin(), &mut io::writer(rt)) {
-        Ok(ran) => finish(rt, ran, save),
-        Err(fault) => told(rt, &fault),
+    let (input, output) = (Notes::new(), Notes::new());
+    match run_script(
+        rt.alloc(),
+        setup,
+        &mut noted(rt.stdin(), &input),
+        &mut noted(io::writer(rt), &output),
+    ) {
+        Ok(ran) => finish(rt, threads, ran, save),
+        Err(fault) => {
+            let status = told(rt, &fault);
+            tell_script(rt, &fault, &input, &output);
+            status
+        }
     }
 }
 
 /// Saves what a script left, and does its last restore.
-fn finish(rt: &HostRuntime, ran: Ran, save: Option<&str>) -> ExitCode {
+fn finish(
+    rt: &HostRuntime,
+    threads: &(impl Threads + Sync),
+    ran: Ran,
+    save: Option<&str>,
+) -> ExitCode {
     if let Some(folder) = save {
         let notes = Notes::new();
         let mut made = SystemFolder {
@@ -78,42 +117,61 @@ fn finish(rt: &HostRuntime, ran: Ran, save: Option<&str>) -> ExitCode {
         }
         tell_stale(rt, rt.alloc(), folder, &ran.retired);
     }
-    let done = finish_script(rt.alloc(), ran, &mut io::writer(rt));
-    status_of_finish(rt, done)
+    let output = Notes::new();
+    let done = finish_script(
+        threads,
+        rt.alloc(),
+        ran,
+        &mut noted(io::writer(rt), &output),
+    );
+    let status = status_of_finish(rt, &done);
+    if let Err(FinishFault::WriteFault(_)) = done {
+        tell_unwritten(rt, &output);
+    }
+    status
 }
 
 /// Restores a volume from files.
-fn restore(rt: &HostRuntime, log: &str, master: &str, archives: &[&str]) -> ExitCode {
-    let notes = Notes::new();
+fn restore(
+    rt: &HostRuntime,
+    threads: &(impl Threads + Sync),
+    log: &str,
+    master: &str,
+    archives: &[&str],
+) -> ExitCode {
+    let (notes, output) = (Notes::new(), Notes::new());
     let files = SystemFiles {
         files: rt,
         notes: &notes,
     };
     let done = restore_volume(
         &files,
+        threads,
         rt.alloc(),
         log,
         master,
         archives,
-        &mut io::writer(rt),
+        &mut noted(io::writer(rt), &output),
     );
     let status = status_of_files(rt, &done);
-    if let Err(fault) = &done {
-        tell_input(rt, log, master, archives, fault, &notes);
+    match &done {
+        Err(RestoreFault::WriteFault(_)) => tell_unwritten(rt, &output),
+        Err(fault) => tell_input(rt, log, master, archives, fault, &notes),
+        Ok(()) => {}
     }
     status
 }
 
 /// Tells why a script's last restore came to no end, and answers the program's status.
-fn status_of_finish(rt: &impl Eprint, done: Result<(), FinishFault>) -> ExitCode
-    ensures done { OnOk done (exit_status result ≡ 0) }
-    ensures fault { IfErr done (λ fault. exit_status result ≡ status_of_finish fault) }
+fn status_of_finish(rt: &impl Eprint, done: &Result<(), FinishFault>) -> ExitCode
+    ensures done { OnOk done.now (exit_status result ≡ 0) }
+    ensures fault { IfErr done.now (λ fault. exit_status result ≡ status_of_finish fault) }
 {
     match done {
         Ok(()) => ExitCode::SUCCESS,
         // Its line is on standard output.
-        Err(FinishFault::Refused(why)) => ExitCode::from(refused_status(&why)),
-        Err(fault) => told(rt, &fault),
+        Err(FinishFault::Refused(why)) => ExitCode::from(refused_status(why)),
+        Err(fault) => told(rt, fault),
     }
 }
 
@@ -150,12 +208,20 @@ fn told_whole(rt: &impl Eprint, text: &impl Display) -> ExitCode
 }
 
 /// Tells a fault on standard error, and answers the program's status.
-fn status_of(rt: &impl Eprint, done: Result<(), Fault>) -> ExitCode
-    ensures done { OnOk done (exit_status result ≡ 0) }
-    ensures fault { IfErr done (λ _. exit_status result ≡ 2) }
+fn status_of(rt: &impl Eprint, done: &Result<(), Fault>) -> ExitCode
+    ensures done { OnOk done.now (exit_status result ≡ 0) }
+    ensures fault { IfErr done.now (λ _. exit_status result ≡ 2) }
 {
     match done {
         Ok(()) => ExitCode::SUCCESS,
-        Err(fault) => told(rt, &fault),
+        Err(fault) => told(rt, fault),
+    }
+}
+
+/// A standard stream of which it is noted why a call failed.
+fn noted<'a, F>(stream: F, notes: &'a Notes) -> Noted<'a, F> {
+    Noted {
+        file: stream,
+        notes,
     }
 }

@@ -2,20 +2,20 @@
 
 use std::cell::Cell;
 use std::io;
-use std::io::{ErrorKind, Read, Write};
+use std::io::{Read, Write};
 
-/// What is known of the last call of the system that failed, and of how many files were opened.
+/// What is known of the last call of the system that failed, and of the file that was read last.
 #[derive(Drop)]
 pub struct Notes {
     error: Cell<Option<i32>>,
-    opened: Cell<usize>,
+    read: Cell<Option<usize>>,
 }
 
 impl Notes {
     pub fn new() -> Notes {
         Notes {
             error: Cell::new(None),
-            opened: Cell::new(0),
+            read: Cell::new(None),
         }
     }
 
@@ -27,9 +27,9 @@ impl Notes {
         }
     }
 
-    /// How many files were opened, or could not be.
-    pub fn opened(&self) -> usize {
-        self.opened.get()
+    /// The place of the file that was read last, if one was.
+    pub fn read_last(&self) -> Option<usize> {
+        self.read.get()
     }
 
     /// Notes why a call failed.
@@ -39,18 +39,13 @@ impl Notes {
         }
     }
 
-    /// Notes that a file was opened, or could not be. One whose opening was interrupted is opened
-    /// again.
-    pub fn note_opened<T>(&self, done: &io::Result<T>) {
-        self.note(done);
-        match done {
-            Err(error) if error.kind() == ErrorKind::Interrupted => {}
-            _ => self.opened.set(self.opened.get().saturating_add(1)),
-        }
+    /// Notes that the file at this place is being read.
+    pub fn note_read(&self, place: usize) {
+        self.read.set(Some(place));
     }
 }
 
-/// A file of which it is noted why a call failed.
+/// A file, or a standard stream, of which it is noted why a call failed.
 #[derive(Drop)]
 pub struct Noted<'a, F> {
     pub file: F,

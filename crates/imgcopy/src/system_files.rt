@@ -27,11 +27,15 @@ impl<'a, R: Files> NamedFiles for SystemFiles<'a, R> {
 
     fn open(&self, name: &str) -> io::Result<Noted<'a, R::File>> {
         let opened = fs::open(self.files, name);
-        self.notes.note_opened(&opened);
+        self.notes.note(&opened);
         Ok(Noted {
             file: opened?,
             notes: self.notes,
         })
+    }
+
+    fn tell_read(&self, place: usize) {
+        self.notes.note_read(place);
     }
 }
 

@@ -11,6 +11,7 @@ use media_restore::{LoadFault, Loaded, RedoFault, load};
 use page_core::{Lsn, Page, PageNo, SlotNo, TxnNo};
 use page_store::MemStore;
 use std::alloc::Global;
+use std::thread::Threads;
 
 const SETUP: Setup = Setup {
     pages: 1,
@@ -54,7 +55,7 @@ fn point(begin: u64, end: u64, redo: u64) -> Reply {
     })
 }
 
-fn row() -> [(Event, Reply); 29] {
+fn row() -> [(Event, Reply); 30] {
     let one = TxnNo(1);
     let page = PageNo(0);
     let (full, inc) = (CopyId(1), CopyId(2));
@@ -90,6 +91,10 @@ fn row() -> [(Event, Reply); 29] {
         (Event::CopyInc(full), Ok(Answer::Copied(inc))),
         (Event::Take { copy: inc, page }, Ok(Answer::Kept)),
         (Event::Seal(inc), Ok(Answer::Sealed(0))),
+        (
+            Event::Repair { copy: inc, page },
+            Ok(Answer::Repaired(Lsn(640))),
+        ),
         (Event::Force, Ok(Answer::Forced(Lsn(960)))),
     ]
 }
@@ -160,10 +165,14 @@ fn load_in_two(alloc: Global, retired: Retired) -> Option<(Loaded, bool)> {
 }
 
 /// Redoes the log, and tells whether it was redone again.
-fn redo_in_two(alloc: Global, loaded: Loaded) -> Option<(Redone, bool)> {
-    match loaded.redo(alloc) {
+fn redo_in_two(
+    rt: &(impl Threads + Sync),
+    alloc: Global,
+    loaded: Loaded,
+) -> Option<(Redone, bool)> {
+    match loaded.redo(rt, alloc) {
         Ok(redone) => Some((redone, false)),
-        Err((loaded, RedoFault::OutOfMemory)) => Some((loaded.redo(alloc).ok()?, true)),
+        Err((loaded, RedoFault::OutOfMemory)) => Some((loaded.redo(rt, alloc).ok()?, true)),
     }
 }
 
@@ -191,9 +200,9 @@ fn is_page(pages: &[Page], lsn: u64, front: [u64; 2], other: u64) -> bool {
 }
 
 /// Restores the last copy, and tells whether a call was made again; None at a wrong page.
-fn restore(alloc: Global, retired: Retired) -> Option<bool> {
+fn restore(rt: &(impl Threads + Sync), alloc: Global, retired: Retired) -> Option<bool> {
     let (loaded, load_again) = load_in_two(alloc, retired)?;
-    let (redone, redo_again) = redo_in_two(alloc, loaded)?;
+    let (redone, redo_again) = redo_in_two(rt, alloc, loaded)?;
     if !is_page(redone.pages(), 4928, [10, 8], 1) {
         return None;
     }
@@ -209,10 +218,10 @@ fn restore(alloc: Global, retired: Retired) -> Option<bool> {
 
 /// Makes the calls one by one, restores a copy, and tells whether a call was made again; None at a
 /// wrong reply or page.
-fn call_row(alloc: Global, row: &[(Event, Reply)]) -> Option<bool> {
+fn call_row(rt: &(impl Threads + Sync), alloc: Global, row: &[(Event, Reply)]) -> Option<bool> {
     let (mut engine, made_again) = engine_in_two(alloc)?;
     let called_again = call_each(&mut engine, row);
-    let restored_again = restore(alloc, engine.retire());
+    let restored_again = restore(rt, alloc, engine.retire());
     Some(made_again || called_again? || restored_again?)
 }
 
@@ -272,16 +281,16 @@ fn play_row(alloc: Global, row: &[(Event, Reply)]) -> Option<bool> {
     Some(again)
 }
 
-fn make_both(alloc: Global) -> Option<bool> {
+fn make_both(rt: &(impl Threads + Sync), alloc: Global) -> Option<bool> {
     let row = row();
-    let called = call_row(alloc, &row)?;
+    let called = call_row(rt, alloc, &row)?;
     let played = play_row(alloc, &row)?;
     Some(called || played)
 }
 
 /// Makes the calls one by one and as a list, restores a copy, and reports the results.
-pub fn told_of_calls(alloc: Global) -> &'static str {
-    match make_both(alloc) {
+pub fn told_of_calls(rt: &(impl Threads + Sync), alloc: Global) -> &'static str {
+    match make_both(rt, alloc) {
         Some(true) => "a call was made again",
         Some(false) => "each call was made once",
         None => "a reply or a page is wrong",

@@ -1,18 +1,41 @@
-//! Plays calls of the engine if the command line has a word, then reads a log from standard input
-//! by `read_log`, and reports both results.
+//! Makes calls that imgcopy does not make: those that the first word of the command line names, if
+//! there is one. Then it reads a log from standard input by `read_log`, and reports the results.
 #![tactic(auto)]
 
 mod calls;
+mod recovery;
+mod shared_run;
 
 use calls::told_of_calls;
 use log_store::read_log;
+use recovery::put_recovery;
+use shared_run::told_of_run;
 use std::process::ExitCode;
 use std::rt::Env;
 
+/// Prints what was recovered, if it was.
+fn print(rt: &HostRuntime, text: Option<String>) -> ExitCode {
+    match text {
+        Some(text) => {
+            let _ = rt.print(&text);
+            ExitCode::SUCCESS
+        }
+        None => ExitCode::from(2),
+    }
+}
+
 fn main(rt: HostRuntime) -> ExitCode {
     let mut word = [0; 8];
-    if rt.arg(1, &mut word).is_ok() {
-        let _ = rt.eprintln(told_of_calls(rt.alloc()));
+    if let Ok(length) = rt.arg(1, &mut word) {
+        match &word[..length] {
+            b"recover" => return print(&rt, put_recovery(&rt, rt.alloc(), &mut rt.stdin())),
+            b"share" => {
+                let _ = rt.eprintln(told_of_run(&rt, rt.alloc()));
+            }
+            _ => {
+                let _ = rt.eprintln(told_of_calls(&rt, rt.alloc()));
+            }
+        }
     }
     match read_log(rt.alloc(), &mut rt.stdin()) {
         Ok(log) => {

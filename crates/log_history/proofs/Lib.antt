@@ -1,4 +1,5 @@
 pub mod AdderSets
+pub mod Ahead
 pub mod AtEnd
 pub mod Barred
 pub mod Begun

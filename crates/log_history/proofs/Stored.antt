@@ -6,7 +6,7 @@ use Rattle.std.proofs.lemmas.List.{get_or-set_same, length-set, set-get_or}
 use Rattle.std.proofs.lemmas.List.Folds.{find_at}
 use Rattle.std.proofs.lemmas.Option.{get_or_from_slice_get, slice_get_past}
 use Rattle.std.specs.List.{filter, find, list_any, position_or_len, remove, slice_get}
-use Rattle.std.specs.Option.{IsSomeAnd, option_map}
+use Rattle.std.specs.Option.{IsSome, IsSomeAnd, option_map}
 use Rattle.log_history.specs.declared.claims.Claims.{Claims}
 use Rattle.log_history.specs.declared.open_entry.OpenEntry.{OpenEntry}
 use Rattle.log_history.specs.declared.open_list.OpenList.{OpenList}
@@ -80,6 +80,17 @@ module _ {begun txn seat : ℕ} {claims : Claims} {list : OpenList} {x : OpenEnt
     seat = same_seat;
     held = subst (λ ps. IsHeld claims e.seat ps) (sym same_items)
         (subst (λ n. IsHeld claims n x.pending.items) (sym same_seat) (held-at at-seat stored.tracks));
+    others = λ page slot other within apart. refl;
+  }
+
+  -- what it keeps out stays
+  pub keeps-claims : (e : OpenEntry) → e.txn ≡ x.txn → e.seat ≡ x.seat
+      → ((seat : ℕ) → IsHeld claims seat x.pending.items → IsHeld claims seat e.pending.items)
+      → KeepsSeat x e claims claims
+  keeps-claims e same_txn same_seat held = record {
+    txn = same_txn;
+    seat = same_seat;
+    held = held e.seat (subst (λ n. IsHeld claims n x.pending.items) (sym same_seat) (held-at at-seat stored.tracks));
     others = λ page slot other within apart. refl;
   }
 
@@ -163,6 +174,12 @@ pub nobody-here : (begun txn : ℕ) (xs : List OpenEntry) (table : Table) (P : E
     → find (λ e. eqb e.txn txn) xs ≡ None → IsSomeAnd (entry_in table txn) P → ⊥
 nobody-here begun txn xs table P is none some =
     none-and P (entry_in table txn) (ap (λ (v : Table). entry_in v txn) (sym is) ∙ missing-txn txn xs none) some
+
+pub nobody-open : (begun txn : ℕ) (xs : List OpenEntry) (table : Table)
+    → (record { begun = begun; entries = map entry_view xs }) ≡ table
+    → find (λ e. eqb e.txn txn) xs ≡ None → IsSome (entry_in table txn) → ⊥
+nobody-open begun txn xs table is none some =
+    is-there (entry_in table txn) some (ap (λ (v : Table). entry_in v txn) (sym is) ∙ missing-txn txn xs none)
 
 -- ---- one more
 

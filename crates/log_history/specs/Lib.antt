@@ -1,4 +1,5 @@
 pub mod Adders
+pub mod Ahead
 pub mod Checked
 pub mod Checkpoint
 pub mod CheckpointTable

@@ -1,6 +1,8 @@
 //! One open transaction: its numbers, and its pending changes as a stack.
 
-ghost use Rattle.std.specs.Prelude.{◌≡◌, ◌<◌, ◌↔◌, [], IfOk, IsSomeAnd, IsTrue, OnErr};
+ghost use Rattle.std.specs.Prelude.{ℕ, ◌≡◌, ◌<◌, ◌↔◌, [], IfOk, IsSomeAnd, IsTrue, OnErr};
+ghost use Rattle.log_history.specs.declared.claims.Claims.{Claims};
+ghost use Rattle.log_history.specs.Ahead.{entry_back, entry_with_before, last_with_before};
 ghost use Rattle.log_history.specs.Linked.{Compensates};
 ghost use Rattle.log_history.specs.OpenEntry.{IsBegun, IsHeld, KeepsOtherSeats, Pushes};
 ghost use Rattle.log_history.specs.OpenEntry.{changes_of};
@@ -82,6 +84,18 @@ fn drain_pending(pending: &mut Vec<Pending>, claims: &mut Claims, seat: u8)
     }
 }
 
+/// The last change had this number before it, where it is a Set.
+fn set_last_before(pending: &mut Vec<Pending>, before: u64)
+    ensures changes { changes_of pending.new.items
+        ≡ last_with_before (changes_of pending.old.items) before }
+    ensures held { (claims : Claims) (seat : ℕ) → IsHeld claims seat pending.old.items
+        → IsHeld claims seat pending.new.items }
+{
+    if let Some(last) = pending.last_mut() {
+        last.set_before(before);
+    }
+}
+
 impl OpenEntry {
     ghost use Rattle.std.specs.Prelude.{min, true};
     ghost use Rattle.log_history.specs.OpenEntry.{IsBegun, KeepsSeat, Updates, entry_view};
@@ -134,6 +148,27 @@ impl OpenEntry {
         pop_pending(&mut self.pending, claims, self.seat);
         self.last = lsn;
         self.rolling = true;
+    }
+
+    /// Takes the last change back, as if it had not come: the record before it has this LSN.
+    pub fn take_back(&mut self, claims: &mut Claims, prev: Lsn)
+        requires seat { self.old.seat < SEATS }
+        requires held { IsHeld claims.old self.old.seat self.old.pending.items }
+        ensures entry { entry_view self.new ≡ entry_back prev (entry_view self.old) }
+        ensures kept { KeepsSeat self.old self.new claims.old claims.new }
+    {
+        pop_pending(&mut self.pending, claims, self.seat);
+        self.last = prev;
+    }
+
+    /// The last change had this number before it, where it is a Set.
+    pub fn set_before(&mut self, before: u64)
+        ensures entry { entry_view self.new ≡ entry_with_before before (entry_view self.old) }
+        ensures same { (self.new.txn ≡ self.old.txn) × (self.new.seat ≡ self.old.seat) }
+        ensures held { (claims : Claims) (seat : ℕ) → IsHeld claims seat self.old.pending.items
+            → IsHeld claims seat self.new.pending.items }
+    {
+        set_last_before(&mut self.pending, before);
     }
 
     /// The transaction begins to roll back, by an Abort of this LSN.

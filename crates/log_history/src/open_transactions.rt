@@ -1,8 +1,9 @@
 //! The table of open transactions.
 
 ghost use Rattle.std.specs.Prelude.{ℕ, ◌≡◌, ◌↔◌, min, IfOk, IsTrue, IsSomeAnd, OnOk, OnErr};
-ghost use Rattle.std.specs.Prelude.{MatchOption, None, [], length};
+ghost use Rattle.std.specs.Prelude.{MatchOption, IsSome, None, [], length};
 ghost use Rattle.std.specs.Option.{option_and_then, option_map};
+ghost use Rattle.log_history.specs.Ahead.{entry_back, entry_with_before, with_changed};
 ghost use Rattle.log_history.specs.Growth.{MayGrow};
 ghost use Rattle.log_history.specs.Linked.{Compensates};
 ghost use Rattle.log_history.specs.CheckpointTable.{HasOldEntries};
@@ -299,6 +300,30 @@ impl OpenTransactions {
             Record::BeginChkpt { .. } | Record::ChkptPages { .. } | Record::EndChkpt { .. } => {
                 Ok(true)
             }
+        }
+    }
+
+    /// Takes the last change of an open transaction back, as if it had not come: the record before
+    /// its Update has this LSN. It takes no memory.
+    pub fn take_back(&mut self, txn: TxnNo, prev: Lsn)
+        ensures { IsSome (entry_in self.old txn)
+            → self.new ≡ with_changed self.old txn (entry_back prev) }
+    {
+        if let Some(seat) = self.list.seat_of(txn) {
+            let entry = &mut self.list.seats[seat as usize];
+            entry.take_back(&mut self.claims, prev);
+        }
+    }
+
+    /// The last change of an open transaction had this number before it, where it is a Set. It takes
+    /// no memory.
+    pub fn set_before(&mut self, txn: TxnNo, before: u64)
+        ensures { IsSome (entry_in self.old txn)
+            → self.new ≡ with_changed self.old txn (entry_with_before before) }
+    {
+        if let Some(seat) = self.list.seat_of(txn) {
+            let entry = &mut self.list.seats[seat as usize];
+            entry.set_before(before);
         }
     }
 

@@ -1,6 +1,7 @@
 //! A pending change in compact form: forty bytes, since a log may leave half a million of them.
 
 ghost use Rattle.std.specs.Prelude.{◌≡◌};
+ghost use Rattle.log_history.specs.Ahead.{with_before};
 ghost use Rattle.log_history.specs.Pending.{hold_by_kept};
 
 use crate::claims::Hold;
@@ -130,5 +131,18 @@ impl Pending {
         ensures { result ≡ self.now.before }
     {
         self.before.hold()
+    }
+
+    /// The change had this number before it, where it is a Set.
+    pub fn set_before(&mut self, before: u64)
+        ensures change { self.new.change ≡ record self.old.change {
+          change = with_before self.old.change.change before;
+        } }
+        ensures before { self.new.before ≡ self.old.before }
+    {
+        match self.kind {
+            ChangeKind::Set => self.number = before,
+            ChangeKind::Add => {}
+        }
     }
 }

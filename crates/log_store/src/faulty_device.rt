@@ -1,7 +1,7 @@
 //! A device that fails at one call, to test what stands on a device.
 
-ghost use Rattle.std.specs.Prelude.{◌≡◌, ◌≤◌, length};
-ghost use Rattle.log_store.specs.FaultyDevice.{FaultyStores};
+ghost use Rattle.std.specs.Prelude.{◌≡◌, ◌≤◌, false, length, true};
+ghost use Rattle.log_store.specs.FaultyDevice.{FaultyStores, after_fault};
 
 use crate::device::{DeviceFault, LogDevice};
 use crate::mem_device::MemDevice;
@@ -12,6 +12,8 @@ use std::marker::Model;
 pub struct FaultyDevice {
     device: MemDevice,
     calls_to_fault: u64,
+    /// Whether the call that is to fail stores its bytes.
+    is_late: bool,
 }
 
 impl Model for FaultyDevice {
@@ -22,18 +24,32 @@ impl Model for FaultyDevice {
     ghost view = { λ faulty. record {
       memory = faulty.device;
       calls_to_fault = faulty.calls_to_fault;
+      is_late = faulty.is_late;
     } };
 }
 
 impl FaultyDevice {
-    /// A device whose `k`-th call of `store` fails, counted from 1. Each other call goes on to
-    /// `device`. At 0 all of them do.
+    /// A device whose `k`-th call of `store` fails, counted from 1, and leaves the bytes as they
+    /// were. Each other call goes on to `device`. At 0 all of them do.
     pub fn new(device: MemDevice, k: u64) -> FaultyDevice
-        ensures { result ≡ record { memory = device; calls_to_fault = k } }
+        ensures { result ≡ record { memory = device; calls_to_fault = k; is_late = false } }
     {
         FaultyDevice {
             device,
             calls_to_fault: k,
+            is_late: false,
+        }
+    }
+
+    /// The same, but the call that fails stores its bytes, if there is room for them: the device
+    /// fails late, after they were stored.
+    pub fn late(device: MemDevice, k: u64) -> FaultyDevice
+        ensures { result ≡ record { memory = device; calls_to_fault = k; is_late = true } }
+    {
+        FaultyDevice {
+            device,
+            calls_to_fault: k,
+            is_late: true,
         }
     }
 
@@ -42,6 +58,19 @@ impl FaultyDevice {
         ensures { result.now ≡ self.now.memory.bytes }
     {
         self.device.bytes()
+    }
+
+    /// The call that is to fail.
+    fn fail_store(&mut self, from: u64, next: &[u8]) -> DeviceFault
+        requires { from ≤ length self.old.memory.bytes }
+        ensures { self.new ≡ record self.old { memory = after_fault self.old from next.now } }
+    {
+        if self.is_late {
+            if let Err(fault) = self.device.store(from, next) {
+                return fault;
+            }
+        }
+        self.device.fail()
     }
 }
 
@@ -55,7 +84,8 @@ impl LogDevice for FaultyDevice {
     ghost fails_from = { λ _. 0 };
 
     /// An `Err` comes at the call that is to fail, and where a store would pass the room of the
-    /// device in memory. It leaves the bytes as they were. The call takes no memory.
+    /// device in memory. It leaves the bytes as they were, except that a device that fails late has
+    /// stored them at the call that is to fail. The call takes no memory.
     fn store(&mut self, from: u64, next: &[u8]) -> Result<(), DeviceFault>
         requires { from ≤ length self.old.memory.bytes }
 
@@ -64,7 +94,7 @@ impl LogDevice for FaultyDevice {
         let is_to_fail = self.calls_to_fault == 1;
         self.calls_to_fault = self.calls_to_fault.saturating_sub(1);
         if is_to_fail {
-            return Err(self.device.fail());
+            return Err(self.fail_store(from, next));
         }
         self.device.store(from, next)
     }

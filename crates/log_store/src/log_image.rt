@@ -1,10 +1,11 @@
 //! A whole log that was read, as a value.
 
-ghost use Rattle.std.specs.Prelude.{◌≡◌, take};
-ghost use Rattle.log_records.specs.Log.{IsLog};
+ghost use Rattle.std.specs.Prelude.{◌≡◌, length, take};
+ghost use Rattle.log_records.specs.Log.{IsLog, lsn_of};
 
 use crate::sink::RecordSink;
 use log_records::Record;
+use page_core::{LSN_STEP, Lsn};
 use std::alloc::{AllocError, Global};
 use std::marker::Model;
 
@@ -49,6 +50,13 @@ impl LogImage {
         ensures valid { IsLog self.now }
     {
         &self.records
+    }
+
+    /// The LSN after the last record.
+    pub fn end(&self) -> Lsn
+        ensures { result ≡ lsn_of (length self.now.records) }
+    {
+        Lsn(LSN_STEP * (self.records.len() as u64 + 1))
     }
 
     /// Keeps the first `count` records, or all if there are fewer.

@@ -1,7 +1,7 @@
 -- A log while undo appends to it.
 use Rattle.std.proofs.Common.{◌≡◌, ℕ, ◌+◌, ◌*◌, ◌<◌, ◌≤◌, Bool, true, false, cond, ◌&&◌, not, eqb, List, [], ◌∷◌, ◌++◌}
 use Rattle.std.proofs.Common.{length, sym, refl, ap, ap₂, subst, ◌∙◌, inl, inr, arith, eq-eqb}
-use Rattle.std.specs.Prelude.{Some, None, Result, Ok, Err, OnOk, is_err}
+use Rattle.std.specs.Prelude.{Some, None}
 use Rattle.std.specs.Option.{option_and_then, option_map_or}
 use Rattle.std.proofs.lemmas.Bool.{cases_Bool}
 use Rattle.std.proofs.lemmas.List.{length_push}
@@ -15,21 +15,17 @@ use Rattle.log_records.specs.Log.{Log, StandsAt, lsn_of, with_next}
 use Rattle.log_history.specs.declared.pending_change.PendingChange.{PendingChange}
 use Rattle.log_history.specs.declared.txn_state.TxnState.{TxnState}
 use Rattle.log_history.specs.Linked.{IsLinked, MayFollow}
-use Rattle.log_history.specs.Table.{Table, entry_of, table_of}
+use Rattle.log_history.specs.Table.{Entry, entry_of}
 use Rattle.log_history.specs.Transactions.{is_open, last_lsn, last_of, owed, pending}
 use Rattle.log_history.specs.TxnState.{state_of}
 use Rattle.log_history.proofs.AtEnd.{valid_next}
 use Rattle.log_history.proofs.Histories.{along_linked, linked_push}
 use Rattle.log_history.proofs.Pushes.{is_open_push}
 use Rattle.log_history.proofs.Room.{claimed_push, needs}
+use Rattle.loser_undo.specs.Losers.{losers_of}
 use Rattle.loser_undo.specs.Steps.{IsOfUndo, IsUndoing, last_lost, with_end_if_spent, last_taken_back}
 use Rattle.loser_undo.proofs.Valid.{comp_stands, end_stands}
 use Rattle.loser_undo.specs.Undo.{LostChange, comp_of, is_undone, with_comp, with_end, taken_back}
-
--- what an answer that is no `Err` says
-pub said : {T E : Type 0} (r : Result T E) (P : Type 0) → is_err r ≡ false → OnOk r P → P
-said (Ok x) P ok h = h
-said (Err e) P ok h = cc
 
 -- ---- one record more
 
@@ -49,16 +45,16 @@ claims_no_more : (rs : List Record) (r : Record) → IsLinked rs → MayFollow r
     → length (rs ++ r ∷ []) + owed (rs ++ r ∷ []) ≤ length rs + owed rs
 claims_no_more rs r linked may is = omega (arith, claimed_push rs r linked may, undo_needs_none r is)
 
-pub has_place : (log : Log) (table : Table) (capacity : ℕ) (r : Record) → IsUndoing log table capacity
+pub has_place : (log : Log) (losers : List Entry) (capacity : ℕ) (r : Record) → IsUndoing log losers capacity
     → MayFollow log.records r → IsOfUndo r → length log.records < capacity
-has_place log table capacity r undoing may is =
+has_place log losers capacity r undoing may is =
     let fits = undoing.fits in
     omega (arith, fits, claims_no_more log.records r undoing.made.linked may is, length_push log.records r)
 
-pub undoing_next : (log : Log) (table new : Table) (capacity : ℕ) (r : Record) → IsUndoing log table capacity
+pub undoing_next : (log : Log) (losers new : List Entry) (capacity : ℕ) (r : Record) → IsUndoing log losers capacity
     → MayFollow log.records r → StandsAt log.pages (lsn_of (length log.records)) r → IsOfUndo r
-    → new ≡ table_of (log.records ++ r ∷ []) → IsUndoing (with_next log (r ∷ [])) new capacity
-undoing_next log table new capacity r undoing may stands is made =
+    → new ≡ losers_of (log.records ++ r ∷ []) → IsUndoing (with_next log (r ∷ [])) new capacity
+undoing_next log losers new capacity r undoing may stands is made =
     let linked = undoing.made.linked in
     let room = undoing.room in
     let fits = undoing.fits in
@@ -130,11 +126,11 @@ takes_back_last rs r lsn t prev page slot change p is found same =
 
 -- ---- the records as the code writes them
 
-pub end_may_stand : (log now : Log) (table : Table) (capacity t lsn : ℕ) (state : TxnState) → log ≡ now
-    → IsUndoing log table capacity
+pub end_may_stand : (log now : Log) (losers : List Entry) (capacity t lsn : ℕ) (state : TxnState) → log ≡ now
+    → IsUndoing log losers capacity
     → cond (is_open log.records t) (Some (state_of (entry_of log.records t))) None ≡ Some state
     → lsn ≡ lsn_of (length now.records) → StandsAt now.pages (lsn_of (length now.records)) (End lsn t state.last)
-end_may_stand log now table capacity t lsn state view undoing found at =
+end_may_stand log now losers capacity t lsn state view undoing found at =
     let e = entered log.records t state found in
     let stands = end_stands log t undoing.valid undoing.made.linked e.still in
     let last : state.last ≡ last_lsn log.records t = ap (λ (x : TxnState). x.last) e.is in
@@ -143,13 +139,13 @@ end_may_stand log now table capacity t lsn state view undoing found at =
     (subst (λ (r : Record). StandsAt log.pages (lsn_of (length log.records)) r)
     (sym (ap₂ (λ m n. End m t n) here last)) stands)
 
-pub comp_may_stand : (log now : Log) (table : Table) (capacity t lsn : ℕ) (state : TxnState) (p : PendingChange)
-    (change : Change) → log ≡ now → IsUndoing log table capacity
+pub comp_may_stand : (log now : Log) (losers : List Entry) (capacity t lsn : ℕ) (state : TxnState) (p : PendingChange)
+    (change : Change) → log ≡ now → IsUndoing log losers capacity
     → cond (is_open log.records t) (Some (state_of (entry_of log.records t))) None ≡ Some state
     → lsn ≡ lsn_of (length now.records) → is_open now.records t ≡ true → last_of (pending now.records t) ≡ Some p
     → change ≡ undo_of p.change
     → StandsAt now.pages (lsn_of (length now.records)) (Comp lsn t state.last p.prev p.page p.slot change)
-comp_may_stand log now table capacity t lsn state p change view undoing found at still_now last_now undoes =
+comp_may_stand log now losers capacity t lsn state p change view undoing found at still_now last_now undoes =
     let e = entered log.records t state found in
     let l : LostChange = record { txn = t; change = p } in
     let final = subst (λ (x : Log). last_of (pending x.records t) ≡ Some p) (sym view) last_now in

@@ -13,3 +13,5 @@ pub mod Rising
 pub mod Valid
 pub mod Resumed
 pub mod Tails
+pub mod Traced
+pub mod Held

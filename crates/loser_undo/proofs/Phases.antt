@@ -327,7 +327,7 @@ idle_spent rs = through (begun rs)
                 ((live, no_length (pending rs t) (eqb-true (length (pending rs t)) 0 none)), rest)
             second false live none rest = rest
 
-rising_spent : (rs : List Record) → IsLinked rs → IsRising (spent rs)
+pub rising_spent : (rs : List Record) → IsLinked rs → IsRising (spent rs)
 rising_spent rs linked =
     rising_from_increasing (spent rs)
     (IsStrictlyIncreasing-filter (is_undone rs) (open_in rs) (open_in-IsStrictlyIncreasing rs linked))

@@ -1,4 +1,5 @@
 pub mod Fault
+pub mod Losers
 pub mod Recovery
 pub mod Steps
 pub mod Tail

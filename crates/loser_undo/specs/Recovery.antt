@@ -9,10 +9,10 @@ use Rattle.log_records.specs.Image.{image_from, redo_all}
 use Rattle.log_records.specs.Log.{IsLog, Log}
 use Rattle.log_history.specs.Committed.{committed}
 use Rattle.log_history.specs.Linked.{IsLinked}
-use Rattle.log_history.specs.Table.{Table}
+use Rattle.log_history.specs.Table.{Entry}
 use Rattle.log_history.specs.Transactions.{open_in}
 use Rattle.log_store.specs.declared.master.Master.{Master}
-use Rattle.txn_table.specs.TxnTable.{IsTableOf}
+use Rattle.loser_undo.specs.Losers.{AreLosersOf}
 use Rattle.loser_undo.specs.Undo.{after_undo}
 
 -- a log, its master record, and the pages of its volume, whatever redo has made of them
@@ -39,10 +39,10 @@ pub record IsRecovery (r : Recovery) : Type 0 where
   pub count : length r.pages ≡ r.log.pages
   pub numbered : AreNumbered r.pages
 
--- with the table of its open transactions
-pub record IsRedone (r : Recovery) (losers : Table) : Type 0 where
+-- with its open transactions
+pub record IsRedone (r : Recovery) (losers : List Entry) : Type 0 where
   pub is : IsRecovery r
-  pub made : IsTableOf r.log.records losers
+  pub made : AreLosersOf r.log.records losers
 
 -- no transaction is open
 pub record IsUndone (r : Recovery) : Type 0 where

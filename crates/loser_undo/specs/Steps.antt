@@ -6,9 +6,9 @@ use Rattle.log_records.specs.declared.limits.TheConstants.{MAX_RECORDS}
 use Rattle.log_records.specs.declared.record.Record.{Record}
 use Rattle.log_records.specs.declared.record.Record.TheVariants.{Update, Comp, End}
 use Rattle.log_records.specs.Log.{IsLog, Log}
-use Rattle.log_history.specs.Table.{Table}
+use Rattle.log_history.specs.Table.{Entry}
 use Rattle.log_history.specs.Transactions.{is_open, last_of, owed, pending}
-use Rattle.txn_table.specs.TxnTable.{IsTableOf}
+use Rattle.loser_undo.specs.Losers.{AreLosersOf}
 use Rattle.loser_undo.specs.Undo.{LostChange, is_undone, with_end, taken_back}
 
 -- a record that undo appends
@@ -32,9 +32,9 @@ last_lost rs other = None
 abbrev pub last_taken_back : List Record → Record → List Record
 last_taken_back rs r = option_map_or (taken_back rs) (last_lost rs r) rs
 
--- a log that is being undone, with the table of its transactions, and room for what they may need
-pub record IsUndoing (log : Log) (table : Table) (capacity : ℕ) : Type 0 where
+-- a log that is being undone, with its losers, and room for what they may need
+pub record IsUndoing (log : Log) (losers : List Entry) (capacity : ℕ) : Type 0 where
   pub valid : IsLog log
-  pub made : IsTableOf log.records table
+  pub made : AreLosersOf log.records losers
   pub room : length log.records + owed log.records ≤ MAX_RECORDS
   pub fits : length log.records + owed log.records ≤ capacity

@@ -2,14 +2,17 @@
 #![tactic(auto)]
 
 mod fault;
+mod loser_table;
 mod redone;
 mod tail;
+mod trace;
 mod undo_laws;
 mod undoing;
 mod undone;
 
 pub use fault::UndoFault;
-pub use redone::{Redone, losers};
+pub use loser_table::{Loser, LoserTable, losers};
+pub use redone::Redone;
 pub use tail::{OpenTxn, complete_checkpoints_begin_tails, open_at_end, open_by_tail};
 pub use undo_laws::{
     undo_commits_nothing, undo_fits_where_records_and_owed_ones_do, undo_keeps_logs_linked,

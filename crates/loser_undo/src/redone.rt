@@ -3,18 +3,18 @@
 ghost use Rattle.std.specs.Prelude.{◌≡◌, ◌↔◌, ◌+◌, ◌<◌, ◌≤◌, length, map, IfOk, IfErr, IsTrue};
 ghost use Rattle.log_records.specs.Coverage.{resume};
 ghost use Rattle.log_records.specs.declared.limits.TheConstants.{MAX_RECORDS};
-ghost use Rattle.log_history.specs.Linked.{IsLinked};
-ghost use Rattle.log_history.specs.Table.{table_of};
+ghost use Rattle.log_history.specs.Checkpoint.{IsCompleteCheckpoint};
 ghost use Rattle.log_history.specs.Transactions.{owed};
 ghost use Rattle.loser_undo.specs.Recovery.{IsRecovery};
 
+use crate::loser_table::{LoserTable, losers};
 use log_records::{MAX_RECORDS, Record};
 use log_store::{LogImage, Master};
 use page_core::{Lsn, Page};
 use page_redo::redo_pages;
-use std::alloc::{AllocError, Global};
+use std::alloc::Global;
 use std::marker::Model;
-use txn_table::TxnTable;
+use std::thread::Threads;
 
 /// A log, its master record and its pages after redo (ARIES, section 6): the pages still have the
 /// changes of the transactions that are open at the log's end. Which these are is known too.
@@ -22,7 +22,7 @@ use txn_table::TxnTable;
 pub struct Redone {
     pub(crate) log: LogImage,
     pub(crate) master: Master,
-    pub(crate) losers: TxnTable,
+    pub(crate) losers: LoserTable,
     pub(crate) pages: Vec<Page>,
 }
 
@@ -37,67 +37,46 @@ impl Model for Redone {
         (record { log = it.log; master = it.master; pages = it.pages.items }) it.losers };
 }
 
-/// The open transactions of a log with their pending changes (the analysis of ARIES, section 6.1).
-/// The log is read from its first record to its last, so the master record is not needed yet. An
-/// `Err` comes where memory for them is refused.
-pub fn losers(alloc: Global, log: &LogImage, _master: &Master) -> Result<TxnTable, AllocError>
-    requires { IsLinked log.now.records }
-    ensures { IfOk result (λ table. table ≡ table_of log.now.records) }
-{
-    let mut table = TxnTable::new(alloc);
-    for record in log.records() {
-        table.note(record)?;
-    }
-    Ok(table)
-}
-
 impl Redone {
-    /// Takes a log, its master record and its pages, whatever has been redone on them. An `Err`
-    /// comes where memory for the table of its open transactions is refused, and hands the log and
-    /// the pages back.
+    /// Takes a log, its master record and its pages, whatever has been redone on them, and finds
+    /// the log's open transactions from its last checkpoint on. An `Err` comes where memory for
+    /// these is refused, and hands the log and the pages back.
     pub fn new(
         alloc: Global,
         log: LogImage,
         master: Master,
         pages: Vec<Page>,
     ) -> Result<Redone, (LogImage, Vec<Page>)>
-        requires { IsRecovery (record { log = log; master = master; pages = pages.items }) }
-        ensures ok { IfOk result (λ it.
-            it ≡ record { log = log; master = master; pages = pages.items }) }
-        ensures err { IfErr result (λ e. (e.0 ≡ log) × (e.1.items ≡ pages.items)) }
-    {
-        match losers(alloc, &log, &master) {
-            Ok(losers) => Ok(Redone::with_losers(log, master, pages, losers)),
-            Err(_) => Err((log, pages)),
-        }
-    }
-
-    /// The same, with the table of open transactions that reading the log has made.
-    pub fn with_losers(log: LogImage, master: Master, pages: Vec<Page>, losers: TxnTable) -> Redone
         requires recovery { IsRecovery (record {
           log = log;
           master = master;
           pages = pages.items;
         }) }
-        requires losers { losers ≡ table_of log.records }
-        ensures { result ≡ record { log = log; master = master; pages = pages.items } }
+        requires complete { IsCompleteCheckpoint log.records master.begin master.end }
+        ensures ok { IfOk result (λ it.
+            it ≡ record { log = log; master = master; pages = pages.items }) }
+        ensures err { IfErr result (λ e. (e.0 ≡ log) × (e.1.items ≡ pages.items)) }
     {
-        Redone {
-            log,
-            master,
-            losers,
-            pages,
+        match losers(alloc, &log, &master) {
+            Ok(losers) => Ok(Redone {
+                log,
+                master,
+                losers,
+                pages,
+            }),
+            Err(_) => Err((log, pages)),
         }
     }
 
     /// Redoes the log from a redo point on: on each page the records at or above that point that
-    /// are above the page's LSN (ARIES, section 6.2). It takes no memory.
-    pub fn redo_from(&mut self, from: Lsn)
+    /// are above the page's LSN (ARIES, section 6.2). Where these are many, it is done in threads.
+    /// It never refuses, as `redo_pages` does not.
+    pub fn redo_from(&mut self, rt: &(impl Threads + Sync), alloc: Global, from: Lsn)
         ensures { self.new ≡ record self.old {
           pages = map (λ page. resume page self.old.log.records from) self.old.pages;
         } }
     {
-        redo_pages(&mut self.pages, &self.log, from);
+        redo_pages(rt, alloc, &mut self.pages, &self.log, from);
     }
 
     /// How many pages the volume has.

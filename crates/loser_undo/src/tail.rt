@@ -45,7 +45,8 @@ pub fn open_at_end(
 ) -> Result<Vec<OpenTxn>, AllocError>
     requires linked { IsLinked log.now.records }
     requires complete { IsCompleteCheckpoint log.now.records master.now.begin master.now.end }
-    ensures { IfOk result (λ found. found.items ≡ open_txns log.now.records) }
+    ensures open { IfOk result (λ found. found.items ≡ open_txns log.now.records) }
+    ensures valid { IsLog log.now }
 {
     let records = log.records();
     let first = count_before(master.begin);
@@ -61,7 +62,7 @@ fn behind(records: &[Record], first: usize) -> &[Record]
 }
 
 /// How many records stand before the one at an LSN.
-fn count_before(lsn: Lsn) -> usize
+pub(crate) fn count_before(lsn: Lsn) -> usize
     ensures { (n : ℕ) → lsn ≡ lsn_of n → result ≡ n }
 {
     (lsn.0.saturating_sub(1) / LSN_STEP) as usize

@@ -8,11 +8,11 @@ ghost use Rattle.log_history.specs.Transactions.{begun, is_open, last_of, pendin
 ghost use Rattle.loser_undo.specs.Steps.{IsOfUndo, with_end_if_spent, last_taken_back};
 ghost use Rattle.loser_undo.specs.Undo.{after_undo, spent, with_comp, with_end};
 
+use crate::loser_table::LoserTable;
 use log_history::PendingChange;
 use log_records::Record;
 use page_core::{Lsn, TxnNo, undo_of};
 use std::marker::Model;
-use txn_table::TxnTable;
 
 /// A log while undo appends to it, with the table of its open transactions. It has room for all
 /// records that they may still need.
@@ -20,7 +20,7 @@ use txn_table::TxnTable;
 pub struct Undoing {
     pub pages: u32,
     pub records: Vec<Record>,
-    pub losers: TxnTable,
+    pub losers: LoserTable,
 }
 
 impl Model for Undoing {
@@ -51,9 +51,7 @@ impl Undoing {
         requires undoes { IsOfUndo next }
         ensures { self.new ≡ with_next self.old (next ∷ []) }
     {
-        if self.losers.note(&next).is_err() {
-            unreachable!();
-        }
+        self.losers.note(&next);
         self.records.push_reserved(next);
     }
 
@@ -120,9 +118,8 @@ impl Undoing {
           records = fold with_end self.old.records (spent self.old.records);
         } }
     {
-        let begun = self.losers.begin().0 - 1;
-        for before in 0..begun {
-            self.end_if_spent(TxnNo(before + 1));
+        while let Some(txn) = self.losers.first_spent() {
+            self.end_if_spent(txn);
         }
     }
 

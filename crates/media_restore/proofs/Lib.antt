@@ -1,9 +1,8 @@
-pub mod Archives
+mod Audits
 pub mod Groups
 pub mod Loads
 pub mod Masters
 mod OneMasterFault
-pub mod Overlays
 mod Rebuilds
 pub mod Restored
 mod Saved

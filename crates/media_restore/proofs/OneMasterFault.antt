@@ -14,6 +14,7 @@ use Rattle.media_restore.specs.declared.files_fault.RestoreFault.TheVariants.{Re
 use Rattle.media_restore.specs.declared.files_fault.RestoreFault.TheVariants.{BadChain, BadArchive}
 use Rattle.media_restore.specs.declared.files_fault.RestoreFault.TheVariants.{ChainBroken}
 use Rattle.media_restore.specs.declared.files_fault.RestoreFault.TheVariants.{CountDiffers}
+use Rattle.media_restore.specs.declared.files_fault.RestoreFault.TheVariants.{RedoBeyondLog, PageBeyondLog}
 
 -- what a fault of the bytes says of them: they spell no master record, or one that is refused
 abbrev Says : List ℕ → RestoreFault → Type 0
@@ -35,6 +36,8 @@ says bytes rs (BadChain begin) read refused = inr (record { begin = begin; end =
 says bytes rs (BadArchive at) read refused = absurd refused
 says bytes rs (ChainBroken copy) read refused = absurd refused
 says bytes rs CountDiffers read refused = absurd refused
+says bytes rs RedoBeyondLog read refused = absurd refused
+says bytes rs (PageBeyondLog page) read refused = absurd refused
 
 alike : (bytes : List ℕ) (a b : RestoreFault) → Says bytes a → Says bytes b → a ≡ b
 alike bytes a b (inl one) (inl two) = one.0 ∙ sym two.0

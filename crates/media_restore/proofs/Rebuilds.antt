@@ -60,7 +60,8 @@ refused_by it entries copy cut is =
 -- ---- what a restore makes of what an engine left
 
 pub rebuilt_of : (pages : ℕ) (events : List Event) (copy cut : ℕ) (replies : List (Result Answer Refusal))
-    (outcome : Result Recovery Refused) (e : EngineState) (left : RetiredView) → Run (new_state pages) events replies e
+    (outcome : Result Recovery Refused) (e : EngineState) (left : RetiredView)
+    → Run (new_state pages e.frames) events replies e
     → work e.log ≡ accepted events replies → map entry_of e.copies ≡ catalogue pages events replies
     → left.log ≡ log_of e → left.forced_end ≡ e.forced_end → left.copies ≡ e.copies
     → left.master ≡ option_map master_record e.master
@@ -80,7 +81,7 @@ rebuilt_of pages events copy cut replies outcome e left run shown told same_log 
     record {
       run = run;
       work = shown;
-      commits = λ rest is. commits_are_kept pages events replies e rest run is;
+      commits = λ rest is. commits_are_kept pages e.frames events replies e rest run is;
       let_in = subst (λ (o : Option LoadFault). OnOk outcome (o ≡ None)) refusal ok;
       refused = subst (λ (o : Option LoadFault). IfErr outcome (RestoreRefuses o)) refusal err;
       kept = subst (λ (end : ℕ). OnOk outcome (IsKeptOf (log_of e) end (kept_log (log_of e) cut))) same_end

@@ -9,7 +9,6 @@ use Rattle.page_core.specs.declared.page.Page.{Page}
 use Rattle.page_core.specs.Page.{volume_bytes}
 use Rattle.page_core.specs.Volume.{AreNumbered, SpellsVolume}
 use Rattle.log_records.specs.declared.limits.TheConstants.{MAX_RECORDS}
-use Rattle.log_records.specs.declared.record.Record.{Record}
 use Rattle.log_records.specs.Coverage.{resume}
 use Rattle.log_records.specs.Image.{image, image_from, redo_all}
 use Rattle.log_records.specs.Log.{IsLog, Log}
@@ -19,10 +18,11 @@ use Rattle.log_history.specs.Linked.{IsLinked}
 use Rattle.log_store.specs.declared.fault.LogReadFault.{LogReadFault}
 use Rattle.log_store.specs.declared.fault.LogReadFault.TheVariants as log
 use Rattle.log_store.specs.declared.master.Master.{Master}
-use Rattle.copy_vault.specs.declared.archive_fault.ArchiveFault.{ArchiveFault}
-use Rattle.copy_vault.specs.declared.archive_fault.ArchiveFault.TheVariants as archive
+use Rattle.copy_vault.specs.declared.chain_read_fault.ChainReadFault.{ChainReadFault}
+use Rattle.copy_vault.specs.declared.chain_read_fault.ChainReadFault.TheVariants as chain
 use Rattle.copy_vault.specs.declared.copy_id.CopyKind.TheVariants.{Full}
 use Rattle.copy_vault.specs.Chain.{FitFrom, IsChain, content, contents, last_redo, page_count}
+use Rattle.copy_vault.specs.ChainReading.{IsChainRead}
 use Rattle.copy_vault.specs.Copy.{CopyView}
 use Rattle.copy_vault.proofs.Chains.{contents_numbered, some_members}
 use Rattle.loser_undo.specs.declared.fault.UndoFault.{UndoFault}
@@ -35,10 +35,11 @@ use Rattle.media_restore.specs.declared.files_fault.RestoreFault.TheVariants.{Ba
 use Rattle.media_restore.specs.declared.files_fault.RestoreFault.TheVariants.{TooLong, BadChain, BadArchive}
 use Rattle.media_restore.specs.declared.files_fault.RestoreFault.TheVariants.{ChainBroken}
 use Rattle.media_restore.specs.declared.files_fault.RestoreFault.TheVariants.{CountDiffers}
+use Rattle.media_restore.specs.declared.files_fault.RestoreFault.TheVariants.{RedoBeyondLog, PageBeyondLog}
 use Rattle.media_restore.specs.Files.{AreCovering, AreSound, Files, HasParts, IsOfLog, IsOfMaster, IsRestored, Leaves}
 use Rattle.media_restore.specs.Files.{Refused, most_records, redone_of}
 use Rattle.media_restore.specs.Files.{of_the_log, of_the_master, of_the_archives, of_undo, of_memory}
-use Rattle.media_restore.specs.FilesArchives.{AreOfChain, ArchivesRefused}
+use Rattle.media_restore.specs.FilesArchives.{AreOfArchives, end_of}
 use Rattle.media_restore.specs.FilesFault as from
 
 -- ---- redo of the pages of a chain
@@ -65,7 +66,7 @@ count_in pages [] fit chain = let some = some_members [] chain in absurd (omega 
 count_in pages (first ∷ more) fit chain = fit.0.same_count
 
 pub recovery_of : (log : Log) (master : Master) (inputs : List (Option (List ℕ))) (pages : List Page) (redo : ℕ)
-    → IsLog log → IsLinked log.records → AreOfChain inputs log.pages pages redo
+    → IsLog log → IsLinked log.records → IsChainRead log.pages (end_of log) inputs pages redo
     → IsRecovery (record { log = log; master = master; pages = pages })
 recovery_of log master inputs pages redo valid linked of_chain =
     let copies = of_chain.copies in
@@ -73,13 +74,18 @@ recovery_of log master inputs pages redo valid linked of_chain =
       valid = valid;
       linked = linked;
       count = ap length of_chain.made ∙ length-map-range_with_len (content copies) 0 (page_count copies)
-          ∙ count_in log.pages copies of_chain.of_archives.fit of_chain.chain;
+          ∙ count_in log.pages copies of_chain.fit of_chain.chain;
       numbered = subst AreNumbered (sym of_chain.made) (contents_numbered copies of_chain.chain);
     }
 
+-- the copies that the archives spell
+pub of_read : (log : Log) (inputs : List (Option (List ℕ))) (pages : List Page) (redo : ℕ)
+    → (read : IsChainRead log.pages (end_of log) inputs pages redo) → AreOfArchives inputs log read.copies
+of_read log inputs pages redo read = record { spelled = read.spelled; fit = read.fit; within = read.within }
+
 pub restored_of : (files : Files) (log : Log) (master : Master) (pages : List Page) (redo : ℕ) (it : List Page)
     → IsOfLog files.log log → IsOfMaster files.master log.records master
-    → AreOfChain files.archives log.pages pages redo → most_records log ≤ MAX_RECORDS
+    → IsChainRead log.pages (end_of log) files.archives pages redo → most_records log ≤ MAX_RECORDS
     → it ≡ map (λ page. image_from page (appended log)) (map (λ page. resume page log.records redo) pages)
     → (map (λ page. resume page log.records redo) pages ≡ redo_all log.records log.pages → AreSound log it)
     → IsRestored files it
@@ -95,13 +101,13 @@ restored_of files log master pages redo it of_log of_master of_chain room made s
       parts = record {
         of_log = of_log;
         of_master = of_master;
-        of_archives = of_chain.of_archives;
+        of_archives = of_read log files.archives pages redo of_chain;
         chain = of_chain.chain;
       };
       room = room;
       made = made ∙ ap (map (λ page. image_from page (appended log))) same;
       sound = λ covers. sound (same ∙ covering_whole log copies of_log.valid
-          (count_in log.pages copies of_chain.of_archives.fit of_chain.chain) covers);
+          (count_in log.pages copies of_chain.fit of_chain.chain) covers);
     }
 
 -- restored pages stand in order of their numbers, so their bytes spell a volume
@@ -151,7 +157,7 @@ undo_refused undo.OutOfMemory log fault full is = inl is
 
 pub all_restored : (r : Result Recovery RestoreFault) (files : Files) (log : Log) (master : Master) (pages : List Page)
     (redo : ℕ) → IsOfLog files.log log → IsOfMaster files.master log.records master
-    → AreOfChain files.archives log.pages pages redo
+    → IsChainRead log.pages (end_of log) files.archives pages redo
     → IfOk r (λ it. it.pages ≡ map (λ page. image_from page (appended log))
     (map (λ page. resume page log.records redo) pages)) → OnOk r (most_records log ≤ MAX_RECORDS)
     → IfOk r (λ it. map (λ page. resume page log.records redo) pages ≡ redo_all log.records log.pages
@@ -170,6 +176,16 @@ undo_or_memory (Err e) files log master copies parts why = elim why [
   | inr full ↦ of_undo log master copies parts full.0 full.1
 ]
 
+-- a reader of an archive failed
+pub read_failed : (why : ChainReadFault) → from.of_chain why ≡ ReadFault → why ≡ chain.ReadFault
+read_failed chain.OutOfMemory e = cc
+read_failed (chain.BadArchive at) e = cc
+read_failed (chain.ChainBroken copy) e = cc
+read_failed chain.CountDiffers e = cc
+read_failed chain.ReadFault e = refl
+read_failed chain.RedoBeyondLog e = cc
+read_failed (chain.PageBeyondLog page) e = cc
+
 -- the fault of the files is no fault of writing
 
 no_log : (why : LogReadFault) (done : ℕ) → ¬ (WriteFault done ≡ from.of_log why)
@@ -181,24 +197,19 @@ no_log (log.Torn at) done e = cc
 no_log log.ReadFault done e = cc
 no_log log.TooLong done e = cc
 
-no_archive : (why : ArchiveFault) (done : ℕ) → ¬ (WriteFault done ≡ from.of_archive why)
-no_archive archive.OutOfMemory done e = cc
-no_archive (archive.BadArchive at) done e = cc
-no_archive archive.CountDiffers done e = cc
-no_archive archive.ReadFault done e = cc
-
-no_archives : (inputs : List (Option (List ℕ))) (pages done : ℕ) → ¬ ArchivesRefused inputs pages (WriteFault done)
-no_archives inputs pages done (inl none) = let e = none.1 in cc
-no_archives inputs pages done (inr (inl first)) = elim first.refused [
-  | inl read ↦ no_archive read.0 done read.1
-  | inr misfit ↦ let e = misfit.1 in cc
-]
-no_archives inputs pages done (inr (inr e)) = cc
+no_chain : (why : ChainReadFault) (done : ℕ) → ¬ (WriteFault done ≡ from.of_chain why)
+no_chain chain.OutOfMemory done e = cc
+no_chain (chain.BadArchive at) done e = cc
+no_chain (chain.ChainBroken copy) done e = cc
+no_chain chain.CountDiffers done e = cc
+no_chain chain.ReadFault done e = cc
+no_chain chain.RedoBeyondLog done e = cc
+no_chain (chain.PageBeyondLog page) done e = cc
 
 no_write : (files : Files) (done : ℕ) → ¬ Refused files (WriteFault done)
 no_write files done (of_the_log refused) = no_log refused.why done refused.same
 no_write files done (of_the_master log is refused) = refused
-no_write files done (of_the_archives log master is named refused) = no_archives files.archives log.pages done refused
+no_write files done (of_the_archives log master is named refused) = no_chain refused.why done refused.same
 no_write files done (of_undo log master copies parts e full) = cc
 no_write files done (of_memory e) = cc
 
@@ -216,3 +227,5 @@ leaves files old (BadChain at) refused = (Keeps-refl old, refused)
 leaves files old (BadArchive at) refused = (Keeps-refl old, refused)
 leaves files old (ChainBroken copy) refused = (Keeps-refl old, refused)
 leaves files old CountDiffers refused = (Keeps-refl old, refused)
+leaves files old RedoBeyondLog refused = (Keeps-refl old, refused)
+leaves files old (PageBeyondLog page) refused = (Keeps-refl old, refused)

@@ -5,6 +5,7 @@ use Rattle.std.specs.Prelude.{Some, IfSome}
 use Rattle.std.specs.List.{AllByRecursion}
 use Rattle.std.proofs.Math.ListN.{get_or-eq_default}
 use Rattle.std.proofs.lemmas.Bool.{cases_lt}
+use Rattle.std.proofs.lemmas.List.{length-take-le}
 use Rattle.page_core.specs.declared.page.Page.{Page}
 use Rattle.page_core.specs.Page.{IsPage}
 use Rattle.log_records.specs.Coverage.{Covers, IsPast}
@@ -18,10 +19,13 @@ use Rattle.copy_vault.specs.declared.copy_id.CopyKind.{CopyKind}
 use Rattle.copy_vault.specs.declared.copy_id.CopyKind.TheVariants.{Full, Inc}
 use Rattle.copy_vault.specs.Archive.{IsArchived, IsKindOf, archive_bytes, header_of}
 use Rattle.copy_vault.specs.Chain.{FitFrom, Follow, IsChain, IsChainOf, content, last_redo}
+use Rattle.copy_vault.specs.ChainRead.{AreBelow}
+use Rattle.copy_vault.specs.ChainReading.{AreWithinLog, IsRightChain, SpellCopies}
 use Rattle.copy_vault.specs.Copy.{CopyView, IsComplete, PageDecision, decision_at, kept, taken, taken_count}
 use Rattle.copy_vault.specs.Copy.{taken_pages, undecided}
 use Rattle.copy_vault.specs.Vault.{CopyState, HasParent, complete, dropped, state_of}
 use Rattle.copy_vault.proofs.ArchiveReads.{same_copy}
+use Rattle.copy_vault.proofs.Chains.{some_members}
 use Rattle.copy_vault.proofs.Decisions.{count_within}
 use Rattle.copy_coverage.specs.Copied.{AreRestorable, IsCovered, StandsOn, decided_over, page_in}
 use Rattle.copy_coverage.proofs.Chains.{covered_of_members}
@@ -29,7 +33,7 @@ use Rattle.copy_coverage.proofs.Kept.{covers_kept, prefix_is_log}
 use Rattle.copy_coverage.proofs.Points.{end_is_record}
 use Rattle.page_redo.proofs.Valid.{valid-image}
 use Rattle.media_restore.specs.Files.{AreCovering, AreSound, HasParts, IsOfLog, IsOfMaster, IsRestored}
-use Rattle.media_restore.specs.FilesArchives.{AreOfArchives, SpellCopies}
+use Rattle.media_restore.specs.FilesArchives.{AreOfArchives, end_of}
 use Rattle.media_restore.specs.Saved.{AreLeft, files_of}
 use Rattle.media_restore.proofs.Loads.{checkpoint_in}
 
@@ -74,14 +78,14 @@ all_are_taken (taken page ∷ ds) decided no_kept =
     ap suc (all_are_taken ds (λ p lt. decided (suc p) (omega arith)) (λ p. no_kept (suc p)))
 all_are_taken (kept ∷ ds) decided no_kept = absurd (no_kept 0 refl)
 
-valid_taken : (pages : List PageDecision)
-    → ((p : ℕ) (page : Page) → p < length pages → decision_at pages p ≡ taken page → IsPage page)
-    → AllByRecursion IsPage (taken_pages pages)
-valid_taken [] each = tt
-valid_taken (undecided ∷ ds) each = valid_taken ds (λ p page lt. each (suc p) page (omega arith))
-valid_taken (taken page ∷ ds) each =
-    (each 0 page (omega arith) refl, valid_taken ds (λ p q lt. each (suc p) q (omega arith)))
-valid_taken (kept ∷ ds) each = valid_taken ds (λ p page lt. each (suc p) page (omega arith))
+all_taken : (P : Page → Type 0) (pages : List PageDecision)
+    → ((p : ℕ) (page : Page) → p < length pages → decision_at pages p ≡ taken page → P page)
+    → AllByRecursion P (taken_pages pages)
+all_taken P [] each = tt
+all_taken P (undecided ∷ ds) each = all_taken P ds (λ p page lt. each (suc p) page (omega arith))
+all_taken P (taken page ∷ ds) each =
+    (each 0 page (omega arith) refl, all_taken P ds (λ p q lt. each (suc p) q (omega arith)))
+all_taken P (kept ∷ ds) each = all_taken P ds (λ p page lt. each (suc p) page (omega arith))
 
 -- what is of a log's past is what a part of it makes
 past_is_page : (log : Log) (p : ℕ) (page : Page) → IsLog log → p < log.pages → IsPast log.records p page → IsPage page
@@ -109,59 +113,77 @@ kind_of copies copy (Inc from) is whole parent =
     let id = has_id copies from parent.copy parent.is_complete in
     (id.least, parent.before, count_within copy.pages)
 
-archived : (log : Log) (f : ℕ) (copies : List CopyState) (copy : CopyView) (older : List CopyView) → IsLog log
+-- a copy has an archive, and reaches no further than what is forced
+record IsStable (f : ℕ) (copy : CopyView) : Type 0 where
+  archived : IsArchived copy
+  early : copy.redo < f
+  below : AreBelow f (taken_pages copy.pages)
+
+stable : (log : Log) (f : ℕ) (copies : List CopyState) (copy : CopyView) (older : List CopyView) → IsLog log
     → AreRestorable log f copies → state_of copies copy.id ≡ complete copy → StandsOn copies copy.kind older
-    → IsComplete copy.kind copy.pages → IsArchived copy
-archived log f copies copy older valid are state stands whole =
+    → IsComplete copy.kind copy.pages → IsStable f copy
+stable log f copies copy older valid are state stands whole =
     let is = are.each copy.id copy state in
+    let covered : (p : ℕ) (page : Page) → decision_at copy.pages p ≡ taken page
+    → IsCovered log.records f copy.redo p page =
+    λ p page at. subst (λ (d : PageDecision).
+    IfSome (decided_over (page_in older p) d) (IsCovered log.records f copy.redo p)) at
+    (are.covered copy.id copy older state stands p) in
     let id = has_id copies copy.id copy state in
     let count = is.whole in
     let few = are.few in
     record {
-      header = record {
-        some_pages = let least = valid.pages.least in omega arith;
-        few_pages = let most = valid.pages.most in omega arith;
-        least_id = id.least;
-        most_id = let most = id.most in omega arith;
-        kind = kind_of copies copy copy.kind refl whole
-            (subst (λ (n : ℕ). HasParent copies copy.id n copy.kind) (sym count) is.parent);
-        begin_fits = is.noted.begun.fits;
-        begin_at_record = is.noted.begun.aligned;
-        redo_at_record = is.noted.redone.aligned;
-        redo_past_header = is.noted.redone.past_header;
-        redo_first = is.noted.order;
+      archived = record {
+        header = record {
+          some_pages = let least = valid.pages.least in omega arith;
+          few_pages = let most = valid.pages.most in omega arith;
+          least_id = id.least;
+          most_id = let most = id.most in omega arith;
+          kind = kind_of copies copy copy.kind refl whole
+              (subst (λ (n : ℕ). HasParent copies copy.id n copy.kind) (sym count) is.parent);
+          begin_fits = is.noted.begun.fits;
+          begin_at_record = is.noted.begun.aligned;
+          redo_at_record = is.noted.redone.aligned;
+          redo_past_header = is.noted.redone.past_header;
+          redo_first = is.noted.order;
+        };
+        complete = whole;
+        pages = all_taken IsPage copy.pages
+            (λ p page lt at. past_is_page log p page valid (omega arith) (covered p page at).covers.past);
       };
-      complete = whole;
-      pages = valid_taken copy.pages (λ p page lt at.
-          let covered = subst (λ (d : PageDecision).
-          IfSome (decided_over (page_in older p) d) (IsCovered log.records f copy.redo p)) at
-          (are.covered copy.id copy older state stands p) in
-          past_is_page log p page valid (omega arith) covered.covers.past);
+      early = is.early;
+      below = all_taken (λ (page : Page). page.lsn < f) copy.pages (λ p page lt at. (covered p page at).stable);
     }
 
-all_archived : (log : Log) (f : ℕ) (copies : List CopyState) (copy : CopyView) (older more : List CopyView)
+all_stable : (log : Log) (f : ℕ) (copies : List CopyState) (copy : CopyView) (older more : List CopyView)
     → IsLog log → AreRestorable log f copies → StandsOn copies copy.kind older → Follow copy more
     → AllByRecursion (λ c. IsComplete c.kind c.pages) (copy ∷ more)
     → AllByRecursion (λ c. state_of copies c.id ≡ complete c) (copy ∷ more)
-    → AllByRecursion IsArchived (copy ∷ more)
-all_archived log f copies copy older [] valid are stands follow whole of_vault =
-    (archived log f copies copy older valid are of_vault.0 stands whole.0, tt)
-all_archived log f copies copy older (next ∷ more) valid are stands follow whole of_vault =
+    → AllByRecursion (IsStable f) (copy ∷ more)
+all_stable log f copies copy older [] valid are stands follow whole of_vault =
+    (stable log f copies copy older valid are of_vault.0 stands whole.0, tt)
+all_stable log f copies copy older (next ∷ more) valid are stands follow whole of_vault =
     let stands' : StandsOn copies next.kind (copy ∷ older) =
     subst (λ kind. StandsOn copies kind (copy ∷ older)) (sym follow.0.parent) (of_vault.0, stands) in (
-      archived log f copies copy older valid are of_vault.0 stands whole.0,
-      all_archived log f copies next (copy ∷ older) more valid are stands' follow.1 whole.1 of_vault.1,
+      stable log f copies copy older valid are of_vault.0 stands whole.0,
+      all_stable log f copies next (copy ∷ older) more valid are stands' follow.1 whole.1 of_vault.1,
     )
 
-archived_members : (log : Log) (f : ℕ) (copies : List CopyState) (id : ℕ) (members : List CopyView) → IsLog log
-    → AreRestorable log f copies → IsChain members → IsChainOf copies id members → AllByRecursion IsArchived members
-archived_members log f copies id members valid are chain of_id =
+stable_members : (log : Log) (f : ℕ) (copies : List CopyState) (id : ℕ) (members : List CopyView) → IsLog log
+    → AreRestorable log f copies → IsChain members → IsChainOf copies id members
+    → AllByRecursion (IsStable f) members
+stable_members log f copies id members valid are chain of_id =
     let whole = subst (AllByRecursion (λ c. IsComplete c.kind c.pages)) chain.is chain.complete in
     let of_vault = subst (AllByRecursion (λ c. state_of copies c.id ≡ complete c)) chain.is of_id.of_vault in
     let stands : StandsOn copies chain.first.kind [] =
     subst (λ kind. StandsOn copies kind []) (sym chain.full) refl in
-    subst (AllByRecursion IsArchived) (sym chain.is)
-    (all_archived log f copies chain.first [] chain.more valid are stands chain.linked whole of_vault)
+    subst (AllByRecursion (IsStable f)) (sym chain.is)
+    (all_stable log f copies chain.first [] chain.more valid are stands chain.linked whole of_vault)
+
+all_weaker : {X : Type 0} (P Q : X → Type 0) (xs : List X) → ((x : X) → P x → Q x) → AllByRecursion P xs
+    → AllByRecursion Q xs
+all_weaker P Q [] weaker all = tt
+all_weaker P Q (x ∷ xs) weaker all = (weaker x all.0, all_weaker P Q xs weaker all.1)
 
 -- ---- the archives
 
@@ -177,14 +199,47 @@ spell_copies : (copies : List CopyView) → AllByRecursion IsArchived copies
 spell_copies [] all = tt
 spell_copies (copy ∷ copies) all = (record { valid = all.0; spelled = refl }, spell_copies copies all.1)
 
+left_stable : (log : Log) (master : Master) (copies : List CopyView) → (left : AreLeft log master copies)
+    → AllByRecursion (IsStable left.it.forced_end) copies
+left_stable log master copies left =
+    stable_members left.it.log left.it.forced_end left.it.copies left.id copies left.retired.valid
+    left.retired.copies left.chain left.of_id
+
 pub left_archived : (log : Log) (master : Master) (copies : List CopyView) → AreLeft log master copies
     → AllByRecursion IsArchived copies
 left_archived log master copies left =
-    archived_members left.it.log left.it.forced_end left.it.copies left.id copies left.retired.valid
-    left.retired.copies left.chain left.of_id
+    all_weaker (IsStable left.it.forced_end) IsArchived copies (λ c is. is.archived)
+    (left_stable log master copies left)
+
+-- what is left has all that is forced
+forced_within : (log : Log) (master : Master) (copies : List CopyView) → (left : AreLeft log master copies)
+    → left.it.forced_end ≤ end_of log
+forced_within log master copies left =
+    let kept = left.kept in
+    omega (
+      arith,
+      kept.forced,
+      ap (λ (k : Log). length k.records) kept.made,
+      length-take-le kept.count left.it.log.records kept.within,
+    )
+
+-- so no copy reaches past its end
+left_within : (log : Log) (master : Master) (copies : List CopyView) → AreLeft log master copies
+    → AreWithinLog (end_of log) copies
+left_within log master copies left =
+    let f = left.it.forced_end in
+    let high = forced_within log master copies left in
+    let all = left_stable log master copies left in
+    record {
+      points = all_weaker (IsStable f) (λ (c : CopyView). c.redo < end_of log) copies
+          (λ c is. let low = is.early in omega arith) all;
+      below = all_weaker (IsStable f) (λ (c : CopyView). AreBelow (end_of log) (taken_pages c.pages)) copies
+          (λ c is. all_weaker (λ (page : Page). page.lsn < f) (λ (page : Page). page.lsn < end_of log)
+          (taken_pages c.pages) (λ page lt. omega arith) is.below) all;
+    }
 
 of_archives : (log : Log) (master : Master) (copies : List CopyView) → AreLeft log master copies
-    → AreOfArchives (map (λ (copy : CopyView). Some (archive_bytes copy)) copies) log.pages copies
+    → AreOfArchives (map (λ (copy : CopyView). Some (archive_bytes copy)) copies) log copies
 of_archives log master copies left =
     let chain = left.chain in
     let of_vault =
@@ -198,6 +253,19 @@ of_archives log master copies left =
         record { same_kind = chain.full; same_count = count },
         fit_more log.pages chain.first chain.more count chain.linked,
       );
+      within = left_within log master copies left;
+    }
+
+-- the copies are a chain that is right
+pub right_of : (log : Log) (master : Master) (copies : List CopyView) → AreLeft log master copies
+    → IsRightChain log.pages (end_of log) copies
+right_of log master copies left =
+    let of = of_archives log master copies left in
+    record {
+      some = some_members copies left.chain;
+      fit = of.fit;
+      archived = left_archived log master copies left;
+      within = of.within;
     }
 
 pub parts_of : (log : Log) (master : Master) (copies : List CopyView) → AreLeft log master copies

@@ -50,7 +50,7 @@ pub record HasParts (files : Files) (log : Log) (master : Master) (copies : List
     : Type 0 where
   pub of_log : IsOfLog files.log log
   pub of_master : IsOfMaster files.master log.records master
-  pub of_archives : AreOfArchives files.archives log.pages copies
+  pub of_archives : AreOfArchives files.archives log copies
   pub chain : IsChain copies
 
 -- ---- what is made of it
@@ -117,7 +117,7 @@ pub data Refused (files : Files) (fault : RestoreFault) : Type 0 where
       → MasterRefused files.master log.records fault → Refused files fault
   of_the_archives : (log : Log) (master : Master) → IsOfLog files.log log
       → IsOfMaster files.master log.records master
-      → ArchivesRefused files.archives log.pages fault → Refused files fault
+      → ArchivesRefused files.archives log fault → Refused files fault
   of_undo : (log : Log) (master : Master) (copies : List CopyView)
       → HasParts files log master copies → fault ≡ LogFull
       → MAX_RECORDS < most_records log → Refused files fault

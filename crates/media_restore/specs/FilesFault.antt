@@ -4,8 +4,8 @@ use Rattle.page_core.specs.FaultName.{fault_line, fault_line_with}
 use Rattle.page_core.specs.declared.fault_name.FaultName.TheVariants as name
 use Rattle.log_store.specs.declared.fault.LogReadFault.{LogReadFault}
 use Rattle.log_store.specs.declared.fault.LogReadFault.TheVariants as log
-use Rattle.copy_vault.specs.declared.archive_fault.ArchiveFault.{ArchiveFault}
-use Rattle.copy_vault.specs.declared.archive_fault.ArchiveFault.TheVariants as archive
+use Rattle.copy_vault.specs.declared.chain_read_fault.ChainReadFault.{ChainReadFault}
+use Rattle.copy_vault.specs.declared.chain_read_fault.ChainReadFault.TheVariants as chain
 use Rattle.loser_undo.specs.declared.fault.UndoFault.{UndoFault}
 use Rattle.loser_undo.specs.declared.fault.UndoFault.TheVariants as undo
 use Rattle.media_restore.specs.declared.files_fault.RestoreFault.{RestoreFault}
@@ -16,6 +16,8 @@ use Rattle.media_restore.specs.declared.files_fault.RestoreFault.TheVariants.{Re
 use Rattle.media_restore.specs.declared.files_fault.RestoreFault.TheVariants.{BadChain, BadArchive}
 use Rattle.media_restore.specs.declared.files_fault.RestoreFault.TheVariants.{ChainBroken}
 use Rattle.media_restore.specs.declared.files_fault.RestoreFault.TheVariants.{CountDiffers}
+use Rattle.media_restore.specs.declared.files_fault.RestoreFault.TheVariants.{RedoBeyondLog}
+use Rattle.media_restore.specs.declared.files_fault.RestoreFault.TheVariants.{PageBeyondLog}
 
 -- a fault of reading a log, as a restore reports it
 abbrev pub of_log : LogReadFault → RestoreFault
@@ -27,12 +29,15 @@ of_log (log.Torn at) = Torn at
 of_log log.ReadFault = ReadFault
 of_log log.TooLong = TooLong
 
--- and one of reading an archive
-abbrev pub of_archive : ArchiveFault → RestoreFault
-of_archive archive.OutOfMemory = OutOfMemory
-of_archive (archive.BadArchive at) = BadArchive at
-of_archive archive.CountDiffers = CountDiffers
-of_archive archive.ReadFault = ReadFault
+-- and one of reading the archives of a chain
+abbrev pub of_chain : ChainReadFault → RestoreFault
+of_chain chain.OutOfMemory = OutOfMemory
+of_chain (chain.BadArchive at) = BadArchive at
+of_chain (chain.ChainBroken copy) = ChainBroken copy
+of_chain chain.CountDiffers = CountDiffers
+of_chain chain.ReadFault = ReadFault
+of_chain chain.RedoBeyondLog = RedoBeyondLog
+of_chain (chain.PageBeyondLog page) = PageBeyondLog page
 
 -- and one of undo
 abbrev pub of_undo : UndoFault → RestoreFault
@@ -53,3 +58,5 @@ line_of (BadChain at) = fault_line_with name.BadChain at
 line_of (BadArchive at) = fault_line_with name.BadArchive at
 line_of (ChainBroken copy) = fault_line_with name.ChainBroken copy
 line_of CountDiffers = fault_line name.CountDiffers
+line_of RedoBeyondLog = fault_line name.RedoBeyondLog
+line_of (PageBeyondLog page) = fault_line_with name.PageBeyondLog page

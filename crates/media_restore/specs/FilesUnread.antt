@@ -1,6 +1,6 @@
 -- Where a reader of files failed: what it gave until then holds no fault, and all that was read
 -- before it is right.
-use Rattle.std.specs.Prelude.{ℕ, ◌≡◌, ◌<◌, ◌⊎◌, List, [], ◌∷◌, ◌++◌, length, Option}
+use Rattle.std.specs.Prelude.{ℕ, ◌<◌, ◌⊎◌, List, [], length, Option}
 use Rattle.std.specs.Io.KnownBytes.{Consumes}
 use Rattle.log_records.specs.Log.{Log}
 use Rattle.log_store.specs.declared.fault.LogReadFault.TheVariants as log
@@ -8,11 +8,10 @@ use Rattle.log_store.specs.declared.master.Master.{Master}
 use Rattle.log_store.specs.declared.master.TheConstants.{MASTER_BYTES}
 use Rattle.log_store.specs.Fault as of_log
 use Rattle.log_store.specs.Master.{SpellsMaster}
-use Rattle.copy_vault.specs.declared.archive_fault.ArchiveFault.TheVariants as archive
-use Rattle.copy_vault.specs.ArchiveFault as of_archive
-use Rattle.copy_vault.specs.Copy.{CopyView}
+use Rattle.copy_vault.specs.declared.chain_read_fault.ChainReadFault.TheVariants as chain
+use Rattle.copy_vault.specs.ChainReading.{AreNoChain}
 use Rattle.media_restore.specs.Files.{Files, IsOfLog, IsOfMaster}
-use Rattle.media_restore.specs.FilesArchives.{AreOfArchives}
+use Rattle.media_restore.specs.FilesArchives.{end_of}
 
 -- these bytes may still come to be a master record, or are one
 abbrev pub MayBeMaster : List ℕ → Type 0
@@ -26,24 +25,9 @@ FailedInLog old new = of_log.GaveNoFault [] old new log.ReadFault
 abbrev pub FailedInMaster : Option (List ℕ) → Option (List ℕ) → Type 0
 FailedInMaster old new = (given : List ℕ) × (Consumes old new given × MayBeMaster given)
 
--- that of an archive
-abbrev pub FailedInArchive : Option (List ℕ) → Option (List ℕ) → Type 0
-FailedInArchive old new = of_archive.GaveNoFault [] old new archive.ReadFault
-
--- that of one of these archives: those before it spell copies that fit, and those behind it are not
--- read
-pub record FailedInArchives (old new : List (Option (List ℕ))) (pages : ℕ) : Type 0 where
-  pub before : List (Option (List ℕ))
-  pub this : Option (List ℕ)
-  pub behind : List (Option (List ℕ))
-  pub is : old ≡ before ++ this ∷ behind
-  pub copies : List CopyView
-  pub fit : AreOfArchives before pages copies
-  pub read : List (Option (List ℕ))
-  pub left : Option (List ℕ)
-  pub is_now : new ≡ read ++ left ∷ behind
-  pub as_many : length read ≡ length before
-  pub gave : FailedInArchive this left
+-- that of one of these archives
+abbrev pub FailedInArchives : List (Option (List ℕ)) → List (Option (List ℕ)) → Log → Type 0
+FailedInArchives old new log = AreNoChain log.pages (end_of log) old new chain.ReadFault
 
 -- that of one of the files: each one only where all that comes before it is right
 pub data FailedUnread (old new : Files) : Type 0 where
@@ -52,4 +36,4 @@ pub data FailedUnread (old new : Files) : Type 0 where
       → FailedUnread old new
   in_an_archive : (log : Log) (master : Master) → IsOfLog old.log log
       → IsOfMaster old.master log.records master
-      → FailedInArchives old.archives new.archives log.pages → FailedUnread old new
+      → FailedInArchives old.archives new.archives log → FailedUnread old new

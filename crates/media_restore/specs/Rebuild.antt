@@ -79,7 +79,7 @@ pub record IsRebuilt (pages : ℕ) (events : List Event) (copy cut : ℕ)
     (replies : List (Result Answer Refusal)) (outcome : Result Recovery Refused)
     (e : EngineState) : Type 0 where
   -- the replies are those of a run
-  pub run : Run (new_state pages) events replies e
+  pub run : Run (new_state pages e.frames) events replies e
   -- the log shows the calls that were accepted, and no others
   pub work : work e.log ≡ accepted events replies
   -- whatever a crash leaves of the log has the record of each commit that was answered

@@ -1,7 +1,7 @@
 //! Restores a volume from files: a log, its master record and the archives of a chain.
 
 ghost use Rattle.std.specs.Prelude.{◌≡◌, ◌<◌, ◌≤◌, ◌⊎◌, map, Err, IfOk, IfErr, OnOk};
-ghost use Rattle.log_history.specs.Table.{table_of};
+ghost use Rattle.log_history.specs.Checkpoint.{IsCompleteCheckpoint};
 ghost use Rattle.log_records.specs.Coverage.{resume};
 ghost use Rattle.log_records.specs.Image.{image_from, redo_all};
 ghost use Rattle.log_records.specs.declared.limits.TheConstants.{MAX_RECORDS};
@@ -12,16 +12,16 @@ ghost use Rattle.media_restore.specs.FilesUnread.{FailedUnread};
 ghost use Rattle.media_restore.specs.declared.files_fault.RestoreFault.TheVariants.{LogFull};
 ghost use Rattle.media_restore.specs.declared.files_fault.RestoreFault.TheVariants.{OutOfMemory};
 
-use crate::files_archives::read_chain;
 use crate::files_fault::RestoreFault;
 use crate::files_master::read_master;
 use crate::volume_output::write_volume;
-use log_store::{LogImage, Master, read_log_with_open};
+use copy_vault::read_chain_pages;
+use log_store::{LogImage, Master, read_log};
 use loser_undo::{Redone, Undone, undo_all};
 use page_core::{Lsn, PAGE_BYTES, Page, zeros};
 use std::alloc::Global;
 use std::io::{Read, Write};
-use txn_table::TxnTable;
+use std::thread::Threads;
 
 /// How many pages are written at once.
 const BUFFER_PAGES: usize = 512;
@@ -32,16 +32,18 @@ const BUFFER_PAGES: usize = 512;
 /// open at the log's end.
 ///
 /// It does so whoever wrote the files, and whatever their copies lack. Where these lack no change
-/// below that redo point, the volume is that of the log after undo, and has what was committed.
+/// below that redo point, the volume is that of the log after undo, and has what was committed. The
+/// archives are read side by side, so that beside the volume just one page of each is kept.
 ///
 /// The faults of the log come first, those of `read_log`; then those of the master record:
 /// `BadHeader` where its bytes spell none, `BadChain` where it names no complete checkpoint of the
-/// log; then those of each archive, `ChainBroken` behind those of `read_archive`; then `LogFull`,
-/// and `OutOfMemory` where memory is refused. Until then nothing is written. `WriteFault` comes
-/// where the writer fails, takes nothing, or is interrupted 17 times in a row. The writer is not
-/// flushed. `ReadFault` comes where a reader fails or does not come to an end, and what it gave
+/// log; then those of the archives, in the order in which `read_chain_pages` meets them; then
+/// `LogFull`, and `OutOfMemory` where memory is refused. Until then nothing is written. `WriteFault`
+/// comes where the writer fails, takes nothing, or is interrupted 17 times in a row. The writer is
+/// not flushed. `ReadFault` comes where a reader fails or does not come to an end, and what it gave
 /// holds no fault.
 pub fn restore_files<L: Read, M: Read, A: Read, W: Write>(
+    rt: &(impl Threads + Sync),
     alloc: Global,
     log: &mut L,
     master: &mut M,
@@ -77,7 +79,7 @@ pub fn restore_files<L: Read, M: Read, A: Read, W: Write>(
           archives = map (λ a. A.remaining a) archives.new;
         }) }
 {
-    let undone = restored(alloc, log, master, archives)?;
+    let undone = restored(rt, alloc, log, master, archives)?;
     let mut buffer = zeros(alloc, BUFFER_PAGES * PAGE_BYTES)?;
     match write_volume(writer, undone.pages(), &mut buffer) {
         Ok(()) => Ok(()),
@@ -87,6 +89,7 @@ pub fn restore_files<L: Read, M: Read, A: Read, W: Write>(
 
 /// Reads the files, and makes the pages of the volume.
 fn restored<L: Read, M: Read, A: Read>(
+    rt: &(impl Threads + Sync),
     alloc: Global,
     log: &mut L,
     master: &mut M,
@@ -117,22 +120,23 @@ fn restored<L: Read, M: Read, A: Read>(
           archives = map (λ a. A.remaining a) archives.new;
         }) }
 {
-    let (image, losers) = read_log_with_open(alloc, log)?;
+    let image = read_log(alloc, log)?;
     let named = read_master(master, image.records())?;
-    let (pages, redo) = read_chain(alloc, archives, image.pages())?;
-    recovered(image, TxnTable::from(losers), named, pages, redo)
+    let (pages, redo) = read_chain_pages(alloc, archives, image.pages(), image.end())?;
+    recovered(rt, alloc, image, named, pages, redo)
 }
 
 /// Redoes a log from a redo point on, and undoes the transactions that are open at its end.
 fn recovered(
+    rt: &(impl Threads + Sync),
+    alloc: Global,
     log: LogImage,
-    losers: TxnTable,
     master: Master,
     pages: Vec<Page>,
     redo: Lsn,
 ) -> Result<Undone, RestoreFault>
     requires recovery { IsRecovery (record { log = log; master = master; pages = pages.items }) }
-    requires losers { losers ≡ table_of log.records }
+    requires complete { IsCompleteCheckpoint log.records master.begin master.end }
     ensures made { IfOk result (λ it. it.pages ≡ map (λ page. image_from page (appended log))
         (map (λ page. resume page log.records redo) pages.items)) }
     ensures room { OnOk result (most_records log ≤ MAX_RECORDS) }
@@ -142,8 +146,11 @@ fn recovered(
     ensures err { IfErr result (λ fault. (fault ≡ OutOfMemory)
         ⊎ ((fault ≡ LogFull) × (MAX_RECORDS < most_records log))) }
 {
-    let mut redone = Redone::with_losers(log, master, pages, losers);
-    redone.redo_from(redo);
+    let mut redone = match Redone::new(alloc, log, master, pages) {
+        Ok(redone) => redone,
+        Err(_) => return Err(RestoreFault::OutOfMemory),
+    };
+    redone.redo_from(rt, alloc, redo);
     match undo_all(redone) {
         Ok(undone) => Ok(undone),
         Err((_, fault)) => Err(RestoreFault::from(fault)),

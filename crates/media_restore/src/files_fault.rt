@@ -1,13 +1,13 @@
 //! The reasons why a volume is not restored from files.
 
 ghost use Rattle.std.specs.Prelude.{◌≡◌};
-ghost use Rattle.media_restore.specs.FilesFault.{of_archive, of_log, of_undo};
+ghost use Rattle.media_restore.specs.FilesFault.{of_chain, of_log, of_undo};
 ghost use Rattle.media_restore.specs.declared.files_fault.RestoreFault.TheVariants.{OutOfMemory};
 
-use copy_vault::{ArchiveFault, CopyId};
+use copy_vault::{ChainReadFault, CopyId};
 use log_store::LogReadFault;
 use loser_undo::UndoFault;
-use page_core::{FaultName, Lsn};
+use page_core::{FaultName, Lsn, PageNo};
 use std::alloc::{AllocError, AllocFailed};
 use std::error::Error;
 use std::fmt;
@@ -43,6 +43,10 @@ pub enum RestoreFault {
     ChainBroken(CopyId),
     /// Fewer or more pages follow in an archive than its header says.
     CountDiffers,
+    /// The redo point of an archive is at or past the log's end.
+    RedoBeyondLog,
+    /// This page of an archive has an LSN at or past the log's end.
+    PageBeyondLog(PageNo),
 }
 
 impl fmt::Display for RestoreFault {
@@ -77,6 +81,11 @@ impl fmt::Display for RestoreFault {
                 write!(f, "{} {copy}", FaultName::ChainBroken)
             }
             RestoreFault::CountDiffers => write!(f, "{}", FaultName::CountDiffers),
+            RestoreFault::RedoBeyondLog => write!(f, "{}", FaultName::RedoBeyondLog),
+            RestoreFault::PageBeyondLog(page) => {
+                let page = page.0;
+                write!(f, "{} {page}", FaultName::PageBeyondLog)
+            }
         }
     }
 }
@@ -115,15 +124,18 @@ impl From<LogReadFault> for RestoreFault {
     }
 }
 
-impl From<ArchiveFault> for RestoreFault {
-    ghost from_gives = { λ why e. e ≡ of_archive why };
+impl From<ChainReadFault> for RestoreFault {
+    ghost from_gives = { λ why e. e ≡ of_chain why };
 
-    fn from(why: ArchiveFault) -> RestoreFault {
+    fn from(why: ChainReadFault) -> RestoreFault {
         match why {
-            ArchiveFault::OutOfMemory => RestoreFault::OutOfMemory,
-            ArchiveFault::BadArchive(at) => RestoreFault::BadArchive(at),
-            ArchiveFault::CountDiffers => RestoreFault::CountDiffers,
-            ArchiveFault::ReadFault => RestoreFault::ReadFault,
+            ChainReadFault::OutOfMemory => RestoreFault::OutOfMemory,
+            ChainReadFault::BadArchive(at) => RestoreFault::BadArchive(at),
+            ChainReadFault::ChainBroken(copy) => RestoreFault::ChainBroken(copy),
+            ChainReadFault::CountDiffers => RestoreFault::CountDiffers,
+            ChainReadFault::ReadFault => RestoreFault::ReadFault,
+            ChainReadFault::RedoBeyondLog => RestoreFault::RedoBeyondLog,
+            ChainReadFault::PageBeyondLog(page) => RestoreFault::PageBeyondLog(page),
         }
     }
 }

@@ -1,11 +1,11 @@
 //! Media recovery: rebuilds a volume from image copies and the log (ARIES, section 8).
 #![tactic(auto)]
 
+mod audit_laws;
 mod copied;
 mod copy_load;
 mod fault;
 mod files;
-mod files_archives;
 mod files_fault;
 mod files_master;
 mod loaded;
@@ -14,6 +14,10 @@ mod rebuilt;
 mod saved_laws;
 mod volume_output;
 
+pub use audit_laws::{
+    a_part_of_an_audited_chain_is_audited, an_audited_chain_restores_the_log,
+    an_unsound_chain_is_not_audited,
+};
 pub use copy_load::load;
 pub use fault::{LoadFault, RedoFault, Refused};
 pub use files::restore_files;

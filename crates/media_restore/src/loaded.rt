@@ -11,6 +11,7 @@ use loser_undo::Redone;
 use page_core::{Lsn, Page};
 use std::alloc::Global;
 use std::marker::Model;
+use std::thread::Threads;
 
 /// A loaded copy: the kept log, its last complete checkpoint, the pages of the copy's chain, and
 /// the LSN from which the log is to be redone on them. The type does not say that these pages lack
@@ -96,10 +97,15 @@ impl Loaded {
         self.redo
     }
 
-    /// Redoes the log from the redo point on: on each page the records that are above its LSN. The
-    /// memory for the table of the open transactions is asked for first. An `Err` comes where it is
-    /// refused, and gives all back as it was.
-    pub fn redo(self, alloc: Global) -> Result<Redone, (Loaded, RedoFault)>
+    /// Redoes the log from the redo point on: on each page the records that are above its LSN, in
+    /// threads where these are many. The memory for the table of the open transactions is asked for
+    /// first. An `Err` comes where it is refused, and gives all back as it was. Redo itself refuses
+    /// nothing: without memory for its lists, or without threads, the calling thread does it all.
+    pub fn redo(
+        self,
+        rt: &(impl Threads + Sync),
+        alloc: Global,
+    ) -> Result<Redone, (Loaded, RedoFault)>
         ensures log { IfOk result (λ it. it.log ≡ self.log) }
         ensures master { IfOk result (λ it. it.master ≡ self.master) }
         ensures pages { IfOk result (λ it. it.pages
@@ -115,7 +121,7 @@ impl Loaded {
         let Master { begin, end } = master;
         let (log, pages) = match Redone::new(alloc, log, master, pages) {
             Ok(mut redone) => {
-                redone.redo_from(redo);
+                redone.redo_from(rt, alloc, redo);
                 return Ok(redone);
             }
             Err(given_back) => given_back,

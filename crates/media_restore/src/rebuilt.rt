@@ -10,6 +10,7 @@ ghost use Rattle.aries_core.specs.EngineState.{EngineState, EngineView};
 ghost use Rattle.aries_core.specs.Step.{IsByDevice, IsFaultReply};
 ghost use Rattle.aries_core.specs.Storage.{FailsAtHeader, PlaysOn};
 ghost use Rattle.page_core.specs.Volume.{formatted_pages};
+ghost use Rattle.buffer_pool.specs.Pool.{IsFrameCount};
 ghost use Rattle.media_restore.specs.Load.{kept_log, load_refusal};
 ghost use Rattle.media_restore.specs.Rebuild.{IsRebuilt, IsRestored, RestoreRefuses};
 
@@ -22,6 +23,7 @@ use log_store::LogDevice;
 use loser_undo::{Redone, Undone, undo_all};
 use page_store::PageStore;
 use std::alloc::Global;
+use std::thread::Threads;
 
 /// The result of playing a list of events, and of the restore after it.
 #[derive(Drop)]
@@ -38,6 +40,7 @@ pub struct Rebuilt {
 ///
 /// A fault comes before the first event, as that of `play`. The outcome is as that of `recover`.
 pub fn rebuild<S: PageStore + Drop, D: LogDevice + Drop>(
+    rt: &(impl Threads + Sync),
     alloc: Global,
     setup: Setup,
     store: S,
@@ -47,11 +50,16 @@ pub fn rebuild<S: PageStore + Drop, D: LogDevice + Drop>(
     cut: usize,
 ) -> Result<Rebuilt, PlayFault>
     requires pages { IsPageCount setup.pages }
-    requires frames { setup.pages ≤ setup.frames }
+    requires frames { IsFrameCount setup.frames }
     requires formatted { S.stored store ≡ formatted_pages setup.pages }
 
     ensures rebuilt { IfOk result (λ it. (e : EngineState)
         × IsRebuilt setup.pages events.now copy cut it.replies.items it.outcome e) }
+
+    // Its engine has the frames that were asked for.
+    ensures frames { IfOk result (λ it. (e : EngineState)
+        × (IsRebuilt setup.pages events.now copy cut it.replies.items it.outcome e
+        × (e.frames ≡ setup.frames))) }
 
     // Its calls were calls on the store and the device that were given, as the calls before left
     // them, and each reply tells of a fault of theirs just where there was one in its call.
@@ -77,7 +85,7 @@ pub fn rebuild<S: PageStore + Drop, D: LogDevice + Drop>(
         → D.fails_from device ≤ 64) }
 {
     let Played { replies, engine } = play(alloc, setup, store, device, events)?;
-    let outcome = recover(alloc, engine.retire(), copy, cut);
+    let outcome = recover(rt, alloc, engine.retire(), copy, cut);
     Ok(Rebuilt { replies, outcome })
 }
 
@@ -89,7 +97,13 @@ pub fn rebuild<S: PageStore + Drop, D: LogDevice + Drop>(
 /// Refusals in order: `NoCopy`, `CopyNotComplete`, `CutTooShort`, and then `OutOfMemory` of any of
 /// the three steps. The log is never full: an engine keeps room for all records of undo. What was
 /// retired is dropped at a refusal.
-pub fn recover(alloc: Global, retired: Retired, copy: CopyId, cut: usize) -> Result<Undone, Refused>
+pub fn recover(
+    rt: &(impl Threads + Sync),
+    alloc: Global,
+    retired: Retired,
+    copy: CopyId,
+    cut: usize,
+) -> Result<Undone, Refused>
     ensures master { IfOk result (λ it. retired.master ≡ Some it.master) }
     ensures kept { OnOk result
         (IsKeptOf retired.log retired.forced_end (kept_log retired.log cut)) }
@@ -97,12 +111,18 @@ pub fn recover(alloc: Global, retired: Retired, copy: CopyId, cut: usize) -> Res
     ensures ok { OnOk result (load_refusal retired copy cut ≡ None) }
     ensures err { IfErr result (λ why. RestoreRefuses (load_refusal retired copy cut) why) }
 {
-    let redone = redo_copy(alloc, retired, copy, cut)?;
+    let redone = redo_copy(rt, alloc, retired, copy, cut)?;
     undo(redone)
 }
 
 /// Loads a copy, and redoes the kept log over it: the pages are then those that this log makes.
-fn redo_copy(alloc: Global, retired: Retired, copy: CopyId, cut: usize) -> Result<Redone, Refused>
+fn redo_copy(
+    rt: &(impl Threads + Sync),
+    alloc: Global,
+    retired: Retired,
+    copy: CopyId,
+    cut: usize,
+) -> Result<Redone, Refused>
     ensures log { IfOk result (λ it. it.log ≡ kept_log retired.log cut) }
     ensures master { IfOk result (λ it. retired.master ≡ Some it.master) }
     ensures kept { OnOk result
@@ -116,7 +136,7 @@ fn redo_copy(alloc: Global, retired: Retired, copy: CopyId, cut: usize) -> Resul
         Ok(loaded) => loaded,
         Err((_, fault)) => return Err(Refused::Load(fault)),
     };
-    match loaded.redo(alloc) {
+    match loaded.redo(rt, alloc) {
         Ok(redone) => Ok(redone),
         Err((_, fault)) => Err(Refused::Redo(fault)),
     }

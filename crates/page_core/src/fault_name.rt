@@ -30,9 +30,11 @@ pub enum FaultName {
     PagesLeft,
     StoreFault,
     LogFault,
+    PoolFull,
     TooManyCopies,
     CommitUnsure,
     CutTooShort,
+    Unsettled,
     WriteFault,
     BadHeader,
     BadRecord,
@@ -43,6 +45,9 @@ pub enum FaultName {
     BadArchive,
     ChainBroken,
     CountDiffers,
+    RedoBeyondLog,
+    PageBeyondLog,
+    Unsound,
 }
 
 impl fmt::Display for FaultName {
@@ -88,9 +93,11 @@ impl FaultName {
             FaultName::PagesLeft => "E21 PagesLeft",
             FaultName::StoreFault => "E22 StoreFault",
             FaultName::LogFault => "E23 LogFault",
+            FaultName::PoolFull => "E24 PoolFull",
             FaultName::TooManyCopies => "E25 TooManyCopies",
             FaultName::CommitUnsure => "E26 CommitUnsure",
             FaultName::CutTooShort => "E27 CutTooShort",
+            FaultName::Unsettled => "E28 Unsettled",
             FaultName::WriteFault => "E29 WriteFault",
             FaultName::BadHeader => "E30 BadHeader",
             FaultName::BadRecord => "E31 BadRecord",
@@ -101,6 +108,9 @@ impl FaultName {
             FaultName::BadArchive => "E36 BadArchive",
             FaultName::ChainBroken => "E37 ChainBroken",
             FaultName::CountDiffers => "E38 CountDiffers",
+            FaultName::RedoBeyondLog => "E39 RedoBeyondLog",
+            FaultName::PageBeyondLog => "E40 PageBeyondLog",
+            FaultName::Unsound => "E41 Unsound",
         }
     }
 }

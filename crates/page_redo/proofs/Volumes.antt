@@ -19,7 +19,7 @@ use Rattle.log_records.specs.Image.{image_from, with_record}
 use Rattle.log_records.specs.Log.{AreWithin, IsLog, Log, lsn_of}
 use Rattle.log_records.specs.Record.{change_of, own_lsn}
 use Rattle.log_records.proofs.Images.{changes_or_not, no_change, number-with_record, other_page}
-use Rattle.page_redo.specs.Redo.{is_above, redone_all, redone_by}
+use Rattle.page_redo.specs.Redo.{is_above, redone, redone_all, redone_by}
 
 -- ---- one record
 
@@ -158,9 +158,11 @@ same_above (r ∷ rs) from lsn all =
     ∙ ap (λ (xs : List Record). cond (is_above lsn r) (r ∷ xs) xs)
     (same_above rs from lsn (All-tail (λ r. from ≤ own_lsn r) r rs all))
 
-pub resumed : (log : Log) (from k : ℕ) (page : Page) → IsLog log → 64 * k ≤ from - 1 → from ≤ 64 * (k + 1)
-    → k ≤ length log.records → redone_all page (drop k log.records) ≡ resume page log.records from
-resumed log from k page valid low high le =
+-- redo of the records from a place on is redo from a point that is no later than the first of them
+pub behind_is_resumed : (log : Log) (from k : ℕ) (page : Page) → IsLog log → 64 * k ≤ from - 1
+    → k ≤ length log.records → (k < length log.records → from ≤ 64 * (k + 1))
+    → redone page (drop k log.records) ≡ resume page log.records from
+behind_is_resumed log from k page valid low le high =
     let rs = log.records in
     let lsn = page.lsn in
     let before : All (λ r. own_lsn r < from) (take k rs) = λ i d lt.
@@ -173,13 +175,19 @@ resumed log from k page valid low high le =
     let there : k + i < length rs = omega (arith, length-drop k rs) in
     let is : own_lsn (get_or (drop k rs) i d) ≡ lsn_of (k + i) =
     ap own_lsn (get_or-drop k rs i d) ∙ (valid.records (k + i) d there).lsn in
+    let up = high (omega arith) in
     omega arith in
-    by_own_lsn page (drop k rs) (64 * k) (rises_from log valid k (drop k rs) refl)
-    ∙ ap (image_from page) (sym (same_above (drop k rs) from lsn behind)
+    ap (image_from page) (sym (same_above (drop k rs) from lsn behind)
     ∙ ap (λ (xs : List Record). xs ++ filter (is_resumed from lsn) (drop k rs))
     (sym (none_below (take k rs) from lsn before))
     ∙ sym (filter-append (is_resumed from lsn) (take k rs) (drop k rs))
     ∙ ap (filter (is_resumed from lsn)) (take-append-drop k rs))
+
+pub resumed : (log : Log) (from k : ℕ) (page : Page) → IsLog log → 64 * k ≤ from - 1 → from ≤ 64 * (k + 1)
+    → k ≤ length log.records → redone_all page (drop k log.records) ≡ resume page log.records from
+resumed log from k page valid low high le =
+    by_own_lsn page (drop k log.records) (64 * k) (rises_from log valid k (drop k log.records) refl)
+    ∙ behind_is_resumed log from k page valid low le (λ there. high)
 
 -- ---- all pages, record by record
 

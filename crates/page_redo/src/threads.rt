@@ -9,7 +9,7 @@ ghost use Rattle.page_redo.specs.Redo.{redone};
 
 use crate::page_records::{PageRecords, by_page};
 use crate::redo::is_above;
-use crate::volume::redo_pages;
+use crate::volume::redo_pages_alone;
 use log_records::Record;
 use log_store::LogImage;
 use page_core::{LSN_STEP, Lsn, Page};
@@ -20,12 +20,14 @@ use std::thread::Threads;
 /// So many records are worth the threads: to start these takes as long as some thousand records.
 pub const MANY_RECORDS: usize = 16_384;
 
-/// Redoes the records of a log from a redo point on, as `redo_pages` does, and comes to the same
-/// pages. Where there are many, it lists them by page, and hands each page with its list to as many
-/// threads as there are processors. It never refuses: where memory for the lists is refused, the
-/// calling thread goes over the log by itself, and a thread that cannot be started leaves its pages
-/// to the others.
-pub fn redo_pages_in_threads(
+/// Redoes the records of a log from a redo point on, over the pages of its volume: on each page the
+/// records at or above that point that are above the page's LSN, in their order (ARIES, section
+/// 6.2). Where there are many, it lists them by page, and hands each page with its list to as many
+/// threads as there are processors; a few are redone by the calling thread.
+///
+/// It never refuses: where memory for the lists is refused, the calling thread goes over the log by
+/// itself, and a thread that cannot be started leaves its pages to the others.
+pub fn redo_pages(
     rt: &(impl Threads + Sync),
     alloc: Global,
     pages: &mut [Page],
@@ -45,7 +47,7 @@ pub fn redo_pages_in_threads(
             return;
         }
     }
-    redo_pages(pages, log, from);
+    redo_pages_alone(pages, log, from);
 }
 
 /// Hands each page with the numbers of its records to a thread, which redoes them.

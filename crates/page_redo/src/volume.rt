@@ -1,4 +1,4 @@
-//! Redoes a log on all pages of a volume (ARIES, section 6.2).
+//! Redoes a log on all pages of a volume, in the calling thread alone (ARIES, section 6.2).
 
 ghost use Rattle.std.specs.Prelude.{◌≡◌, length, map};
 ghost use Rattle.log_records.specs.Coverage.{resume};
@@ -14,7 +14,7 @@ use page_core::{LSN_STEP, Lsn, Page};
 /// Redoes the records of a log from a redo point on, over the pages of its volume: on each page the
 /// records at or above that point that are above the page's LSN, in their order. This takes no
 /// memory, and one pass over the records from the redo point on.
-pub fn redo_pages(pages: &mut [Page], log: &LogImage, from: Lsn)
+pub fn redo_pages_alone(pages: &mut [Page], log: &LogImage, from: Lsn)
     requires count { length pages.old ≡ log.now.pages }
     requires numbered { AreNumbered pages.old }
     ensures { pages.new ≡ map (λ page. resume page log.now.records from) pages.old }

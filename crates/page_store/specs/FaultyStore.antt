@@ -1,31 +1,50 @@
 -- A store in memory that fails where it is told to.
-use Rattle.std.specs.Prelude.{ℕ, ◌≡◌, ◌+◌, ◌-◌, ◌⊎◌, Bool, true, false, List, Some, slice_get}
-use Rattle.std.specs.Prelude.{slice_set}
+use Rattle.std.specs.Prelude.{ℕ, ◌≡◌, ◌+◌, ◌-◌, ◌^◌, ◌⊎◌, nat_le, Bool, true, false, List}
+use Rattle.std.specs.Prelude.{Option, None, slice_index_or, if◌then◌else◌, slice_set}
+use Rattle.std.specs.Option.{option_map_or}
 use Rattle.page_core.specs.declared.page.Page.{Page}
 
--- the call that fails is counted from the next one on as 1, and at 0 none is to fail; of each page
--- it is known whether it is damaged
+-- calls are counted, up to the greatest number of 64 bits; the call that fails is counted from the
+-- next one on as 1, and at 0 none is to fail; a write that fails late leaves the new page; of each
+-- page it is known after how many calls it is damaged, if it is to be
 pub record Faulty : Type 0 where
   pub pages : List Page
+  pub calls : ℕ
   pub calls_to_fault : ℕ
-  pub damaged : List Bool
+  pub is_late : Bool
+  pub damaged_from : List (Option ℕ)
   pub failures : ℕ
+
+-- the page is damaged: so many calls were made
+abbrev pub is_damaged : Faulty → ℕ → Bool
+is_damaged it number =
+    option_map_or (λ k. nat_le k it.calls) (slice_index_or it.damaged_from number None) false
 
 -- a read fails: it is the call that is to fail, or the page is damaged
 abbrev pub ReadFails : Faulty → ℕ → Type 0
-ReadFails old number = (old.calls_to_fault ≡ 1) ⊎ (slice_get old.damaged number ≡ Some true)
+ReadFails old number = (old.calls_to_fault ≡ 1) ⊎ (is_damaged old number ≡ true)
 
 -- one call more was counted
 abbrev pub after_call : Faulty → Faulty
-after_call old = record old { calls_to_fault = old.calls_to_fault - 1 }
+after_call old = record old {
+  calls = if nat_le (2 ^ 64 - 1) old.calls then old.calls else old.calls + 1;
+  calls_to_fault = old.calls_to_fault - 1;
+}
 
 -- one failure more was counted
 abbrev pub after_failure : Faulty → Faulty
 after_failure old = record old { failures = old.failures + 1 }
 
--- the page is stored, and not damaged any more
+-- a call that stored the page, which is not damaged any more if it was
 abbrev pub after_write : Faulty → ℕ → Page → Faulty
-after_write old number page = record old {
+after_write old number page = record (after_call old) {
   pages = slice_set old.pages number page;
-  damaged = slice_set old.damaged number false;
+  damaged_from = if is_damaged old number
+      then slice_set old.damaged_from number None else old.damaged_from;
+}
+
+-- a write that fails leaves the old page, or late the new one
+abbrev pub after_failed_write : Faulty → ℕ → Page → Faulty
+after_failed_write old number page = record old {
+  pages = if old.is_late then slice_set old.pages number page else old.pages;
 }

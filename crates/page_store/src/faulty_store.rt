@@ -1,9 +1,11 @@
 //! A store that fails where a test tells it to.
 
-ghost use Rattle.std.specs.Prelude.{◌≡◌, ◌<◌, ◌↔◌, length, replicate, false, true};
-ghost use Rattle.std.specs.Prelude.{slice_get, slice_set, Some, IfOk, IsErr, OnOk, OnErr, IsTrue};
+ghost use Rattle.std.specs.Prelude.{◌≡◌, ◌<◌, ◌↔◌, length, replicate, false};
+ghost use Rattle.std.specs.Prelude.{slice_get, slice_set, None, Some, IfOk, IsErr, OnOk, OnErr};
+ghost use Rattle.std.specs.Prelude.{IsTrue, true};
 ghost use Rattle.page_core.specs.Volume.{AreNumbered};
-ghost use Rattle.page_store.specs.FaultyStore.{ReadFails, after_call, after_failure, after_write};
+ghost use Rattle.page_store.specs.FaultyStore.{ReadFails, after_call, after_failed_write};
+ghost use Rattle.page_store.specs.FaultyStore.{after_failure, after_write, is_damaged};
 
 use crate::mem_store::MemStore;
 use crate::store::{PageStore, StoreFault};
@@ -15,9 +17,13 @@ use std::marker::Model;
 #[derive(Drop)]
 pub struct FaultyStore {
     store: MemStore,
+    /// How many calls were made, up to the greatest number that fits.
+    calls: u64,
     calls_to_fault: u64,
-    /// For each page whether it is damaged.
-    damaged: Vec<bool>,
+    /// Whether a write that is to fail leaves the new page.
+    is_late: bool,
+    /// For each page after how many calls it is damaged.
+    damaged_from: Vec<Option<u64>>,
     failures: Failures,
 }
 
@@ -30,43 +36,81 @@ impl Model for FaultyStore {
 
     ghost view = { λ faulty. record {
       pages = faulty.store;
+      calls = faulty.calls;
       calls_to_fault = faulty.calls_to_fault;
-      damaged = faulty.damaged.items;
+      is_late = faulty.is_late;
+      damaged_from = faulty.damaged_from.items;
       failures = failure_count faulty.failures;
     } };
 
-    ghost invariant = { λ faulty. vec_len faulty.damaged ≡ length faulty.store };
+    ghost invariant = { λ faulty. vec_len faulty.damaged_from ≡ length faulty.store };
 }
 
 impl FaultyStore {
-    /// A store whose `k`-th call of `read` or `write` fails, counted from 1. Each other call goes
-    /// on to `store`. At 0 all of them do. No page is damaged.
+    /// A store whose `k`-th call of `read` or `write` fails, counted from 1. If it is a write, it
+    /// leaves the old page. Each other call goes on to `store`. At 0 all of them do. No page is
+    /// damaged.
     ///
     /// It takes all of its memory here. `AllocError` comes where that is refused.
     pub fn new(alloc: Global, store: MemStore, k: u64) -> Result<FaultyStore, AllocError>
         ensures { IfOk result (λ faulty. faulty ≡ record {
           pages = store;
+          calls = 0;
           calls_to_fault = k;
-          damaged = replicate (length store) false;
+          is_late = false;
+          damaged_from = replicate (length store) None;
           failures = 0;
         }) }
     {
         let count = store.stored().len();
         Ok(FaultyStore {
             store,
+            calls: 0,
             calls_to_fault: k,
-            damaged: vec![in alloc; false; count]?,
+            is_late: false,
+            damaged_from: vec![in alloc; None; count]?,
             failures: Failures::None,
         })
+    }
+
+    /// The same, but if the call that fails is a write, it leaves the new page: the store fails
+    /// late, after the page was written. The page is not mended by that, if it is damaged.
+    pub fn late(alloc: Global, store: MemStore, k: u64) -> Result<FaultyStore, AllocError>
+        ensures { IfOk result (λ faulty. faulty ≡ record {
+          pages = store;
+          calls = 0;
+          calls_to_fault = k;
+          is_late = true;
+          damaged_from = replicate (length store) None;
+          failures = 0;
+        }) }
+    {
+        let mut faulty = FaultyStore::new(alloc, store, k)?;
+        faulty.is_late = true;
+        Ok(faulty)
     }
 
     /// Damages a page: each read of it fails, until a write of it succeeds. It is no call that is
     /// counted, and takes no memory.
     pub fn damage(&mut self, number: PageNo)
         requires { number < length self.old.pages }
-        ensures { self.new ≡ record self.old { damaged = slice_set self.old.damaged number true } }
+        ensures { self.new ≡ record self.old {
+          damaged_from = slice_set self.old.damaged_from number (Some 0);
+        } }
     {
-        self.damaged[number.0 as usize] = true;
+        self.damage_from(number, 0);
+    }
+
+    /// Damages a page once `k` calls of `read` or `write` were made of this store: each read of it
+    /// after them fails, until a write of it after them succeeds. So the `k`-th call does not mend
+    /// it. It is no call that is counted, and takes no memory.
+    pub fn damage_from(&mut self, number: PageNo, k: u64)
+        requires { number < length self.old.pages }
+        ensures { self.new ≡ record self.old {
+          damaged_from = slice_set self.old.damaged_from number (Some k);
+        } }
+    {
+        self.damaged_from[number.0 as usize] = Some(k);
     }
 
     /// The stored pages, in order of their numbers, also those that are damaged.
@@ -76,12 +120,24 @@ impl FaultyStore {
         self.store.stored()
     }
 
+    /// Whether a page is damaged after the calls that were made.
+    fn is_damaged(&self, number: PageNo) -> bool
+        requires { number < length self.now.pages }
+        ensures { result ≡ is_damaged self.now number }
+    {
+        match self.damaged_from[number.0 as usize] {
+            Some(k) => k <= self.calls,
+            None => false,
+        }
+    }
+
     /// Counts a call, and tells whether it is the one that is to fail.
     fn count_call(&mut self) -> bool
         ensures fault { IsTrue result ↔ (self.old.calls_to_fault ≡ 1) }
         ensures counted { self.new ≡ after_call self.old }
     {
         let is_to_fail = self.calls_to_fault == 1;
+        self.calls = self.calls.saturating_add(1);
         self.calls_to_fault = self.calls_to_fault.saturating_sub(1);
         is_to_fail
     }
@@ -92,6 +148,20 @@ impl FaultyStore {
     {
         self.failures.add_one();
         StoreFault
+    }
+
+    /// A write that fails.
+    fn fail_write(&mut self, number: PageNo, page: &Page) -> StoreFault
+        requires there { number < length self.old.pages }
+        requires numbered { page.now.number ≡ number }
+        ensures { self.new ≡ after_failure (after_failed_write self.old number page.now) }
+    {
+        if self.is_late {
+            if let Err(fault) = self.store.write(number, page) {
+                return fault;
+            }
+        }
+        self.fail()
     }
 }
 
@@ -107,8 +177,8 @@ impl PageStore for FaultyStore {
         self.store.pages()
     }
 
-    /// An `Err` comes at the call that is to fail, and where the page is damaged. The call takes
-    /// no memory.
+    /// An `Err` comes at the call that is to fail, and where the page is damaged after the calls
+    /// before this one. The call takes no memory.
     fn read(&mut self, number: PageNo) -> Result<Page, StoreFault>
         requires { number < length self.old.pages }
 
@@ -118,28 +188,33 @@ impl PageStore for FaultyStore {
         ensures ok { OnOk result (self.new ≡ after_call self.old) }
         ensures err { OnErr result (self.new ≡ after_failure (after_call self.old)) }
     {
-        let is_to_fail = self.count_call();
-        if is_to_fail || self.damaged[number.0 as usize] {
+        let is_damaged = self.is_damaged(number);
+        if self.count_call() || is_damaged {
             return Err(self.fail());
         }
         self.store.read(number)
     }
 
-    /// An `Err` comes at the call that is to fail. It leaves the old page. The call takes no
-    /// memory.
+    /// An `Err` comes at the call that is to fail. It leaves the old page, or, in a store that
+    /// fails late, the new one. An `Ok` mends a page that was damaged after the calls before this
+    /// one. The call takes no memory.
     fn write(&mut self, number: PageNo, page: &Page) -> Result<(), StoreFault>
         requires there { number < length self.old.pages }
         requires numbered { page.now.number ≡ number }
 
         ensures fails { IsErr result ↔ (self.old.calls_to_fault ≡ 1) }
-        ensures ok { OnOk result (self.new ≡ after_write (after_call self.old) number page.now) }
-        ensures err { OnErr result (self.new ≡ after_failure (after_call self.old)) }
+        ensures ok { OnOk result (self.new ≡ after_write self.old number page.now) }
+        ensures err { OnErr result (self.new
+            ≡ after_failure (after_failed_write (after_call self.old) number page.now)) }
     {
+        let is_damaged = self.is_damaged(number);
         if self.count_call() {
-            return Err(self.fail());
+            return Err(self.fail_write(number, page));
         }
         self.store.write(number, page)?;
-        self.damaged[number.0 as usize] = false;
+        if is_damaged {
+            self.damaged_from[number.0 as usize] = None;
+        }
         Ok(())
     }
 }

@@ -2,4 +2,12 @@
 #![tactic(auto)]
 
 #[cfg(test)]
+mod faults;
+#[cfg(test)]
+mod gates;
+#[cfg(test)]
 mod sessions;
+#[cfg(test)]
+mod settling;
+#[cfg(test)]
+mod volume;

@@ -2,20 +2,22 @@
 
 ghost use Rattle.std.specs.Prelude.{◌≡◌};
 
-use aries_core::{Refusal, Setup, Undone};
-use engine_run::{OpenGate, Session, Shared, Work};
-use log_store::MemDevice;
-use page_core::{PageNo, SlotNo};
-use page_store::MemStore;
+use crate::volume::{Volume, full_copy, volume};
+use aries_core::{Refusal, Undone};
+use copy_coverage::Retired;
+use copy_vault::{CopyId, CopyKind};
+use engine_run::{OpenGate, Session, Work, settle};
+use fuzzy_ckpt::Point;
+use media_restore::load;
+use page_core::{Page, PageNo, SlotNo, formatted_pages};
+use std::alloc::Global;
 use std::marker::Brand;
 use std::process::Abort;
 use std::sync::Wait;
 use std::sync::ledger::{Blank, Ledger};
 use std::test::Fail;
 use std::thread;
-use std::thread::Threads;
-
-type Volume<G> = Shared<MemStore, MemDevice, G>;
+use std::thread::{Threads, join};
 
 /// Fifty transactions of a session: each adds 1 to a slot that all sessions share, and sets a slot
 /// of its own.
@@ -39,10 +41,28 @@ fn work<G: Ledger>(
     }
 }
 
+/// A full copy by three workers.
+fn copy<G: Ledger + Send + Sync, R: Threads + Wait + Abort + AllocGlobal + Sync>(
+    rt: &R,
+    shared: &Volume<G>,
+) -> Work {
+    shared
+        .copy_with(rt, rt.alloc(), CopyKind::Full, 3, &OpenGate)
+        .expect(rt, "copy")
+}
+
 /// Twenty flush passes.
 fn flush<G: Ledger>(rt: &(impl Wait + Abort), shared: &Volume<G>) {
     for _ in 0..20 {
         shared.flush_pass(rt, &OpenGate).expect(rt, "flush");
+    }
+}
+
+/// Repairs page 7 twenty times from copy 1. A flusher may have begun to write it.
+fn repair<G: Ledger>(rt: &(impl Wait + Abort), shared: &Volume<G>) {
+    for _ in 0..20 {
+        let done = shared.repair(rt, CopyId(1), PageNo(7));
+        assert!(rt; matches!(done, Ok(_) | Err(Refusal::WriteBegun)));
     }
 }
 
@@ -63,30 +83,123 @@ fn take_back<G: Ledger>(rt: &(impl Wait + Abort), shared: &Volume<G>, session: &
 }
 
 /// Takes a checkpoint, before which every page was written.
-fn assert_clean_checkpoint<G: Ledger>(rt: &(impl Wait + Abort), shared: &Volume<G>) {
+fn clean_checkpoint<G: Ledger>(rt: &(impl Wait + Abort), shared: &Volume<G>) -> Work {
     match shared.checkpoint(rt, &OpenGate) {
-        Ok(Work::Pointed(point)) => assert_eq!(rt; point.redo, point.begin),
+        Ok(Work::Pointed(Point { begin, end, redo })) => {
+            assert_eq!(rt; redo, begin);
+            Work::Pointed(Point { begin, end, redo })
+        }
         _ => panic!(rt; "no checkpoint"),
     }
 }
 
-/// Four sessions work at the same time, beside a flusher.
+/// Four sessions work at the same time, beside a flusher and a copy by three workers, and beside
+/// repairs of a page where there is an earlier copy.
+fn work_together<G: Ledger + Send + Sync, R: Threads + Wait + Abort + AllocGlobal + Sync>(
+    rt: &R,
+    shared: &Volume<G>,
+    workers: &mut [Session<G>],
+    has_copy: bool,
+) -> Work {
+    let (_, copied) = join(
+        rt,
+        || {
+            thread::for_each_mut(
+                rt,
+                workers,
+                5,
+                &|i, worker| {
+                    if i < 4 {
+                        work(rt, shared, worker, PageNo(i as u32));
+                    } else {
+                        flush(rt, shared);
+                    }
+                },
+            )
+        },
+        || {
+            let (copied, _) = join(
+                rt,
+                || copy(rt, shared),
+                || {
+                    if has_copy {
+                        repair(rt, shared);
+                    }
+                },
+            );
+            copied
+        },
+    );
+    copied
+}
+
+/// What the fifth session does once the others have ended, and one flush pass more.
+fn end_the_day<G: Ledger>(
+    rt: &(impl Wait + Abort),
+    shared: &Volume<G>,
+    workers: &mut [Session<G>],
+) {
+    let Some(fifth) = workers.last_mut() else {
+        panic!(rt; "five sessions");
+    };
+    assert_eq!(rt; fifth.read(rt, shared, PageNo(7), SlotNo(0)), Ok(200));
+    take_back(rt, shared, fifth);
+    shared.flush_pass(rt, &OpenGate).expect(rt, "flush");
+}
+
+/// Asserts that there is this page, with this number in its first slot.
+fn assert_slot(rt: &impl Abort, page: Option<&Page>, number: u64) {
+    let Some(page) = page else {
+        panic!(rt; "a page of the volume");
+    };
+    assert_eq!(rt; page.slots[0], number);
+}
+
+/// Restores the volume from copy 1 and the whole log: each page is as plain redo of the log makes
+/// it, and has the sums of the day.
+fn assert_restored(
+    rt: &(impl Abort + Threads + Sync),
+    alloc: Global,
+    left: Retired,
+) -> Result<(), Fail> {
+    let mut plain = formatted_pages(alloc, 8)?;
+    for record in left.log().records() {
+        for page in plain.iter_mut() {
+            record.redo_on(page);
+        }
+    }
+    let Ok(loaded) = load(alloc, left, CopyId(1), usize::MAX) else {
+        panic!(rt; "the copy is not loaded");
+    };
+    let Ok(redone) = loaded.redo(rt, alloc) else {
+        panic!(rt; "the log is not redone");
+    };
+    let pages = redone.pages();
+    assert_eq!(rt; pages.len(), plain.len());
+    for (page, expected) in pages.iter().zip(&plain) {
+        assert!(rt; page == expected);
+    }
+    for page in pages.iter().take(4) {
+        assert_eq!(rt; page.slots[1], 50);
+    }
+    assert_slot(rt, pages.get(6), 0);
+    assert_slot(rt, pages.get(7), 200);
+    Ok(())
+}
+
+/// A run of five sessions, a flusher, two checkpoints and a copy, which is settled and restored;
+/// or of two copies, of which the first one is there before, and repairs a page.
 fn day<G: Ledger + Send + Sync, R: Threads + Wait + Abort + AllocGlobal + Sync>(
     rt: &R,
     blank: Blank,
+    has_copy: bool,
 ) -> Result<(), Fail>
     requires name { blank.name ≡ G.name }
     requires parts { blank.parts ≡ G.parts }
     requires sessions { blank.parts ≡ 65 }
 {
     let alloc = rt.alloc();
-    let setup = Setup {
-        pages: 8,
-        frames: 8,
-    };
-    let store = MemStore::new(alloc, 8)?;
-    let device = MemDevice::new(alloc, 4096)?;
-    let mut shared = Volume::<G>::new(alloc, blank, setup, store, device).expect(rt, "an engine");
+    let mut shared = volume::<G, R>(rt, blank, 8)?;
     let mut workers = vec![in alloc;
         shared.session(alloc),
         shared.session(alloc),
@@ -95,36 +208,37 @@ fn day<G: Ledger + Send + Sync, R: Threads + Wait + Abort + AllocGlobal + Sync>(
         shared.session(alloc),
     ]?;
     assert_eq!(rt; shared.sessions(), 5);
-    let shared = &shared;
-    assert_clean_checkpoint(rt, shared);
-    thread::for_each_mut(
-        rt,
-        workers.as_mut_slice(),
-        5,
-        &|i, worker| {
-            if i < 4 {
-                work(rt, shared, worker, PageNo(i as u32));
-            } else {
-                flush(rt, shared);
-            }
-        },
-    );
-    let Some(fifth) = workers.last_mut() else {
-        unreachable!();
-    };
-    assert_eq!(rt; fifth.read(rt, shared, PageNo(7), SlotNo(0)), Ok(200));
-    take_back(rt, shared, fifth);
-    shared.flush_pass(rt, &OpenGate).expect(rt, "flush");
-    assert_clean_checkpoint(rt, shared);
+    let first = clean_checkpoint(rt, &shared);
+    if has_copy {
+        assert_eq!(rt; copy(rt, &shared), full_copy(1));
+    }
+    let copied = work_together(rt, &shared, workers.as_mut_slice(), has_copy);
+    assert_eq!(rt; copied, full_copy(if has_copy { 2 } else { 1 }));
+    end_the_day(rt, &shared, workers.as_mut_slice());
+    let last = clean_checkpoint(rt, &shared);
     // Each of 50 transactions was answered five times; the fifth session read, and was answered six
     // times when it took its transaction back.
     for (worker, count) in workers.iter().zip([250usize, 250, 250, 250, 7]) {
         assert_eq!(rt; worker.receipts().len(), count);
     }
-    Ok(())
+    let Ok(left) = settle(alloc, workers, &[first, full_copy(1), last], shared) else {
+        panic!(rt; "the run is not settled");
+    };
+    assert_restored(rt, alloc, left)
 }
 
 #[test]
 fn four_sessions_and_a_flusher_share_an_engine(rt: HostRuntime) -> Result<(), Fail> {
-    day::<Brand, HostRuntime>(&rt, Blank::new(65))
+    for _ in 0..8 {
+        day::<Brand, HostRuntime>(&rt, Blank::new(65), false)?;
+    }
+    Ok(())
+}
+
+#[test]
+fn a_page_is_repaired_beside_sessions(rt: HostRuntime) -> Result<(), Fail> {
+    for _ in 0..8 {
+        day::<Brand, HostRuntime>(&rt, Blank::new(65), true)?;
+    }
+    Ok(())
 }

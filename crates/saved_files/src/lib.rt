@@ -12,6 +12,7 @@ mod save_fault;
 mod save_file;
 mod saved_name;
 mod spelled;
+mod told;
 
 pub use file_fault::FileFault;
 pub use folder::Folder;

@@ -16,4 +16,8 @@ pub trait NamedFiles {
     /// Opens the file of this name, to be read from its first byte on.
     fn open(&self, name: &str) -> io::Result<Self::File>
         ensures { IfOk result (λ file. Self.File.remaining file ≡ bytes self.now name.now) };
+
+    /// Is told that the file at this place is being read, before each read of it: 0 is the log, 1
+    /// the master record, and the archives of the chain follow.
+    fn tell_read(&self, place: usize);
 }

@@ -20,11 +20,11 @@ pub script_of : (input : Option (List ℕ)) (events : List Event) (last : Option
 script_of None events last said text = text
 script_of (Some bytes) events last said text = record { text = text; said = said }
 
-pub not_written : (pages : ℕ) (input old new : Option (List ℕ)) (replies : List (Result Answer Refusal))
-    (left : RetiredView) (last : Option LastRestore) (fault : RunFault) → Plays pages input replies left last
-    → LeavesPart (reply_lines replies) old new fault → RunLeaves pages input old new fault
-not_written pages input old new replies left last OutOfMemory plays leaves = leaves
-not_written pages input old new replies left last (WriteFault done) plays leaves = record {
+pub not_written : (pages frames : ℕ) (input old new : Option (List ℕ)) (replies : List (Result Answer Refusal))
+    (left : RetiredView) (last : Option LastRestore) (fault : RunFault) → Plays pages frames input replies left last
+    → LeavesPart (reply_lines replies) old new fault → RunLeaves pages frames input old new fault
+not_written pages frames input old new replies left last OutOfMemory plays leaves = leaves
+not_written pages frames input old new replies left last (WriteFault done) plays leaves = record {
   replies = replies;
   left = left;
   last = last;
@@ -32,7 +32,7 @@ not_written pages input old new replies left last (WriteFault done) plays leaves
   within = leaves.0;
   written = leaves.1;
 }
-not_written pages input old new replies left last (Script fault) plays leaves = absurd leaves
+not_written pages frames input old new replies left last (Script fault) plays leaves = absurd leaves
 
 -- a fault of writing is none of reading
 pub was_read : (bytes : List ℕ) (old new before after : Option (List ℕ)) (fault : RunFault)

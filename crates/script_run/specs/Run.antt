@@ -30,30 +30,30 @@ pub record IsFaultless (reply : Result Answer Refusal) : Type 0 where
   pub device : ¬ IsFaultReply IsByDevice reply
   pub store : ¬ IsFaultReply IsByStore reply
 
--- a new engine with so many pages plays a script with these replies, of which none tells of a
--- fault, and leaves this, and this restore is left to do
-pub record Plays (pages : ℕ) (input : Option (List ℕ)) (replies : List (Result Answer Refusal))
-    (left : RetiredView) (last : Option LastRestore) : Type 0 where
+-- a new engine with so many pages and frames plays a script with these replies, of which none
+-- tells of a fault, and leaves this, and this restore is left to do
+pub record Plays (pages frames : ℕ) (input : Option (List ℕ))
+    (replies : List (Result Answer Refusal)) (left : RetiredView) (last : Option LastRestore) : Type 0 where
   pub events : List Event
   pub state : EngineState
   pub script : IfSome input (IsScript events last)
-  pub run : Run (new_state pages) events replies state
+  pub run : Run (new_state pages frames) events replies state
   pub faultless : All IsFaultless replies
   pub left_by : IsLeftBy state left
 
 -- and the lines of the replies were written
-pub record Runs (pages : ℕ) (input old new : Option (List ℕ)) (left : RetiredView)
+pub record Runs (pages frames : ℕ) (input old new : Option (List ℕ)) (left : RetiredView)
     (last : Option LastRestore) : Type 0 where
   pub replies : List (Result Answer Refusal)
-  pub plays : Plays pages input replies left last
+  pub plays : Plays pages frames input replies left last
   pub written : Appends old new (reply_lines replies)
 
 -- or the first bytes of these lines, so many but not all
-pub record RunsInPart (pages : ℕ) (input old new : Option (List ℕ)) (done : ℕ) : Type 0 where
+pub record RunsInPart (pages frames : ℕ) (input old new : Option (List ℕ)) (done : ℕ) : Type 0 where
   pub replies : List (Result Answer Refusal)
   pub left : RetiredView
   pub last : Option LastRestore
-  pub plays : Plays pages input replies left last
+  pub plays : Plays pages frames input replies left last
   pub within : done < length (reply_lines replies)
   pub written : Appends old new (take done (reply_lines replies))
 
@@ -66,11 +66,11 @@ LeavesPart bytes old new other = ⊥
 
 -- what stands where a script is not played, or its replies are not written; but for a fault of the
 -- writer nothing was written
-abbrev pub RunLeaves : ℕ → Option (List ℕ) → Option (List ℕ) → Option (List ℕ) → RunFault → Type 0
-RunLeaves pages input old new (Script fault) =
+abbrev pub RunLeaves : ℕ → ℕ → Option (List ℕ) → Option (List ℕ) → Option (List ℕ) → RunFault → Type 0
+RunLeaves pages frames input old new (Script fault) =
     IfSome input (λ input. Refuses input fault) × Keeps old new
-RunLeaves pages input old new OutOfMemory = Keeps old new
-RunLeaves pages input old new (WriteFault done) = RunsInPart pages input old new done
+RunLeaves pages frames input old new OutOfMemory = Keeps old new
+RunLeaves pages frames input old new (WriteFault done) = RunsInPart pages frames input old new done
 
 -- where the reader of the script failed, what it gave until then is not too long
 abbrev pub FailedUnread : Option (List ℕ) → Option (List ℕ) → RunFault → Type 0

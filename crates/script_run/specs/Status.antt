@@ -9,10 +9,13 @@ use Rattle.media_restore.specs.declared.files_fault.RestoreFault.TheVariants as 
 use Rattle.script_run.specs.declared.finish_fault.FinishFault.{FinishFault}
 use Rattle.script_run.specs.declared.finish_fault.FinishFault.TheVariants as finish
 
--- 1 where the log is full or the archives do not follow one another, and 2 at any other fault
+-- 1 where the log is full, the archives do not follow one another, or one of them reaches past the
+-- log's end, and 2 at any other fault
 abbrev pub status_of_restore : RestoreFault → ℕ
 status_of_restore files.LogFull = 1
 status_of_restore (files.ChainBroken copy) = 1
+status_of_restore files.RedoBeyondLog = 1
+status_of_restore (files.PageBeyondLog page) = 1
 status_of_restore fault = 2
 
 -- 1 where the copy or the cut is refused, or the log is full, and 2 where memory was wanting

@@ -18,13 +18,19 @@ use media_restore::{Refused, recover};
 use page_core::write_out;
 use std::alloc::{AllocError, Global};
 use std::io::Write;
+use std::thread::Threads;
 
 /// Runs the last restore of a script, if it has one, and writes a line for each page: its number,
 /// its LSN, and the slots that are not 0. Where the restore is refused, the line of the refusal is
 /// written, and it is answered.
 ///
 /// `OutOfMemory` comes where memory for the lines is refused. The writer is not flushed.
-pub fn finish_script<W: Write>(alloc: Global, ran: Ran, writer: &mut W) -> Result<(), FinishFault>
+pub fn finish_script<W: Write>(
+    rt: &(impl Threads + Sync),
+    alloc: Global,
+    ran: Ran,
+    writer: &mut W,
+) -> Result<(), FinishFault>
     ensures ok { OnOk result (Finishes ran.retired ran.last
         (W.contents writer.old) (W.contents writer.new)) }
     ensures err { IfErr result (FinishLeaves ran.retired ran.last
@@ -32,13 +38,14 @@ pub fn finish_script<W: Write>(alloc: Global, ran: Ran, writer: &mut W) -> Resul
 {
     let Ran { retired, last } = ran;
     match last {
-        Some(last) => restore(alloc, retired, last, writer),
+        Some(last) => restore(rt, alloc, retired, last, writer),
         None => Ok(()),
     }
 }
 
 /// Does a restore, and writes its lines.
 fn restore<W: Write>(
+    rt: &(impl Threads + Sync),
     alloc: Global,
     retired: Retired,
     last: LastRestore,
@@ -49,7 +56,7 @@ fn restore<W: Write>(
     ensures err { IfErr result (RestoreLeaves retired last
         (W.contents writer.old) (W.contents writer.new)) }
 {
-    let outcome = recovered(alloc, retired, last);
+    let outcome = recovered(rt, alloc, retired, last);
     let Ok(text) = lines(alloc, &outcome) else {
         return Err(FinishFault::OutOfMemory);
     };
@@ -63,11 +70,16 @@ fn restore<W: Write>(
 }
 
 /// What comes of a restore.
-fn recovered(alloc: Global, retired: Retired, last: LastRestore) -> Result<Undone, Refused>
+fn recovered(
+    rt: &(impl Threads + Sync),
+    alloc: Global,
+    retired: Retired,
+    last: LastRestore,
+) -> Result<Undone, Refused>
     ensures { IsOutcome retired last result }
 {
     let cut = cut_of(&retired, last.cut);
-    recover(alloc, retired, last.copy, cut)
+    recover(rt, alloc, retired, last.copy, cut)
 }
 
 /// How many records are kept at most.

@@ -1,6 +1,7 @@
 //! Plays events in memory.
 
 ghost use Rattle.std.specs.Prelude.{◌≡◌, ◌≤◌, All, IfOk};
+ghost use Rattle.buffer_pool.specs.Pool.{IsFrameCount};
 ghost use Rattle.log_records.specs.Log.{IsPageCount};
 ghost use Rattle.aries_core.specs.EngineState.{EngineState, new_state};
 ghost use Rattle.aries_core.specs.Run.{Run};
@@ -21,9 +22,9 @@ pub(crate) fn play_in_memory(
     events: &[Event],
 ) -> Result<(Vec<Reply>, Retired), AllocError>
     requires pages { IsPageCount setup.pages }
-    requires frames { setup.pages ≤ setup.frames }
+    requires frames { IsFrameCount setup.frames }
     ensures run { IfOk result (λ it. (e : EngineState)
-        × Run (new_state setup.pages) events.now it.0.items e × IsLeftBy e it.1) }
+        × Run (new_state setup.pages setup.frames) events.now it.0.items e × IsLeftBy e it.1) }
     ensures faultless { IfOk result (λ it. All IsFaultless it.0.items) }
 {
     let store = MemStore::new(alloc, setup.pages)?;

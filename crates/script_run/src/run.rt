@@ -2,6 +2,7 @@
 
 ghost use Rattle.std.specs.Prelude.{◌≡◌, ◌<◌, ◌≤◌, length, take, IfErr, IfOk, OnOk};
 ghost use Rattle.std.specs.Io.KnownBytes.{Appends, Keeps};
+ghost use Rattle.buffer_pool.specs.Pool.{IsFrameCount};
 ghost use Rattle.log_records.specs.Log.{IsPageCount};
 ghost use Rattle.script_run.specs.ReplyLines.{reply_lines};
 ghost use Rattle.script_run.specs.Run.{FailedUnread, LeavesPart, RunLeaves, Runs};
@@ -40,11 +41,11 @@ pub fn run_script<R: Read, W: Write>(
     writer: &mut W,
 ) -> Result<Ran, RunFault>
     requires pages { IsPageCount setup.pages }
-    requires frames { setup.pages ≤ setup.frames }
-    ensures ran { IfOk result (λ ran. Runs setup.pages (R.remaining reader.old)
-        (W.contents writer.old) (W.contents writer.new) ran.retired ran.last) }
-    ensures err { IfErr result (RunLeaves setup.pages (R.remaining reader.old)
-        (W.contents writer.old) (W.contents writer.new)) }
+    requires frames { IsFrameCount setup.frames }
+    ensures ran { IfOk result (λ ran. Runs setup.pages setup.frames
+        (R.remaining reader.old) (W.contents writer.old) (W.contents writer.new) ran.retired ran.last) }
+    ensures err { IfErr result (RunLeaves setup.pages setup.frames
+        (R.remaining reader.old) (W.contents writer.old) (W.contents writer.new)) }
     // Where the reader failed, what it gave until then is not too long.
     ensures unread { IfErr result (FailedUnread (R.remaining reader.old) (R.remaining reader.new)) }
 {

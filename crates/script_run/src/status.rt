@@ -17,7 +17,10 @@ pub fn restore_status(fault: &RestoreFault) -> u8
     ensures { result ≡ status_of_restore fault.now }
 {
     match fault {
-        RestoreFault::LogFull | RestoreFault::ChainBroken(_) => REFUSED_STATUS,
+        RestoreFault::LogFull
+        | RestoreFault::ChainBroken(_)
+        | RestoreFault::RedoBeyondLog
+        | RestoreFault::PageBeyondLog(_) => REFUSED_STATUS,
         _ => FAULT_STATUS,
     }
 }

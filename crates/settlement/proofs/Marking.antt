@@ -18,7 +18,7 @@ pub times-append : (lsn : ℕ) (xs ys : List ℕ) → times lsn (xs ++ ys) ≡ t
 times-append lsn xs ys = sum_by-append (λ x. cond (x == lsn) 1 0) xs ys
 
 -- how often, behind one more
-times_more : (x lsn : ℕ) (lsns : List ℕ)
+pub times_more : (x lsn : ℕ) (lsns : List ℕ)
     → times x (lsns ++ lsn ∷ []) ≡ times x lsns + (if lsn == x then 1 else 0)
 times_more x lsn lsns =
     times-append x lsns (lsn ∷ [])
@@ -66,7 +66,7 @@ marked_times marks lsns i m is =
     m.counted i ∙ ap (λ (b : Bool). if b then 1 else 0) is in
     omega arith
 
-written-append : (xs ys : List Receipt) → written (xs ++ ys) ≡ written xs ++ written ys
+pub written-append : (xs ys : List Receipt) → written (xs ++ ys) ≡ written xs ++ written ys
 written-append xs ys =
     ap (map position) (filter-append (λ x. not (is_read x)) xs ys)
     ∙ map-append position (filter (λ x. not (is_read x)) xs) (filter (λ x. not (is_read x)) ys)

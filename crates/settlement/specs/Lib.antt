@@ -1,4 +1,6 @@
+pub mod Checkpoint
 pub mod Counts
 pub mod Marks
 pub mod Receipt
 pub mod Session
+pub mod Sessions

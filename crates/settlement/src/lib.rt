@@ -1,12 +1,14 @@
 //! Compares what the sessions of a shared engine were answered with its log.
 #![tactic(auto)]
 
+mod checkpoints;
 mod marks;
 mod order;
 mod reads;
 mod receipt;
 mod session_check;
 
+pub use checkpoints::mark_checkpoint;
 pub use marks::mark_records;
 pub use order::check_order;
 pub use reads::check_reads;

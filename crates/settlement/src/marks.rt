@@ -1,6 +1,7 @@
 //! The records that receipts name.
 
-ghost use Rattle.std.specs.Prelude.{ℕ, ◌≡◌, ◌<◌, ◌≤◌, ◌⊎◌, true, false, length, take, IfErr, IfNone};
+ghost use Rattle.std.specs.Prelude.{ℕ, ◌≡◌, ◌<◌, ◌≤◌, ◌⊎◌, true, false, length, take, IfErr};
+ghost use Rattle.std.specs.Prelude.{IfNone};
 ghost use Rattle.std.specs.Prelude.{◌++◌, List};
 ghost use Rattle.std.specs.Prelude.{IfSome, OnErr, OnOk, slice_index_or, slice_set};
 ghost use Rattle.log_records.specs.Log.{lsn_of};
@@ -73,7 +74,7 @@ fn mark(
 }
 
 /// The index of the record at an LSN, if there are so many.
-fn index_of(at: Lsn, count: usize) -> Option<usize>
+pub(crate) fn index_of(at: Lsn, count: usize) -> Option<usize>
     ensures some { IfSome result (λ i. (at ≡ lsn_of i) × (i < count)) }
     ensures none { IfNone result ((i : ℕ) → at ≡ lsn_of i → count ≤ i) }
 {

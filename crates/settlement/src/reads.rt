@@ -1,6 +1,7 @@
 //! The numbers that sessions read.
 
-ghost use Rattle.std.specs.Prelude.{ℕ, ◌≡◌, ◌-◌, ◌<◌, ◌≤◌, ◌/◌, ◌^◌, min, length, take, slice_index_or};
+ghost use Rattle.std.specs.Prelude.{ℕ, ◌≡◌, ◌-◌, ◌<◌, ◌≤◌, ◌/◌, ◌^◌, min, length, take};
+ghost use Rattle.std.specs.Prelude.{slice_index_or};
 ghost use Rattle.std.specs.Prelude.{List, IfErr, IfOk, OnOk};
 ghost use Rattle.std.specs.List.{All};
 ghost use Rattle.page_core.specs.Volume.{AreNumbered, formatted_pages};

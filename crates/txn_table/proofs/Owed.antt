@@ -96,6 +96,15 @@ owed_few rs linked =
     let few : claimed rs ≤ 3 * length rs = subst (λ (xs : List Record). claimed xs ≤ 3 * length rs) whole all in
     omega arith
 
+-- where the table is that of a log, so many are owed
+pub count_is : (held now : Table) (count : ℕ) (rs : List Record) → held ≡ now → IsOwed held count
+    → IsTableOf rs now → count ≡ owed rs
+count_is held now count rs same kept of =
+    let few = owed_few rs of.linked in
+    let short = of.few in
+    let is : owed rs ≡ owed_in held = owed_of_table rs now of ∙ ap owed_in (sym same) in
+    kept (omega (arith, is)) ∙ sym is
+
 -- ---- one step of a table that keeps its sum
 
 pub record Stepped (rs : List Record) (count after : ℕ) (r : Record) : Type 0 where
@@ -110,7 +119,7 @@ table_step held now count rs next r same kept of may is =
     let few = owed_few rs of.linked in
     let short = of.few in
     record {
-      before = kept rs (subst (λ (t : Table). IsTableOf rs t) (sym same) of);
+      before = count_is held now count rs same kept of;
       few = omega arith;
       step = subst (OwedStep rs (owed (rs ++ next ∷ []))) is (owed_step rs next of.linked may);
     }
@@ -118,12 +127,10 @@ table_step held now count rs next r same kept of may is =
 -- what the next record makes of the table is owed what was found
 pub owed_next : (old new : Table) (count : ℕ) (rs : List Record) (next : Record) → IsTableOf rs old
     → MayFollow rs next → count ≡ owed (rs ++ next ∷ []) → new ≡ noted old next → IsOwed new count
-owed_next old new count rs next of may is made rs' of' =
-    let same : owed (rs ++ next ∷ []) ≡ owed_in new =
-    sym (owed_in-table_of (rs ++ next ∷ []))
+owed_next old new count rs next of may is made = λ fits.
+    is ∙ sym (owed_in-table_of (rs ++ next ∷ []))
     ∙ ap owed_in (table_of_push rs next of.linked may
-    ∙ ap (λ (t : Table). noted t next) (sym of.made) ∙ sym made) in
-    is ∙ same ∙ sym (owed_of_table rs' new of')
+    ∙ ap (λ (t : Table). noted t next) (sym of.made) ∙ sym made)
 
 -- ---- what one transaction is owed, by its state in a table
 

@@ -10,12 +10,13 @@ ghost use Rattle.log_history.specs.Transactions.{begun, holder, is_open, last_of
 ghost use Rattle.log_history.specs.Transactions.{owed_by, pending};
 ghost use Rattle.log_history.specs.Table.{entry_of, table_of};
 ghost use Rattle.log_history.specs.TxnState.{state_of};
-ghost use Rattle.txn_table.specs.TxnTable.{IsTableOf, next_open};
+ghost use Rattle.log_history.specs.declared.pending_change.PendingChange.{PendingChange};
+ghost use Rattle.txn_table.specs.TxnTable.{IsAhead, IsTableOf, as_read, next_open, update_of};
 ghost use Rattle.std.specs.Option.{option_map};
 
 use log_history::{OpenTransactions, PendingChange, TxnState};
 use log_records::Record;
-use page_core::{ChangeKind, PageNo, SlotNo, TxnNo};
+use page_core::{ChangeKind, Lsn, PageNo, SlotNo, TxnNo};
 use std::alloc::{AllocError, Global};
 use std::marker::Model;
 
@@ -97,6 +98,58 @@ impl TxnTable {
         self.open.note(next)?;
         self.owed = owed;
         Ok(())
+    }
+
+    /// Notes the Update of a change whose number before it is not known yet, where it is a Set. It
+    /// is to be followed by `settle`, once the number is known, or by `take_back`. These take no
+    /// memory. An `Err` comes where memory is refused, and changes nothing.
+    pub fn note_ahead(&mut self, txn: TxnNo, ahead: PendingChange) -> Result<(), AllocError>
+        requires { (rs : List Record) × (number : ℕ) × (IsTableOf rs self.old
+            × MayFollow rs (update_of txn (as_read ahead number))) }
+        ensures ok { OnOk result ((rs : List Record) (number : ℕ) → IsTableOf rs self.old
+            → MayFollow rs (update_of txn (as_read ahead number))
+            → IsAhead rs txn ahead self.new) }
+        ensures err { OnErr result (self.new ≡ self.old) }
+    {
+        let PendingChange {
+            lsn,
+            prev,
+            page,
+            slot,
+            change,
+        } = ahead;
+        self.open.note(&Record::Update {
+            lsn,
+            txn,
+            prev,
+            page,
+            slot,
+            change,
+        })?;
+        self.owed += 1;
+        Ok(())
+    }
+
+    /// The change that was noted ahead has this number before it, where it is a Set. The table is
+    /// that of the log with its Update.
+    pub fn settle(&mut self, txn: TxnNo, before: u64)
+        requires { (rs : List Record) × (c : PendingChange) × IsAhead rs txn c self.old }
+        ensures { (rs : List Record) (c : PendingChange) → IsAhead rs txn c self.old
+            → MayFollow rs (update_of txn (as_read c before))
+            → self.new ≡ table_of (rs ++ update_of txn (as_read c before) ∷ []) }
+    {
+        self.open.set_before(txn, before);
+    }
+
+    /// The change that was noted ahead does not come. The table is that of the log without it.
+    pub fn take_back(&mut self, txn: TxnNo, prev: Lsn)
+        requires { (rs : List Record) × (c : PendingChange)
+            × (IsAhead rs txn c self.old × (prev ≡ c.prev)) }
+        ensures { (rs : List Record) (c : PendingChange) → IsAhead rs txn c self.old
+            → prev ≡ c.prev → self.new ≡ table_of rs }
+    {
+        self.open.take_back(txn, prev);
+        self.owed -= 1;
     }
 
     /// How many transactions are open.

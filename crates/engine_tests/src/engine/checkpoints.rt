@@ -120,7 +120,7 @@ const POINT: Point = Point {
 
 #[test]
 fn a_page_that_was_not_stored_is_gathered(rt: HostRuntime) {
-    let engine = called_over(&rt, 1, &[NOT_STORED]);
+    let engine = called_over(&rt, 2, &[NOT_STORED]);
     same(&rt, &engine.master(), &Some(POINT));
     drop(engine);
 }

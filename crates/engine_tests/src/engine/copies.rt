@@ -122,7 +122,7 @@ const BEFORE_A_TAKE: &str = "
     full -> copy 1
 ";
 
-/// The first read of the store fails.
+/// The read of the copy fails.
 const NOT_TAKEN: &str = "
     take 1 0 -> E22 StoreFault
     seal 1 -> E21 PagesLeft 0
@@ -149,7 +149,7 @@ fn assert_not_taken(rt: &(impl Abort + AllocGlobal), engine: &mut Engine<FaultyS
 
 #[test]
 fn a_page_is_taken_after_its_store_failed(rt: HostRuntime) {
-    let mut engine = called_over(&rt, 1, &[rows::IDLE, BEFORE_A_TAKE]);
+    let mut engine = called_over(&rt, 2, &[rows::IDLE, BEFORE_A_TAKE]);
     assert_not_taken(&rt, &mut engine);
     drop(engine);
 }
@@ -157,5 +157,5 @@ fn a_page_is_taken_after_its_store_failed(rt: HostRuntime) {
 #[test]
 fn a_page_is_taken_after_its_store_failed_in_a_list(rt: HostRuntime) {
     let parts = [rows::IDLE, BEFORE_A_TAKE, NOT_TAKEN, TAKEN_AGAIN];
-    play_over(&rt, 1, &parts);
+    play_over(&rt, 2, &parts);
 }

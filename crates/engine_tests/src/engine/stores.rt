@@ -54,14 +54,14 @@ const WRITTEN_AGAIN: &str = "
 
 #[test]
 fn a_store_fails(rt: HostRuntime) {
-    let mut engine = called_over(&rt, 1, &[WRITTEN_AGAIN]);
+    let mut engine = called_over(&rt, 2, &[WRITTEN_AGAIN]);
     assert_pages(&rt, &mut engine, None, (Lsn(192), 6, 0));
     drop(engine);
 }
 
 #[test]
 fn a_store_fails_in_a_list(rt: HostRuntime) {
-    play_over(&rt, 1, &[WRITTEN_AGAIN]);
+    play_over(&rt, 2, &[WRITTEN_AGAIN]);
 }
 
 /// The call of the store that fails is the end of the second write.
@@ -81,7 +81,7 @@ const TWO_WRITES: &str = "
 
 #[test]
 fn a_later_write_fails(rt: HostRuntime) {
-    let mut engine = called_over(&rt, 2, &[TWO_WRITES]);
+    let mut engine = called_over(&rt, 3, &[TWO_WRITES]);
     assert_pages(&rt, &mut engine, None, (Lsn(320), 5, 7));
     drop(engine);
 }

@@ -11,6 +11,7 @@ use copy_vault::CopyId;
 use loser_undo::Undone;
 use media_restore::{LoadFault, Refused, load, rebuild};
 use std::process::Abort;
+use std::thread::Threads;
 
 /// All records are kept.
 const ALL: usize = usize::MAX;
@@ -32,7 +33,7 @@ struct Restored {
 /// What comes of the calls, played as one list with the restore after them. Their replies are
 /// asserted.
 fn rebuilt_of(
-    rt: &(impl Abort + AllocGlobal),
+    rt: &(impl Abort + AllocGlobal + Threads + Sync),
     given: &Restored,
     calls: &Calls,
 ) -> Result<Undone, Refused> {
@@ -41,9 +42,17 @@ fn rebuilt_of(
     let store = failing_store(rt, pages, 0);
     let device = failing_device(rt, calls.events.len(), given.k);
     let (events, copy) = (&calls.events, CopyId(given.copy));
-    let rebuilt = rebuild(rt.alloc(), setup, store, device, events, copy, given.cut).expect(
-        rt, "a run",
-    );
+    let rebuilt = rebuild(
+        rt,
+        rt.alloc(),
+        setup,
+        store,
+        device,
+        events,
+        copy,
+        given.cut,
+    )
+    .expect(rt, "a run");
     assert_replies(rt, &rebuilt.replies, calls);
     rebuilt.outcome
 }
@@ -58,7 +67,7 @@ fn assert_undone(rt: &impl Abort, undone: Undone, count: usize, given: &Restored
 
 /// Restores copies step by step, and by one call with the events of their rows, and asserts what is
 /// restored.
-fn assert_each(rt: &(impl Abort + AllocGlobal), table: &[Restored]) {
+fn assert_each(rt: &(impl Abort + AllocGlobal + Threads + Sync), table: &[Restored]) {
     for given in table {
         let retired = retired(rt, given.row, given.k);
         let redone = redone_of(rt, retired, given.copy, given.cut);
@@ -91,15 +100,19 @@ const COPIED_AFTER_A_WRITE: Row = Row {
 /// The log's device fails when the set and the commit are forced.
 const LOST_TAIL: Row = Row {
     pages: 1,
-    parts: &[
-        rows::IDLE,
-        rows::FULL,
-        "
-        begin -> began 1 at 192
-        set 1 0 0 5 -> lsn 256
-        commit 1 -> E26 CommitUnsure 320
-    ",
-    ],
+    parts: &[rows::IDLE, rows::FULL, UNSURE],
+};
+
+const UNSURE: &str = "
+    begin -> began 1 at 192
+    set 1 0 0 5 -> lsn 256
+    commit 1 -> E26 CommitUnsure 320
+";
+
+/// The Commit of which it was not known whether it is stored is forced later on.
+const FORCED_TAIL: Row = Row {
+    pages: 1,
+    parts: &[rows::IDLE, rows::FULL, UNSURE, "force -> forced 384"],
 };
 
 /// One copy is dropped, and another one is being read.
@@ -360,7 +373,7 @@ fn a_full_log_is_restored(rt: HostRuntime) {
 }
 
 /// A row, the call of its device that fails, a copy and a cut, and why the copy is not loaded.
-static REFUSED: [(Restored, LoadFault); 7] = [
+static REFUSED: [(Restored, LoadFault); 8] = [
     (
         Restored {
             row: rows::ADDED_AND_SET,
@@ -377,6 +390,15 @@ static REFUSED: [(Restored, LoadFault); 7] = [
             ..WHOLE
         },
         LoadFault::CutTooShort(2),
+    ),
+    (
+        Restored {
+            row: FORCED_TAIL,
+            k: 4,
+            cut: 4,
+            ..WHOLE
+        },
+        LoadFault::CutTooShort(5),
     ),
     (
         Restored {
@@ -423,7 +445,11 @@ static REFUSED: [(Restored, LoadFault); 7] = [
 ];
 
 /// Asserts that a copy is not loaded, and why.
-fn assert_refused(rt: &(impl Abort + AllocGlobal), given: &Restored, fault: LoadFault) {
+fn assert_refused(
+    rt: &(impl Abort + AllocGlobal + Threads + Sync),
+    given: &Restored,
+    fault: LoadFault,
+) {
     let retired = retired(rt, given.row, given.k);
     let found = match load(rt.alloc(), retired, CopyId(given.copy), given.cut) {
         Ok(_) => None,

@@ -13,6 +13,7 @@ use log_records::Record;
 use page_core::{Page, PageNo, TxnNo};
 use page_redo::redo_page;
 use std::process::Abort;
+use std::thread::Threads;
 
 static SWEPT: [Row; 8] = [
     rows::COPIED_WHEN_DIRTY,
@@ -66,7 +67,7 @@ fn run(rt: &(impl Abort + AllocGlobal), sweep: Sweep<'_>) -> (Retired, bool) {
 }
 
 /// Asserts that these are the pages that a log makes of formatted ones.
-fn assert_images(rt: &impl Abort, pages: &[Page], log: &[Record]) {
+pub(super) fn assert_images(rt: &impl Abort, pages: &[Page], log: &[Record]) {
     for page in pages {
         let mut image = Page::formatted(page.number);
         redo_page(&mut image, log);
@@ -109,7 +110,12 @@ fn assert_committed(rt: &impl Abort, pages: &[Page], log: &[Record]) {
 
 /// Restores a copy over these first records of the log, and asserts its pages after redo and after
 /// undo.
-fn assert_restored(rt: &(impl Abort + AllocGlobal), retired: Retired, copy: u32, kept: &[Record]) {
+fn assert_restored(
+    rt: &(impl Abort + AllocGlobal + Threads + Sync),
+    retired: Retired,
+    copy: u32,
+    kept: &[Record],
+) {
     let redone = redone_of(rt, retired, copy, kept.len());
     assert_images(rt, redone.pages(), kept);
     let undone = undone_of(rt, redone);
@@ -120,7 +126,7 @@ fn assert_restored(rt: &(impl Abort + AllocGlobal), retired: Retired, copy: u32,
 
 /// Restores a copy of each log that a crash may leave.
 fn assert_each_cut(
-    rt: &(impl Abort + AllocGlobal),
+    rt: &(impl Abort + AllocGlobal + Threads + Sync),
     sweep: Sweep<'_>,
     retired: &Retired,
     copy: u32,
@@ -135,7 +141,7 @@ fn assert_each_cut(
 }
 
 /// Calls a row, restores each copy that is complete then, and tells whether a call failed.
-fn restore_each(rt: &(impl Abort + AllocGlobal), sweep: Sweep<'_>) -> bool {
+fn restore_each(rt: &(impl Abort + AllocGlobal + Threads + Sync), sweep: Sweep<'_>) -> bool {
     let (retired, has_failed) = run(rt, sweep);
     for copy in 1..4 {
         if retired.vault().complete(CopyId(copy)).is_some() {
@@ -155,7 +161,7 @@ enum Part {
 
 /// Sweeps each row, where one call of this part fails after the other, until none is left. Of a
 /// device it is not the first one, which stores the header: where it fails there is no engine.
-fn sweep_rows(rt: &(impl Abort + AllocGlobal), part: Part) {
+fn sweep_rows(rt: &(impl Abort + AllocGlobal + Threads + Sync), part: Part) {
     for row in &SWEPT {
         let calls = calls_of(rt, row.parts);
         for again in [false, true] {

@@ -2,11 +2,11 @@
 
 use aries_core::{Answer, Refusal};
 use copy_vault::CopyId;
-use event_script::{ReplyLine, ScriptFault};
+use event_script::{LineFault, ReplyLine, ScriptFault};
 use page_core::{Lsn, TxnNo};
 
 /// Scripts of one event, and what they say.
-pub(super) static CALLS: [(&str, &str); 18] = [
+pub(super) static CALLS: [(&str, &str); 19] = [
     ("begin", "[Begin] None"),
     (
         "set 4294967295 65536 65535 18446744073709551615",
@@ -42,6 +42,10 @@ pub(super) static CALLS: [(&str, &str); 18] = [
     ),
     ("  seal   7 ", "[Seal(CopyId(7))] None"),
     ("drop 7", "[DropCopy(CopyId(7))] None"),
+    (
+        "repair 7 65536",
+        "[Repair { copy: CopyId(7), page: PageNo(65536) }] None",
+    ),
 ];
 
 /// Scripts with a restore, and without one.
@@ -59,45 +63,63 @@ pub(super) static RESTORES: [(&str, &str); 5] = [
     ("begin\nforce\n", "[Begin, Force] None"),
 ];
 
-/// Scripts of one line, each with the number of its first bad line.
-pub(super) static BAD_LINES: [(&str, u64); 23] = [
-    (" ", 1),
-    ("start", 1),
-    ("Begin", 1),
-    (" # no comment", 1),
-    ("begin 1", 1),
-    ("begin\r\r", 1),
-    ("commit", 1),
-    ("commit 1 2", 1),
-    ("commit 4294967296", 1),
-    ("commit 000000000000000000001", 1),
-    ("commit +5", 1),
-    ("commit -1", 1),
-    ("commit\t1", 1),
-    ("set 1 0 65536 7", 1),
-    ("set 1 0 0 18446744073709551616", 1),
-    ("set 1 0 0 99999999999999999999", 1),
-    ("set 1 0 0", 1),
-    ("set 1 0 0 7 7", 1),
-    ("take 1", 1),
-    ("repair 1 0", 1),
-    ("restore 1", 1),
-    ("restore 1 some", 1),
-    ("restore 4294967296 all", 1),
+/// Scripts of one line, each with the number of its first bad line, and what is wrong with it.
+pub(super) static BAD_LINES: [(&str, u64, LineFault); 25] = [
+    (" ", 1, LineFault::NoCall),
+    ("start", 1, LineFault::UnknownCall),
+    ("Begin", 1, LineFault::UnknownCall),
+    (" # no comment", 1, LineFault::UnknownCall),
+    ("begin 1", 1, LineFault::WordCount(0)),
+    ("begin\r\r", 1, LineFault::UnknownCall),
+    ("commit", 1, LineFault::WordCount(1)),
+    ("commit 1 2", 1, LineFault::WordCount(1)),
+    ("commit 4294967296", 1, LineFault::BadNumber),
+    ("commit 000000000000000000001", 1, LineFault::BadNumber),
+    ("commit +5", 1, LineFault::BadNumber),
+    ("commit -1", 1, LineFault::BadNumber),
+    ("commit\t1", 1, LineFault::UnknownCall),
+    ("set 1 0 65536 7", 1, LineFault::BadNumber),
+    ("set 1 0 0 18446744073709551616", 1, LineFault::BadNumber),
+    ("set 1 0 0 99999999999999999999", 1, LineFault::BadNumber),
+    ("set 1 0 0", 1, LineFault::WordCount(4)),
+    ("set 1 0 0 7 7", 1, LineFault::WordCount(4)),
+    ("take 1", 1, LineFault::WordCount(2)),
+    ("repair 1", 1, LineFault::WordCount(2)),
+    ("repair 1 4294967296", 1, LineFault::BadNumber),
+    ("mend 1 0", 1, LineFault::UnknownCall),
+    ("restore 1", 1, LineFault::WordCount(2)),
+    ("restore 1 some", 1, LineFault::BadNumber),
+    ("restore 4294967296 all", 1, LineFault::BadNumber),
+];
+
+/// What is wrong with a line, and how that is told.
+pub(super) const REASONS: [(LineFault, &str); 5] = [
+    (LineFault::NoCall, "it has spaces alone"),
+    (LineFault::UnknownCall, "unknown call"),
+    (
+        LineFault::WordCount(4),
+        "after this call's name stand 4 words",
+    ),
+    (LineFault::BadNumber, "a number is misspelled or too large"),
+    (LineFault::BehindRestore, "nothing may follow a restore"),
 ];
 
 /// The same of more lines.
-pub(super) static BAD_SCRIPTS: [(&str, u64); 5] = [
-    ("begin\n\n# \u{e4}\r\ncommit x\nbegin y\n", 4),
-    ("restore 1 all\n\nbegin\n", 3),
-    ("restore 1 all\nrestore 1 all", 2),
-    ("restore 1 all\nno\n", 2),
-    ("begin\n \n", 2),
+pub(super) static BAD_SCRIPTS: [(&str, u64, LineFault); 5] = [
+    (
+        "begin\n\n# \u{e4}\r\ncommit x\nbegin y\n",
+        4,
+        LineFault::BadNumber,
+    ),
+    ("restore 1 all\n\nbegin\n", 3, LineFault::BehindRestore),
+    ("restore 1 all\nrestore 1 all", 2, LineFault::BehindRestore),
+    ("restore 1 all\nno\n", 2, LineFault::UnknownCall),
+    ("begin\n \n", 2, LineFault::NoCall),
 ];
 
 const LSN: Lsn = Lsn(640);
 
-pub(super) const REPLIES: [(ReplyLine, &str); 17] = [
+pub(super) const REPLIES: [(ReplyLine, &str); 18] = [
     (
         ReplyLine(Ok(Answer::Began {
             txn: TxnNo(2),
@@ -127,6 +149,7 @@ pub(super) const REPLIES: [(ReplyLine, &str); 17] = [
     (ReplyLine(Ok(Answer::Kept)), "kept"),
     (ReplyLine(Ok(Answer::Sealed(2))), "sealed 2"),
     (ReplyLine(Ok(Answer::Dropped)), "dropped"),
+    (ReplyLine(Ok(Answer::Repaired(LSN))), "repaired 640"),
     (ReplyLine(Err(Refusal::SlotBusy(TxnNo(1)))), "E5 SlotBusy 1"),
 ];
 
@@ -134,5 +157,8 @@ pub(super) static FAULTS: [(ScriptFault, &str); 4] = [
     (ScriptFault::OutOfMemory, "E1 OutOfMemory"),
     (ScriptFault::Input, "imgcopy: input"),
     (ScriptFault::ReadFault, "imgcopy: input"),
-    (ScriptFault::BadLine(12), "imgcopy: line 12"),
+    (
+        ScriptFault::BadLine(12, LineFault::NoCall),
+        "imgcopy: line 12",
+    ),
 ];

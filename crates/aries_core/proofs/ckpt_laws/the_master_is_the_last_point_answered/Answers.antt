@@ -3,4 +3,4 @@ use Rattle.aries_core.proofs.CkptLaws.{master_of_run}
 use Rattle.aries_core.proofs.ckpt_laws.the_master_is_the_last_point_answered.Goals as goal
 
 pub returns : goal.returns
-returns c = λ pages events replies new run. master_of_run (new_state pages) events replies new run
+returns c = λ pages frames events replies new run. master_of_run (new_state pages frames) events replies new run

@@ -1,5 +1,5 @@
 use Rattle.aries_core.proofs.CopyRefusals.{drop_by_catalogue, full_by_catalogue, inc_by_catalogue}
-use Rattle.aries_core.proofs.CopyRefusals.{seal_by_catalogue, take_by_catalogue}
+use Rattle.aries_core.proofs.CopyRefusals.{repair_by_catalogue, seal_by_catalogue, take_by_catalogue}
 use Rattle.aries_core.proofs.copy_laws.copies_are_refused_by_the_catalogue.Goals as goal
 
 pub returns : goal.returns
@@ -9,4 +9,5 @@ returns c = record {
   take = take_by_catalogue;
   seal = seal_by_catalogue;
   drop = drop_by_catalogue;
+  repair = repair_by_catalogue;
 }

@@ -3,4 +3,4 @@ use Rattle.aries_core.proofs.Catalogues.{copies_of_run}
 use Rattle.aries_core.proofs.copy_laws.the_copies_are_those_answered.Goals as goal
 
 pub returns : goal.returns
-returns c = λ pages events replies new run. copies_of_run (new_state pages) events replies new run
+returns c = λ pages frames events replies new run. copies_of_run (new_state pages frames) events replies new run

@@ -1,12 +1,14 @@
 use Rattle.std.proofs.Common.{refl, rules, ◌≡◌, ◌<◌, ◌+◌, length, [], ◌∷◌, ◌++◌, arith, take, take_all, subst, sym, ap, ◌∙◌}
 use Rattle.std.proofs.lemmas.List.{length-take, take_more}
 use Rattle.aries_core.specs.declared.event.Event.{Event}
-use Rattle.aries_core.specs.EngineState.{IsFit, EngineView, new_state}
+use Rattle.aries_core.specs.EngineState.{EngineState, IsFit, EngineView, new_state}
 use Rattle.aries_core.specs.Step.{IsByDevice, IsByStore}
 use Rattle.aries_core.proofs.Calls.{work_of_run}
 use Rattle.aries_core.proofs.Catalogues.{copies_of_run}
+use Rattle.aries_core.proofs.FrameCounts.{frames_of_run}
 use Rattle.aries_core.proofs.PageLaws.{written_of_run}
-use Rattle.aries_core.proofs.Plays.{by_device, by_store, call_on, plays_push, run_push, tells_push, within_push}
+use Rattle.aries_core.proofs.Plays.{by_device, by_store, call_on, left_sound, plays_push, run_push, tells_push}
+use Rattle.aries_core.proofs.Plays.{within_push}
 use Rattle.aries_core.proofs.played.play.Invariants.{given_storage}
 use Rattle.aries_core.proofs.played.play.Goals as goal
 
@@ -21,7 +23,7 @@ loop-event-preserved g c =
     let within : i < length events = omega arith in
     let next : take (i + 1) events ≡ take i events ++ event ∷ [] =
     take_more events i event within ∙ ap (λ (e : Event). take i events ++ e ∷ []) (sym c.event-item.is) in
-    let start = new_state c.args.setup.pages in
+    let start = new_state c.args.setup.pages c.args.setup.frames in
     record {
       count = omega (arith, count, so_far.count);
       room = omega (arith, so_far.room, c.push.ensures.capacity);
@@ -29,18 +31,20 @@ loop-event-preserved g c =
           c.apply.result c.apply.new.self.state so_far.run c.apply.ensures.step);
       tells = rw items (tells_push IsByDevice by_device g.D.LogDevice.failures (g.D.LogDevice.failures c.args.device)
           c.loop-event.engine.device c.apply.new.self.device c.loop-event.replies.items c.apply.result so_far.tells
-          c.apply.ensures.refused c.apply.ensures.no_failure c.apply.ensures.cause);
+          c.apply.ensures.sound c.apply.ensures.no_failure c.apply.ensures.cause);
       store_tells = rw items (tells_push IsByStore by_store g.S.PageStore.failures (g.S.PageStore.failures c.args.store)
           c.loop-event.engine.store c.apply.new.self.store c.loop-event.replies.items c.apply.result so_far.store_tells
-          c.apply.ensures.store_refused c.apply.ensures.no_store_failure c.apply.ensures.store_cause);
+          (left_sound IsByStore g.S.PageStore.failures c.loop-event.engine.store c.apply.new.self.store c.apply.result
+          c.apply.ensures.store_refused) c.apply.ensures.no_store_failure c.apply.ensures.store_cause);
       on = rw (next, items) (plays_push (given_storage g) c.args.setup.pages c.args.store c.args.device (take i events)
           c.loop-event.replies.items c.loop-event.engine event c.apply.result c.apply.new.self so_far.on
           (call_on (given_storage g) c.loop-event.engine event c.apply.result c.apply.new.self c.apply.ensures.step
-          c.apply.ensures.refused c.apply.ensures.called c.apply.ensures.last_call c.apply.ensures.no_failure
+          c.apply.ensures.refused c.apply.ensures.called c.apply.ensures.forced_first c.apply.ensures.last_call
+          c.apply.ensures.sound c.apply.ensures.no_failure
           c.apply.ensures.cause c.apply.ensures.store c.apply.ensures.store_refused c.apply.ensures.no_store_failure
           c.apply.ensures.store_cause (record { pages = c.log-in-loop-event.ensures.pages; records = c.log-in-loop-event.ensures.records })));
       bound = c.apply.ensures.same_bound ∙ so_far.bound;
-      within_bound = rw items (within_push c.args.setup.pages (length events) (g.D.LogDevice.fails_from c.args.device)
+      within_bound = rw items (within_push c.args.setup.pages c.args.setup.frames (length events) (g.D.LogDevice.fails_from c.args.device)
           (g.D.LogDevice.fails_from c.loop-event.engine.device) (take i events) c.loop-event.replies.items
           c.loop-event.engine.state event c.apply.result c.apply.new.self.state so_far.run c.apply.ensures.step
           (omega (arith, length-take i events)) so_far.bound c.apply.ensures.past_bound so_far.within_bound);
@@ -50,7 +54,7 @@ pub returns-clause-work : goal.returns-clause-work
 returns-clause-work g c =
     let so_far = c.loop-event.invariant in
     let all : take c.loop-event.event-index c.args.events.now ≡ c.args.events.now = take_all _ _ (omega arith) in
-    work_of_run (new_state c.args.setup.pages) c.args.events.now c.loop-event.replies.items c.loop-event.engine.state
+    work_of_run (new_state c.args.setup.pages c.args.setup.frames) c.args.events.now c.loop-event.replies.items c.loop-event.engine.state
     (rw all at so_far.run)
 
 pub returns-clause-fit : goal.returns-clause-fit
@@ -61,14 +65,21 @@ pub returns-clause-written : goal.returns-clause-written
 returns-clause-written g c =
     let so_far = c.loop-event.invariant in
     let all : take c.loop-event.event-index c.args.events.now ≡ c.args.events.now = take_all _ _ (omega arith) in
-    written_of_run (new_state c.args.setup.pages) c.args.events.now c.loop-event.replies.items
+    written_of_run (new_state c.args.setup.pages c.args.setup.frames) c.args.events.now c.loop-event.replies.items
+    c.loop-event.engine.state (rw all at so_far.run)
+
+pub returns-clause-frames : goal.returns-clause-frames
+returns-clause-frames g c =
+    let so_far = c.loop-event.invariant in
+    let all : take c.loop-event.event-index c.args.events.now ≡ c.args.events.now = take_all _ _ (omega arith) in
+    frames_of_run (new_state c.args.setup.pages c.args.setup.frames) c.args.events.now c.loop-event.replies.items
     c.loop-event.engine.state (rw all at so_far.run)
 
 pub returns-clause-catalogue : goal.returns-clause-catalogue
 returns-clause-catalogue g c =
     let so_far = c.loop-event.invariant in
     let all : take c.loop-event.event-index c.args.events.now ≡ c.args.events.now = take_all _ _ (omega arith) in
-    copies_of_run (new_state c.args.setup.pages) c.args.events.now c.loop-event.replies.items
+    copies_of_run (new_state c.args.setup.pages c.args.setup.frames) c.args.events.now c.loop-event.replies.items
     c.loop-event.engine.state (rw all at so_far.run)
 
 pub loop-event-init : goal.loop-event-init
@@ -83,7 +94,8 @@ loop-event-init g c = record {
       rw c.in-Ok.ensures.items (record {
         first = c.in_ok-engine.engine;
         made = record {
-          state = made.empty;
+          state = made.empty ∙ ap (λ n. new_state c.args.setup.pages n)
+              (sym (ap (λ (s : EngineState). s.frames) made.empty));
           stored = record { pages = c.log.ensures.pages; records = c.log.ensures.records };
           given = made.store;
           header = made.header;

@@ -23,7 +23,7 @@ abbrev pub invariant-loop-event : goal.invariant-loop-event
 invariant-loop-event g l = record {
   count : vec_len l.replies ≡ l.event-index;
   room : length l.events ≤ vec_capacity l.replies;
-  run : Run (new_state l.fn.setup.pages) (take l.event-index l.events) l.replies.items l.engine.state;
+  run : Run (new_state l.fn.setup.pages l.fn.setup.frames) (take l.event-index l.events) l.replies.items l.engine.state;
   tells : Tells IsByDevice (g.D.LogDevice.failures l.fn.device) l.replies.items
       (g.D.LogDevice.failures l.engine.device);
   store_tells : Tells IsByStore (g.S.PageStore.failures l.fn.store) l.replies.items

@@ -1,7 +1,7 @@
 use Rattle.std.proofs.Common.{lit<, refl}
 use Rattle.command_words.specs.Command.{run_app}
 use Rattle.command_words.proofs.ClapLemmas.{for_memory, matched, passed_up, taken}
-use Rattle.command_words.proofs.RequiredLemmas.{pages_passed}
+use Rattle.command_words.proofs.RequiredLemmas.{frames_passed, pages_passed}
 use Rattle.command_words.proofs.arguments.run_matches.Goals as goal
 
 pub returns-in_err-try_get_matches_from-clause-only :
@@ -26,4 +26,8 @@ returns-clause-taken g c =
 
 pub returns-clause-pages : goal.returns-clause-pages
 returns-clause-pages g c = pages_passed c.in_ok-run_command.field-0 c.in_ok-try_get_matches_from.field-0
+    c.in_ok-run_command.ensures.made c.in_ok-try_get_matches_from.ensures.parsed
+
+pub returns-clause-frames : goal.returns-clause-frames
+returns-clause-frames g c = frames_passed c.in_ok-run_command.field-0 c.in_ok-try_get_matches_from.field-0
     c.in_ok-run_command.ensures.made c.in_ok-try_get_matches_from.ensures.parsed

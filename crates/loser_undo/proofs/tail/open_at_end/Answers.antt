@@ -13,8 +13,8 @@ behind-requires c =
     let within = place.1 in
     omega (arith, first, within, ap length c.records-records.ensures.records)
 
-pub returns : goal.returns
-returns c =
+pub returns-clause-open : goal.returns-clause-open
+returns-clause-open c =
     let log = c.args.log.now in
     let master = c.args.master.now in
     let valid = c.records-records.ensures.valid in

@@ -1,4 +1,4 @@
-use Rattle.std.proofs.Common.{◌≡◌, ◌∙◌, refl, ap, map, subst, take_all, arith, List, ℕ, IfErr, OnOk}
+use Rattle.std.proofs.Common.{◌≡◌, ◌∙◌, refl, ap, map, subst, List, ℕ, IfErr, OnOk}
 use Rattle.std.specs.Prelude.{Option}
 use Rattle.media_restore.specs.Files.{Files, Leaves, WritesVolume}
 use Rattle.saved_files.proofs.restore.restore_volume.Goals as goal
@@ -14,20 +14,14 @@ same_files log master archives = rw (log, master, archives) refl
 
 pub returns-clause-ok : goal.returns-clause-ok
 returns-clause-ok g c =
-    let archives = c.loop-name.invariant
-    ∙ ap (map (λ name. g.N.NamedFiles.bytes c.args.files.now name.now))
-    (take_all c.loop-name.name-index c.args.archives.now (omega arith)) in
     subst (λ files. OnOk c.restore_files.result (WritesVolume files
     (g.W.Write.contents c.args.writer.now) (g.W.Write.contents c.restore_files.new.writer)))
-    (same_files c.new-log.ensures c.new-master.ensures (ap (map _) c.deref_mut.ensures.value ∙ archives))
+    (same_files c.told_late-log.ensures c.told_late-master.ensures (ap (map _) c.deref_mut.ensures.value ∙ c.in_ok-readers.ensures))
     c.restore_files.ensures.ok
 
 pub returns-clause-err : goal.returns-clause-err
 returns-clause-err g c =
-    let archives = c.loop-name.invariant
-    ∙ ap (map (λ name. g.N.NamedFiles.bytes c.args.files.now name.now))
-    (take_all c.loop-name.name-index c.args.archives.now (omega arith)) in
     subst (λ files. IfErr c.restore_files.result (Leaves files
     (g.W.Write.contents c.args.writer.now) (g.W.Write.contents c.restore_files.new.writer)))
-    (same_files c.new-log.ensures c.new-master.ensures (ap (map _) c.deref_mut.ensures.value ∙ archives))
+    (same_files c.told_late-log.ensures c.told_late-master.ensures (ap (map _) c.deref_mut.ensures.value ∙ c.in_ok-readers.ensures))
     c.restore_files.ensures.err

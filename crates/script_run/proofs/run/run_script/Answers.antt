@@ -16,7 +16,7 @@ returns-in-Err-write_replies-clause-err g c =
     let read = c.in-Ok.ensures in
     let played = c.in-Ok-play_in_memory.ensures.run in
     let input = g.R.Read.remaining c.args.reader.now in
-    not_written c.args.setup.pages input (g.W.Write.contents c.args.writer.now)
+    not_written c.args.setup.pages c.args.setup.frames input (g.W.Write.contents c.args.writer.now)
     (g.W.Write.contents c.write_replies.new.writer) c.in-Ok-play_in_memory.replies.items
     c.in-Ok-play_in_memory.retired script.restore c.in-Err-write_replies.fault
     (record {
@@ -24,7 +24,7 @@ returns-in-Err-write_replies-clause-err g c =
       state = played.0;
       faultless = c.in-Ok-play_in_memory.ensures.faultless;
       script = script_of input script.events.items script.restore read.found read.text;
-      run = subst (λ (events : List Event). Run (new_state c.args.setup.pages) events
+      run = subst (λ (events : List Event). Run (new_state c.args.setup.pages c.args.setup.frames) events
           c.in-Ok-play_in_memory.replies.items played.0)
           c.deref.ensures.value played.1;
       left_by = played.2;

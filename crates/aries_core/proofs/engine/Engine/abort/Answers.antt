@@ -3,8 +3,8 @@ use Rattle.aries_core.specs.declared.event.Event.TheVariants as event
 use Rattle.aries_core.specs.EngineState.{EngineView, end}
 use Rattle.aries_core.proofs.engine.Engine.abort.Goals as goal
 
-pub append-requires : goal.append-requires
-append-requires g c =
+pub append-requires-clause-called : goal.append-requires-clause-called
+append-requires-clause-called g c =
     let lsn : c.end-lsn.result ≡ end c.args.self.now.state =
     c.end-lsn.ensures ∙ ap (λ (v : EngineView g.row.S.Denot g.row.D.Denot). end v.state) c.self.view_is in
     let prev = c.in_ok-prev.ensures.last in

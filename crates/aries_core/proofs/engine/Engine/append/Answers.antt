@@ -1,11 +1,13 @@
-use Rattle.std.proofs.Common.{◌≡◌, length, sym, ap, subst, ◌∙◌, arith}
-use Rattle.std.specs.Prelude.{Result, Ok, Err, OnOk, is_err, false}
+use Rattle.std.proofs.Common.{◌≡◌, ◌<◌, length, sym, ap, subst, ◌∙◌, arith}
+use Rattle.std.specs.Prelude.{IfSome, Result, Ok, Err, OnOk, is_err, false}
+use Rattle.buffer_pool.specs.Frames.{IsResident}
+use Rattle.log_records.specs.Record.{change_of}
 use Rattle.log_records.specs.Log.{Log, StandsAt, lsn_of}
 use Rattle.aries_core.specs.Call.{Calls}
 use Rattle.aries_core.specs.EngineState.{EngineState, EngineView, IsKept, appended, engine_view, log_of}
 use Rattle.aries_core.specs.OpenCkpt.{media_view}
-use Rattle.aries_core.proofs.Appends.{appended_is, comes, kept_next}
-use Rattle.aries_core.proofs.Residents.{changed_are}
+use Rattle.aries_core.proofs.Appends.{appended_is, kept_next, valid_with}
+use Rattle.aries_core.proofs.Fit.{comes, comes_few}
 use Rattle.aries_core.proofs.engine.Engine.append.Given as given
 use Rattle.aries_core.proofs.engine.Engine.append.Goals as goal
 
@@ -20,12 +22,11 @@ note-requires g c =
     let s = (engine_view g.S.PageStore.stored it.log it.pool (media_view it.master it.session it.vault.copies)).state in
     let calls : Calls s c.args.next =
     subst (λ (v : EngineView g.row.S.Denot g.row.D.Denot). Calls v.state c.args.next)
-    (sym c.self.view_is) c.requires in (
+    (sym c.self.view_is) c.requires.called in (
       s.log,
       (
         c.self.invariant.table_of_log,
-        (comes g.S.PageStore.stored s it.txns it.pool (media_view it.master it.session it.vault.copies) c.args.next
-            c.self.invariant calls).may_follow,
+        (comes s c.args.next c.self.invariant.fit calls).may_follow,
       ),
     )
 
@@ -34,35 +35,37 @@ append-requires-clause-stands g c =
     let it = c.self.inside in
     let s = (engine_view g.S.PageStore.stored it.log it.pool (media_view it.master it.session it.vault.copies)).state in
     let calls : Calls s c.args.next =
-    subst (λ (v : EngineView g.row.S.Denot g.row.D.Denot). Calls v.state c.args.next) (sym c.self.view_is) c.requires in
+    subst (λ (v : EngineView g.row.S.Denot g.row.D.Denot). Calls v.state c.args.next) (sym c.self.view_is) c.requires.called in
     subst (λ (l : Log). StandsAt l.pages (lsn_of (length l.records)) c.args.next) (sym c.make_room.ensures.same)
-    (comes g.S.PageStore.stored s it.txns it.pool (media_view it.master it.session it.vault.copies) c.args.next
-    c.self.invariant calls).stands_at
+    (comes s c.args.next c.self.invariant.fit calls).stands_at
 
 pub append-requires-clause-few : goal.append-requires-clause-few
 append-requires-clause-few g c =
     let it = c.self.inside in
     let s = (engine_view g.S.PageStore.stored it.log it.pool (media_view it.master it.session it.vault.copies)).state in
     let calls : Calls s c.args.next =
-    subst (λ (v : EngineView g.row.S.Denot g.row.D.Denot). Calls v.state c.args.next) (sym c.self.view_is) c.requires in
-    let few = (comes g.S.PageStore.stored s it.txns it.pool (media_view it.master it.session it.vault.copies)
-    c.args.next c.self.invariant calls).few in
+    subst (λ (v : EngineView g.row.S.Denot g.row.D.Denot). Calls v.state c.args.next) (sym c.self.view_is) c.requires.called in
+    let few = comes_few s c.args.next (comes s c.args.next c.self.invariant.fit calls) in
     omega (arith, few, ap (λ (l : Log). length l.records) c.make_room.ensures.same)
 
-pub change-requires : goal.change-requires
-change-requires g c =
+pub change-requires-clause-next : goal.change-requires-clause-next
+change-requires-clause-next g c =
     let it = c.self.inside in
     let s = (engine_view g.S.PageStore.stored it.log it.pool (media_view it.master it.session it.vault.copies)).state in
     let calls : Calls s c.args.next =
     subst (λ (v : EngineView g.row.S.Denot g.row.D.Denot). Calls v.state c.args.next)
-    (sym c.self.view_is) c.requires in (
+    (sym c.self.view_is) c.requires.called in (
       log_of s,
       (
         c.self.invariant.pool_of_log,
-        (comes g.S.PageStore.stored s it.txns it.pool (media_view it.master it.session it.vault.copies) c.args.next
-            c.self.invariant calls).valid,
+        valid_with s c.args.next c.self.invariant.fit (comes s c.args.next c.self.invariant.fit calls),
       ),
     )
+
+pub change-requires-clause-resident : goal.change-requires-clause-resident
+change-requires-clause-resident g c =
+    subst (λ (v : EngineView g.row.S.Denot g.row.D.Denot).
+    IfSome (change_of c.args.next) (λ x. IsResident v.state.resident x.page)) (sym c.self.view_is) c.requires.there
 
 state_after : (g : given.Over) (c : goal.After-change g)
     → (engine_view g.S.PageStore.stored c.append.new.self c.change.new.self
@@ -76,14 +79,12 @@ state_after g c =
     let media = media_view it.master it.session it.vault.copies in
     let s = (engine_view stored it.log it.pool media).state in
     let calls : Calls s r =
-    subst (λ (v : EngineView g.row.S.Denot g.row.D.Denot). Calls v.state r) (sym c.self.view_is) c.requires in
-    let come = comes stored s it.txns it.pool media r c.self.invariant calls in
-    let changed = c.change.ensures.kept (log_of s) c.self.invariant.pool_of_log come.valid in
+    subst (λ (v : EngineView g.row.S.Denot g.row.D.Denot). Calls v.state r) (sym c.self.view_is) c.requires.called in
+    let come = comes s r c.self.invariant.fit calls in
     appended_is stored it.log c.make_room.new.self c.append.new.self it.pool c.change.new.self media r
     c.make_room.ensures.same c.make_room.ensures.forced_end c.append.ensures.next c.append.ensures.forced_end
-    c.change.ensures.store
-    (changed_are s.log r it.pool.resident c.change.new.self.resident c.self.invariant.pool_of_log.resident
-    changed.resident c.change.ensures.numbers) c.change.ensures.written c.change.ensures.writing
+    (ap (λ x. stored x) c.change.ensures.store) c.change.ensures.frames
+    c.change.ensures.pages c.change.ensures.written c.change.ensures.writing
 
 pub invariant_of-self-2 : goal.invariant_of-self-2
 invariant_of-self-2 g c =
@@ -93,13 +94,16 @@ invariant_of-self-2 g c =
     let media = media_view it.master it.session it.vault.copies in
     let s = (engine_view stored it.log it.pool media).state in
     let calls : Calls s r =
-    subst (λ (v : EngineView g.row.S.Denot g.row.D.Denot). Calls v.state r) (sym c.self.view_is) c.requires in
-    let come = comes stored s it.txns it.pool media r c.self.invariant calls in
+    subst (λ (v : EngineView g.row.S.Denot g.row.D.Denot). Calls v.state r) (sym c.self.view_is) c.requires.called in
+    let come = comes s r c.self.invariant.fit calls in
     let noted = said c.note.result _ (sym c.is_err-else-is_err.ensures.value ∙ c.if-is_err-2.false) c.note.ensures.ok
     s.log c.self.invariant.table_of_log come.may_follow in
-    let changed = c.change.ensures.kept (log_of s) c.self.invariant.pool_of_log come.valid in
+    let changed = c.change.ensures.kept (log_of s) c.self.invariant.pool_of_log (valid_with s r c.self.invariant.fit come) in
     subst (λ (t : EngineState). IsKept stored t c.note.new.self c.change.new.self media) (sym (state_after g c))
-    (kept_next stored s it.txns c.note.new.self it.pool c.change.new.self media r c.self.invariant calls noted changed)
+    (kept_next stored s it.txns c.note.new.self it.pool c.change.new.self media r c.self.invariant come
+    (subst (λ (v : EngineView g.row.S.Denot g.row.D.Denot).
+    IfSome (change_of r) (λ x. IsResident v.state.resident x.page)) (sym c.self.view_is) c.requires.there) noted
+    changed)
 
 pub returns-clause-ok : goal.returns-clause-ok
 returns-clause-ok g c =

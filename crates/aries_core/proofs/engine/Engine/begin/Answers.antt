@@ -15,8 +15,8 @@ room_left : (b full : Bool) → b ≡ not full → b ≡ true → full ≡ false
 room_left b true is h = cc
 room_left b false is h = refl
 
-pub append-requires : goal.append-requires
-append-requires g c =
+pub append-requires-clause-called : goal.append-requires-clause-called
+append-requires-clause-called g c =
     let lsn : c.end-lsn.result ≡ end c.args.self.now.state =
     c.end-lsn.ensures ∙ ap (λ (v : EngineView g.row.S.Denot g.row.D.Denot). end v.state) c.self.view_is in
     let txn : c.begin-txn.result ≡ next_txn c.args.self.now.state =

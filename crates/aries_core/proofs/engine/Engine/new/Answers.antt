@@ -16,11 +16,11 @@ pub invariant_of-result : goal.invariant_of-result
 invariant_of-result g c =
     let n = c.args.setup.pages in
     let stored = g.S.PageStore.stored in
-    let state = new_is stored c.in-Ok-new.log c.in-Ok.pool c.args.store n c.new-in-Ok-new-2.result.copies
+    let state = new_is stored c.in-Ok-new.log c.in-Ok.pool c.args.store n c.args.setup.frames c.new-in-Ok-new-2.result.copies
     c.new-in-Ok-new-2.ensures c.in-Ok-new.ensures.empty
     c.in-Ok-new.ensures.forced_end (c.in-Ok.ensures.new n c.requires.formatted) c.requires.formatted in
     record {
-      fit = subst IsFit (sym state) (new_is_fit n c.requires.pages);
+      fit = subst IsFit (sym state) (new_is_fit n c.args.setup.frames c.requires.pages);
       table_of_log =
           subst (λ (rs : List Record). IsTableOf rs c.new-in-Ok-new.result)
           (sym (ap (λ (l : Log). l.records) c.in-Ok-new.ensures.empty))
@@ -34,6 +34,6 @@ invariant_of-result g c =
 
 pub returns-in-Ok-new-clause-empty : goal.returns-in-Ok-new-clause-empty
 returns-in-Ok-new-clause-empty g c =
-    new_is g.S.PageStore.stored c.in-Ok-new.log c.in-Ok.pool c.args.store c.args.setup.pages
+    new_is g.S.PageStore.stored c.in-Ok-new.log c.in-Ok.pool c.args.store c.args.setup.pages c.args.setup.frames
     c.new-in-Ok-new-2.result.copies c.new-in-Ok-new-2.ensures c.in-Ok-new.ensures.empty
     c.in-Ok-new.ensures.forced_end (c.in-Ok.ensures.new c.args.setup.pages c.requires.formatted) c.requires.formatted

@@ -8,5 +8,5 @@ update-requires-clause-called g c = record {
   call = event.Set c.args.txn c.args.page c.args.slot c.args.number;
   fits = c.ranges.number.fits;
   accepted = c.in_ok-prev.ensures.free;
-  made = rw c.number.ensures refl;
+  made = refl;
 }

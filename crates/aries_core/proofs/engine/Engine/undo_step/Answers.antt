@@ -1,9 +1,12 @@
-use Rattle.std.proofs.Common.{◌≡◌, Bool, true, false, refl, sym, ap, ◌∙◌}
-use Rattle.std.specs.Prelude.{Option, None, if◌then◌else◌}
+use Rattle.std.proofs.Common.{◌≡◌, ◌<◌, Bool, true, false, refl, sym, ap, subst, ◌∙◌}
+use Rattle.std.specs.Prelude.{IfSome, Option, None, if◌then◌else◌}
+use Rattle.std.specs.Option.{option_map}
 use Rattle.log_history.specs.declared.pending_change.PendingChange.{PendingChange}
 use Rattle.log_history.specs.Transactions.{is_open, last_of, pending}
 use Rattle.aries_core.specs.declared.event.Event.TheVariants as event
-use Rattle.aries_core.specs.EngineState.{EngineView, end}
+use Rattle.aries_core.specs.EngineState.{EngineView, IsFit, end}
+use Rattle.aries_core.specs.Refusal.{refusal}
+use Rattle.aries_core.proofs.PageComes.{needed_within}
 use Rattle.aries_core.proofs.engine.Engine.undo_step.Goals as goal
 
 -- what an open transaction has to take back
@@ -12,8 +15,8 @@ of_open : (here : Bool) (found : Option PendingChange) (last : Option PendingCha
 of_open true found last is still = sym is
 of_open false found last is still = cc
 
-pub append-requires : goal.append-requires
-append-requires g c =
+pub append_fetching-requires-clause-called : goal.append_fetching-requires-clause-called
+append_fetching-requires-clause-called g c =
     let lsn : c.end-lsn.result ≡ end c.args.self.now.state =
     c.end-lsn.ensures ∙ ap (λ (v : EngineView g.row.S.Denot g.row.D.Denot). end v.state) c.self.view_is in
     let prev = c.in_ok-prev.ensures.last in
@@ -27,12 +30,27 @@ append-requires g c =
       of_transaction = tt;
       call = event.UndoStep c.args.txn;
       fits = tt;
-      accepted = c.in_ok-prev.ensures.rolling;
+      accepted = rw (c.in_ok-prev.ensures.rolling, last) c.in_ok-find_frame-in-Some.ensures.free;
       made = rw (lsn, prev, last, c.undo_of.ensures.inverse) refl;
     }
 
-pub append-requires-in-None : goal.append-requires-in-None
-append-requires-in-None g c =
+pub append_fetching-requires-clause-within : goal.append_fetching-requires-clause-within
+append_fetching-requires-clause-within g c =
+    let s = c.args.self.now.state in
+    let fit : IsFit s =
+    subst (λ (v : EngineView g.row.S.Denot g.row.D.Denot). IsFit v.state) c.self.view_is c.self.invariant.fit in
+    let found : c.last_pending.result ≡ (if is_open s.log c.args.txn then last_of (pending s.log c.args.txn) else None) =
+    c.last_pending.ensures _ c.self.invariant.table_of_log
+    ∙ ap (λ (v : EngineView g.row.S.Denot g.row.D.Denot). if is_open v.state.log c.args.txn then last_of
+    (pending v.state.log c.args.txn) else None) c.self.view_is in
+    let last = of_open _ _ _ found c.in_ok-prev.ensures.still_open ∙ c.in-Some.is in
+    let none : refusal s (event.UndoStep c.args.txn) ≡ None =
+    rw (c.in_ok-prev.ensures.rolling, last) c.in_ok-find_frame-in-Some.ensures.free in
+    subst (λ (o : Option PendingChange). IfSome (option_map (λ p. p.page) o) (λ p. p < s.pages)) last
+    (needed_within s (event.UndoStep c.args.txn) fit none)
+
+pub append-requires-clause-called : goal.append-requires-clause-called
+append-requires-clause-called g c =
     let lsn : c.end-lsn.result ≡ end c.args.self.now.state =
     c.end-lsn.ensures ∙ ap (λ (v : EngineView g.row.S.Denot g.row.D.Denot). end v.state) c.self.view_is in
     let prev = c.in_ok-prev.ensures.last in
@@ -46,6 +64,6 @@ append-requires-in-None g c =
       of_transaction = tt;
       call = event.UndoStep c.args.txn;
       fits = tt;
-      accepted = c.in_ok-prev.ensures.rolling;
+      accepted = rw (c.in_ok-prev.ensures.rolling, last) refl;
       made = rw (lsn, prev, last) refl;
     }

@@ -1,5 +1,5 @@
 use Rattle.std.proofs.Common.{◌≡◌, ℕ, ◌<◌, length, max, sym, ap, subst, ◌∙◌, arith}
-use Rattle.std.specs.Prelude.{None, Result, Ok, Err, OnOk, is_err, false}
+use Rattle.std.specs.Prelude.{None, Result, Ok, Err, OnErr, OnOk, is_err, false, true}
 use Rattle.page_core.specs.declared.page.Page.{Page}
 use Rattle.buffer_pool.specs.Pool.{state_at, with_state, write_begun}
 use Rattle.log_store.specs.WrittenLog.{end_up_to}
@@ -18,6 +18,35 @@ use Rattle.aries_core.proofs.engine.Engine.write_begin.Goals as goal
 said : {T E : Type 0} (r : Result T E) (P : Type 0) → is_err r ≡ false → OnOk r P → P
 said (Ok x) P ok h = h
 said (Err e) P ok h = cc
+
+-- and what one says that is
+failed : {T E : Type 0} (r : Result T E) (P : Type 0) → is_err r ≡ true → OnErr r P → P
+failed (Ok x) P err h = cc
+failed (Err e) P err h = h
+
+pub returns-then-is_err-clause-last_call : goal.returns-then-is_err-clause-last_call
+returns-then-is_err-clause-last_call g c =
+    let f = failed c.force_to.result _ (sym c.is_err.ensures.value ∙ c.if-is_err.true) c.force_to.ensures.last_call in
+    rw (← c.self.view_is) (λ (u : Unit {0}). record {
+      before_fault = f.before_fault;
+      stored = f.stored;
+      next = f.next;
+      there = f.there;
+      why = f.why;
+      failed = f.failed;
+    })
+
+-- a page of which a write begins is dirty, so it is in memory
+pub image_of-requires : goal.image_of-requires
+image_of-requires g c =
+    let it = c.self.inside in
+    let p = c.args.page in
+    let s = (engine_view g.S.PageStore.stored it.log it.pool (media_view it.master it.session it.vault.copies)).state in
+    let none : refusal s (event.WriteBegin p) ≡ None =
+    subst (λ (v : EngineView g.row.S.Denot g.row.D.Denot). refusal v.state (event.WriteBegin p) ≡ None)
+    (sym c.self.view_is) c.in_ok-find_dirty.ensures.dirty in
+    let passes = write_begin_passes s p none in
+    c.self.invariant.fit.held p passes.within passes.dirty
 
 call : (g : given.Over) (c : goal.After-write_begin g)
     → Called g.S.PageStore.stored c.self.inside.log c.force_to.new.self c.self.inside.txns c.self.inside.pool

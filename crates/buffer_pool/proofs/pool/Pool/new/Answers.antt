@@ -1,11 +1,12 @@
-use Rattle.std.proofs.Common.{◌≡◌, ◌∙◌, List, [], length, replicate, ap, subst, sym, arith}
+use Rattle.std.proofs.Common.{◌≡◌, ◌∙◌, ℕ, List, [], length, replicate, ap, subst, sym, arith}
 use Rattle.std.proofs.lemmas.List.{length-replicate}
 use Rattle.std.proofs.lemmas.List.FromFn.{length-map-range_with_len}
 use Rattle.page_core.specs.Page.{formatted}
 use Rattle.page_core.specs.declared.page.Page.{Page}
 use Rattle.page_core.specs.Volume.{formatted_pages}
 use Rattle.log_records.specs.Log.{IsPageCount}
-use Rattle.buffer_pool.specs.Pool.{IsPoolOf, PageState, unwritten}
+use Rattle.buffer_pool.specs.Frames.{FramesView}
+use Rattle.buffer_pool.specs.Pool.{IsPoolOf, PageState, PoolView, unwritten}
 use Rattle.buffer_pool.proofs.Pools.{pool_new}
 use Rattle.buffer_pool.proofs.pool.Pool.new.Goals as goal
 
@@ -28,28 +29,34 @@ invariant_of-result g c =
     c.pages-count.ensures.count ∙ ap length c.requires.1.1 ∙ length-map-range_with_len formatted 0 n in
     let states : length c.in_ok-states.states ≡ count =
     ap (length {A = PageState}) c.in_ok-states.ensures ∙ length-replicate count unwritten in
-    let frames : length c.in_ok-frames.frames.items ≡ count =
-    ap length c.in_ok-frames.ensures.formatted ∙ length-map-range_with_len formatted 0 count in
     record {
       few = omega (arith, c.requires.1.0.most);
       stored_count = sym c.pages-count.ensures.count ∙ sym states;
       stored_numbers = c.pages-count.ensures.numbered;
-      frame_count = frames ∙ sym states;
-      frame_numbers = c.in_ok-frames.ensures.numbered;
     }
 
 -- so many pages are stored
-count_is : {S : Type 0} (stored_in : S → List Page) (store : S) (count n : _) → count ≡ length (stored_in store)
+count_is : {S : Type 0} (stored_in : S → List Page) (store : S) (count n : ℕ) → count ≡ length (stored_in store)
     → stored_in store ≡ formatted_pages n → count ≡ n
 count_is stored_in store count n long holds = long ∙ ap length holds ∙ length-map-range_with_len formatted 0 n
 
 pub returns-clause-new : goal.returns-clause-new
 returns-clause-new g c = λ n holds.
     let same = count_is g.S.PageStore.stored c.args.store c.pages-count.result n c.pages-count.ensures.count holds in
-    ap (λ (frames : List Page). record { store = c.args.store; resident = frames; states = c.in_ok-states.states })
-    (c.in_ok-frames.ensures.formatted ∙ ap formatted_pages same)
-    ∙ ap (λ (states : List PageState). record { store = c.args.store; resident = formatted_pages n; states = states })
-    (c.in_ok-states.ensures ∙ ap (λ (k : _). replicate k unwritten) same)
+    ap (λ (frames : FramesView). record {
+      store = c.args.store;
+      frames = c.args.frames;
+      room = frames.room;
+      resident = frames.pages;
+      states = c.in_ok-states.states;
+    }) c.new-2.ensures
+    ∙ ap (λ (states : List PageState). record {
+      store = c.args.store;
+      frames = c.args.frames;
+      room = 0;
+      resident = [];
+      states = states;
+    }) (c.in_ok-states.ensures ∙ ap (λ (k : ℕ). replicate k unwritten) same)
 
 pub returns-clause-empty : goal.returns-clause-empty
 returns-clause-empty g c = λ n holds.
@@ -59,4 +66,4 @@ returns-clause-empty g c = λ n holds.
     let same = count_is stored_in store c.pages-count.result n count holds in
     let given = count_is stored_in store c.pages-count.result c.requires.0 count c.requires.1.1 in
     subst (IsPoolOf stored_in (record { pages = n; records = [] })) (sym (returns-clause-new g c n holds))
-    (pool_new stored_in store n (subst IsPageCount (sym given ∙ same) c.requires.1.0) holds)
+    (pool_new stored_in store n c.args.frames (subst IsPageCount (sym given ∙ same) c.requires.1.0) holds)

@@ -11,7 +11,13 @@ returns-in_err-write-clause-kept g c = λ log of.
     let n = c.args.number in
     let q = c.page-page.result.now in
     let old : PoolView g.row.S.Denot =
-    record { store = it.store; resident = it.frames.items; states = it.states } in
+    record {
+      store = it.store;
+      frames = it.limit;
+      room = it.frames.room;
+      resident = it.frames.pages;
+      states = it.states;
+    } in
     let view : old ≡ c.args.self.now = c.self.view_is in
     let there : n < length it.states =
     omega (arith, c.requires.within, ap (λ (v : PoolView g.row.S.Denot). length v.states) view) in
@@ -28,7 +34,13 @@ returns-clause-kept g c = λ log of.
     let q = c.page-page.result.now in
     let store = c.write.new.self in
     let old : PoolView g.row.S.Denot =
-    record { store = it.store; resident = it.frames.items; states = it.states } in
+    record {
+      store = it.store;
+      frames = it.limit;
+      room = it.frames.room;
+      resident = it.frames.pages;
+      states = it.states;
+    } in
     let view : old ≡ c.args.self.now = c.self.view_is in
     let there : n < length it.states =
     omega (arith, c.requires.within, ap (λ (v : PoolView g.row.S.Denot). length v.states) view) in

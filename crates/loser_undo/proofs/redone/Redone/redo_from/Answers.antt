@@ -7,7 +7,7 @@ use Rattle.loser_undo.proofs.Resumed.{still_redone}
 use Rattle.loser_undo.proofs.redone.Redone.redo_from.Goals as goal
 
 pub invariant_of-self : goal.invariant_of-self
-invariant_of-self c =
+invariant_of-self g c =
     let it = c.self.inside in
     let whole : Recovery = record { log = it.log; master = it.master; pages = it.pages.items } in
     let redo = λ (page : Page). resume page it.log.records c.args.from in

@@ -1,9 +1,9 @@
-use Rattle.std.proofs.Common.{ℕ, List, length, sym, subst, subst₂, ◌∙◌, arith}
+use Rattle.std.proofs.Common.{ℕ, List, length, sym, subst, subst₂, arith}
 use Rattle.log_records.specs.declared.record.Record.{Record}
 use Rattle.log_records.specs.Log.{Log, StandsAt, lsn_of}
 use Rattle.log_history.specs.Linked.{MayFollow}
 use Rattle.loser_undo.specs.Steps.{IsUndoing}
-use Rattle.loser_undo.proofs.Appends.{has_place, said, undoing_next}
+use Rattle.loser_undo.proofs.Appends.{has_place, undoing_next}
 use Rattle.loser_undo.proofs.undoing.Undoing.append.Goals as goal
 
 pub push_reserved-requires : goal.push_reserved-requires
@@ -22,8 +22,7 @@ invariant_of-self c =
     let may = subst (λ (l : Log). MayFollow l.records r) (sym c.self.view_is) c.requires.follows in
     let stands = subst (λ (l : Log). StandsAt l.pages (lsn_of (length l.records)) r) (sym c.self.view_is)
     c.requires.stands in
-    let made = said c.note.result _ (sym c.is_err.ensures.value ∙ c.if-is_err.false) c.note.ensures.ok
-    log.records c.self.invariant.made may in
+    let made = c.note.ensures log.records c.self.invariant.made may in
     let next = undoing_next log it.losers c.note.new.self _ r c.self.invariant may stands c.requires.undoes made in
     subst₂
     (λ (rs : List Record) (n : ℕ). IsUndoing (record { pages = it.pages; records = rs }) c.note.new.self n)

@@ -1,0 +1,143 @@
+use Rattle.std.proofs.Common.{◌≡◌, ◌<◌, ◌∷◌, [], List, length, get_or, refl, sym, ap, subst, ◌∙◌, arith, false}
+use Rattle.std.specs.Prelude.{IfSome, Result, Ok, Err, OnOk, is_err}
+use Rattle.page_core.specs.declared.page.Page.{Page}
+use Rattle.page_core.specs.Page.{formatted}
+use Rattle.buffer_pool.specs.Frames.{fetched, is_resident}
+use Rattle.buffer_pool.specs.Pool.{IsPoolOf, PoolView, is_clean, written_of}
+use Rattle.log_records.specs.declared.record.Record.{Record}
+use Rattle.log_records.specs.Log.{Log, StandsAt, lsn_of}
+use Rattle.log_records.specs.Record.{change_of}
+use Rattle.aries_core.specs.Call.{Calls}
+use Rattle.aries_core.specs.EngineState.{EngineState, EngineView, appended, engine_view, log_of, with_page}
+use Rattle.aries_core.specs.OpenCkpt.{media_view}
+use Rattle.aries_core.proofs.Appends.{after_fetch, appended_is, valid_with}
+use Rattle.aries_core.proofs.Fit.{Comes, comes, comes_few}
+use Rattle.aries_core.proofs.PoolStates.{fetched_is}
+use Rattle.aries_core.proofs.engine.Engine.append_fetching.Goals as goal
+use Rattle.aries_core.proofs.engine.Engine.append_fetching.Given as given
+
+-- what an answer that is no `Err` says, and what one says that is
+said : {T E : Type 0} (r : Result T E) (P : Type 0) → is_err r ≡ false → OnOk r P → P
+said (Ok x) P ok h = h
+said (Err e) P ok h = cc
+
+pub note-requires : goal.note-requires
+note-requires g c =
+    let it = c.self.inside in
+    let stored = g.S.PageStore.stored in
+    let media = media_view it.master it.session it.vault.copies in
+    let s = (engine_view stored it.log it.pool media).state in
+    let r = c.args.next in
+    let calls : Calls s r =
+    subst (λ (v : EngineView g.row.S.Denot g.row.D.Denot). Calls v.state r) (sym c.self.view_is) c.requires.called in
+    let fit = c.self.invariant.fit in
+    let come = comes s r fit calls in
+    (s.log, (c.self.invariant.table_of_log, come.may_follow))
+
+pub append-requires-2-clause-stands : goal.append-requires-2-clause-stands
+append-requires-2-clause-stands g c =
+    let it = c.self.inside in
+    let stored = g.S.PageStore.stored in
+    let media = media_view it.master it.session it.vault.copies in
+    let s = (engine_view stored it.log it.pool media).state in
+    let r = c.args.next in
+    let calls : Calls s r =
+    subst (λ (v : EngineView g.row.S.Denot g.row.D.Denot). Calls v.state r) (sym c.self.view_is) c.requires.called in
+    let fit = c.self.invariant.fit in
+    let come = comes s r fit calls in
+    subst (λ (l : Log). StandsAt l.pages (lsn_of (length l.records)) r) (sym c.make_room.ensures.same) come.stands_at
+
+pub append-requires-2-clause-few : goal.append-requires-2-clause-few
+append-requires-2-clause-few g c =
+    let it = c.self.inside in
+    let stored = g.S.PageStore.stored in
+    let media = media_view it.master it.session it.vault.copies in
+    let s = (engine_view stored it.log it.pool media).state in
+    let r = c.args.next in
+    let calls : Calls s r =
+    subst (λ (v : EngineView g.row.S.Denot g.row.D.Denot). Calls v.state r) (sym c.self.view_is) c.requires.called in
+    let fit = c.self.invariant.fit in
+    let come = comes s r fit calls in
+    let few = comes_few s r come in
+    omega (arith, few, ap (λ (l : Log). length l.records) c.make_room.ensures.same)
+
+pub change-requires-clause-next : goal.change-requires-clause-next
+change-requires-clause-next g c =
+    let it = c.self.inside in
+    let stored = g.S.PageStore.stored in
+    let media = media_view it.master it.session it.vault.copies in
+    let s = (engine_view stored it.log it.pool media).state in
+    let r = c.args.next in
+    let calls : Calls s r =
+    subst (λ (v : EngineView g.row.S.Denot g.row.D.Denot). Calls v.state r) (sym c.self.view_is) c.requires.called in
+    let fit = c.self.invariant.fit in
+    let come = comes s r fit calls in
+    let of_log = c.fetch.ensures.kept (log_of s) (c.make_room-else-is_err.ensures.kept (log_of s)
+    c.self.invariant.pool_of_log) in
+    (log_of s, (of_log, valid_with s r fit come))
+
+came : (g : given.Over) (c : goal.After-change g)
+    → (engine_view g.S.PageStore.stored c.self.inside.log c.fetch.new.self
+    (media_view c.self.inside.master c.self.inside.session c.self.inside.vault.copies)).state
+    ≡ with_page (engine_view g.S.PageStore.stored c.self.inside.log c.self.inside.pool
+    (media_view c.self.inside.master c.self.inside.session c.self.inside.vault.copies)).state c.args.page
+came g c =
+    let it = c.self.inside in
+    let stored = g.S.PageStore.stored in
+    let media = media_view it.master it.session it.vault.copies in
+    let s = (engine_view stored it.log it.pool media).state in
+    let p = c.args.page in
+    let same = c.make_room-else-is_err.ensures.same in
+    let of_room = c.make_room-else-is_err.ensures.kept (log_of s) c.self.invariant.pool_of_log in
+    let now = said c.fetch.result _ (sym c.is_err-2.ensures.value ∙ c.if-is_err-3.false) c.fetch.ensures.fetched
+    (log_of s) (formatted p) of_room in
+    fetched_is stored it.log it.pool c.fetch.new.self media p (sym c.is_resident.ensures ∙ c.if-is_resident.false)
+    (c.fetch.ensures.stored ∙ ap (λ (v : PoolView g.row.S.Denot). stored v.store) same)
+    (c.fetch.ensures.frames ∙ ap (λ (v : PoolView g.row.S.Denot). v.frames) same)
+    (c.fetch.ensures.states ∙ ap (λ (v : PoolView g.row.S.Denot). v.states) same)
+    (subst (λ (v : PoolView g.row.S.Denot). c.fetch.new.self.resident ≡ fetched v.frames
+    (is_clean it.log.log.records (written_of v.states)) v.resident (get_or (stored v.store) p (formatted p))) same now)
+
+grown : (g : given.Over) (c : goal.After-change g)
+    → (engine_view g.S.PageStore.stored c.append-2.new.self c.change.new.self
+    (media_view c.self.inside.master c.self.inside.session c.self.inside.vault.copies)).state
+    ≡ appended (engine_view g.S.PageStore.stored c.self.inside.log c.fetch.new.self
+    (media_view c.self.inside.master c.self.inside.session c.self.inside.vault.copies)).state c.args.next
+grown g c =
+    let it = c.self.inside in
+    let stored = g.S.PageStore.stored in
+    let media = media_view it.master it.session it.vault.copies in
+    appended_is stored it.log c.make_room.new.self c.append-2.new.self c.fetch.new.self c.change.new.self media
+    c.args.next c.make_room.ensures.same c.make_room.ensures.forced_end c.append-2.ensures.next
+    c.append-2.ensures.forced_end (ap (λ x. stored x) c.change.ensures.store) c.change.ensures.frames
+    c.change.ensures.pages c.change.ensures.written c.change.ensures.writing
+
+pub invariant_of-self-2 : goal.invariant_of-self-2
+invariant_of-self-2 g c =
+    let it = c.self.inside in
+    let stored = g.S.PageStore.stored in
+    let media = media_view it.master it.session it.vault.copies in
+    let s = (engine_view stored it.log it.pool media).state in
+    let r = c.args.next in
+    let calls : Calls s r =
+    subst (λ (v : EngineView g.row.S.Denot g.row.D.Denot). Calls v.state r) (sym c.self.view_is) c.requires.called in
+    let fit = c.self.invariant.fit in
+    let come = comes s r fit calls in
+    let within : c.args.page < s.pages =
+    subst (λ (v : EngineView g.row.S.Denot g.row.D.Denot). c.args.page < v.state.pages) (sym c.self.view_is)
+    c.requires.within in
+    let of_log = c.fetch.ensures.kept (log_of s) (c.make_room-else-is_err.ensures.kept (log_of s)
+    c.self.invariant.pool_of_log) in
+    let noted = said c.note.result _ (sym c.is_err-3.ensures.value ∙ c.if-is_err-4.false) c.note.ensures.ok
+    s.log c.self.invariant.table_of_log come.may_follow in
+    after_fetch stored s (engine_view stored it.log c.fetch.new.self media).state _ c.args.page it.txns c.note.new.self
+    it.pool c.fetch.new.self c.change.new.self media r c.self.invariant come within c.requires.page (came g c) of_log
+    noted (c.change.ensures.kept (log_of s) of_log (valid_with s r fit come)) (grown g c)
+
+pub returns-clause-ok : goal.returns-clause-ok
+returns-clause-ok g c =
+    subst (λ (v : EngineView g.row.S.Denot g.row.D.Denot).
+    (engine_view g.S.PageStore.stored c.append-2.new.self c.change.new.self
+    (media_view c.self.inside.master c.self.inside.session c.self.inside.vault.copies)).state
+    ≡ appended (with_page v.state c.args.page) c.args.next) c.self.view_is
+    (grown g c ∙ ap (λ (t : EngineState). appended t c.args.next) (came g c))

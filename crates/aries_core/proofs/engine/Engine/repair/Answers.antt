@@ -1,0 +1,79 @@
+use Rattle.std.proofs.Common.{◌≡◌, ◌∙◌, ◌<◌, ℕ, length, max, ap, subst, sym, arith}
+use Rattle.std.specs.Prelude.{None, Result, Ok, Err, OnOk, is_err, false}
+use Rattle.page_core.specs.declared.numbers.Lsn.{Lsn}
+use Rattle.page_core.specs.declared.page.Page.{Page}
+use Rattle.log_records.specs.Image.{image}
+use Rattle.aries_core.specs.declared.event.Answer.TheVariants as answer
+use Rattle.aries_core.specs.declared.event.Event.TheVariants as event
+use Rattle.aries_core.specs.declared.refusal.Refusal.{Refusal}
+use Rattle.aries_core.specs.EngineState.{EngineView, engine_view, log_of, page_now}
+use Rattle.aries_core.specs.Refusal.{refusal}
+use Rattle.aries_core.specs.Step.{Step, reply_of}
+use Rattle.aries_core.specs.OpenCkpt.{media_view}
+use Rattle.aries_core.proofs.Refusals.{repair_passes}
+use Rattle.aries_core.proofs.Repairs.{done, half_done}
+use Rattle.aries_core.proofs.WriteCalls.{Called, force_kept}
+use Rattle.aries_core.proofs.engine.Engine.repair.Goals.{in-Ok, in-Err}
+use Rattle.aries_core.proofs.engine.Engine.repair.Given as given
+use Rattle.aries_core.proofs.engine.Engine.repair.Goals as goal
+
+-- what an answer that is no `Err` says
+said : {T E : Type 0} (r : Result T E) (P : Type 0) → is_err r ≡ false → OnOk r P → P
+said (Ok x) P ok h = h
+said (Err e) P ok h = cc
+
+call : (g : given.Over) (c : goal.Joined-repair g)
+    → Called g.S.PageStore.stored c.self.inside.log c.force_to.new.self c.self.inside.txns c.self.inside.pool
+    c.repair.new.self (media_view c.self.inside.master c.self.inside.session c.self.inside.vault.copies)
+    (event.Repair c.args.copy c.args.page) (reply_of (λ lsn. answer.Repaired lsn) c.match-repair.result)
+call g c =
+    let it = c.self.inside in
+    let stored = g.S.PageStore.stored in
+    let media = media_view it.master it.session it.vault.copies in
+    let copy = c.args.copy in
+    let p = c.args.page in
+    let q = c.in_ok-rebuilt.rebuilt in
+    let s = (engine_view stored it.log it.pool media).state in
+    let none : refusal s (event.Repair copy p) ≡ None =
+    subst (λ (v : EngineView g.row.S.Denot g.row.D.Denot). refusal v.state (event.Repair copy p) ≡ None)
+    (sym c.self.view_is) c.in_ok-find_repairable.ensures.may in
+    let count = c.self.invariant.pool_of_log.pages in
+    let below = (repair_passes s copy p none).within in
+    let within : p < length it.pool.states = omega arith in
+    let now : q ≡ image it.log.log.records p =
+    c.in_ok-rebuilt.ensures.rebuilt
+    ∙ sym (ap (λ (v : EngineView g.row.S.Denot g.row.D.Denot). page_now v.state p) c.self.view_is) in
+    let forced = said c.force_to.result _ (sym c.is_err.ensures.value ∙ c.if-is_err.false) c.force_to.ensures.forced in
+    let of_log = c.repair.ensures.kept (log_of s) c.self.invariant.pool_of_log now in
+    elim c.match-repair.branch [
+      | in-Ok w ↦
+          subst (λ (r : Result Lsn Refusal). Called stored it.log c.force_to.new.self it.txns it.pool c.repair.new.self
+          media (event.Repair copy p) (reply_of (λ lsn. answer.Repaired lsn) r)) (sym w.result-is)
+          (done stored it.log c.force_to.new.self it.txns it.pool c.repair.new.self media copy p q
+          c.self.invariant none within now c.force_to.ensures.same forced
+          w.in-Ok.ensures.stored w.in-Ok.ensures.clean of_log)
+      | in-Err w ↦
+          subst (λ (r : Result Lsn Refusal). Called stored it.log c.force_to.new.self it.txns it.pool c.repair.new.self
+          media (event.Repair copy p) (reply_of (λ lsn. answer.Repaired lsn) r)) (sym w.result-is)
+          (half_done stored it.log c.force_to.new.self it.txns it.pool c.repair.new.self media copy p q
+          c.self.invariant none now c.force_to.ensures.same forced
+          w.in-Err.ensures.either w.in-Err.ensures.stays of_log)
+    ]
+
+pub invariant_of-self : goal.invariant_of-self
+invariant_of-self g c =
+    let it = c.self.inside in
+    force_kept g.S.PageStore.stored it.log c.force_to.new.self it.txns it.pool
+    (media_view it.master it.session it.vault.copies)
+    c.self.invariant c.force_to.ensures.same c.force_to.ensures.rising c.force_to.ensures.at_record
+
+pub invariant_of-self-2 : goal.invariant_of-self-2
+invariant_of-self-2 g c = (call g c).kept
+
+pub returns-clause-step : goal.returns-clause-step
+returns-clause-step g c =
+    subst (λ (v : EngineView g.row.S.Denot g.row.D.Denot). Step v.state (event.Repair c.args.copy c.args.page)
+    (reply_of (λ lsn. answer.Repaired lsn) c.match-repair.result)
+    (engine_view g.S.PageStore.stored c.force_to.new.self c.repair.new.self
+    (media_view c.self.inside.master c.self.inside.session c.self.inside.vault.copies)).state)
+    c.self.view_is (call g c).step

@@ -1,0 +1,235 @@
+//! The engine's work on a page that it may have to read from the store first. All memory that a call
+//! takes is taken before that, so a fault of the store leaves everything as it was.
+
+ghost use Rattle.std.specs.Prelude.{◌≡◌, ◌<◌, false, IfOk, IfErr, IfSome, OnOk, OnErr, None, Some};
+ghost use Rattle.page_core.specs.declared.page.TheConstants.{SLOTS};
+ghost use Rattle.log_records.specs.Record.{change_of};
+ghost use Rattle.log_history.specs.Ahead.{with_before};
+ghost use Rattle.log_history.specs.Growth.{MayGrow};
+ghost use Rattle.log_history.specs.Linked.{number_in};
+ghost use Rattle.log_history.specs.Transactions.{last_lsn};
+ghost use Rattle.buffer_pool.specs.Frames.{IsResident, is_resident};
+ghost use Rattle.aries_core.specs.Call.{Calls};
+ghost use Rattle.aries_core.specs.EngineState.{appended, end, update_record, with_page};
+ghost use Rattle.aries_core.specs.Refusal.{frame_refusal, page_refusal};
+ghost use Rattle.aries_core.specs.Step.{FailsFetching, IsByStore};
+
+use crate::engine::Engine;
+use crate::refusal::Refusal;
+use log_history::PendingChange;
+use log_records::Record;
+use log_store::LogDevice;
+use page_core::{Change, Lsn, PageNo, SlotNo, TxnNo};
+use page_store::PageStore;
+
+/// The change, with this number before it where it is a Set.
+fn with_number(change: Change, number: u64) -> Change
+    ensures { result ≡ with_before change number }
+{
+    match change {
+        Change::Set { after, .. } => Change::Set {
+            before: number,
+            after,
+        },
+        Change::Add { amount } => Change::Add { amount },
+    }
+}
+
+impl<S: PageStore, D: LogDevice> Engine<S, D> {
+    /// Whether a frame can be had for a page, where it has none.
+    pub(crate) fn find_frame(&self, page: PageNo) -> Result<(), Refusal>
+        ensures refused { IfErr result (λ why. frame_refusal self.now.state page ≡ Some why) }
+        ensures free { OnOk result (frame_refusal self.now.state page ≡ None) }
+    {
+        if !self.pool.is_resident(page) && self.pool.is_full() {
+            return Err(Refusal::PoolFull);
+        }
+        Ok(())
+    }
+
+    /// The number in a slot of a page in memory.
+    pub(crate) fn number(&self, page: PageNo, slot: SlotNo) -> u64
+        requires slot { slot < SLOTS }
+        requires there { IsResident self.now.state.resident page }
+        ensures { result ≡ number_in self.now.state.log page slot }
+    {
+        self.pool.current(page).slots[slot.0 as usize]
+    }
+
+    /// Brings a page into memory, where it is not. Refusals in order: `OutOfMemory`, `StoreFault`.
+    pub(crate) fn bring_in(&mut self, page: PageNo) -> Result<(), Refusal>
+        requires within { page < self.old.state.pages }
+        requires frame { frame_refusal self.old.state page ≡ None }
+        ensures ok { OnOk result (self.new.state ≡ with_page self.old.state page) }
+        ensures there { OnOk result (IsResident self.new.state.resident page) }
+        ensures err { IfErr result (λ why. FailsFetching self.old.state page why) }
+        ensures same { OnErr result (self.new.state ≡ self.old.state) }
+        ensures absent { OnErr result (is_resident self.old.state.resident page ≡ false) }
+        ensures device { self.new.device ≡ self.old.device }
+        ensures store { IsResident self.old.state.resident page → self.new.store ≡ self.old.store }
+        ensures store_refused { IfErr result (λ why. ¬ IsByStore why
+            → self.new.store ≡ self.old.store) }
+        ensures no_store_failure { OnOk result
+            (S.failures self.new.store ≡ S.failures self.old.store) }
+        ensures store_cause { IfErr result (λ why. IsByStore why
+            → S.failures self.old.store < S.failures self.new.store) }
+    {
+        if self.pool.is_resident(page) {
+            return Ok(());
+        }
+        if self.pool.make_room().is_err() {
+            return Err(Refusal::OutOfMemory);
+        }
+        if self.pool.fetch(page).is_err() {
+            return Err(Refusal::StoreFault);
+        }
+        Ok(())
+    }
+
+    /// Appends the Update of a change that may be made. Where it is a Set, the number before it is
+    /// read here. Refusals are those of `bring_in`.
+    pub(crate) fn update(
+        &mut self,
+        txn: TxnNo,
+        prev: Lsn,
+        page: PageNo,
+        slot: SlotNo,
+        ahead: Change,
+    ) -> Result<Lsn, Refusal>
+        requires last { prev ≡ last_lsn self.old.state.log txn }
+        requires place { page_refusal self.old.state page slot ≡ None }
+        requires frame { frame_refusal self.old.state page ≡ None }
+        requires called { Calls self.old.state (update_record self.old.state txn page slot
+            (with_before ahead (number_in self.old.state.log page slot))) }
+        ensures ok { IfOk result (λ lsn. (lsn ≡ end self.old.state)
+            × (self.new.state ≡ appended (with_page self.old.state page)
+            (update_record self.old.state txn page slot
+            (with_before ahead (number_in self.old.state.log page slot))))) }
+        ensures err { IfErr result (λ why. FailsFetching self.old.state page why) }
+        ensures same { OnErr result (self.new.state ≡ self.old.state) }
+        ensures device { self.new.device ≡ self.old.device }
+        ensures store { IsResident self.old.state.resident page → self.new.store ≡ self.old.store }
+        ensures store_refused { IfErr result (λ why. ¬ IsByStore why
+            → self.new.store ≡ self.old.store) }
+        ensures no_store_failure { OnOk result
+            (S.failures self.new.store ≡ S.failures self.old.store) }
+        ensures store_cause { IfErr result (λ why. IsByStore why
+            → S.failures self.old.store < S.failures self.new.store) }
+    {
+        let lsn = self.log.end();
+        if self.pool.is_resident(page) {
+            let change = with_number(ahead, self.number(page, slot));
+            self.append(Record::Update {
+                lsn,
+                txn,
+                prev,
+                page,
+                slot,
+                change,
+            })?;
+            return Ok(lsn);
+        }
+        self.update_fetching(txn, prev, page, slot, ahead)
+    }
+
+    /// The same where the page is not in memory. The change is noted before its number is known,
+    /// since that takes memory, and taken back where the store fails.
+    fn update_fetching(
+        &mut self,
+        txn: TxnNo,
+        prev: Lsn,
+        page: PageNo,
+        slot: SlotNo,
+        ahead: Change,
+    ) -> Result<Lsn, Refusal>
+        requires last { prev ≡ last_lsn self.old.state.log txn }
+        requires place { page_refusal self.old.state page slot ≡ None }
+        requires absent { is_resident self.old.state.resident page ≡ false }
+        requires frame { frame_refusal self.old.state page ≡ None }
+        requires called { Calls self.old.state (update_record self.old.state txn page slot
+            (with_before ahead (number_in self.old.state.log page slot))) }
+        ensures ok { IfOk result (λ lsn. (lsn ≡ end self.old.state)
+            × (self.new.state ≡ appended (with_page self.old.state page)
+            (update_record self.old.state txn page slot
+            (with_before ahead (number_in self.old.state.log page slot))))) }
+        ensures err { IfErr result (λ why. FailsFetching self.old.state page why) }
+        ensures same { OnErr result (self.new.state ≡ self.old.state) }
+        ensures device { self.new.device ≡ self.old.device }
+        ensures store_refused { IfErr result (λ why. ¬ IsByStore why
+            → self.new.store ≡ self.old.store) }
+        ensures no_store_failure { OnOk result
+            (S.failures self.new.store ≡ S.failures self.old.store) }
+        ensures store_cause { IfErr result (λ why. IsByStore why
+            → S.failures self.old.store < S.failures self.new.store) }
+    {
+        if self.log.make_room().is_err() || self.pool.make_room().is_err() {
+            return Err(Refusal::OutOfMemory);
+        }
+        let lsn = self.log.end();
+        let noted = PendingChange {
+            lsn,
+            prev,
+            page,
+            slot,
+            change: ahead,
+        };
+        if self.txns.note_ahead(txn, noted).is_err() {
+            return Err(Refusal::OutOfMemory);
+        }
+        if self.pool.fetch(page).is_err() {
+            self.txns.take_back(txn, prev);
+            return Err(Refusal::StoreFault);
+        }
+        let before = self.pool.current(page).slots[slot.0 as usize];
+        self.txns.settle(txn, before);
+        let next = Record::Update {
+            lsn,
+            txn,
+            prev,
+            page,
+            slot,
+            change: with_number(ahead, before),
+        };
+        self.log.append(next);
+        self.pool.change(&next);
+        Ok(lsn)
+    }
+
+    /// Appends the record of an accepted call that changes this page and takes no memory in the
+    /// table of transactions. Refusals are those of `bring_in`.
+    pub(crate) fn append_fetching(&mut self, page: PageNo, next: Record) -> Result<(), Refusal>
+        requires called { Calls self.old.state next }
+        requires page { IfSome (change_of next) (λ c. c.page ≡ page) }
+        requires within { page < self.old.state.pages }
+        requires settled { ¬ MayGrow next }
+        requires frame { frame_refusal self.old.state page ≡ None }
+        ensures ok { OnOk result
+            (self.new.state ≡ appended (with_page self.old.state page) next) }
+        ensures err { IfErr result (λ why. FailsFetching self.old.state page why) }
+        ensures same { OnErr result (self.new.state ≡ self.old.state) }
+        ensures device { self.new.device ≡ self.old.device }
+        ensures store { IsResident self.old.state.resident page → self.new.store ≡ self.old.store }
+        ensures store_refused { IfErr result (λ why. ¬ IsByStore why
+            → self.new.store ≡ self.old.store) }
+        ensures no_store_failure { OnOk result
+            (S.failures self.new.store ≡ S.failures self.old.store) }
+        ensures store_cause { IfErr result (λ why. IsByStore why
+            → S.failures self.old.store < S.failures self.new.store) }
+    {
+        if self.pool.is_resident(page) {
+            return self.append(next);
+        }
+        if self.log.make_room().is_err() || self.pool.make_room().is_err() {
+            return Err(Refusal::OutOfMemory);
+        }
+        if self.pool.fetch(page).is_err() {
+            return Err(Refusal::StoreFault);
+        }
+        if self.txns.note(&next).is_err() {
+            unreachable!();
+        }
+        self.log.append(next);
+        self.pool.change(&next);
+        Ok(())
+    }
+}

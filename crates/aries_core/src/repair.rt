@@ -1,0 +1,96 @@
+//! The engine's call that stores a page anew, rebuilt from image copies and the log.
+
+ghost use Rattle.std.specs.Prelude.{◌≡◌, ◌<◌, ◌≤◌, Some, None, IfOk, IfErr, OnOk};
+ghost use Rattle.aries_core.specs.EngineState.{end, page_now};
+ghost use Rattle.aries_core.specs.Refusal.{refusal};
+ghost use Rattle.aries_core.specs.Step.{FailsForcing, Forces, IsByDevice, IsByStore, Step, reply_of};
+ghost use Rattle.aries_core.specs.declared.event.Answer.TheVariants as answer;
+ghost use Rattle.aries_core.specs.declared.event.Event.TheVariants as event;
+
+use crate::engine::Engine;
+use crate::refusal::Refusal;
+use copy_vault::CopyId;
+use log_store::LogDevice;
+use page_core::{Lsn, Page, PageNo};
+use page_redo::rebuild_page;
+use page_store::PageStore;
+
+impl<S: PageStore, D: LogDevice> Engine<S, D> {
+    /// Stores a page anew, as where its stored page cannot be read, and answers its LSN. A complete
+    /// copy, those that it stands on, and the log give the page as it is now (ARIES, section 8).
+    /// The log is forced through its LSN, then it is stored, and is not dirty any more. No page is
+    /// fetched, and a frame that has this one stays as it is.
+    ///
+    /// Refusals in order: `NoCopy`, `CopyNotComplete`, `PageOut`, `WriteBegun`, `OutOfMemory`,
+    /// `LogFault`, `StoreFault`. At `StoreFault` the log is forced, the old page is stored or the
+    /// new one, and the page is as dirty as before.
+    pub fn repair(&mut self, copy: CopyId, page: PageNo) -> Result<Lsn, Refusal>
+        ensures step { Step self.old.state (event.Repair copy page)
+            (reply_of answer.Repaired result) self.new.state }
+        ensures refused { IfErr result (λ why. ¬ IsByDevice why → ¬ IsByStore why
+            → self.new.device ≡ self.old.device) }
+        ensures called { OnOk result (Forces D.called self.old self.new) }
+        ensures forced_first { IfErr result (λ why. IsByStore why
+            → Forces D.called self.old self.new) }
+        ensures last_call { IfErr result (λ why. IsByDevice why
+            → FailsForcing D.called self.old self.new) }
+        ensures no_failure { OnOk result
+            (D.failures self.new.device ≡ D.failures self.old.device) }
+        ensures sound { IfErr result (λ why. ¬ IsByDevice why
+            → D.failures self.new.device ≡ D.failures self.old.device) }
+        ensures cause { IfErr result (λ why. IsByDevice why
+            → D.failures self.old.device < D.failures self.new.device) }
+        ensures same_bound { D.fails_from self.new.device ≡ D.fails_from self.old.device }
+        ensures past_bound { IfErr result (λ why. IsByDevice why
+            → D.fails_from self.old.device ≤ end self.new.state) }
+
+        ensures store_refused { IfErr result (λ why. ¬ IsByStore why
+            → self.new.store ≡ self.old.store) }
+        ensures no_store_failure { OnOk result
+            (S.failures self.new.store ≡ S.failures self.old.store) }
+        ensures store_cause { IfErr result (λ why. IsByStore why
+            → S.failures self.old.store < S.failures self.new.store) }
+    {
+        self.find_repairable(copy, page)?;
+        let rebuilt = self.rebuild(copy, page)?;
+        if self.log.force_to(rebuilt.lsn).is_err() {
+            return Err(Refusal::LogFault);
+        }
+        match self.pool.repair(page, &rebuilt) {
+            Ok(()) => Ok(rebuilt.lsn),
+            Err(_) => Err(Refusal::StoreFault),
+        }
+    }
+
+    /// The copy is complete, and the page is one of the volume of which no write is in progress.
+    fn find_repairable(&self, copy: CopyId, page: PageNo) -> Result<(), Refusal>
+        ensures refused { IfErr result (λ why.
+            refusal self.now.state (event.Repair copy page) ≡ Some why) }
+        ensures may { OnOk result (refusal self.now.state (event.Repair copy page) ≡ None) }
+    {
+        if self.vault.complete(copy).is_none() {
+            return Err(if self.vault.reading(copy).is_some() {
+                Refusal::CopyNotComplete
+            } else {
+                Refusal::NoCopy
+            });
+        }
+        if page.0 >= self.log.pages() {
+            return Err(Refusal::PageOut);
+        }
+        if self.pool.is_writing(page) {
+            return Err(Refusal::WriteBegun);
+        }
+        Ok(())
+    }
+
+    /// The page as it is now, from the chain of a complete copy and the log.
+    fn rebuild(&self, copy: CopyId, page: PageNo) -> Result<Page, Refusal>
+        requires { refusal self.now.state (event.Repair copy page) ≡ None }
+        ensures rebuilt { IfOk result (λ rebuilt. rebuilt ≡ page_now self.now.state page) }
+        ensures err { IfErr result (λ why. why ≡ Refusal.OutOfMemory) }
+    {
+        let chain = self.vault.chain(self.alloc, copy)?;
+        Ok(rebuild_page(&chain, self.log.records(), page))
+    }
+}

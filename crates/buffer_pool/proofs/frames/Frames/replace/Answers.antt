@@ -1,0 +1,11 @@
+use Rattle.std.proofs.Common.{◌≡◌, ◌∙◌, List, ap}
+use Rattle.page_core.specs.declared.page.Page.{Page}
+use Rattle.buffer_pool.specs.Frames.{is_resident}
+use Rattle.buffer_pool.specs.Pool.{is_clean_in}
+use Rattle.buffer_pool.proofs.Taken.{absent_less}
+use Rattle.buffer_pool.proofs.frames.Frames.replace.Goals as goal
+
+pub put-requires-clause-absent : goal.put-requires-clause-absent
+put-requires-clause-absent c =
+    ap (λ (pages : List Page). is_resident pages c.args.page.number) c.give_up-given_up.ensures.pages
+    ∙ absent_less (is_clean_in c.args.states.now) c.args.self.now.pages c.args.page.number c.requires.absent

@@ -1,0 +1,13 @@
+use Rattle.std.proofs.Common.{◌≡◌, ◌-◌, length, map}
+use Rattle.copy_vault.specs.ChainReading.{IsReading}
+use Rattle.copy_vault.proofs.chain_pages.read_chain_pages.Given as goal
+
+abbrev pub invariant-pages : goal.invariant-pages
+invariant-pages g l = record {
+  reading : IsReading (map g.R.Read.remaining l.fn.readers) (map g.R.Read.remaining l.readers) l.chain l.given.items;
+  pages : l.chain.pages ≡ l.fn.pages;
+  end : l.chain.end ≡ l.fn.end;
+}
+
+abbrev pub decreases-pages : goal.decreases-pages
+decreases-pages g l = l.fn.pages - length l.given.items

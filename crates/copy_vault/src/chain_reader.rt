@@ -1,0 +1,190 @@
+//! Gives the pages of a chain from the readers of its archives.
+
+ghost use Rattle.std.specs.Prelude.{ℕ, ◌≡◌, ◌<◌, ◌≤◌, [], List, length, map, slice_index_or};
+ghost use Rattle.std.specs.Prelude.{Option, Err, Some, IfOk, IfErr, true, false};
+ghost use Rattle.page_core.specs.declared.page.Page.{Page};
+ghost use Rattle.copy_vault.specs.declared.archive_cursor.ArchiveCursor.{ArchiveCursor};
+ghost use Rattle.copy_vault.specs.declared.chain_read_fault.ChainReadFault.{ChainReadFault};
+ghost use Rattle.copy_vault.specs.ChainRead.{IsHeadFit, IsNew, last_point};
+ghost use Rattle.copy_vault.specs.ChainReading.{AreOpened, GoesOn, IsHeadRefused};
+ghost use Rattle.copy_vault.specs.ChainReading.{IsNotMade, IsNotOpened, IsReading, IsStopped};
+ghost use Rattle.copy_vault.specs.ChainReading.{heads_of};
+
+use crate::archive_cursor::ArchiveCursor;
+use crate::chain_read_fault::ChainReadFault;
+use crate::copy_id::{CopyId, CopyKind};
+use crate::cursors::give_page;
+use page_core::{Lsn, Page};
+use std::alloc::Global;
+use std::io::Read;
+
+/// Gives the pages of a chain of archives, in order of their numbers. The archives are read side by
+/// side, and of each one just the page that was read last is kept. Its readers are lent to each
+/// call, always the same ones in the same order.
+#[derive(Drop)]
+pub struct ChainReader {
+    /// How many pages the volume has.
+    pages: u32,
+    /// The log's end.
+    end: Lsn,
+    /// The redo point of the last archive.
+    redo: Lsn,
+    cursors: Vec<ArchiveCursor>,
+    /// How many pages were given.
+    given: u32,
+    /// Why no more are given.
+    failed: Option<ChainReadFault>,
+}
+
+impl ChainReader {
+    /// Reads the headers of the archives of a chain, the full one first, for a volume of so many
+    /// pages and a log that ends there. All memory is taken here.
+    ///
+    /// Refusals in order: `ChainBroken` with 0 where no archive is given; `OutOfMemory`; archive by
+    /// archive `ReadFault`, `BadArchive` with 0, and `ChainBroken` where it does not fit behind
+    /// those before it; then `RedoBeyondLog`.
+    pub fn new<R: Read>(
+        alloc: Global,
+        readers: &mut [R],
+        pages: u32,
+        end: Lsn,
+    ) -> Result<ChainReader, ChainReadFault>
+        ensures ok { IfOk result (λ it. IsReading (map (λ r. R.remaining r) readers.old)
+            (map (λ r. R.remaining r) readers.new) it []) }
+        ensures pages { IfOk result (λ it. it.pages ≡ pages) }
+        ensures end { IfOk result (λ it. it.end ≡ end) }
+        ensures err { IfErr result (IsNotMade pages end (map (λ r. R.remaining r) readers.old)
+            (map (λ r. R.remaining r) readers.new)) }
+    {
+        if readers.is_empty() {
+            return Err(ChainReadFault::ChainBroken(CopyId(0)));
+        }
+        let cursors = open_all(alloc, readers, pages)?;
+        if is_past(&cursors, end) {
+            return Err(ChainReadFault::RedoBeyondLog);
+        }
+        Ok(ChainReader {
+            pages,
+            end,
+            redo: redo_of_last(&cursors),
+            cursors,
+            given: 0,
+            failed: None,
+        })
+    }
+
+    /// The redo point of the last archive.
+    pub fn redo(&self) -> Lsn
+        ensures { result ≡ self.now.redo }
+    {
+        self.redo
+    }
+
+    /// Gives the next page of the chain, from the last archive that has it, and `None` once all
+    /// were given. The first call reads the first page of each archive, in order. Each archive that
+    /// had the page then reads its next one, in order. Nothing may follow its last page, which is
+    /// looked at as soon as that was read, or in the first call where it has none.
+    ///
+    /// Refusals, as they are met: `ReadFault`; `BadArchive` where a page is misspelt or cut short;
+    /// `PageBeyondLog`; `CountDiffers` where pages are missing, or bytes follow the last one. The
+    /// refusal is answered from then on. This takes no memory.
+    pub fn next<R: Read>(&mut self, readers: &mut [R]) -> Result<Option<Page>, ChainReadFault>
+        // The pages are those of the chain that the archives spell.
+        ensures ok { IfOk result (λ page. (inputs : List (Option (List ℕ))) (given : List Page)
+            → IsReading inputs (map (λ r. R.remaining r) readers.old) self.old given
+            → GoesOn inputs (map (λ r. R.remaining r) readers.new) self.new given page) }
+        // The fault is the first one that is met.
+        ensures err { IfErr result (λ fault. (inputs : List (Option (List ℕ))) (given : List Page)
+            → IsReading inputs (map (λ r. R.remaining r) readers.old) self.old given
+            → IsStopped self.old.pages self.old.end inputs (map (λ r. R.remaining r) readers.new)
+            fault) }
+        ensures failed { IfErr result (λ fault. self.new.failed ≡ Some fault) }
+        // It is answered again, and nothing is read.
+        ensures again { (fault : ChainReadFault) → self.old.failed ≡ Some fault
+            → result ≡ Err fault }
+        ensures still { (fault : ChainReadFault) → self.old.failed ≡ Some fault
+            → readers.new ≡ readers.old }
+        ensures pages { self.new.pages ≡ self.old.pages }
+        ensures end { self.new.end ≡ self.old.end }
+        ensures redo { self.new.redo ≡ self.old.redo }
+    {
+        if let Some(fault) = self.failed {
+            return Err(fault);
+        }
+        if self.given >= self.pages {
+            return Ok(None);
+        }
+        let step = give_page(&mut self.cursors, readers, self.given, self.end);
+        if let Err(fault) = &step {
+            self.failed = Some(*fault);
+            return Err(*fault);
+        }
+        let page = step?;
+        self.given += 1;
+        Ok(Some(page))
+    }
+}
+
+/// Reads the header of an archive, which has to be of a copy of this kind and of so many pages.
+fn open_fitting<R: Read>(
+    reader: &mut R,
+    pages: u32,
+    kind: CopyKind,
+) -> Result<ArchiveCursor, ChainReadFault>
+    ensures new { IfOk result (IsNew (R.remaining reader.old) (R.remaining reader.new)) }
+    ensures fit { IfOk result (λ it. IsHeadFit pages kind it.header) }
+    ensures err { IfErr result (IsHeadRefused pages kind (R.remaining reader.old)
+        (R.remaining reader.new)) }
+{
+    let cursor = ArchiveCursor::open(reader)?;
+    if cursor.header.kind != kind || cursor.header.pages != pages {
+        return Err(ChainReadFault::ChainBroken(cursor.header.id));
+    }
+    Ok(cursor)
+}
+
+/// Reads the headers of a chain's archives, in order.
+fn open_all<R: Read>(
+    alloc: Global,
+    readers: &mut [R],
+    pages: u32,
+) -> Result<Vec<ArchiveCursor>, ChainReadFault>
+    ensures opened { IfOk result (λ its. AreOpened pages (map (λ r. R.remaining r) readers.old)
+        (map (λ r. R.remaining r) readers.new) its.items) }
+    ensures all { IfOk result (λ its. length its.items ≡ length readers.old) }
+    ensures err { IfErr result (IsNotOpened pages (map (λ r. R.remaining r) readers.old)
+        (map (λ r. R.remaining r) readers.new)) }
+{
+    let mut cursors = Vec::with_capacity(alloc, readers.len())?;
+    let mut kind = CopyKind::Full;
+    for i in 0..readers.len() {
+        let cursor = open_fitting(&mut readers[i], pages, kind)?;
+        kind = cursor.kind_behind();
+        cursors.push(cursor)?;
+    }
+    Ok(cursors)
+}
+
+/// Whether a redo point is at or past the log's end.
+fn is_past(cursors: &[ArchiveCursor], end: Lsn) -> bool
+    ensures past { result ≡ true → (k : ℕ) × (k < length cursors.now)
+        × ((it : ArchiveCursor) → end ≤ (slice_index_or cursors.now k it).header.redo) }
+    ensures below { result ≡ false → (k : ℕ) (it : ArchiveCursor) → k < length cursors.now
+        → (slice_index_or cursors.now k it).header.redo < end }
+{
+    for i in 0..cursors.len() {
+        let redo = cursors[i].header.redo;
+        if redo.0 >= end.0 {
+            return true;
+        }
+    }
+    false
+}
+
+/// The redo point of the last archive.
+fn redo_of_last(cursors: &[ArchiveCursor]) -> Lsn
+    requires { 0 < length cursors.now }
+    ensures { result ≡ last_point (heads_of cursors.now) }
+{
+    cursors[cursors.len() - 1].header.redo
+}

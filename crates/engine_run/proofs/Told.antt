@@ -1,0 +1,102 @@
+-- What a settled run tells.
+use Rattle.std.proofs.Common.{ℕ, ◌≡◌, List, [], take, arith, refl, subst, sym, inl, inr}
+use Rattle.std.proofs.Common.{IsSomeAnd}
+use Rattle.std.specs.List.{All, filter_map}
+use Rattle.std.proofs.lemmas.List.Elements.{All-weaker}
+use Rattle.log_records.specs.Log.{Log}
+use Rattle.copy_vault.specs.Copy.{CopyView}
+use Rattle.copy_vault.specs.declared.copy_id.CopyKind.TheVariants.{Full}
+use Rattle.copy_vault.specs.Vault.{CopyState, complete, complete_of, dropped, reading, state_of}
+use Rattle.copy_coverage.specs.Copied.{Restores}
+use Rattle.copy_coverage.specs.Kept.{IsKeptOf}
+use Rattle.copy_coverage.specs.Retired.{IsRetired, RetiredView}
+use Rattle.settlement.specs.declared.receipt.Receipt.{Receipt}
+use Rattle.settlement.specs.declared.receipt.Receipt.TheVariants.{Read}
+use Rattle.settlement.specs.Receipt.{written}
+use Rattle.settlement.specs.Session.{AllStand}
+use Rattle.settlement.specs.Sessions.{AreApart, IsCommitIn, all_receipts}
+use Rattle.settlement.proofs.Kept.{commits_kept, own_write}
+use Rattle.settlement.proofs.Marking.{times-append}
+use Rattle.engine_run.specs.declared.work.Work.{Work}
+use Rattle.engine_run.specs.declared.work.Work.TheVariants.{Copied, Pointed}
+use Rattle.engine_run.specs.Laws.{IsRestoredBy, ReadsItsOwn}
+use Rattle.engine_run.specs.Settled.{Evidence, IsSettled, IsWrongAt, WorkStands, begin_of, evidence_in}
+
+-- the records of receipts have LSNs that differ
+pub records_apart : (e : Evidence) (sessions : List (List Receipt)) (works : List Work)
+    → IsSettled e sessions works → AreApart (written (all_receipts sessions))
+records_apart e sessions works settled x =
+    let both = times-append x (written (all_receipts sessions)) (filter_map begin_of works) in
+    let few = settled.lsns x in
+    omega arith
+
+pub commits_told : (left : RetiredView) (sessions : List (List Receipt)) (works : List Work)
+    (kept : Log) → IsSettled (evidence_in left) sessions works
+    → IsKeptOf left.log left.forced_end kept → All (All (IsCommitIn kept.records)) sessions
+commits_told left sessions works kept settled is_kept =
+    let rs = left.log.records in
+    let of_log : All (All (IsCommitIn (take is_kept.count rs))) sessions =
+    All-weaker (AllStand rs left.forced_end) (All (IsCommitIn (take is_kept.count rs)))
+    (λ xs stand. commits_kept rs left.forced_end is_kept.count xs is_kept.forced stand) sessions
+    settled.receipts in
+    subst (λ (lg : Log). All (All (IsCommitIn lg.records)) sessions) (sym is_kept.made) of_log
+
+pub reads_told : (left : RetiredView) (sessions : List (List Receipt)) (works : List Work)
+    → IsRetired left → IsSettled (evidence_in left) sessions works
+    → All (ReadsItsOwn left.log.records) sessions
+reads_told left sessions works retired settled =
+    let rs = left.log.records in
+    All-weaker (AllStand rs left.forced_end) (ReadsItsOwn rs)
+    (λ xs stand j k d before within is reads.
+    own_write left.log left.forced_end xs j k d retired.valid stand before within is) sessions
+    settled.receipts
+
+-- a copy that is found is complete
+found_complete : (state : CopyState) (P : CopyView → Type 0) → IsSomeAnd (complete_of state) P
+    → (copy : CopyView) × (state ≡ complete copy)
+found_complete (reading copy) P found = elim found [ ]
+found_complete (complete copy) P found = (copy, refl)
+found_complete dropped P found = elim found [ ]
+
+restored_by : (left : RetiredView) (kept : Log)
+    → ((id : ℕ) (copy : CopyView) → state_of left.copies id ≡ complete copy
+    → Restores left.copies left.log.pages copy kept.records)
+    → (w : Work) → WorkStands (evidence_in left) w
+    → IsRestoredBy left.copies left.log.pages kept.records w
+restored_by left kept restores (Pointed point) stands = tt
+restored_by left kept restores (Copied id kind taken) stands =
+    let found = found_complete (state_of left.copies id) _ stands in
+    (found.0, found.1, restores id found.0 found.1)
+
+pub copies_told : (left : RetiredView) (sessions : List (List Receipt)) (works : List Work)
+    (kept : Log) → IsSettled (evidence_in left) sessions works
+    → ((id : ℕ) (copy : CopyView) → state_of left.copies id ≡ complete copy
+    → Restores left.copies left.log.pages copy kept.records)
+    → All (IsRestoredBy left.copies left.log.pages kept.records) works
+copies_told left sessions works kept settled restores =
+    All-weaker (WorkStands (evidence_in left))
+    (IsRestoredBy left.copies left.log.pages kept.records) (restored_by left kept restores) works
+    settled.work
+
+pub wrong_told : (e : Evidence) (sessions : List (List Receipt)) (works : List Work) (at : ℕ)
+    → IsWrongAt e sessions works at → IsSettled e sessions works → ⊥
+wrong_told e sessions works at (inl (none, differ)) settled = differ settled.counted
+wrong_told e sessions works at (inr (inl (inl bad))) settled =
+    let some : Receipt = Read 0 0 0 0 in
+    bad.bad some
+    (settled.receipts bad.session [] bad.session_within bad.index some bad.index_within)
+wrong_told e sessions works at (inr (inl (inr two))) settled =
+    let few = records_apart e sessions works settled at in
+    absurd (omega arith)
+wrong_told e sessions works at (inr (inr (inl bad))) settled =
+    let some : Work = Copied 0 Full 0 in
+    bad.bad some (settled.work bad.index some bad.within)
+wrong_told e sessions works at (inr (inr (inr (inl two)))) settled =
+    let few = settled.lsns at in
+    absurd (omega arith)
+wrong_told e sessions works at (inr (inr (inr (inr (none, inl bad))))) settled =
+    let some : Work = Copied 0 Full 0 in
+    bad.bad some (settled.work bad.index some bad.within)
+wrong_told e sessions works at (inr (inr (inr (inr (none, inr (id, two)))))) settled =
+    let few = settled.copies id in
+    absurd (omega arith)

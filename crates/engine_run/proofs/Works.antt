@@ -1,0 +1,136 @@
+-- What checkpoints and copies answered, one after another.
+use Rattle.std.proofs.Common.{ℕ, ◌≡◌, ◌≢◌, ◌+◌, ◌<◌, ◌≤◌, ◌++◌, ◌⊎◌, Bool, true, false, List, [], ◌∷◌}
+use Rattle.std.proofs.Common.{length, take, drop, replicate, slice_index_or, slice_set, arith, refl, sym}
+use Rattle.std.proofs.Common.{◌∙◌, ap, subst, if◌then◌else◌, eqb, inl, inr, Option, Some, None}
+use Rattle.std.specs.List.{filter_map}
+use Rattle.std.proofs.lemmas.Bool.Decides.{eqb_tells}
+use Rattle.std.proofs.lemmas.List.{get_or_default, get_or-set_other, get_or-set_same}
+use Rattle.std.proofs.lemmas.List.{take-append-drop, take_more}
+use Rattle.std.proofs.lemmas.List.Elements.{filter_map-append}
+use Rattle.settlement.specs.Marks.{AreMarked}
+use Rattle.settlement.specs.Receipt.{times}
+use Rattle.settlement.specs.Sessions.{AreApart}
+use Rattle.settlement.proofs.Marking.{times-append, times_more}
+use Rattle.settlement.proofs.Sessions.{at_most_one, none_marked, times_one}
+use Rattle.engine_run.specs.Given.{AreGiven}
+use Rattle.engine_run.specs.Settled.{Evidence, HasBadWork, IsWorkBad, IsWorkWrongAt, WorkStands}
+use Rattle.engine_run.specs.Settled.{begin_of, copies_of, copy_of}
+use Rattle.engine_run.specs.declared.work.Work.{Work}
+use Rattle.engine_run.specs.declared.work.Work.TheVariants.{Copied, Pointed}
+
+-- ---- ids of copies that are marked
+
+pub fresh_ids : (n : ℕ) → AreGiven (replicate n false) []
+fresh_ids n id = sym (ap (λ (b : Bool). if b then 1 else 0) (none_marked n id))
+
+given_more_at : (marks : List Bool) (ids : List ℕ) (id j : ℕ)
+    → times j ids ≡ (if slice_index_or marks j false then 1 else 0)
+    → id < length marks → slice_index_or marks id false ≡ false
+    → ((eqb id j ≡ true) × (id ≡ j)) ⊎ ((eqb id j ≡ false) × (id ≢ j))
+    → times j (ids ++ id ∷ []) ≡ (if slice_index_or (slice_set marks id true) j false then 1 else 0)
+given_more_at marks ids id j before inside free (inl (is, same)) =
+    let was : slice_index_or marks j false ≡ false =
+    subst (λ (n : ℕ). slice_index_or marks n false ≡ false) same free in
+    let now : slice_index_or (slice_set marks id true) j false ≡ true =
+    subst (λ (n : ℕ). slice_index_or (slice_set marks id true) n false ≡ true) same
+    (get_or-set_same marks id true false inside) in
+    times_more j id ids ∙ rw (before, was, is, now) refl
+given_more_at marks ids id j before inside free (inr (is, other)) =
+    let apart : j ≢ id = λ e. other (sym e) in
+    let same : times j ids + 0 ≡ times j ids = omega arith in
+    times_more j id ids
+    ∙ ap (λ (b : Bool). times j ids + (if b then 1 else 0)) is ∙ same ∙ before
+    ∙ ap (λ (b : Bool). if b then 1 else 0) (sym (get_or-set_other marks id j true false apart))
+
+-- one id more is marked, which was not
+pub given_more : (marks : List Bool) (ids : List ℕ) (id : ℕ) → AreGiven marks ids
+    → id < length marks → slice_index_or marks id false ≡ false
+    → AreGiven (slice_set marks id true) (ids ++ id ∷ [])
+given_more marks ids id m inside free j =
+    given_more_at marks ids id j (m j) inside free (eqb_tells id j)
+
+pub given_times : (marks : List Bool) (ids : List ℕ) (id : ℕ) → AreGiven marks ids
+    → slice_index_or marks id false ≡ true → 0 < times id ids
+given_times marks ids id m is =
+    let one : times id ids ≡ 1 = m id ∙ ap (λ (b : Bool). if b then 1 else 0) is in
+    omega arith
+
+pub given_apart : (marks : List Bool) (ids : List ℕ) → AreGiven marks ids → AreApart ids
+given_apart marks ids m id =
+    let few = at_most_one (slice_index_or marks id false) in
+    let count = m id in
+    omega arith
+
+-- ---- one Point or copy more
+
+pub named_more : (name : Work → Option ℕ) (works : List Work) (i : ℕ) (d : Work)
+    → i < length works
+    → filter_map name (take (i + 1) works)
+    ≡ filter_map name (take i works) ++ filter_map name (slice_index_or works i d ∷ [])
+named_more name works i d within =
+    ap (filter_map name) (take_more works i d within)
+    ∙ filter_map-append name (take i works) (slice_index_or works i d ∷ [])
+
+times_named : (name : Work → Option ℕ) (x n : ℕ) (works : List Work)
+    → times x (filter_map name (take n works)) ≤ times x (filter_map name works)
+times_named name x n works =
+    let both : times x (filter_map name works) ≡ times x (filter_map name (take n works)) + times x (filter_map name (drop n works)) =
+    ap (λ ws. times x (filter_map name ws)) (sym (take-append-drop n works))
+    ∙ ap (times x) (filter_map-append name (take n works) (drop n works))
+    ∙ times-append x (filter_map name (take n works)) (filter_map name (drop n works)) in
+    omega arith
+
+-- a name that is there already, and one that has it again
+named_twice : (name : Work → Option ℕ) (lsns : List ℕ) (works : List Work) (i x : ℕ) (w : Work)
+    → i < length works → w ≡ slice_index_or works i w → filter_map name (w ∷ []) ≡ x ∷ []
+    → 0 < times x (lsns ++ filter_map name (take i works))
+    → 1 < times x (lsns ++ filter_map name works)
+named_twice name lsns works i x w within is named some =
+    let before = filter_map name (take i works) in
+    let split = times-append x lsns before in
+    let whole = times-append x lsns (filter_map name works) in
+    let more : times x (filter_map name (take (i + 1) works)) ≡ times x before + 1 =
+    ap (times x) (named_more name works i w within)
+    ∙ ap (λ (v : Work). times x (before ++ filter_map name (v ∷ []))) (sym is)
+    ∙ ap (λ (xs : List ℕ). times x (before ++ xs)) named
+    ∙ times-append x before (x ∷ [])
+    ∙ ap (λ (n : ℕ). times x before + n) (times_one x) in
+    let part = times_named name x (i + 1) works in
+    omega arith
+
+bad_here : (e : Evidence) (works : List Work) (i : ℕ) (w : Work) (begin : Option ℕ)
+    → i < length works → w ≡ slice_index_or works i w → begin_of w ≡ begin
+    → (¬ WorkStands e w) → HasBadWork e works begin
+bad_here e works i w begin within is place bad =
+    let same : (d : Work) → w ≡ slice_index_or works i d =
+    λ d. is ∙ get_or_default works i w d within in
+    record {
+      index = i;
+      within = within;
+      place = λ d. ap begin_of (sym (same d)) ∙ place;
+      bad = λ d. subst (λ (v : Work). ¬ WorkStands e v) (same d) bad;
+    }
+
+-- what is wrong of one of them is wrong of the run
+pub wrong_work : (e : Evidence) (marks given : List Bool) (lsns : List ℕ) (works : List Work)
+    (i at : ℕ) (w : Work) → i < length works → w ≡ slice_index_or works i w
+    → AreMarked marks (lsns ++ filter_map begin_of (take i works))
+    → AreGiven given (copies_of (take i works)) → IsWorkBad e marks given w at
+    → IsWorkWrongAt e lsns works at
+wrong_work e marks given lsns works i at (Pointed point) within is m g (place, inl bad) =
+    inl (bad_here e works i (Pointed point) (Some at) within is (ap (λ (n : ℕ). Some n) (sym place)) bad)
+wrong_work e marks given lsns works i at (Pointed point) within is m g (place, inr taken) =
+    inr (inl (subst (λ (n : ℕ). 1 < times n (lsns ++ filter_map begin_of works)) (sym place)
+    (named_twice begin_of lsns works i point.begin (Pointed point) within is refl
+    (taken (lsns ++ filter_map begin_of (take i works)) m))))
+wrong_work e marks given lsns works i at (Copied id kind taken) within is m g (place, inl bad) =
+    inr (inr (place, inl (bad_here e works i (Copied id kind taken) None within is refl bad)))
+wrong_work e marks given lsns works i at (Copied id kind taken) within is m g (place, inr again) =
+    inr (inr (
+      place,
+      inr (
+        id,
+        named_twice copy_of [] works i id (Copied id kind taken) within is
+            refl (again (copies_of (take i works)) g),
+      ),
+    ))

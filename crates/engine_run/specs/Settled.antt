@@ -1,0 +1,122 @@
+-- When a run is settled: all that its sessions, checkpoints and copies were answered stands in what
+-- it left.
+use Rattle.std.specs.Prelude.{ℕ, ◌≡◌, ◌<◌, ◌++◌, ◌⊎◌, Bool, List, length}
+use Rattle.std.specs.Prelude.{slice_index_or, Option, Some, None, IsSomeAnd}
+use Rattle.std.specs.List.{All, filter_map, sum_by}
+use Rattle.log_records.specs.declared.record.Record.{Record}
+use Rattle.copy_vault.specs.declared.copy_id.CopyKind.{CopyKind}
+use Rattle.copy_vault.specs.Copy.{CopyView, taken_count}
+use Rattle.copy_vault.specs.Vault.{CopyState, complete_of, state_of}
+use Rattle.copy_coverage.specs.Retired.{RetiredView}
+use Rattle.settlement.specs.declared.receipt.Receipt.{Receipt}
+use Rattle.settlement.specs.Checkpoint.{HasCheckpoint}
+use Rattle.settlement.specs.Counts.{changes_in, updates_in}
+use Rattle.settlement.specs.Marks.{AreMarked}
+use Rattle.settlement.specs.Receipt.{times, written}
+use Rattle.settlement.specs.Session.{AllStand}
+use Rattle.settlement.specs.Sessions.{AreApart, AreWrongAt, all_receipts}
+use Rattle.aries_core.specs.EngineState.{EngineState}
+use Rattle.engine_run.specs.declared.fault.SettleFault.{SettleFault}
+use Rattle.engine_run.specs.declared.fault.SettleFault.TheVariants.{OutOfMemory, Unsettled}
+use Rattle.engine_run.specs.declared.work.Work.{Work}
+use Rattle.engine_run.specs.Given.{AreGiven}
+use Rattle.engine_run.specs.declared.work.Work.TheVariants.{Copied, Pointed}
+
+-- what a run leaves: its log, the LSN below which each record is forced, and its image copies
+pub record Evidence : Type 0 where
+  pub log : List Record
+  pub forced_end : ℕ
+  pub copies : List CopyState
+
+abbrev pub evidence : List Record → ℕ → List CopyState → Evidence
+evidence log forced_end copies = record {
+  log = log;
+  forced_end = forced_end;
+  copies = copies;
+}
+
+abbrev pub evidence_of : EngineState → Evidence
+evidence_of s = evidence s.log s.forced_end s.copies
+
+abbrev pub evidence_in : RetiredView → Evidence
+evidence_in it = evidence it.log.records it.forced_end it.copies
+
+-- the copy is of this kind, with its parent, and took so many pages
+abbrev pub IsCopyWith : CopyKind → ℕ → CopyView → Type 0
+IsCopyWith kind taken copy = (copy.kind ≡ kind) × (taken_count copy.pages ≡ taken)
+
+-- the log has the checkpoint of a Point, and the vault the complete copy
+abbrev pub WorkStands : Evidence → Work → Type 0
+WorkStands e (Pointed point) =
+    HasCheckpoint e.log e.forced_end point.begin point.end point.redo
+WorkStands e (Copied id kind taken) =
+    IsSomeAnd (complete_of (state_of e.copies id)) (IsCopyWith kind taken)
+
+-- the begin LSN of a Point
+abbrev pub begin_of : Work → Option ℕ
+begin_of (Pointed point) = Some point.begin
+begin_of (Copied id kind taken) = None
+
+abbrev pub copy_of : Work → Option ℕ
+copy_of (Pointed point) = None
+copy_of (Copied id kind taken) = Some id
+
+-- the LSNs of the records that receipts and Points speak of
+abbrev pub lsns_of : List (List Receipt) → List Work → List ℕ
+lsns_of sessions works = written (all_receipts sessions) ++ filter_map begin_of works
+
+abbrev pub copies_of : List Work → List ℕ
+copies_of works = filter_map copy_of works
+
+-- the changes of the sessions are as many as the log has
+abbrev pub AddUp : List (List Receipt) → List Record → Type 0
+AddUp sessions rs = sum_by changes_in sessions ≡ updates_in rs
+
+-- the shares of the sessions add up to the changes of the log; each receipt stands, and so does
+-- each Point and copy; and nothing was answered twice
+pub record IsSettled (e : Evidence) (sessions : List (List Receipt)) (works : List Work)
+    : Type 0 where
+  pub counted : AddUp sessions e.log
+  pub receipts : All (AllStand e.log e.forced_end) sessions
+  pub work : All (WorkStands e) works
+  pub lsns : AreApart (lsns_of sessions works)
+  pub copies : AreApart (copies_of works)
+
+-- ---- why a run is not settled
+
+-- a Point with this begin LSN does not stand, or where there is none, a copy
+pub record HasBadWork (e : Evidence) (works : List Work) (begin : Option ℕ) : Type 0 where
+  pub index : ℕ
+  pub within : index < length works
+  pub place : (d : Work) → begin_of (slice_index_or works index d) ≡ begin
+  pub bad : (d : Work) → ¬ WorkStands e (slice_index_or works index d)
+
+-- beside records that have these LSNs: a Point with this begin LSN does not stand, or has the LSN
+-- of another one; or, at 0, a copy does not stand or comes twice
+abbrev pub IsWorkWrongAt : Evidence → List ℕ → List Work → ℕ → Type 0
+IsWorkWrongAt e lsns works at =
+    HasBadWork e works (Some at) ⊎ (1 < times at (lsns ++ filter_map begin_of works))
+    ⊎ ((at ≡ 0) × (HasBadWork e works None ⊎ ((id : ℕ) × (1 < times id (copies_of works)))))
+
+-- one of them is wrong, where these records and ids are marked: it does not stand, or its
+-- BeginChkpt or its id is marked
+abbrev pub IsWorkBad : Evidence → List Bool → List Bool → Work → ℕ → Type 0
+IsWorkBad e marks given (Pointed point) at =
+    (at ≡ point.begin) × ((¬ WorkStands e (Pointed point))
+    ⊎ ((lsns : List ℕ) → AreMarked marks lsns → 0 < times point.begin lsns))
+IsWorkBad e marks given (Copied id kind taken) at =
+    (at ≡ 0) × ((¬ WorkStands e (Copied id kind taken))
+    ⊎ ((ids : List ℕ) → AreGiven given ids → 0 < times id ids))
+
+-- what an LSN names where a run is not settled: a receipt or Point that does not stand, or two that
+-- have the LSN; and 0 also that the shares do not add up, or that a copy does not stand or comes
+-- twice
+abbrev pub IsWrongAt : Evidence → List (List Receipt) → List Work → ℕ → Type 0
+IsWrongAt e sessions works at =
+    ((at ≡ 0) × (¬ AddUp sessions e.log)) ⊎ AreWrongAt e.log e.forced_end sessions at
+    ⊎ IsWorkWrongAt e (written (all_receipts sessions)) works at
+
+-- what a refusal tells: memory is asked for once the shares were compared
+abbrev pub IsFaultOf : Evidence → List (List Receipt) → List Work → SettleFault → Type 0
+IsFaultOf e sessions works OutOfMemory = AddUp sessions e.log
+IsFaultOf e sessions works (Unsettled at) = IsWrongAt e sessions works at

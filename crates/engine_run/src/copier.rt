@@ -1,0 +1,176 @@
+//! Image copies of a shared engine, each made by many threads.
+
+ghost use Rattle.std.specs.Prelude.{◌≡◌, ◌≤◌, IfOk};
+ghost use Rattle.engine_run.specs.Work.{IsCopiedAs};
+
+use crate::gate::HoldGate;
+use crate::shared::Shared;
+use crate::work::Work;
+use crate::worker::{Worker, workers_of};
+use aries_core::Refusal;
+use copy_vault::{CopyId, CopyKind};
+use log_store::LogDevice;
+use page_claim::PageClaims;
+use page_store::PageStore;
+use std::alloc::Global;
+use std::sync::ledger::Ledger;
+use std::sync::{Mutex, Wait};
+use std::thread;
+use std::thread::{Scope, Threads};
+
+/// The refusal of the least-numbered worker that met one, with its number.
+type FirstRefusal = Mutex<Option<(u32, Refusal)>>;
+
+impl<S: PageStore, D: LogDevice, G: Ledger> Shared<S, D, G> {
+    /// Opens a copy, and answers its id and the page count of the volume.
+    fn open_copy(&self, rt: &impl Wait, kind: &CopyKind) -> Result<(CopyId, u32), Refusal> {
+        let mut held = self.held.lock(rt);
+        let id = match *kind {
+            CopyKind::Full => held.copy_full()?,
+            CopyKind::Inc(parent) => held.copy_inc(parent)?,
+        };
+        Ok((id, held.pages()))
+    }
+
+    /// What one worker does: it takes the pages that it claims, one hold a page, until none is left
+    /// or a take is refused.
+    fn take_claimed(
+        &self,
+        rt: &impl Wait,
+        copy: CopyId,
+        mut worker: Worker<'_>,
+        gate: &impl HoldGate,
+    ) -> Result<(), Refusal> {
+        for _ in 0..=worker.pages() {
+            let Some(page) = worker.claim() else {
+                break;
+            };
+            gate.before(worker.number, page);
+            let taken = self.held.lock(rt).take(copy, page);
+            if let Err(why) = taken {
+                return Err(why);
+            }
+        }
+        Ok(())
+    }
+
+    /// The same in a thread: a refusal goes to the place that the workers share.
+    fn work(
+        &self,
+        rt: &impl Wait,
+        copy: CopyId,
+        worker: Worker<'_>,
+        gate: &impl HoldGate,
+        refused: &FirstRefusal,
+    ) {
+        let number = worker.number;
+        if let Err(why) = self.take_claimed(rt, copy, worker, gate) {
+            let mut first = refused.lock(rt);
+            *first = least(*first, (number, why));
+        }
+    }
+}
+
+impl<S: PageStore + Send, D: LogDevice + Send, G: Ledger + Send + Sync> Shared<S, D, G> {
+    /// Makes an image copy by so many workers, in threads of their own. The first hold opens the
+    /// copy; each page is one hold, and so is the end. Refusals are those of `Engine::copy_full` or
+    /// `Engine::copy_inc`; then `OutOfMemory`, also where a worker cannot be started; then the
+    /// refusal of the least-numbered worker that met one, or that of the end. After each of these
+    /// but the first the copy is dropped. All threads have ended then.
+    pub fn copy_with<R: Threads + Wait + Sync, H: HoldGate + Sync>(
+        &self,
+        rt: &R,
+        alloc: Global,
+        kind: CopyKind,
+        workers: u32,
+        gate: &H,
+    ) -> Result<Work, Refusal>
+        requires { (1 ≤ workers) × (workers ≤ 64) }
+        ensures { IfOk result (IsCopiedAs kind) }
+    {
+        let (id, pages) = self.open_copy(rt, &kind)?;
+        let ended = match self.take_all(rt, alloc, (id, pages), workers, gate) {
+            Ok(()) => self.held.lock(rt).seal(id),
+            Err(why) => Err(why),
+        };
+        match ended {
+            Ok(taken) => Ok(Work::Copied { id, kind, taken }),
+            Err(why) => {
+                // Where the copy is dropped already, there is nothing left to do.
+                let _ = self.held.lock(rt).drop_copy(id);
+                Err(why)
+            }
+        }
+    }
+
+    /// Starts a worker in a thread of its own, and says whether there is one.
+    fn start<'s, E, R: Wait + Sync, H: HoldGate + Sync>(
+        &'s self,
+        scope: &Scope<'s, E>,
+        rt: &'s R,
+        copy: CopyId,
+        worker: Worker<'s>,
+        gate: &'s H,
+        refused: &'s FirstRefusal,
+    ) -> bool {
+        scope
+            .spawn(move || self.work(rt, copy, worker, gate, refused))
+            .is_ok()
+    }
+
+    /// Starts each worker, and says whether all were started.
+    fn start_all<'s, E, R: Wait + Sync, H: HoldGate + Sync>(
+        &'s self,
+        scope: &Scope<'s, E>,
+        rt: &'s R,
+        copy: CopyId,
+        workers: Vec<Worker<'s>>,
+        gate: &'s H,
+        refused: &'s FirstRefusal,
+    ) -> bool {
+        for worker in workers {
+            if !self.start(scope, rt, copy, worker, gate, refused) {
+                return false;
+            }
+        }
+        true
+    }
+
+    /// Has the workers take each page of the volume.
+    fn take_all<R: Threads + Wait + Sync, H: HoldGate + Sync>(
+        &self,
+        rt: &R,
+        alloc: Global,
+        opened: (CopyId, u32),
+        workers: u32,
+        gate: &H,
+    ) -> Result<(), Refusal>
+        requires { workers ≤ 64 }
+    {
+        let (copy, pages) = opened;
+        let Ok((claims, seats)) = PageClaims::new(alloc, pages, workers) else {
+            return Err(Refusal::OutOfMemory);
+        };
+        let Ok(workers) = workers_of(alloc, &claims, seats) else {
+            return Err(Refusal::OutOfMemory);
+        };
+        let refused = Mutex::new(None);
+        let shared_refusal = &refused;
+        let started = thread::scope(thread::scope_env(), rt, |scope| {
+            self.start_all(scope, rt, copy, workers, gate, shared_refusal)
+        });
+        match refused.into_inner() {
+            _ if !started => Err(Refusal::OutOfMemory),
+            Some((_, why)) => Err(why),
+            None => Ok(()),
+        }
+    }
+}
+
+/// Of two refusals the one of the lesser worker.
+fn least(first: Option<(u32, Refusal)>, other: (u32, Refusal)) -> Option<(u32, Refusal)> {
+    match first {
+        Some(before) if before.0 <= other.0 => Some(before),
+        _ => Some(other),
+    }
+}

@@ -1,0 +1,58 @@
+//! What a settled run tells, for readers of the contracts.
+
+ghost use Rattle.std.specs.Prelude.{ℕ, ◌≡◌, ◌<◌, true, List, length, slice_index_or};
+ghost use Rattle.std.specs.List.{All};
+ghost use Rattle.log_records.specs.declared.record.Record.{Record};
+ghost use Rattle.log_records.specs.Log.{Log, lsn_of};
+ghost use Rattle.copy_coverage.specs.Kept.{IsKeptOf};
+ghost use Rattle.copy_coverage.specs.Retired.{IsRetired, RetiredView};
+ghost use Rattle.settlement.specs.declared.receipt.Receipt.{Receipt};
+ghost use Rattle.settlement.specs.Counts.{is_update};
+ghost use Rattle.settlement.specs.Receipt.{times};
+ghost use Rattle.settlement.specs.Sessions.{IsCommitIn, all_receipts, changed};
+ghost use Rattle.engine_run.specs.declared.work.Work.{Work};
+ghost use Rattle.engine_run.specs.Laws.{IsRestoredBy, ReadsItsOwn};
+ghost use Rattle.engine_run.specs.Settled.{Evidence, IsSettled, IsWrongAt, evidence_in};
+
+use copy_coverage::a_complete_copy_restores;
+
+/// The changes in the log are those that were answered, each once: one receipt of a change has the
+/// LSN of each Update. That a receipt of a change has an Update of its own in the log is a part of
+/// what *settled* says.
+pub fn each_change_was_answered_once()
+    ensures { (e : Evidence) (sessions : List (List Receipt)) (works : List Work)
+        → IsSettled e sessions works → (i : ℕ) (d : Record) → i < length e.log
+        → is_update (slice_index_or e.log i d) ≡ true
+        → times (lsn_of i) (changed (all_receipts sessions)) ≡ 1 }
+{}
+
+/// The Commit of each commit that was answered is in every log that a crash may leave.
+pub fn an_acknowledged_commit_is_kept()
+    ensures { (left : RetiredView) (sessions : List (List Receipt)) (works : List Work) (kept : Log)
+        → IsSettled (evidence_in left) sessions works → IsKeptOf left.log left.forced_end kept
+        → All (All (IsCommitIn kept.records)) sessions }
+{}
+
+/// What a session read is made of its own records, too.
+pub fn a_session_reads_its_own_writes()
+    ensures { (left : RetiredView) (sessions : List (List Receipt)) (works : List Work)
+        → IsRetired left → IsSettled (evidence_in left) sessions works
+        → All (ReadsItsOwn left.log.records) sessions }
+{}
+
+/// Each copy that was answered restores every log that a crash may leave: redo from its redo point
+/// on makes each page what redo of the whole kept log makes.
+pub fn an_answered_copy_restores()
+    ensures { (left : RetiredView) (sessions : List (List Receipt)) (works : List Work) (kept : Log)
+        → IsRetired left → IsSettled (evidence_in left) sessions works
+        → IsKeptOf left.log left.forced_end kept
+        → All (IsRestoredBy left.copies left.log.pages kept.records) works }
+{
+    a_complete_copy_restores();
+}
+
+/// A run of which something is wrong is not settled, so a settled one is refused for memory alone.
+pub fn what_is_wrong_is_not_settled()
+    ensures { (e : Evidence) (sessions : List (List Receipt)) (works : List Work) (at : ℕ)
+        → IsWrongAt e sessions works at → ¬ IsSettled e sessions works }
+{}

@@ -1,0 +1,19 @@
+//! The repair of a page of a shared engine.
+
+use crate::shared::Shared;
+use aries_core::Refusal;
+use copy_vault::CopyId;
+use log_store::LogDevice;
+use page_core::{Lsn, PageNo};
+use page_store::PageStore;
+use std::sync::Wait;
+use std::sync::ledger::Ledger;
+
+impl<S: PageStore, D: LogDevice, G: Ledger> Shared<S, D, G> {
+    /// Stores a page anew, from a complete copy and the log, by one hold, and answers its LSN: what
+    /// `Engine::repair` does, while sessions, flushers and copies go on. A flusher that has begun
+    /// to write the page ends that first: until then the refusal is `WriteBegun`.
+    pub fn repair(&self, rt: &impl Wait, copy: CopyId, page: PageNo) -> Result<Lsn, Refusal> {
+        self.held.lock(rt).repair(copy, page)
+    }
+}

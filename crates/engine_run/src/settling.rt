@@ -1,0 +1,148 @@
+//! The end of a run: what its sessions were answered is compared with what it left.
+
+ghost use Rattle.std.specs.Prelude.{◌≡◌, ◌≤◌, false, length, replicate, IfErr, IfOk, OnOk};
+ghost use Rattle.std.specs.Option.{option_map};
+ghost use Rattle.aries_core.specs.EngineState.{log_of, master_record};
+ghost use Rattle.log_records.specs.Log.{IsLog};
+ghost use Rattle.engine_run.specs.Settled.{AddUp, IsFaultOf, IsSettled, IsWrongAt, evidence};
+ghost use Rattle.engine_run.specs.Settled.{evidence_in, evidence_of};
+
+use crate::check_sessions::{add_up, check_sessions};
+use crate::check_works::check_works;
+use crate::fault::SettleFault;
+use crate::held::Held;
+use crate::room::Room;
+use crate::session::Session;
+use crate::shared::Shared;
+use crate::work::Work;
+use copy_coverage::Retired;
+use copy_vault::Vault;
+use log_records::Record;
+use log_store::LogDevice;
+use page_core::Lsn;
+use page_store::PageStore;
+use std::alloc::Global;
+use std::sync::Mutex;
+use std::sync::ledger::Ledger;
+
+/// What `settle` gives back where it is refused.
+#[derive(Drop)]
+pub struct Unsettled<S: PageStore, D: LogDevice, G: Ledger> {
+    pub sessions: Vec<Session<G>>,
+    pub shared: Shared<S, D, G>,
+    pub fault: SettleFault,
+}
+
+impl<S: PageStore, D: LogDevice, G: Ledger> Held<S, D, G> {
+    /// Checks whether the run of these sessions, checkpoints and copies is settled: the shares add
+    /// up to the changes of the log, each receipt stands, and so does each Point and copy, and
+    /// nothing was answered twice. The shares are compared first; all memory is taken then.
+    pub fn check(
+        &self,
+        alloc: Global,
+        sessions: &[Session<G>],
+        works: &[Work],
+    ) -> Result<(), SettleFault>
+        ensures ok { OnOk result
+            (IsSettled (evidence_of self.now.engine.state) sessions.now works.now) }
+        ensures err { IfErr result
+            (IsFaultOf (evidence_of self.now.engine.state) sessions.now works.now) }
+    {
+        let log = self.engine.log();
+        let records = log.records();
+        if !add_up(sessions, records) {
+            return Err(SettleFault::Unsettled(Lsn(0)));
+        }
+        let Ok(room) = Room::new(alloc, log.pages(), records.len()) else {
+            return Err(SettleFault::OutOfMemory);
+        };
+        // A fit engine has no more copies than there are ids.
+        let _end = self.engine.log_end();
+        let copies = self.engine.copies();
+        match check_answers(room, records, log.forced_end(), copies, sessions, works) {
+            Ok(()) => Ok(()),
+            Err(at) => Err(SettleFault::Unsettled(at)),
+        }
+    }
+}
+
+/// Checks what sessions, checkpoints and copies were answered against what a run left.
+fn check_answers<G: Ledger>(
+    room: Room,
+    records: &[Record],
+    forced_end: Lsn,
+    vault: &Vault,
+    sessions: &[Session<G>],
+    works: &[Work],
+) -> Result<(), Lsn>
+    requires log { IsLog (record { pages = length room.pages.items; records = records.now }) }
+    requires marks { room.marks.items ≡ replicate (length records.now) false }
+    requires ids { room.copies.items ≡ replicate 1025 false }
+    requires few { length vault.now.copies ≤ 1024 }
+    requires counted { AddUp sessions.now records.now }
+    ensures ok { let e = evidence records.now forced_end vault.now.copies in
+        OnOk result (IsSettled e sessions.now works.now) }
+    ensures err { let e = evidence records.now forced_end vault.now.copies in
+        IfErr result (IsWrongAt e sessions.now works.now) }
+{
+    let Room {
+        mut pages,
+        mut marks,
+        mut copies,
+    } = room;
+    let marks = marks.as_mut_slice();
+    if let Err(at) = check_sessions(&mut pages, marks, records, forced_end, sessions) {
+        return Err(at);
+    }
+    if let Err(at) = check_works(marks, &mut copies, records, forced_end, vault, works) {
+        return Err(at);
+    }
+    Ok(())
+}
+
+impl<S: PageStore + Drop, D: LogDevice + Drop, G: Ledger> Held<S, D, G> {
+    /// Ends the engine, as `Engine::retire` does, and its book.
+    pub fn retire(self) -> Retired
+        ensures log { result.log ≡ log_of self.engine.state }
+        ensures forced_end { result.forced_end ≡ self.engine.state.forced_end }
+        ensures master { result.master ≡ option_map master_record self.engine.state.master }
+        ensures copies { result.copies ≡ self.engine.state.copies }
+    {
+        let Held { engine, book: _ } = self;
+        engine.retire()
+    }
+}
+
+/// Ends the run of a shared engine, where it is settled: then its log has each change that a
+/// session was answered, and no others. What was under the lock is compared with the receipts of
+/// all sessions, and with what its checkpoints and copies answered. Where it is refused, all is
+/// given back, and the engine can go on.
+pub fn settle<S: PageStore + Drop, D: LogDevice + Drop, G: Ledger>(
+    alloc: Global,
+    sessions: Vec<Session<G>>,
+    works: &[Work],
+    shared: Shared<S, D, G>,
+) -> Result<Retired, Unsettled<S, D, G>>
+    ensures settled { IfOk result (λ left. IsSettled (evidence_in left) sessions.items works.now) }
+    ensures sessions { IfErr result (λ back. back.sessions ≡ sessions) }
+    ensures shared { IfErr result (λ back. back.shared ≡ shared) }
+{
+    let Shared {
+        held,
+        spares,
+        sessions: made,
+    } = shared;
+    let held = held.into_inner();
+    match held.check(alloc, sessions.as_slice(), works) {
+        Ok(()) => Ok(held.retire()),
+        Err(fault) => Err(Unsettled {
+            sessions,
+            shared: Shared {
+                held: Mutex::new(held),
+                spares,
+                sessions: made,
+            },
+            fault,
+        }),
+    }
+}

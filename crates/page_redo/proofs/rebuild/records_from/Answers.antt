@@ -1,0 +1,18 @@
+use Rattle.std.proofs.Common.{◌≡◌, ◌∙◌, ◌-◌, ◌/◌, ◌<◌, ◌≤◌, ℕ, List, length, drop, min, ap, arith}
+use Rattle.std.proofs.lemmas.List.{length-drop, take_all}
+use Rattle.log_records.specs.declared.record.Record.{Record}
+use Rattle.log_records.specs.Log.{Log}
+use Rattle.page_redo.specs.Redo.{redone}
+use Rattle.page_redo.proofs.Volumes.{behind_is_resumed}
+use Rattle.page_redo.proofs.rebuild.records_from.Goals as goal
+
+pub returns : goal.returns
+returns c = λ page.
+    let rs = c.args.log.now in
+    let log : Log = record { pages = c.requires.0; records = rs } in
+    let k = c.min.result in
+    let least = c.min.ensures in
+    let back = c.saturating_sub.ensures in
+    let from : c.from.inside.0 ≡ c.args.from = c.from.view_is in
+    ap (redone page) (take_all (length rs - k) (drop k rs) (omega (arith, length-drop k rs)))
+    ∙ behind_is_resumed log c.args.from k page c.requires.1 (omega arith) (omega arith) (λ there. omega arith)

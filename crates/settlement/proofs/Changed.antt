@@ -1,0 +1,259 @@
+-- Each change of a log has one receipt: as many receipts of changes as changes, no two of one LSN.
+use Rattle.std.proofs.Common.{ℕ, ◌≡◌, ◌≢◌, ◌+◌, ◌<◌, ◌≤◌, Bool, true, false, List, [], ◌∷◌}
+use Rattle.std.proofs.Common.{length, take, map, filter, slice_index_or, slice_get, arith, refl, sym, suc, zero}
+use Rattle.std.proofs.Common.{◌∙◌, ap, subst, cond, inl, inr, IsSomeAnd}
+use Rattle.std.specs.List.{All, sum_by}
+use Rattle.std.proofs.lemmas.Bool.{cases_lt}
+use Rattle.std.proofs.lemmas.Bool.Decides.{eqb_tells}
+use Rattle.std.proofs.lemmas.List.Elements.{All-append, All-cons, All-head, All-nil, All-tail, All-weaker}
+use Rattle.std.proofs.lemmas.List.{length-map}
+use Rattle.std.proofs.lemmas.List.Sums.{length-filter, sum_by-append, sum_by-cons}
+use Rattle.log_records.specs.declared.record.Record.{Record}
+use Rattle.log_records.specs.declared.record.Record.TheVariants as log
+use Rattle.log_records.specs.Log.{lsn_of}
+use Rattle.settlement.specs.Counts.{changes_in, is_change, is_update, updates_in}
+use Rattle.settlement.specs.Receipt.{IsChangeOf, IsLogged, IsRecordOf, IsUpdateOf, Stands, position, times, written}
+use Rattle.settlement.specs.Session.{AllStand}
+use Rattle.settlement.specs.Sessions.{AreApart, all_receipts, changed}
+use Rattle.settlement.specs.declared.receipt.Receipt.{Receipt}
+use Rattle.settlement.specs.declared.receipt.Receipt.TheVariants.{Changed, Stepped, Read}
+use Rattle.settlement.proofs.Sessions.{times-cons, times_all, times_one}
+
+-- how many of the LSNs are those of the records from a place on
+abbrev found : List ℕ → List Record → ℕ → ℕ
+found lsns [] s = 0
+found lsns (r ∷ rs) s = times (lsn_of s) lsns + found lsns rs (s + 1)
+
+found_none : (rs : List Record) (s : ℕ) → found [] rs s ≡ 0
+found_none [] s = refl
+found_none (r ∷ rs) s = let rest = found_none rs (s + 1) in omega arith
+
+found_more : (lsn : ℕ) (lsns : List ℕ) (rs : List Record) (s : ℕ)
+    → found (lsn ∷ lsns) rs s ≡ found (lsn ∷ []) rs s + found lsns rs s
+found_more lsn lsns [] s = refl
+found_more lsn lsns (r ∷ rs) s =
+    let rest = found_more lsn lsns rs (s + 1) in
+    let all = times-cons (lsn_of s) lsn lsns in
+    let one = times-cons (lsn_of s) lsn [] in
+    let none : times (lsn_of s) [] ≡ 0 = refl in
+    omega arith
+
+-- an LSN before the place is not found, and one of a record is found once
+times_other : (x y : ℕ) → x ≢ y → times x (y ∷ []) ≡ 0
+times_other x y other =
+    elim (eqb_tells y x) [
+      | inl (is, same) ↦ absurd (other (sym same))
+      | inr (is, apart) ↦ times-cons x y [] ∙ ap (λ (b : Bool). cond b 1 0 + 0) is
+    ]
+
+found_before : (k : ℕ) (rs : List Record) (s : ℕ) → k < s → found (lsn_of k ∷ []) rs s ≡ 0
+found_before k [] s before = refl
+found_before k (r ∷ rs) s before =
+    let here = times_other (lsn_of s) (lsn_of k) (λ e. absurd (omega (arith, e))) in
+    let rest = found_before k rs (s + 1) (omega arith) in
+    omega arith
+
+found_once : (k : ℕ) (rs : List Record) (s : ℕ) → s ≤ k → k < s + length rs
+    → found (lsn_of k ∷ []) rs s ≡ 1
+found_once k [] s from within = absurd (omega arith)
+found_once k (r ∷ rs) s from within =
+    elim (cases_lt s k) [
+      | inl behind ↦
+          let here = times_other (lsn_of s) (lsn_of k) (λ e. absurd (omega (arith, e))) in
+          let rest = found_once k rs (s + 1) (omega arith) (omega arith) in
+          omega arith
+      | inr at ↦
+          let same : k ≡ s = omega arith in
+          let here : times (lsn_of s) (lsn_of k ∷ []) ≡ 1 =
+          subst (λ (n : ℕ). times (lsn_of n) (lsn_of k ∷ []) ≡ 1) same (times_one (lsn_of k)) in
+          let rest = found_before k rs (s + 1) (omega arith) in
+          omega arith
+    ]
+
+-- each of them is found
+found_all : (lsns : List ℕ) (rs : List Record)
+    → All (λ lsn. (k : ℕ) × (lsn ≡ lsn_of k) × (k < length rs)) lsns → found lsns rs 0 ≡ length lsns
+found_all [] rs all = found_none rs 0
+found_all (lsn ∷ lsns) rs all =
+    let P : ℕ → Type 0 = λ x. (k : ℕ) × (x ≡ lsn_of k) × (k < length rs) in
+    let head = All-head P lsn lsns all in
+    let one : found (lsn ∷ []) rs 0 ≡ 1 =
+    subst (λ (x : ℕ). found (x ∷ []) rs 0 ≡ 1) (sym head.1)
+    (found_once head.0 rs 0 (omega arith) (let h = head.2 in omega arith)) in
+    let rest = found_all lsns rs (All-tail P lsn lsns all) in
+    let more = found_more lsn lsns rs 0 in
+    omega arith
+
+updates-cons : (r : Record) (rs : List Record)
+    → updates_in (r ∷ rs) ≡ cond (is_update r) 1 0 + updates_in rs
+updates-cons r rs = sum_by-cons (λ x. cond (is_update x) 1 0) r rs
+
+-- at no record more are found than it is an Update
+abbrev AreFew : List ℕ → List Record → ℕ → Type 0
+AreFew lsns rs s = (i : ℕ) (d : Record) → i < length rs
+    → times (lsn_of (s + i)) lsns ≤ cond (is_update (slice_index_or rs i d)) 1 0
+
+few_rest : (lsns : List ℕ) (r : Record) (rs : List Record) (s : ℕ)
+    → AreFew lsns (r ∷ rs) s → AreFew lsns rs (s + 1)
+few_rest lsns r rs s few i d within =
+    let same : s + suc i ≡ s + 1 + i = omega arith in
+    subst (λ (n : ℕ). times (lsn_of n) lsns ≤ cond (is_update (slice_index_or rs i d)) 1 0) same
+    (few (suc i) d (omega arith))
+
+few_here : (lsns : List ℕ) (r : Record) (rs : List Record) (s : ℕ) → AreFew lsns (r ∷ rs) s
+    → times (lsn_of s) lsns ≤ cond (is_update r) 1 0
+few_here lsns r rs s few =
+    let same : s + 0 ≡ s = omega arith in
+    subst (λ (n : ℕ). times (lsn_of n) lsns ≤ cond (is_update r) 1 0) same
+    (few 0 r (omega arith))
+
+found_few : (lsns : List ℕ) (rs : List Record) (s : ℕ) → AreFew lsns rs s
+    → found lsns rs s ≤ updates_in rs
+found_few lsns [] s few = omega arith
+found_few lsns (r ∷ rs) s few =
+    let here = few_here lsns r rs s few in
+    let rest = found_few lsns rs (s + 1) (few_rest lsns r rs s few) in
+    let count = updates-cons r rs in
+    omega arith
+
+-- so where as many are found as there are Updates, each Update is found
+each_found : (lsns : List ℕ) (rs : List Record) (s i : ℕ) (d : Record) → AreFew lsns rs s
+    → found lsns rs s ≡ updates_in rs → i < length rs
+    → times (lsn_of (s + i)) lsns ≡ cond (is_update (slice_index_or rs i d)) 1 0
+each_found lsns [] s i d few equal within = absurd (omega arith)
+each_found lsns (r ∷ rs) s zero d few equal within =
+    let same : s + 0 ≡ s = omega arith in
+    let here = few_here lsns r rs s few in
+    let rest = found_few lsns rs (s + 1) (few_rest lsns r rs s few) in
+    let count = updates-cons r rs in
+    subst (λ (n : ℕ). times (lsn_of n) lsns ≡ cond (is_update r) 1 0) (sym same) (omega arith)
+each_found lsns (r ∷ rs) s (suc i) d few equal within =
+    let same : s + suc i ≡ s + 1 + i = omega arith in
+    let here = few_here lsns r rs s few in
+    let next = few_rest lsns r rs s few in
+    let rest = found_few lsns rs (s + 1) next in
+    let count = updates-cons r rs in
+    subst (λ (n : ℕ). times (lsn_of n) lsns ≡ cond (is_update (slice_index_or rs i d)) 1 0)
+    (sym same) (each_found lsns rs (s + 1) i d next (omega arith) (omega arith))
+
+-- ---- the LSNs of the changes that receipts are of
+
+-- a change that stands is an Update at its LSN
+abbrev IsUpdateAt : List Record → ℕ → Type 0
+IsUpdateAt rs lsn = (k : ℕ) × (lsn ≡ lsn_of k) × (k < length rs)
+    × ((d : Record) → is_update (slice_index_or rs k d) ≡ true)
+
+here_is : (rs : List Record) (k : ℕ) (P : Record → Type 0)
+    → ((r : Record) → P r → is_update r ≡ true) → IsSomeAnd (slice_get rs k) P
+    → (k < length rs) × ((d : Record) → is_update (slice_index_or rs k d) ≡ true)
+here_is [] k P so there = elim there [ ]
+here_is (r ∷ rs) zero P so there = (omega arith, λ d. so r there)
+here_is (r ∷ rs) (suc k) P so there =
+    let rest = here_is rs k P so there in
+    (let h = rest.0 in omega arith, rest.1)
+
+is_an_update : (txn page slot : ℕ) (IsSuch : _ → Type 0) (r : Record)
+    → IsUpdateOf txn page slot IsSuch r → is_update r ≡ true
+is_an_update txn page slot IsSuch (log.Update lsn t prev p s change) is = refl
+is_an_update txn page slot IsSuch other is = elim is [ ]
+
+stands_update : (rs : List Record) (forced_end : ℕ) (before : List Receipt) (x : Receipt)
+    → Stands rs forced_end before x → is_change x ≡ true → IsUpdateAt rs (position x)
+stands_update rs forced_end before (Changed lsn txn page slot kind number) stands is =
+    let logged : IsLogged rs forced_end (Changed lsn txn page slot kind number) = stands.holds in
+    let there = logged.there in
+    let at =
+    here_is rs there.0 (IsRecordOf (Changed lsn txn page slot kind number))
+    (is_an_update txn page slot (IsChangeOf kind number)) there.2 in
+    (there.0, there.1, at.0, at.1)
+stands_update rs forced_end before (Stepped lsn txn step) stands is = cc
+stands_update rs forced_end before (Read end page slot number) stands is = cc
+
+changed_at : (P : ℕ → Type 0) (x : Receipt) (xs : List Receipt) (b : Bool) → is_change x ≡ b
+    → (is_change x ≡ true → P (position x)) → All P (changed xs)
+    → All P (map position (cond b (x ∷ filter is_change xs) (filter is_change xs)))
+changed_at P x xs true is here rest = All-cons P (position x) (changed xs) (here is) rest
+changed_at P x xs false is here rest = rest
+
+changed_all : (P : ℕ → Type 0) (xs : List Receipt)
+    → All (λ x. is_change x ≡ true → P (position x)) xs → All P (changed xs)
+changed_all P [] all = All-nil P
+changed_all P (x ∷ xs) all =
+    let Q : Receipt → Type 0 = λ y. is_change y ≡ true → P (position y) in
+    changed_at P x xs (is_change x) refl (All-head Q x xs all)
+    (changed_all P xs (All-tail Q x xs all))
+
+all_flat : (Q : Receipt → Type 0) (sessions : List (List Receipt)) → All (All Q) sessions
+    → All Q (all_receipts sessions)
+all_flat Q [] all = All-nil Q
+all_flat Q (xs ∷ sessions) all =
+    All-append Q xs (all_receipts sessions) (All-head (All Q) xs sessions all)
+    (all_flat Q sessions (All-tail (All Q) xs sessions all))
+
+changes_all : (sessions : List (List Receipt))
+    → changes_in (all_receipts sessions) ≡ sum_by changes_in sessions
+changes_all [] = refl
+changes_all (xs ∷ sessions) =
+    let both = sum_by-append (λ x. cond (is_change x) 1 0) xs (all_receipts sessions) in
+    let more = sum_by-cons changes_in xs sessions in
+    let rest = changes_all sessions in
+    omega arith
+
+length-changed : (xs : List Receipt) → length (changed xs) ≡ changes_in xs
+length-changed xs = length-map (filter is_change xs) position ∙ length-filter is_change xs
+
+changed_among : (lsn : ℕ) (xs : List Receipt) → times lsn (changed xs) ≤ times lsn (written xs)
+changed_among lsn [] = omega arith
+changed_among lsn (Changed at txn page slot kind number ∷ xs) =
+    let rest = changed_among lsn xs in
+    let one = times-cons lsn at (changed xs) in
+    let other = times-cons lsn at (written xs) in
+    omega arith
+changed_among lsn (Stepped at txn step ∷ xs) =
+    let rest = changed_among lsn xs in
+    let other = times-cons lsn at (written xs) in
+    omega arith
+changed_among lsn (Read end page slot number ∷ xs) = changed_among lsn xs
+
+few_changed : (rs : List Record) (sessions : List (List Receipt))
+    → All (IsUpdateAt rs) (changed (all_receipts sessions))
+    → AreApart (written (all_receipts sessions)) → AreFew (changed (all_receipts sessions)) rs 0
+few_changed rs sessions all apart i d within =
+    let xs = all_receipts sessions in
+    let lsn = lsn_of (0 + i) in
+    let few = apart lsn in
+    let among = changed_among lsn xs in
+    elim (cases_lt 0 (times lsn (changed xs))) [
+      | inl some ↦
+          let here = times_all (IsUpdateAt rs) lsn (changed xs) all some in
+          let at = here.1 in
+          let same : here.0 ≡ i = omega arith in
+          let is : is_update (slice_index_or rs i d) ≡ true =
+          subst (λ (n : ℕ). is_update (slice_index_or rs n d) ≡ true) same (here.3 d) in
+          subst (λ (b : Bool). times lsn (changed xs) ≤ cond b 1 0) (sym is) (omega arith)
+      | inr none ↦ omega arith
+    ]
+
+-- each Update of the log has one receipt
+pub one_receipt_each : (rs : List Record) (forced_end : ℕ) (sessions : List (List Receipt))
+    (i : ℕ) (d : Record) → sum_by changes_in sessions ≡ updates_in rs
+    → All (AllStand rs forced_end) sessions → AreApart (written (all_receipts sessions))
+    → i < length rs → is_update (slice_index_or rs i d) ≡ true
+    → times (lsn_of i) (changed (all_receipts sessions)) ≡ 1
+one_receipt_each rs forced_end sessions i d add_up stand apart within is =
+    let xs = all_receipts sessions in
+    let Q : Receipt → Type 0 = λ x. is_change x ≡ true → IsUpdateAt rs (position x) in
+    let each : All (All Q) sessions =
+    All-weaker (AllStand rs forced_end) (All Q)
+    (λ ys all k e lt. stands_update rs forced_end (take k ys) (slice_index_or ys k e) (all k e lt))
+    sessions stand in
+    let updates = changed_all (IsUpdateAt rs) xs (all_flat Q sessions each) in
+    let there : All (λ lsn. (k : ℕ) × (lsn ≡ lsn_of k) × (k < length rs)) (changed xs) =
+    All-weaker (IsUpdateAt rs) (λ lsn. (k : ℕ) × (lsn ≡ lsn_of k) × (k < length rs))
+    (λ lsn at. (at.0, at.1, at.2)) (changed xs) updates in
+    let count : found (changed xs) rs 0 ≡ updates_in rs =
+    found_all (changed xs) rs there ∙ length-changed xs ∙ changes_all sessions ∙ add_up in
+    let few = few_changed rs sessions updates apart in
+    let same : 0 + i ≡ i = omega arith in
+    subst (λ (n : ℕ). times (lsn_of n) (changed xs) ≡ 1) same
+    (each_found (changed xs) rs 0 i d few count within ∙ ap (λ (b : Bool). cond b 1 0) is)

@@ -1,0 +1,26 @@
+-- A checkpoint of the log, by what was answered of it.
+use Rattle.std.specs.Prelude.{ℕ, ◌≡◌, ◌<◌, List}
+use Rattle.log_records.specs.declared.record.Record.{Record}
+use Rattle.log_records.specs.declared.record.Record.TheVariants as log
+use Rattle.settlement.specs.Receipt.{HasAt}
+
+abbrev pub IsBegin : Record → Type 0
+IsBegin (log.BeginChkpt lsn) = Unit {0}
+IsBegin other = ⊥
+
+-- the EndChkpt of the checkpoint that began at this LSN, with this redo point
+abbrev pub IsEndOf : ℕ → ℕ → Record → Type 0
+IsEndOf begin redo (log.EndChkpt lsn b r) = (b ≡ begin) × (r ≡ redo)
+IsEndOf begin redo other = ⊥
+
+-- the log has such a record at this LSN, and it is forced
+pub record HasForced (rs : List Record) (forced_end lsn : ℕ) (IsSuch : Record → Type 0)
+    : Type 0 where
+  pub there : HasAt rs lsn IsSuch
+  pub forced : lsn < forced_end
+
+-- the log has the BeginChkpt and the EndChkpt of this checkpoint, with its redo point, and both are
+-- forced
+pub record HasCheckpoint (rs : List Record) (forced_end begin end redo : ℕ) : Type 0 where
+  pub begun : HasForced rs forced_end begin IsBegin
+  pub ended : HasForced rs forced_end end (IsEndOf begin redo)
