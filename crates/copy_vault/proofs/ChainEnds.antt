@@ -6,7 +6,6 @@ use Rattle.std.specs.List.{AllByRecursion, range_with_len}
 use Rattle.std.proofs.lemmas.List.{get_or-map, length-map}
 use Rattle.std.proofs.lemmas.List.FromFn.{length-map-range_with_len, map-range_with_len_more}
 use Rattle.page_core.specs.declared.page.Page.{Page}
-use Rattle.page_core.specs.Page.{formatted}
 use Rattle.page_core.proofs.Inputs.{of_all}
 use Rattle.copy_vault.specs.declared.archive_cursor.ArchiveCursor.{ArchiveCursor}
 use Rattle.copy_vault.specs.declared.chain_reader.ChainReader.{ChainReader}
@@ -15,31 +14,28 @@ use Rattle.copy_vault.specs.declared.copy_id.CopyKind.TheVariants.{Full, Inc}
 use Rattle.copy_vault.specs.declared.header.ArchiveHeader.{ArchiveHeader}
 use Rattle.copy_vault.specs.Archive.{SpellsCopy, front_bytes, header_of}
 use Rattle.copy_vault.specs.ArchiveRead.{IsPart, given_for}
-use Rattle.copy_vault.specs.Chain.{FitFrom, content, last_of, last_redo, page_count, takings}
+use Rattle.copy_vault.specs.Chain.{FitFrom, content, last_redo, page_count, row}
 use Rattle.copy_vault.specs.ChainRead.{AreBelow, AreRead, HasRead, HeadsFit, IsGiven, copy_of, last_point, moment_of}
 use Rattle.copy_vault.specs.ChainReading.{AreWithinLog, IsChainRead, IsReading, SpellCopies, heads_of}
 use Rattle.copy_vault.specs.Copy.{CopyView, IsComplete, decision_at, page_of, taken_count, taken_pages}
 use Rattle.copy_vault.proofs.ArchiveReads.{spells_read}
 use Rattle.copy_vault.proofs.ArchiveSteps.{kept_up_to, length_up_to, page_with_kept}
 use Rattle.copy_vault.proofs.Chains.{fit_chain}
-use Rattle.copy_vault.proofs.ChainSteps.{later_moment, no_copy}
+use Rattle.copy_vault.proofs.ChainSteps.{later_moment, no_copy, row_content}
 use Rattle.copy_vault.proofs.Parts.{part_complete}
 use Rattle.copy_vault.proofs.RisingPages.{part_kept, taken_kept}
 
 -- ---- the pages that were given
 
-same_maps : (f g : ℕ → Page) (n : ℕ) → ((p : ℕ) → p < n → f p ≡ g p)
+pub same_maps : {X : Type 0} (f g : ℕ → X) (n : ℕ) → ((p : ℕ) → p < n → f p ≡ g p)
     → map f (range_with_len 0 n) ≡ map g (range_with_len 0 n)
 same_maps f g zero same = refl
-same_maps f g (suc n) same =
+same_maps {X = X} f g (suc n) same =
     let one : suc n ≡ n + 1 = omega arith in
     ap (λ m. map f (range_with_len 0 m)) one ∙ map-range_with_len_more f 0 n n (omega arith)
-    ∙ ap (λ (ps : List Page). ps ++ f n ∷ []) (same_maps f g n (λ p lt. same p (omega arith)))
-    ∙ ap (λ (x : Page). map g (range_with_len 0 n) ++ x ∷ []) (same n (omega arith))
+    ∙ ap (λ (ps : List X). ps ++ f n ∷ []) (same_maps f g n (λ p lt. same p (omega arith)))
+    ∙ ap (λ (x : X). map g (range_with_len 0 n) ++ x ∷ []) (same n (omega arith))
     ∙ sym (map-range_with_len_more g 0 n n (omega arith)) ∙ ap (λ m. map g (range_with_len 0 m)) (sym one)
-
-same_content : (a b : List CopyView) (p : ℕ) → takings a p ≡ takings b p → content a p ≡ content b p
-same_content a b p same = ap (last_of (formatted p)) same
 
 -- one page more is given
 pub given_more : (end n : ℕ) (heads : List ArchiveHeader) (inputs lefts : List (Option (List ℕ)))
@@ -49,19 +45,16 @@ pub given_more : (end n : ℕ) (heads : List ArchiveHeader) (inputs lefts : List
     → given ++ page ∷ [] ≡ map (content on.copies) (range_with_len 0 (n + 1))
 given_more end n heads inputs lefts its old page given on made =
     ap (λ (ps : List Page). ps ++ page ∷ []) (made
-    ∙ same_maps (content old) (content on.copies) n (λ p lt. same_content old on.copies p (sym (on.same p lt))))
+    ∙ same_maps (content old) (content on.copies) n (λ p lt. row_content old on.copies p (sym (on.same p lt))))
     ∙ ap (λ (x : Page). map (content on.copies) (range_with_len 0 n) ++ x ∷ []) on.is
     ∙ sym (map-range_with_len_more (content on.copies) 0 n n (omega arith))
 
-pub reading_more : (inputs lefts more : List (Option (List ℕ))) (it new : ChainReader) (given : List Page) (page : Page)
-    → IsReading inputs lefts it given → it.given < it.pages
-    → ((heads : List ArchiveHeader) (copies : List CopyView)
-    → AreRead it.end (moment_of it.given) 0 heads inputs lefts it.cursors.items copies
-    → IsGiven it.end it.given heads inputs more new.cursors.items copies page)
+unfoldable pub reading_on : (inputs lefts more : List (Option (List ℕ))) (it new : ChainReader) (given : List Page)
+    (page : Page) → (read : IsReading inputs lefts it given) → it.given < it.pages
+    → IsGiven it.end it.given read.heads inputs more new.cursors.items read.copies page
     → new.pages ≡ it.pages → new.end ≡ it.end → new.redo ≡ it.redo → new.given ≡ it.given + 1 → new.failed ≡ None
     → IsReading inputs more new (given ++ page ∷ [])
-reading_more inputs lefts more it new given page read left step pages end redo count failed =
-    let on = step read.heads read.copies read.read in
+reading_on inputs lefts more it new given page read left on pages end redo count failed =
     let moment : it.given + 2 ≡ moment_of new.given =
     omega (arith, later_moment new.given (omega (arith, count)), count) in
     record {
@@ -79,9 +72,20 @@ reading_more inputs lefts more it new given page read left step pages end redo c
       open_still = failed;
     }
 
+pub reading_more : (inputs lefts more : List (Option (List ℕ))) (it new : ChainReader) (given : List Page) (page : Page)
+    → IsReading inputs lefts it given → it.given < it.pages
+    → ((heads : List ArchiveHeader) (copies : List CopyView)
+    → AreRead it.end (moment_of it.given) 0 heads inputs lefts it.cursors.items copies
+    → IsGiven it.end it.given heads inputs more new.cursors.items copies page)
+    → new.pages ≡ it.pages → new.end ≡ it.end → new.redo ≡ it.redo → new.given ≡ it.given + 1 → new.failed ≡ None
+    → IsReading inputs more new (given ++ page ∷ [])
+reading_more inputs lefts more it new given page read left step pages end redo count failed =
+    reading_on inputs lefts more it new given page read left (step read.heads read.copies read.read) pages end redo count
+    failed
+
 -- ---- the copies in the end
 
-completed : ℕ → CopyView → CopyView
+unfoldable pub completed : ℕ → CopyView → CopyView
 completed n copy = record copy { pages = kept_up_to copy.pages n }
 
 -- a copy of which all pages were read
@@ -133,13 +137,13 @@ unfolding completed
 below_one end n h input left it copy read =
     subst (AreBelow end) (sym (taken_kept (n - length copy.pages) copy.pages)) read.below
 
-takings_completed : (n p : ℕ) (copies : List CopyView) → takings (map (completed n) copies) p ≡ takings copies p
+pub row_completed : (n p : ℕ) (copies : List CopyView) → row (map (completed n) copies) p ≡ row copies p
 unfolding completed
-takings_completed n p [] = refl
-takings_completed n p (copy ∷ copies) =
-    ap (λ (ps : List Page). ps ++ takings (map (completed n) copies) p)
+row_completed n p [] = refl
+row_completed n p (copy ∷ copies) =
+    ap (λ (ps : List Page). ps ∷ row (map (completed n) copies) p)
     (page_with_kept copy.pages (n - length copy.pages) p)
-    ∙ ap (λ (ps : List Page). page_of (decision_at copy.pages p) ++ ps) (takings_completed n p copies)
+    ∙ ap (λ (ps : List (List Page)). page_of (decision_at copy.pages p) ∷ ps) (row_completed n p copies)
 
 pages_at : (n k : ℕ) (kind : CopyKind) (heads : List ArchiveHeader) (h : ArchiveHeader) → HeadsFit n kind heads
     → k < length heads → (get_or heads k h).pages ≡ n
@@ -227,7 +231,7 @@ count_of n kind [] fit some = absurd (omega arith)
 count_of n kind (c ∷ copies) fit some = fit.0.same_count
 
 -- in the place of an archive that is not there
-blank : ArchiveHeader → ArchiveCursor
+pub blank : ArchiveHeader → ArchiveCursor
 blank h = record { header = h; read = 0; from = 0; page = None; turns = 0 }
 
 -- a volume has a page at least
@@ -305,10 +309,16 @@ read_whole inputs lefts it given read past =
       within = within_whole it.end n read.heads inputs lefts it.cursors.items read.copies ready read.points;
       made = read.made
           ∙ same_maps (content read.copies) (content copies) it.given
-          (λ p lt. same_content read.copies copies p (sym (takings_completed n p read.copies)))
+          (λ p lt. row_content read.copies copies p (sym (row_completed n p read.copies)))
           ∙ ap (λ m. map (content copies) (range_with_len 0 m)) (all ∙ sym counted);
       last = read.last ∙ last_whole n read.heads inputs copies whole;
     }
+
+pub whole_copies : (inputs lefts : List (Option (List ℕ))) (it : ChainReader) (given : List Page)
+    (read : IsReading inputs lefts it given) (past : it.pages ≤ it.given)
+    → (read_whole inputs lefts it given read past).copies ≡ map (completed it.pages) read.copies
+unfolding read_whole
+whole_copies inputs lefts it given read past = refl
 
 -- ---- the headers
 

@@ -1,9 +1,10 @@
 -- Archives that are read side by side: what a step makes of what was read, and why one is refused.
-use Rattle.std.proofs.Common.{◌≡◌, ◌≢◌, ℕ, ◌+◌, ◌<◌, ◌≤◌, List, [], ◌∷◌, ◌++◌, length, get_or, set, drop}
+use Rattle.std.proofs.Common.{◌≡◌, ◌≢◌, ℕ, ◌+◌, ◌<◌, ◌≤◌, List, [], ◌∷◌, ◌++◌, length, get_or, map, set, drop}
 use Rattle.std.proofs.Common.{refl, sym, ap, ◌∙◌, subst, arith, suc, zero, inl, inr}
 use Rattle.std.specs.Prelude.{Option, None, IfSome}
 use Rattle.std.proofs.KnownBytes.{Consumes-nil}
 use Rattle.std.proofs.lemmas.Bool.{cases_lt}
+use Rattle.std.proofs.Math.Seq.{map-set_same}
 use Rattle.std.proofs.lemmas.List.{drop_all, get_or-set_other, get_or-set_same, length-set}
 use Rattle.page_core.specs.declared.page.Page.{Page}
 use Rattle.page_core.specs.Page.{formatted}
@@ -17,9 +18,11 @@ use Rattle.copy_vault.specs.declared.chain_read_fault.ChainReadFault.TheVariants
 use Rattle.copy_vault.specs.declared.copy_id.CopyKind.TheVariants.{Full}
 use Rattle.copy_vault.specs.declared.header.ArchiveHeader.{ArchiveHeader}
 use Rattle.copy_vault.specs.ArchiveRead.{given_for}
-use Rattle.copy_vault.specs.Chain.{content, last_of, takings}
+use Rattle.copy_vault.specs.Chain.{content, last_of, row, takings}
 use Rattle.copy_vault.specs.ChainRead.{AreAtHand, AreRead, AreReadOn, AreRefused, FailsAt, GaveRight, HasRead}
-use Rattle.copy_vault.specs.ChainRead.{HasReadOn, IsFirstMet, IsGiven, IsMet, IsRightTo, hand_at, moment_of}
+use Rattle.copy_vault.specs.ChainRead.{HasReadOn, IsFirstMet, IsGiven, IsMet, IsRightTo, IsRowGiven, hand_at}
+use Rattle.copy_vault.specs.ChainRead.{moment_of, place_list}
+use Rattle.copy_vault.specs.ChainReading.{heads_of}
 use Rattle.copy_vault.specs.Copy.{CopyView, decision_at, page_of, taken_pages}
 use Rattle.copy_vault.proofs.ArchiveSteps.{unread}
 use Rattle.copy_vault.proofs.Chains.{content_at, none_later}
@@ -62,13 +65,10 @@ moved end next h i l m it jt c d left same copy read =
     (subst (λ (z : ArchiveCursor). HasRead end next h i m z c) same
     (subst (λ (z : Option (List ℕ)). HasRead end next h i z it c) left read))
 
-takings_set : (copies : List CopyView) (i p : ℕ) (copy d : CopyView) → i < length copies
+row_set : (copies : List CopyView) (i p : ℕ) (copy d : CopyView)
     → page_of (decision_at copy.pages p) ≡ page_of (decision_at (get_or copies i d).pages p)
-    → takings (set copies i copy) p ≡ takings copies p
-takings_set [] i p copy d lt same = absurd (omega arith)
-takings_set (c ∷ copies) zero p copy d lt same = ap (λ (ps : List Page). ps ++ takings copies p) same
-takings_set (c ∷ copies) (suc i) p copy d lt same =
-    ap (λ (ps : List Page). page_of (decision_at c.pages p) ++ ps) (takings_set copies i p copy d (omega arith) same)
+    → row (set copies i copy) p ≡ row copies p
+row_set copies i p copy d same = map-set_same (λ (c : CopyView). page_of (decision_at c.pages p)) copies i copy d same
 
 set_read : (end next at : ℕ) (heads : List ArchiveHeader) (inputs lefts : List (Option (List ℕ)))
     (its : List ArchiveCursor) (copies : List CopyView) (left : Option (List ℕ)) (it : ArchiveCursor) (copy : CopyView)
@@ -136,8 +136,7 @@ step_read end next at heads inputs lefts its old this left it new on lt of_left 
           (any_default heads at it.header h (omega (arith, on.read.heads_count)))
           (subst (λ (x : Option (List ℕ)). HasRead end (next + 1) head x left new some.copy)
           (any_default inputs at this i (omega (arith, on.read.inputs_count))) some.read));
-      same = λ p below. takings_set copies at p some.copy no_copy (omega (arith, on.read.copies_count))
-          (some.same p below) ∙ on.same p below;
+      same = λ p below. row_set copies at p some.copy no_copy (some.same p below) ∙ on.same p below;
     }
 
 pub start_read : (end next : ℕ) (heads : List ArchiveHeader) (inputs lefts : List (Option (List ℕ)))
@@ -273,10 +272,24 @@ at_hand end p heads inputs lefts its copies read = record {
   each = λ k it copy lt. (read.due k it.header None None it copy lt (omega arith)).hand p (omega arith);
 }
 
+abbrev flat : List (List Page) → List Page
+flat [] = []
+flat (ps ∷ more) = ps ++ flat more
+
+takings_row : (copies : List CopyView) (p : ℕ) → takings copies p ≡ flat (row copies p)
+takings_row [] p = refl
+takings_row (copy ∷ copies) p =
+    ap (λ (ps : List Page). page_of (decision_at copy.pages p) ++ ps) (takings_row copies p)
+
+-- a page is that of the last one in its row
+pub row_content : (a b : List CopyView) (p : ℕ) → row a p ≡ row b p → content a p ≡ content b p
+row_content a b p same =
+    ap (last_of (formatted p)) (takings_row a p ∙ ap (λ (r : List (List Page)). flat r) same ∙ sym (takings_row b p))
+
 -- the page that follows so many is given, between two moments
 pub page_given : (end p : ℕ) (heads : List ArchiveHeader) (inputs lefts : List (Option (List ℕ)))
     (its : List ArchiveCursor) (old mid : List CopyView) (page : Page)
-    → ((q : ℕ) → q < p → takings mid q ≡ takings old q)
+    → ((q : ℕ) → q < p → row mid q ≡ row old q)
     → AreReadOn end (p + 1) (length its) (p + 1) heads inputs lefts its mid → page ≡ content mid p
     → IsGiven end p heads inputs lefts its old page
 page_given end p heads inputs lefts its old mid page before on is = record {
@@ -284,11 +297,61 @@ page_given end p heads inputs lefts its old mid page before on is = record {
   read = subst (λ n. AreRead end n 0 heads inputs lefts its on.copies) two
       (all_read end (p + 1) (length its) heads inputs lefts its on.copies on.read (omega arith));
   same = λ q lt. on.same q (omega arith) ∙ before q lt;
-  is = is ∙ ap (last_of (formatted p)) (sym (on.same p (omega arith)));
+  is = is ∙ row_content mid on.copies p (sym (on.same p (omega arith)));
 }
   where
     two : p + 1 + 1 ≡ p + 2
     two = omega arith
+
+-- so is the row that follows
+pub row_given : (end p : ℕ) (heads : List ArchiveHeader) (inputs lefts : List (Option (List ℕ)))
+    (its : List ArchiveCursor) (old mid : List CopyView) (pages : List (List Page))
+    → ((q : ℕ) → q < p → row mid q ≡ row old q)
+    → AreReadOn end (p + 1) (length its) (p + 1) heads inputs lefts its mid → pages ≡ row mid p
+    → IsRowGiven end p heads inputs lefts its old pages
+row_given end p heads inputs lefts its old mid pages before on is = record {
+  copies = on.copies;
+  read = subst (λ n. AreRead end n 0 heads inputs lefts its on.copies) two
+      (all_read end (p + 1) (length its) heads inputs lefts its on.copies on.read (omega arith));
+  same = λ q lt. on.same q (omega arith) ∙ before q lt;
+  is = is ∙ sym (on.same p (omega arith));
+}
+  where
+    two : p + 1 + 1 ≡ p + 2
+    two = omega arith
+
+-- ---- the pages at hand of all archives
+
+pub same_each : {X Y Z : Type 0} (f : X → Z) (g : Y → Z) (xs : List X) (ys : List Y) → length xs ≡ length ys
+    → ((k : ℕ) (x : X) (y : Y) → k < length xs → f (get_or xs k x) ≡ g (get_or ys k y)) → map f xs ≡ map g ys
+same_each f g [] [] long each = refl
+same_each f g [] (y ∷ ys) long each = absurd (omega arith)
+same_each f g (x ∷ xs) [] long each = absurd (omega arith)
+same_each {Z = Z} f g (x ∷ xs) (y ∷ ys) long each =
+    ap (λ (z : Z). z ∷ map f xs) (each 0 x y (omega arith))
+    ∙ ap (λ (zs : List Z). g y ∷ zs)
+    (same_each f g xs ys (omega arith) (λ k a b lt. each (suc k) a b (omega arith)))
+
+-- they are the row
+pub hands_row : (its : List ArchiveCursor) (copies : List CopyView) (p : ℕ) → AreAtHand its p copies
+    → map (λ it. hand_at it.page p) its ≡ row copies p
+hands_row its copies p hands =
+    same_each (λ (it : ArchiveCursor). hand_at it.page p) (λ (copy : CopyView). page_of (decision_at copy.pages p)) its
+    copies (sym hands.count) (λ k it copy lt. sym (hands.each k it copy lt))
+
+-- the pages in the places are those at hand
+pub places_full : (its : List ArchiveCursor) (places : List (Option Page)) (p : ℕ) → length places ≡ length its
+    → ((k : ℕ) (place : Option Page) (it : ArchiveCursor) → k < length its
+    → place_list (get_or places k place) ≡ hand_at (get_or its k it).page p)
+    → map place_list places ≡ map (λ it. hand_at it.page p) its
+places_full its places p long each =
+    same_each place_list (λ (it : ArchiveCursor). hand_at it.page p) places its long
+    (λ k place it lt. each k place it (omega (arith, long)))
+
+-- an archive that is read on keeps its header
+pub heads_set : (its : List ArchiveCursor) (i : ℕ) (it d : ArchiveCursor) → it.header ≡ (get_or its i d).header
+    → heads_of (set its i it) ≡ heads_of its
+heads_set its i it d same = map-set_same (λ (x : ArchiveCursor). x.header) its i it d same
 
 -- ---- the first page
 

@@ -3,6 +3,7 @@ pub mod ArchiveSteps
 pub mod ChainEnds
 pub mod ChainOnly
 pub mod ChainOpens
+pub mod ChainRows
 pub mod ChainSteps
 pub mod Chains
 pub mod Decisions

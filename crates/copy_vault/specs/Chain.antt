@@ -89,6 +89,15 @@ last_redo (copy ∷ next ∷ more) = last_redo (next ∷ more)
 abbrev pub takings : List CopyView → ℕ → List Page
 takings members p = flat_map (λ copy. page_of (decision_at copy.pages p)) members
 
+-- a page, as each copy has it: a list of one page where the copy took it, and of none where it did
+-- not
+abbrev pub row : List CopyView → ℕ → List (List Page)
+row copies p = map (λ copy. page_of (decision_at copy.pages p)) copies
+
+-- those of the pages below a number
+abbrev pub rows : List CopyView → ℕ → List (List (List Page))
+rows copies n = map (row copies) (range_with_len 0 n)
+
 -- the last one of a page and those after it
 abbrev pub last_of : Page → List Page → Page
 last_of page [] = page

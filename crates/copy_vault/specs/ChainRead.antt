@@ -20,7 +20,7 @@ use Rattle.copy_vault.specs.declared.copy_id.CopyKind.TheVariants.{Inc}
 use Rattle.copy_vault.specs.Archive.{IsFront, IsHeader, header_bytes}
 use Rattle.copy_vault.specs.ArchiveFault.{Begins, HasFault, HasNext}
 use Rattle.copy_vault.specs.ArchiveRead.{IsRead, given_for, next_from}
-use Rattle.copy_vault.specs.Chain.{content, takings}
+use Rattle.copy_vault.specs.Chain.{content, row}
 use Rattle.copy_vault.specs.Copy.{CopyView, PageDecision, decision_at, page_of, taken_count}
 use Rattle.copy_vault.specs.Copy.{taken_pages}
 
@@ -118,6 +118,11 @@ abbrev pub hand_at : Option Page → ℕ → List Page
 hand_at None p = []
 hand_at (Some page) p = if nat_eq page.number p then page ∷ [] else []
 
+-- the page in a place, if there is one
+abbrev pub place_list : Option Page → List Page
+place_list None = []
+place_list (Some page) = page ∷ []
+
 -- the copy of an archive, of whose pages this is decided
 abbrev pub copy_of : ArchiveHeader → List PageDecision → CopyView
 copy_of h pages = record {
@@ -204,7 +209,7 @@ pub record AreReadOn (end next at below : ℕ) (heads : List ArchiveHeader)
     : Type 0 where
   pub copies : List CopyView
   pub read : AreRead end next at heads inputs lefts its copies
-  pub same : (p : ℕ) → p < below → takings copies p ≡ takings old p
+  pub same : (p : ℕ) → p < below → row copies p ≡ row old p
 
 -- the first fault that is met in the archives, moment by moment, and in their order at each
 pub record IsFirstMet (end : ℕ) (heads : List ArchiveHeader) (inputs : List (Option (List ℕ)))
@@ -254,8 +259,17 @@ pub record IsGiven (end count : ℕ) (heads : List ArchiveHeader)
     (page : Page) : Type 0 where
   pub copies : List CopyView
   pub read : AreRead end (count + 2) 0 heads inputs lefts its copies
-  pub same : (p : ℕ) → p < count → takings copies p ≡ takings old p
+  pub same : (p : ℕ) → p < count → row copies p ≡ row old p
   pub is : page ≡ content copies count
+
+-- so was the page of each archive that took it
+pub record IsRowGiven (end count : ℕ) (heads : List ArchiveHeader)
+    (inputs lefts : List (Option (List ℕ))) (its : List ArchiveCursor) (old : List CopyView)
+    (pages : List (List Page)) : Type 0 where
+  pub copies : List CopyView
+  pub read : AreRead end (count + 2) 0 heads inputs lefts its copies
+  pub same : (p : ℕ) → p < count → row copies p ≡ row old p
+  pub is : pages ≡ row copies count
 
 -- ---- one step of reading an archive
 

@@ -3,6 +3,7 @@ pub mod ArchiveFault
 pub mod ArchiveRead
 pub mod ArchiveWrite
 pub mod Chain
+pub mod ChainEach
 pub mod ChainRead
 pub mod ChainReading
 pub mod Copy

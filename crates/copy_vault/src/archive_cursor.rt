@@ -8,7 +8,7 @@ ghost use Rattle.copy_vault.specs.declared.header.ArchiveHeader.{ArchiveHeader};
 ghost use Rattle.copy_vault.specs.Copy.{CopyView};
 ghost use Rattle.copy_vault.specs.ChainRead.{EndsAfter, FailsAt, FailsInHeader, FindsNoEnd};
 ghost use Rattle.copy_vault.specs.ChainRead.{HasRead, HasReadOn, IsNew, IsPageAfter};
-ghost use Rattle.copy_vault.specs.ChainRead.{IsWrongPage, hand_at};
+ghost use Rattle.copy_vault.specs.ChainRead.{IsWrongPage, hand_at, place_list};
 ghost use Rattle.copy_vault.specs.Slots.{page_list};
 
 use crate::chain_read_fault::ChainReadFault;
@@ -122,6 +122,16 @@ impl ArchiveCursor {
         }
     }
 
+    /// A copy of the page that was read last, if it has this number.
+    pub fn copy_at(&self, number: u32) -> Option<Page>
+        ensures { place_list result ≡ hand_at self.now.page number }
+    {
+        match self.page_at(number) {
+            Some(page) => Some(page.copy()),
+            None => None,
+        }
+    }
+
     /// The offset of the next page.
     fn offset(&self) -> u64
         ensures { result ≡ HEADER_BYTES + PAGE_BYTES * self.now.read }
@@ -161,6 +171,7 @@ impl ArchiveCursor {
             (h : ArchiveHeader) (input : Option (List ℕ)) (copy : CopyView)
             → HasRead end self.old.from h input (R.remaining reader.old) self.old copy
             → FailsAt end self.old.from h input (R.remaining reader.new) fault) }
+        ensures header { self.new.header ≡ self.old.header }
     {
         let mut bytes = [0; PAGE_BYTES];
         let Ok(filled) = fill(reader, &mut bytes, &mut self.turns) else {
@@ -196,6 +207,7 @@ impl ArchiveCursor {
             (h : ArchiveHeader) (input : Option (List ℕ)) (copy : CopyView)
             → HasRead end next h input (R.remaining reader.old) self.old copy
             → FailsAt end next h input (R.remaining reader.new) fault) }
+        ensures header { self.new.header ≡ self.old.header }
     {
         if self.from != next {
             return Ok(());

@@ -1,10 +1,12 @@
 //! Gives the pages of a chain from the readers of its archives.
 
 ghost use Rattle.std.specs.Prelude.{ℕ, ◌≡◌, ◌<◌, ◌≤◌, [], List, length, map, slice_index_or};
-ghost use Rattle.std.specs.Prelude.{Option, Err, Some, IfOk, IfErr, true, false};
+ghost use Rattle.std.specs.Prelude.{Option, Err, Some, IfOk, IfErr, slice_index, true, false};
 ghost use Rattle.page_core.specs.declared.page.Page.{Page};
 ghost use Rattle.copy_vault.specs.declared.archive_cursor.ArchiveCursor.{ArchiveCursor};
 ghost use Rattle.copy_vault.specs.declared.chain_read_fault.ChainReadFault.{ChainReadFault};
+ghost use Rattle.copy_vault.specs.ChainEach.{GoesOnEach, IsReadingEach, ids_of, place_list};
+ghost use Rattle.copy_vault.specs.ChainEach.{points_of};
 ghost use Rattle.copy_vault.specs.ChainRead.{IsHeadFit, IsNew, last_point};
 ghost use Rattle.copy_vault.specs.ChainReading.{AreOpened, GoesOn, IsHeadRefused};
 ghost use Rattle.copy_vault.specs.ChainReading.{IsNotMade, IsNotOpened, IsReading, IsStopped};
@@ -13,7 +15,7 @@ ghost use Rattle.copy_vault.specs.ChainReading.{heads_of};
 use crate::archive_cursor::ArchiveCursor;
 use crate::chain_read_fault::ChainReadFault;
 use crate::copy_id::{CopyId, CopyKind};
-use crate::cursors::give_page;
+use crate::cursors::{give_each, give_page};
 use page_core::{Lsn, Page};
 use std::alloc::Global;
 use std::io::Read;
@@ -55,6 +57,10 @@ impl ChainReader {
         ensures end { IfOk result (λ it. it.end ≡ end) }
         ensures err { IfErr result (IsNotMade pages end (map (λ r. R.remaining r) readers.old)
             (map (λ r. R.remaining r) readers.new)) }
+        ensures each { IfOk result (λ it. IsReadingEach (map (λ r. R.remaining r) readers.old)
+            (map (λ r. R.remaining r) readers.new) it []) }
+        ensures count { IfOk result (λ it. length (ids_of it) ≡ length readers.old) }
+        ensures points { IfOk result (λ it. length (points_of it) ≡ length readers.old) }
     {
         if readers.is_empty() {
             return Err(ChainReadFault::ChainBroken(CopyId(0)));
@@ -78,6 +84,22 @@ impl ChainReader {
         ensures { result ≡ self.now.redo }
     {
         self.redo
+    }
+
+    /// The id of an archive's copy.
+    pub fn id_at(&self, index: usize) -> CopyId
+        requires { index < length (ids_of self.now) }
+        ensures { result ≡ slice_index (ids_of self.now) index }
+    {
+        self.cursors[index].header.id
+    }
+
+    /// The redo point of an archive's copy.
+    pub fn redo_at(&self, index: usize) -> Lsn
+        requires { index < length (points_of self.now) }
+        ensures { result ≡ slice_index (points_of self.now) index }
+    {
+        self.cursors[index].header.redo
     }
 
     /// Gives the next page of the chain, from the last archive that has it, and `None` once all
@@ -122,6 +144,59 @@ impl ChainReader {
         let page = step?;
         self.given += 1;
         Ok(Some(page))
+    }
+
+    /// Gives, at the next number, the page of each archive that took it: a place in `row` is that of
+    /// an archive, in their order, and has nothing where its archive does not have the page. It
+    /// answers `false` once all numbers were given. The archives are read as `next` reads them, each
+    /// one on as soon as its page was given.
+    ///
+    /// The refusals are those of `next`, in the same order, and the refusal is answered from then
+    /// on. After a refusal or `false` the row says nothing. This takes no memory.
+    pub fn next_each<R: Read>(
+        &mut self,
+        readers: &mut [R],
+        row: &mut [Option<Page>],
+    ) -> Result<bool, ChainReadFault>
+        requires { length row.old ≡ length readers.old }
+        // The rows are those of the chain that the archives spell.
+        ensures ok { IfOk result (λ more.
+            (inputs : List (Option (List ℕ))) (given : List (List (List Page)))
+            → IsReadingEach inputs (map (λ r. R.remaining r) readers.old) self.old given
+            → GoesOnEach inputs (map (λ r. R.remaining r) readers.new) self.new given more
+            (map place_list row.new)) }
+        // The fault is the first one that is met.
+        ensures err { IfErr result (λ fault.
+            (inputs : List (Option (List ℕ))) (given : List (List (List Page)))
+            → IsReadingEach inputs (map (λ r. R.remaining r) readers.old) self.old given
+            → IsStopped self.old.pages self.old.end inputs (map (λ r. R.remaining r) readers.new)
+            fault) }
+        ensures failed { IfErr result (λ fault. self.new.failed ≡ Some fault) }
+        // It is answered again, and nothing is read.
+        ensures again { (fault : ChainReadFault) → self.old.failed ≡ Some fault
+            → result ≡ Err fault }
+        ensures still { (fault : ChainReadFault) → self.old.failed ≡ Some fault
+            → readers.new ≡ readers.old }
+        ensures pages { self.new.pages ≡ self.old.pages }
+        ensures end { self.new.end ≡ self.old.end }
+        ensures redo { self.new.redo ≡ self.old.redo }
+        ensures length { length row.new ≡ length row.old }
+        ensures ids { ids_of self.new ≡ ids_of self.old }
+        ensures points { points_of self.new ≡ points_of self.old }
+    {
+        if let Some(fault) = self.failed {
+            return Err(fault);
+        }
+        if self.given >= self.pages {
+            return Ok(false);
+        }
+        let step = give_each(&mut self.cursors, readers, self.given, self.end, row);
+        if let Err(fault) = &step {
+            self.failed = Some(*fault);
+            return Err(*fault);
+        }
+        self.given += 1;
+        Ok(true)
     }
 }
 

@@ -1,9 +1,9 @@
-use Rattle.std.proofs.Common.{◌≡◌, ◌+◌, ◌<◌, List, ℕ, length, get_or, map, set, sym, subst, arith}
+use Rattle.std.proofs.Common.{◌≡◌, ◌+◌, ◌<◌, List, ℕ, length, get_or, map, refl, set, sym, subst, ◌∙◌, arith}
 use Rattle.std.specs.Prelude.{Option}
 use Rattle.std.proofs.lemmas.List.{get_or-map, map-set}
 use Rattle.std.proofs.lemmas.Result.{err_from_is_err_and}
 use Rattle.copy_vault.specs.ChainRead.{AreReadOn, AreRefused}
-use Rattle.copy_vault.proofs.ChainSteps.{any_default, start_read, step_read, step_refused}
+use Rattle.copy_vault.proofs.ChainSteps.{any_default, heads_set, start_read, step_read, step_refused}
 use Rattle.copy_vault.proofs.cursors.read_due.Goals as goal
 
 pub returns-in_err-read_due-clause-err : goal.returns-in_err-read_due-clause-err
@@ -44,13 +44,21 @@ loop-i-preserved g c =
           (step_read c.args.end c.args.next i heads inputs (map left c.loop-i.readers) c.loop-i.cursors copies
           (left reader) (left c.read_due.new.reader) it c.read_due.new.self on lt of_left of_it
           c.in_ok-read_due.ensures.ok);
+      heads = heads_set c.loop-i.cursors i c.read_due.new.self c.index-cursors-i.result c.read_due.ensures.header
+          ∙ c.loop-i.invariant.heads;
     }
+
+pub returns-in_err-read_due-clause-heads : goal.returns-in_err-read_due-clause-heads
+returns-in_err-read_due-clause-heads g c =
+    heads_set c.loop-i.cursors c.loop-i.i c.read_due.new.self c.index-cursors-i.result c.read_due.ensures.header
+    ∙ c.loop-i.invariant.heads
 
 pub loop-i-init : goal.loop-i-init
 loop-i-init g c = record {
   on = λ heads inputs copies start.
       start_read c.args.end c.args.next heads inputs (map g.R.Read.remaining c.args.readers.now) c.args.cursors.now copies
       start;
+  heads = refl;
 }
 
 pub returns-clause-ok : goal.returns-clause-ok

@@ -8,6 +8,7 @@ use Rattle.copy_vault.specs.ChainRead.{last_point}
 use Rattle.copy_vault.specs.ChainReading.{AreOpened, heads_of}
 use Rattle.copy_vault.proofs.Chains.{not_empty}
 use Rattle.copy_vault.proofs.ChainOpens.{not_made, past_log, reading_none}
+use Rattle.copy_vault.proofs.ChainRows.{each_none}
 use Rattle.copy_vault.proofs.chain_reader.ChainReader.new.Goals as goal
 
 pub returns-in_err-cursors-clause-err : goal.returns-in_err-cursors-clause-err
@@ -52,3 +53,15 @@ returns-clause-ok g c =
     (subst (λ (its : List ArchiveCursor). (k : ℕ) (it : ArchiveCursor) → k < length its
     → (get_or its k it).header.redo < c.args.end) value (c.if-is_past.ensures.below refl))
     (c.redo_of_last.ensures ∙ ap (λ (its : List ArchiveCursor). last_point (heads_of its)) value_2)
+
+pub returns-clause-each : goal.returns-clause-each
+returns-clause-each g c =
+    let left = g.R.Read.remaining in
+    each_none (map left c.args.readers.now) (map left c.open_all.new.readers) (record {
+      pages = c.args.pages;
+      end = c.args.end;
+      redo = c.redo_of_last.result;
+      cursors = c.in_ok-cursors.cursors;
+      given = 0;
+      failed = None;
+    }) (returns-clause-ok g c) refl
