@@ -1,0 +1,4 @@
+//! Audits a chain of image copies against a log.
+#![tactic(auto)]
+
+mod trace;
