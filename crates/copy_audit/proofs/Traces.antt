@@ -365,3 +365,15 @@ page_eq a b r is = (
     by_tests true true false number lsn slots all = cc
     by_tests true false z number lsn slots all = cc
     by_tests false y z number lsn slots all = cc
+
+-- ---- the formatted page
+
+pub formatted_seen : (rs : List Record) (p : ℕ) (it : Trace) → IsTraced rs p it → it.reached ≡ 0
+    → IsSeen rs p (formatted p) it true
+unfolding formatted
+formatted_seen rs p it traced start = record {
+  traced = traced;
+  there = omega arith;
+  is_past = λ so_it_is. record { count = 0; within = omega arith; made = refl };
+  is_not = λ differs. cc;
+}

@@ -1,1 +1,5 @@
+pub mod Audit
+pub mod AuditFault
+pub mod Audited
+pub mod Rows
 pub mod Trace

@@ -1,0 +1,14 @@
+use Rattle.std.proofs.Common.{◌≡◌, ◌-◌, length, map}
+use Rattle.copy_audit.proofs.Looks.{HasLooked}
+use Rattle.copy_audit.proofs.chain_audit.first_in.Given as goal
+
+abbrev pub invariant-rows : goal.invariant-rows
+invariant-rows g l = record {
+  looked : HasLooked (map g.A.Read.remaining l.fn.archives) (map g.A.Read.remaining l.archives) l.fn.log l.chain
+      (length l.row.items) l.number l.found;
+  rows : length l.row.items ≡ length l.archives;
+  many : length l.archives ≡ length l.fn.archives;
+}
+
+abbrev pub decreases-rows : goal.decreases-rows
+decreases-rows g l = l.fn.log.pages - l.number

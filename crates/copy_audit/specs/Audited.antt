@@ -1,0 +1,64 @@
+-- What an audit answers of the bytes of a log and of archives.
+use Rattle.std.specs.Prelude.{ℕ, ◌≡◌, List, [], Option, None, Some, IfSome, slice_index}
+use Rattle.copy_audit.specs.declared.found.Found.{Found}
+use Rattle.log_records.specs.Log.{Log}
+use Rattle.log_store.specs.declared.fault.LogReadFault.{LogReadFault}
+use Rattle.log_store.specs.declared.fault.LogReadFault.TheVariants as log
+use Rattle.log_store.specs.Fault.{GaveNoFault, Refuses}
+use Rattle.copy_vault.specs.declared.chain_read_fault.ChainReadFault.{ChainReadFault}
+use Rattle.copy_vault.specs.declared.chain_read_fault.ChainReadFault.TheVariants as chain
+use Rattle.copy_vault.specs.Chain.{IsChain}
+use Rattle.copy_vault.specs.ChainReading.{AreNoChain}
+use Rattle.copy_vault.specs.Copy.{CopyView}
+use Rattle.copy_audit.specs.declared.unsound.Unsound as fault
+use Rattle.copy_audit.specs.declared.unsound.Unsound.TheVariants.{OutOfMemory, Unsound}
+use Rattle.copy_audit.specs.Audit.{AreOfArchives, IsAudited, IsFirstUnsound, IsOfLog, end_of}
+use Rattle.copy_audit.specs.AuditFault.{of_chain, of_log}
+
+-- the bytes spell a log and a chain of copies for it, which is audited
+pub record AreAudited (input : Option (List ℕ)) (archives : List (Option (List ℕ))) : Type 0 where
+  pub log : Log
+  pub copies : List CopyView
+  pub of_log : IsOfLog input log
+  pub of_archives : AreOfArchives archives log copies
+  pub chain : IsChain copies
+  pub audited : IsAudited log copies
+
+-- they are refused: each fault only where all that comes before it is right
+pub data AreRefused (input : Option (List ℕ)) (archives : List (Option (List ℕ)))
+    (why : fault.Unsound) : Type 0 where
+  of_the_log : (first : LogReadFault) → why ≡ of_log first
+      → IfSome input (λ bytes. Refuses bytes first) → AreRefused input archives why
+  of_the_archives : (log : Log) → IsOfLog input log → (first : ChainReadFault)
+      → why ≡ of_chain first → (lefts : List (Option (List ℕ)))
+      → AreNoChain log.pages (end_of log) archives lefts first → AreRefused input archives why
+  of_a_page : (log : Log) (copies : List CopyView) → IsOfLog input log
+      → AreOfArchives archives log copies → IsChain copies → (id page : ℕ)
+      → why ≡ Unsound id page → IsFirstUnsound log copies id page → AreRefused input archives why
+  of_memory : why ≡ OutOfMemory → AreRefused input archives why
+
+-- a reader failed: what it gave until then holds no fault, and all that was read before it is right
+pub data AreUnread (input left : Option (List ℕ)) (archives lefts : List (Option (List ℕ)))
+    : Type 0 where
+  in_the_log : GaveNoFault [] input left log.ReadFault → AreUnread input left archives lefts
+  in_an_archive : (log : Log) → IsOfLog input log
+      → AreNoChain log.pages (end_of log) archives lefts chain.ReadFault
+      → AreUnread input left archives lefts
+
+-- the archives spell a chain of copies for the log, which is audited; or the chain up to the copy of
+-- this id is the first one with an unsound page, and this is the least one
+abbrev pub IsLookedAt : Log → List CopyView → Option (ℕ × ℕ) → Type 0
+IsLookedAt log copies None = IsAudited log copies
+IsLookedAt log copies (Some found) = IsFirstUnsound log copies found.0 found.1
+
+pub record IsLooked (log : Log) (archives : List (Option (List ℕ))) (found : Option (ℕ × ℕ))
+    : Type 0 where
+  pub copies : List CopyView
+  pub of_archives : AreOfArchives archives log copies
+  pub chain : IsChain copies
+  pub looked : IsLookedAt log copies found
+
+-- the id of the member that was found, and the page
+abbrev pub IsNamed : List ℕ → Option Found → Option (ℕ × ℕ) → Type 0
+IsNamed ids None named = named ≡ None
+IsNamed ids (Some found) named = named ≡ Some (slice_index ids found.member, found.page)

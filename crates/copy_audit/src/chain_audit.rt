@@ -1,0 +1,135 @@
+//! The audit of a chain of copies.
+
+ghost use Rattle.std.specs.Prelude.{ℕ, ◌≡◌, ◌+◌, ◌<◌, ◌≤◌, ◌++◌, [], ◌∷◌, List, Err, IfErr, IfOk, IfSome};
+ghost use Rattle.std.specs.Prelude.{OnOk, length, map};
+ghost use Rattle.page_core.specs.declared.page.Page.{Page};
+ghost use Rattle.log_records.specs.Log.{IsLog};
+ghost use Rattle.copy_vault.specs.ChainEach.{ids_of, place_list, points_of};
+ghost use Rattle.copy_vault.specs.ChainReading.{AreNoChain};
+ghost use Rattle.page_redo.specs.PageRecords.{numbers_on};
+ghost use Rattle.copy_audit.specs.Audit.{end_of};
+ghost use Rattle.copy_audit.specs.Audited.{AreAudited, AreRefused, AreUnread, IsLooked, IsNamed};
+ghost use Rattle.copy_audit.specs.Rows.{AreFound};
+
+use crate::found::Found;
+use crate::members::first_unsound;
+use crate::unsound::Unsound;
+use copy_vault::{ChainReadFault, ChainReader, CopyId};
+use log_records::Record;
+use log_store::{LogImage, read_log};
+use page_core::{Lsn, Page, PageNo};
+use page_redo::by_page;
+use std::alloc::{AllocError, Global};
+use std::io::Read;
+
+/// Each page of each copy is as the log made it at some moment, and lacks no change below the redo
+/// point of its copy. So a restore of any member of the chain is right, whoever wrote the copies.
+#[derive(Clone, Copy, Debug, PartialEq, Eq)]
+pub struct Sound;
+
+/// Audits the archives of a chain of copies against a log: whether a restore of the chain, and of
+/// the chain up to each of its members, gives what the log says (ARIES, section 8, with no trust in
+/// who made the copies). A page of the chain up to a member has to be as the log made it at some
+/// moment, and may lack no change below the member's redo point.
+///
+/// The log is read first, with the faults of `read_log`. Then come the faults of the archives, in
+/// the order in which `ChainReader` meets them, with those of `RedoBeyondLog` and `PageBeyondLog`;
+/// `ChainBroken` with 0 where no archive is given. After all of these `Unsound` names the first
+/// member that fails, and the least page of the chain up to it that does. `OutOfMemory` comes where
+/// memory is refused. `ReadFault` comes where a reader fails or does not come to an end, and what
+/// it gave holds no fault.
+///
+/// The archives are read side by side, in one pass. Beside the log's records, 4 bytes a record and 4
+/// a page of the volume, just one page of each archive is kept, and a copy of it. Each record is
+/// redone once on its page, if no archive has an older page than one before it in the chain.
+pub fn audit<L: Read, A: Read>(
+    alloc: Global,
+    log: &mut L,
+    archives: &mut [A],
+) -> Result<Sound, Unsound>
+    ensures sound { OnOk result
+        (AreAudited (L.remaining log.old) (map (λ a. A.remaining a) archives.old)) }
+    ensures err { IfErr result
+        (AreRefused (L.remaining log.old) (map (λ a. A.remaining a) archives.old)) }
+    ensures unread { result ≡ Err Unsound.ReadFault
+        → AreUnread (L.remaining log.old) (L.remaining log.new)
+        (map (λ a. A.remaining a) archives.old) (map (λ a. A.remaining a) archives.new) }
+{
+    let image = read_log(alloc, log)?;
+    if let Some((copy, page)) = first_in(alloc, &image, archives)? {
+        return Err(Unsound::Unsound(copy, page));
+    }
+    Ok(Sound)
+}
+
+/// The first copy, and the least page of the chain up to it, that is not sound.
+fn first_in<A: Read>(
+    alloc: Global,
+    log: &LogImage,
+    archives: &mut [A],
+) -> Result<Option<(CopyId, PageNo)>, ChainReadFault>
+    ensures ok { IfOk result (IsLooked log.now (map (λ a. A.remaining a) archives.old)) }
+    ensures err { IfErr result (AreNoChain log.now.pages (end_of log.now)
+        (map (λ a. A.remaining a) archives.old) (map (λ a. A.remaining a) archives.new)) }
+{
+    let mut chain = ChainReader::new(alloc, archives, log.pages(), log.end())?;
+    let changes = by_page(alloc, log.records(), Lsn(0), log.pages())?;
+    let mut row = places(alloc, archives.len())?;
+    let mut found = None;
+    let mut number = 0;
+    'rows: loop {
+        if !chain.next_each(archives, &mut row)? {
+            return Ok(named(&chain, found));
+        }
+        let page = PageNo(number);
+        found = found_with(&chain, log.records(), changes.of(page), page, &row, found);
+        number += 1;
+    }
+}
+
+/// As many places as a chain has members.
+fn places(alloc: Global, members: usize) -> Result<Vec<Option<Page>>, AllocError>
+    ensures { IfOk result (λ row. length row.items ≡ members) }
+{
+    let mut row = Vec::with_capacity(alloc, members)?;
+    for _ in 0..members {
+        row.push(None)?;
+    }
+    Ok(row)
+}
+
+/// What is found with one row more.
+fn found_with(
+    chain: &ChainReader,
+    records: &[Record],
+    numbers: &[u32],
+    page: PageNo,
+    row: &[Option<Page>],
+    found: Option<Found>,
+) -> Option<Found>
+    requires log { (pages : ℕ) × IsLog (record { pages = pages; records = records.now }) }
+    requires numbers { numbers.now ≡ numbers_on records.now 0 page }
+    requires members { length row.now ≡ length (points_of chain.now) }
+    ensures { (given : List (List (List Page))) → length given ≡ page
+        → AreFound records.now (points_of chain.now) (length row.now) given found
+        → AreFound records.now (points_of chain.now) (length row.now)
+        (given ++ map place_list row.now ∷ []) result }
+{
+    let most = match &found {
+        Some(found) => found.member.min(row.len()),
+        None => row.len(),
+    };
+    match first_unsound(chain, records, numbers, page, row, most) {
+        Some(member) => Some(Found { member, page }),
+        None => found,
+    }
+}
+
+/// The id of the member that was found, and the page.
+fn named(chain: &ChainReader, found: Option<Found>) -> Option<(CopyId, PageNo)>
+    requires { IfSome found (λ it. it.member < length (ids_of chain.now)) }
+    ensures { IsNamed (ids_of chain.now) found result }
+{
+    let Found { member, page } = found?;
+    Some((chain.id_at(member), page))
+}
