@@ -246,3 +246,33 @@ seen_kept rs p row m now old past was lt here same tells seen =
 pub no_page : (place : Option Page) → ((page : Page) → place ≡ Some page → ⊥) → place_list place ≡ []
 no_page None none = refl
 no_page (Some page) none = absurd (none page refl)
+
+-- ---- a row more, whatever was found before
+
+-- so many members are looked at in the next row
+abbrev pub IsMost : ℕ → Option Found → ℕ → Type 0
+IsMost members None most = most ≡ members
+IsMost members (Some found) most = found.member < members → most ≡ found.member
+
+pub row_found : (rs : List Record) (points : List ℕ) (members n most : ℕ) (given : List (List (List Page)))
+    (next : List (List Page)) (found : Option Found) (new : Found) → length given ≡ n → IsMost members found most
+    → AreFound rs points members given found → IsFirstIn rs n next points most new.member → new.page ≡ n
+    → IsLeastIn rs points members (given ++ next ∷ []) new
+row_found rs points members n most given next None new count is old first page =
+    found_now rs points members n most given next new count (omega (arith, is))
+    (λ j q less in_rows. old j q (omega (arith, is, less)) in_rows) first page
+row_found rs points members n most given next (Some found) new count is old first page =
+    let there = old.there in
+    let same : most ≡ found.member = is there in
+    found_now rs points members n most given next new count (omega arith)
+    (λ j q less in_rows. old.members_before j q (omega arith) in_rows) first page
+
+pub row_clean : (rs : List Record) (points : List ℕ) (members n most : ℕ) (given : List (List (List Page)))
+    (next : List (List Page)) (found : Option Found) → length given ≡ n → IsMost members found most
+    → AreFound rs points members given found → ((j : ℕ) → j < most → IsSoundIn rs n next points j)
+    → AreFound rs points members (given ++ next ∷ []) found
+row_clean rs points members n most given next None count is old here =
+    none_now rs points members n given next count old (λ j less. here j (omega (arith, is, less)))
+row_clean rs points members n most given next (Some found) count is old here =
+    let same : most ≡ found.member = is old.there in
+    found_before rs points members n given next found count old (λ j less. here j (omega arith))

@@ -1,13 +1,26 @@
 -- An audit that goes on, row by row.
-use Rattle.std.proofs.Common.{◌≡◌, ℕ, List, length}
-use Rattle.std.specs.Prelude.{Option}
+use Rattle.std.proofs.Common.{◌≡◌, ◌∙◌, ◌+◌, ◌<◌, ℕ, List, [], ◌∷◌, ◌++◌, length, get_or, map, refl, sym, ap, subst, arith}
+use Rattle.std.specs.Prelude.{Option, Some, None}
+use Rattle.std.proofs.lemmas.List.{length-append}
 use Rattle.page_core.specs.declared.page.Page.{Page}
+use Rattle.log_records.specs.declared.record.Record.{Record}
 use Rattle.log_records.specs.Log.{Log}
+use Rattle.copy_vault.specs.declared.chain_read_fault.ChainReadFault.{ChainReadFault}
+use Rattle.copy_vault.specs.declared.chain_read_fault.ChainReadFault.TheVariants as chain
 use Rattle.copy_vault.specs.declared.chain_reader.ChainReader.{ChainReader}
-use Rattle.copy_vault.specs.ChainEach.{IsReadingEach, ids_of, points_of}
+use Rattle.copy_vault.specs.ChainEach.{IsEachRead, IsReadingEach, ids_of, place_list, points_of}
+use Rattle.copy_vault.specs.Chain.{FitFrom, rows}
+use Rattle.copy_vault.specs.ChainReading.{AreWithinLog}
+use Rattle.copy_vault.specs.declared.copy_id.CopyKind.TheVariants.{Full}
+use Rattle.copy_vault.specs.Copy.{CopyView}
 use Rattle.copy_audit.specs.declared.found.Found.{Found}
+use Rattle.copy_audit.specs.declared.unsound.Unsound as fault
+use Rattle.copy_audit.specs.declared.unsound.Unsound.TheVariants.{ReadFault, Unsound}
 use Rattle.copy_audit.specs.Audit.{end_of}
+use Rattle.copy_audit.specs.AuditFault.{of_chain}
+use Rattle.copy_audit.specs.Audited.{IsLooked, IsLookedAt, IsNamed}
 use Rattle.copy_audit.specs.Rows.{AreFound}
+use Rattle.copy_audit.proofs.Founds.{nothing_found, one_found}
 
 -- so many rows were looked at, and this was found in them
 pub record HasLooked (inputs lefts : List (Option (List ℕ))) (log : Log) (it : ChainReader) (members number : ℕ)
@@ -20,3 +33,87 @@ pub record HasLooked (inputs lefts : List (Option (List ℕ))) (log : Log) (it :
   pub id_each : length (ids_of it) ≡ members
   pub pages : it.pages ≡ log.pages
   pub end : it.end ≡ end_of log
+
+-- there is a page of this number
+pub next_below : (inputs lefts now : List (Option (List ℕ))) (log : Log) (old new : ChainReader) (members number : ℕ)
+    (found : Option Found) (row : List (List Page)) → (looked : HasLooked inputs lefts log old members number found)
+    → IsReadingEach inputs now new (looked.given ++ row ∷ []) → new.pages ≡ old.pages → number < log.pages
+next_below inputs lefts now log old new members number found row looked going same =
+    omega (arith, going.within, length-append looked.given (row ∷ []), looked.count, looked.pages, same)
+
+pub looked_more : (inputs lefts now : List (Option (List ℕ))) (log : Log) (old new : ChainReader) (members number : ℕ)
+    (found more : Option Found) (rs : List Record) (row : List (Option Page))
+    → (looked : HasLooked inputs lefts log old members number found)
+    → IsReadingEach inputs now new (looked.given ++ map place_list row ∷ []) → rs ≡ log.records
+    → ids_of new ≡ ids_of old → points_of new ≡ points_of old → new.pages ≡ old.pages → new.end ≡ old.end
+    → length row ≡ members
+    → ((given : List (List (List Page))) → length given ≡ number → AreFound rs (points_of new) (length row) given found
+    → AreFound rs (points_of new) (length row) (given ++ map place_list row ∷ []) more)
+    → HasLooked inputs now log new (length row) (number + 1) more
+looked_more inputs lefts now log old new members number found more rs row looked going records ids points pages end wide step =
+    let before : AreFound rs (points_of new) (length row) looked.given found =
+    subst (λ (xs : List Record). AreFound xs (points_of new) (length row) looked.given found) (sym records)
+    (subst (λ (ps : List ℕ). AreFound log.records ps (length row) looked.given found) (sym points)
+    (subst (λ (n : ℕ). AreFound log.records (points_of old) n looked.given found) (sym wide) looked.found_in)) in
+    record {
+      given = looked.given ++ map place_list row ∷ [];
+      reading = going;
+      count = omega (arith, length-append looked.given (map place_list row ∷ []), looked.count);
+      found_in = subst (λ (xs : List Record).
+          AreFound xs (points_of new) (length row) (looked.given ++ map place_list row ∷ []) more) records
+          (step looked.given looked.count before);
+      point_each = ap length points ∙ looked.point_each ∙ sym wide;
+      id_each = ap length ids ∙ looked.id_each ∙ sym wide;
+      pages = pages ∙ looked.pages;
+      end = end ∙ looked.end;
+    }
+
+-- ---- all rows were looked at
+
+looked_at : (log : Log) (copies : List CopyView) (ids points : List ℕ) (given : List (List (List Page)))
+    (found : Option Found) (named : Option fault.Unsound) → ids ≡ map (λ (c : CopyView). c.id) copies
+    → points ≡ map (λ (c : CopyView). c.redo) copies → given ≡ rows copies log.pages → AreWithinLog (end_of log) copies
+    → AreFound log.records points (length points) given found → IsNamed ids found named → IsLookedAt log copies named
+looked_at log copies ids points given None named of_ids of_points of_given within none is =
+    subst (IsLookedAt log copies) (sym is) (nothing_found log copies points given of_points of_given within none)
+looked_at log copies ids points given (Some found) named of_ids of_points of_given within some is =
+    subst (IsLookedAt log copies) (sym is) (record {
+      id = get_or ids found.member 0;
+      page = found.page;
+      named = refl;
+      first = one_found log copies ids points given found of_ids of_points of_given some;
+    })
+
+pub all_looked : (inputs lefts : List (Option (List ℕ))) (log : Log) (old new : ChainReader) (members number : ℕ)
+    (found : Option Found) (named : Option fault.Unsound) → (looked : HasLooked inputs lefts log old members number found)
+    → IsEachRead new.pages new.end inputs (ids_of new) (points_of new) looked.given
+    → points_of new ≡ points_of old → new.pages ≡ old.pages → new.end ≡ old.end
+    → IsNamed (ids_of new) found named → IsLooked log inputs named
+all_looked inputs lefts log old new members number found named looked read points pages end is =
+    let n : new.pages ≡ log.pages = pages ∙ looked.pages in
+    let last : new.end ≡ end_of log = end ∙ looked.end in
+    let within = subst (λ (e : ℕ). AreWithinLog e read.copies) last read.within in
+    let many : members ≡ length (points_of new) = sym (ap length points ∙ looked.point_each) in
+    record {
+      copies = read.copies;
+      of_archives = record {
+        spelled = read.spelled;
+        fit = subst (λ (m : ℕ). FitFrom m Full read.copies) n read.fit;
+        within = within;
+      };
+      chain = read.chain;
+      looked = looked_at log read.copies (ids_of new) (points_of new) looked.given found named read.id_each
+          read.point_each (read.made ∙ ap (rows read.copies) n) within
+          (subst (λ (m : ℕ). AreFound log.records (points_of new) m looked.given found) many
+          (subst (λ (ps : List ℕ). AreFound log.records ps members looked.given found) (sym points) looked.found_in)) is;
+    }
+
+-- why a reader that failed is told
+pub read_failed : (why : ChainReadFault) → of_chain why ≡ ReadFault → why ≡ chain.ReadFault
+read_failed chain.OutOfMemory e = cc
+read_failed (chain.BadArchive at) e = cc
+read_failed (chain.ChainBroken copy) e = cc
+read_failed chain.CountDiffers e = cc
+read_failed chain.ReadFault e = refl
+read_failed chain.RedoBeyondLog e = cc
+read_failed (chain.PageBeyondLog page) e = cc

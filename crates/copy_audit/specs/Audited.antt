@@ -24,6 +24,13 @@ pub record AreAudited (input : Option (List ℕ)) (archives : List (Option (List
   pub chain : IsChain copies
   pub audited : IsAudited log copies
 
+-- the refusal names the first member that has an unsound page, and the least one of it
+pub record IsUnsoundFor (log : Log) (copies : List CopyView) (why : fault.Unsound) : Type 0 where
+  pub id : ℕ
+  pub page : ℕ
+  pub named : why ≡ Unsound id page
+  pub first : IsFirstUnsound log copies id page
+
 -- they are refused: each fault only where all that comes before it is right
 pub data AreRefused (input : Option (List ℕ)) (archives : List (Option (List ℕ)))
     (why : fault.Unsound) : Type 0 where
@@ -33,8 +40,8 @@ pub data AreRefused (input : Option (List ℕ)) (archives : List (Option (List �
       → why ≡ of_chain first → (lefts : List (Option (List ℕ)))
       → AreNoChain log.pages (end_of log) archives lefts first → AreRefused input archives why
   of_a_page : (log : Log) (copies : List CopyView) → IsOfLog input log
-      → AreOfArchives archives log copies → IsChain copies → (id page : ℕ)
-      → why ≡ Unsound id page → IsFirstUnsound log copies id page → AreRefused input archives why
+      → AreOfArchives archives log copies → IsChain copies → IsUnsoundFor log copies why
+      → AreRefused input archives why
   of_memory : why ≡ OutOfMemory → AreRefused input archives why
 
 -- a reader failed: what it gave until then holds no fault, and all that was read before it is right
@@ -45,13 +52,13 @@ pub data AreUnread (input left : Option (List ℕ)) (archives lefts : List (Opti
       → AreNoChain log.pages (end_of log) archives lefts chain.ReadFault
       → AreUnread input left archives lefts
 
--- the archives spell a chain of copies for the log, which is audited; or the chain up to the copy of
--- this id is the first one with an unsound page, and this is the least one
-abbrev pub IsLookedAt : Log → List CopyView → Option (ℕ × ℕ) → Type 0
+-- the archives spell a chain of copies for the log, which is audited, or has a page for which it is
+-- refused
+abbrev pub IsLookedAt : Log → List CopyView → Option fault.Unsound → Type 0
 IsLookedAt log copies None = IsAudited log copies
-IsLookedAt log copies (Some found) = IsFirstUnsound log copies found.0 found.1
+IsLookedAt log copies (Some why) = IsUnsoundFor log copies why
 
-pub record IsLooked (log : Log) (archives : List (Option (List ℕ))) (found : Option (ℕ × ℕ))
+pub record IsLooked (log : Log) (archives : List (Option (List ℕ))) (found : Option fault.Unsound)
     : Type 0 where
   pub copies : List CopyView
   pub of_archives : AreOfArchives archives log copies
@@ -59,6 +66,6 @@ pub record IsLooked (log : Log) (archives : List (Option (List ℕ))) (found : O
   pub looked : IsLookedAt log copies found
 
 -- the id of the member that was found, and the page
-abbrev pub IsNamed : List ℕ → Option Found → Option (ℕ × ℕ) → Type 0
+abbrev pub IsNamed : List ℕ → Option Found → Option fault.Unsound → Type 0
 IsNamed ids None named = named ≡ None
-IsNamed ids (Some found) named = named ≡ Some (slice_index ids found.member, found.page)
+IsNamed ids (Some found) named = named ≡ Some (Unsound (slice_index ids found.member) found.page)

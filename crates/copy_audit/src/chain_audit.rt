@@ -14,7 +14,7 @@ ghost use Rattle.copy_audit.specs.Rows.{AreFound};
 use crate::found::Found;
 use crate::members::first_unsound;
 use crate::unsound::Unsound;
-use copy_vault::{ChainReadFault, ChainReader, CopyId};
+use copy_vault::{ChainReadFault, ChainReader};
 use log_records::Record;
 use log_store::{LogImage, read_log};
 use page_core::{Lsn, Page, PageNo};
@@ -56,18 +56,18 @@ pub fn audit<L: Read, A: Read>(
         (map (λ a. A.remaining a) archives.old) (map (λ a. A.remaining a) archives.new) }
 {
     let image = read_log(alloc, log)?;
-    if let Some((copy, page)) = first_in(alloc, &image, archives)? {
-        return Err(Unsound::Unsound(copy, page));
+    match first_in(alloc, &image, archives)? {
+        Some(unsound) => Err(unsound),
+        None => Ok(Sound),
     }
-    Ok(Sound)
 }
 
-/// The first copy, and the least page of the chain up to it, that is not sound.
+/// The first copy with an unsound page in the chain up to it, and the least such page.
 fn first_in<A: Read>(
     alloc: Global,
     log: &LogImage,
     archives: &mut [A],
-) -> Result<Option<(CopyId, PageNo)>, ChainReadFault>
+) -> Result<Option<Unsound>, ChainReadFault>
     ensures ok { IfOk result (IsLooked log.now (map (λ a. A.remaining a) archives.old)) }
     ensures err { IfErr result (AreNoChain log.now.pages (end_of log.now)
         (map (λ a. A.remaining a) archives.old) (map (λ a. A.remaining a) archives.new)) }
@@ -125,11 +125,11 @@ fn found_with(
     }
 }
 
-/// The id of the member that was found, and the page.
-fn named(chain: &ChainReader, found: Option<Found>) -> Option<(CopyId, PageNo)>
+/// Names the copy that was found by its id.
+fn named(chain: &ChainReader, found: Option<Found>) -> Option<Unsound>
     requires { IfSome found (λ it. it.member < length (ids_of chain.now)) }
     ensures { IsNamed (ids_of chain.now) found result }
 {
     let Found { member, page } = found?;
-    Some((chain.id_at(member), page))
+    Some(Unsound::Unsound(chain.id_at(member), page))
 }

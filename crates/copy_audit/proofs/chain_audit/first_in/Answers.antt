@@ -1,19 +1,113 @@
+use Rattle.std.proofs.Common.{◌≡◌, ◌∙◌, ◌+◌, ◌<◌, ℕ, List, [], ◌∷◌, ◌++◌, length, get_or, map, sym, ap, subst, arith, inl, inr}
+use Rattle.std.specs.Prelude.{Option}
+use Rattle.std.specs.Vec.{with_items}
+use Rattle.std.specs.List.{range_with_len}
+use Rattle.std.proofs.lemmas.List.{length-append, with_items_is}
+use Rattle.std.proofs.lemmas.List.FromFn.{get_or-map-range_with_len, length-map-range_with_len}
+use Rattle.std.proofs.lemmas.Result.{err_from_is_err_and}
+use Rattle.page_core.specs.declared.page.Page.{Page}
+use Rattle.log_records.specs.declared.record.Record.{Record}
+use Rattle.copy_vault.specs.ChainEach.{GoesOnEach, IsEachRead, IsReadingEach, ids_of, place_list, points_of}
+use Rattle.copy_vault.specs.ChainReading.{IsStopped}
+use Rattle.page_redo.specs.PageRecords.{numbers_on}
+use Rattle.copy_audit.specs.Audit.{end_of}
+use Rattle.copy_audit.proofs.Looks.{HasLooked, all_looked, looked_more, next_below}
 use Rattle.copy_audit.proofs.chain_audit.first_in.Goals as goal
 
 pub returns-in_err-next_each-clause-err : goal.returns-in_err-next_each-clause-err
-returns-in_err-next_each-clause-err g c = ?
+returns-in_err-next_each-clause-err g c =
+    let left = g.A.Read.remaining in
+    let inputs = map left c.args.archives.now in
+    let lefts = map left c.next_each.new.readers in
+    let looked = c.rows.invariant.looked in
+    let fault = c.in_err-next_each.field-0.0 in
+    let stopped = c.in_err-next_each.ensures.err inputs looked.given looked.reading in
+    let p = err_from_is_err_and c.from_residual-in_err-next_each.result c.from_residual-in_err-next_each.ensures.1 in
+    rw (p.1, p.2)
+    (inr (inl (subst (λ n. IsStopped n (end_of c.args.log.now) inputs lefts fault) looked.pages
+    (subst (λ n. IsStopped c.rows.chain.pages n inputs lefts fault) looked.end stopped))))
 
 pub returns-then-not-branch-clause-ok : goal.returns-then-not-branch-clause-ok
-returns-then-not-branch-clause-ok g c = ?
+returns-then-not-branch-clause-ok g c =
+    let left = g.A.Read.remaining in
+    let inputs = map left c.args.archives.now in
+    let looked = c.rows.invariant.looked in
+    let ended = c.in_ok-next_each.ensures in
+    let read = rw c.if-not-branch.true at (ended.ok inputs looked.given looked.reading) in
+    all_looked inputs (map left c.rows.archives) c.args.log.now c.rows.chain c.next_each.new.self
+    (length c.rows.row.items) c.rows.number c.rows.found c.named.result looked read ended.points ended.pages ended.end
+    c.named.ensures
 
 pub of-requires : goal.of-requires
-of-requires g c = ?
+of-requires g c =
+    let left = g.A.Read.remaining in
+    let inputs = map left c.args.archives.now in
+    let looked = c.rows.invariant.looked in
+    let step = c.in_ok-next_each.ensures in
+    let going = rw c.if-not-branch.false at (step.ok inputs looked.given looked.reading) in
+    let below = next_below inputs (map left c.rows.archives) (map left c.next_each.new.readers) c.args.log.now c.rows.chain
+    c.next_each.new.self (length c.rows.row.items) c.rows.number c.rows.found (map place_list c.next_each.new.row) looked
+    going step.pages in
+    omega (
+      arith,
+      below,
+      ap length c.in_ok-changes.ensures.numbers,
+      length-map-range_with_len (numbers_on c.records.result.now 0) 0 c.pages-2.result,
+      c.pages-2.ensures.pages,
+    )
 
 pub found_with-found-requires-clause-numbers : goal.found_with-found-requires-clause-numbers
-found_with-found-requires-clause-numbers g c = ?
+found_with-found-requires-clause-numbers g c =
+    let left = g.A.Read.remaining in
+    let inputs = map left c.args.archives.now in
+    let looked = c.rows.invariant.looked in
+    let step = c.in_ok-next_each.ensures in
+    let going = rw c.if-not-branch.false at (step.ok inputs looked.given looked.reading) in
+    let below = next_below inputs (map left c.rows.archives) (map left c.next_each.new.readers) c.args.log.now c.rows.chain
+    c.next_each.new.self (length c.rows.row.items) c.rows.number c.rows.found (map place_list c.next_each.new.row) looked
+    going step.pages in
+    let n = c.rows.number in
+    c.of.ensures ∙ ap (λ (ls : List (List ℕ)). get_or ls n []) c.in_ok-changes.ensures.numbers
+    ∙ get_or-map-range_with_len (numbers_on c.records.result.now 0) 0 c.pages-2.result n n []
+    (omega (arith, below, c.pages-2.ensures.pages)) (omega arith)
+    ∙ ap (λ (rs : List Record). numbers_on rs 0 n) (c.records.ensures.records ∙ sym c.records-in-rows.ensures.records)
 
 pub rows-smaller : goal.rows-smaller
-rows-smaller g c = ?
+rows-smaller g c =
+    let left = g.A.Read.remaining in
+    let inputs = map left c.args.archives.now in
+    let looked = c.rows.invariant.looked in
+    let step = c.in_ok-next_each.ensures in
+    let going = rw c.if-not-branch.false at (step.ok inputs looked.given looked.reading) in
+    let below = next_below inputs (map left c.rows.archives) (map left c.next_each.new.readers) c.args.log.now c.rows.chain
+    c.next_each.new.self (length c.rows.row.items) c.rows.number c.rows.found (map place_list c.next_each.new.row) looked
+    going step.pages in
+    omega (arith, below)
 
 pub rows-preserved : goal.rows-preserved
-rows-preserved g c = ?
+rows-preserved g c =
+    let left = g.A.Read.remaining in
+    let inputs = map left c.args.archives.now in
+    let now = map left c.next_each.new.readers in
+    let looked = c.rows.invariant.looked in
+    let step = c.in_ok-next_each.ensures in
+    let going = rw c.if-not-branch.false at (step.ok inputs looked.given looked.reading) in
+    let places = with_items c.rows.row c.next_each.new.row in
+    let wide : length c.next_each.new.row ≡ length c.rows.row.items =
+    step.length ∙ ap length c.deref_mut.ensures.value in
+    let same : places.items ≡ c.next_each.new.row =
+    with_items_is c.rows.row c.next_each.new.row (omega (arith, c.rows.row.ok.0, wide)) in
+    let row : c.deref.result.now ≡ places.items = c.deref.ensures.value in
+    let more = looked_more inputs (map left c.rows.archives) now c.args.log.now c.rows.chain c.next_each.new.self
+    (length c.rows.row.items) c.rows.number c.rows.found c.found_with-found.result c.records-in-rows.result.now
+    c.deref.result.now looked
+    (subst (λ (r : List (Option Page)). IsReadingEach inputs now c.next_each.new.self (looked.given ++ map place_list r ∷ []))
+    (sym (row ∙ same)) going)
+    c.records-in-rows.ensures.records step.ids step.points step.pages step.end (ap length (row ∙ same) ∙ wide)
+    c.found_with-found.ensures in
+    record {
+      looked = subst (λ n. HasLooked inputs now c.args.log.now c.next_each.new.self n (c.rows.number + 1)
+          c.found_with-found.result) (ap length row) more;
+      rows = omega (arith, ap length same, wide, c.rows.invariant.rows, c.next_each.auto.readers);
+      many = omega (arith, c.rows.invariant.many, c.next_each.auto.readers);
+    }
