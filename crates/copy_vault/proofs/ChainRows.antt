@@ -2,7 +2,6 @@
 use Rattle.std.proofs.Common.{◌≡◌, ℕ, ◌+◌, ◌<◌, ◌≤◌, List, [], ◌∷◌, ◌++◌, length, get_or, map}
 use Rattle.std.proofs.Common.{refl, sym, ap, ◌∙◌, arith}
 use Rattle.std.specs.Prelude.{Option, None, Result, Ok, Err, OnOk}
-use Rattle.std.specs.List.{range_with_len}
 use Rattle.std.proofs.lemmas.List.{get_or-map, length-map, length_push}
 use Rattle.std.proofs.lemmas.List.FromFn.{length-map-range_with_len, map-range_with_len_more}
 use Rattle.page_core.specs.declared.page.Page.{Page}
@@ -12,7 +11,7 @@ use Rattle.copy_vault.specs.declared.header.ArchiveHeader.{ArchiveHeader}
 use Rattle.copy_vault.specs.Chain.{content, row, rows}
 use Rattle.copy_vault.specs.ChainEach.{IsEachRead, IsReadingEach, ids_of, points_of}
 use Rattle.copy_vault.specs.ChainRead.{AreRead, IsRowGiven, copy_of, moment_of}
-use Rattle.copy_vault.specs.ChainReading.{IsChainRead, IsReading, heads_of}
+use Rattle.copy_vault.specs.ChainReading.{IsReading, heads_of}
 use Rattle.copy_vault.specs.Copy.{CopyView}
 use Rattle.copy_vault.proofs.ChainEnds.{blank, completed, read_whole, reading_on, row_completed, same_maps}
 use Rattle.copy_vault.proofs.ChainEnds.{whole_copies}

@@ -191,9 +191,9 @@ impl ChainReader {
             return Ok(false);
         }
         let step = give_each(&mut self.cursors, readers, self.given, self.end, row);
-        if let Err(fault) = &step {
-            self.failed = Some(*fault);
-            return Err(*fault);
+        if let Err(refusal) = &step {
+            self.failed = Some(*refusal);
+            return Err(*refusal);
         }
         self.given += 1;
         Ok(true)
