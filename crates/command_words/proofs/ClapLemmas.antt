@@ -12,8 +12,8 @@ use Rattle.clap.specs.declared.error.Error.{Error}
 use Rattle.clap.specs.declared.error.kind.ErrorKind.TheVariants as kind
 use Rattle.clap.proofs.CallerReads.{signed_reads}
 use Rattle.clap.proofs.OnLiterals.{clap_on_literals}
-use Rattle.command_words.specs.Command.{ExplainsRead, IsFramesRead, IsRead, Names, PassesFrames, apps, redo_app}
-use Rattle.command_words.specs.Command.{restore_app, run_app}
+use Rattle.command_words.specs.Command.{ExplainsRead, IsFramesRead, IsRead, Names, PassesFrames, apps, audit_app}
+use Rattle.command_words.specs.Command.{redo_app, restore_app, run_app}
 use Rattle.command_words.specs.declared.command.UsageFault.{UsageFault}
 use Rattle.command_words.specs.declared.command.UsageFault.TheVariants.{BadArguments, OutOfMemory}
 
@@ -113,3 +113,7 @@ help_of_run = refl
 pub help_of_restore : fault_of restore_app (codes "restore" ∷ codes "--help" ∷ []) ≡ kind.DisplayHelp ∷ []
 unfolding clap_on_literals
 help_of_restore = refl
+
+pub help_of_audit : fault_of audit_app (codes "audit" ∷ codes "--help" ∷ []) ≡ kind.DisplayHelp ∷ []
+unfolding clap_on_literals
+help_of_audit = refl

@@ -7,12 +7,12 @@ use Rattle.std.specs.Str.{bytes_eq}
 use Rattle.std.proofs.lemmas.Slice.Eq.{bytes_eq-Decides}
 use Rattle.std.proofs.lemmas.Option.{none-some, same_Some}
 use Rattle.clap.specs.Words.{App, Text, fault_of}
-use Rattle.command_words.specs.Command.{IsRedo, IsTaken, IsTakenBy, IsUnknown, Names, apps, redo_app, restore_app}
+use Rattle.command_words.specs.Command.{IsRedo, IsTaken, IsTakenBy, IsUnknown, Names, apps, audit_app, redo_app}
 use Rattle.command_words.specs.Command.{AsksForHelp, Explains, ExplainsRead, ExplainsUnknown, Gives}
-use Rattle.command_words.specs.Command.{read_as, run_app}
+use Rattle.command_words.specs.Command.{read_as, restore_app, run_app}
 use Rattle.clap.specs.declared.error.kind.ErrorKind.TheVariants.{DisplayHelp}
 use Rattle.command_words.specs.declared.command.Command.{Command}
-use Rattle.command_words.specs.declared.command.Command.TheVariants.{Redo, Restore, Run}
+use Rattle.command_words.specs.declared.command.Command.TheVariants.{Audit, Redo, Restore, Run}
 use Rattle.command_words.specs.declared.command.UsageFault.{UsageFault}
 use Rattle.command_words.specs.declared.command.UsageFault.TheVariants.{BadArguments, HelpAsked, MisspelledCommand}
 use Rattle.command_words.specs.declared.command.UsageFault.TheVariants.{NoCommand, OutOfMemory, UnknownCommand}
@@ -23,11 +23,13 @@ first_word f [] x word is same = absurd (none-some _ (sym is))
 first_word f (y ∷ ys) x word is same = ap Some (ap f (sym (same_Some _ _ is)) ∙ sym same)
 
 taken_among : (words : List Text) → IsTaken words
-    → IsTakenBy words redo_app ⊎ (IsTakenBy words run_app ⊎ IsTakenBy words restore_app)
+    → IsTakenBy words redo_app
+    ⊎ (IsTakenBy words run_app ⊎ (IsTakenBy words restore_app ⊎ IsTakenBy words audit_app))
 taken_among words (zero, app, lt, at, by) = inl (subst (IsTakenBy words) (sym at) by)
 taken_among words (suc zero, app, lt, at, by) = inr (inl (subst (IsTakenBy words) (sym at) by))
-taken_among words (suc (suc zero), app, lt, at, by) = inr (inr (subst (IsTakenBy words) (sym at) by))
-taken_among words (suc (suc (suc k)), app, lt, at, by) = absurd (omega arith)
+taken_among words (suc (suc zero), app, lt, at, by) = inr (inr (inl (subst (IsTakenBy words) (sym at) by)))
+taken_among words (suc (suc (suc zero)), app, lt, at, by) = inr (inr (inr (subst (IsTakenBy words) (sym at) by)))
+taken_among words (suc (suc (suc (suc k))), app, lt, at, by) = absurd (omega arith)
 
 same_name : (words : List Text) (a b : App) → Names words a → Names words b → length a.top.name ≡ length b.top.name
 same_name words a b p q = ap length (same_Some _ _ (sym p ∙ q))
@@ -37,7 +39,10 @@ taken_run words named taken = elim (taken_among words taken) [
   | inl by ↦ absurd (let e : 3 ≡ 4 = same_name words run_app redo_app named by.0 in omega arith)
   | inr by ↦ elim by [
     | inl it ↦ it.1
-    | inr it ↦ absurd (let e : 3 ≡ 7 = same_name words run_app restore_app named it.0 in omega arith)
+    | inr it ↦ elim it [
+      | inl one ↦ absurd (let e : 3 ≡ 7 = same_name words run_app restore_app named one.0 in omega arith)
+      | inr one ↦ absurd (let e : 3 ≡ 5 = same_name words run_app audit_app named one.0 in omega arith)
+    ]
   ]
 ]
 
@@ -46,7 +51,10 @@ taken_redo words named taken = elim (taken_among words taken) [
   | inl by ↦ by.1
   | inr by ↦ elim by [
     | inl it ↦ absurd (let e : 4 ≡ 3 = same_name words redo_app run_app named it.0 in omega arith)
-    | inr it ↦ absurd (let e : 4 ≡ 7 = same_name words redo_app restore_app named it.0 in omega arith)
+    | inr it ↦ elim it [
+      | inl one ↦ absurd (let e : 4 ≡ 7 = same_name words redo_app restore_app named one.0 in omega arith)
+      | inr one ↦ absurd (let e : 4 ≡ 5 = same_name words redo_app audit_app named one.0 in omega arith)
+    ]
   ]
 ]
 
@@ -55,7 +63,22 @@ taken_restore words named taken = elim (taken_among words taken) [
   | inl by ↦ absurd (let e : 7 ≡ 4 = same_name words restore_app redo_app named by.0 in omega arith)
   | inr by ↦ elim by [
     | inl it ↦ absurd (let e : 7 ≡ 3 = same_name words restore_app run_app named it.0 in omega arith)
-    | inr it ↦ it.1
+    | inr it ↦ elim it [
+      | inl one ↦ one.1
+      | inr one ↦ absurd (let e : 7 ≡ 5 = same_name words restore_app audit_app named one.0 in omega arith)
+    ]
+  ]
+]
+
+pub taken_audit : (words : List Text) → Names words audit_app → IsTaken words → fault_of audit_app words ≡ []
+taken_audit words named taken = elim (taken_among words taken) [
+  | inl by ↦ absurd (let e : 5 ≡ 4 = same_name words audit_app redo_app named by.0 in omega arith)
+  | inr by ↦ elim by [
+    | inl it ↦ absurd (let e : 5 ≡ 3 = same_name words audit_app run_app named it.0 in omega arith)
+    | inr it ↦ elim it [
+      | inl one ↦ absurd (let e : 5 ≡ 7 = same_name words audit_app restore_app named one.0 in omega arith)
+      | inr one ↦ one.1
+    ]
   ]
 ]
 
@@ -68,12 +91,15 @@ only_by words app (Err fault) takes only = λ taken. only (takes taken)
 
 -- no command takes words whose first is the name of none
 pub unnamed : (words : List Text) (name : Text) → slice_get words 0 ≡ Some name → (name ≡ codes "redo" → ⊥)
-    → (name ≡ codes "run" → ⊥) → (name ≡ codes "restore" → ⊥) → IsTaken words → ⊥
-unnamed words name first not-redo not-run not-restore taken = elim (taken_among words taken) [
+    → (name ≡ codes "run" → ⊥) → (name ≡ codes "restore" → ⊥) → (name ≡ codes "audit" → ⊥) → IsTaken words → ⊥
+unnamed words name first not-redo not-run not-restore not-audit taken = elim (taken_among words taken) [
   | inl by ↦ not-redo (same_Some _ _ (sym first ∙ by.0))
   | inr by ↦ elim by [
     | inl it ↦ not-run (same_Some _ _ (sym first ∙ it.0))
-    | inr it ↦ not-restore (same_Some _ _ (sym first ∙ it.0))
+    | inr it ↦ elim it [
+      | inl one ↦ not-restore (same_Some _ _ (sym first ∙ one.0))
+      | inr one ↦ not-audit (same_Some _ _ (sym first ∙ one.0))
+    ]
   ]
 ]
 
@@ -85,8 +111,9 @@ not_of_redo words name first other (inr is) = other (same_Some _ _ (sym first �
 
 -- a first word that is neither a command's name nor a call for help
 pub unknown : (name : Text) → (name ≡ codes "redo" → ⊥) → (name ≡ codes "run" → ⊥) → (name ≡ codes "restore" → ⊥)
-    → (name ≡ codes "help" → ⊥) → (name ≡ codes "--help" → ⊥) → (name ≡ codes "-h" → ⊥) → IsUnknown name
-unknown name not-redo not-run not-restore not-help not-long not-short = (
+    → (name ≡ codes "audit" → ⊥) → (name ≡ codes "help" → ⊥) → (name ≡ codes "--help" → ⊥) → (name ≡ codes "-h" → ⊥)
+    → IsUnknown name
+unknown name not-redo not-run not-restore not-audit not-help not-long not-short = (
   λ k app lt. none k app lt,
   λ asks. elim asks [
     | inl is ↦ not-help is
@@ -98,7 +125,8 @@ unknown name not-redo not-run not-restore not-help not-long not-short = (
     none zero app lt same = not-redo (sym same)
     none (suc zero) app lt same = not-run (sym same)
     none (suc (suc zero)) app lt same = not-restore (sym same)
-    none (suc (suc (suc k))) app lt same = absurd (omega arith)
+    none (suc (suc (suc zero))) app lt same = not-audit (sym same)
+    none (suc (suc (suc (suc k)))) app lt same = absurd (omega arith)
 
 -- ---- `help NAME`, read as `NAME --help`
 
@@ -144,10 +172,15 @@ pub not_help : (name command : Text) → name ≡ command → get_or command 0 0
 not_help name command is first help =
     no_r (get_or command 0 0) first (first_letters name command (codes "help") is help)
 
+-- nor is `audit`
+pub audit_not_help : (name : Text) → name ≡ codes "audit" → name ≡ codes "help" → ⊥
+audit_not_help name is help = absurd (let e : 5 ≡ 4 = ap length (sym is ∙ help) in omega arith)
+
 gives_taken : (words : List Text) (command : Command) → Gives words command → IsTaken words
 gives_taken words Redo gives = (0, redo_app, lit< tt, refl, gives)
 gives_taken words (Run pages frames save) gives = (1, run_app, lit< tt, refl, gives.0)
 gives_taken words (Restore log master archives) gives = (2, restore_app, lit< tt, refl, gives.0)
+gives_taken words (Audit log archives) gives = (3, audit_app, lit< tt, refl, gives.0)
 
 -- words in which clap finds a fault give no command
 pub help_gives_none : (words : List Text) (app : App) (r : Result Command UsageFault) → IfOk r (Gives words)

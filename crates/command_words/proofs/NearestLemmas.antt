@@ -29,18 +29,19 @@ no_farther least a b c le same is = omega arith
 more_than_two : (least far : ℕ) → least ≡ 3 → least ≤ far → 2 < far
 more_than_two least far is le = omega arith
 
-below : (k four count : ℕ) → k < four → four ≤ count → k < count
-below k four count lt le = omega arith
+below : (k five count : ℕ) → k < five → five ≤ count → k < count
+below k five count lt le = omega arith
 
--- the names behind four references, by their places
-pub named_at : {X : Type 0} (now : X → Text) (a b c d e : X) (i : ℕ) → now a ≡ codes "redo" → now b ≡ codes "run"
-    → now c ≡ codes "restore" → now d ≡ codes "help" → i < 4
-    → (other : Text) → get_or names i other ≡ now (get_or (a ∷ b ∷ c ∷ d ∷ []) i e)
-named_at now a b c d e zero is-a is-b is-c is-d lt other = sym is-a
-named_at now a b c d e (suc zero) is-a is-b is-c is-d lt other = sym is-b
-named_at now a b c d e (suc (suc zero)) is-a is-b is-c is-d lt other = sym is-c
-named_at now a b c d e (suc (suc (suc zero))) is-a is-b is-c is-d lt other = sym is-d
-named_at now a b c d e (suc (suc (suc (suc i)))) is-a is-b is-c is-d lt other = absurd (omega arith)
+-- the names behind five references, by their places
+pub named_at : {X : Type 0} (now : X → Text) (a b c d e x : X) (i : ℕ) → now a ≡ codes "redo" → now b ≡ codes "run"
+    → now c ≡ codes "restore" → now d ≡ codes "audit" → now e ≡ codes "help" → i < 5
+    → (other : Text) → get_or names i other ≡ now (get_or (a ∷ b ∷ c ∷ d ∷ e ∷ []) i x)
+named_at now a b c d e x zero is-a is-b is-c is-d is-e lt other = sym is-a
+named_at now a b c d e x (suc zero) is-a is-b is-c is-d is-e lt other = sym is-b
+named_at now a b c d e x (suc (suc zero)) is-a is-b is-c is-d is-e lt other = sym is-c
+named_at now a b c d e x (suc (suc (suc zero))) is-a is-b is-c is-d is-e lt other = sym is-d
+named_at now a b c d e x (suc (suc (suc (suc zero)))) is-a is-b is-c is-d is-e lt other = sym is-e
+named_at now a b c d e x (suc (suc (suc (suc (suc i))))) is-a is-b is-c is-d is-e lt other = absurd (omega arith)
 
 -- a name that is nearer than those before it
 pub nearer : {X : Type 0} (now : X → Text) (word : Text) (best new : Option X) (least now_least count far : ℕ) (name : X)

@@ -15,7 +15,7 @@ use Rattle.clap.specs.declared.builder.command.Command.TheViews.{out-Command as 
 use Rattle.clap.specs.declared.parser.matches.ArgMatches.{ArgMatches}
 use Rattle.clap.proofs.CallerLemmas.{added_plain, required_in_chain}
 use Rattle.clap.proofs.CallerReads.{required_reads}
-use Rattle.command_words.specs.Command.{AsksForFiles, AsksForPages, PassesCount, PassesFrames, PassesPages}
+use Rattle.command_words.specs.Command.{AsksForFiles, AsksForLog, AsksForPages, PassesCount, PassesFrames, PassesPages}
 use Rattle.command_words.specs.Command.{archive_rule, count_parser, frames_rule, log_rule, master_rule, pages_rule, save_rule}
 use Rattle.command_words.proofs.OptionalLemmas.{passed_if_given}
 
@@ -27,6 +27,14 @@ app_with old new a app rule added local same is =
 
 same_length : (x y : List ℕ) → bytes_eq x y ≡ true → length x ≡ length y
 same_length x y same = ap length ((bytes_eq-Decides x y).0 same)
+
+two_apart : (a b : Arg) → (length a.id.now ≡ length b.id.now → ⊥) → HasDistinctIds (a ∷ b ∷ [])
+two_apart a b ab zero zero d e lj lk same = refl
+two_apart a b ab (suc zero) (suc zero) d e lj lk same = refl
+two_apart a b ab zero (suc zero) d e lj lk same = absurd (ab (same_length _ _ same))
+two_apart a b ab (suc zero) zero d e lj lk same = absurd (ab (sym (same_length _ _ same)))
+two_apart a b ab (suc (suc j)) k d e lj lk same = absurd (omega arith)
+two_apart a b ab j (suc (suc k)) d e lj lk same = absurd (omega arith)
 
 three_apart : (a b c : Arg) → (length a.id.now ≡ length b.id.now → ⊥) → (length a.id.now ≡ length c.id.now → ⊥)
     → (length b.id.now ≡ length c.id.now → ⊥) → HasDistinctIds (a ∷ b ∷ c ∷ [])
@@ -173,6 +181,21 @@ master_given cmd m it p =
     (required_in_chain made.start cmd (it.log ∷ it.master ∷ it.archive ∷ []) 1 it.master m made.chain made.no_arguments
     made.no_groups made.no_globals made.keeps made.fit (files_apart cmd it) (lit< tt) it.master_required p)
 
+log_and_archive_apart : (cmd : Parser) (it : AsksForLog cmd) → HasDistinctIds (it.log ∷ it.archive ∷ [])
+log_and_archive_apart cmd it =
+    let log : length it.log.id.now ≡ 3 = ap (λ r. length r.id) it.log_is in
+    let archive : length it.archive.id.now ≡ 7 = ap (λ r. length r.id) it.archive_is in
+    two_apart it.log it.archive (λ same. omega arith)
+
+-- the log that `audit` requires
+pub audited_log_given : (cmd : Parser) (m : ArgMatches) → AsksForLog cmd → IsParsedFrom cmd m
+    → is_some (first_value (found_of m) (codes "log")) ≡ true
+audited_log_given cmd m it p =
+    let made = it.made in
+    subst (λ id. is_some (first_value (found_of m) id) ≡ true) (ap (λ r. r.id) it.log_is)
+    (required_in_chain made.start cmd (it.log ∷ it.archive ∷ []) 0 it.log m made.chain made.no_arguments
+    made.no_groups made.no_globals made.keeps made.fit (log_and_archive_apart cmd it) (lit< tt) it.log_required p)
+
 -- ---- a command that is made of its arguments
 
 all_fit : (a b e : Arg) → FitsChain a → FitsChain b → FitsChain e → (k : ℕ) (d : Arg) → k < length (a ∷ b ∷ e ∷ [])
@@ -234,3 +257,30 @@ asks_for_files start one two cmd a b e args groups globals negates fit-a fit-b f
       log_required = value-a;
       master_required = value-b;
     }
+
+both_fit : (a b : Arg) → FitsChain a → FitsChain b → (k : ℕ) (d : Arg) → k < length (a ∷ b ∷ [])
+    → FitsChain (slice_index_or (a ∷ b ∷ []) k d)
+both_fit a b fit-a fit-b zero d lt = fit-a
+both_fit a b fit-a fit-b (suc zero) d lt = fit-b
+both_fit a b fit-a fit-b (suc (suc k)) d lt = absurd (omega arith)
+
+pub asks_for_log : (start one cmd : Parser) (a b : Arg) → args_of start ≡ [] → groups_of start ≡ []
+    → (fields_of start).has_globals ≡ false → (fields_of start).subcommand_negates_reqs ≡ false
+    → FitsChain a → FitsChain b → rule_of a ≡ log_rule → rule_of b ≡ archive_rule → TakesValue a
+    → AddsArg start a one → AddsArg one b cmd → AsksForLog cmd
+asks_for_log start one cmd a b args groups globals negates fit-a fit-b rule-a rule-b value first second = record {
+  log = a;
+  archive = b;
+  made = record {
+    start = start;
+    no_arguments = args;
+    no_groups = groups;
+    no_globals = globals;
+    keeps = negates;
+    chain = (one, first, (cmd, second, refl));
+    fit = λ k d lt. both_fit a b fit-a fit-b k d lt;
+  };
+  log_is = rule-a;
+  archive_is = rule-b;
+  log_required = value;
+}

@@ -19,7 +19,7 @@ use Rattle.clap.specs.declared.builder.value_parser.ValueParser.TheVariants.{Sig
 use Rattle.clap.specs.declared.parser.matches.Found.{Found}
 use Rattle.strsim.specs.Edits.{levenshtein_row}
 use Rattle.command_words.specs.declared.command.Command.{Command}
-use Rattle.command_words.specs.declared.command.Command.TheVariants.{Redo, Restore, Run}
+use Rattle.command_words.specs.declared.command.Command.TheVariants.{Audit, Redo, Restore, Run}
 use Rattle.command_words.specs.declared.command.UsageFault.{UsageFault}
 use Rattle.command_words.specs.declared.command.UsageFault.TheVariants.{BadArguments, HelpAsked}
 use Rattle.command_words.specs.declared.command.UsageFault.TheVariants.{MisspelledCommand}
@@ -90,9 +90,13 @@ abbrev pub restore_app : App
 restore_app =
     with_rule (with_rule (with_rule (new_app (codes "restore")) log_rule) master_rule) archive_rule
 
+-- `audit LOG [ARCHIVE]...`
+abbrev pub audit_app : App
+audit_app = with_rule (with_rule (new_app (codes "audit")) log_rule) archive_rule
+
 -- each command, as clap reads it
 abbrev pub apps : List App
-apps = redo_app ∷ run_app ∷ restore_app ∷ []
+apps = redo_app ∷ run_app ∷ restore_app ∷ audit_app ∷ []
 
 -- the first word is the name of the command
 abbrev pub Names : List Text → App → Type 0
@@ -127,6 +131,9 @@ Gives words (Restore log master archives) = let rows = matches_of restore_app wo
     IsTakenBy words restore_app × (first_of (codes "log") rows ≡ Some log.now)
     × (first_of (codes "master") rows ≡ Some master.now)
     × (map (λ name. name.now) archives.items ≡ unwrap_or (all_of (codes "archive") rows) [])
+Gives words (Audit log archives) = let rows = matches_of audit_app words in
+    IsTakenBy words audit_app × (first_of (codes "log") rows ≡ Some log.now)
+    × (map (λ name. name.now) archives.items ≡ unwrap_or (all_of (codes "archive") rows) [])
 
 -- a volume has 1 to 65,536 pages, and 1 to 65,536 frames are there for them
 abbrev pub HasCounts : Command → Type 0
@@ -134,6 +141,7 @@ HasCounts Redo = Unit {0}
 HasCounts (Run pages frames save) =
     (1 ≤ pages) × (pages ≤ 65536) × (1 ≤ frames) × (frames ≤ 65536)
 HasCounts (Restore log master archives) = Unit {0}
+HasCounts (Audit log archives) = Unit {0}
 
 -- clap builds the command of these arguments, one after another
 pub record IsMadeOf (command : Parser) (arguments : List Arg) : Type 0 where
@@ -170,6 +178,15 @@ pub record AsksForFiles (command : Parser) : Type 0 where
   pub log_required : TakesValue log
   pub master_required : TakesValue master
 
+-- a log is required, and then archives may be named
+pub record AsksForLog (command : Parser) : Type 0 where
+  pub log : Arg
+  pub archive : Arg
+  pub made : IsMadeOf command (log ∷ archive ∷ [])
+  pub log_is : rule_of log ≡ log_rule
+  pub archive_is : rule_of archive ≡ archive_rule
+  pub log_required : TakesValue log
+
 -- what was found has a number of this name, and clap let it through
 abbrev pub PassesCount : Found → Text → Type 0
 PassesCount found name = (text : Text) × (one_text found name ≡ Some (without_minus text))
@@ -198,7 +215,7 @@ IsUnknown name = All (λ app. app.top.name ≢ name) apps × (AsksForHelp name �
 
 -- the names that a user may have meant
 abbrev pub names : List Text
-names = codes "redo" ∷ codes "run" ∷ codes "restore" ∷ codes "help" ∷ []
+names = codes "redo" ∷ codes "run" ∷ codes "restore" ∷ codes "audit" ∷ codes "help" ∷ []
 
 -- how many characters are put in, taken out or replaced to make the name out of the word
 abbrev pub edits : Text → Text → ℕ

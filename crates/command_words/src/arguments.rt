@@ -3,11 +3,11 @@ ghost use Rattle.std.specs.Prelude.{◌≡◌, IfErr, IfOk, Some, [], codes, is_
 ghost use Rattle.clap.specs.Built.{FitsChain, TakesValue};
 ghost use Rattle.clap.specs.Words.{app_of, fault_of, first_value, found_of, matches_of, rows_of};
 ghost use Rattle.clap.specs.Words.{rule_of};
-ghost use Rattle.command_words.specs.Command.{AsksForFiles, AsksForPages, ExplainsRead, Names};
-ghost use Rattle.command_words.specs.Command.{PassesFrames, PassesPages};
-ghost use Rattle.command_words.specs.Command.{archive_rule, count_parser, frames_rule, log_rule};
-ghost use Rattle.command_words.specs.Command.{master_rule, pages_rule, redo_app, restore_app};
-ghost use Rattle.command_words.specs.Command.{run_app, save_rule};
+ghost use Rattle.command_words.specs.Command.{AsksForFiles, AsksForLog, AsksForPages};
+ghost use Rattle.command_words.specs.Command.{ExplainsRead, Names, PassesFrames, PassesPages};
+ghost use Rattle.command_words.specs.Command.{archive_rule, audit_app, count_parser, frames_rule};
+ghost use Rattle.command_words.specs.Command.{log_rule, master_rule, pages_rule, redo_app};
+ghost use Rattle.command_words.specs.Command.{restore_app, run_app, save_rule};
 ghost use Rattle.command_words.specs.declared.command.UsageFault.TheVariants.{OutOfMemory};
 
 use crate::command::UsageFault;
@@ -68,6 +68,23 @@ pub(crate) fn restore_matches<'a, S: AsStr>(
     Ok(restore_command(alloc)?.try_get_matches_from(words)?)
 }
 
+/// What `clap` makes of the words of `audit`.
+pub(crate) fn audit_matches<'a, S: AsStr>(
+    alloc: Global,
+    words: &'a [S],
+) -> Result<ArgMatches<'a>, UsageFault<'a>>
+    requires { Names (map S.text words.now) audit_app }
+    ensures taken { IfOk result (λ _. fault_of audit_app (map S.text words.now) ≡ []) }
+    ensures rows { IfOk result (λ it.
+        rows_of (found_of it) ≡ matches_of audit_app (map S.text words.now)) }
+    ensures log { IfOk result (λ it. is_some (first_value (found_of it) (codes "log")) ≡ true) }
+    ensures only { IfErr result (λ fault.
+        fault_of audit_app (map S.text words.now) ≡ [] → fault ≡ OutOfMemory) }
+    ensures explained { IfErr result (ExplainsRead (map S.text words.now)) }
+{
+    Ok(audit_command(alloc)?.try_get_matches_from(words)?)
+}
+
 // The usage of each shows the program's name before the command's.
 
 fn redo_command<'a>(alloc: Global) -> Result<clap::Command<'a>, AllocError>
@@ -99,6 +116,17 @@ fn restore_command<'a>(alloc: Global) -> Result<clap::Command<'a>, AllocError>
         .bin_name("imgcopy restore")?
         .arg(log_arg(alloc))?
         .arg(master_arg(alloc))?
+        .arg(archive_arg(alloc))
+}
+
+fn audit_command<'a>(alloc: Global) -> Result<clap::Command<'a>, AllocError>
+    ensures app { IfOk result (λ it. app_of it ≡ audit_app) }
+    ensures made { IfOk result AsksForLog }
+{
+    clap::Command::new(alloc, "audit")
+        .about("Say whether a log and image copies restore what the log says")
+        .bin_name("imgcopy audit")?
+        .arg(log_arg(alloc))?
         .arg(archive_arg(alloc))
 }
 

@@ -7,12 +7,12 @@ ghost use Rattle.clap.specs.Words.{raw_values, rows_of};
 ghost use Rattle.command_words.specs.Command.{Explains, Gives, HasCounts, IsRead, IsRedo, IsTaken};
 ghost use Rattle.command_words.specs.Command.{ExplainsRead, ExplainsUnknown, IsFar, IsFramesRead};
 ghost use Rattle.command_words.specs.Command.{IsNear, IsUnknown, Names, PassesFrames, PassesPages};
-ghost use Rattle.command_words.specs.Command.{redo_app, restore_app, run_app};
+ghost use Rattle.command_words.specs.Command.{audit_app, redo_app, restore_app, run_app};
 ghost use Rattle.command_words.specs.declared.command.UsageFault.TheVariants.{BadArguments};
 ghost use Rattle.command_words.specs.declared.command.UsageFault.TheVariants.{OutOfMemory};
 ghost use Rattle.clap.specs.declared.error.kind.ErrorKind.TheVariants as kind;
 
-use crate::arguments::{redo_matches, restore_matches, run_matches};
+use crate::arguments::{audit_matches, redo_matches, restore_matches, run_matches};
 use clap::ArgMatches;
 use clap::error::ErrorKind;
 use page_core::FaultName;
@@ -41,12 +41,18 @@ pub enum Command<'a> {
         master: &'a str,
         archives: Vec<&'a str>,
     },
+    /// To audit a chain of copies against a log: the log, and the archives of the chain, the full
+    /// one first.
+    Audit {
+        log: &'a str,
+        archives: Vec<&'a str>,
+    },
 }
 
 /// As many frames as a volume has pages at most, so that no page has to leave memory.
 const DEFAULT_FRAMES: u32 = 65_536;
 
-const NAMES: [&str; 4] = ["redo", "run", "restore", "help"];
+const NAMES: [&str; 5] = ["redo", "run", "restore", "audit", "help"];
 
 const HELP: &str = "\
 Usage: imgcopy <COMMAND>
@@ -55,6 +61,7 @@ Commands:
   redo     Write the volume that the log on standard input makes
   run      Play the script on standard input on a formatted volume
   restore  Write the volume that a log and image copies restore
+  audit    Say whether each image copy restores what the log says
   help     Print this help, or that of a command
 
 For the arguments of a command, try 'imgcopy help <COMMAND>'.
@@ -125,6 +132,7 @@ pub fn command_of<'a, S: AsStr>(
         "redo" => redo_of(alloc, words),
         "run" => run_of(alloc, words),
         "restore" => restore_of(alloc, words),
+        "audit" => audit_of(alloc, words),
         "help" => match words.get(1) {
             Some(command) => help_of(alloc, command.as_str()),
             None => Err(UsageFault::HelpAsked),
@@ -143,6 +151,7 @@ fn help_of<'a>(alloc: Global, name: &'a str) -> Result<Command<'a>, UsageFault<'
         "redo" => redo_of(alloc, &["redo", "--help"]),
         "run" => run_of(alloc, &["run", "--help"]),
         "restore" => restore_of(alloc, &["restore", "--help"]),
+        "audit" => audit_of(alloc, &["audit", "--help"]),
         "help" | "--help" | "-h" => Err(UsageFault::HelpAsked),
         _ => Err(fault_of_unknown(alloc, name)),
     }
@@ -245,6 +254,21 @@ fn restore_of<'a, S: AsStr>(alloc: Global, words: &'a [S]) -> Result<Command<'a>
         master,
         archives,
     })
+}
+
+fn audit_of<'a, S: AsStr>(alloc: Global, words: &'a [S]) -> Result<Command<'a>, UsageFault<'a>>
+    requires { Names (map S.text words.now) audit_app }
+    ensures ok { IfOk result (Gives (map S.text words.now)) }
+    ensures counts { IfOk result HasCounts }
+    ensures is_audit { IfOk result (λ command. command ≢ Command.Redo) }
+    ensures only { IfErr result (λ fault.
+        fault_of audit_app (map S.text words.now) ≡ [] → fault ≡ UsageFault.OutOfMemory) }
+    ensures explained { IfErr result (ExplainsRead (map S.text words.now)) }
+{
+    let matches = audit_matches(alloc, words)?;
+    let log = value_in(&matches, "log");
+    let archives = archives_in(alloc, &matches)?;
+    Ok(Command::Audit { log, archives })
 }
 
 fn value_in<'a>(matches: &ArgMatches<'a>, id: &str) -> &'a str

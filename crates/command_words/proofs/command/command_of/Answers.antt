@@ -1,7 +1,8 @@
 use Rattle.std.proofs.Common.{Some, ap, inr, map, refl, ◌∙◌}
-use Rattle.command_words.specs.Command.{redo_app, restore_app, run_app}
-use Rattle.command_words.proofs.NameLemmas.{first_word, not_of_redo, only_by, taken_redo, taken_restore, taken_run}
-use Rattle.command_words.proofs.NameLemmas.{help_explains, not_help, read_as_they_stand, read_explains}
+use Rattle.command_words.specs.Command.{audit_app, redo_app, restore_app, run_app}
+use Rattle.command_words.proofs.NameLemmas.{first_word, not_of_redo, only_by, taken_audit, taken_redo, taken_restore}
+use Rattle.command_words.proofs.NameLemmas.{audit_not_help, help_explains, not_help, read_as_they_stand, read_explains}
+use Rattle.command_words.proofs.NameLemmas.{taken_run}
 use Rattle.command_words.proofs.NameLemmas.{unknown, unknown_explains, unnamed}
 use Rattle.command_words.proofs.RedoLemmas.{comes_for_redo, only_for_redo}
 use Rattle.command_words.proofs.command.command_of.Goals as goal
@@ -35,6 +36,13 @@ returns-in-restore-clause-only g c =
     only_by words restore_app c.restore_of.result (taken_restore words (first ∙ ap Some c.in-restore.is))
     c.restore_of.ensures.only
 
+pub returns-in-audit-clause-only : goal.returns-in-audit-clause-only
+returns-in-audit-clause-only g c =
+    let words = map g.S.AsStr.text c.args.words.now in
+    let first = first_word g.S.AsStr.text c.args.words.now c.in-Some.name.now c.as_str.result.now
+    c.in-Some.ensures.value c.as_str.ensures in
+    only_by words audit_app c.audit_of.result (taken_audit words (first ∙ ap Some c.in-audit.is)) c.audit_of.ensures.only
+
 pub returns-in-run-clause-redo : goal.returns-in-run-clause-redo
 returns-in-run-clause-redo g c =
     let first = first_word g.S.AsStr.text c.args.words.now c.in-Some.name.now c.as_str.result.now
@@ -47,12 +55,18 @@ returns-in-restore-clause-redo g c =
     c.in-Some.ensures.value c.as_str.ensures in
     λ redo. absurd (not_of_redo _ c.as_str.result.now first c.in-restore.not-redo redo)
 
+pub returns-in-audit-clause-redo : goal.returns-in-audit-clause-redo
+returns-in-audit-clause-redo g c =
+    let first = first_word g.S.AsStr.text c.args.words.now c.in-Some.name.now c.as_str.result.now
+    c.in-Some.ensures.value c.as_str.ensures in
+    λ redo. absurd (not_of_redo _ c.as_str.result.now first c.in-audit.not-redo redo)
+
 pub returns-in_default-as_str-clause-only : goal.returns-in_default-as_str-clause-only
 returns-in_default-as_str-clause-only g c =
     let first = first_word g.S.AsStr.text c.args.words.now c.in-Some.name.now c.as_str.result.now
     c.in-Some.ensures.value c.as_str.ensures in
     λ taken. absurd (unnamed _ c.as_str.result.now first c.in_default-as_str.not-redo c.in_default-as_str.not-run
-    c.in_default-as_str.not-restore taken)
+    c.in_default-as_str.not-restore c.in_default-as_str.not-audit taken)
 
 pub returns-in_default-as_str-clause-redo : goal.returns-in_default-as_str-clause-redo
 returns-in_default-as_str-clause-redo g c =
@@ -78,6 +92,12 @@ restore_of-requires g c =
     c.in-Some.ensures.value c.as_str.ensures in
     first ∙ ap Some c.in-restore.is
 
+pub audit_of-requires : goal.audit_of-requires
+audit_of-requires g c =
+    let first = first_word g.S.AsStr.text c.args.words.now c.in-Some.name.now c.as_str.result.now
+    c.in-Some.ensures.value c.as_str.ensures in
+    first ∙ ap Some c.in-audit.is
+
 pub returns-in-redo-clause-explained : goal.returns-in-redo-clause-explained
 returns-in-redo-clause-explained g c =
     let first = first_word g.S.AsStr.text c.args.words.now c.in-Some.name.now c.as_str.result.now
@@ -99,13 +119,20 @@ returns-in-restore-clause-explained g c =
     read_explains (map g.S.AsStr.text c.args.words.now) _ c.restore_of.result (read_as_they_stand _ c.as_str.result.now first
     (not_help _ _ c.in-restore.is refl)) c.restore_of.ensures.explained
 
+pub returns-in-audit-clause-explained : goal.returns-in-audit-clause-explained
+returns-in-audit-clause-explained g c =
+    let first = first_word g.S.AsStr.text c.args.words.now c.in-Some.name.now c.as_str.result.now
+    c.in-Some.ensures.value c.as_str.ensures in
+    read_explains (map g.S.AsStr.text c.args.words.now) _ c.audit_of.result (read_as_they_stand _ c.as_str.result.now first
+    (audit_not_help _ c.in-audit.is)) c.audit_of.ensures.explained
+
 pub returns-in_default-as_str-clause-explained : goal.returns-in_default-as_str-clause-explained
 returns-in_default-as_str-clause-explained g c =
     let first = first_word g.S.AsStr.text c.args.words.now c.in-Some.name.now c.as_str.result.now
     c.in-Some.ensures.value c.as_str.ensures in
     let unknown_word = unknown c.as_str.result.now c.in_default-as_str.not-redo c.in_default-as_str.not-run
-    c.in_default-as_str.not-restore c.in_default-as_str.not-help c.in_default-as_str.not-text
-    c.in_default-as_str.not-text-2 in
+    c.in_default-as_str.not-restore c.in_default-as_str.not-audit c.in_default-as_str.not-help
+    c.in_default-as_str.not-text c.in_default-as_str.not-text-2 in
     unknown_explains (map g.S.AsStr.text c.args.words.now) _ c.fault_of_unknown.result first c.in_default-as_str.not-help
     (c.fault_of_unknown.ensures unknown_word)
 

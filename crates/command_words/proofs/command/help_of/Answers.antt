@@ -1,7 +1,7 @@
 use Rattle.std.proofs.Common.{IfErr, [], codes, refl, subst, sym, ◌∷◌}
-use Rattle.command_words.specs.Command.{ExplainsRead, redo_app, restore_app, run_app}
-use Rattle.command_words.proofs.ClapLemmas.{help_of_redo, help_of_restore, help_of_run}
-use Rattle.command_words.proofs.NameLemmas.{help_gives_none, taken_redo, taken_restore, taken_run}
+use Rattle.command_words.specs.Command.{ExplainsRead, audit_app, redo_app, restore_app, run_app}
+use Rattle.command_words.proofs.ClapLemmas.{help_of_audit, help_of_redo, help_of_restore, help_of_run}
+use Rattle.command_words.proofs.NameLemmas.{help_gives_none, taken_audit, taken_redo, taken_restore, taken_run}
 use Rattle.command_words.proofs.command.help_of.Goals as goal
 
 pub returns-in-redo-clause-refused : goal.returns-in-redo-clause-refused
@@ -33,3 +33,13 @@ pub returns-in-restore-clause-explained : goal.returns-in-restore-clause-explain
 returns-in-restore-clause-explained c =
     subst (λ name. IfErr c.restore_of.result (ExplainsRead (name ∷ codes "--help" ∷ []))) (sym c.in-restore.is)
     c.restore_of.ensures.explained
+
+pub returns-in-audit-clause-refused : goal.returns-in-audit-clause-refused
+returns-in-audit-clause-refused c =
+    let words = codes "audit" ∷ codes "--help" ∷ [] in
+    help_gives_none words audit_app c.audit_of.result c.audit_of.ensures.ok (taken_audit words refl) help_of_audit
+
+pub returns-in-audit-clause-explained : goal.returns-in-audit-clause-explained
+returns-in-audit-clause-explained c =
+    subst (λ name. IfErr c.audit_of.result (ExplainsRead (name ∷ codes "--help" ∷ []))) (sym c.in-audit.is)
+    c.audit_of.ensures.explained

@@ -1,0 +1,16 @@
+use Rattle.std.proofs.Common.{List, Option, [], ap, codes, sym, ◌∙◌}
+use Rattle.std.specs.Prelude.{unwrap_or}
+use Rattle.clap.specs.Words.{Text, all_of, found_of, first_of}
+use Rattle.clap.proofs.WalkLemmas.{first_value-rows, raw_values-rows}
+use Rattle.command_words.proofs.command.audit_of.Goals as goal
+
+pub returns-clause-ok : goal.returns-clause-ok
+returns-clause-ok g c =
+    let found = found_of c.in_ok-matches.matches in
+    let rows = c.in_ok-matches.ensures.rows in (
+      (c.requires, c.in_ok-matches.ensures.taken),
+      ap (first_of (codes "log")) (sym rows)
+          ∙ (sym (first_value-rows found (codes "log")) ∙ c.value_in-log.ensures),
+      c.in_ok-archives.ensures ∙ ap (λ (o : Option (List Text)). unwrap_or o [])
+          (raw_values-rows found (codes "archive") ∙ ap (all_of (codes "archive")) rows),
+    )
