@@ -1,3 +1,4 @@
+pub mod Audits
 pub mod Founds
 pub mod Looks
 pub mod Traces

@@ -15,7 +15,7 @@ use Rattle.copy_vault.specs.declared.copy_id.CopyKind.TheVariants.{Full}
 use Rattle.copy_vault.specs.Copy.{CopyView}
 use Rattle.copy_audit.specs.declared.found.Found.{Found}
 use Rattle.copy_audit.specs.declared.unsound.Unsound as fault
-use Rattle.copy_audit.specs.declared.unsound.Unsound.TheVariants.{ReadFault, Unsound}
+use Rattle.copy_audit.specs.declared.unsound.Unsound.TheVariants.{ReadFault}
 use Rattle.copy_audit.specs.Audit.{end_of}
 use Rattle.copy_audit.specs.AuditFault.{of_chain}
 use Rattle.copy_audit.specs.Audited.{IsLooked, IsLookedAt, IsNamed}

@@ -1,8 +1,8 @@
 -- The changes of a page among a log's first records, and what the page shows that has them.
 use Rattle.std.proofs.Common.{◌≡◌, ◌≢◌, ℕ, zero, suc, ◌+◌, ◌-◌, ◌*◌, ◌/◌, ◌<◌, ◌≤◌, ◌&&◌, Bool, true, false, cond, eqb}
-use Rattle.std.proofs.Common.{List, [], ◌∷◌, ◌++◌, length, get_or, take, map, min, refl, sym, ap, subst, ◌∙◌, arith, inl, inr}
+use Rattle.std.proofs.Common.{List, [], ◌∷◌, ◌++◌, length, get_or, take, min, refl, sym, ap, subst, ◌∙◌, arith, inl, inr}
 use Rattle.std.specs.Prelude.{Option, Some, None, nat_le, slice_get}
-use Rattle.std.specs.List.{All, filter, range_with_len}
+use Rattle.std.specs.List.{filter, range_with_len}
 use Rattle.std.specs.Option.{option_map_or}
 use Rattle.std.proofs.lemmas.Bool.{cases_lt, eq-eqb, eqb-true, le-leb}
 use Rattle.std.proofs.lemmas.List.{append-nil, append_assoc, get_or_append_left, length-append, take_all, take_more}
@@ -16,14 +16,14 @@ use Rattle.page_core.specs.declared.page.Page.{Page}
 use Rattle.page_core.specs.Page.{formatted}
 use Rattle.log_records.specs.declared.record.Record.{Record}
 use Rattle.log_records.specs.declared.record.Record.TheVariants.{Begin}
-use Rattle.log_records.specs.Coverage.{Covers, IsPast, changes, changes_on, up_to}
+use Rattle.log_records.specs.Coverage.{Covers, IsPast, changes}
 use Rattle.log_records.specs.Image.{image, image_from, with_record}
-use Rattle.log_records.specs.Log.{IsLog, Log, lsn_of}
+use Rattle.log_records.specs.Log.{IsLog, Log}
 use Rattle.log_records.specs.Record.{own_lsn}
 use Rattle.log_records.proofs.Coverage.{all_redone, at_each, of_each, past_is_named}
 use Rattle.log_records.proofs.Images.{image_from-append}
 use Rattle.page_redo.specs.PageRecords.{first_numbers_on, is_on, number_is_on, numbers_on, records_at}
-use Rattle.page_redo.proofs.Counted.{count_grows, numbers_more, numbers_with, records_of_first}
+use Rattle.page_redo.proofs.Counted.{numbers_more, numbers_with, records_of_first}
 use Rattle.copy_audit.specs.declared.trace.Trace.{Trace}
 use Rattle.copy_audit.specs.Trace.{IsSeen, IsTraced}
 
@@ -352,9 +352,11 @@ pub page_eq : (a b : Page) (r : Bool)
     → r ≡ (eqb a.number b.number && (eqb a.lsn b.lsn && pointwise eqb a.slots b.slots)) → Decides r (a ≡ b)
 page_eq a b r is = (
   λ test. by_tests (eqb a.number b.number) (eqb a.lsn b.lsn) (pointwise eqb a.slots b.slots) refl refl refl (sym is ∙ test),
-  λ same. is ∙ rw (eq-eqb a.number b.number (ap (λ (p : Page). p.number) same),
-      eq-eqb a.lsn b.lsn (ap (λ (p : Page). p.lsn) same),
-      (bytes_eq-Decides a.slots b.slots).1 (ap (λ (p : Page). p.slots) same)) refl,
+  λ same. is ∙ rw (
+    eq-eqb a.number b.number (ap (λ (p : Page). p.number) same),
+    eq-eqb a.lsn b.lsn (ap (λ (p : Page). p.lsn) same),
+    (bytes_eq-Decides a.slots b.slots).1 (ap (λ (p : Page). p.slots) same),
+  ) refl,
 )
   where
     by_tests : (x y z : Bool) → eqb a.number b.number ≡ x → eqb a.lsn b.lsn ≡ y → pointwise eqb a.slots b.slots ≡ z

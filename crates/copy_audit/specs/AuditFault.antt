@@ -1,5 +1,5 @@
 -- The faults of an audit: whence they come, and what is printed of them.
-use Rattle.std.specs.Prelude.{ℕ, ◌≡◌, ◌++◌, List, codes}
+use Rattle.std.specs.Prelude.{ℕ, ◌++◌, List, codes}
 use Rattle.std.specs.Fmt.{decimal}
 use Rattle.page_core.specs.FaultName.{fault_line, fault_line_with}
 use Rattle.page_core.specs.declared.fault_name.FaultName.TheVariants as name

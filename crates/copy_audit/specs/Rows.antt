@@ -1,6 +1,6 @@
 -- What is found in the pages of a chain's copies, which come row by row: a row has one page as each
 -- copy has it.
-use Rattle.std.specs.Prelude.{ℕ, ◌≡◌, ◌+◌, ◌<◌, List, [], length, take, Option, Some, None}
+use Rattle.std.specs.Prelude.{ℕ, ◌+◌, ◌<◌, List, [], length, take, Option, Some, None}
 use Rattle.std.specs.Prelude.{slice_index, slice_index_or}
 use Rattle.std.specs.List.{flat_map}
 use Rattle.page_core.specs.declared.page.Page.{Page}

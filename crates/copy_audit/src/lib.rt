@@ -4,9 +4,14 @@
 
 mod chain_audit;
 mod found;
+mod laws;
 mod members;
 mod trace;
 mod unsound;
 
 pub use chain_audit::{Sound, audit};
+pub use laws::{
+    a_part_of_an_audited_chain_is_audited, an_audited_chain_is_called_sound,
+    an_unsound_chain_is_not_audited,
+};
 pub use unsound::Unsound;

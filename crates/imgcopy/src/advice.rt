@@ -1,6 +1,7 @@
 //! Lines for a person on standard error, behind the line of a fault.
 
 use crate::notes::Notes;
+use copy_audit::Unsound;
 use copy_coverage::Retired;
 use copy_vault::{CopyId, MAX_COPIES};
 use event_script::{MAX_SCRIPT_BYTES, ScriptFault};
@@ -9,8 +10,12 @@ use saved_files::{FileFault, SaveFault, SavedName};
 use script_run::RunFault;
 use std::alloc::{AllocError, Global};
 use std::fs;
+use std::io;
 use std::path::Path;
 use std::rt::Files;
+
+/// The place of the first archive, behind the log and the master record.
+const FIRST_ARCHIVE: usize = 2;
 
 /// Names the file in which a restore from files met its fault, the one that was read last, and why
 /// the system failed there.
@@ -35,19 +40,57 @@ pub fn tell_input(
         (_, Some(place)) => place,
         (_, None) => return,
     };
-    let (what, name) = match place {
-        0 => ("log", log),
-        1 => ("master record", master),
-        _ => match archives.get(place - 2) {
-            Some(archive) => ("image copy", *archive),
-            None => return,
-        },
+    let failed = match fault {
+        RestoreFault::ReadFault => notes.error(),
+        _ => None,
     };
-    let _ = match (fault, notes.error()) {
-        (RestoreFault::ReadFault, Some(error)) => {
-            eprintln!(rt; "imgcopy: {name} ({what}): {error}")
+    match place {
+        0 => tell_file(rt, log, "log", failed),
+        1 => tell_file(rt, master, "master record", failed),
+        _ => {
+            if let Some(archive) = archives.get(place - FIRST_ARCHIVE) {
+                tell_file(rt, archive, "image copy", failed);
+            }
         }
-        _ => eprintln!(rt; "imgcopy: {name} ({what})"),
+    }
+}
+
+/// Names the file in which an audit met its fault, the one that was read last, and why the system
+/// failed there. An unsound page is a fault of the chain, and is seen once all files were read.
+pub fn tell_audited(
+    rt: &impl Eprint,
+    log: &str,
+    archives: &[&str],
+    fault: &Unsound,
+    notes: &Notes,
+) {
+    let place = match (fault, notes.read_last()) {
+        (
+            Unsound::OutOfMemory
+            | Unsound::Unsound(_, _)
+            | Unsound::RedoBeyondLog
+            | Unsound::ChainBroken(CopyId(0)),
+            _,
+        ) => return,
+        (_, Some(place)) => place,
+        (_, None) => return,
+    };
+    let failed = match fault {
+        Unsound::ReadFault => notes.error(),
+        _ => None,
+    };
+    if place < FIRST_ARCHIVE {
+        tell_file(rt, log, "log", failed);
+    } else if let Some(archive) = archives.get(place - FIRST_ARCHIVE) {
+        tell_file(rt, archive, "image copy", failed);
+    }
+}
+
+/// Names a file, says what it was read as, and why the system failed there, if it did.
+fn tell_file(rt: &impl Eprint, name: &str, what: &str, failed: Option<io::Error>) {
+    let _ = match failed {
+        Some(error) => eprintln!(rt; "imgcopy: {name} ({what}): {error}"),
+        None => eprintln!(rt; "imgcopy: {name} ({what})"),
     };
 }
 

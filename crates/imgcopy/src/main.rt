@@ -1,24 +1,26 @@
 //! The program: its words, its input and output, and its status.
 #![tactic(auto)]
 
-ghost use Rattle.std.specs.Prelude.{◌≡◌, IfErr, OnOk};
+ghost use Rattle.std.specs.Prelude.{◌≡◌, ◌⊎◌, IfErr, OnOk};
 ghost use Rattle.std.specs.Process.{exit_status};
 ghost use Rattle.buffer_pool.specs.Pool.{IsFrameCount};
 ghost use Rattle.log_records.specs.Log.{IsPageCount};
-ghost use Rattle.script_run.specs.Status.{status_of_finish, status_of_restore};
+ghost use Rattle.script_run.specs.Status.{status_of_audit, status_of_finish, status_of_restore};
 
 mod advice;
 mod notes;
 mod system_files;
 
-use advice::{tell_input, tell_script, tell_stale, tell_unread, tell_unsaved, tell_unwritten};
+use advice::{tell_audited, tell_input, tell_script, tell_stale, tell_unread, tell_unsaved, tell_unwritten};
 use aries_core::Setup;
 use command_words::{Command, command_of, words_of};
+use copy_audit::{Sound, Unsound};
 use media_restore::RestoreFault;
 use notes::{Noted, Notes};
-use saved_files::{restore_volume, save_files};
+use saved_files::{audit_files, restore_volume, save_files};
 use script_run::{
-    FAULT_STATUS, FinishFault, Ran, finish_script, refused_status, restore_status, run_script,
+    FAULT_STATUS, FinishFault, Ran, audit_status, finish_script, refused_status, restore_status,
+    run_script,
 };
 use std::fmt::Display;
 use std::io;
@@ -48,6 +50,7 @@ fn main(rt: HostRuntime) -> ExitCode {
                 archives,
             },
         ) => restore(&rt, &rt, log, master, &archives),
+        Ok(Command::Audit { log, archives }) => audit(&rt, log, &archives),
         Err(fault) => told_whole(&rt, &fault),
     }
 }
@@ -160,6 +163,41 @@ fn restore(
         Ok(()) => {}
     }
     status
+}
+
+/// Audits a chain of copies against a log.
+fn audit(rt: &HostRuntime, log: &str, archives: &[&str]) -> ExitCode {
+    let notes = Notes::new();
+    let files = SystemFiles {
+        files: rt,
+        notes: &notes,
+    };
+    let done = audit_files(&files, rt.alloc(), log, archives);
+    let status = status_of_audit(rt, &done);
+    if let Err(fault) = &done {
+        tell_audited(rt, log, archives, fault, &notes);
+    }
+    status
+}
+
+/// Tells on standard output what an audit found, and answers the program's status. Where that
+/// cannot be written, it is that of a fault.
+fn status_of_audit(rt: &(impl Print + Eprint), done: &Result<Sound, Unsound>) -> ExitCode
+    ensures sound { OnOk done.now ((exit_status result ≡ 0) ⊎ (exit_status result ≡ 2)) }
+    ensures fault { IfErr done.now (λ fault. (exit_status result ≡ status_of_audit fault)
+        ⊎ (exit_status result ≡ 2)) }
+{
+    let (line, status) = match done {
+        Ok(Sound) => (println!(rt; "sound"), ExitCode::SUCCESS),
+        Err(fault) => (rt.println(fault), ExitCode::from(audit_status(fault))),
+    };
+    match line {
+        Ok(()) => status,
+        Err(error) => {
+            let _ = eprintln!(rt; "imgcopy: standard output: {error}");
+            ExitCode::from(FAULT_STATUS)
+        }
+    }
 }
 
 /// Tells why a script's last restore came to no end, and answers the program's status.

@@ -32,6 +32,7 @@ use Rattle.copy_coverage.proofs.Chains.{covered_of_members}
 use Rattle.copy_coverage.proofs.Kept.{covers_kept, prefix_is_log}
 use Rattle.copy_coverage.proofs.Points.{end_is_record}
 use Rattle.page_redo.proofs.Valid.{valid-image}
+use Rattle.copy_audit.proofs.Audits.{same_copies, same_log_of}
 use Rattle.media_restore.specs.Files.{AreCovering, AreSound, HasParts, IsOfLog, IsOfMaster, IsRestored}
 use Rattle.media_restore.specs.FilesArchives.{AreOfArchives, end_of}
 use Rattle.media_restore.specs.Saved.{AreLeft, files_of}
@@ -294,20 +295,6 @@ covering_of log master copies left = λ p lt.
     covered.covers (omega arith))
 
 -- ---- what is restored of them
-
-same_copies : (a b : List CopyView) → SpellCopies (map (λ (copy : CopyView). Some (archive_bytes copy)) a) b
-    → AllByRecursion IsArchived a → b ≡ a
-same_copies [] [] spell all = refl
-same_copies [] (y ∷ b) spell all = absurd spell
-same_copies (x ∷ a) [] spell all = absurd spell
-same_copies (x ∷ a) (y ∷ b) spell all =
-    let one : y ≡ x = same_copy y x spell.0.valid all.0 (sym spell.0.spelled) in
-    let rest : b ≡ a = same_copies a b spell.1 all.1 in
-    cc
-
-pub same_log_of : (log other : Log) → SpellsLog other (log_bytes log) → IsLog log → other ≡ log
-same_log_of log other spells valid =
-    same_log other log (log_bytes log) spells (record { valid = valid; spelled = refl })
 
 pub sound_of : (log : Log) (master : Master) (copies : List CopyView) (pages : List Page)
     → AreLeft log master copies → IsRestored (files_of log master copies) pages → AreSound log pages

@@ -17,7 +17,7 @@ use Rattle.copy_vault.specs.declared.chain_read_fault.ChainReadFault.{ChainReadF
 use Rattle.copy_vault.specs.declared.chain_read_fault.ChainReadFault.TheVariants as chain
 use Rattle.copy_vault.specs.ChainReading.{AreNoChain, IsFromOutside, IsRightChain, archives_of}
 use Rattle.copy_vault.specs.Copy.{CopyView}
-use Rattle.copy_vault.proofs.ChainOnly.{not_stopped, not_unmade}
+use Rattle.copy_audit.proofs.Audits.{from_outside, same_log_of}
 use Rattle.media_restore.specs.declared.files_fault.RestoreFault.{RestoreFault}
 use Rattle.media_restore.specs.declared.files_fault.RestoreFault.TheVariants.{BadChain, BadHeader, OutOfMemory}
 use Rattle.media_restore.specs.declared.files_fault.RestoreFault.TheVariants.{ReadFault}
@@ -26,7 +26,7 @@ use Rattle.media_restore.specs.Files.{of_the_log, of_the_master, of_undo}
 use Rattle.media_restore.specs.FilesArchives.{end_of}
 use Rattle.media_restore.specs.FilesFault.{of_chain, of_log}
 use Rattle.media_restore.specs.Saved.{AreLeft, files_of}
-use Rattle.media_restore.proofs.Saved.{log_is, parts_of, right_of, same_log_of}
+use Rattle.media_restore.proofs.Saved.{log_is, parts_of, right_of}
 
 abbrev IsOutside : RestoreFault → Type 0
 IsOutside fault = (fault ≡ OutOfMemory) ⊎ (fault ≡ ReadFault)
@@ -71,12 +71,6 @@ outside_chain chain.CountDiffers is = absurd is
 outside_chain chain.ReadFault is = inr refl
 outside_chain chain.RedoBeyondLog is = absurd is
 outside_chain (chain.PageBeyondLog page) is = absurd is
-
-from_outside : (pages end : ℕ) (lefts : List (Option (List ℕ))) (copies : List CopyView) (why : ChainReadFault)
-    → IsRightChain pages end copies → AreNoChain pages end (archives_of copies) lefts why → IsFromOutside why
-from_outside pages end lefts copies why right (inl made) = not_unmade pages end lefts copies why right made
-from_outside pages end lefts copies why right (inr (inl stopped)) = not_stopped pages end lefts copies why right stopped
-from_outside pages end lefts copies why right (inr (inr memory)) = subst IsFromOutside (sym memory) tt
 
 -- ---- all of them
 

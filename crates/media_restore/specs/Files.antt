@@ -5,17 +5,16 @@ use Rattle.page_core.specs.declared.page.Page.{Page}
 use Rattle.page_core.specs.Volume.{SpellsVolume}
 use Rattle.log_records.specs.declared.limits.TheConstants.{MAX_RECORDS}
 use Rattle.log_records.specs.declared.record.Record.{Record}
-use Rattle.log_records.specs.Coverage.{Covers, resume}
+use Rattle.log_records.specs.Coverage.{resume}
 use Rattle.log_records.specs.Image.{image_from, redo_all}
-use Rattle.log_records.specs.Log.{IsLog, Log, SpellsLog}
+use Rattle.log_records.specs.Log.{Log}
 use Rattle.log_history.specs.Checkpoint.{IsCompleteCheckpoint}
-use Rattle.log_history.specs.Linked.{IsLinked}
 use Rattle.log_history.specs.Transactions.{owed}
 use Rattle.log_store.specs.declared.fault.LogReadFault.{LogReadFault}
 use Rattle.log_store.specs.declared.master.Master.{Master}
 use Rattle.log_store.specs.Fault.{Refuses}
 use Rattle.log_store.specs.Master.{SpellsMaster}
-use Rattle.copy_vault.specs.Chain.{IsChain, content, contents, last_redo}
+use Rattle.copy_vault.specs.Chain.{IsChain, contents, last_redo}
 use Rattle.copy_vault.specs.Copy.{CopyView}
 use Rattle.loser_undo.specs.Recovery.{HasCommitted, appended}
 use Rattle.loser_undo.specs.Undo.{after_undo}
@@ -25,6 +24,7 @@ use Rattle.media_restore.specs.declared.files_fault.RestoreFault.TheVariants.{Ba
 use Rattle.media_restore.specs.declared.files_fault.RestoreFault.TheVariants.{ReadFault, WriteFault}
 use Rattle.media_restore.specs.FilesArchives.{AreOfArchives, ArchivesRefused}
 use Rattle.media_restore.specs.FilesFault.{of_log}
+pub use Rattle.copy_audit.specs.Audit.{AreCovering, IsOfLog}
 
 -- what the readers of a log, of a master record and of archives give, as far as it is known
 pub record Files : Type 0 where
@@ -33,12 +33,6 @@ pub record Files : Type 0 where
   pub archives : List (Option (List ℕ))
 
 -- ---- what they spell
-
--- the log's bytes spell this linked log
-pub record IsOfLog (input : Option (List ℕ)) (log : Log) : Type 0 where
-  pub valid : IsLog log
-  pub linked : IsLinked log.records
-  pub spelled : IfSome input (SpellsLog log)
 
 -- the master's bytes spell this master record, which names a complete checkpoint of these records
 pub record IsOfMaster (input : Option (List ℕ)) (rs : List Record) (master : Master) : Type 0 where
@@ -62,11 +56,6 @@ redone_of log copies = map (λ page. resume page log.records (last_redo copies))
 -- and with the records on them that undo appends to the log
 abbrev pub restored : Log → List CopyView → List Page
 restored log copies = map (λ page. image_from page (appended log)) (redone_of log copies)
-
--- each page of the chain is of the log's past, and lacks no change below that redo point
-abbrev pub AreCovering : Log → List CopyView → Type 0
-AreCovering log copies =
-    (p : ℕ) → p < log.pages → Covers log.records p (content copies p) (last_redo copies)
 
 -- the pages are those that the log makes with what undo appends to it, and have what was committed
 pub record AreSound (log : Log) (pages : List Page) : Type 0 where

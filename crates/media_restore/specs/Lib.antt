@@ -1,4 +1,3 @@
-pub mod Audit
 pub mod Fault
 pub mod Files
 pub mod FilesArchives

@@ -14,10 +14,8 @@ mod rebuilt;
 mod saved_laws;
 mod volume_output;
 
-pub use audit_laws::{
-    a_part_of_an_audited_chain_is_audited, an_audited_chain_restores_the_log,
-    an_unsound_chain_is_not_audited,
-};
+pub use audit_laws::an_audited_chain_restores_the_log;
+pub use copy_audit::{Sound, Unsound, audit};
 pub use copy_load::load;
 pub use fault::{LoadFault, RedoFault, Refused};
 pub use files::restore_files;

@@ -1,7 +1,9 @@
-//! Saves what an engine leaves in named files, and restores a volume from them.
+//! Saves what an engine leaves in named files, restores a volume from them, and audits them.
 #![tactic(auto)]
 
+
 mod file_fault;
+mod files_audit;
 mod folder;
 mod late_file;
 mod log_file;
@@ -14,6 +16,7 @@ mod saved_name;
 mod spelled;
 mod told;
 
+pub use files_audit::audit_files;
 pub use file_fault::FileFault;
 pub use folder::Folder;
 pub use log_file::write_log;

@@ -14,7 +14,7 @@ use std::io::{BufReader, Write};
 use std::thread::Threads;
 
 /// The places of the log, of the master record, and of the first archive.
-const LOG: usize = 0;
+pub(crate) const LOG: usize = 0;
 
 const MASTER: usize = 1;
 
@@ -64,7 +64,7 @@ pub fn restore_volume<N: NamedFiles, W: Write>(
 }
 
 /// The file of this name, which stands at this place.
-fn told_late<'a, N: NamedFiles>(
+pub(crate) fn told_late<'a, N: NamedFiles>(
     files: &'a N,
     place: usize,
     name: &'a str,
@@ -96,7 +96,7 @@ fn told_in_pieces<'a, N: NamedFiles>(
 }
 
 /// The files of these names, which stand at the places of the archives.
-fn told_readers<'a, N: NamedFiles>(
+pub(crate) fn told_readers<'a, N: NamedFiles>(
     alloc: Global,
     files: &'a N,
     names: &[&'a str],

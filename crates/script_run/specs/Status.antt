@@ -1,5 +1,7 @@
 -- The status that the program ends with.
 use Rattle.std.specs.Prelude.{ℕ}
+use Rattle.copy_audit.specs.declared.unsound.Unsound as unsound
+use Rattle.copy_audit.specs.declared.unsound.Unsound.TheVariants as audit
 use Rattle.loser_undo.specs.declared.fault.UndoFault.TheVariants as undo
 use Rattle.media_restore.specs.declared.fault.LoadFault.TheVariants as load
 use Rattle.media_restore.specs.declared.fault.Refused.{Refused}
@@ -17,6 +19,15 @@ status_of_restore (files.ChainBroken copy) = 1
 status_of_restore files.RedoBeyondLog = 1
 status_of_restore (files.PageBeyondLog page) = 1
 status_of_restore fault = 2
+
+-- 1 where the archives do not follow one another, one of them reaches past the log's end, or a page
+-- is not sound, and 2 at any other fault
+abbrev pub status_of_audit : unsound.Unsound → ℕ
+status_of_audit (audit.ChainBroken copy) = 1
+status_of_audit audit.RedoBeyondLog = 1
+status_of_audit (audit.PageBeyondLog page) = 1
+status_of_audit (audit.Unsound copy page) = 1
+status_of_audit fault = 2
 
 -- 1 where the copy or the cut is refused, or the log is full, and 2 where memory was wanting
 abbrev pub status_of_refused : Refused → ℕ

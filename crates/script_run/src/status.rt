@@ -1,12 +1,13 @@
 //! The status that the program ends with.
 
 ghost use Rattle.std.specs.Prelude.{◌≡◌};
-ghost use Rattle.script_run.specs.Status.{status_of_refused, status_of_restore};
+ghost use Rattle.script_run.specs.Status.{status_of_audit, status_of_refused, status_of_restore};
 
+use copy_audit::Unsound;
 use loser_undo::UndoFault;
 use media_restore::{LoadFault, Refused, RestoreFault};
 
-/// The status of a restore that was refused for what was asked of it.
+/// The status of a restore or an audit that was refused for what was asked of it.
 const REFUSED_STATUS: u8 = 1;
 
 /// The status of any other fault: of the words, of an input, of the output, or of memory.
@@ -21,6 +22,19 @@ pub fn restore_status(fault: &RestoreFault) -> u8
         | RestoreFault::ChainBroken(_)
         | RestoreFault::RedoBeyondLog
         | RestoreFault::PageBeyondLog(_) => REFUSED_STATUS,
+        _ => FAULT_STATUS,
+    }
+}
+
+/// The status of an audit that found no sound chain.
+pub fn audit_status(fault: &Unsound) -> u8
+    ensures { result ≡ status_of_audit fault.now }
+{
+    match fault {
+        Unsound::ChainBroken(_)
+        | Unsound::RedoBeyondLog
+        | Unsound::PageBeyondLog(_)
+        | Unsound::Unsound(_, _) => REFUSED_STATUS,
         _ => FAULT_STATUS,
     }
 }

@@ -1,4 +1,4 @@
-use Rattle.std.proofs.Common.{◌≡◌, ◌∙◌, ◌<◌, ℕ, length, map, min, refl, sym, subst, arith}
+use Rattle.std.proofs.Common.{length, map, refl, sym, subst, arith}
 use Rattle.std.specs.Prelude.{Option}
 use Rattle.copy_vault.specs.ChainEach.{place_list, points_of}
 use Rattle.copy_audit.specs.declared.found.Found.{Found}

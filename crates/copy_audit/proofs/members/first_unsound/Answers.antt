@@ -1,10 +1,8 @@
-use Rattle.std.proofs.Common.{ℕ, ◌≡◌, ◌∙◌, ◌+◌, ◌<◌, List, [], ◌∷◌, Bool, true, false, length, map, get_or, refl, sym, ap, subst}
+use Rattle.std.proofs.Common.{◌≡◌, ◌∙◌, ◌+◌, ◌<◌, [], length, map, get_or, sym, ap, subst}
 use Rattle.std.proofs.Common.{arith, below_more}
 use Rattle.log_records.specs.Coverage.{Covers}
 use Rattle.std.proofs.lemmas.List.{get_or-map, length-map}
-use Rattle.page_core.specs.declared.page.Page.{Page}
 use Rattle.copy_vault.specs.ChainEach.{place_list, points_of}
-use Rattle.copy_audit.specs.declared.trace.Trace.{Trace}
 use Rattle.copy_audit.specs.Rows.{IsSoundIn, content_in}
 use Rattle.copy_audit.specs.Trace.{IsSeen}
 use Rattle.copy_audit.proofs.Founds.{no_page, seen_kept, seen_taken}

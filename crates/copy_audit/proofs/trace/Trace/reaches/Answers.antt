@@ -1,7 +1,6 @@
-use Rattle.std.proofs.Common.{◌≡◌, ◌∙◌, ◌+◌, ◌*◌, ◌<◌, ◌≤◌, ℕ, List, length, get_or, ap, sym, subst, arith}
+use Rattle.std.proofs.Common.{◌≡◌, ◌+◌, ◌*◌, ◌<◌, ◌≤◌, ℕ, List, length, get_or, ap, subst, arith}
 use Rattle.std.proofs.lemmas.Bool.{leb-true, leb-false}
 use Rattle.log_records.specs.Log.{Log}
-use Rattle.page_redo.specs.PageRecords.{numbers_on}
 use Rattle.copy_audit.proofs.Traces.{covers_when, lacks_when}
 use Rattle.copy_audit.proofs.trace.Trace.reaches.Goals as goal
 

@@ -1,5 +1,0 @@
-use Rattle.media_restore.proofs.Audits.{part_audited}
-use Rattle.media_restore.proofs.audit_laws.a_part_of_an_audited_chain_is_audited.Goals as goal
-
-pub returns : goal.returns
-returns c = part_audited
