@@ -9,10 +9,9 @@ use media_restore::RestoreFault;
 use saved_files::{FileFault, SaveFault, SavedName};
 use script_run::RunFault;
 use std::alloc::{AllocError, Global};
-use std::fs;
-use std::io;
 use std::path::Path;
 use std::rt::Files;
+use std::{fs, io};
 
 /// The place of the first archive, behind the log and the master record.
 const FIRST_ARCHIVE: usize = 2;

@@ -11,7 +11,9 @@ mod advice;
 mod notes;
 mod system_files;
 
-use advice::{tell_audited, tell_input, tell_script, tell_stale, tell_unread, tell_unsaved, tell_unwritten};
+use advice::{
+    tell_audited, tell_input, tell_script, tell_stale, tell_unread, tell_unsaved, tell_unwritten,
+};
 use aries_core::Setup;
 use command_words::{Command, command_of, words_of};
 use copy_audit::{Sound, Unsound};

@@ -1,7 +1,6 @@
 //! Saves what an engine leaves in named files, restores a volume from them, and audits them.
 #![tactic(auto)]
 
-
 mod file_fault;
 mod files_audit;
 mod folder;
@@ -16,8 +15,8 @@ mod saved_name;
 mod spelled;
 mod told;
 
-pub use files_audit::audit_files;
 pub use file_fault::FileFault;
+pub use files_audit::audit_files;
 pub use folder::Folder;
 pub use log_file::write_log;
 pub use named_files::NamedFiles;
