@@ -6,9 +6,12 @@ use Rattle.log_records.specs.Image.{with_record}
 use Rattle.log_records.specs.Record.{change_of, own_lsn}
 use Rattle.log_records.specs.Log.{with_next}
 use Rattle.buffer_pool.specs.Frames.{IsResident, is_resident}
-use Rattle.buffer_pool.specs.Pool.{IsPoolOf, PageState, PoolView, changed, state_in, written_of, writing_of}
+use Rattle.buffer_pool.specs.Pool.{IsPoolOf, PageState, PoolView, changed, is_clean_in, state_in, written_of, writing_of}
 use Rattle.buffer_pool.proofs.Pools.{changed_at, none_changes, page_is_there, pool_changed, pool_same}
 use Rattle.buffer_pool.proofs.Pools.{written_changed, writing_changed}
+use Rattle.std.proofs.lemmas.List.{length-set}
+use Rattle.buffer_pool.specs.Marks.{PassesNone}
+use Rattle.buffer_pool.proofs.Sought.{others_set, pool_noted, sought_redone, whole_states}
 use Rattle.buffer_pool.proofs.pool.Pool.change.Goals as goal
 
 pub returns-in-Some-clause-kept : goal.returns-in-Some-clause-kept
@@ -43,7 +46,13 @@ returns-in-Some-clause-kept g c = λ log of valid.
     } in
     let made = pool_changed stored_in log next old c.in-Some.change named here valid
     (subst (IsPoolOf stored_in log) (sym view) of) in
-    subst (λ (ss : List PageState). IsPoolOf stored_in log' (record new {
+    pool_noted stored_in log' (record new {
+      room = c.redo.new.self.room;
+      resident = c.redo.new.self.pages;
+      states = c.change-in-Some.new.self;
+    })
+    c.note.new.self.room c.note.new.self.pages c.note.ensures.pages
+    (subst (λ (ss : List PageState). IsPoolOf stored_in log' (record new {
       room = c.redo.new.self.room;
       resident = c.redo.new.self.pages;
       states = ss;
@@ -54,7 +63,7 @@ returns-in-Some-clause-kept g c = λ log of valid.
       resident = pages;
     }))
     (sym c.redo.ensures.pages)
-    (subst (λ (room : ℕ). IsPoolOf stored_in log' (record new { room = room })) (sym c.redo.ensures.room) made))
+    (subst (λ (room : ℕ). IsPoolOf stored_in log' (record new { room = room })) (sym c.redo.ensures.room) made)))
 
 pub returns-in_default-clause-kept : goal.returns-in_default-clause-kept
 returns-in_default-clause-kept g c = λ log of valid.
@@ -68,7 +77,7 @@ returns-in_default-clause-kept g c = λ log of valid.
 pub returns-in-Some-clause-pages : goal.returns-in-Some-clause-pages
 returns-in-Some-clause-pages g c =
     let next = c.args.next.now in
-    c.redo.ensures.pages
+    c.note.ensures.pages ∙ c.redo.ensures.pages
     ∙ ap (λ (v : PoolView g.row.S.Denot). map (λ page. with_record page next) v.resident) c.self.view_is
 
 pub returns-in_default-clause-pages : goal.returns-in_default-clause-pages
@@ -96,3 +105,22 @@ returns-in-Some-clause-writing g c =
     let here : n < length it.states = subst (λ (ss : List PageState). n < length ss) (sym states) there in
     writing_changed it.states c.change-in-Some.new.self n c.lsn.result c.change-in-Some.ensures here
     ∙ ap writing_of states
+
+pub invariant_of-self : goal.invariant_of-self
+invariant_of-self g c =
+    let it = c.self.inside in
+    let next = c.args.next.now in
+    let n = c.in-Some.change.page in
+    let clean = is_clean_in it.states in
+    let redone : PassesNone clean (map (λ page. with_record page next) it.frames.pages) it.frames.marks =
+    sought_redone clean next it.frames.pages it.frames.marks c.self.invariant.sought in
+    record {
+      whole = whole_states (g.S.PageStore.stored it.store) it.states c.change-in-Some.new.self
+          (ap (length {A = PageState}) c.change-in-Some.ensures
+          ∙ length-set it.states n (changed (state_in it.states n) c.lsn.result)) c.self.invariant.whole;
+      sought = c.note.ensures.sought clean
+          (subst (λ (pages : List Page). PassesNone clean pages c.redo.new.self.marks) (sym c.redo.ensures.pages)
+          (subst (PassesNone clean (map (λ page. with_record page next) it.frames.pages)) (sym c.redo.ensures.marks)
+          redone))
+          (others_set it.states c.change-in-Some.new.self n _ c.change-in-Some.ensures);
+    }
