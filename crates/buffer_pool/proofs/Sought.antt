@@ -4,7 +4,7 @@ use Rattle.std.proofs.Common.{get_or, map, set, refl, sym, ap, subst, inl, inr, 
 use Rattle.std.specs.Prelude.{◌==◌, Option, Some, None, is_none, nat_lt, position}
 use Rattle.std.specs.List.{position_or_len, remove}
 use Rattle.std.proofs.lemmas.Bool.{cases_eq, cases_lt, eq-eqb, eqb-true, le-ltb, lt-ltb}
-use Rattle.std.proofs.lemmas.List.{get_or-map, get_or-set_other, get_or_append_left, length-map, length_push}
+use Rattle.std.proofs.lemmas.List.{get_or-map, get_or-set_other, get_or-set_same, get_or_append_left, length-map, length_push}
 use Rattle.std.proofs.lemmas.List.Edits.{get_or-remove_above, get_or-remove_below, length-remove}
 use Rattle.std.proofs.lemmas.List.Folds.{list_any_at}
 use Rattle.std.proofs.lemmas.List.Quantifiers.{position-Some}
@@ -151,6 +151,23 @@ pub others_set : (states after : List PageState) (n : ℕ) (s : PageState) → a
 others_set states after n s is = λ m other dirty.
     ap (λ (ss : List PageState). is_clean_in ss m) is
     ∙ ap (λ (x : PageState). is_none x.rec_lsn) (get_or-set_other states n m s unwritten other) ∙ dirty
+
+-- by its state a page is not clean
+pub dirty_set : (states after : List PageState) (n lsn : ℕ) (s : PageState) → after ≡ set states n s → n < length states
+    → s.rec_lsn ≡ Some lsn → is_clean_in after n ≡ false
+dirty_set states after n lsn s is there dirty =
+    ap (λ (ss : List PageState). is_clean_in ss n) is
+    ∙ ap (λ (x : PageState). is_none x.rec_lsn) (get_or-set_same states n s unwritten there)
+    ∙ ap (λ (o : Option ℕ). is_none o) dirty
+
+pub sought_still : (n : ℕ) (clean now : ℕ → Bool) (pages : List Page) (marks : MarksView)
+    → PassesNone clean pages marks → OthersStay n clean now → now n ≡ false → PassesNone now pages marks
+sought_still n clean now pages marks sought others dirty = λ k d there passed.
+    let number = (get_or pages k d).number in
+    elim (cases_eq number n) [
+      | inl same ↦ ap now same ∙ dirty
+      | inr other ↦ others number other (sought k d there passed)
+    ]
 
 -- ---- pages that come and go
 

@@ -132,7 +132,7 @@ impl Frames {
             → result ≡ is_clean_in states.now (slice_index_or self.now.pages place d).number }
     {
         match self.taken.get_index(place) {
-            Some((_, frame)) => states.is_clean(frame.page().number),
+            Some((number, _)) => states.is_clean(PageNo(*number)),
             None => false,
         }
     }
@@ -151,6 +151,20 @@ impl Frames {
             } else {
                 self.marks.clear(place);
             }
+        }
+    }
+
+    /// The page of this number has changed, so it is not clean any more.
+    pub(crate) fn note_change(&mut self, number: PageNo, was_clean: bool, states: &PageStates)
+        ensures pages { self.new.pages ≡ self.old.pages }
+        ensures room { self.new.room ≡ self.old.room }
+        ensures sought { (clean : ℕ → Bool) → IsSought clean self.old
+            → ((n : ℕ) → n ≢ number → clean n ≡ false → is_clean_in states.now n ≡ false)
+            → is_clean_in states.now number ≡ false
+            → IsSought (is_clean_in states.now) self.new }
+    {
+        if was_clean {
+            self.note(number, states);
         }
     }
 

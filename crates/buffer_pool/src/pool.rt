@@ -225,9 +225,11 @@ impl<S: PageStore> Pool<S> {
         ensures writing { writing_of self.new.states ≡ writing_of self.old.states }
     {
         if let Some(change) = next.change() {
+            let was_clean = self.states.is_clean(change.page);
             self.frames.redo(change.page, next);
             self.states.change(change.page, next.lsn());
-            self.frames.note(change.page, &self.states);
+            self.frames
+                .note_change(change.page, was_clean, &self.states);
         }
     }
 

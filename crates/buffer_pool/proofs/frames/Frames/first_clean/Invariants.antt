@@ -1,4 +1,4 @@
-use Rattle.std.proofs.Common.{ℕ, ◌-◌, length}
+use Rattle.std.proofs.Common.{◌-◌, length}
 use Rattle.buffer_pool.specs.Pool.{is_clean_in}
 use Rattle.buffer_pool.proofs.Sought.{AreSeen}
 use Rattle.buffer_pool.proofs.frames.Frames.first_clean.Given as goal

@@ -1,8 +1,7 @@
 use Rattle.std.proofs.Common.{◌≡◌, ◌∙◌, ◌+◌, List, ap, map, sym, subst}
-use Rattle.std.specs.Prelude.{Some, None, position}
 use Rattle.std.specs.List.{remove}
 use Rattle.page_core.specs.declared.page.Page.{Page}
-use Rattle.buffer_pool.specs.Frames.{AreTaken, FramesView, given_up}
+use Rattle.buffer_pool.specs.Frames.{FramesView}
 use Rattle.buffer_pool.specs.Marks.{IsPassed, PassesNone}
 use Rattle.buffer_pool.specs.Pool.{is_clean_in}
 use Rattle.buffer_pool.proofs.Sought.{sought_less}

@@ -1,5 +1,5 @@
-use Rattle.std.proofs.Common.{◌≡◌, ◌∙◌, ℕ, Bool, false, ap, map, sym, subst}
-use Rattle.std.specs.Prelude.{None, Some, is_some}
+use Rattle.std.proofs.Common.{◌≡◌, ◌∙◌, ℕ, false, ap, map, sym, subst}
+use Rattle.std.specs.Prelude.{is_some}
 use Rattle.buffer_pool.specs.Frames.{FramesView, IsSought, is_resident}
 use Rattle.buffer_pool.specs.Pool.{is_clean_in}
 use Rattle.buffer_pool.proofs.Sought.{OthersStay, noted_absent, noted_cleared, noted_set}

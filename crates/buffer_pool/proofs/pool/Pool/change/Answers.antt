@@ -1,5 +1,5 @@
-use Rattle.std.proofs.Common.{◌≡◌, ◌∙◌, ◌<◌, ℕ, List, [], ◌∷◌, length, map, set, ap, subst, sym}
-use Rattle.std.specs.Prelude.{IfSome, Option, Some, None}
+use Rattle.std.proofs.Common.{◌≡◌, ◌∙◌, ◌<◌, ℕ, List, [], ◌∷◌, length, map, set, ap, refl, subst, sym}
+use Rattle.std.specs.Prelude.{IfSome, Option, Some}
 use Rattle.page_core.specs.declared.page.Page.{Page}
 use Rattle.log_records.specs.declared.page_change.PageChange.{PageChange}
 use Rattle.log_records.specs.Image.{with_record}
@@ -11,7 +11,7 @@ use Rattle.buffer_pool.proofs.Pools.{changed_at, none_changes, page_is_there, po
 use Rattle.buffer_pool.proofs.Pools.{written_changed, writing_changed}
 use Rattle.std.proofs.lemmas.List.{length-set}
 use Rattle.buffer_pool.specs.Marks.{PassesNone}
-use Rattle.buffer_pool.proofs.Sought.{others_set, pool_noted, sought_redone, whole_states}
+use Rattle.buffer_pool.proofs.Sought.{dirty_set, others_set, pool_noted, sought_redone, whole_states}
 use Rattle.buffer_pool.proofs.pool.Pool.change.Goals as goal
 
 pub returns-in-Some-clause-kept : goal.returns-in-Some-clause-kept
@@ -51,7 +51,7 @@ returns-in-Some-clause-kept g c = λ log of valid.
       resident = c.redo.new.self.pages;
       states = c.change-in-Some.new.self;
     })
-    c.note.new.self.room c.note.new.self.pages c.note.ensures.pages
+    c.note_change.new.self.room c.note_change.new.self.pages c.note_change.ensures.pages
     (subst (λ (ss : List PageState). IsPoolOf stored_in log' (record new {
       room = c.redo.new.self.room;
       resident = c.redo.new.self.pages;
@@ -77,7 +77,7 @@ returns-in_default-clause-kept g c = λ log of valid.
 pub returns-in-Some-clause-pages : goal.returns-in-Some-clause-pages
 returns-in-Some-clause-pages g c =
     let next = c.args.next.now in
-    c.note.ensures.pages ∙ c.redo.ensures.pages
+    c.note_change.ensures.pages ∙ c.redo.ensures.pages
     ∙ ap (λ (v : PoolView g.row.S.Denot). map (λ page. with_record page next) v.resident) c.self.view_is
 
 pub returns-in_default-clause-pages : goal.returns-in_default-clause-pages
@@ -112,15 +112,20 @@ invariant_of-self g c =
     let next = c.args.next.now in
     let n = c.in-Some.change.page in
     let clean = is_clean_in it.states in
+    let there = page_is_there g.S.PageStore.stored c.requires.next.0 c.args.next.now c.args.self.now c.in-Some.change
+    (sym c.in-Some.ensures) c.requires.next.1.1 c.requires.next.1.0 in
+    let states : it.states ≡ c.args.self.now.states = ap (λ (v : PoolView g.row.S.Denot). v.states) c.self.view_is in
+    let here : n < length it.states = subst (λ (ss : List PageState). n < length ss) (sym states) there in
     let redone : PassesNone clean (map (λ page. with_record page next) it.frames.pages) it.frames.marks =
     sought_redone clean next it.frames.pages it.frames.marks c.self.invariant.sought in
     record {
       whole = whole_states (g.S.PageStore.stored it.store) it.states c.change-in-Some.new.self
           (ap (length {A = PageState}) c.change-in-Some.ensures
           ∙ length-set it.states n (changed (state_in it.states n) c.lsn.result)) c.self.invariant.whole;
-      sought = c.note.ensures.sought clean
+      sought = c.note_change.ensures.sought clean
           (subst (λ (pages : List Page). PassesNone clean pages c.redo.new.self.marks) (sym c.redo.ensures.pages)
           (subst (PassesNone clean (map (λ page. with_record page next) it.frames.pages)) (sym c.redo.ensures.marks)
           redone))
-          (others_set it.states c.change-in-Some.new.self n _ c.change-in-Some.ensures);
+          (others_set it.states c.change-in-Some.new.self n _ c.change-in-Some.ensures)
+          (dirty_set it.states c.change-in-Some.new.self n _ _ c.change-in-Some.ensures here refl);
     }

@@ -1,11 +1,11 @@
-use Rattle.std.proofs.Common.{◌≡◌, ◌∙◌, ◌≤◌, ◌<◌, ◌++◌, ◌∷◌, [], Bool, List, ℕ, false, true, length, get_or, not, ap, subst}
+use Rattle.std.proofs.Common.{◌≡◌, ◌∙◌, ◌≤◌, ◌<◌, ◌++◌, ◌∷◌, [], List, false, true, length, get_or, ap, subst}
 use Rattle.std.proofs.Common.{sym, arith}
 use Rattle.std.proofs.lemmas.Bool.{not-false}
 use Rattle.std.specs.List.{list_any}
 use Rattle.page_core.specs.declared.page.Page.{Page}
 use Rattle.log_records.specs.Image.{image}
 use Rattle.log_records.specs.Log.{Log}
-use Rattle.buffer_pool.specs.Frames.{IsResident, fetched, given_up, is_full, is_resident}
+use Rattle.buffer_pool.specs.Frames.{IsResident, given_up, is_full, is_resident}
 use Rattle.buffer_pool.specs.Pool.{IsPoolOf, IsWhole, PageState, PoolView, is_clean, is_clean_in, written_of}
 use Rattle.buffer_pool.proofs.Fetching.{agree, all_less, any_same, dirty_stays, fetched_free, fetched_given_up, full_if, given_up_same}
 use Rattle.buffer_pool.proofs.Fetching.{length_less, pool_more, read_is, resident_last}

@@ -5,7 +5,7 @@ use Rattle.page_core.specs.Page.{formatted}
 use Rattle.page_core.specs.declared.page.Page.{Page}
 use Rattle.page_core.specs.Volume.{formatted_pages}
 use Rattle.log_records.specs.Log.{IsPageCount}
-use Rattle.buffer_pool.specs.Pool.{IsPoolOf, PageState, PoolView, is_clean_in, unwritten}
+use Rattle.buffer_pool.specs.Pool.{IsPoolOf, PageState, is_clean_in, unwritten}
 use Rattle.buffer_pool.proofs.Pools.{pool_new}
 use Rattle.buffer_pool.proofs.Sought.{sought_empty}
 use Rattle.buffer_pool.proofs.pool.Pool.new.Goals as goal
