@@ -200,7 +200,7 @@ sought_more clean pages page old marks sought less = λ k d there passed.
 -- the first clean page is gone: those before it are not clean, and those behind it keep their marks
 pub sought_less : (clean : ℕ → Bool) (pages : List Page) (place : ℕ) (old marks : MarksView)
     → position (λ page. clean page.number) pages ≡ Some place → PassesNone clean pages old
-    → ((k : ℕ) → IsPassed marks k → IsPassed old (k + 1)) → PassesNone clean (remove pages place) marks
+    → ((k : ℕ) → place ≤ k → IsPassed marks k → IsPassed old (k + 1)) → PassesNone clean (remove pages place) marks
 sought_less clean pages place old marks found sought down = λ k d there passed.
     let is = position-Some (λ (page : Page). clean page.number) pages place d found in
     let long = length-remove pages place is.0 in
@@ -209,7 +209,7 @@ sought_less clean pages place old marks found sought down = λ k d there passed.
           ap (λ (q : Page). clean q.number) (get_or-remove_below pages place d k before is.0) ∙ is.2 k before
       | inr after ↦
           ap (λ (q : Page). clean q.number) (get_or-remove_above pages place d k after is.0)
-          ∙ sought (k + 1) d (omega (arith, there, long)) (down k passed)
+          ∙ sought (k + 1) d (omega (arith, there, long)) (down k after passed)
     ]
 
 -- ---- marks that are made anew

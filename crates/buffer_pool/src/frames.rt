@@ -230,7 +230,9 @@ impl Frames {
             return None;
         };
         let (_, frame) = self.taken.shift_remove_index(place)?;
-        // No page before this place is clean, so it does not matter that their marks move too.
+        // All marks move, since no page before this place is clean. Its own would come to the page
+        // before it.
+        self.marks.clear(place);
         self.marks.move_down();
         Some(frame)
     }

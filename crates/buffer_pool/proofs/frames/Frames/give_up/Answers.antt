@@ -1,4 +1,4 @@
-use Rattle.std.proofs.Common.{◌≡◌, ◌∙◌, ◌+◌, List, ap, map, sym, subst}
+use Rattle.std.proofs.Common.{◌≡◌, ◌≢◌, ◌∙◌, ◌+◌, List, ap, map, sym, subst, arith}
 use Rattle.std.specs.List.{remove}
 use Rattle.page_core.specs.declared.page.Page.{Page}
 use Rattle.buffer_pool.specs.Frames.{FramesView}
@@ -46,4 +46,7 @@ returns-clause-sought c =
     subst (λ (ps : List Page). PassesNone clean ps c.move_down.new.self) (sym left)
     (sought_less clean pages place c.args.self.now.marks c.move_down.new.self
     (sym c.first_clean.ensures ∙ c.in-Some.is) c.requires
-    (λ k passed. subst (λ (v : FramesView). IsPassed v.marks (k + 1)) c.self.view_is (c.move_down.ensures k passed)))
+    (λ k le passed.
+    let other : k + 1 ≢ place = omega (arith, le) in
+    subst (λ (v : FramesView). IsPassed v.marks (k + 1)) c.self.view_is
+    (c.clear.ensures (k + 1) (c.move_down.ensures k passed) other)))
