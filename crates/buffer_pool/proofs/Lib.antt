@@ -5,5 +5,6 @@ pub mod Fetching
 pub mod PageSets
 pub mod Pools
 pub mod Repaired
+pub mod Sought
 pub mod States
 pub mod Taken

@@ -5,6 +5,7 @@ use Rattle.std.specs.List.{All, IsDistinct, list_any}
 use Rattle.std.specs.Option.{option_map_or}
 use Rattle.indexmap.specs.IndexMap.{IndexMap, spare}
 use Rattle.page_core.specs.declared.page.Page.{Page}
+use Rattle.buffer_pool.specs.Marks.{MarksView, PassesNone}
 
 -- the page of this number has a frame
 abbrev pub is_resident : List Page → ℕ → Bool
@@ -33,10 +34,16 @@ with_room frames is_clean pages =
 abbrev pub fetched : ℕ → (ℕ → Bool) → List Page → Page → List Page
 fetched frames is_clean pages page = with_room frames is_clean pages ++ page ∷ []
 
--- what the frames of a pool hold: the pages, and how many more can come in without new memory
+-- what the frames of a pool hold: the pages, and how many more can come in without new memory; and
+-- marks for the search of a clean page
 pub record FramesView : Type 0 where
   pub pages : List Page
   pub room : ℕ
+  pub marks : MarksView
+
+-- the search for a clean page passes over none
+abbrev pub IsSought : (ℕ → Bool) → FramesView → Type 0
+IsSought is_clean frames = PassesNone is_clean frames.pages frames.marks
 
 -- ---- how they are kept
 
@@ -46,8 +53,9 @@ pub record AreTaken (entries : List (ℕ × Page)) : Type 0 where
   pub distinct : IsDistinct nat_eq (map (λ e. e.0) entries)
 
 -- room for a page is a free frame, and a place for it among the others
-abbrev pub frames_view : {S : Type 0} → IndexMap ℕ Page S → Option Page → FramesView
-frames_view taken free = record {
+abbrev pub frames_view : {S : Type 0} → IndexMap ℕ Page S → Option Page → MarksView → FramesView
+frames_view taken free marks = record {
   pages = map (λ e. e.1) taken.entries;
   room = option_map_or (λ frame. spare taken) free 0;
+  marks = marks;
 }

@@ -1,5 +1,6 @@
 pub mod BitRow
 pub mod Frames
+pub mod Marks
 pub mod PageSet
 pub mod PageStates
 pub mod Pool

@@ -13,7 +13,7 @@ use Rattle.log_records.specs.Coverage.{AreStored, dirty, next_dirty, rec_lsn}
 use Rattle.log_records.specs.declared.dirty_page.DirtyPage.{DirtyPage}
 use Rattle.log_records.specs.declared.record.Record.{Record}
 use Rattle.buffer_pool.specs.declared.frame.TheConstants.{MAX_FRAMES}
-use Rattle.buffer_pool.specs.Frames.{IsResident}
+use Rattle.buffer_pool.specs.Frames.{FramesView, IsResident, IsSought}
 
 -- what a pool knows of a page beside its content: the LSN of its last write, its RecLSN where it is
 -- dirty, and, while it is being written, the image and the LSN of the first change since
@@ -155,6 +155,11 @@ pub record IsWhole (stored : List Page) (states : List PageState) : Type 0 where
   pub few : length states ≤ MAX_PAGES
   pub stored_count : length stored ≡ length states
   pub stored_numbers : AreNumbered stored
+
+-- and the search for a clean page among the frames passes over none
+pub record IsKept (stored : List Page) (states : List PageState) (frames : FramesView) : Type 0 where
+  pub whole : IsWhole stored states
+  pub sought : IsSought (is_clean_in states) frames
 
 -- so many frames are few enough
 pub record IsFrameCount (frames : ℕ) : Type 0 where

@@ -6,6 +6,7 @@ mod bit_row;
 mod frame;
 mod frames;
 mod laws;
+mod marks;
 mod page_image;
 mod page_set;
 mod page_states;

@@ -38,7 +38,7 @@ pub struct Pool<S: PageStore> {
 }
 
 impl<S: PageStore> Model for Pool<S> {
-    ghost use Rattle.buffer_pool.specs.Pool.{IsWhole, PoolView};
+    ghost use Rattle.buffer_pool.specs.Pool.{IsKept, PoolView};
 
     ghost Value = { PoolView S };
 
@@ -50,7 +50,7 @@ impl<S: PageStore> Model for Pool<S> {
       states = it.states;
     } };
 
-    ghost invariant = { λ it. IsWhole (S.stored it.store) it.states };
+    ghost invariant = { λ it. IsKept (S.stored it.store) it.states it.frames };
 }
 
 impl<S: PageStore + Drop> Pool<S> {
@@ -67,10 +67,11 @@ impl<S: PageStore + Drop> Pool<S> {
     {
         let count = store.pages();
         let states = PageStates::new(alloc, count)?;
+        let held = Frames::new(alloc, frames)?;
         Ok(Pool {
             store,
             limit: frames,
-            frames: Frames::new(alloc),
+            frames: held,
             states,
         })
     }
@@ -224,8 +225,11 @@ impl<S: PageStore> Pool<S> {
         ensures writing { writing_of self.new.states ≡ writing_of self.old.states }
     {
         if let Some(change) = next.change() {
+            let was_clean = self.states.is_clean(change.page);
             self.frames.redo(change.page, next);
             self.states.change(change.page, next.lsn());
+            self.frames
+                .note_change(change.page, was_clean, &self.states);
         }
     }
 
@@ -313,6 +317,7 @@ impl<S: PageStore> Pool<S> {
         let lsn = page.lsn;
         self.store.write(number, page)?;
         self.states.end_write(number, lsn);
+        self.frames.note(number, &self.states);
         Ok(lsn)
     }
 
@@ -345,6 +350,7 @@ impl<S: PageStore> Pool<S> {
     {
         self.store.write(number, rebuilt)?;
         self.states.end_write(number, rebuilt.lsn);
+        self.frames.note(number, &self.states);
         Ok(())
     }
 

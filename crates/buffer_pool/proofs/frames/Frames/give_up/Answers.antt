@@ -1,9 +1,10 @@
-use Rattle.std.proofs.Common.{◌≡◌, ◌∙◌, List, ap, map, sym, subst}
-use Rattle.std.specs.Prelude.{Some, None, position}
+use Rattle.std.proofs.Common.{◌≡◌, ◌≢◌, ◌∙◌, ◌+◌, List, ap, map, sym, subst, arith}
 use Rattle.std.specs.List.{remove}
 use Rattle.page_core.specs.declared.page.Page.{Page}
-use Rattle.buffer_pool.specs.Frames.{AreTaken, FramesView, given_up}
+use Rattle.buffer_pool.specs.Frames.{FramesView}
+use Rattle.buffer_pool.specs.Marks.{IsPassed, PassesNone}
 use Rattle.buffer_pool.specs.Pool.{is_clean_in}
+use Rattle.buffer_pool.proofs.Sought.{sought_less}
 use Rattle.buffer_pool.proofs.Taken.{Numbered, given_up_found, given_up_none, none_found, numbered_less, pages_less}
 use Rattle.buffer_pool.proofs.frames.Frames.give_up.Goals as goal
 
@@ -31,3 +32,21 @@ returns-clause-pages c =
     ∙ pages_less es place
     ∙ ap (λ (v : FramesView). remove v.pages place) c.self.view_is
     ∙ sym (given_up_found clean pages place (sym c.first_clean.ensures ∙ c.in-Some.is))
+
+pub returns-clause-sought : goal.returns-clause-sought
+returns-clause-sought c =
+    let clean = is_clean_in c.args.states.now in
+    let es = c.self.inside.taken.entries in
+    let pages = c.args.self.now.pages in
+    let place = c.in-Some.place in
+    let left : map (λ e. e.1) c.shift_remove_index.new.self.entries ≡ remove pages place =
+    ap (map (λ e. e.1)) c.shift_remove_index.ensures.entries
+    ∙ pages_less es place
+    ∙ ap (λ (v : FramesView). remove v.pages place) c.self.view_is in
+    subst (λ (ps : List Page). PassesNone clean ps c.move_down.new.self) (sym left)
+    (sought_less clean pages place c.args.self.now.marks c.move_down.new.self
+    (sym c.first_clean.ensures ∙ c.in-Some.is) c.requires
+    (λ k le passed.
+    let other : k + 1 ≢ place = omega (arith, le) in
+    subst (λ (v : FramesView). IsPassed v.marks (k + 1)) c.self.view_is
+    (c.clear.ensures (k + 1) (c.move_down.ensures k passed) other)))

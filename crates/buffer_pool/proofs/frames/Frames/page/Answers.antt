@@ -1,5 +1,5 @@
-use Rattle.std.proofs.Common.{◌≡◌, ◌∙◌, Bool, false, true, ap, map, sym, true≢false}
-use Rattle.std.specs.Prelude.{is_some, None, Some}
+use Rattle.std.proofs.Common.{◌≡◌, ◌∙◌, true, ap, map, sym, true≢false}
+use Rattle.std.specs.Prelude.{is_some, Some}
 use Rattle.std.specs.Option.{option_copied}
 use Rattle.buffer_pool.specs.Frames.{FramesView, is_resident}
 use Rattle.buffer_pool.proofs.Taken.{found_is, found_number}

@@ -1,9 +1,11 @@
-use Rattle.std.proofs.Common.{◌≡◌, ◌∙◌, ◌++◌, ◌∷◌, [], List, ℕ, false, ap, map, sym, nat_eq}
-use Rattle.std.specs.Prelude.{None, is_some}
+use Rattle.std.proofs.Common.{◌≡◌, ◌∙◌, ◌++◌, ◌∷◌, [], List, false, ap, map, sym, subst, nat_eq}
+use Rattle.std.specs.Prelude.{None}
 use Rattle.std.specs.Map.{lookup}
 use Rattle.indexmap.proofs.CallerLemmas.{insert_entry-new}
 use Rattle.page_core.specs.declared.page.Page.{Page}
 use Rattle.buffer_pool.specs.Frames.{FramesView, is_resident}
+use Rattle.buffer_pool.specs.Marks.{IsPassed, PassesNone}
+use Rattle.buffer_pool.proofs.Sought.{sought_more}
 use Rattle.buffer_pool.proofs.Taken.{found_is, none_by_test, on_ok, pages_more, taken_more}
 use Rattle.buffer_pool.proofs.frames.Frames.put.Goals as goal
 
@@ -26,10 +28,21 @@ invariant_of-self c =
     taken_more c.self.inside.taken.entries c.insert.new.self.entries c.number.inside.0 c.args.page c.hold.new.self
     c.self.invariant (sym c.number.view_is) c.hold.ensures (inserted c) c.insert.ensures.unique
 
-pub returns : goal.returns
-returns c =
+pub returns-clause-pages : goal.returns-clause-pages
+returns-clause-pages c =
     let es = c.self.inside.taken.entries in
     ap (map (λ e. e.1)) (inserted c)
     ∙ pages_more es c.number.inside.0 c.hold.new.self
     ∙ ap (λ (q : Page). map (λ e. e.1) es ++ q ∷ []) c.hold.ensures
     ∙ ap (λ (v : FramesView). v.pages ++ c.args.page ∷ []) c.self.view_is
+
+pub returns-clause-sought : goal.returns-clause-sought
+returns-clause-sought c = λ clean sought.
+    let pages = c.args.self.now.pages in
+    subst (λ (ps : List Page). PassesNone clean ps c.set.new.self) (sym (returns-clause-pages c))
+    (sought_more clean pages c.args.page c.args.self.now.marks c.set.new.self sought
+    (λ k passed.
+    let it = c.set.ensures k passed in (
+      subst (λ (v : FramesView). IsPassed v.marks k) c.self.view_is it.0,
+      λ same. it.1 (same ∙ sym c.len-place.ensures),
+    )))

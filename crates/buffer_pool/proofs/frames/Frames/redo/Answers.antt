@@ -1,7 +1,6 @@
-use Rattle.std.proofs.Common.{◌≡◌, ◌∙◌, List, ap, map, sym, subst}
-use Rattle.std.specs.Prelude.{Some, None, IfSome, is_some}
+use Rattle.std.proofs.Common.{◌≡◌, ◌∙◌, ap, map, sym, subst}
+use Rattle.std.specs.Prelude.{IfSome, is_some}
 use Rattle.std.specs.Option.{option_copied_mut}
-use Rattle.page_core.specs.declared.page.Page.{Page}
 use Rattle.log_records.specs.Image.{with_record}
 use Rattle.log_records.specs.Record.{change_of}
 use Rattle.buffer_pool.specs.Frames.{AreTaken, FramesView}

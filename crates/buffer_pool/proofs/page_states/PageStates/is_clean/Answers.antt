@@ -1,8 +1,8 @@
-use Rattle.std.proofs.Common.{◌≡◌, ◌∙◌, ◌<◌, ◌≤◌, ℕ, List, get_or, length, ap, sym, arith, inl, inr}
+use Rattle.std.proofs.Common.{◌∙◌, ℕ, length, ap, sym, arith, inl, inr}
 use Rattle.std.specs.Prelude.{Option, None, is_none}
 use Rattle.std.proofs.lemmas.Bool.{cases_lt}
 use Rattle.std.proofs.lemmas.List.{get_or_past}
-use Rattle.buffer_pool.specs.Pool.{PageState, state_in, unwritten}
+use Rattle.buffer_pool.specs.Pool.{PageState, unwritten}
 use Rattle.buffer_pool.proofs.Columns.{count_is, state_is}
 use Rattle.buffer_pool.proofs.page_states.PageStates.is_clean.Goals as goal
 

@@ -1,13 +1,13 @@
-use Rattle.std.proofs.Common.{◌≡◌, ◌∙◌, ◌≤◌, ◌<◌, ◌++◌, ◌∷◌, [], Bool, List, ℕ, false, true, length, get_or, not, ap, subst}
+use Rattle.std.proofs.Common.{◌≡◌, ◌∙◌, ◌≤◌, ◌<◌, ◌++◌, ◌∷◌, [], List, false, true, length, get_or, ap, subst}
 use Rattle.std.proofs.Common.{sym, arith}
 use Rattle.std.proofs.lemmas.Bool.{not-false}
 use Rattle.std.specs.List.{list_any}
 use Rattle.page_core.specs.declared.page.Page.{Page}
 use Rattle.log_records.specs.Image.{image}
 use Rattle.log_records.specs.Log.{Log}
-use Rattle.buffer_pool.specs.Frames.{IsResident, fetched, given_up, is_full, is_resident}
-use Rattle.buffer_pool.specs.Pool.{IsPoolOf, PageState, PoolView, is_clean, is_clean_in, written_of}
-use Rattle.buffer_pool.proofs.Fetching.{agree, all_less, any_same, dirty_stays, fetched_given_up, full_if, given_up_same}
+use Rattle.buffer_pool.specs.Frames.{IsResident, given_up, is_full, is_resident}
+use Rattle.buffer_pool.specs.Pool.{IsPoolOf, IsWhole, PageState, PoolView, is_clean, is_clean_in, written_of}
+use Rattle.buffer_pool.proofs.Fetching.{agree, all_less, any_same, dirty_stays, fetched_free, fetched_given_up, full_if, given_up_same}
 use Rattle.buffer_pool.proofs.Fetching.{length_less, pool_more, read_is, resident_last}
 use Rattle.buffer_pool.proofs.pool.Pool.fetch.Goals as goal
 
@@ -37,22 +37,50 @@ returns-then-len-self-clause-kept g c = λ log of.
       room = c.put.new.self.room;
       resident = pages;
     }))
-    (sym c.put.ensures)
+    (sym c.put.ensures.pages)
     (pool_more stored_in log pool c.read.new.self c.put.new.self.room n it.frames.pages page is c.in_ok-page.ensures.same
-    c.self.invariant.stored_count there (λ d. read_is (stored_in it.store) n page d found) c.in_ok-page.ensures.numbered
+    c.self.invariant.whole.stored_count there (λ d. read_is (stored_in it.store) n page d found) c.in_ok-page.ensures.numbered
     absent few is.within is.resident is.held)
 
 pub returns-then-len-self-clause-resident : goal.returns-then-len-self-clause-resident
 returns-then-len-self-clause-resident g c =
-    subst (λ (pages : List Page). IsResident pages c.args.number) (sym c.put.ensures)
+    subst (λ (pages : List Page). IsResident pages c.args.number) (sym c.put.ensures.pages)
     (resident_last c.self.inside.frames.pages c.in_ok-page.page c.args.number c.in_ok-page.ensures.numbered)
 
 pub returns-else-len-self-clause-resident : goal.returns-else-len-self-clause-resident
 returns-else-len-self-clause-resident g c =
     let it = c.self.inside in
-    subst (λ (pages : List Page). IsResident pages c.args.number) (sym c.replace.ensures)
+    subst (λ (pages : List Page). IsResident pages c.args.number) (sym c.replace.ensures.pages)
     (resident_last (given_up (is_clean_in it.states) it.frames.pages) c.in_ok-page.page c.args.number
     c.in_ok-page.ensures.numbered)
+
+pub invariant_of-self-then-len-self : goal.invariant_of-self-then-len-self
+invariant_of-self-then-len-self g c =
+    let it = c.self.inside in
+    record {
+      whole = subst (λ (ps : List Page). IsWhole ps it.states) (sym c.in_ok-page.ensures.same) c.self.invariant.whole;
+      sought = c.put.ensures.sought (is_clean_in it.states) c.self.invariant.sought;
+    }
+
+pub returns-then-len-self-clause-fetched : goal.returns-then-len-self-clause-fetched
+returns-then-len-self-clause-fetched g c = λ log d of.
+    let stored_in = g.S.PageStore.stored in
+    let it = c.self.inside in
+    let n = c.args.number in
+    let pool = c.args.self.now in
+    let clean = is_clean log.records (written_of pool.states) in
+    let page = c.in_ok-page.page in
+    let store : it.store ≡ pool.store = ap (λ (v : PoolView g.row.S.Denot). v.store) c.self.view_is in
+    let pages : it.frames.pages ≡ pool.resident = ap (λ (v : PoolView g.row.S.Denot). v.resident) c.self.view_is in
+    let frames : it.limit ≡ pool.frames = ap (λ (v : PoolView g.row.S.Denot). v.frames) c.self.view_is in
+    let few : length pool.resident < pool.frames =
+    omega (arith, c.len.ensures, ap (length {A = Page}) pages, c.if-len-self.true) in
+    c.put.ensures.pages
+    ∙ ap (λ (ps : List Page). ps ++ page ∷ []) pages
+    ∙ ap (λ (q : Page). pool.resident ++ q ∷ [])
+    (read_is (stored_in it.store) n page d c.in_ok-page.ensures.found
+    ∙ ap (λ s. get_or (stored_in s) n d) store)
+    ∙ sym (fetched_free pool.frames clean pool.resident (get_or (stored_in pool.store) n d) few)
 
 pub returns-else-len-self-clause-fetched : goal.returns-else-len-self-clause-fetched
 returns-else-len-self-clause-fetched g c = λ log d of.
@@ -68,7 +96,7 @@ returns-else-len-self-clause-fetched g c = λ log d of.
     let frames : it.limit ≡ pool.frames = ap (λ (v : PoolView g.row.S.Denot). v.frames) c.self.view_is in
     let many : pool.frames ≤ length pool.resident =
     omega (arith, c.len.ensures, ap (length {A = Page}) pages, c.if-len-self.false) in
-    c.replace.ensures
+    c.replace.ensures.pages
     ∙ ap (λ (ss : List PageState). given_up (is_clean_in ss) it.frames.pages ++ page ∷ []) states
     ∙ ap (λ (ps : List Page). given_up (is_clean_in pool.states) ps ++ page ∷ []) pages
     ∙ ap (λ (ps : List Page). ps ++ page ∷ [])
@@ -110,9 +138,9 @@ returns-else-len-self-clause-kept g c = λ log of.
       room = c.replace.new.self.room;
       resident = pages;
     }))
-    (sym c.replace.ensures)
+    (sym c.replace.ensures.pages)
     (pool_more stored_in log pool c.read.new.self c.replace.new.self.room n (given_up clean it.frames.pages) page is
-    c.in_ok-page.ensures.same c.self.invariant.stored_count there
+    c.in_ok-page.ensures.same c.self.invariant.whole.stored_count there
     (λ d. read_is (stored_in it.store) n page d c.in_ok-page.ensures.found) c.in_ok-page.ensures.numbered absent
     (omega (arith, less, is.few))
     (all_less (λ q. q.number < length it.states) clean it.frames.pages is.within)

@@ -2,7 +2,6 @@ use Rattle.std.proofs.Common.{◌≡◌, ◌∙◌, ◌≤◌, Bool, true, false
 use Rattle.std.specs.Prelude.{Option, Some, None, is_none, is_some}
 use Rattle.std.specs.List.{list_any}
 use Rattle.page_core.specs.declared.page.Page.{Page}
-use Rattle.buffer_pool.specs.Frames.{is_full}
 use Rattle.buffer_pool.specs.Pool.{PageState, PoolView, is_clean, is_clean_in, written_of}
 use Rattle.buffer_pool.proofs.Fetching.{agree, any_same, full_if, none_clean}
 use Rattle.buffer_pool.proofs.pool.Pool.is_full.Goals as goal

@@ -5,9 +5,9 @@ use Rattle.page_core.specs.Page.{formatted}
 use Rattle.page_core.specs.declared.page.Page.{Page}
 use Rattle.page_core.specs.Volume.{formatted_pages}
 use Rattle.log_records.specs.Log.{IsPageCount}
-use Rattle.buffer_pool.specs.Frames.{FramesView}
-use Rattle.buffer_pool.specs.Pool.{IsPoolOf, PageState, PoolView, unwritten}
+use Rattle.buffer_pool.specs.Pool.{IsPoolOf, PageState, is_clean_in, unwritten}
 use Rattle.buffer_pool.proofs.Pools.{pool_new}
+use Rattle.buffer_pool.proofs.Sought.{sought_empty}
 use Rattle.buffer_pool.proofs.pool.Pool.new.Goals as goal
 
 pub new-requires : goal.new-requires
@@ -30,9 +30,13 @@ invariant_of-result g c =
     let states : length c.in_ok-states.states ≡ count =
     ap (length {A = PageState}) c.in_ok-states.ensures ∙ length-replicate count unwritten in
     record {
-      few = omega (arith, c.requires.1.0.most);
-      stored_count = sym c.pages-count.ensures.count ∙ sym states;
-      stored_numbers = c.pages-count.ensures.numbered;
+      whole = record {
+        few = omega (arith, c.requires.1.0.most);
+        stored_count = sym c.pages-count.ensures.count ∙ sym states;
+        stored_numbers = c.pages-count.ensures.numbered;
+      };
+      sought = sought_empty (is_clean_in c.in_ok-states.states) c.in_ok-held.held.pages c.in_ok-held.held.marks
+          c.in_ok-held.ensures.pages;
     }
 
 -- so many pages are stored
@@ -43,13 +47,20 @@ count_is stored_in store count n long holds = long ∙ ap length holds ∙ lengt
 pub returns-clause-new : goal.returns-clause-new
 returns-clause-new g c = λ n holds.
     let same = count_is g.S.PageStore.stored c.args.store c.pages-count.result n c.pages-count.ensures.count holds in
-    ap (λ (frames : FramesView). record {
+    ap (λ (pages : List Page). record {
       store = c.args.store;
       frames = c.args.frames;
-      room = frames.room;
-      resident = frames.pages;
+      room = c.in_ok-held.held.room;
+      resident = pages;
       states = c.in_ok-states.states;
-    }) c.new-2.ensures
+    }) c.in_ok-held.ensures.pages
+    ∙ ap (λ (room : ℕ). record {
+      store = c.args.store;
+      frames = c.args.frames;
+      room = room;
+      resident = [];
+      states = c.in_ok-states.states;
+    }) c.in_ok-held.ensures.room
     ∙ ap (λ (states : List PageState). record {
       store = c.args.store;
       frames = c.args.frames;

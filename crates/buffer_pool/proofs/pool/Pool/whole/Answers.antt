@@ -5,8 +5,9 @@ use Rattle.page_core.specs.Page.{formatted}
 use Rattle.page_core.specs.declared.page.Page.{Page}
 use Rattle.page_core.specs.Volume.{formatted_pages}
 use Rattle.log_records.specs.Log.{IsPageCount}
-use Rattle.buffer_pool.specs.Pool.{IsPoolOf, PageState, PoolView, unwritten, whole_pool}
+use Rattle.buffer_pool.specs.Pool.{IsPoolOf, PageState, PoolView, is_clean_in, unwritten, whole_pool}
 use Rattle.buffer_pool.proofs.Pools.{pool_whole}
+use Rattle.buffer_pool.proofs.Sought.{sought_all}
 use Rattle.buffer_pool.proofs.pool.Pool.whole.Goals as goal
 
 pub new-requires : goal.new-requires
@@ -29,9 +30,13 @@ invariant_of-result g c =
     let states : length c.in_ok-states.states ≡ count =
     ap (length {A = PageState}) c.in_ok-states.ensures ∙ length-replicate count unwritten in
     record {
-      few = omega (arith, c.requires.1.0.most);
-      stored_count = sym c.pages-count.ensures.count ∙ sym states;
-      stored_numbers = c.pages-count.ensures.numbered;
+      whole = record {
+        few = omega (arith, c.requires.1.0.most);
+        stored_count = sym c.pages-count.ensures.count ∙ sym states;
+        stored_numbers = c.pages-count.ensures.numbered;
+      };
+      sought = sought_all (is_clean_in c.in_ok-states.states) c.in_ok-frames.frames.pages c.in_ok-frames.frames.marks
+          c.in_ok-frames.ensures.sought;
     }
 
 -- so many pages are stored
@@ -56,7 +61,7 @@ returns-clause-new g c = λ n holds.
       room = room;
       resident = pages;
       states = c.in_ok-states.states;
-    }) (c.in_ok-frames.ensures ∙ ap formatted_pages same)
+    }) (c.in_ok-frames.ensures.pages ∙ ap formatted_pages same)
     ∙ ap (λ (states : List PageState). record {
       store = c.args.store;
       frames = n;
