@@ -123,6 +123,39 @@ check_commands() {
         fail "run --save beside copy-7: standard error '$(cat "$work/err")'"
 }
 
+# check_audit STATUS LINE BEHIND WORDS..: with these words an audit prints this line, and behind it on standard error
+# what this pattern says, or nothing.
+check_audit() {
+    local wanted=$1 line=$2 behind=$3
+    shift 3
+    (cd "$work/day" && "$program" audit "$@" > ../out 2> ../err < /dev/null)
+    status=$?
+    [ "$status" -eq "$wanted" ] || fail "audit $*: status $status, expected $wanted"
+    [ "$(cat "$work/out")" = "$line" ] || fail "audit $*: '$(cat "$work/out")', expected '$line'"
+    # shellcheck disable=SC2053  # it is a pattern
+    [[ $(cat "$work/err") == $behind ]] || fail "audit $*: standard error '$(cat "$work/err")', expected '$behind'"
+}
+
+# The day of the example, whose copies are sound; then with files left out, cut, or changed.
+check_audits() {
+    "$program" run --save="$work/day" --pages=3 < "$examples/day.script" > "$work/out" || fail "run of the day: $?"
+    check_audit 0 sound "" log copy-1 copy-2 copy-3
+    check_audit 0 sound "" log copy-1
+    check_audit 1 "E37 ChainBroken 0" "" log
+    check_audit 1 "E37 ChainBroken 3" "imgcopy: copy-3 (image copy)" log copy-1 copy-3
+    check_audit 2 "E33 ReadFault" "imgcopy: none (log): No such file or directory*" none copy-1
+    check_audit 2 "E33 ReadFault" "imgcopy: none (image copy): No such file or directory*" log copy-1 none
+    head -c 100 "$work/day/copy-1" > "$work/day/short"
+    check_audit 2 "E36 BadArchive 64" "imgcopy: short (image copy)" log short
+    # The last page of the copy has another number in slot 61: it is none that the log made.
+    { head -c $((64 + 3 * 512 - 1)) "$work/day/copy-1"; printf ''; } > "$work/day/changed"
+    check_audit 1 "E41 Unsound 1 2" "" log changed
+    (cd "$work/day" && "$program" audit log copy-1 > /dev/full 2> ../err)
+    status=$?
+    : > "$work/out"
+    check_fault "E29 WriteFault 0" "an answer that cannot be written" "imgcopy: standard output: No space left*"
+}
+
 # check_frames WORDS..: with these words there is one frame for two pages, so one has to be written before the other is
 # read. Without `--frames` there is a frame for each.
 check_frames() {
@@ -207,13 +240,13 @@ check_refused "error: no command" redo "$call"
 for word in help --help -h; do
     check_refused "Usage: " restore "$call" "$word"
 done
-check_refused "error: unrecognized" "'audit'" "$call" audit
-! grep -q "a similar command" "$work/err" || fail "the words 'audit': a similar command is named"
-for pair in ru/run rerun/run resotre/restore reed/redo hlep/help; do
+check_refused "error: unrecognized" "'verify'" "$call" verify
+! grep -q "a similar command" "$work/err" || fail "the words 'verify': a similar command is named"
+for pair in ru/run rerun/run resotre/restore reed/redo audt/audit hlep/help; do
     check_refused "error: unrecognized" "'${pair%/*}'" "a similar command exists: '${pair#*/}'" "${pair%/*}"
     check_refused "error: unrecognized" "'${pair%/*}'" "a similar command exists: '${pair#*/}'" help "${pair%/*}"
 done
-for command in redo run restore; do
+for command in redo run restore audit; do
     check_words "$command" --help
     cp "$work/err" "$work/wanted.err"
     for rest in "" extra; do
@@ -243,7 +276,12 @@ check_refused Play --save "$run" run --help
 restore='Usage: imgcopy restore'
 check_refused "error: " "<MASTER>" "$restore" restore log
 check_refused Write ARCHIVE "$restore" restore -h
+audit='Usage: imgcopy audit'
+check_refused "error: " "<LOG>" "$audit" audit
+check_refused "error: " "'--log'" "$audit" audit --log=log
+check_refused Say ARCHIVE "$audit" audit -h
 check_commands
+check_audits
 check_lines
 # Words that are not UTF-8: the first of them is shown as far as it can be.
 check_words $'redo\xff'

@@ -19,6 +19,7 @@ use command_words::{Command, command_of, words_of};
 use copy_audit::{Sound, Unsound};
 use media_restore::RestoreFault;
 use notes::{Noted, Notes};
+use page_core::FaultName;
 use saved_files::{audit_files, restore_volume, save_files};
 use script_run::{
     FAULT_STATUS, FinishFault, Ran, audit_status, finish_script, refused_status, restore_status,
@@ -196,6 +197,7 @@ fn status_of_audit(rt: &(impl Print + Eprint), done: &Result<Sound, Unsound>) ->
     match line {
         Ok(()) => status,
         Err(error) => {
+            let _ = eprintln!(rt; "{} 0", FaultName::WriteFault);
             let _ = eprintln!(rt; "imgcopy: standard output: {error}");
             ExitCode::from(FAULT_STATUS)
         }
