@@ -20,6 +20,7 @@ from functools import lru_cache
 from itertools import repeat
 from pathlib import Path
 
+import model_audit_rows
 import model_file_rows
 import model_rows
 from engine_model import MOST_FRAMES
@@ -27,13 +28,15 @@ from log_format import ADD, BEGIN, MOST_RECORDS, RECORD_SIZE, UPDATE, Change, Re
 from make import Draw
 from model_frame_rows import FRAME_ROWS
 from random_scripts import Script, bad_script, random_script
-from recovery_model import Answer, answer_of, encode_pages, fault_lines, redo_all, redo_file, restore_files, undo_records
+from recovery_model import (Answer, answer_of, audit_files, encode_pages, fault_lines, redo_all, redo_file, restore_files,
+                            undo_records)
 from script_model import LONGEST_SCRIPT, run
-from spoiled_files import Given, spoil
+from spoiled_files import Given, mislead, spoil
 
 COUNT = 1000
 SEEDS_IN_A_TASK = 20
 SPOILED_IN_A_RUN = 4
+MISLED_IN_A_RUN = 4
 MOST_PAGES_SPOILED = 1000
 MOST_SECONDS = 300
 MOST_SHOWN = 20  # of the differences
@@ -88,10 +91,13 @@ class Checker:
             self.empty_folder()
             self.write(wanted.files)
 
-    def check_files(self, what, wanted, words, changed, files):
-        """Restores with changed files in the folder, and leaves it as it was, with these files."""
+    def check_files(self, what, given, files):
+        """Restores and audits with changed files in the folder, and leaves it as it was, with these files."""
+        changed = given.changed(files)
         self.write(changed)
-        self.check(what, wanted, ["restore", *words])
+        log, _, archives = given.contents()
+        self.check(what, answer_of(restore_files, *given.contents()), ["restore", *given.words()])
+        self.check(f"{what}, audited", audit_files(log, archives), ["audit", *given.audit_words()])
         for name in changed:
             (self.saved / name).unlink()
         self.write({name: files[name] for name in changed if name in files})
@@ -163,6 +169,11 @@ def check_copies(checker, name, ran):
         if wanted.output != volume:
             raise Failure(f"{name}: the model restores copy {copy.number} to another volume than the log makes")
         checker.check(f"{name}, restore of copy {copy.number}", wanted, ["restore", *given.words()])
+        log_data, _, archives = given.contents()
+        audited = audit_files(log_data, archives)
+        if audited.status:
+            raise Failure(f"{name}: the model calls copy {copy.number} unsound: {audited.output!r}")
+        checker.check(f"{name}, audit of copy {copy.number}", audited, ["audit", *given.audit_words()])
 
 
 @lru_cache(maxsize=None)
@@ -172,11 +183,13 @@ def files_of_another(seed):
 
 def check_spoiled(checker, name, ran, seed):
     draw, others = Draw(seed), files_of_another(1 + seed % 7)
-    for _ in range(SPOILED_IN_A_RUN):
+    for turn in range(SPOILED_IN_A_RUN + MISLED_IN_A_RUN):
         given = Given(ran.files, ran.engine.chain(draw.one_of(ran.engine.complete_copies()).number))
-        spoil(draw, given, others)
-        checker.check_files(f"{name}, files {' '.join(given.words())} spoiled by {', '.join(given.done)}",
-                            answer_of(restore_files, *given.contents()), given.words(), given.changed(ran.files),
+        if turn < SPOILED_IN_A_RUN:
+            spoil(draw, given, others)
+        else:
+            mislead(draw, given)
+        checker.check_files(f"{name}, files {' '.join(given.words())} spoiled by {', '.join(given.done)}", given,
                             ran.files)
 
 
@@ -194,6 +207,9 @@ def check_rows(checker):
         saved[row.name] = ran.files
     for row in model_file_rows.FILE_ROWS:
         check_file_row(checker, row, saved[row.row])
+    for row in model_audit_rows.AUDIT_ROWS:
+        check_audit_row(checker, row, saved[row.row])
+    check_cuts(checker, saved[model_file_rows.CHAIN])
 
 
 def check_bytes_of(row, files):
@@ -221,6 +237,29 @@ def check_file_row(checker, row, saved):
         checker.check(row.name, wanted, ["redo"], given.files["log"])
     else:
         checker.check(row.name, wanted, ["restore", *given.words()])
+
+
+def check_audit_row(checker, row, saved):
+    files = row.files(saved)
+    log, *archives = row.names.split()
+    wanted = Answer(row.status, f"{row.answer}\n".encode())
+    model = audit_files(files.get(log), [files.get(name) for name in archives])
+    if model != wanted:
+        raise Failure(f"the model, {row.name}: {difference(model, wanted)}")
+    checker.empty_folder()
+    checker.write(files)
+    checker.check(row.name, wanted, ["audit", log, *archives])
+
+
+def check_cuts(checker, saved):
+    """An audit of a chain of which one file is cut, at each length."""
+    archives = ["copy-1", "copy-2", "copy-3"]
+    for name in ["log", *archives]:
+        for size in range(len(saved[name])):
+            files = saved | {name: saved[name][:size]}
+            wanted = audit_files(files["log"], [files[archive] for archive in archives])
+            checker.write(files)
+            checker.check(f"{name} cut to {size} bytes, audited", wanted, ["audit", "log", *archives])
 
 
 # What is long, and what has a known answer without the model
@@ -273,7 +312,8 @@ WRONG_WORDS = [
     "run --pages 1 --pages 1", "run --frames 1", "run --pages 1 --frames", "run --pages 1 --frames 0",
     "run --frames 0 --pages 1", "run --pages 1 --frames 65537", "run --pages 1 --frames -1", "run --pages 1 --frames x",
     "run --pages 1 --frames 1 --frames 1", "run --save .", "run --pages 1 --save", "restore", "restore log", "restore --log log",
-    "rerun", "help rerun", "help run", "run --help", "restore --help",
+    "rerun", "help rerun", "help run", "run --help", "restore --help", "audit", "audit --log log", "audit --help",
+    "help audit",
 ]
 
 

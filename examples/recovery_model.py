@@ -327,6 +327,37 @@ def restore_files(log, master, archives):
     return restore(read_chain(archives, pages, lsn_of(len(records))), records)
 
 
+def images(log, pages):
+    """Of each page all that the log made of it, one after another, from the formatted page on."""
+    made = [[Page(number)] for number in range(pages)]
+    for record in log:
+        if is_change(record):
+            of_page = made[record.change.page]
+            of_page.append(of_page[-1].put(record))
+    return made
+
+
+def audit(chain, log, pages):
+    """Sees that each page of the chain up to each member is an image of the log's past, and lacks no change below the
+    redo point of that member."""
+    made = images(log, pages)
+    for at, copy in enumerate(chain):
+        for page in content(chain[:at + 1]):
+            of_page = made[page.number]
+            if page not in of_page or any(page.lsn < image.lsn < copy.redo for image in of_page):
+                raise Refusal(41, copy.number, page.number)
+
+
+def audit_files(log, archives):
+    """What the program must answer to an audit of these files. One that cannot be read is None."""
+    try:
+        pages, records = read_log(log)
+        audit(read_chain(archives, pages, lsn_of(len(records))), records, pages)
+    except Refusal as refusal:
+        return Answer(refusal.status(), f"{refusal.line()}\n".encode())
+    return Answer(0, b"sound\n")
+
+
 def redo_file(log):
     pages, records = read_log(log)
     return redo_all(records, pages)

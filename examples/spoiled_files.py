@@ -21,6 +21,9 @@ class Given:
     def words(self):
         return [self.log, self.master, *self.archives]
 
+    def audit_words(self):
+        return [self.log, *self.archives]
+
     def contents(self):
         """The bytes of the log, of the master and of the archives. None is a file that cannot be read."""
         log, master, *archives = (self.files.get(name) for name in self.words())
@@ -216,3 +219,27 @@ def spoil(draw, given, others):
             way = draw.one_of(WAYS)
             way(draw, given)
             given.done.append(way.__name__)
+
+
+def mislead(draw, given):
+    """Changes one number of an archive so that everything still spells: a redo point, the LSN of a page, or a slot."""
+    name = any_archive(draw, given)
+    data = bytearray(given.data(name))
+    end = len(given.data(given.log))
+    pages = (len(data) - ARCHIVE.size) // PAGE_SIZE
+    which = draw.below(4 if pages else 2)
+    start = ARCHIVE.size + PAGE_SIZE * below(draw, pages)
+    lsn = 64 * (1 + below(draw, end // 64 - 1))
+    if which == 0:
+        begin = int.from_bytes(data[24:32], "little")
+        data[32:40] = min(lsn, begin).to_bytes(8, "little")
+    elif which == 1:
+        data[24:40] = 2 * lsn.to_bytes(8, "little")
+    elif which == 2:
+        data[start + 8:start + 16] = draw.one_of([0, lsn, lsn]).to_bytes(8, "little")
+    else:
+        slot = start + 16 + 8 * draw.one_of([0, 0, 1, draw.below(62)])
+        number = int.from_bytes(data[slot:slot + 8], "little")
+        data[slot:slot + 8] = draw.one_of([number ^ 1, 0, 5, 2**64 - 1]).to_bytes(8, "little")
+    given.put(name, bytes(data))
+    given.done.append("mislead")
