@@ -4,23 +4,27 @@
 usage: memory.py PROGRAM LIBRARY
 
 LIBRARY is refuse_memory.rs, built as a library for LD_PRELOAD. Each example log goes to `PROGRAM redo` with its first
-allocation refused, then with its second, and so on until none is left to refuse. So do wrong words. A run that is
-refused one has to say so, to write nothing and to end with status 2; or it does without, and answers as ever.
+allocation refused, then with its second, and so on until none is left to refuse. So do wrong words, and an audit of the
+files of the day. A run that is refused one has to say so, to write nothing and to end with status 2; or it does without,
+and answers as ever. An audit says it on standard output.
 """
 
 import os
 import shutil
 import subprocess
 import sys
+import tempfile
 from itertools import count
 from pathlib import Path
 from typing import NamedTuple
 
 from model_check import WRONG_WORDS
 from recovery_model import fault_lines
+from script_model import run as run_script
 
 EXAMPLES = Path(__file__).resolve().parent
 OUT_OF_MEMORY = (2, b"", b"E1 OutOfMemory\n")
+AUDIT_OUT_OF_MEMORY = (2, b"E1 OutOfMemory\n", b"")
 
 
 class Failure(Exception):
@@ -43,6 +47,14 @@ def cases(program):
         case = Case(words, Path(os.devnull), ())
         answer, _ = run(program, case, {})
         yield case._replace(answer=answer)
+
+
+def audit_case(folder):
+    """An audit of the files that the script of the day saves, which are put into this folder."""
+    for name, data in run_script((EXAMPLES / "day.script").read_bytes(), 3).files.items():
+        (folder / name).write_bytes(data)
+    names = [str(folder / name) for name in ("log", "copy-1", "copy-2", "copy-3")]
+    return Case(["audit", *names], Path(os.devnull), (0, b"sound\n", b""))
 
 
 def run(program, case, environment):
@@ -92,6 +104,8 @@ def main(arguments):
     try:
         program, library = program_and_library(arguments)
         total = sum(check(program, library, case) for case in cases(program))
+        with tempfile.TemporaryDirectory() as folder:
+            total += check(program, library, audit_case(Path(folder)), AUDIT_OUT_OF_MEMORY)
         if total == 0:
             raise Failure("no allocation was refused")
     except (Failure, OSError) as failure:

@@ -383,7 +383,7 @@ def main(arguments):
             raise Failure(f"{len(differences)} of {counts.total()} answers are not as defined")
     except (Failure, OSError) as failure:
         sys.exit(f"model_check.py: {failure}")
-    parts = ", ".join(f"{counts[name]} of {name}" for name in ("run", "redo", "restore", "words"))
+    parts = ", ".join(f"{counts[name]} of {name}" for name in ("run", "redo", "restore", "audit", "words"))
     print(f"ok model: {count} random scripts and all rows are as defined, by answers: {parts}")
 
 
