@@ -1,4 +1,5 @@
-use Rattle.media_restore.proofs.Audits.{covering_of_audited, sound_of_audited}
+use Rattle.copy_audit.proofs.Audits.{covering_of_audited}
+use Rattle.media_restore.proofs.Audits.{sound_of_audited}
 use Rattle.media_restore.proofs.audit_laws.an_audited_chain_restores_the_log.Goals as goal
 
 pub returns-clause-covering : goal.returns-clause-covering
