@@ -59,16 +59,19 @@ class Script(NamedTuple):
     shape: str
     size: int
     pages: int
+    frames: int = 65536
 
     def __str__(self):
         return f"the script {self.name}"
 
     def prepare(self, tools, folder):
-        words = ["--pages", str(self.pages), "--bytes", str(self.size), "--shape", self.shape, "--seed", "1"]
+        options = {"pages": self.pages, "frames": self.frames, "bytes": self.size, "shape": self.shape, "seed": 1}
+        words = [word for name, value in options.items() for word in (f"--{name}", str(value))]
         run([tools["generate_script"], *words], os.devnull, folder / "script", self)
         text = (folder / "script").read_bytes()
-        return Job(self, folder / "script", text.count(b"\n"), len(text), ["run", "--pages", str(self.pages)],
-                   tools["plain_run"])
+        frames = ["--frames", str(self.frames)] if self.frames < self.pages else []
+        return Job(self, folder / "script", text.count(b"\n"), len(text),
+                   ["run", "--pages", str(self.pages), *frames], tools["plain_run"])
 
 
 class Files(NamedTuple):
@@ -121,7 +124,13 @@ INPUTS = {
         Log("mixed", "mixed", 1048576, 65536),
         Log("small", "uniform", 65536, 1024),
     ],
-    "run": [Script("script", "accepted", LONGEST_SCRIPT, 65536), Script("refused", "refused", LONGEST_SCRIPT, 65536)],
+    "run": [
+        Script("script", "accepted", LONGEST_SCRIPT, 65536),
+        Script("refused", "refused", LONGEST_SCRIPT, 65536),
+        Script("scan", "scan", LONGEST_SCRIPT, 65536, 64),
+        Script("alternate", "alternate", LONGEST_SCRIPT, 65536, 65535),
+        Script("tenth", "accepted", LONGEST_SCRIPT, 65536, 6553),
+    ],
     "restore": [Files("restore", 3, 65536)],
 }
 

@@ -5,6 +5,7 @@
 use crate::chains::ChangeKind;
 use crate::claims::{place, Claims, Held};
 use crate::copies::{Copies, Source};
+use crate::frames::Frames;
 use crate::replies::{Answer, Refusal, Reply};
 use crate::{
     formatted_volume, Page, ABORT, BEGIN, BEGIN_CHKPT, CHKPT_PAGES, CHKPT_TXNS, COMMIT, COMP, END,
@@ -69,6 +70,7 @@ pub struct Engine {
     /// By page: the first change after the image of its write in progress.
     after_image: Vec<u64>,
     images: HashMap<u32, Page>,
+    frames: Frames,
     /// The seat of each transaction that began, from transaction 1 on.
     seats: Vec<u8>,
     open: [Transaction; MOST_OPEN],
@@ -83,7 +85,8 @@ pub struct Engine {
 }
 
 impl Engine {
-    pub fn new(page_count: u32) -> Engine {
+    /// An engine with memory for so many pages at a time.
+    pub fn new(page_count: u32, frames: u32) -> Engine {
         let mut header = [0; HEADER_SIZE];
         header[0..8].copy_from_slice(MAGIC);
         header[8..12].copy_from_slice(&page_count.to_le_bytes());
@@ -95,6 +98,7 @@ impl Engine {
             rec_lsns: vec![NONE; page_count as usize],
             after_image: vec![NONE; page_count as usize],
             images: HashMap::new(),
+            frames: Frames::new(page_count, frames),
             seats: Vec::new(),
             open: std::array::from_fn(|_| Transaction::default()),
             free_seats: u64::MAX,
@@ -161,8 +165,9 @@ impl Engine {
         Ok(Reply::Lsn(lsn))
     }
 
-    pub fn read(&self, page: u32, slot: u16) -> Answer {
+    pub fn read(&mut self, page: u32, slot: u16) -> Answer {
         let slot = self.slot(page, slot)?;
+        self.frames.need(page)?;
         Ok(Reply::Value(self.number(page, slot)))
     }
 
@@ -195,6 +200,9 @@ impl Engine {
         let open = &mut self.open[usize::from(seat)];
         if !open.is_aborted {
             return Err(Refusal::NotRolling);
+        }
+        if let Some(change) = open.pending.last() {
+            self.frames.need(change.page)?;
         }
         self.owed -= 1;
         let Some(change) = open.pending.pop() else {
@@ -239,6 +247,9 @@ impl Engine {
         let image = self.images.remove(&page).ok_or(Refusal::NoWrite)?;
         self.stored[page as usize] = image;
         self.rec_lsns[page as usize] = self.after_image[page as usize];
+        if self.rec_lsns[page as usize] == NONE {
+            self.frames.note_clean(page);
+        }
         Ok(Reply::Written(lsn_of(&image)))
     }
 
@@ -347,6 +358,7 @@ impl Engine {
             return Err(Refusal::SlotBusy(least.expect("a seat keeps it out")));
         }
         self.need_room(2)?;
+        self.frames.need(page)?;
         let held = self.claims.take(place, seat, kind);
         Ok(held.expect("no seat keeps it out"))
     }
@@ -357,12 +369,13 @@ impl Engine {
             ChangeKind::Set => number,
             ChangeKind::Add => self.number(page, slot).wrapping_add(number),
         };
-        let page = page as usize;
+        let (number, page) = (page, page as usize);
         let at = FIRST_SLOT + 8 * usize::from(slot);
         self.pages[page][at..at + 8].copy_from_slice(&after.to_le_bytes());
         self.pages[page][8..16].copy_from_slice(&lsn.to_le_bytes());
         if self.rec_lsns[page] == NONE {
             self.rec_lsns[page] = lsn;
+            self.frames.note_dirty(number);
         }
         if self.after_image[page] == NONE {
             self.after_image[page] = lsn;

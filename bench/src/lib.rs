@@ -5,6 +5,7 @@ pub mod checkpoints;
 mod claims;
 pub mod copies;
 pub mod engine;
+mod frames;
 pub mod random;
 pub mod redo;
 pub mod replies;

@@ -43,6 +43,7 @@ pub enum Refusal {
     CopyNotComplete,
     PageDecided,
     PagesLeft(u32),
+    PoolFull,
     TooManyCopies,
 }
 
@@ -94,6 +95,7 @@ impl fmt::Display for Refusal {
             Refusal::CopyNotComplete => write!(out, "E19 CopyNotComplete"),
             Refusal::PageDecided => write!(out, "E20 PageDecided"),
             Refusal::PagesLeft(page) => write!(out, "E21 PagesLeft {page}"),
+            Refusal::PoolFull => write!(out, "E24 PoolFull"),
             Refusal::TooManyCopies => write!(out, "E25 TooManyCopies"),
         }
     }

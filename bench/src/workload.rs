@@ -42,9 +42,9 @@ pub struct Workload {
 }
 
 impl Workload {
-    pub fn new(pages: u32, copies: u32, seed: u64) -> Workload {
+    pub fn new(pages: u32, frames: u32, copies: u32, seed: u64) -> Workload {
         Workload {
-            engine: Engine::new(pages),
+            engine: Engine::new(pages, frames),
             random: Random::new(seed),
             pages,
             open: Vec::new(),

@@ -17,7 +17,7 @@ fn main() -> ExitCode {
         eprintln!("usage: generate_files PAGES COPIES SEED FOLDER");
         return ExitCode::from(1);
     };
-    let mut workload = Workload::new(pages, copies, seed);
+    let mut workload = Workload::new(pages, pages, copies, seed);
     while !matches!(workload.next_event().1, Err(Refusal::LogFull)) {}
     if workload.complete < copies {
         eprintln!(

@@ -1,6 +1,7 @@
-//! `generate_script --pages P --bytes N --shape SHAPE --seed S > script` writes a script of nearly N bytes for a volume
-//! of P pages. In the shape `accepted` nearly all of its events are accepted, and in the shape `refused` all but the
-//! first hundred are refused.
+//! `generate_script --pages P --frames B --bytes N --shape SHAPE --seed S > script` writes a script of nearly N bytes for
+//! a volume of P pages, of which B may be in memory at a time. In the shape `accepted` nearly all of its events are
+//! accepted, and in the shape `refused` all but the first hundred are refused. The shape `scan` reads each page in turn,
+//! again and again. The shape `alternate` changes a page for each frame but one, and then reads two others in turn.
 
 use bench::random::Random;
 use bench::script::{Event, LONGEST_SCRIPT};
@@ -17,10 +18,19 @@ const HOLDERS: u32 = 60;
 
 const COPIES: u32 = 100;
 
+#[derive(Clone, Copy, PartialEq)]
+enum Shape {
+    Accepted,
+    Refused,
+    Scan,
+    Alternate,
+}
+
 struct Options {
     pages: u32,
+    frames: u32,
     bytes: usize,
-    is_refused: bool,
+    shape: Shape,
     seed: u64,
 }
 
@@ -28,7 +38,7 @@ fn main() -> ExitCode {
     let words: Vec<String> = std::env::args().skip(1).collect();
     let Some(options) = options_of(&words) else {
         eprintln!(
-            "usage: generate_script --pages P --bytes N --shape accepted|refused --seed S > script"
+            "usage: generate_script --pages P --frames B --bytes N --shape accepted|refused|scan|alternate --seed S > script"
         );
         return ExitCode::from(1);
     };
@@ -42,52 +52,71 @@ fn main() -> ExitCode {
 }
 
 fn options_of(words: &[String]) -> Option<Options> {
-    let [pages_name, pages, bytes_name, bytes, shape_name, shape, seed_name, seed] = words else {
-        return None;
-    };
-    if [pages_name, bytes_name, shape_name, seed_name]
-        != ["--pages", "--bytes", "--shape", "--seed"]
-    {
+    let (names, values): (Vec<&str>, Vec<&str>) = words
+        .chunks_exact(2)
+        .map(|pair| (pair[0].as_str(), pair[1].as_str()))
+        .unzip();
+    if words.len() % 2 != 0 || names != ["--pages", "--frames", "--bytes", "--shape", "--seed"] {
         return None;
     }
-    let pages = pages
-        .parse()
-        .ok()
-        .filter(|count| (1..=MOST_PAGES).contains(count))?;
+    let [pages, frames, bytes, shape, seed] = values.try_into().ok()?;
+    let count_of = |word: &str| {
+        let count = word.parse().ok();
+        count.filter(|count| (1..=MOST_PAGES).contains(count))
+    };
+    let pages = count_of(pages)?;
+    let frames = count_of(frames)?;
     let bytes = bytes
         .parse()
         .ok()
         .filter(|count| *count <= LONGEST_SCRIPT)?;
-    let is_refused = match shape.as_str() {
-        "accepted" => false,
-        "refused" => true,
+    let shape = match shape {
+        "accepted" => Shape::Accepted,
+        "refused" => Shape::Refused,
+        "scan" => Shape::Scan,
+        "alternate" if frames < pages => Shape::Alternate,
         _ => return None,
     };
     Some(Options {
         pages,
+        frames,
         bytes,
-        is_refused,
+        shape,
         seed: seed.parse().ok()?,
     })
 }
 
 fn write_script(options: &Options) -> io::Result<()> {
     let mut out = BufWriter::with_capacity(1 << 20, io::stdout().lock());
-    let mut workload = Workload::new(options.pages, COPIES, options.seed);
+    let mut workload = Workload::new(options.pages, options.frames, COPIES, options.seed);
     let mut random = Random::new(options.seed);
-    let mut written = 0;
-    if options.is_refused {
-        written += write_holders(&mut out)?;
-    }
-    while written + LONGEST_LINE <= options.bytes {
-        let line = match options.is_refused {
-            true => refused_line(&mut random, options.pages),
-            false => format!("{}\n", workload.next_event().0),
+    let mut written = match options.shape {
+        Shape::Refused => write_holders(&mut out)?,
+        Shape::Alternate => write_changes(&mut out, options.frames - 1)?,
+        Shape::Accepted | Shape::Scan => 0,
+    };
+    for turn in 0.. {
+        if written + LONGEST_LINE > options.bytes {
+            break;
+        }
+        let line = match options.shape {
+            Shape::Refused => refused_line(&mut random, options.pages),
+            Shape::Accepted => format!("{}\n", workload.next_event().0),
+            Shape::Scan => format!("read {} 0\n", turn % options.pages),
+            Shape::Alternate => format!("read {} 0\n", options.frames - 1 + turn % 2),
         };
         out.write_all(line.as_bytes())?;
         written += line.len();
     }
     out.flush()
+}
+
+/// A transaction that changes so many pages, the first ones, and stays open.
+fn write_changes(out: &mut impl Write, pages: u32) -> io::Result<usize> {
+    let mut lines = format!("{}\n", Event::Begin);
+    lines.extend((0..pages).map(|page| format!("set 1 {page} 0 1\n")));
+    out.write_all(lines.as_bytes())?;
+    Ok(lines.len())
 }
 
 /// Transactions that hold slots of page 0: the first one by Sets, and the others by Adds to one more.
