@@ -6,7 +6,7 @@ usage: memory.py PROGRAM LIBRARY
 LIBRARY is refuse_memory.rs, built as a library for LD_PRELOAD. Each example log goes to `PROGRAM redo` with its first
 allocation refused, then with its second, and so on until none is left to refuse. So do wrong words, and an audit of the
 files of the day. A run that is refused one has to say so, to write nothing and to end with status 2; or it does without,
-and answers as ever. An audit says it on standard output.
+and answers as ever. An audit says it on standard output, but for the memory of the program's words, before it begins.
 """
 
 import os
@@ -78,10 +78,10 @@ def refuse_each(program, library, case):
             return
 
 
-def check(program, library, case, out_of_memory=OUT_OF_MEMORY):
+def check(program, library, case, told=(OUT_OF_MEMORY,)):
     """How many allocations there were to refuse."""
     for number, answer, refused in refuse_each(program, library, case):
-        if answer != case.answer and not (refused and answer == out_of_memory):
+        if answer != case.answer and not (refused and answer in told):
             status, output, error = answer
             raise Failure(f"{' '.join(case.words)} < {case.log.name}: without allocation {number} the status is"
                           f" {status}, {len(output)} bytes are written, and standard error is {error[:80]!r}")
@@ -105,7 +105,7 @@ def main(arguments):
         program, library = program_and_library(arguments)
         total = sum(check(program, library, case) for case in cases(program))
         with tempfile.TemporaryDirectory() as folder:
-            total += check(program, library, audit_case(Path(folder)), AUDIT_OUT_OF_MEMORY)
+            total += check(program, library, audit_case(Path(folder)), (OUT_OF_MEMORY, AUDIT_OUT_OF_MEMORY))
         if total == 0:
             raise Failure("no allocation was refused")
     except (Failure, OSError) as failure:
