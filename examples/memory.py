@@ -78,8 +78,9 @@ def refuse_each(program, library, case):
             return
 
 
-def check(program, library, case, told=(OUT_OF_MEMORY,)):
-    """How many allocations there were to refuse."""
+def check(program, library, case, *told):
+    """How many allocations there were to refuse. The program may tell of one by any of these answers."""
+    told = told or (OUT_OF_MEMORY,)
     for number, answer, refused in refuse_each(program, library, case):
         if answer != case.answer and not (refused and answer in told):
             status, output, error = answer
@@ -105,7 +106,7 @@ def main(arguments):
         program, library = program_and_library(arguments)
         total = sum(check(program, library, case) for case in cases(program))
         with tempfile.TemporaryDirectory() as folder:
-            total += check(program, library, audit_case(Path(folder)), (OUT_OF_MEMORY, AUDIT_OUT_OF_MEMORY))
+            total += check(program, library, audit_case(Path(folder)), OUT_OF_MEMORY, AUDIT_OUT_OF_MEMORY)
         if total == 0:
             raise Failure("no allocation was refused")
     except (Failure, OSError) as failure:
