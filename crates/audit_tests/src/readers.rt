@@ -29,6 +29,19 @@ impl Read for Failing<'_> {
     }
 }
 
+/// Is never ready, and so never ends.
+#[derive(Drop)]
+struct NeverReady {
+    calls: u64,
+}
+
+impl Read for NeverReady {
+    fn read(&mut self, _buf: &mut [u8]) -> io::Result<usize> {
+        self.calls = self.calls.saturating_add(1);
+        Err(ErrorKind::Interrupted.into())
+    }
+}
+
 fn failing_reader(left: &[u8], most: usize, k: u64) -> Failing<'_> {
     Failing {
         left,
@@ -89,5 +102,20 @@ fn a_failed_read_is_told(rt: HostRuntime) -> Result<(), Fail> {
         };
         assert_eq!(rt; found, wanted, "{k}");
     }
+    Ok(())
+}
+
+#[test]
+fn a_reader_that_is_never_ready_is_given_up(rt: HostRuntime) -> Result<(), Fail> {
+    let alloc = rt.alloc();
+    let (whole, full) = (log(alloc, 1)?, archive(alloc, FULL, 128, 5)?);
+    let mut reader = NeverReady { calls: 0 };
+    let found = audit(alloc, &mut reader, &mut [full.as_slice()]);
+    assert_eq!(rt; found, Err(Unsound::ReadFault));
+    assert_eq!(rt; reader.calls, 134_217_728);
+    let mut readers = [NeverReady { calls: 0 }];
+    let found = audit(alloc, &mut whole.as_slice(), &mut readers);
+    assert_eq!(rt; found, Err(Unsound::ReadFault));
+    assert_eq!(rt; readers[0].calls, 134_217_728);
     Ok(())
 }
