@@ -237,7 +237,7 @@ fn four_sessions_and_a_flusher_share_an_engine(rt: HostRuntime) -> Result<(), Fa
 
 #[test]
 fn a_page_is_repaired_beside_sessions(rt: HostRuntime) -> Result<(), Fail> {
-    for _ in 0..8 {
+    for _ in 0..1000 {
         day::<Brand, HostRuntime>(&rt, Blank::new(65), true)?;
     }
     Ok(())
