@@ -36,7 +36,7 @@ from spoiled_files import Given, mislead, spoil
 COUNT = 1000
 SEEDS_IN_A_TASK = 20
 SPOILED_IN_A_RUN = 4
-MISLED_IN_A_RUN = 4
+MISLED_IN_A_RUN = 6
 MOST_PAGES_SPOILED = 1000
 MOST_SECONDS = 300
 MOST_SHOWN = 20  # of the differences
