@@ -18,7 +18,7 @@ use Rattle.buffer_pool.specs.Frames.{IsResident, fetched, given_up, is_full, is_
 use Rattle.buffer_pool.specs.Pool.{AreHeld, IsPoolOf, PageState, PoolView, is_clean, is_clean_in, state_in, unwritten}
 use Rattle.buffer_pool.specs.Pool.{written_of}
 use Rattle.buffer_pool.proofs.Pools.{pool_kept, reached}
-use Rattle.buffer_pool.proofs.Taken.{none_found, some_found}
+use Rattle.buffer_pool.proofs.Holes.{none_found, some_found}
 
 -- ---- two tests that agree on the pages
 

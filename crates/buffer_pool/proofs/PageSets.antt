@@ -5,7 +5,7 @@ use Rattle.std.specs.Prelude.{Option, Some, None, IfSome, MatchOption, is_some}
 use Rattle.std.proofs.lemmas.Bool.{cases_eq, cases_lt}
 use Rattle.std.proofs.lemmas.List.{get_or_past, get_or-replicate, get_or-set_other, get_or-set_same, length-replicate}
 use Rattle.std.proofs.lemmas.List.{length-set}
-use Rattle.page_core.specs.declared.page.TheConstants.{MAX_PAGES}
+use Rattle.buffer_pool.specs.declared.page_set.TheConstants.{MAX_MEMBERS}
 use Rattle.buffer_pool.specs.PageSet.{AreLevels, HasNone, IsFirstFrom, IsSummary, has}
 
 -- a member is below the bound
@@ -222,7 +222,7 @@ module _ (pages words groups pages' : List Bool) (n : ℕ) (r : Option ℕ) (is 
     (first : MatchOption r (HasNone pages' (n / 64 * 64) (n / 64 * 64 / 64 * 64 + 64))
     (IsFirstFrom pages' (n / 64 * 64)))
   where
-    few' : length pages' ≤ MAX_PAGES
+    few' : length pages' ≤ MAX_MEMBERS
     few' = let few = is.few in omega (arith, length-set pages n false, ap length e_pages)
 
     there' : n / 64 < length words
@@ -245,7 +245,7 @@ module _ (pages words groups pages' : List Bool) (n : ℕ) (r : Option ℕ) (is 
         by_word' : IsSummary pages' words'
         by_word' = summary_gone pages words pages' words' n r is.by_word there e_pages e_words none first
 
-        fewer' : length words' ≤ MAX_PAGES
+        fewer' : length words' ≤ MAX_MEMBERS
         fewer' = let fewer = is.fewer in omega (arith, length-set words (n / 64) false, ap length e_words)
 
         pub levels_word_less : is_some r' ≡ true → IfSome r' (λ m. m / 64 ≡ n / 64 / 64 * 64 / 64)

@@ -1,112 +1,124 @@
 -- The search for a clean page, which passes over none.
-use Rattle.std.proofs.Common.{◌≡◌, ◌≢◌, ◌∙◌, ℕ, ◌+◌, ◌<◌, ◌≤◌, Bool, true, false, cond, List, [], ◌∷◌, ◌++◌, length}
+use Rattle.std.proofs.Common.{◌≡◌, ◌≢◌, ◌∙◌, ℕ, zero, suc, ◌||◌, ◌+◌, ◌<◌, ◌≤◌, Bool, true, false, cond, List, [], ◌∷◌, ◌++◌, length}
 use Rattle.std.proofs.Common.{get_or, map, set, refl, sym, ap, subst, inl, inr, arith, true≢false, nat_eq}
 use Rattle.std.specs.Prelude.{◌==◌, Option, Some, None, is_none, nat_lt, position}
-use Rattle.std.specs.List.{position_or_len, remove}
+use Rattle.std.specs.List.{position_or_len}
 use Rattle.std.proofs.lemmas.Bool.{cases_eq, cases_lt, eq-eqb, eqb-true, le-ltb, lt-ltb}
-use Rattle.std.proofs.lemmas.List.{get_or-map, get_or-set_other, get_or-set_same, get_or_append_left, length-map, length_push}
-use Rattle.std.proofs.lemmas.List.Edits.{get_or-remove_above, get_or-remove_below, length-remove}
-use Rattle.std.proofs.lemmas.List.Folds.{list_any_at}
+use Rattle.std.proofs.Math.Bool.{or-true}
+use Rattle.std.proofs.lemmas.Grind.{get_or-set_at}
+use Rattle.std.proofs.lemmas.Option.{same_Some}
+use Rattle.std.proofs.lemmas.List.{get_or-map, get_or-set_other, get_or-set_same, get_or_append_left, length-map, length-set, length_push}
 use Rattle.std.proofs.lemmas.List.Quantifiers.{position-Some}
 use Rattle.std.proofs.lemmas.List.Sums.{position_or_len_is}
 use Rattle.std.proofs.lemmas.Map.Keys.{apart_from_distinct}
 use Rattle.page_core.specs.declared.page.Page.{Page}
 use Rattle.log_records.specs.declared.record.Record.{Record}
-use Rattle.log_records.specs.Image.{with_record}
 use Rattle.log_records.specs.Log.{Log}
 use Rattle.log_records.proofs.Images.{number-with_record}
-use Rattle.buffer_pool.specs.Frames.{AreTaken, is_resident}
-use Rattle.buffer_pool.specs.Marks.{IsPassed, MarksView, PassesNone}
+use Rattle.buffer_pool.specs.Frames.{AreTaken, IsSlot, is_resident, pages_in}
+use Rattle.buffer_pool.specs.Marks.{IsPassed, MarksView, PassesNone, has_clean}
 use Rattle.buffer_pool.specs.Pool.{IsPoolOf, IsWhole, PageState, PoolView, is_clean_in, unwritten}
 use Rattle.buffer_pool.proofs.Fetching.{room_kept}
-use Rattle.buffer_pool.proofs.Taken.{Numbered}
+use Rattle.buffer_pool.proofs.Taken.{AreNumbered, redone, slots_of}
 
--- ---- the places that a search has seen
+-- ---- the slots that a search has seen
 
--- before this place no page is clean
-abbrev pub AreSeen : (ℕ → Bool) → List Page → ℕ → Type 0
-AreSeen clean pages place = (k : ℕ) (d : Page) → k < place → k < length pages
-    → clean (get_or pages k d).number ≡ false
+-- before this slot no page is clean
+abbrev pub AreSeen : (ℕ → Bool) → List (Option Page) → ℕ → Type 0
+AreSeen clean slots place = (k : ℕ) (d : Option Page) → k < place → k < length slots
+    → has_clean clean (get_or slots k d) ≡ false
 
-pub seen_first : (clean : ℕ → Bool) (pages : List Page) (marks : MarksView) (next : ℕ) → PassesNone clean pages marks
-    → ((k : ℕ) → 0 ≤ k → k < next → IsPassed marks k) → AreSeen clean pages next
-seen_first clean pages marks next sought passed = λ k d lt there. sought k d there (passed k (omega arith) lt)
+pub seen_first : (clean : ℕ → Bool) (slots : List (Option Page)) (marks : MarksView) (next : ℕ)
+    → PassesNone clean slots marks → ((k : ℕ) → 0 ≤ k → k < next → IsPassed marks k) → AreSeen clean slots next
+seen_first clean slots marks next sought passed = λ k d lt there. sought k d there (passed k (omega arith) lt)
 
-pub seen_more : (clean : ℕ → Bool) (pages : List Page) (marks : MarksView) (place next : ℕ) (b : Bool)
-    → PassesNone clean pages marks → ((k : ℕ) → place + 1 ≤ k → k < next → IsPassed marks k)
-    → ((d : Page) → place < length pages → b ≡ clean (get_or pages place d).number) → b ≡ false
-    → AreSeen clean pages place → AreSeen clean pages next
-seen_more clean pages marks place next b sought passed here not_clean seen = λ k d lt there. elim (cases_lt k place) [
+pub seen_more : (clean : ℕ → Bool) (slots : List (Option Page)) (marks : MarksView) (place next : ℕ) (b : Bool)
+    → PassesNone clean slots marks → ((k : ℕ) → place + 1 ≤ k → k < next → IsPassed marks k)
+    → ((d : Option Page) → place < length slots → b ≡ has_clean clean (get_or slots place d)) → b ≡ false
+    → AreSeen clean slots place → AreSeen clean slots next
+seen_more clean slots marks place next b sought passed here not_clean seen = λ k d lt there. elim (cases_lt k place) [
   | inl before ↦ seen k d before there
   | inr after ↦ elim (cases_eq k place) [
     | inl same ↦
-        ap (λ (i : ℕ). clean (get_or pages i d).number) same ∙ sym (here d (omega (arith, same, there))) ∙ not_clean
+        ap (λ (i : ℕ). has_clean clean (get_or slots i d)) same ∙ sym (here d (omega (arith, same, there))) ∙ not_clean
     | inr other ↦ sought k d there (passed k (omega (arith, after, other)) lt)
   ]
 ]
 
-found_first : (p : Page → Bool) (pages : List Page) (i : ℕ) (d : Page) → i < length pages
-    → p (get_or pages i d) ≡ true → ((k : ℕ) → k < i → p (get_or pages k d) ≡ false)
-    → position p pages ≡ Some i
-found_first p pages i d there here before =
-    let is : position_or_len p pages ≡ i = position_or_len_is p pages i d (omega arith) before (λ _. here) in
-    ap (λ (n : ℕ). cond (nat_lt n (length pages)) (Some n) None) is
-    ∙ ap (λ (b : Bool). cond b (Some i) None) (lt-ltb i (length pages) there)
+found_first : {X : Type 0} (p : X → Bool) (xs : List X) (i : ℕ) (d : X) → i < length xs
+    → p (get_or xs i d) ≡ true → ((k : ℕ) → k < i → p (get_or xs k d) ≡ false)
+    → position p xs ≡ Some i
+found_first p xs i d there here before =
+    let is : position_or_len p xs ≡ i = position_or_len_is p xs i d (omega arith) before (λ _. here) in
+    ap (λ (n : ℕ). cond (nat_lt n (length xs)) (Some n) None) is
+    ∙ ap (λ (b : Bool). cond b (Some i) None) (lt-ltb i (length xs) there)
 
-pub found_at : (clean : ℕ → Bool) (pages : List Page) (place : ℕ) (b : Bool) → place < length pages
-    → ((d : Page) → place < length pages → b ≡ clean (get_or pages place d).number) → b ≡ true
-    → AreSeen clean pages place → position (λ page. clean page.number) pages ≡ Some place
+pub found_at : (clean : ℕ → Bool) (slots : List (Option Page)) (place : ℕ) (b : Bool) → place < length slots
+    → ((d : Option Page) → place < length slots → b ≡ has_clean clean (get_or slots place d)) → b ≡ true
+    → AreSeen clean slots place → position (has_clean clean) slots ≡ Some place
 found_at clean [] place b there here is_clean seen = let no : ⊥ = omega arith in absurd no
-found_at clean (page ∷ pages) place b there here is_clean seen =
-    found_first (λ q. clean q.number) (page ∷ pages) place page there (sym (here page there) ∙ is_clean)
-    (λ k lt. seen k page lt (omega (arith, lt, there)))
+found_at clean (slot ∷ slots) place b there here is_clean seen =
+    found_first (has_clean clean) (slot ∷ slots) place slot there (sym (here slot there) ∙ is_clean)
+    (λ k lt. seen k slot lt (omega (arith, lt, there)))
 
-pub found_none : (p : Page → Bool) (pages : List Page)
-    → ((k : ℕ) (d : Page) → k < length pages → p (get_or pages k d) ≡ false) → position p pages ≡ None
+pub found_none : {X : Type 0} (p : X → Bool) (xs : List X)
+    → ((k : ℕ) (d : X) → k < length xs → p (get_or xs k d) ≡ false) → position p xs ≡ None
 found_none p [] none = refl
-found_none p (page ∷ pages) none =
-    let n = length (page ∷ pages) in
-    let is : position_or_len p (page ∷ pages) ≡ n =
-    position_or_len_is p (page ∷ pages) n page (omega arith) (λ k lt. none k page lt)
+found_none p (x ∷ xs) none =
+    let n = length (x ∷ xs) in
+    let is : position_or_len p (x ∷ xs) ≡ n =
+    position_or_len_is p (x ∷ xs) n x (omega arith) (λ k lt. none k x lt)
     (λ lt. let no : ⊥ = omega arith in absurd no) in
     ap (λ (m : ℕ). cond (nat_lt m n) (Some m) None) is ∙ ap (λ (b : Bool). cond b (Some n) None) (le-ltb n n (omega arith))
 
--- ---- the place of a number
+-- ---- the slot of a number
 
-key_is : (es : List (ℕ × Page)) (k n : ℕ) (d : Page) → Numbered es → k < length es
-    → (get_or (map (λ e. e.1) es) k d).number ≡ get_or (map (λ e. e.0) es) k n
-key_is es k n d numbered there =
-    ap (λ (q : Page). q.number) (get_or-map (λ (e : ℕ × Page). e.1) es k (n, d) d there)
-    ∙ numbered k (n, d) there ∙ sym (get_or-map (λ (e : ℕ × Page). e.0) es k (n, d) n there)
+-- a page has the number that its slot stands under
+key_is : (h : ℕ) (es : List (ℕ × Option Page)) (k n : ℕ) (d : Option Page) (page : Page) → AreNumbered h es → k < length es
+    → get_or (slots_of es) k d ≡ Some page → page.number ≡ get_or (map (λ e. e.0) es) k n
+key_is h es k n d page numbered there is =
+    by (get_or es k (n, d)) (numbered k (n, d) there)
+    (sym (get_or-map (λ (e : ℕ × Option Page). e.1) es k (n, d) d there) ∙ is)
+    ∙ sym (get_or-map (λ (e : ℕ × Option Page). e.0) es k (n, d) n there)
+  where
+    by : (e : ℕ × Option Page) → IsSlot h e → e.1 ≡ Some page → page.number ≡ e.0
+    by (m, None) at some = absurd (cc)
+    by (m, Some q) at some = ap (λ (x : Page). x.number) (sym (same_Some q page some)) ∙ at.0
 
--- the page of a number stands at its place
-page_at : (n : ℕ) (es : List (ℕ × Page)) (place : ℕ) (d : Page) → AreTaken es
-    → position (nat_eq n) (map (λ e. e.0) es) ≡ Some place → (get_or (map (λ e. e.1) es) place d).number ≡ n
-page_at n es place d taken found =
-    let is = position-Some (nat_eq n) (map (λ e. e.0) es) place n found in
-    key_is es place n d taken.numbered (omega (arith, is.0, length-map es (λ e. e.0)))
-    ∙ sym (eqb-true n (get_or (map (λ e. e.0) es) place n) is.1)
+-- the page at the place of a number is the page of this number
+page_at : (h n : ℕ) (es : List (ℕ × Option Page)) (place : ℕ) (d : Option Page) (page : Page) → AreTaken h es
+    → position (nat_eq n) (map (λ e. e.0) es) ≡ Some place → get_or (slots_of es) place d ≡ Some page → page.number ≡ n
+page_at h n es place d page taken found is =
+    let at = position-Some (nat_eq n) (map (λ e. e.0) es) place n found in
+    key_is h es place n d page taken.numbered (omega (arith, at.0, length-map es (λ e. e.0))) is
+    ∙ sym (eqb-true n (get_or (map (λ e. e.0) es) place n) at.1)
 
--- and nowhere else
-only_at : (n : ℕ) (es : List (ℕ × Page)) (place k : ℕ) (d : Page) → AreTaken es
+-- and it is nowhere else
+only_at : (h n : ℕ) (es : List (ℕ × Option Page)) (place k : ℕ) (d : Option Page) (page : Page) → AreTaken h es
     → position (nat_eq n) (map (λ e. e.0) es) ≡ Some place → k < length es
-    → (get_or (map (λ e. e.1) es) k d).number ≡ n → k ≡ place
-only_at n es place k d taken found there same =
+    → get_or (slots_of es) k d ≡ Some page → page.number ≡ n → k ≡ place
+only_at h n es place k d page taken found there is same =
     let keys : List ℕ = map (λ e. e.0) es in
-    let is = position-Some (nat_eq n) keys place n found in
-    let key : n ≡ get_or keys k n = sym same ∙ key_is es k n d taken.numbered there in
+    let at = position-Some (nat_eq n) keys place n found in
+    let key : n ≡ get_or keys k n = sym same ∙ key_is h es k n d page taken.numbered there is in
     let long : length keys ≡ length es = length-map es (λ e. e.0) in
     elim (cases_eq k place) [
       | inl eq ↦ eq
       | inr other ↦ elim (cases_lt k place) [
-        | inl before ↦ absurd (true≢false (sym (eq-eqb n (get_or keys k n) key) ∙ is.2 k before))
+        | inl before ↦ absurd (true≢false (sym (eq-eqb n (get_or keys k n) key) ∙ at.2 k before))
         | inr after ↦
-            let at : n ≡ get_or keys place n = eqb-true n (get_or keys place n) is.1 in
-            absurd (true≢false (sym (eq-eqb (get_or keys place n) (get_or keys k n) (sym at ∙ key))
+            let here : n ≡ get_or keys place n = eqb-true n (get_or keys place n) at.1 in
+            absurd (true≢false (sym (eq-eqb (get_or keys place n) (get_or keys k n) (sym here ∙ key))
             ∙ apart_from_distinct nat_eq keys place k n taken.distinct (omega (arith, after, other))
             (omega (arith, long, there))))
       ]
     ]
+
+-- the test of the page at a slot, by the number that the slot stands under
+pub clean_at : (h : ℕ) (clean : ℕ → Bool) (e : ℕ × Option Page) (page : Page) → IsSlot h e → e.1 ≡ Some page
+    → clean e.0 ≡ has_clean clean e.1
+clean_at h clean (n, None) page at some = absurd (cc)
+clean_at h clean (n, Some q) page at some = ap clean (sym at.0)
 
 -- ---- a page that may have become clean, or is not any more
 
@@ -114,36 +126,65 @@ only_at n es place k d taken found there same =
 abbrev pub OthersStay : ℕ → (ℕ → Bool) → (ℕ → Bool) → Type 0
 OthersStay n clean now = (m : ℕ) → m ≢ n → clean m ≡ false → now m ≡ false
 
-pub noted_set : (n : ℕ) (clean now : ℕ → Bool) (es : List (ℕ × Page)) (place : ℕ) (old marks : MarksView)
-    → AreTaken es → position (nat_eq n) (map (λ e. e.0) es) ≡ Some place
-    → PassesNone clean (map (λ e. e.1) es) old → OthersStay n clean now
-    → ((k : ℕ) → IsPassed marks k → IsPassed old k × (k ≢ place)) → PassesNone now (map (λ e. e.1) es) marks
-noted_set n clean now es place old marks taken found sought others less = λ k d there passed.
+pub noted_set : (h n : ℕ) (clean now : ℕ → Bool) (es : List (ℕ × Option Page)) (place : ℕ) (old marks : MarksView)
+    → AreTaken h es → position (nat_eq n) (map (λ e. e.0) es) ≡ Some place
+    → PassesNone clean (slots_of es) old → OthersStay n clean now
+    → ((k : ℕ) → IsPassed marks k → IsPassed old k × (k ≢ place)) → PassesNone now (slots_of es) marks
+noted_set h n clean now es place old marks taken found sought others less = λ k d there passed.
     let it = less k passed in
-    others (get_or (map (λ e. e.1) es) k d).number
-    (λ same. it.1 (only_at n es place k d taken found (omega (arith, there, length-map es (λ e. e.1))) same))
-    (sought k d there it.0)
+    by k d there it.1 (get_or (slots_of es) k d) refl (sought k d there it.0)
+  where
+    by : (k : ℕ) (d : Option Page) → k < length (slots_of es) → k ≢ place → (slot : Option Page)
+        → get_or (slots_of es) k d ≡ slot → has_clean clean slot ≡ false → has_clean now slot ≡ false
+    by k d there other None is dirty = refl
+    by k d there other (Some page) is dirty =
+        others page.number
+        (λ same. other (only_at h n es place k d page taken found (omega (arith, there, length-map es (λ e. e.1))) is same))
+        dirty
 
-pub noted_cleared : (n : ℕ) (clean now : ℕ → Bool) (es : List (ℕ × Page)) (place : ℕ) (old marks : MarksView)
-    → AreTaken es → position (nat_eq n) (map (λ e. e.0) es) ≡ Some place → now n ≡ false
-    → PassesNone clean (map (λ e. e.1) es) old → OthersStay n clean now
-    → ((k : ℕ) → IsPassed marks k → k ≢ place → IsPassed old k) → PassesNone now (map (λ e. e.1) es) marks
-noted_cleared n clean now es place old marks taken found dirty sought others more = λ k d there passed.
-    let pages : List Page = map (λ e. e.1) es in
-    elim (cases_eq (get_or pages k d).number n) [
+pub noted_cleared : (h n : ℕ) (clean now : ℕ → Bool) (es : List (ℕ × Option Page)) (place : ℕ) (old marks : MarksView)
+    → AreTaken h es → position (nat_eq n) (map (λ e. e.0) es) ≡ Some place → now n ≡ false
+    → PassesNone clean (slots_of es) old → OthersStay n clean now
+    → ((k : ℕ) → IsPassed marks k → k ≢ place → IsPassed old k) → PassesNone now (slots_of es) marks
+noted_cleared h n clean now es place old marks taken found dirty sought others more = λ k d there passed.
+    by k d (λ other. sought k d there (more k passed other)) (get_or (slots_of es) k d) refl
+  where
+    by : (k : ℕ) (d : Option Page) → (k ≢ place → has_clean clean (get_or (slots_of es) k d) ≡ false) → (slot : Option Page)
+        → get_or (slots_of es) k d ≡ slot → has_clean now slot ≡ false
+    by k d before None is = refl
+    by k d before (Some page) is = elim (cases_eq page.number n) [
       | inl same ↦ ap now same ∙ dirty
       | inr other ↦
-          others (get_or pages k d).number other (sought k d there (more k passed
-          (λ eq. other (ap (λ (i : ℕ). (get_or pages i d).number) eq ∙ page_at n es place d taken found))))
+          others page.number other (sym (ap (has_clean clean) is) ∙ before (λ eq.
+          other (page_at h n es place d page taken found (ap (λ (i : ℕ). get_or (slots_of es) i d) (sym eq) ∙ is))))
     ]
 
-pub noted_absent : (n : ℕ) (clean now : ℕ → Bool) (pages : List Page) (marks : MarksView)
-    → is_resident pages n ≡ false → PassesNone clean pages marks → OthersStay n clean now → PassesNone now pages marks
-noted_absent n clean now pages marks absent sought others = λ k d there passed.
-    let number = (get_or pages k d).number in
-    others number
-    (λ same. true≢false (sym (list_any_at (λ (x : Page). x.number == n) pages k d there (eq-eqb number n same)) ∙ absent))
-    (sought k d there passed)
+-- the page of a slot is resident
+resident_at : (slots : List (Option Page)) (k : ℕ) (d : Option Page) (page : Page) → k < length slots
+    → get_or slots k d ≡ Some page → is_resident (pages_in slots) page.number ≡ true
+resident_at [] k d page there is = let no : ⊥ = omega arith in absurd no
+resident_at (None ∷ slots) zero d page there is = absurd (cc)
+resident_at (Some q ∷ slots) zero d page there is =
+    ap (λ (b : Bool). b || is_resident (pages_in slots) page.number)
+    (eq-eqb q.number page.number (ap (λ (x : Page). x.number) (same_Some q page is)))
+resident_at (None ∷ slots) (suc k) d page there is = resident_at slots k d page (omega (arith, there)) is
+resident_at (Some q ∷ slots) (suc k) d page there is =
+    ap (λ (b : Bool). (q.number == page.number) || b) (resident_at slots k d page (omega (arith, there)) is)
+    ∙ or-true (q.number == page.number)
+
+pub noted_absent : (n : ℕ) (clean now : ℕ → Bool) (slots : List (Option Page)) (marks : MarksView)
+    → is_resident (pages_in slots) n ≡ false → PassesNone clean slots marks → OthersStay n clean now
+    → PassesNone now slots marks
+noted_absent n clean now slots marks absent sought others = λ k d there passed.
+    by k d there (get_or slots k d) refl (sought k d there passed)
+  where
+    by : (k : ℕ) (d : Option Page) → k < length slots → (slot : Option Page) → get_or slots k d ≡ slot
+        → has_clean clean slot ≡ false → has_clean now slot ≡ false
+    by k d there None is dirty = refl
+    by k d there (Some page) is dirty =
+        others page.number
+        (λ same. true≢false (sym (resident_at slots k d page there is) ∙ ap (is_resident (pages_in slots)) same ∙ absent))
+        dirty
 
 -- a state of one page says nothing of the others
 pub others_set : (states after : List PageState) (n : ℕ) (s : PageState) → after ≡ set states n s
@@ -160,76 +201,88 @@ dirty_set states after n lsn s is there dirty =
     ∙ ap (λ (x : PageState). is_none x.rec_lsn) (get_or-set_same states n s unwritten there)
     ∙ ap (λ (o : Option ℕ). is_none o) dirty
 
-pub sought_still : (n : ℕ) (clean now : ℕ → Bool) (pages : List Page) (marks : MarksView)
-    → PassesNone clean pages marks → OthersStay n clean now → now n ≡ false → PassesNone now pages marks
-sought_still n clean now pages marks sought others dirty = λ k d there passed.
-    let number = (get_or pages k d).number in
-    elim (cases_eq number n) [
+pub sought_still : (n : ℕ) (clean now : ℕ → Bool) (slots : List (Option Page)) (marks : MarksView)
+    → PassesNone clean slots marks → OthersStay n clean now → now n ≡ false → PassesNone now slots marks
+sought_still n clean now slots marks sought others dirty = λ k d there passed.
+    by (get_or slots k d) (sought k d there passed)
+  where
+    by : (slot : Option Page) → has_clean clean slot ≡ false → has_clean now slot ≡ false
+    by None before = refl
+    by (Some page) before = elim (cases_eq page.number n) [
       | inl same ↦ ap now same ∙ dirty
-      | inr other ↦ others number other (sought k d there passed)
+      | inr other ↦ others page.number other before
     ]
 
 -- ---- pages that come and go
 
-pub sought_empty : (clean : ℕ → Bool) (pages : List Page) (marks : MarksView) → pages ≡ [] → PassesNone clean pages marks
-sought_empty clean pages marks none = λ k d there passed.
-    let long : length pages ≡ 0 = ap length none in
+pub sought_empty : (clean : ℕ → Bool) (slots : List (Option Page)) (marks : MarksView) → slots ≡ []
+    → PassesNone clean slots marks
+sought_empty clean slots marks none = λ k d there passed.
+    let long : length slots ≡ 0 = ap length none in
     let no : ⊥ = omega (arith, long, there) in absurd no
 
 -- where it passes over no page at all
-pub sought_all : (clean : ℕ → Bool) (pages : List Page) (marks : MarksView) → PassesNone (λ _. true) pages marks
-    → PassesNone clean pages marks
-sought_all clean pages marks all = λ k d there passed. absurd (true≢false (all k d there passed))
+pub sought_all : (clean : ℕ → Bool) (slots : List (Option Page)) (marks : MarksView) → PassesNone (λ _. true) slots marks
+    → PassesNone clean slots marks
+sought_all clean slots marks all = λ k d there passed. by (get_or slots k d) (all k d there passed)
+  where
+    by : (slot : Option Page) → has_clean (λ _. true) slot ≡ false → has_clean clean slot ≡ false
+    by None none = refl
+    by (Some page) none = absurd (true≢false none)
 
-pub sought_redone : (clean : ℕ → Bool) (next : Record) (pages : List Page) (marks : MarksView)
-    → PassesNone clean pages marks → PassesNone clean (map (λ page. with_record page next) pages) marks
-sought_redone clean next pages marks sought = λ k d there passed.
-    let here : k < length pages = omega (arith, there, length-map pages (λ page. with_record page next)) in
-    ap (λ (q : Page). clean q.number) (get_or-map (λ page. with_record page next) pages k d d here)
-    ∙ ap clean (number-with_record (get_or pages k d) next) ∙ sought k d here passed
+pub sought_redone : (clean : ℕ → Bool) (next : Record) (old slots : List (Option Page)) (marks : MarksView)
+    → slots ≡ map (redone next) old → PassesNone clean old marks → PassesNone clean slots marks
+sought_redone clean next old slots marks is sought =
+    subst (λ (ss : List (Option Page)). PassesNone clean ss marks) (sym is) (λ k d there passed.
+    let here : k < length old = omega (arith, there, length-map old (redone next)) in
+    ap (has_clean clean) (get_or-map (redone next) old k d d here)
+    ∙ by (get_or old k d) ∙ sought k d here passed)
+  where
+    by : (slot : Option Page) → has_clean clean (redone next slot) ≡ has_clean clean slot
+    by None = refl
+    by (Some page) = ap clean (number-with_record page next)
 
-pub sought_more : (clean : ℕ → Bool) (pages : List Page) (page : Page) (old marks : MarksView)
-    → PassesNone clean pages old → ((k : ℕ) → IsPassed marks k → IsPassed old k × (k ≢ length pages))
-    → PassesNone clean (pages ++ page ∷ []) marks
-sought_more clean pages page old marks sought less = λ k d there passed.
+pub sought_more : (clean : ℕ → Bool) (slots now : List (Option Page)) (slot : Option Page) (old marks : MarksView)
+    → now ≡ slots ++ slot ∷ [] → PassesNone clean slots old
+    → ((k : ℕ) → IsPassed marks k → IsPassed old k × (k ≢ length slots)) → PassesNone clean now marks
+sought_more clean slots now slot old marks is sought less =
+    subst (λ (ss : List (Option Page)). PassesNone clean ss marks) (sym is) (λ k d there passed.
     let it = less k passed in
-    let other : k ≢ length pages = it.1 in
-    let here : k < length pages = omega (arith, there, other, length_push pages page) in
-    ap (λ (q : Page). clean q.number) (get_or_append_left pages (page ∷ []) d k here) ∙ sought k d here it.0
+    let other : k ≢ length slots = it.1 in
+    let here : k < length slots = omega (arith, there, other, length_push slots slot) in
+    ap (has_clean clean) (get_or_append_left slots (slot ∷ []) d k here) ∙ sought k d here it.0)
 
--- the first clean page is gone: those before it are not clean, and those behind it keep their marks
-pub sought_less : (clean : ℕ → Bool) (pages : List Page) (place : ℕ) (old marks : MarksView)
-    → position (λ page. clean page.number) pages ≡ Some place → PassesNone clean pages old
-    → ((k : ℕ) → place ≤ k → IsPassed marks k → IsPassed old (k + 1)) → PassesNone clean (remove pages place) marks
-sought_less clean pages place old marks found sought down = λ k d there passed.
-    let is = position-Some (λ (page : Page). clean page.number) pages place d found in
-    let long = length-remove pages place is.0 in
-    elim (cases_lt k place) [
-      | inl before ↦
-          ap (λ (q : Page). clean q.number) (get_or-remove_below pages place d k before is.0) ∙ is.2 k before
-      | inr after ↦
-          ap (λ (q : Page). clean q.number) (get_or-remove_above pages place d k after is.0)
-          ∙ sought (k + 1) d (omega (arith, there, long)) (down k after passed)
-    ]
+-- a hole has no clean page
+pub sought_less : (clean : ℕ → Bool) (slots now : List (Option Page)) (place : ℕ) (old marks : MarksView)
+    → now ≡ set slots place None → PassesNone clean slots old
+    → ((k : ℕ) → IsPassed marks k → k ≢ place → IsPassed old k) → PassesNone clean now marks
+sought_less clean slots now place old marks is sought more =
+    subst (λ (ss : List (Option Page)). PassesNone clean ss marks) (sym is) (λ k d there passed.
+    let here : k < length slots = omega (arith, there, length-set slots place None) in
+    elim (cases_eq k place) [
+      | inl same ↦ ap (has_clean clean) (get_or-set_at slots place k None d same (omega (arith, same, here)))
+      | inr other ↦
+          ap (has_clean clean) (get_or-set_other slots place k None d other) ∙ sought k d here (more k passed other)
+    ])
 
 -- ---- marks that are made anew
 
--- before this place the search passes over no clean page
-abbrev pub AreMarkedTo : (ℕ → Bool) → List Page → MarksView → ℕ → Type 0
-AreMarkedTo clean pages marks place = (k : ℕ) (d : Page) → k < place → k < length pages → IsPassed marks k
-    → clean (get_or pages k d).number ≡ false
+-- before this slot the search passes over no clean page
+abbrev pub AreMarkedTo : (ℕ → Bool) → List (Option Page) → MarksView → ℕ → Type 0
+AreMarkedTo clean slots marks place = (k : ℕ) (d : Option Page) → k < place → k < length slots → IsPassed marks k
+    → has_clean clean (get_or slots k d) ≡ false
 
-pub marked_more : (clean : ℕ → Bool) (pages now : List Page) (old marks : MarksView) (place : ℕ)
-    → now ≡ pages → ((k : ℕ) → IsPassed marks k → k ≢ place → IsPassed old k)
-    → ((d : Page) → place < length now → IsPassed marks place → clean (get_or now place d).number ≡ false)
-    → AreMarkedTo clean pages old place → AreMarkedTo clean now marks (place + 1)
-marked_more clean pages now old marks place same others here marked = λ k d lt there passed.
+pub marked_more : (clean : ℕ → Bool) (slots now : List (Option Page)) (old marks : MarksView) (place : ℕ)
+    → now ≡ slots → ((k : ℕ) → IsPassed marks k → k ≢ place → IsPassed old k)
+    → ((d : Option Page) → place < length now → IsPassed marks place → has_clean clean (get_or now place d) ≡ false)
+    → AreMarkedTo clean slots old place → AreMarkedTo clean now marks (place + 1)
+marked_more clean slots now old marks place same others here marked = λ k d lt there passed.
     elim (cases_eq k place) [
       | inl eq ↦
-          ap (λ (i : ℕ). clean (get_or now i d).number) eq
+          ap (λ (i : ℕ). has_clean clean (get_or now i d)) eq
           ∙ here d (omega (arith, eq, there)) (subst (IsPassed marks) eq passed)
       | inr other ↦
-          ap (λ (ps : List Page). clean (get_or ps k d).number) same
+          ap (λ (ss : List (Option Page)). has_clean clean (get_or ss k d)) same
           ∙ marked k d (omega (arith, lt, other)) (omega (arith, there, ap length same)) (others k passed other)
     ]
 

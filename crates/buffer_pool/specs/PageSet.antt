@@ -1,7 +1,7 @@
 -- Sets of numbers: of each number below a bound, whether it is a member.
 use Rattle.std.specs.Prelude.{ℕ, ◌≡◌, ◌*◌, ◌/◌, ◌<◌, ◌≤◌, Bool, true, false, List, length}
 use Rattle.std.specs.Prelude.{slice_index_or}
-use Rattle.page_core.specs.declared.page.TheConstants.{MAX_PAGES}
+use Rattle.buffer_pool.specs.declared.page_set.TheConstants.{MAX_MEMBERS}
 
 -- the number is a member
 abbrev pub has : List Bool → ℕ → Bool
@@ -27,8 +27,8 @@ pub record IsSummary (set words : List Bool) : Type 0 where
 
 -- a set of pages, the words in which it has pages, and the groups of 64 words in which it has words
 pub record AreLevels (pages words groups : List Bool) : Type 0 where
-  pub few : length pages ≤ MAX_PAGES
-  pub fewer : length words ≤ MAX_PAGES
+  pub few : length pages ≤ MAX_MEMBERS
+  pub fewer : length words ≤ MAX_MEMBERS
   pub by_word : IsSummary pages words
   pub by_group : IsSummary words groups
   pub one_word : length groups ≤ 64

@@ -1,15 +1,18 @@
-//! Sets of pages.
+//! Sets of numbers.
 
 ghost use Rattle.std.specs.Prelude.{◌≡◌, ◌+◌, ◌/◌, ◌<◌, ◌≤◌, length, slice_set, IfOk};
 ghost use Rattle.std.specs.Prelude.{true, false, MatchOption};
 ghost use Rattle.buffer_pool.specs.PageSet.{HasNone, IsFirstFrom, IsSummary};
 
 use crate::bit_row::{BitRow, WORD};
-use page_core::MAX_PAGES;
 use std::alloc::{AllocError, Global};
 use std::marker::Model;
 
-/// A set of page numbers. The next member is found by looking at no more than five words.
+/// How many numbers a set has room for at most: 64 words of 64 words of 64 bits.
+pub(crate) const MAX_MEMBERS: u32 = 262_144;
+
+/// A set of numbers, of pages or of slots. The next member is found by looking at no more than five
+/// words.
 #[derive(Drop)]
 pub(crate) struct PageSet {
     /// A bit for each page.
@@ -35,7 +38,7 @@ impl PageSet {
     /// A set that has room for so many pages, and none of them. `AllocError` comes where memory is
     /// refused.
     pub(crate) fn new(alloc: Global, count: u32) -> Result<PageSet, AllocError>
-        requires { count ≤ MAX_PAGES }
+        requires { count ≤ MAX_MEMBERS }
         ensures room { IfOk result (λ set. count ≤ length set) }
         ensures empty { IfOk result (λ set. HasNone set 0 (length set)) }
     {
@@ -91,7 +94,7 @@ impl PageSet {
 /// The first bit from a number on that is set in a row, beside the word that tells which of its
 /// words have a bit.
 fn first_of(row: &BitRow, summary: &BitRow, from: u32) -> Option<u32>
-    requires few { length row.now ≤ MAX_PAGES }
+    requires few { length row.now ≤ MAX_MEMBERS }
     requires summary { IsSummary row.now summary.now }
     requires one_word { length summary.now ≤ WORD }
     ensures { MatchOption result (HasNone row.now from (length row.now))

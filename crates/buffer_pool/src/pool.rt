@@ -38,6 +38,7 @@ pub struct Pool<S: PageStore> {
 }
 
 impl<S: PageStore> Model for Pool<S> {
+    ghost use Rattle.std.specs.Prelude.{◌-◌};
     ghost use Rattle.buffer_pool.specs.Pool.{IsKept, PoolView};
 
     ghost Value = { PoolView S };
@@ -45,7 +46,7 @@ impl<S: PageStore> Model for Pool<S> {
     ghost view = { λ it. record {
       store = it.store;
       frames = it.limit;
-      room = it.frames.room;
+      room = it.frames.room - 1;
       resident = it.frames.pages;
       states = it.states;
     } };

@@ -1,4 +1,4 @@
-use Rattle.std.proofs.Common.{◌≡◌, ◌∙◌, ◌<◌, ℕ, List, [], ◌∷◌, length, map, set, ap, refl, subst, sym}
+use Rattle.std.proofs.Common.{◌≡◌, ◌∙◌, ◌-◌, ◌<◌, ℕ, List, [], ◌∷◌, length, map, set, ap, refl, subst, sym}
 use Rattle.std.specs.Prelude.{IfSome, Option, Some}
 use Rattle.page_core.specs.declared.page.Page.{Page}
 use Rattle.log_records.specs.declared.page_change.PageChange.{PageChange}
@@ -10,8 +10,7 @@ use Rattle.buffer_pool.specs.Pool.{IsPoolOf, PageState, PoolView, changed, is_cl
 use Rattle.buffer_pool.proofs.Pools.{changed_at, none_changes, page_is_there, pool_changed, pool_same}
 use Rattle.buffer_pool.proofs.Pools.{written_changed, writing_changed}
 use Rattle.std.proofs.lemmas.List.{length-set}
-use Rattle.buffer_pool.specs.Marks.{PassesNone}
-use Rattle.buffer_pool.proofs.Sought.{dirty_set, others_set, pool_noted, sought_redone, whole_states}
+use Rattle.buffer_pool.proofs.Sought.{dirty_set, others_set, pool_noted, whole_states}
 use Rattle.buffer_pool.proofs.pool.Pool.change.Goals as goal
 
 pub returns-in-Some-clause-kept : goal.returns-in-Some-clause-kept
@@ -24,7 +23,7 @@ returns-in-Some-clause-kept g c = λ log of valid.
     let old : PoolView g.row.S.Denot = record {
       store = it.store;
       frames = it.limit;
-      room = it.frames.room;
+      room = it.frames.room - 1;
       resident = it.frames.pages;
       states = it.states;
     } in
@@ -40,30 +39,30 @@ returns-in-Some-clause-kept g c = λ log of valid.
     let new : PoolView g.row.S.Denot = record {
       store = it.store;
       frames = it.limit;
-      room = it.frames.room;
+      room = it.frames.room - 1;
       resident = map (λ page. with_record page next) it.frames.pages;
       states = set it.states n (changed (state_in it.states n) (own_lsn next));
     } in
     let made = pool_changed stored_in log next old c.in-Some.change named here valid
     (subst (IsPoolOf stored_in log) (sym view) of) in
     pool_noted stored_in log' (record new {
-      room = c.redo.new.self.room;
+      room = c.redo.new.self.room - 1;
       resident = c.redo.new.self.pages;
       states = c.change-in-Some.new.self;
     })
-    c.note_change.new.self.room c.note_change.new.self.pages c.note_change.ensures.pages
+    (c.note_change.new.self.room - 1) c.note_change.new.self.pages c.note_change.ensures.pages
     (subst (λ (ss : List PageState). IsPoolOf stored_in log' (record new {
-      room = c.redo.new.self.room;
+      room = c.redo.new.self.room - 1;
       resident = c.redo.new.self.pages;
       states = ss;
     }))
     (sym states)
     (subst (λ (pages : List Page). IsPoolOf stored_in log' (record new {
-      room = c.redo.new.self.room;
+      room = c.redo.new.self.room - 1;
       resident = pages;
     }))
     (sym c.redo.ensures.pages)
-    (subst (λ (room : ℕ). IsPoolOf stored_in log' (record new { room = room })) (sym c.redo.ensures.room) made)))
+    (subst (λ (room : ℕ). IsPoolOf stored_in log' (record new { room = room - 1 })) (sym c.redo.ensures.room) made)))
 
 pub returns-in_default-clause-kept : goal.returns-in_default-clause-kept
 returns-in_default-clause-kept g c = λ log of valid.
@@ -109,23 +108,18 @@ returns-in-Some-clause-writing g c =
 pub invariant_of-self : goal.invariant_of-self
 invariant_of-self g c =
     let it = c.self.inside in
-    let next = c.args.next.now in
     let n = c.in-Some.change.page in
     let clean = is_clean_in it.states in
     let there = page_is_there g.S.PageStore.stored c.requires.next.0 c.args.next.now c.args.self.now c.in-Some.change
     (sym c.in-Some.ensures) c.requires.next.1.1 c.requires.next.1.0 in
     let states : it.states ≡ c.args.self.now.states = ap (λ (v : PoolView g.row.S.Denot). v.states) c.self.view_is in
     let here : n < length it.states = subst (λ (ss : List PageState). n < length ss) (sym states) there in
-    let redone : PassesNone clean (map (λ page. with_record page next) it.frames.pages) it.frames.marks =
-    sought_redone clean next it.frames.pages it.frames.marks c.self.invariant.sought in
     record {
       whole = whole_states (g.S.PageStore.stored it.store) it.states c.change-in-Some.new.self
           (ap (length {A = PageState}) c.change-in-Some.ensures
           ∙ length-set it.states n (changed (state_in it.states n) c.lsn.result)) c.self.invariant.whole;
       sought = c.note_change.ensures.sought clean
-          (subst (λ (pages : List Page). PassesNone clean pages c.redo.new.self.marks) (sym c.redo.ensures.pages)
-          (subst (PassesNone clean (map (λ page. with_record page next) it.frames.pages)) (sym c.redo.ensures.marks)
-          redone))
+          (c.redo.ensures.sought clean c.self.invariant.sought)
           (others_set it.states c.change-in-Some.new.self n _ c.change-in-Some.ensures)
           (dirty_set it.states c.change-in-Some.new.self n _ _ c.change-in-Some.ensures here refl);
     }

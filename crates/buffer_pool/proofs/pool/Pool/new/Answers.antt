@@ -1,4 +1,4 @@
-use Rattle.std.proofs.Common.{◌≡◌, ◌∙◌, ℕ, List, [], length, replicate, ap, subst, sym, arith}
+use Rattle.std.proofs.Common.{◌≡◌, ◌∙◌, ◌-◌, ℕ, List, [], length, replicate, ap, subst, sym, arith}
 use Rattle.std.proofs.lemmas.List.{length-replicate}
 use Rattle.std.proofs.lemmas.List.FromFn.{length-map-range_with_len}
 use Rattle.page_core.specs.Page.{formatted}
@@ -35,8 +35,8 @@ invariant_of-result g c =
         stored_count = sym c.pages-count.ensures.count ∙ sym states;
         stored_numbers = c.pages-count.ensures.numbered;
       };
-      sought = sought_empty (is_clean_in c.in_ok-states.states) c.in_ok-held.held.pages c.in_ok-held.held.marks
-          c.in_ok-held.ensures.pages;
+      sought = sought_empty (is_clean_in c.in_ok-states.states) c.in_ok-held.held.slots c.in_ok-held.held.marks
+          c.in_ok-held.ensures.slots;
     }
 
 -- so many pages are stored
@@ -50,14 +50,14 @@ returns-clause-new g c = λ n holds.
     ap (λ (pages : List Page). record {
       store = c.args.store;
       frames = c.args.frames;
-      room = c.in_ok-held.held.room;
+      room = c.in_ok-held.held.room - 1;
       resident = pages;
       states = c.in_ok-states.states;
     }) c.in_ok-held.ensures.pages
     ∙ ap (λ (room : ℕ). record {
       store = c.args.store;
       frames = c.args.frames;
-      room = room;
+      room = room - 1;
       resident = [];
       states = c.in_ok-states.states;
     }) c.in_ok-held.ensures.room

@@ -1,4 +1,4 @@
-use Rattle.std.proofs.Common.{◌≡◌, ◌∙◌, ℕ, List, [], length, replicate, ap, subst, sym, arith}
+use Rattle.std.proofs.Common.{◌≡◌, ◌∙◌, ◌-◌, ℕ, List, [], length, replicate, ap, subst, sym, arith}
 use Rattle.std.proofs.lemmas.List.{length-replicate}
 use Rattle.std.proofs.lemmas.List.FromFn.{length-map-range_with_len}
 use Rattle.page_core.specs.Page.{formatted}
@@ -12,6 +12,17 @@ use Rattle.buffer_pool.proofs.pool.Pool.whole.Goals as goal
 
 pub new-requires : goal.new-requires
 new-requires g c =
+    let n = c.requires.0 in
+    omega (
+      arith,
+      c.requires.1.0.most,
+      c.pages-count.ensures.count,
+      ap length c.requires.1.1,
+      length-map-range_with_len formatted 0 n,
+    )
+
+pub formatted-requires : goal.formatted-requires
+formatted-requires g c =
     let n = c.requires.0 in
     omega (
       arith,
@@ -35,7 +46,7 @@ invariant_of-result g c =
         stored_count = sym c.pages-count.ensures.count ∙ sym states;
         stored_numbers = c.pages-count.ensures.numbered;
       };
-      sought = sought_all (is_clean_in c.in_ok-states.states) c.in_ok-frames.frames.pages c.in_ok-frames.frames.marks
+      sought = sought_all (is_clean_in c.in_ok-states.states) c.in_ok-frames.frames.slots c.in_ok-frames.frames.marks
           c.in_ok-frames.ensures.sought;
     }
 
@@ -47,7 +58,7 @@ count_is stored_in store count n long holds = long ∙ ap length holds ∙ lengt
 pub returns-clause-new : goal.returns-clause-new
 returns-clause-new g c = λ n holds.
     let same = count_is g.S.PageStore.stored c.args.store c.pages-count.result n c.pages-count.ensures.count holds in
-    let room = c.in_ok-frames.frames.room in
+    let room = c.in_ok-frames.frames.room - 1 in
     ap (λ (count : ℕ). record {
       store = c.args.store;
       frames = count;
@@ -93,5 +104,5 @@ returns-clause-empty g c = λ n holds.
     let same = count_is stored_in store c.pages-count.result n count holds in
     let given = count_is stored_in store c.pages-count.result c.requires.0 count c.requires.1.1 in
     subst (IsPoolOf stored_in (record { pages = n; records = [] })) (sym (returns-clause-new g c n holds))
-    (roomy stored_in n c.in_ok-frames.frames.room (whole_pool store n)
+    (roomy stored_in n (c.in_ok-frames.frames.room - 1) (whole_pool store n)
     (pool_whole stored_in store n (subst IsPageCount (sym given ∙ same) c.requires.1.0) holds))
