@@ -17,15 +17,18 @@ use Rattle.log_records.specs.Log.{IsLog, Log}
 use Rattle.log_records.specs.Record.{own_lsn}
 use Rattle.log_history.specs.declared.pending_change.PendingChange.{PendingChange}
 use Rattle.log_history.specs.Linked.{IsLinked}
+use Rattle.log_history.specs.Table.{Entry, entry_of}
 use Rattle.log_history.specs.Transactions.{begun, is_open, last_of, pending}
 use Rattle.log_history.proofs.AtEnd.{All-last_of}
 use Rattle.log_history.proofs.Begun.{begun-IsStrictlyIncreasing, begun_is}
 use Rattle.log_history.proofs.Filters.{filter_map_push}
 use Rattle.log_history.proofs.Pushes.{is_open_push_other}
+use Rattle.loser_undo.specs.Losers.{AreLosersOf}
 use Rattle.loser_undo.specs.Steps.{last_lost, with_end_if_spent, last_taken_back}
 use Rattle.loser_undo.specs.Undo.{LostChange, after_undo, end_of, is_lost, is_undone, lost_by, spent, with_end}
 use Rattle.loser_undo.specs.Undo.{taken_back}
 use Rattle.loser_undo.proofs.Falling.{lost_lsns}
+use Rattle.loser_undo.proofs.Held.{state_is}
 use Rattle.loser_undo.proofs.Lost.{changes_of, of_txn}
 use Rattle.loser_undo.proofs.Phases.{Undoing, changes_of_own, last_of_push, one_undone, pending_other, undoing_begins}
 use Rattle.loser_undo.proofs.Rising.{IsRising, lsns_rise, others_below, rising_from_increasing}
@@ -239,6 +242,23 @@ first_stage log valid linked =
 
 pub last_stage : (rs now : List Record) → Stage rs now 0 → now ≡ after_undo rs
 last_stage rs now stage = stage.rest
+
+-- and once no transaction is open no lost change is left
+none_left : (now : List Record) (losers : List Entry) (ks : List LostChange) → AreLosersOf now losers → length losers ≡ 0
+    → AllByRecursion (λ k. is_open now k.txn ≡ true) ks → ks ≡ []
+none_left now losers [] are none opened = refl
+none_left now (loser ∷ losers) (k ∷ ks) are none opened = let no : ⊥ = omega (arith, none) in absurd no
+none_left now [] (k ∷ ks) are none opened =
+    let shut : None ≡ cond (is_open now k.txn) (Some (entry_of now k.txn)) None =
+    state_is now [] k.txn None (λ e. e) are refl in
+    let live = shut ∙ ap (λ b. cond b (Some (entry_of now k.txn)) None) opened.0 in
+    absurd (cc)
+
+pub shut_stage : (rs now : List Record) (losers : List Entry) (i : ℕ) → AreLosersOf now losers → length losers ≡ 0
+    → Stage rs now i → now ≡ after_undo rs
+shut_stage rs now losers i are none stage =
+    ap (λ ls. fold taken_back now (reverse ls)) (sym (none_left now losers (lost_in rs i) are none stage.undoing.opened))
+    ∙ stage.rest
 
 -- ---- the numbers of the transactions, one by one
 

@@ -1,7 +1,7 @@
 //! The open transactions of a log, with their pending changes.
 
 ghost use Rattle.std.specs.Prelude.{◌≡◌, ◌≤◌, ◌==◌, ◌++◌, ◌∷◌, [], List, map, filter, min, not};
-ghost use Rattle.std.specs.Prelude.{IfOk, Some, None, slice_get, if◌then◌else◌};
+ghost use Rattle.std.specs.Prelude.{IfOk, Some, None, length, slice_get, if◌then◌else◌};
 ghost use Rattle.std.specs.List.{find};
 ghost use Rattle.std.specs.Option.{option_map};
 ghost use Rattle.log_records.specs.declared.record.Record.{Record};
@@ -122,6 +122,13 @@ impl LoserTable {
         ensures { map loser_view result.now ≡ self.now }
     {
         &self.list
+    }
+
+    /// Whether no transaction is open.
+    pub(crate) fn is_empty(&self) -> bool
+        ensures { result ≡ (length self.now == 0) }
+    {
+        self.list.is_empty()
     }
 
     /// What there is of a transaction, if it is open.

@@ -123,14 +123,14 @@ impl Undoing {
         }
     }
 
-    /// Appends all records of undo. It goes over the log once, from its last record to its first,
-    /// and takes no memory.
+    /// Appends all records of undo. It goes over the log once, from its last record back until no
+    /// transaction is open, and takes no memory.
     pub fn undo(&mut self)
         ensures { self.new ≡ record self.old { records = after_undo self.old.records } }
     {
         let mut left = self.records.len();
         self.end_spent();
-        while left > 0 {
+        while left > 0 && !self.losers.is_empty() {
             left -= 1;
             let next = self.records[left];
             self.take_back(&next);

@@ -1,6 +1,9 @@
-use Rattle.std.proofs.Common.{◌≡◌, ◌-◌, get_or, length, ap, ◌∙◌, arith, le_of_eq}
+use Rattle.std.proofs.Common.{◌≡◌, ◌-◌, ℕ, List, get_or, length, ap, sym, subst, ◌∙◌, arith, le_of_eq}
+use Rattle.std.proofs.lemmas.Bool.{eqb-true}
+use Rattle.log_records.specs.declared.record.Record.{Record}
 use Rattle.log_records.specs.Log.{Log}
-use Rattle.loser_undo.proofs.Loops.{first_stage_of, next_stage}
+use Rattle.loser_undo.specs.Losers.{AreLosersOf}
+use Rattle.loser_undo.proofs.Loops.{first_stage_of, next_stage, shut_stage}
 use Rattle.loser_undo.proofs.undoing.Undoing.undo.Goals as goal
 
 pub loop-left-init : goal.loop-left-init
@@ -33,3 +36,19 @@ loop-left-preserved c =
       within = omega arith;
       pages = ap (λ (l : Log). l.pages) c.take_back.ensures ∙ inv.pages;
     }
+
+pub returns-else-not-is_empty : goal.returns-else-not-is_empty
+returns-else-not-is_empty c =
+    let it = c.self-in-loop-left.inside in
+    let now = c.args.self.now in
+    let cur = c.loop-left.self in
+    let inv = c.loop-left.invariant in
+    let log : Log = record { pages = it.pages; records = it.records.items } in
+    let none : length it.losers ≡ 0 =
+    eqb-true (length it.losers) 0
+    (sym c.is_empty.ensures ∙ c.if-not-is_empty.false) in
+    let view : log ≡ cur = c.self-in-loop-left.view_is in
+    let are = subst (λ (l : Log). AreLosersOf l.records it.losers) view c.self-in-loop-left.invariant.made in
+    let records = shut_stage now.records cur.records it.losers c.loop-left.left are none inv.stage in
+    ap (λ (n : ℕ). let l : Log = record { pages = n; records = cur.records } in l) inv.pages
+    ∙ ap (λ (rs : List Record). let l : Log = record { pages = now.pages; records = rs } in l) records
