@@ -94,6 +94,7 @@ run_checks() {
     check memory "$program" python3 rustc -- refuse_memory examples/memory.py "$program"
     check run_memory "$program" python3 rustc -- refuse_memory examples/run_memory.py "$program"
     check unsaved "$program" python3 -- python3 examples/unsaved.py "$program"
+    check frames "$program" python3 -- python3 examples/few_frames.py "$program"
     check faults "$program" python3 -- python3 examples/faults.py "$program"
     check model "$program" python3 -- python3 examples/model_check.py "$program"
     if "$uses_rt"; then
