@@ -13,13 +13,13 @@ pub(crate) fn bytes_of(alloc: Global, words: &[u64]) -> Result<Vec<u8>, Fail> {
 }
 
 /// `AIMGLOG1`, and a page count behind it.
-const LOG: u64 = 0x31_47_4f_4c_47_4d_49_41;
+pub(crate) const LOG: u64 = 0x31_47_4f_4c_47_4d_49_41;
 
 /// `AIMGARC1`.
-const ARCHIVE: u64 = 0x31_43_52_41_47_4d_49_41;
+pub(crate) const ARCHIVE: u64 = 0x31_43_52_41_47_4d_49_41;
 
 /// A number at byte 4 of its eight.
-const HIGH: u64 = 0x1_0000_0000;
+pub(crate) const HIGH: u64 = 0x1_0000_0000;
 
 const BEGIN: [u64; 8] = [HIGH + 1, 0, 0, 0, 0, 0, 0, 64];
 

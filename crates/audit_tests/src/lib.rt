@@ -1,4 +1,4 @@
-//! Tests of audits, and of the rows of a chain's archives.
+//! Tests of audits, of the rows of a chain's archives, and of restores from readers.
 #![tactic(auto)]
 
 #[cfg(test)]
@@ -6,6 +6,12 @@ mod audits;
 #[cfg(test)]
 mod bytes;
 #[cfg(test)]
+mod four_pages;
+#[cfg(test)]
 mod readers;
+#[cfg(test)]
+mod restore_order;
+#[cfg(test)]
+mod restore_readers;
 #[cfg(test)]
 mod rows;

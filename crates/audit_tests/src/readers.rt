@@ -6,20 +6,57 @@ use std::io;
 use std::io::{ErrorKind, Read};
 use std::test::Fail;
 
-/// Gives these bytes, so many at a call, and fails at its k-th call. 0 is none.
+/// What befalls a reader. Its calls are counted from 1.
+#[derive(Clone, Copy)]
+pub(crate) enum Trouble {
+    Nothing,
+    /// This call fails, and those behind it would go on.
+    FailsAt(u64),
+    /// This call is interrupted, and each one behind it.
+    InterruptedFrom(u64),
+    /// Each call is interrupted but those whose number this divides.
+    GoesOnAtEach(u64),
+}
+
+impl Trouble {
+    /// What comes of a call, by its number, in place of bytes.
+    fn at(self, call: u64) -> Option<ErrorKind> {
+        match self {
+            Trouble::FailsAt(k) if call == k => Some(ErrorKind::Other),
+            Trouble::InterruptedFrom(k) if call >= k => Some(ErrorKind::Interrupted),
+            Trouble::GoesOnAtEach(k) if call.checked_rem(k) != Some(0) => {
+                Some(ErrorKind::Interrupted)
+            }
+            _ => None,
+        }
+    }
+}
+
+/// Gives these bytes, so many at a call, unless something befalls it.
 #[derive(Drop)]
-struct Failing<'a> {
+pub(crate) struct Failing<'a> {
     left: &'a [u8],
     most: usize,
-    k: u64,
+    trouble: Trouble,
     calls: u64,
+}
+
+impl<'a> Failing<'a> {
+    pub(crate) fn new(left: &'a [u8], most: usize, trouble: Trouble) -> Failing<'a> {
+        Failing {
+            left,
+            most,
+            trouble,
+            calls: 0,
+        }
+    }
 }
 
 impl Read for Failing<'_> {
     fn read(&mut self, buf: &mut [u8]) -> io::Result<usize> {
         self.calls = self.calls.saturating_add(1);
-        if self.calls == self.k {
-            return Err(ErrorKind::Other.into());
+        if let Some(kind) = self.trouble.at(self.calls) {
+            return Err(kind.into());
         }
         let count = self.left.len().min(buf.len()).min(self.most);
         let (first, rest) = self.left.split_at(count);
@@ -42,13 +79,9 @@ impl Read for NeverReady {
     }
 }
 
+/// Gives these bytes, so many at a call, and fails at its k-th call. 0 is none.
 fn failing_reader(left: &[u8], most: usize, k: u64) -> Failing<'_> {
-    Failing {
-        left,
-        most,
-        k,
-        calls: 0,
-    }
+    Failing::new(left, most, Trouble::FailsAt(k))
 }
 
 #[test]
