@@ -1,0 +1,6 @@
+pub mod Appending
+pub mod Ending
+pub mod Nexts
+pub mod Selecting
+pub mod Steps
+pub mod Undone

@@ -1,8 +1,6 @@
 //! A log of which only what a restore needs is kept.
 #![tactic(auto)]
 
-mod placed_change;
-mod redo;
+mod page_undo;
 
-pub use placed_change::PlacedChange;
-pub use redo::redo_changes;
+pub use page_undo::undo_open;

@@ -1,0 +1,33 @@
+-- What a restore keeps of a log.
+use Rattle.std.specs.Prelude.{ℕ, List, length, Option, Some, None}
+use Rattle.std.specs.List.{filter_map}
+use Rattle.log_records.specs.declared.record.Record.{Record}
+use Rattle.log_records.specs.declared.record.Record.TheVariants.{EndChkpt}
+use Rattle.log_records.specs.Log.{Log}
+use Rattle.log_store.specs.declared.master.Master.{Master}
+use Rattle.log_changes.specs.Placed.{Placed, placed_in}
+
+-- how many pages the volume has and how many records the log, the changes that redo may make, and
+-- the checkpoints that were completed
+pub record Kept : Type 0 where
+  pub pages : ℕ
+  pub count : ℕ
+  pub changes : List Placed
+  pub checkpoints : List Master
+
+-- the checkpoint that a record completes
+abbrev pub completed_by : Record → Option Master
+completed_by (EndChkpt lsn begin redo) = Some (record { begin = begin; end = lsn })
+completed_by other = None
+
+abbrev pub completed_in : List Record → List Master
+completed_in rs = filter_map completed_by rs
+
+-- what is kept of a log
+abbrev pub kept_of : Log → Kept
+kept_of log = record {
+  pages = log.pages;
+  count = length log.records;
+  changes = placed_in log.records;
+  checkpoints = completed_in log.records;
+}
