@@ -1,11 +1,14 @@
 -- What redo needs of a record: a change, and the LSN of the record.
-use Rattle.std.specs.Prelude.{ℕ, ◌==◌, ◌&&◌, Bool, List, filter, nat_le, nat_lt, Option}
-use Rattle.std.specs.Prelude.{if◌then◌else◌}
+use Rattle.std.specs.Prelude.{ℕ, ◌≡◌, ◌+◌, ◌<◌, ◌==◌, ◌&&◌, Bool, List, filter, nat_le, nat_lt}
+use Rattle.std.specs.Prelude.{Option, if◌then◌else◌, length, refl, slice_index_or}
 use Rattle.std.specs.List.{filter_map, fold}
 use Rattle.std.specs.Option.{option_map}
 use Rattle.page_core.specs.declared.change.Change.{Change}
 use Rattle.page_core.specs.declared.change.Change.TheVariants.{Set, Add}
+use Rattle.page_core.specs.declared.change.ChangeKind.{ChangeKind}
+use Rattle.page_core.specs.declared.change.ChangeKind.TheVariants as kind
 use Rattle.page_core.specs.declared.page.Page.{Page}
+use Rattle.page_core.specs.Change.{kind_of}
 use Rattle.page_core.specs.Page.{put}
 use Rattle.log_records.specs.declared.page_change.PageChange.{PageChange}
 use Rattle.log_records.specs.declared.record.Record.{Record}
@@ -25,8 +28,22 @@ redo_part (Add amount) = Add amount
 
 -- the change of a kind with its number
 abbrev pub change_with : ChangeKind → ℕ → Change
-change_with SetKind number = Set 0 number
-change_with AddKind number = Add number
+change_with kind.Set number = Set 0 number
+change_with kind.Add number = Add number
+
+-- the number that a change sets or adds
+abbrev pub number_of : Change → ℕ
+number_of (Set before after) = after
+number_of (Add amount) = amount
+
+-- the change of a kind with a number gives both back
+pub number_again : (k : ChangeKind) (number : ℕ) → number_of (change_with k number) ≡ number
+number_again kind.Set number = refl
+number_again kind.Add number = refl
+
+pub kind_again : (k : ChangeKind) (number : ℕ) → kind_of (change_with k number) ≡ k
+kind_again kind.Set number = refl
+kind_again kind.Add number = refl
 
 -- a change that stands at an LSN
 abbrev pub placed_at : ℕ → PageChange → Placed
@@ -51,3 +68,18 @@ is_redone from lsn c = nat_le from c.lsn && nat_lt lsn c.lsn
 -- a page after redo of these changes from a redo point on
 abbrev pub redone : Page → List Placed → ℕ → Page
 redone page cs from = fold with_placed page (filter (is_redone from page.lsn) cs)
+
+-- ---- change after change, on some pages of a volume
+
+-- a page after redo of one change
+abbrev pub redone_by : ℕ → Page → Placed → Page
+redone_by from page c = if is_redone from page.lsn c then with_placed page c else page
+
+-- and of these changes, one after another
+abbrev pub redone_each : List Placed → ℕ → Page → Page
+redone_each cs from page = fold (redone_by from) page cs
+
+-- the pages stand in order of their numbers, which count from this one
+abbrev pub AreNumberedFrom : ℕ → List Page → Type 0
+AreNumberedFrom first pages =
+    (k : ℕ) (d : Page) → k < length pages → (slice_index_or pages k d).number ≡ first + k

@@ -4,7 +4,7 @@ ghost use Rattle.std.specs.Prelude.{ℕ, ◌≡◌, ◌<◌};
 ghost use Rattle.log_records.specs.declared.limits.TheConstants.{MAX_RECORDS};
 ghost use Rattle.log_records.specs.Log.{lsn_of};
 ghost use Rattle.log_records.specs.Record.{IsPageChange};
-ghost use Rattle.log_changes.specs.Placed.{placed_at};
+ghost use Rattle.log_changes.specs.Placed.{number_of, placed_at};
 ghost use Rattle.page_core.specs.Page.{put};
 
 use log_records::PageChange;
@@ -25,9 +25,10 @@ pub struct PlacedChange {
 }
 
 impl Model for PlacedChange {
-    ghost use Rattle.std.specs.Prelude.{◌*◌};
+    ghost use Rattle.std.specs.Prelude.{◌*◌, ◌/◌};
     ghost use Rattle.page_core.specs.declared.numbers.TheConstants.{LSN_STEP};
-    ghost use Rattle.log_changes.specs.Placed.{Placed, change_with};
+    ghost use Rattle.page_core.specs.Change.{kind_of};
+    ghost use Rattle.log_changes.specs.Placed.{Placed, change_with, number_of};
 
     ghost Value = { Placed };
 
@@ -36,6 +37,26 @@ impl Model for PlacedChange {
       page = it.page;
       slot = it.slot;
       change = change_with it.kind it.number;
+    } };
+
+    ghost inverse = { λ it. record {
+      number = number_of it.change;
+      step = it.lsn / LSN_STEP;
+      page = it.page;
+      slot = it.slot;
+      kind = kind_of it.change;
+    } };
+
+    ghost use Rattle.std.proofs.Common.{lit<};
+    ghost use Rattle.std.proofs.Math.Nat.{mul-div_cancel_left};
+    ghost use Rattle.log_changes.specs.Placed.{kind_again, number_again};
+
+    ghost inverse_ok = { λ it valid i. record {
+      number = number_again it.kind it.number i;
+      step = mul-div_cancel_left it.step {n = LSN_STEP} (lit< tt) i;
+      page = it.page;
+      slot = it.slot;
+      kind = kind_again it.kind it.number i;
     } };
 }
 
@@ -46,12 +67,8 @@ impl PlacedChange {
         requires stands { (n : ℕ) × ((n < MAX_RECORDS) × (lsn ≡ lsn_of n)) }
         ensures { result ≡ placed_at lsn change }
     {
-        let number = match change.change {
-            Change::Set { after, .. } => after,
-            Change::Add { amount } => amount,
-        };
         PlacedChange {
-            number,
+            number: number_of(&change.change),
             step: (lsn.0 / LSN_STEP) as u32,
             page: change.page.0 as u16,
             slot: change.slot.0 as u8,
@@ -93,5 +110,15 @@ impl PlacedChange {
                 amount: self.number,
             },
         }
+    }
+}
+
+/// The number that a change sets or adds.
+fn number_of(change: &Change) -> u64
+    ensures { result ≡ number_of change.now }
+{
+    match *change {
+        Change::Set { after, .. } => after,
+        Change::Add { amount } => amount,
     }
 }
