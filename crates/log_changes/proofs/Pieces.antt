@@ -1,7 +1,6 @@
 -- Redo of changes on a piece of a volume's pages, one after another.
-use Rattle.std.proofs.Common.{◌≡◌, ◌≢◌, ℕ, ◌+◌, ◌-◌, ◌<◌, ◌≤◌, ◌⊎◌, Bool, true, false, cond, eqb, List, [], ◌∷◌, length}
+use Rattle.std.proofs.Common.{◌≡◌, ◌≢◌, ℕ, ◌+◌, ◌<◌, Bool, true, false, cond, eqb, List, [], ◌∷◌, length}
 use Rattle.std.proofs.Common.{get_or, set, map, take, refl, sym, ap, ◌∙◌, arith, inl, inr, eq-eqb}
-use Rattle.std.specs.List.{fold}
 use Rattle.std.proofs.lemmas.Bool.{cases_eq, ne_eqb}
 use Rattle.std.proofs.lemmas.List.{get_or-map, get_or-set_other, get_or-set_same, get_or_default, length-map}
 use Rattle.std.proofs.lemmas.List.{length-set, same_lists, take_more}
@@ -113,3 +112,13 @@ numbered_more from first pages cs numbers = λ k d lt.
     number-redone_each : (page : Page) (cs : List Placed) → (redone_each cs from page).number ≡ page.number
     number-redone_each page [] = refl
     number-redone_each page (c ∷ cs) = number-redone_each (redone_by from page c) cs ∙ number-redone_by from page c
+
+-- ---- the pieces of a volume
+
+-- a page that lies at an offset of a piece is redone with that piece
+pub in_piece : (step : Page → Page) (pages new before after : List Page) (k offset : ℕ) (d : Page)
+    → k < length pages → offset < length before → get_or before offset d ≡ get_or pages k d
+    → after ≡ map step before → get_or after offset d ≡ get_or new k d → get_or new k d ≡ get_or (map step pages) k d
+in_piece step pages new before after k offset d here there old call last =
+    sym last ∙ ap (λ (piece : List Page). get_or piece offset d) call
+    ∙ get_or-map step before offset d d there ∙ ap step old ∙ sym (get_or-map step pages k d d here)

@@ -1,8 +1,8 @@
 -- The LSNs of a log's records rise, so redo may test them against a page's LSN as it goes.
-use Rattle.std.proofs.Common.{◌≡◌, ℕ, suc, ◌+◌, ◌*◌, ◌<◌, ◌≤◌, Bool, true, false, cond, eqb, List, [], ◌∷◌, length}
+use Rattle.std.proofs.Common.{◌≡◌, ℕ, suc, ◌+◌, ◌*◌, ◌<◌, ◌≤◌, Bool, true, false, cond, List, [], ◌∷◌, length}
 use Rattle.std.proofs.Common.{get_or, map, refl, sym, ap, subst, ◌∙◌, arith, inl, inr}
-use Rattle.std.specs.Prelude.{Option, Some, None, ◌&&◌, ◌⊎◌, nat_le, nat_lt}
-use Rattle.std.specs.List.{cons_option, filter, fold}
+use Rattle.std.specs.Prelude.{Option, Some, None, ◌&&◌, nat_le, nat_lt}
+use Rattle.std.specs.List.{cons_option, filter}
 use Rattle.std.specs.Option.{option_map, option_map_or}
 use Rattle.std.proofs.lemmas.Bool.{lt-ltb, ltb-true}
 use Rattle.page_core.specs.declared.change.Change.{Change}
@@ -16,7 +16,7 @@ use Rattle.log_records.specs.Image.{image_from, with_change, with_record}
 use Rattle.log_records.specs.Log.{IsLog, Log}
 use Rattle.log_records.specs.Record.{change_of, own_lsn}
 use Rattle.log_records.proofs.Images.{changes_or_not, no_change}
-use Rattle.log_changes.specs.Placed.{Placed, is_redone, placed_at, placed_by, placed_in, redo_part, redone_by, redone_each}
+use Rattle.log_changes.specs.Placed.{Placed, placed_at, placed_by, placed_in, redo_part, redone_each}
 use Rattle.log_changes.specs.Placed.{with_placed}
 
 -- ---- one record

@@ -1,4 +1,4 @@
-use Rattle.std.proofs.Common.{◌≡◌, ◌∙◌, ◌+◌, ◌-◌, ◌<◌, get_or, length, sym, arith}
+use Rattle.std.proofs.Common.{◌≡◌, ◌∙◌, ◌+◌, ◌-◌, get_or, sym, arith}
 use Rattle.log_changes.proofs.Pieces.{none_redone, set_left, set_made}
 use Rattle.log_changes.proofs.redo.redo_change.Goals as goal
 use Rattle.log_changes.proofs.redo.redo_change.Goals.{else-first-number-via-else-first-number}

@@ -1,7 +1,7 @@
-use Rattle.std.proofs.Common.{◌≡◌, ◌∙◌, ◌<◌, List, get_or, length, map, ap, sym, arith}
-use Rattle.std.proofs.lemmas.List.{get_or-map, length-map, same_lists}
-use Rattle.page_core.specs.declared.page.Page.{Page}
+use Rattle.std.proofs.Common.{◌≡◌, ◌∙◌, ◌<◌, List, length, map, ap, arith}
+use Rattle.std.proofs.lemmas.List.{length-map, same_lists}
 use Rattle.log_changes.specs.Placed.{Placed, redone_each}
+use Rattle.log_changes.proofs.Pieces.{in_piece}
 use Rattle.log_changes.proofs.Rising.{all_resumed}
 use Rattle.log_changes.proofs.redo.redo_changes.Goals as goal
 
@@ -22,9 +22,7 @@ returns g c = λ log valid is.
     same_lists new (map step pages) (omega arith) (λ k d lt.
     let below : k < length pages = omega arith in
     let at = (c.for_each_chunk_mut.ensures.by_index k d below).1 in
-    sym at.new_element
-    ∙ ap (λ (piece : List Page). get_or piece at.offset d) at.call
-    ∙ get_or-map step at.argument.now at.offset d d at.offset_in_chunk
-    ∙ ap step at.old_element ∙ sym (get_or-map step pages k d d below))
+    in_piece step pages new at.argument.now at.after_call.now k at.offset d below at.offset_in_chunk at.old_element
+    at.call at.new_element)
     ∙ ap (λ (xs : List Placed). map (redone_each xs c.args.from) pages) is
     ∙ all_resumed log c.args.from pages valid
