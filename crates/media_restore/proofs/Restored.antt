@@ -15,6 +15,7 @@ use Rattle.log_records.specs.Log.{IsLog, Log}
 use Rattle.log_records.proofs.Coverage.{resume_covering}
 use Rattle.log_records.proofs.Images.{numbered-images}
 use Rattle.log_history.specs.Linked.{IsLinked}
+use Rattle.log_history.specs.Table.{Table, table_of}
 use Rattle.log_store.specs.declared.fault.LogReadFault.{LogReadFault}
 use Rattle.log_store.specs.declared.fault.LogReadFault.TheVariants as log
 use Rattle.log_store.specs.declared.master.Master.{Master}
@@ -25,10 +26,10 @@ use Rattle.copy_vault.specs.Chain.{FitFrom, IsChain, content, contents, last_red
 use Rattle.copy_vault.specs.ChainReading.{IsChainRead}
 use Rattle.copy_vault.specs.Copy.{CopyView}
 use Rattle.copy_vault.proofs.Chains.{contents_numbered, some_members}
-use Rattle.loser_undo.specs.declared.fault.UndoFault.{UndoFault}
-use Rattle.loser_undo.specs.declared.fault.UndoFault.TheVariants as undo
-use Rattle.loser_undo.specs.Recovery.{HasCommitted, IsRecovery, IsWhole, Recovery, appended, undone}
+use Rattle.loser_undo.specs.Recovery.{HasCommitted, Recovery, appended}
+use Rattle.loser_undo.proofs.Pages.{undone_committed, undone_whole}
 use Rattle.loser_undo.proofs.Resumed.{numbered_resumed}
+use Rattle.log_changes.specs.Kept.{Kept, kept_of}
 use Rattle.media_restore.specs.declared.files_fault.RestoreFault.{RestoreFault}
 use Rattle.media_restore.specs.declared.files_fault.RestoreFault.TheVariants.{OutOfMemory, LogFull, WriteFault}
 use Rattle.media_restore.specs.declared.files_fault.RestoreFault.TheVariants.{BadHeader, BadRecord, Torn, ReadFault}
@@ -36,8 +37,8 @@ use Rattle.media_restore.specs.declared.files_fault.RestoreFault.TheVariants.{To
 use Rattle.media_restore.specs.declared.files_fault.RestoreFault.TheVariants.{ChainBroken}
 use Rattle.media_restore.specs.declared.files_fault.RestoreFault.TheVariants.{CountDiffers}
 use Rattle.media_restore.specs.declared.files_fault.RestoreFault.TheVariants.{RedoBeyondLog, PageBeyondLog}
-use Rattle.media_restore.specs.Files.{AreCovering, AreSound, Files, HasParts, IsOfLog, IsOfMaster, IsRestored, Leaves}
-use Rattle.media_restore.specs.Files.{Refused, most_records, redone_of}
+use Rattle.media_restore.specs.Files.{AreCovering, AreSound, Files, HasParts, IsOfLog, IsOfMaster, IsRead, IsRestored}
+use Rattle.media_restore.specs.Files.{Leaves, Refused, most_records, redone_of}
 use Rattle.media_restore.specs.Files.{of_the_log, of_the_master, of_the_archives, of_undo, of_memory}
 use Rattle.media_restore.specs.FilesArchives.{AreOfArchives, end_of}
 use Rattle.media_restore.specs.FilesFault as from
@@ -65,14 +66,17 @@ pub count_in : (pages : ℕ) (copies : List CopyView) → FitFrom pages Full cop
 count_in pages [] fit chain = let some = some_members [] chain in absurd (omega arith)
 count_in pages (first ∷ more) fit chain = fit.0.same_count
 
-pub recovery_of : (log : Log) (master : Master) (inputs : List (Option (List ℕ))) (pages : List Page) (redo : ℕ)
-    → IsLog log → IsLinked log.records → IsChainRead log.pages (end_of log) inputs pages redo
-    → IsRecovery (record { log = log; master = master; pages = pages })
-recovery_of log master inputs pages redo valid linked of_chain =
+-- what was read of a log, and the pages of a chain for its volume
+pub is_read : (log : Log) (kept : Kept) (table : Table) (inputs : List (Option (List ℕ))) (pages : List Page) (redo : ℕ)
+    → IsLog log → IsLinked log.records → kept ≡ kept_of log → table ≡ table_of log.records
+    → IsChainRead log.pages (end_of log) inputs pages redo → IsRead log kept table pages
+is_read log kept table inputs pages redo valid linked same_kept same_table of_chain =
     let copies = of_chain.copies in
     record {
       valid = valid;
       linked = linked;
+      kept = same_kept;
+      table = same_table;
       count = ap length of_chain.made ∙ length-map-range_with_len (content copies) 0 (page_count copies)
           ∙ count_in log.pages copies of_chain.fit of_chain.chain;
       numbered = subst AreNumbered (sym of_chain.made) (contents_numbered copies of_chain.chain);
@@ -83,13 +87,23 @@ pub of_read : (log : Log) (inputs : List (Option (List ℕ))) (pages : List Page
     → (read : IsChainRead log.pages (end_of log) inputs pages redo) → AreOfArchives inputs log read.copies
 of_read log inputs pages redo read = record { spelled = read.spelled; fit = read.fit; within = read.within }
 
+-- where redo made the log's volume, undo leaves what was committed
+sound_of : (log : Log) (master : Master) (pages it : List Page) → IsLog log → IsLinked log.records
+    → it ≡ map (λ page. image_from page (appended log)) pages → pages ≡ redo_all log.records log.pages
+    → AreSound log it
+sound_of log master pages it valid linked made whole =
+    let r : Recovery = record { log = log; master = master; pages = pages } in
+    record {
+      whole = made ∙ undone_whole r whole;
+      committed = subst (HasCommitted log.records) (sym made) (undone_committed r valid linked whole);
+    }
+
 pub restored_of : (files : Files) (log : Log) (master : Master) (pages : List Page) (redo : ℕ) (it : List Page)
     → IsOfLog files.log log → IsOfMaster files.master log.records master
     → IsChainRead log.pages (end_of log) files.archives pages redo → most_records log ≤ MAX_RECORDS
     → it ≡ map (λ page. image_from page (appended log)) (map (λ page. resume page log.records redo) pages)
-    → (map (λ page. resume page log.records redo) pages ≡ redo_all log.records log.pages → AreSound log it)
     → IsRestored files it
-restored_of files log master pages redo it of_log of_master of_chain room made sound =
+restored_of files log master pages redo it of_log of_master of_chain room made =
     let copies = of_chain.copies in
     let same : map (λ page. resume page log.records redo) pages ≡ redone_of log copies =
     ap (λ (ps : List Page). map (λ page. resume page log.records redo) ps) of_chain.made
@@ -106,7 +120,8 @@ restored_of files log master pages redo it of_log of_master of_chain room made s
       };
       room = room;
       made = made ∙ ap (map (λ page. image_from page (appended log))) same;
-      sound = λ covers. sound (same ∙ covering_whole log copies of_log.valid
+      sound = λ covers. sound_of log master (map (λ page. resume page log.records redo) pages) it of_log.valid
+          of_log.linked made (same ∙ covering_whole log copies of_log.valid
           (count_in log.pages copies of_chain.fit of_chain.chain) covers);
     }
 
@@ -123,58 +138,28 @@ restored_spelled files pages it =
       spelled = refl;
     }
 
--- ---- undo
-
-pub redone_is : (log : Log) (master : Master) (pages : List Page) (redo : ℕ) (old new : Recovery)
-    → old ≡ record { log = log; master = master; pages = pages }
-    → new ≡ record old { pages = map (λ page. resume page old.log.records redo) old.pages }
-    → new ≡ record {
-      log = log;
-      master = master;
-      pages = map (λ page. resume page log.records redo) pages;
-    }
-redone_is log master pages redo old new is made =
-    let after : Recovery → Recovery = λ r. record r { pages = map (λ page. resume page r.log.records redo) r.pages } in
-    made ∙ ap after is
-
-pub sound_of : (r it new : Recovery) → new ≡ r → it ≡ undone new → (IsWhole new → IsWhole it)
-    → (IsWhole new → HasCommitted new.log.records it.pages)
-    → r.pages ≡ redo_all r.log.records r.log.pages → AreSound r.log it.pages
-sound_of r it new same made whole committed is =
-    let here : IsWhole new = subst IsWhole (sym same) is in
-    record {
-      whole = whole here ∙ ap (λ (x : Recovery). redo_all x.log.records x.log.pages) (made ∙ ap undone same);
-      committed = subst (λ (x : Recovery). HasCommitted x.log.records it.pages) same (committed here);
-    }
-
-pub undo_refused : (why : UndoFault) (log : Log) (fault : RestoreFault)
-    → (why ≡ undo.LogFull → MAX_RECORDS < most_records log) → fault ≡ from.of_undo why
-    → (fault ≡ OutOfMemory) ⊎ ((fault ≡ LogFull) × (MAX_RECORDS < most_records log))
-undo_refused undo.LogFull log fault full is = inr (is, full refl)
-undo_refused undo.OutOfMemory log fault full is = inl is
-
 -- ---- what is answered
 
-pub all_restored : (r : Result Recovery RestoreFault) (files : Files) (log : Log) (master : Master) (pages : List Page)
-    (redo : ℕ) → IsOfLog files.log log → IsOfMaster files.master log.records master
-    → IsChainRead log.pages (end_of log) files.archives pages redo
-    → IfOk r (λ it. it.pages ≡ map (λ page. image_from page (appended log))
-    (map (λ page. resume page log.records redo) pages)) → OnOk r (most_records log ≤ MAX_RECORDS)
-    → IfOk r (λ it. map (λ page. resume page log.records redo) pages ≡ redo_all log.records log.pages
-    → AreSound log it.pages) → IfOk r (λ it. IsRestored files it.pages)
-all_restored (Ok it) files log master pages redo of_log of_master of_chain made room sound =
-    restored_of files log master pages redo it.pages of_log of_master of_chain room made sound
-all_restored (Err e) files log master pages redo of_log of_master of_chain made room sound = tt
+pub all_restored : (r : Result (Vec Page Global) RestoreFault) (files : Files) (log : Log) (kept : Kept) (table : Table)
+    (master : Master) (pages : List Page) (redo : ℕ) → IsOfLog files.log log
+    → IsOfMaster files.master log.records master → IsChainRead log.pages (end_of log) files.archives pages redo
+    → IsRead log kept table pages
+    → IfOk r (λ it. (l : Log) → IsRead l kept table pages
+    → it.items ≡ map (λ page. image_from page (appended l)) (map (λ page. resume page l.records redo) pages))
+    → OnOk r ((l : Log) → IsRead l kept table pages → most_records l ≤ MAX_RECORDS)
+    → IfOk r (λ it. IsRestored files it.items)
+all_restored (Ok it) files log kept table master pages redo of_log of_master of_chain read made room =
+    restored_of files log master pages redo it.items of_log of_master of_chain (room log read) (made log read)
+all_restored (Err e) files log kept table master pages redo of_log of_master of_chain read made room = tt
 
-pub undo_or_memory : (r : Result Recovery RestoreFault) (files : Files) (log : Log) (master : Master)
-    (copies : List CopyView) → HasParts files log master copies
-    → IfErr r (λ fault. (fault ≡ OutOfMemory) ⊎ ((fault ≡ LogFull) × (MAX_RECORDS < most_records log)))
+pub log_is_full : {X : Type 0} (r : Result X RestoreFault) (files : Files) (log : Log) (kept : Kept) (table : Table)
+    (master : Master) (pages : List Page) (copies : List CopyView) → HasParts files log master copies
+    → IsRead log kept table pages
+    → IfErr r (λ fault. (fault ≡ LogFull) × ((l : Log) → IsRead l kept table pages → MAX_RECORDS < most_records l))
     → IfErr r (Refused files)
-undo_or_memory (Ok it) files log master copies parts why = tt
-undo_or_memory (Err e) files log master copies parts why = elim why [
-  | inl is ↦ of_memory is
-  | inr full ↦ of_undo log master copies parts full.0 full.1
-]
+log_is_full (Ok it) files log kept table master pages copies parts read why = tt
+log_is_full (Err e) files log kept table master pages copies parts read why =
+    of_undo log master copies parts why.0 (why.1 log read)
 
 -- a reader of an archive failed
 pub read_failed : (why : ChainReadFault) → from.of_chain why ≡ ReadFault → why ≡ chain.ReadFault

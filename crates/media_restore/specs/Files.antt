@@ -2,18 +2,21 @@
 use Rattle.std.specs.Prelude.{ℕ, ◌≡◌, ◌+◌, ◌<◌, ◌≤◌, List, length, map, take, Option, IfSome}
 use Rattle.std.specs.Io.KnownBytes.{Appends, Keeps}
 use Rattle.page_core.specs.declared.page.Page.{Page}
-use Rattle.page_core.specs.Volume.{SpellsVolume}
+use Rattle.page_core.specs.Volume.{AreNumbered, SpellsVolume}
 use Rattle.log_records.specs.declared.limits.TheConstants.{MAX_RECORDS}
 use Rattle.log_records.specs.declared.record.Record.{Record}
 use Rattle.log_records.specs.Coverage.{resume}
 use Rattle.log_records.specs.Image.{image_from, redo_all}
-use Rattle.log_records.specs.Log.{Log}
+use Rattle.log_records.specs.Log.{IsLog, Log}
 use Rattle.log_history.specs.Checkpoint.{IsCompleteCheckpoint}
+use Rattle.log_history.specs.Linked.{IsLinked}
+use Rattle.log_history.specs.Table.{Table, table_of}
 use Rattle.log_history.specs.Transactions.{owed}
 use Rattle.log_store.specs.declared.fault.LogReadFault.{LogReadFault}
 use Rattle.log_store.specs.declared.master.Master.{Master}
 use Rattle.log_store.specs.Fault.{Refuses}
 use Rattle.log_store.specs.Master.{SpellsMaster}
+use Rattle.log_changes.specs.Kept.{Kept, kept_of}
 use Rattle.copy_vault.specs.Chain.{IsChain, contents, last_redo}
 use Rattle.copy_vault.specs.Copy.{CopyView}
 use Rattle.loser_undo.specs.Recovery.{HasCommitted, appended}
@@ -46,6 +49,15 @@ pub record HasParts (files : Files) (log : Log) (master : Master) (copies : List
   pub of_master : IsOfMaster files.master log.records master
   pub of_archives : AreOfArchives files.archives log copies
   pub chain : IsChain copies
+
+-- this was kept of a log, these transactions are open at its end, and its volume has these pages
+pub record IsRead (log : Log) (kept : Kept) (table : Table) (pages : List Page) : Type 0 where
+  pub valid : IsLog log
+  pub linked : IsLinked log.records
+  pub kept : kept ≡ kept_of log
+  pub table : table ≡ table_of log.records
+  pub count : length pages ≡ log.pages
+  pub numbered : AreNumbered pages
 
 -- ---- what is made of it
 

@@ -1,23 +1,23 @@
 //! Restores a volume from files: a log, its master record and the archives of a chain.
 
-ghost use Rattle.std.specs.Prelude.{◌≡◌, ◌<◌, ◌≤◌, ◌⊎◌, map, Err, IfOk, IfErr, OnOk};
-ghost use Rattle.log_history.specs.Checkpoint.{IsCompleteCheckpoint};
+ghost use Rattle.std.specs.Prelude.{◌≡◌, ◌<◌, ◌≤◌, map, Err, IfOk, IfErr, OnOk};
 ghost use Rattle.log_records.specs.Coverage.{resume};
-ghost use Rattle.log_records.specs.Image.{image_from, redo_all};
+ghost use Rattle.log_records.specs.Image.{image_from};
+ghost use Rattle.log_records.specs.Log.{Log};
 ghost use Rattle.log_records.specs.declared.limits.TheConstants.{MAX_RECORDS};
-ghost use Rattle.loser_undo.specs.Recovery.{IsRecovery, appended};
-ghost use Rattle.media_restore.specs.Files.{AreSound, IsRestored, Leaves, Refused, WritesVolume};
+ghost use Rattle.loser_undo.specs.Recovery.{appended};
+ghost use Rattle.media_restore.specs.Files.{IsRead, IsRestored, Leaves, Refused, WritesVolume};
 ghost use Rattle.media_restore.specs.Files.{most_records};
 ghost use Rattle.media_restore.specs.FilesUnread.{FailedUnread};
 ghost use Rattle.media_restore.specs.declared.files_fault.RestoreFault.TheVariants.{LogFull};
-ghost use Rattle.media_restore.specs.declared.files_fault.RestoreFault.TheVariants.{OutOfMemory};
 
 use crate::files_fault::RestoreFault;
 use crate::files_master::read_master;
 use crate::volume_output::write_volume;
 use copy_vault::read_chain_pages;
-use log_store::{LogImage, Master, read_log};
-use loser_undo::{Redone, Undone, undo_all};
+use log_changes::{LogChanges, read_changes, redo_changes, undo_open};
+use log_history::OpenTransactions;
+use log_records::MAX_RECORDS;
 use page_core::{Lsn, PAGE_BYTES, Page, zeros};
 use std::alloc::Global;
 use std::io::{Read, Write};
@@ -33,7 +33,8 @@ const BUFFER_PAGES: usize = 512;
 ///
 /// It does so whoever wrote the files, and whatever their copies lack. Where these lack no change
 /// below that redo point, the volume is that of the log after undo, and has what was committed. The
-/// archives are read side by side, so that beside the volume just one page of each is kept.
+/// archives are read side by side, so that beside the volume just one page of each is kept, and of
+/// the log 16 bytes of each change, and what the transactions have pending that are open at its end.
 ///
 /// The faults of the log come first, those of `read_log`; then those of the master record:
 /// `BadHeader` where its bytes spell none, `BadChain` where it names no complete checkpoint of the
@@ -79,9 +80,9 @@ pub fn restore_files<L: Read, M: Read, A: Read, W: Write>(
           archives = map (λ a. A.remaining a) archives.new;
         }) }
 {
-    let undone = restored(rt, alloc, log, master, archives)?;
+    let pages = restored(rt, alloc, log, master, archives)?;
     let mut buffer = zeros(alloc, BUFFER_PAGES * PAGE_BYTES)?;
-    match write_volume(writer, undone.pages(), &mut buffer) {
+    match write_volume(writer, &pages, &mut buffer) {
         Ok(()) => Ok(()),
         Err(done) => Err(RestoreFault::WriteFault(done)),
     }
@@ -94,13 +95,13 @@ fn restored<L: Read, M: Read, A: Read>(
     log: &mut L,
     master: &mut M,
     archives: &mut [A],
-) -> Result<Undone, RestoreFault>
-    ensures ok { IfOk result (λ it. IsRestored
+) -> Result<Vec<Page>, RestoreFault>
+    ensures ok { IfOk result (λ pages. IsRestored
         (record {
           log = L.remaining log.old;
           master = M.remaining master.old;
           archives = map (λ a. A.remaining a) archives.old;
-        }) it.pages) }
+        }) pages.items) }
     ensures err { IfErr result (Refused
         (record {
           log = L.remaining log.old;
@@ -120,39 +121,33 @@ fn restored<L: Read, M: Read, A: Read>(
           archives = map (λ a. A.remaining a) archives.new;
         }) }
 {
-    let image = read_log(alloc, log)?;
-    let named = read_master(master, image.records())?;
-    let (pages, redo) = read_chain_pages(alloc, archives, image.pages(), image.end())?;
-    recovered(rt, alloc, image, named, pages, redo)
+    let (kept, table) = read_changes(alloc, log)?;
+    read_master(master, &kept)?;
+    let (pages, redo) = read_chain_pages(alloc, archives, kept.pages(), kept.end())?;
+    recovered(rt, kept, table, pages, redo)
 }
 
-/// Redoes a log from a redo point on, and undoes the transactions that are open at its end.
+/// Redoes the changes of a log from a redo point on, and undoes the transactions that are open at
+/// its end. These take no memory.
 fn recovered(
     rt: &(impl Threads + Sync),
-    alloc: Global,
-    log: LogImage,
-    master: Master,
-    pages: Vec<Page>,
+    kept: LogChanges,
+    table: OpenTransactions,
+    mut pages: Vec<Page>,
     redo: Lsn,
-) -> Result<Undone, RestoreFault>
-    requires recovery { IsRecovery (record { log = log; master = master; pages = pages.items }) }
-    requires complete { IsCompleteCheckpoint log.records master.begin master.end }
-    ensures made { IfOk result (λ it. it.pages ≡ map (λ page. image_from page (appended log))
+) -> Result<Vec<Page>, RestoreFault>
+    requires { (log : Log) × IsRead log kept table pages.items }
+    ensures made { IfOk result (λ it. (log : Log) → IsRead log kept table pages.items
+        → it.items ≡ map (λ page. image_from page (appended log))
         (map (λ page. resume page log.records redo) pages.items)) }
-    ensures room { OnOk result (most_records log ≤ MAX_RECORDS) }
-    ensures sound { IfOk result (λ it.
-        map (λ page. resume page log.records redo) pages.items ≡ redo_all log.records log.pages
-        → AreSound log it.pages) }
-    ensures err { IfErr result (λ fault. (fault ≡ OutOfMemory)
-        ⊎ ((fault ≡ LogFull) × (MAX_RECORDS < most_records log))) }
+    ensures room { OnOk result ((log : Log) → IsRead log kept table pages.items
+        → most_records log ≤ MAX_RECORDS) }
+    ensures err { IfErr result (λ fault. (fault ≡ LogFull) × ((log : Log)
+        → IsRead log kept table pages.items → MAX_RECORDS < most_records log)) }
 {
-    let mut redone = match Redone::new(alloc, log, master, pages) {
-        Ok(redone) => redone,
-        Err(_) => return Err(RestoreFault::OutOfMemory),
-    };
-    redone.redo_from(rt, alloc, redo);
-    match undo_all(redone) {
-        Ok(undone) => Ok(undone),
-        Err((_, fault)) => Err(RestoreFault::from(fault)),
+    if kept.count() as u64 + table.owed() > MAX_RECORDS as u64 {
+        return Err(RestoreFault::LogFull);
     }
+    redo_changes(rt, &mut pages, kept.changes(), redo);
+    Ok(undo_open(table, kept.count(), pages))
 }

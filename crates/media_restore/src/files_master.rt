@@ -1,34 +1,35 @@
 //! Reads the master record of a log, and checks that it names a complete checkpoint.
 
-ghost use Rattle.std.specs.Prelude.{ℕ, ◌≡◌, ◌↔◌, ◌≤◌, Err, IfOk, IfErr, IfSome, IsTrue, None, Some};
-ghost use Rattle.log_records.specs.declared.record.Record.TheVariants.{EndChkpt};
-ghost use Rattle.log_history.specs.Checkpoint.{IsCompleteCheckpoint};
+ghost use Rattle.std.specs.Prelude.{◌≡◌, ◌↔◌, ◌≤◌, Err, IfOk, IfErr, IfSome, IsTrue, None, Some};
+ghost use Rattle.log_records.specs.Log.{Log};
 ghost use Rattle.log_history.specs.Linked.{IsLinked};
+ghost use Rattle.log_changes.specs.Kept.{kept_of};
 ghost use Rattle.log_store.specs.Master.{SpellsMaster};
 ghost use Rattle.media_restore.specs.Files.{IsOfMaster, MasterRefused, NotSpelled};
 ghost use Rattle.media_restore.specs.FilesUnread.{FailedInMaster};
 ghost use Rattle.media_restore.specs.declared.files_fault.RestoreFault.TheVariants.{BadHeader};
 
 use crate::files_fault::RestoreFault;
-use log_records::Record;
+use log_changes::LogChanges;
 use log_store::{MASTER_BYTES, Master, decode_master};
 use page_core::{MAX_TURNS, Turn, read_more};
 use std::io::Read;
 
-/// Reads a master record to the input's end, and sees that it names a complete checkpoint of a log
-/// with these records.
+/// Reads a master record to the input's end, and sees that it names a complete checkpoint of the log
+/// of which this was kept.
 pub(crate) fn read_master<M: Read>(
     reader: &mut M,
-    records: &[Record],
+    kept: &LogChanges,
 ) -> Result<Master, RestoreFault>
-    requires { IsLinked records.now }
-    ensures ok { IfOk result (IsOfMaster (M.remaining reader.old) records.now) }
-    ensures err { IfErr result (MasterRefused (M.remaining reader.old) records.now) }
+    ensures ok { IfOk result (λ master. (log : Log) → kept.now ≡ kept_of log
+        → IsLinked log.records → IsOfMaster (M.remaining reader.old) log.records master) }
+    ensures err { IfErr result (λ fault. (log : Log) → kept.now ≡ kept_of log
+        → IsLinked log.records → MasterRefused (M.remaining reader.old) log.records fault) }
     ensures unread { result ≡ Err RestoreFault.ReadFault
         → FailedInMaster (M.remaining reader.old) (M.remaining reader.new) }
 {
     let master = spelled_master(reader)?;
-    if !is_complete(records, &master) {
+    if !kept.has_completed(&master) {
         return Err(RestoreFault::BadChain(master.begin));
     }
     Ok(master)
@@ -76,33 +77,4 @@ fn is_misspelt(filled: usize, found: &Option<Master>) -> bool
     ensures { IsTrue result ↔ ((MASTER_BYTES ≤ filled) × (found.now ≡ None)) }
 {
     filled >= MASTER_BYTES && found.is_none()
-}
-
-/// The checkpoint that a master record names is a complete one of a log with these records.
-fn is_complete(records: &[Record], master: &Master) -> bool
-    requires { IsLinked records.now }
-    ensures { IsTrue result
-        ↔ IsCompleteCheckpoint records.now master.now.begin master.now.end }
-{
-    for entry in records {
-        if is_its_end(entry, master) {
-            return true;
-        }
-    }
-    false
-}
-
-/// The record ends the checkpoint that a master record names.
-fn is_its_end(entry: &Record, master: &Master) -> bool
-    ensures { IsTrue result
-        ↔ ((redo : ℕ) × (entry.now ≡ EndChkpt master.now.end master.now.begin redo)) }
-{
-    match entry {
-        Record::EndChkpt {
-            lsn,
-            begin,
-            redo: _,
-        } => *lsn == master.end && *begin == master.begin,
-        _ => false,
-    }
 }

@@ -1,0 +1,28 @@
+use Rattle.std.proofs.Common.{◌≡◌, ◌∙◌, ◌<◌, List, length, map, ap, arith}
+use Rattle.std.proofs.lemmas.List.{length-map, same_lists}
+use Rattle.log_changes.specs.Placed.{Placed, redone_each}
+use Rattle.log_changes.proofs.Pieces.{in_piece}
+use Rattle.log_changes.proofs.Rising.{all_resumed}
+use Rattle.log_changes.proofs.redo.redo_changes.Goals as goal
+
+pub returns-then-changes-lt-MANY_CHANGES : goal.returns-then-changes-lt-MANY_CHANGES
+returns-then-changes-lt-MANY_CHANGES g c = λ log valid is.
+    c.redo_piece.ensures
+    ∙ ap (λ (changes : List Placed). map (redone_each changes c.args.from) c.args.pages.now) is
+    ∙ all_resumed log c.args.from c.args.pages.now valid
+
+pub returns : goal.returns
+returns g c = λ log valid is.
+    let pages = c.args.pages.now in
+    let changes = c.args.changes.now in
+    let new = c.for_each_chunk_mut.new.s in
+    let step = redone_each changes c.args.from in
+    let long : length new ≡ length pages = c.for_each_chunk_mut.auto.s in
+    let again = length-map pages step in
+    same_lists new (map step pages) (omega arith) (λ k d lt.
+    let below : k < length pages = omega arith in
+    let at = (c.for_each_chunk_mut.ensures.by_index k d below).1 in
+    in_piece step pages new at.argument.now at.after_call.now k at.offset d below at.offset_in_chunk at.old_element
+    at.call at.new_element)
+    ∙ ap (λ (xs : List Placed). map (redone_each xs c.args.from) pages) is
+    ∙ all_resumed log c.args.from pages valid

@@ -1,0 +1,117 @@
+//! A log of which only what a restore needs is kept.
+
+ghost use Rattle.std.specs.Prelude.{◌≡◌, ◌↔◌, ◌∷◌, [], IsTrue, OnOk};
+ghost use Rattle.log_history.specs.Checkpoint.{IsCompleteCheckpoint};
+ghost use Rattle.log_history.specs.Linked.{IsLinked};
+ghost use Rattle.log_records.specs.Log.{IsLog, Log, lsn_of, with_next};
+ghost use Rattle.log_changes.specs.Kept.{kept_of};
+
+use crate::placed_change::PlacedChange;
+use log_records::Record;
+use log_store::{Master, RecordSink};
+use page_core::{LSN_STEP, Lsn};
+use std::alloc::{AllocError, Global};
+use std::marker::Model;
+
+/// What a restore keeps of a log: of each change 16 bytes, and the checkpoints that were completed.
+#[derive(Drop)]
+pub struct LogChanges {
+    pages: u32,
+    count: u32,
+    changes: Vec<PlacedChange>,
+    checkpoints: Vec<Master>,
+}
+
+impl Model for LogChanges {
+    ghost use Rattle.log_changes.specs.Kept.{Kept};
+
+    ghost Value = { Kept };
+
+    ghost view = { λ it. record {
+      pages = it.pages;
+      count = it.count;
+      changes = it.changes.items;
+      checkpoints = it.checkpoints.items;
+    } };
+}
+
+impl LogChanges {
+    /// How many pages the volume of the log has.
+    pub fn pages(&self) -> u32
+        ensures { result ≡ self.now.pages }
+    {
+        self.pages
+    }
+
+    /// How many records the log has.
+    pub fn count(&self) -> usize
+        ensures { result ≡ self.now.count }
+    {
+        self.count as usize
+    }
+
+    /// The LSN after the last record.
+    pub fn end(&self) -> Lsn
+        ensures { result ≡ lsn_of self.now.count }
+    {
+        Lsn(LSN_STEP * (self.count as u64 + 1))
+    }
+
+    /// The changes, in the order of the log.
+    pub fn changes(&self) -> &[PlacedChange]
+        ensures { result.now ≡ self.now.changes }
+    {
+        &self.changes
+    }
+
+    /// Whether a master record names a complete checkpoint of the log.
+    pub fn has_completed(&self, master: &Master) -> bool
+        ensures { (log : Log) → self.now ≡ kept_of log → IsLinked log.records → (IsTrue result
+            ↔ IsCompleteCheckpoint log.records master.now.begin master.now.end) }
+    {
+        for checkpoint in &self.checkpoints {
+            if checkpoint.begin == master.begin && checkpoint.end == master.end {
+                return true;
+            }
+        }
+        false
+    }
+
+    /// Keeps what is needed of the next record.
+    fn keep(&mut self, next: &Record) -> Result<(), AllocError>
+        requires { (log : Log)
+            × ((self.old ≡ kept_of log) × IsLog (with_next log (next.now ∷ []))) }
+        ensures { OnOk result ((log : Log) → self.old ≡ kept_of log
+            → IsLog (with_next log (next.now ∷ []))
+            → self.new ≡ kept_of (with_next log (next.now ∷ []))) }
+    {
+        if let Some(change) = next.change() {
+            self.changes.push(PlacedChange::new(next.lsn(), change))?;
+        }
+        if let Record::EndChkpt { lsn, begin, .. } = *next {
+            self.checkpoints.push(Master { begin, end: lsn })?;
+        }
+        self.count += 1;
+        Ok(())
+    }
+}
+
+impl RecordSink for LogChanges {
+    ghost holds = { λ sink log. sink ≡ kept_of log };
+
+    fn start(alloc: Global, pages: u32) -> Result<LogChanges, AllocError> {
+        Ok(LogChanges {
+            pages,
+            count: 0,
+            changes: Vec::new(alloc),
+            checkpoints: Vec::new(alloc),
+        })
+    }
+
+    fn take(&mut self, next: &[Record]) -> Result<(), AllocError> {
+        for record in next {
+            self.keep(record)?;
+        }
+        Ok(())
+    }
+}

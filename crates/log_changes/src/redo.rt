@@ -1,0 +1,81 @@
+//! Redoes changes on all pages of a volume, in several threads.
+
+ghost use Rattle.std.specs.Prelude.{◌≡◌, ◌<◌, length, map};
+ghost use Rattle.log_records.specs.Coverage.{resume};
+ghost use Rattle.log_records.specs.Image.{AreNumbered};
+ghost use Rattle.log_records.specs.Log.{IsLog, Log};
+ghost use Rattle.log_changes.specs.Placed.{AreNumberedFrom, is_redone, placed_in, redone_by};
+ghost use Rattle.log_changes.specs.Placed.{redone_each};
+
+use crate::placed_change::PlacedChange;
+use page_core::{Lsn, Page};
+use std::thread::{Threads, for_each_chunk_mut};
+
+/// So many changes are worth the threads: to start these takes as long as some thousand changes.
+pub const MANY_CHANGES: usize = 16_384;
+
+/// The pages are split into at most so many pieces, of which each is a thread's.
+const PIECES: usize = 4;
+
+/// Redoes the changes of a log from a redo point on, over the pages of its volume: on each page the
+/// changes at or above that point that are above the page's LSN, in their order. Where there are
+/// many, the pages are split into pieces, and for each piece a thread goes over all changes; a few
+/// changes are redone by the calling thread. It allocates nothing, and it never refuses: a piece
+/// for which no thread can be started is redone by another thread.
+pub fn redo_changes(
+    rt: &(impl Threads + Sync),
+    pages: &mut [Page],
+    changes: &[PlacedChange],
+    from: Lsn,
+)
+    requires numbered { AreNumbered pages.old }
+    ensures { (log : Log) → IsLog log → changes.now ≡ placed_in log.records
+        → pages.new ≡ map (λ page. resume page log.records from) pages.old }
+{
+    if changes.len() < MANY_CHANGES || pages.is_empty() {
+        redo_piece(pages, 0, changes, from);
+        return;
+    }
+    let size = pages.len().div_ceil(PIECES);
+    for_each_chunk_mut(
+        rt,
+        pages,
+        size,
+        &|first: usize, piece: &mut [Page]|
+            requires { AreNumberedFrom first piece.old }
+            ensures { piece.new ≡ map (redone_each changes.entry.now from) piece.old }
+        { redo_piece(piece, first, changes, from) },
+    );
+}
+
+/// Redoes changes, in their order, on the pages of a piece, of which the first has this number.
+fn redo_piece(pages: &mut [Page], first: usize, changes: &[PlacedChange], from: Lsn)
+    requires numbered { AreNumberedFrom first pages.old }
+    ensures { pages.new ≡ map (redone_each changes.now from) pages.old }
+{
+    for change in changes {
+        redo_change(pages, first, change, from);
+    }
+}
+
+/// Redoes a change on its page, if the piece has that.
+fn redo_change(pages: &mut [Page], first: usize, change: &PlacedChange, from: Lsn)
+    requires numbered { AreNumberedFrom first pages.old }
+    ensures { pages.new ≡ map (λ page. redone_by from page change.now) pages.old }
+{
+    let number = change.page().0 as usize;
+    if first <= number && number - first < pages.len() {
+        let page = &mut pages[number - first];
+        if is_redone(from, page.lsn, change) {
+            change.apply_to(page);
+        }
+    }
+}
+
+/// Whether redo from a redo point makes a change on its page, which has this LSN by now. That is as
+/// good as the LSN before redo, since the LSNs of a log's changes rise.
+fn is_redone(from: Lsn, lsn: Lsn, change: &PlacedChange) -> bool
+    ensures { result ≡ is_redone from lsn change.now }
+{
+    from <= change.lsn() && lsn < change.lsn()
+}
