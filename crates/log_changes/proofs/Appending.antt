@@ -1,5 +1,5 @@
 -- A record of undo more: the table, the count and the pages go on with the log.
-use Rattle.std.proofs.Common.{◌≡◌, ℕ, ◌+◌, ◌<◌, ◌≤◌, List, [], ◌∷◌, ◌++◌, length, map, sym, refl, ap, subst, ◌∙◌, arith}
+use Rattle.std.proofs.Common.{◌≡◌, ◌+◌, ◌≤◌, List, [], ◌∷◌, ◌++◌, length, map, sym, refl, ap, subst, ◌∙◌, arith}
 use Rattle.std.proofs.Common.{append_assoc, true}
 use Rattle.std.specs.Prelude.{Result, Ok, Err, OnOk}
 use Rattle.std.specs.Result.{is_ok}
@@ -9,7 +9,7 @@ use Rattle.log_records.specs.declared.limits.TheConstants.{MAX_RECORDS}
 use Rattle.log_records.specs.declared.record.Record.{Record}
 use Rattle.log_records.specs.declared.record.Record.TheVariants.{Begin, Update, Comp, Commit, Abort, End, BeginChkpt}
 use Rattle.log_records.specs.declared.record.Record.TheVariants.{ChkptPages, ChkptTxns, EndChkpt}
-use Rattle.log_records.specs.Image.{AreNumbered, image_from, with_record}
+use Rattle.log_records.specs.Image.{image_from, with_record}
 use Rattle.log_records.specs.Log.{IsLog, Log, StandsAt, lsn_of}
 use Rattle.log_records.proofs.Images.{image_from-append}
 use Rattle.log_history.specs.Linked.{IsLinked, MayFollow}

@@ -1,10 +1,10 @@
 -- The Ends of open transactions that have nothing pending.
-use Rattle.std.proofs.Common.{◌≡◌, ◌≢◌, ℕ, zero, suc, ◌+◌, ◌-◌, ◌<◌, ◌≤◌, Bool, true, false, cond, ◌&&◌, List, [], ◌∷◌, ◌++◌}
+use Rattle.std.proofs.Common.{◌≡◌, ℕ, zero, suc, ◌+◌, ◌-◌, ◌<◌, ◌≤◌, Bool, true, false, cond, ◌&&◌, List, [], ◌++◌}
 use Rattle.std.proofs.Common.{length, refl, sym, ap, subst, ◌∙◌, arith, inl, inr, true≢false, append-nil}
-use Rattle.std.specs.Prelude.{Option, Some, None}
+use Rattle.std.specs.Prelude.{Some, None}
 use Rattle.std.specs.List.{fold}
 use Rattle.std.specs.Option.{option_and_then, option_map}
-use Rattle.std.proofs.lemmas.Bool.{cases_eq, cases_Bool, cases_lt}
+use Rattle.std.proofs.lemmas.Bool.{cases_eq, cases_Bool}
 use Rattle.log_records.specs.declared.record.Record.{Record}
 use Rattle.log_records.specs.declared.limits.TheConstants.{MAX_RECORDS}
 use Rattle.log_records.specs.Log.{IsLog, Log}
@@ -23,7 +23,7 @@ use Rattle.loser_undo.specs.Undo.{end_of, is_undone, spent, with_end}
 use Rattle.loser_undo.proofs.Loops.{all_ended_below, ended_below, ended_more}
 use Rattle.loser_undo.proofs.Phases.{closed_by_end}
 use Rattle.log_changes.specs.Undo.{HasAppended, IsAppendedTo, UndoView}
-use Rattle.log_changes.proofs.Nexts.{IsNext, next_is, none_next}
+use Rattle.log_changes.proofs.Nexts.{next_is, none_next}
 
 -- ---- which transactions are open
 

@@ -1,6 +1,7 @@
 pub mod Appending
 pub mod Completed
 pub mod Ending
+pub mod Keeping
 pub mod Nexts
 pub mod Pieces
 pub mod Rising

@@ -1,7 +1,7 @@
 -- The records that undo appends, as they are written.
 use Rattle.std.proofs.Common.{◌≡◌, ℕ, Bool, true, false, cond, ◌&&◌, not, List, [], ◌∷◌, ◌++◌, length, refl, sym, ap, ap₂, subst, ◌∙◌}
-use Rattle.std.proofs.Common.{append_assoc, eqb, eqb-true, true≢false}
-use Rattle.std.specs.Prelude.{Option, Some, None}
+use Rattle.std.proofs.Common.{append_assoc, eqb, eqb-true}
+use Rattle.std.specs.Prelude.{Some, None}
 use Rattle.std.specs.Option.{option_map}
 use Rattle.std.proofs.lemmas.Option.{same_Some}
 use Rattle.page_core.specs.declared.change.Change.{Change}
@@ -9,11 +9,11 @@ use Rattle.page_core.specs.declared.page.Page.{Page}
 use Rattle.page_core.specs.Change.{undo_of}
 use Rattle.log_records.specs.declared.record.Record.{Record}
 use Rattle.log_records.specs.declared.record.Record.TheVariants.{Comp, End}
-use Rattle.log_records.specs.Log.{IsLog, Log, StandsAt, lsn_of}
+use Rattle.log_records.specs.Log.{Log, StandsAt, lsn_of}
 use Rattle.log_history.specs.declared.pending_change.PendingChange.{PendingChange}
 use Rattle.log_history.specs.declared.txn_state.TxnState.{TxnState}
-use Rattle.log_history.specs.Linked.{IsLinked, MayFollow}
-use Rattle.log_history.specs.Table.{Entry, Table, entry_in, entry_of, table_of}
+use Rattle.log_history.specs.Linked.{MayFollow}
+use Rattle.log_history.specs.Table.{Table, entry_in, entry_of, table_of}
 use Rattle.log_history.specs.Transactions.{is_open, last_lsn, last_of, pending}
 use Rattle.log_history.specs.TxnState.{state_of}
 use Rattle.log_history.proofs.Checks.{entry_in-table_of}
@@ -67,7 +67,7 @@ pushed log start behind r made new same has = (
   behind ++ r ∷ [],
   (
     sym (append_assoc log.records behind (r ∷ []))
-    ∙ ap (λ (x : Record). (log.records ++ behind) ++ x ∷ []) same,
+        ∙ ap (λ (x : Record). (log.records ++ behind) ++ x ∷ []) same,
     has,
   ),
 )

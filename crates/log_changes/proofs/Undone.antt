@@ -1,12 +1,12 @@
 -- The lost changes taken back, one after another.
-use Rattle.std.proofs.Common.{◌≡◌, ◌≢◌, ℕ, suc, ◌+◌, ◌<◌, ◌≤◌, Bool, true, false, cond, List, [], ◌∷◌, ◌++◌, drop, get_or}
-use Rattle.std.proofs.Common.{length, map, refl, sym, ap, subst, ◌∙◌, arith, inl, inr, true≢false, eqb}
+use Rattle.std.proofs.Common.{◌≡◌, ◌≢◌, ℕ, suc, ◌<◌, ◌≤◌, Bool, true, false, cond, List, [], ◌∷◌, ◌++◌, drop}
+use Rattle.std.proofs.Common.{length, map, refl, sym, ap, subst, ◌∙◌, arith, inl, inr}
 use Rattle.std.specs.Prelude.{Option, Some, None, IfSome, reverse}
 use Rattle.std.specs.List.{All, AllPairs, filter, filter_map, fold}
 use Rattle.std.proofs.Math.Seq.{drop-append_seam}
 use Rattle.std.proofs.lemmas.Bool.{cases_eq}
 use Rattle.std.proofs.lemmas.List.{length_push, reverse-reverse}
-use Rattle.std.proofs.lemmas.List.Elements.{All-filter, All-map, All-nil, All-push, All-head, All-tail}
+use Rattle.std.proofs.lemmas.List.Elements.{All-filter, All-map, All-push, All-head, All-tail}
 use Rattle.std.proofs.lemmas.Option.{same_Some}
 use mathlib.Core.List.{reverse-cons}
 use Rattle.page_core.specs.declared.page.Page.{Page}

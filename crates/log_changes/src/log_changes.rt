@@ -1,10 +1,14 @@
 //! A log of which only what a restore needs is kept.
 
-ghost use Rattle.std.specs.Prelude.{◌≡◌, ◌↔◌, ◌∷◌, [], IsTrue, OnOk};
+ghost use Rattle.std.specs.Prelude.{ℕ, ◌≡◌, ◌↔◌, ◌<◌, ◌++◌, ◌∷◌, [], IsTrue, OnOk};
+ghost use Rattle.std.specs.Option.{option_to_list};
+ghost use Rattle.log_records.specs.declared.limits.TheConstants.{MAX_RECORDS};
+ghost use Rattle.log_records.specs.Record.{IsRecord, own_lsn};
 ghost use Rattle.log_history.specs.Checkpoint.{IsCompleteCheckpoint};
 ghost use Rattle.log_history.specs.Linked.{IsLinked};
 ghost use Rattle.log_records.specs.Log.{IsLog, Log, lsn_of, with_next};
-ghost use Rattle.log_changes.specs.Kept.{kept_of};
+ghost use Rattle.log_changes.specs.Kept.{completed_by, kept_of};
+ghost use Rattle.log_changes.specs.Placed.{placed_by};
 
 use crate::placed_change::PlacedChange;
 use log_records::Record;
@@ -85,12 +89,8 @@ impl LogChanges {
             → IsLog (with_next log (next.now ∷ []))
             → self.new ≡ kept_of (with_next log (next.now ∷ []))) }
     {
-        if let Some(change) = next.change() {
-            self.changes.push(PlacedChange::new(next.lsn(), change))?;
-        }
-        if let Record::EndChkpt { lsn, begin, .. } = *next {
-            self.checkpoints.push(Master { begin, end: lsn })?;
-        }
+        keep_change(&mut self.changes, next)?;
+        keep_checkpoint(&mut self.checkpoints, next)?;
         self.count += 1;
         Ok(())
     }
@@ -114,4 +114,28 @@ impl RecordSink for LogChanges {
         }
         Ok(())
     }
+}
+
+/// Keeps the change of a record, if it makes one.
+fn keep_change(changes: &mut Vec<PlacedChange>, next: &Record) -> Result<(), AllocError>
+    requires valid { IsRecord next.now }
+    requires stands { (n : ℕ) × ((n < MAX_RECORDS) × (own_lsn next.now ≡ lsn_of n)) }
+    ensures { OnOk result (changes.new.items
+        ≡ changes.old.items ++ option_to_list (placed_by next.now)) }
+{
+    if let Some(change) = next.change() {
+        changes.push(PlacedChange::new(next.lsn(), change))?;
+    }
+    Ok(())
+}
+
+/// Keeps the checkpoint that a record completes, if it does.
+fn keep_checkpoint(checkpoints: &mut Vec<Master>, next: &Record) -> Result<(), AllocError>
+    ensures { OnOk result (checkpoints.new.items
+        ≡ checkpoints.old.items ++ option_to_list (completed_by next.now)) }
+{
+    if let Record::EndChkpt { lsn, begin, .. } = *next {
+        checkpoints.push(Master { begin, end: lsn })?;
+    }
+    Ok(())
 }

@@ -202,7 +202,11 @@ pub fn undo_open(table: OpenTransactions, count: usize, pages: Vec<Page>) -> Vec
     ensures { (log : Log) → IsToUndo log table count pages.items
         → result.items ≡ map (λ page. image_from page (appended log)) pages.items }
 {
-    let mut undo = PageUndo { table, count, pages };
+    let mut undo = PageUndo {
+        table,
+        count,
+        pages,
+    };
     undo.end_spent();
     while let Some((txn, change)) = undo.last_lost() {
         undo.take_back(txn, change);

@@ -19,11 +19,22 @@ take_back-requires c =
     let log = c.requires.0 in
     let start = c.args.pages.items in
     let is = c.loop-txn.invariant log c.requires.1 in
-    let next = next_lost log start c.loop-txn.undo is _ _ c.in-Some.ensures in
-    (log, (start, (is.at.0, (is.at.1.1, (
-      next_live log start c.loop-txn.undo is _ _ next,
-      next_final log start c.loop-txn.undo is _ _ next,
-    )))))
+    let next = next_lost log start c.loop-txn.undo is _ _ c.in-Some.ensures in (
+      log,
+      (
+        start,
+        (
+          is.at.0,
+          (
+            is.at.1.1,
+            (
+              next_live log start c.loop-txn.undo is _ _ next,
+              next_final log start c.loop-txn.undo is _ _ next,
+            ),
+          ),
+        ),
+      ),
+    )
 
 pub loop-txn-smaller : goal.loop-txn-smaller
 loop-txn-smaller c =

@@ -1,6 +1,5 @@
-use Rattle.std.proofs.Common.{◌≡◌, ◌∙◌, ◌+◌, ◌++◌, List, ap, length, map, subst, sym}
+use Rattle.std.proofs.Common.{◌∙◌, ◌+◌, ◌++◌, ap, length, map, subst, sym}
 use Rattle.std.proofs.lemmas.List.{length-map, with_items_is}
-use Rattle.page_core.specs.declared.page.Page.{Page}
 use Rattle.log_records.specs.Image.{AreNumbered, with_record}
 use Rattle.log_records.proofs.Images.{numbered-images}
 use Rattle.log_history.specs.Table.{MayNote, Table, noted}

@@ -1,5 +1,4 @@
-use Rattle.std.proofs.Common.{◌≡◌, ◌∙◌, ◌<◌, ap, arith, subst, sym}
-use Rattle.std.specs.Prelude.{None, Some}
+use Rattle.std.proofs.Common.{◌∙◌, ap, arith, subst, sym}
 use Rattle.std.specs.Option.{option_and_then, option_map}
 use Rattle.log_history.specs.Table.{entry_in}
 use Rattle.log_history.specs.TxnState.{next_in, state_of}

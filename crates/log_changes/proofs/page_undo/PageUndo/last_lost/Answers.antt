@@ -1,7 +1,6 @@
-use Rattle.std.proofs.Common.{◌≡◌, ◌∙◌, ◌+◌, ◌<◌, ◌++◌, ap, arith, subst, sym}
-use Rattle.std.specs.Prelude.{MatchOption, None, Option, Some}
+use Rattle.std.proofs.Common.{◌≡◌, ◌∙◌, ◌+◌, ◌++◌, ap, arith, subst, sym}
+use Rattle.std.specs.Prelude.{MatchOption, None, Some}
 use Rattle.std.specs.Option.{option_and_then, option_map}
-use Rattle.log_history.specs.declared.pending_change.PendingChange.{PendingChange}
 use Rattle.log_history.specs.Table.{Table, entry_in}
 use Rattle.log_history.specs.Transactions.{last_of}
 use Rattle.log_history.specs.TxnState.{next_in, state_of}
