@@ -51,11 +51,11 @@ pub record HasParts (files : Files) (log : Log) (master : Master) (copies : List
   pub chain : IsChain copies
 
 -- this was kept of a log, these transactions are open at its end, and its volume has these pages
-pub record IsRead (log : Log) (kept : Kept) (table : Table) (pages : List Page) : Type 0 where
+pub record IsRead (log : Log) (k : Kept) (t : Table) (pages : List Page) : Type 0 where
   pub valid : IsLog log
   pub linked : IsLinked log.records
-  pub kept : kept ≡ kept_of log
-  pub table : table ≡ table_of log.records
+  pub kept : k ≡ kept_of log
+  pub table : t ≡ table_of log.records
   pub count : length pages ≡ log.pages
   pub numbered : AreNumbered pages
 

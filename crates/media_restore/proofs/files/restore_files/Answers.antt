@@ -7,22 +7,22 @@ use Rattle.page_core.specs.Page.{volume_bytes}
 use Rattle.media_restore.proofs.Restored.{leaves, restored_spelled}
 use Rattle.media_restore.proofs.files.restore_files.Goals as goal
 
-pub returns-in_err-undone-clause-err : goal.returns-in_err-undone-clause-err
-returns-in_err-undone-clause-err g c =
+pub returns-in_err-pages-clause-err : goal.returns-in_err-pages-clause-err
+returns-in_err-pages-clause-err g c =
     let files : Files = record {
       log = g.L.Read.remaining c.args.log.now;
       master = g.M.Read.remaining c.args.master.now;
       archives = map g.A.Read.remaining c.args.archives.now;
     } in
-    let p = err_from_is_err_and c.from_residual.result c.from_residual.ensures.1 in
+    let p = err_from_is_err_and c.from_residual-in_err-pages.result c.from_residual-in_err-pages.ensures.1 in
     rw (p.1, p.2)
-    (leaves files (g.W.Write.contents c.args.writer.now) c.in_err-undone.field-0.0 c.in_err-undone.ensures.err)
+    (leaves files (g.W.Write.contents c.args.writer.now) c.in_err-pages.field-0.0 c.in_err-pages.ensures.err)
 
-pub returns-in_err-undone-clause-unread : goal.returns-in_err-undone-clause-unread
-returns-in_err-undone-clause-unread g c =
-    let p = err_from_is_err_and c.from_residual.result c.from_residual.ensures.1 in
+pub returns-in_err-pages-clause-unread : goal.returns-in_err-pages-clause-unread
+returns-in_err-pages-clause-unread g c =
+    let p = err_from_is_err_and c.from_residual-in_err-pages.result c.from_residual-in_err-pages.ensures.1 in
     rw (p.1, p.2) (λ is.
-    let same : c.in_err-undone.field-0.0 ≡ ReadFault = cc in c.in_err-undone.ensures.unread (ap Err same))
+    let same : c.in_err-pages.field-0.0 ≡ ReadFault = cc in c.in_err-pages.ensures.unread (ap Err same))
 
 pub returns-in-Ok-clause-ok : goal.returns-in-Ok-clause-ok
 returns-in-Ok-clause-ok g c =
@@ -31,8 +31,8 @@ returns-in-Ok-clause-ok g c =
       master = g.M.Read.remaining c.args.master.now;
       archives = map g.A.Read.remaining c.args.archives.now;
     } in
-    let pages = c.pages.result.now in
-    let from = subst (IsRestored files) (sym c.pages.ensures) c.in_ok-undone.ensures.ok in
+    let pages = c.deref.result.now in
+    let from = subst (IsRestored files) (sym c.deref.ensures.value) c.in_ok-pages.ensures.ok in
     record {
       pages = pages;
       from = from;
@@ -48,8 +48,8 @@ returns-clause-err g c =
       master = g.M.Read.remaining c.args.master.now;
       archives = map g.A.Read.remaining c.args.archives.now;
     } in
-    let pages = c.pages.result.now in
-    let from = subst (IsRestored files) (sym c.pages.ensures) c.in_ok-undone.ensures.ok in
+    let pages = c.deref.result.now in
+    let from = subst (IsRestored files) (sym c.deref.ensures.value) c.in_ok-pages.ensures.ok in
     record {
       pages = pages;
       from = from;
