@@ -7,3 +7,4 @@ mod Rebuilds
 pub mod Restored
 mod Saved
 mod SavedFaults
+mod Undoing

@@ -14,13 +14,13 @@ returns-in_err-pages-clause-err g c =
       master = g.M.Read.remaining c.args.master.now;
       archives = map g.A.Read.remaining c.args.archives.now;
     } in
-    let p = err_from_is_err_and c.from_residual-in_err-pages.result c.from_residual-in_err-pages.ensures.1 in
+    let p = err_from_is_err_and c.from_residual.result c.from_residual.ensures.1 in
     rw (p.1, p.2)
     (leaves files (g.W.Write.contents c.args.writer.now) c.in_err-pages.field-0.0 c.in_err-pages.ensures.err)
 
 pub returns-in_err-pages-clause-unread : goal.returns-in_err-pages-clause-unread
 returns-in_err-pages-clause-unread g c =
-    let p = err_from_is_err_and c.from_residual-in_err-pages.result c.from_residual-in_err-pages.ensures.1 in
+    let p = err_from_is_err_and c.from_residual.result c.from_residual.ensures.1 in
     rw (p.1, p.2) (λ is.
     let same : c.in_err-pages.field-0.0 ≡ ReadFault = cc in c.in_err-pages.ensures.unread (ap Err same))
 
