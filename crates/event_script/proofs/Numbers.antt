@@ -1,27 +1,36 @@
--- Numbers that are too large.
-use Rattle.std.specs.Prelude.{ℕ, ◌≡◌, ◌+◌, ◌-◌, ◌*◌, ◌<◌, ◌≤◌, ◌&&◌, zero, suc, List, [], ◌∷◌, length, drop, get_or}
-use Rattle.std.specs.Prelude.{Bool, true, false, nat_le, nat_lt, refl, Some, None, if◌then◌else◌}
+-- The number that digits make, and numbers that are too large.
+use Rattle.std.specs.Prelude.{ℕ, ◌≡◌, ◌+◌, ◌-◌, ◌*◌, ◌^◌, ◌<◌, ◌≤◌, ◌&&◌, suc, List, [], ◌∷◌, ◌++◌, length}
+use Rattle.std.specs.Prelude.{Bool, true, false, nat_le, nat_lt, refl, Option, Some, None, SomeIff, if◌then◌else◌}
 use Rattle.std.proofs.Common.{arith, sym, ap, ◌∙◌}
+use Rattle.std.proofs.Math.Nat.{pow-le-pow_right, pow-suc}
 use Rattle.std.proofs.lemmas.Bool.Decides.{nat_tests}
-use Rattle.std.proofs.lemmas.List.{drop_all}
 use Rattle.event_script.specs.Words.{below, digits_after, is_digit, number_of}
+
+-- a number of fewer than 19 digits leaves room for one more
+pub room : (number i : ℕ) → number < 10 ^ i → i < 19 → number * 10 + 9 < 18446744073709551616
+room number i small few =
+    let one_more : 10 ^ suc i ≡ 10 ^ i * 10 = pow-suc 10 i in
+    let most : 10 ^ suc i ≤ 10 ^ 19 = pow-le-pow_right (omega arith) {i = suc i} {j = 19} (omega arith) in
+    omega (arith, one_more, most)
 
 not_below : (bound number : ℕ) → bound ≤ number → below bound (Some number) ≡ None
 not_below bound number large =
     let no : nat_lt number bound ≡ false = grind (arith, nat_tests) in
     ap (λ (b : Bool). if b then Some number else None) no
 
-pub too_large : (bound number : ℕ) (digits : List ℕ) → bound ≤ number → below bound (digits_after number digits) ≡ None
-too_large bound number [] large = not_below bound number large
-too_large bound number (byte ∷ bytes) large =
-    elim (is_digit byte)
-    as (λ b. below bound (if b then digits_after (number * 10 + (byte - 48)) bytes else None) ≡ None) [
-      | true ↦ too_large bound (number * 10 + (byte - 48)) bytes (omega arith)
-      | false ↦ refl
-    ]
+is_below : (bound number : ℕ) → number < bound → below bound (Some number) ≡ Some number
+is_below bound number small =
+    let yes : nat_lt number bound ≡ true = grind (arith, nat_tests) in
+    ap (λ (b : Bool). if b then Some number else None) yes
+
+-- a sum, where it fits
+pub sum_below : (sum : Option ℕ) (a b : ℕ) → SomeIff sum (a + b < 18446744073709551616) (a + b)
+    → sum ≡ below 18446744073709551616 (Some (a + b))
+sum_below None a b large = sym (not_below 18446744073709551616 (a + b) (omega (arith, large)))
+sum_below (Some s) a b small = ap Some small.1 ∙ sym (is_below 18446744073709551616 (a + b) small.0)
 
 -- a word whose digits make no number that fits
-pub no_number : (word : List ℕ) → below 18446744073709551616 (digits_after 0 word) ≡ None → None ≡ number_of word
+no_number : (word : List ℕ) → below 18446744073709551616 (digits_after 0 word) ≡ None → None ≡ number_of word
 no_number word none =
     elim (nat_le 1 (length word) && nat_le (length word) 20)
     as (λ b. None ≡ (if b then below 18446744073709551616 (digits_after 0 word) else None)) [
@@ -29,33 +38,78 @@ no_number word none =
       | false ↦ refl
     ]
 
--- one more digit
-step : (number : ℕ) (word : List ℕ) (i : ℕ) → i < length word → is_digit (get_or word i 0) ≡ true
-    → digits_after number (drop i word) ≡ digits_after (number * 10 + (get_or word i 0 - 48)) (drop (suc i) word)
-step number [] i within digit = absurd (omega arith)
-step number (byte ∷ word) zero within digit =
-    ap (λ (b : Bool). if b then digits_after (number * 10 + (byte - 48)) word else None) digit
-step number (byte ∷ word) (suc i) within digit = step number word i (omega arith) digit
+-- behind digits that make a number
+go_on : (number so_far : ℕ) (digits more : List ℕ) → digits_after number digits ≡ Some so_far
+    → digits_after number (digits ++ more) ≡ digits_after so_far more
+go_on number so_far [] more made =
+    let same : number ≡ so_far = cc in
+    ap (λ (n : ℕ). digits_after n more) same
+go_on number so_far (byte ∷ bytes) more made =
+    elim (is_digit byte)
+    as (λ b. (if b then digits_after (number * 10 + (byte - 48)) bytes else None) ≡ Some so_far
+    → (if b then digits_after (number * 10 + (byte - 48)) (bytes ++ more) else None)
+    ≡ digits_after so_far more) [
+      | true ↦ λ read. go_on (number * 10 + (byte - 48)) so_far bytes more read
+      | false ↦ λ read. cc
+    ] made
 
--- the digits so far and the next one make a number that does not fit
-pub overflows : (number : ℕ) (word : List ℕ) (i : ℕ) → i < length word → is_digit (get_or word i 0) ≡ true
-    → 18446744073709551616 ≤ number * 10 + (get_or word i 0 - 48)
-    → digits_after number (drop i word) ≡ digits_after 0 word → None ≡ number_of word
-overflows number word i within digit large so_far =
-    no_number word (ap (below 18446744073709551616) (sym so_far ∙ step number word i within digit)
-    ∙ too_large 18446744073709551616 (number * 10 + (get_or word i 0 - 48)) (drop (suc i) word) large)
+-- behind what makes no number
+stop : (number : ℕ) (bytes more : List ℕ) → digits_after number bytes ≡ None
+    → digits_after number (bytes ++ more) ≡ None
+stop number [] more none = cc
+stop number (byte ∷ bytes) more none =
+    elim (is_digit byte)
+    as (λ b. (if b then digits_after (number * 10 + (byte - 48)) bytes else None) ≡ None
+    → (if b then digits_after (number * 10 + (byte - 48)) (bytes ++ more) else None) ≡ None) [
+      | true ↦ λ none. stop (number * 10 + (byte - 48)) bytes more none
+      | false ↦ λ none. refl
+    ] none
 
--- all digits are read
-pub exact : (number : ℕ) (word : List ℕ) (i : ℕ) → length word ≤ i → number < 18446744073709551616
-    → 0 < length word → length word ≤ 20
-    → digits_after number (drop i word) ≡ digits_after 0 word → Some number ≡ number_of word
-exact number word i end fits some few so_far =
-    let rest : drop i word ≡ [] = drop_all i word end in
-    let made : digits_after 0 word ≡ Some number = sym so_far ∙ ap (digits_after number) rest in
+-- the last byte is no digit
+no_digit : (number : ℕ) (bytes : List ℕ) (last : ℕ) → is_digit last ≡ false
+    → digits_after number (bytes ++ (last ∷ [])) ≡ None
+no_digit number [] last other =
+    ap (λ (b : Bool). if b then Some (number * 10 + (last - 48)) else None) other
+no_digit number (byte ∷ bytes) last other =
+    elim (is_digit byte)
+    as (λ b. (if b then digits_after (number * 10 + (byte - 48)) (bytes ++ (last ∷ [])) else None) ≡ None) [
+      | true ↦ no_digit (number * 10 + (byte - 48)) bytes last other
+      | false ↦ refl
+    ]
+
+pub too_long : (word : List ℕ) → 20 < length word → None ≡ number_of word
+too_long word long =
+    let low : nat_le 1 (length word) ≡ true = grind (arith, nat_tests) in
+    let high : nat_le (length word) 20 ≡ false = grind (arith, nat_tests) in
+    sym (ap (λ (b : Bool). if b then below 18446744073709551616 (digits_after 0 word) else None)
+    (ap (λ (b : Bool). b && nat_le (length word) 20) low ∙ high))
+
+pub ends_badly : (word digits : List ℕ) (last : ℕ) → word ≡ digits ++ (last ∷ []) → is_digit last ≡ false
+    → None ≡ number_of word
+ends_badly word digits last e other =
+    no_number word (ap (below 18446744073709551616) (ap (digits_after 0) e ∙ no_digit 0 digits last other))
+
+pub begins_badly : (word digits : List ℕ) (last : ℕ) → word ≡ digits ++ (last ∷ []) → digits_after 0 digits ≡ None
+    → None ≡ number_of word
+begins_badly word digits last e none =
+    no_number word (ap (below 18446744073709551616) (ap (digits_after 0) e ∙ stop 0 digits (last ∷ []) none))
+
+-- the digits before the last one make a number
+pub with_last : (word digits : List ℕ) (last number : ℕ) → word ≡ digits ++ (last ∷ []) → length word ≡ 20
+    → digits_after 0 digits ≡ Some number → is_digit last ≡ true
+    → number_of word ≡ below 18446744073709551616 (Some (number * 10 + (last - 48)))
+with_last word digits last number e count made digit =
     let low : nat_le 1 (length word) ≡ true = grind (arith, nat_tests) in
     let high : nat_le (length word) 20 ≡ true = grind (arith, nat_tests) in
-    let below_bound : nat_lt number 18446744073709551616 ≡ true = grind (arith, nat_tests) in
-    sym (ap (λ (b : Bool). if b then below 18446744073709551616 (digits_after 0 word) else None)
+    ap (λ (b : Bool). if b then below 18446744073709551616 (digits_after 0 word) else None)
     (ap (λ (b : Bool). b && nat_le (length word) 20) low ∙ high)
-    ∙ ap (below 18446744073709551616) made
-    ∙ ap (λ (b : Bool). if b then Some number else None) below_bound)
+    ∙ ap (λ (bytes : List ℕ). below 18446744073709551616 (digits_after 0 bytes)) e
+    ∙ ap (below 18446744073709551616) (go_on 0 number digits (last ∷ []) made)
+    ∙ ap (λ (b : Bool). below 18446744073709551616 (if b then Some (number * 10 + (last - 48)) else None)) digit
+
+pub too_large : (word digits : List ℕ) (last number : ℕ) → word ≡ digits ++ (last ∷ []) → length word ≡ 20
+    → digits_after 0 digits ≡ Some number → is_digit last ≡ true → 18446744073709551616 ≤ number * 10
+    → None ≡ number_of word
+too_large word digits last number e count made digit large =
+    sym (with_last word digits last number e count made digit
+    ∙ not_below 18446744073709551616 (number * 10 + (last - 48)) (omega arith))

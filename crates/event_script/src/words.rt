@@ -4,6 +4,8 @@ ghost use Rattle.std.specs.Prelude.{ℕ, ◌≡◌, ◌≢◌, ◌<◌, ◌≤�
 ghost use Rattle.std.specs.Prelude.{slice_index};
 ghost use Rattle.event_script.specs.Words.{lines_of, without_return, words_of};
 
+use memchr::memchr;
+
 /// How many bytes stand before the first one of this kind, or in all where there is none.
 fn count_before(bytes: &[u8], parting: u8) -> usize
     ensures within { result ≤ length bytes.now }
@@ -51,11 +53,10 @@ pub(crate) fn next_line(bytes: &[u8]) -> (&[u8], Option<&[u8]>)
         (λ rest. lines_of bytes.now ≡ result.0.now ∷ lines_of rest.now) }
     ensures shorter { IfSome result.1 (λ rest. length rest.now < length bytes.now) }
 {
-    let end = count_before(bytes, b'\n');
-    if end == bytes.len() {
-        return (bytes, None);
+    match memchr(b'\n', bytes) {
+        Some(end) => (&bytes[..end], Some(&bytes[end + 1..])),
+        None => (bytes, None),
     }
-    (&bytes[..end], Some(&bytes[end + 1..]))
 }
 
 /// The line without the carriage return at its end, if it has one.
