@@ -1,5 +1,5 @@
 -- What redo needs of a record: a change, and the LSN of the record.
-use Rattle.std.specs.Prelude.{ℕ, ◌≡◌, ◌+◌, ◌<◌, ◌==◌, ◌&&◌, Bool, List, filter, nat_le, nat_lt}
+use Rattle.std.specs.Prelude.{ℕ, ◌≡◌, ◌+◌, ◌<◌, ◌==◌, ◌&&◌, Bool, List, nat_le, nat_lt}
 use Rattle.std.specs.Prelude.{Option, if◌then◌else◌, length, refl, slice_index_or}
 use Rattle.std.specs.List.{filter_map, fold}
 use Rattle.std.specs.Option.{option_map}
@@ -64,10 +64,6 @@ with_placed page c = if c.page == page.number then put page c.lsn c.slot c.chang
 -- a change is redone where it is at or above the redo point, and above the page's LSN
 abbrev pub is_redone : ℕ → ℕ → Placed → Bool
 is_redone from lsn c = nat_le from c.lsn && nat_lt lsn c.lsn
-
--- a page after redo of these changes from a redo point on
-abbrev pub redone : Page → List Placed → ℕ → Page
-redone page cs from = fold with_placed page (filter (is_redone from page.lsn) cs)
 
 -- ---- change after change, on some pages of a volume
 

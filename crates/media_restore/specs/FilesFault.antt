@@ -6,8 +6,6 @@ use Rattle.log_store.specs.declared.fault.LogReadFault.{LogReadFault}
 use Rattle.log_store.specs.declared.fault.LogReadFault.TheVariants as log
 use Rattle.copy_vault.specs.declared.chain_read_fault.ChainReadFault.{ChainReadFault}
 use Rattle.copy_vault.specs.declared.chain_read_fault.ChainReadFault.TheVariants as chain
-use Rattle.loser_undo.specs.declared.fault.UndoFault.{UndoFault}
-use Rattle.loser_undo.specs.declared.fault.UndoFault.TheVariants as undo
 use Rattle.media_restore.specs.declared.files_fault.RestoreFault.{RestoreFault}
 use Rattle.media_restore.specs.declared.files_fault.RestoreFault.TheVariants.{OutOfMemory, LogFull}
 use Rattle.media_restore.specs.declared.files_fault.RestoreFault.TheVariants.{WriteFault, BadHeader}
@@ -38,11 +36,6 @@ of_chain chain.CountDiffers = CountDiffers
 of_chain chain.ReadFault = ReadFault
 of_chain chain.RedoBeyondLog = RedoBeyondLog
 of_chain (chain.PageBeyondLog page) = PageBeyondLog page
-
--- and one of undo
-abbrev pub of_undo : UndoFault → RestoreFault
-of_undo undo.LogFull = LogFull
-of_undo undo.OutOfMemory = OutOfMemory
 
 -- what is printed of a fault
 abbrev pub line_of : RestoreFault → List ℕ

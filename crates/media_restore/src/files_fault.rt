@@ -1,12 +1,11 @@
 //! The reasons why a volume is not restored from files.
 
 ghost use Rattle.std.specs.Prelude.{◌≡◌};
-ghost use Rattle.media_restore.specs.FilesFault.{of_chain, of_log, of_undo};
+ghost use Rattle.media_restore.specs.FilesFault.{of_chain, of_log};
 ghost use Rattle.media_restore.specs.declared.files_fault.RestoreFault.TheVariants.{OutOfMemory};
 
 use copy_vault::{ChainReadFault, CopyId};
 use log_store::LogReadFault;
-use loser_undo::UndoFault;
 use page_core::{FaultName, Lsn, PageNo};
 use std::alloc::{AllocError, AllocFailed};
 use std::error::Error;
@@ -136,17 +135,6 @@ impl From<ChainReadFault> for RestoreFault {
             ChainReadFault::ReadFault => RestoreFault::ReadFault,
             ChainReadFault::RedoBeyondLog => RestoreFault::RedoBeyondLog,
             ChainReadFault::PageBeyondLog(page) => RestoreFault::PageBeyondLog(page),
-        }
-    }
-}
-
-impl From<UndoFault> for RestoreFault {
-    ghost from_gives = { λ why e. e ≡ of_undo why };
-
-    fn from(why: UndoFault) -> RestoreFault {
-        match why {
-            UndoFault::LogFull => RestoreFault::LogFull,
-            UndoFault::OutOfMemory => RestoreFault::OutOfMemory,
         }
     }
 }
