@@ -36,9 +36,11 @@ undo_open-requires g c =
     c.owed.ensures in
     let made = c.redo_changes.ensures log is.valid (c.changes.ensures ∙ ap (λ (k : Kept). k.changes) is.kept) in
     let long = ap length made ∙ length-map c.deref_mut.result.now redo ∙ c.deref_mut.ensures.len in
-    let items = with_items_is c.args.pages c.redo_changes.new.pages long ∙ made ∙ ap (map redo) c.deref_mut.ensures.value in
-    (log, to_undo log c.args.kept c.args.table c.args.pages.items _ c.args.redo c.count-2.result is
-    (omega (arith, all.is, c.if-count-owed.false)) c.count-2.ensures items)
+    let items = with_items_is c.args.pages c.redo_changes.new.pages long ∙ made ∙ ap (map redo) c.deref_mut.ensures.value in (
+      log,
+      to_undo log c.args.kept c.args.table c.args.pages.items _ c.args.redo c.count-2.result is
+          (omega (arith, all.is, c.if-count-owed.false)) c.count-2.ensures items,
+    )
 
 pub returns-clause-made : goal.returns-clause-made
 returns-clause-made g c = λ log is.

@@ -101,9 +101,11 @@ recovered-requires-after_bounds g c = λ _ _.
     let count = c.pages.ensures ∙ ap (λ (k : Kept). k.pages) found.1.0 in
     let end = c.end.ensures ∙ ap (λ (k : Kept). lsn_of k.count) found.1.0 in
     let read = subst (λ (n : ℕ). IsChainRead n (end_of log) inputs pages redo) count
-    (subst (λ (n : ℕ). IsChainRead c.pages.result n inputs pages redo) end c.in_ok-pages.ensures.ok) in
-    (log, is_read log c.in_ok-kept.kept c.in_ok-kept.table inputs pages redo found.1.1.1.1.0 found.1.1.1.0 found.1.0
-    found.1.1.0 read)
+    (subst (λ (n : ℕ). IsChainRead c.pages.result n inputs pages redo) end c.in_ok-pages.ensures.ok) in (
+      log,
+      is_read log c.in_ok-kept.kept c.in_ok-kept.table inputs pages redo found.1.1.1.1.0 found.1.1.1.0 found.1.0
+          found.1.1.0 read,
+    )
 
 pub returns-clause-ok : goal.returns-clause-ok
 returns-clause-ok g c =
