@@ -9,7 +9,6 @@ Both are played once more with a frame for each page, where no page is ever give
 the same answers, and may take no more memory than that one, but for what a few pages take.
 """
 
-import os
 import subprocess
 import sys
 import tempfile
@@ -21,6 +20,13 @@ FEW = 64
 MANY = 1024
 # What a run may take beyond the other one, in KiB: no more than single runs differ by.
 SPARE = 2048
+# The system counts what the starting process has in memory as the run's own, and that is far more here. So a small
+# process starts the run, and says what the run took.
+START = """
+import resource, subprocess, sys
+run = subprocess.run(sys.argv[1:])
+print(run.returncode, resource.getrusage(resource.RUSAGE_CHILDREN).ru_maxrss, file=sys.stderr)
+"""
 
 
 class Failure(Exception):
@@ -45,16 +51,16 @@ def play(program, script, frames, wanted):
     """How many KiB a run takes at most that gives these replies."""
     words = [program, "run", "--pages", str(PAGES), "--frames", str(frames)]
     with open(script, "rb") as source, tempfile.TemporaryFile() as target:
-        run = subprocess.Popen(words, stdin=source, stdout=target)
-        _, status, used = os.wait4(run.pid, 0)
-        run.returncode = os.waitstatus_to_exitcode(status)
-        if run.returncode != 0:
-            raise Failure(f"{script.name}: status {run.returncode} with {frames} frames")
+        start = [sys.executable, "-c", START, *words]
+        said = subprocess.run(start, stdin=source, stdout=target, stderr=subprocess.PIPE, check=True).stderr
+        status, used = (int(number) for number in said.split()[-2:])
+        if status != 0:
+            raise Failure(f"{script.name}: status {status} with {frames} frames")
         target.seek(0)
         for number, (line, reply) in enumerate(zip(target.read().decode().splitlines(), wanted, strict=True), 1):
             if line != reply:
                 raise Failure(f"{script.name}, line {number}: {line!r} with {frames} frames, and not {reply!r}")
-    return used.ru_maxrss
+    return used
 
 
 def main(program):
@@ -76,7 +82,7 @@ if __name__ == "__main__":
         sys.exit(__doc__.split("\n\n")[1])
     try:
         main(sys.argv[1])
-    except (Failure, OSError) as fault:
+    except (Failure, OSError, subprocess.CalledProcessError) as fault:
         sys.exit(f"few_frames.py: {fault}")
     except ValueError as fault:
         sys.exit(f"few_frames.py: the run gave more or fewer lines than the script has: {fault}")
