@@ -12,19 +12,21 @@
 #                 used, it then measures copies of a shared engine by many workers, and draws bench/copies.svg
 # make examples   makes the example logs and their expected answers again
 # make contracts  makes docs/CONTRACTS.md again, from the sources
-# make install    puts the program, its manual page and the guide below PREFIX, by default /usr/local
+# make install    puts the program, its manual page, the guide, the formats, and the scripts that show a log and a page
+#                 below PREFIX, by default /usr/local
 # make clean      removes build/, and keeps the proofs that rt keeps for itself
 #
 # IMGCOPY=PROGRAM has demo, check, bench and install take that program, and builds none.
 
 SHELL := /bin/bash
 BUILT := build/imgcopy
-IMGCOPY ?= $(BUILT)
 BENCH_PROGRAMS := build/bench/release
 ROUNDS ?= 5
 PREFIX ?= /usr/local
 
-ifeq ($(IMGCOPY),$(BUILT))
+# A program that is named is taken as it is, also one in build/.
+ifeq ($(origin IMGCOPY),undefined)
+IMGCOPY := $(BUILT)
 PROGRAM := imgcopy
 GIVEN :=
 else
@@ -42,7 +44,7 @@ imgcopy: need-rt
 	@tools/build.sh imgcopy bank
 
 demo: need-python3
-	@tools/demo.sh "$(IMGCOPY)" build/day
+	@tools/demo.sh $(GIVEN) "$(IMGCOPY)" build/day
 	@tools/bank.sh build/bank
 
 # The last line must be that of the script, so nothing follows it.
@@ -56,14 +58,14 @@ bench: need-python3 bench-programs $(PROGRAM)
 	@python3 bench/run.py --imgcopy "$(IMGCOPY)" --tools $(BENCH_PROGRAMS) --rounds $(ROUNDS) > build/bench.md
 	@cat build/bench.md
 	@python3 bench/draw.py build/bench.md bench/times.svg
-ifeq ($(IMGCOPY),$(BUILT))
+ifeq ($(GIVEN),)
 	@tools/build.sh copy_bench
 	@python3 bench/copies.py build/copy_bench $(ROUNDS) bench/copies.svg > build/copies.md
 	@cat build/copies.md
 endif
 
 examples: need-python3
-	@python3 examples/make.py
+	@python3 -m model.samples
 
 contracts: need-python3
 	@python3 tools/contracts.py
@@ -73,10 +75,12 @@ bench-programs: need-cargo need-rustc
 
 install: $(PROGRAM)
 	@install -d "$(DESTDIR)$(PREFIX)/bin" "$(DESTDIR)$(PREFIX)/share/man/man1" \
-		"$(DESTDIR)$(PREFIX)/share/doc/imgcopy"
+		"$(DESTDIR)$(PREFIX)/share/doc/imgcopy/examples" "$(DESTDIR)$(PREFIX)/share/doc/imgcopy/model"
 	@install -m 755 "$(IMGCOPY)" "$(DESTDIR)$(PREFIX)/bin/imgcopy"
 	@install -m 644 docs/imgcopy.1 "$(DESTDIR)$(PREFIX)/share/man/man1/imgcopy.1"
-	@install -m 644 docs/GUIDE.md "$(DESTDIR)$(PREFIX)/share/doc/imgcopy/GUIDE.md"
+	@install -m 644 docs/GUIDE.md docs/FORMATS.md "$(DESTDIR)$(PREFIX)/share/doc/imgcopy"
+	@install -m 644 examples/show_log.py examples/show_page.py "$(DESTDIR)$(PREFIX)/share/doc/imgcopy/examples"
+	@install -m 644 model/log_format.py model/log_checkpoints.py "$(DESTDIR)$(PREFIX)/share/doc/imgcopy/model"
 
 clean:
 	@rm -rf build

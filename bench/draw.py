@@ -3,7 +3,7 @@
 
 usage: draw.py TABLE PICTURE
 
-TABLE is a file that has the table that run.py prints. The rows of the input `uniform` are drawn as lines, for imgcopy
+TABLE is a file that has the tables that run.py prints. The rows of the input `uniform` are drawn as lines, for imgcopy
 and for the plain program, and below them those of each other input as bars.
 """
 
@@ -50,11 +50,17 @@ def axis_to(most, start, end):
 
 
 def rows(page):
-    """Each row of the table in this page, by the names of its columns."""
-    table = [[cell.strip() for cell in line.strip().strip("|").split("|")]
-             for line in page.splitlines() if line.startswith("|")]
-    names = next((cells for cells in table if "seconds" in cells), [])
-    return [dict(zip(names, cells)) for cells in table if cells != names and len(cells) == len(names)]
+    """Each row of the tables of programs in this page, by the names of its columns."""
+    names, found = [], []
+    for line in page.splitlines():
+        cells = [cell.strip() for cell in line.strip().strip("|").split("|")] if line.startswith("|") else []
+        if "program" in cells:
+            names = cells
+        elif not cells:
+            names = []
+        elif len(cells) == len(names) and not cells[0].startswith("-"):
+            found.append(dict(zip(names, cells)))
+    return found
 
 
 def line_of(table, program, color):
@@ -114,6 +120,8 @@ def bar_chart(bars, top):
                    f' fill="{color}"/>')
     yield stroke(BARS_LEFT, bottom, BARS_LEFT, top, BLACK)
     yield label((across.start + across.end) / 2, bottom + 50, "time, ms")
+    for index, (program, color) in enumerate(COLORS.items()):
+        yield from legend(Line(program, color, []), WIDTH - RIGHT - 250 + 130 * index, top - 10)
 
 
 def grid(across, up):

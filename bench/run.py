@@ -19,9 +19,9 @@ import time
 from pathlib import Path
 from typing import NamedTuple
 
-sys.path.insert(0, str(Path(__file__).resolve().parent.parent / "examples"))
+sys.path.insert(0, str(Path(__file__).resolve().parent.parent))
 
-from log_format import PAGE_SIZE, RECORD_SIZE, lsn_of
+from model.log_format import PAGE_SIZE, RECORD_SIZE, lsn_of
 
 MEGABYTE = 1e6
 # How many times as long as the plain program each command may take.

@@ -10,10 +10,13 @@ Ends with status 1 if the log has a fault.
 import os
 import signal
 import sys
+from pathlib import Path
 
-import log_checkpoints
-from log_format import (ADD, HEADER_SIZE, KINDS, LONGEST_LOG, RECORD_SIZE, History, decode_record, fault_of_header,
-                        fault_of_record, page_count)
+sys.path.insert(0, str(Path(__file__).resolve().parent.parent))
+
+from model import log_checkpoints
+from model.log_format import (ADD, HEADER_SIZE, KINDS, LONGEST_LOG, RECORD_SIZE, History, decode_record, fault_of_header,
+                              fault_of_record, page_count)
 
 
 class Fault(Exception):

@@ -6,8 +6,11 @@ usage: show_page.py VOLUME PAGE
 
 import os
 import sys
+from pathlib import Path
 
-from log_format import PAGE_SIZE, decode_page
+sys.path.insert(0, str(Path(__file__).resolve().parent.parent))
+
+from model.log_format import PAGE_SIZE, decode_page
 
 
 MAGICS = {b"AIMGLOG1": "a log", b"AIMGMST1": "a master record", b"AIMGARC1": "an archive of an image copy"}

@@ -1,8 +1,8 @@
 #!/usr/bin/env bash
 # usage: build.sh [PROGRAM..]
 # Proves all crates, those that do not stand on one another side by side, and puts each program, imgcopy if none is
-# named, into build/. What rt says goes to build/prove.log, whose end is shown where rt fails. A crate that was proved
-# before, and has not changed since, takes a moment.
+# named, into build/. What rt says goes to build/prove.log, whose end is shown where rt fails. The sum of the sources
+# that were proved is kept in build/proved: while they and the kit stay as they are, nothing is proved or built again.
 set -u
 cd "$(dirname "$0")/.." || exit 1
 . tools/lanes.sh
@@ -15,18 +15,34 @@ fail() {
     exit 1
 }
 
-# rt takes the lowest crates first, as many at once as it is told, and says "== NAME" once a crate is done.
+sum_of_sources() {
+    {
+        rt version
+        find crates crates.txt HANDLES -name out -prune -o -type f -print0 | sort -z | xargs -0 sha256sum
+    } | sha256sum
+}
+
+# rt takes the lowest crates first, as many at once as it is told, and says "== NAME" once a crate is done. Before the
+# first proof it looks over the sources of each crate that no other one uses, as far as the libraries below are not
+# built yet, and one after another. So it begins with the one crate that stands on every library.
 prove_all() {
-    local count left
+    local count
     count=$(grep -c '^[a-z]' crates.txt)
-    left=$count
-    PYTHONUNBUFFERED=1 rt all check --jobs "$(lanes)" 2>&1 | tee -a "$log" | while read -r mark crate rest; do
-        if [ "$mark" = == ] && [ "$crate" != summary ] && [ -z "$rest" ]; then
-            left=$((left - 1))
-            echo "done: $crate ($((count - left)) of $count crates, $left left)"
+    for folder in crates/test_surface .; do
+        (cd "$folder" && PYTHONUNBUFFERED=1 rt all check --jobs "$(lanes)" 2>&1) || return 1
+    done | tee -a "$log" | show_progress "$count"
+    return "${PIPESTATUS[0]}"
+}
+
+show_progress() {
+    local mark crate rest
+    declare -A done=()
+    while read -r mark crate rest; do
+        if [ "$mark" = == ] && [ "$crate" != summary ] && [ -z "$rest" ] && [ -z "${done[$crate]-}" ]; then
+            done[$crate]=1
+            echo "done: $crate (${#done[@]} of $1 crates, $(($1 - ${#done[@]})) left)"
         fi
     done
-    return "${PIPESTATUS[0]}"
 }
 
 # rt links a program that is proved, and leaves it in out/. It is run as the gate runs it.
@@ -38,11 +54,19 @@ build_program() {
 }
 
 mkdir -p build
-: > "$log"
-prove_all || fail "not every crate is proved"
+sum=$(sum_of_sources)
+if [ "$sum" != "$(cat build/proved 2> /dev/null)" ]; then
+    : > "$log"
+    rm -f build/*.built build/proved
+    prove_all || fail "not every crate is proved"
+    echo "$sum" > build/proved
+fi
 [ $# -gt 0 ] || set -- imgcopy
 for program in "$@"; do
-    build_program "$program" || fail "$program does not run"
-    cp -f "crates/$program/out/$program" "build/$program" || exit 1
-    echo "built build/$program"
+    if [ ! -e "build/$program.built" ] || [ ! -x "build/$program" ]; then
+        build_program "$program" || fail "$program does not run"
+        cp -f "crates/$program/out/$program" "build/$program" || exit 1
+        touch "build/$program.built"
+        echo "built build/$program"
+    fi
 done

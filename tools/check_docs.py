@@ -57,7 +57,7 @@ class Sources:
 
 def all_files():
     yield from (path for path in ROOT.iterdir() if path.is_file())
-    for folder in ("crates", "docs", "examples", "bench", "tools"):
+    for folder in ("crates", "docs", "examples", "model", "checks", "bench", "tools"):
         for path in (ROOT / folder).rglob("*"):
             if path.is_file() and not {"out", "__pycache__"} & set(path.parts):
                 yield path
@@ -75,7 +75,7 @@ def code_of(path):
 def documents():
     yield ROOT / "README.md"
     yield ROOT / "CHANGELOG.md"
-    for pattern in ("docs/*.md", "bench/*.md", "crates/*/*.md"):
+    for pattern in ("docs/*.md", "bench/*.md", "model/*.md", "checks/*.md", "crates/*/*.md"):
         yield from sorted(ROOT.glob(pattern))
 
 

@@ -1,7 +1,7 @@
 #!/usr/bin/env bash
-# usage: demo.sh PROGRAM FOLDER
-# Plays the day of examples/day.sh. Where PROGRAM is not built yet, rt plays it from the sources, unproved, in one run
-# whose script ends with a restore, since each run by rt compiles the sources anew.
+# usage: demo.sh [--given] PROGRAM FOLDER
+# Plays the day of checks/day.sh. Where PROGRAM is not built yet, rt plays it from the sources, unproved, in one run
+# whose script ends with a restore, since each run by rt compiles the sources anew. A PROGRAM that is given has to be there.
 # Ends with status 0, and with a last line that begins with 'ok day', where all of it is as expected.
 set -u
 cd "$(dirname "$0")/.." || exit 1
@@ -11,8 +11,14 @@ fail() {
     exit 1
 }
 
+given=false
+if [ "${1-}" = --given ]; then
+    given=true
+    shift
+fi
 [ $# -eq 2 ] || fail "two arguments are wanted, the program and a folder"
-! command -v "$1" > /dev/null || exec examples/day.sh "$1" "$2"
+! "$given" || command -v "$1" > /dev/null || fail "there is no program $1"
+! command -v "$1" > /dev/null || exec checks/day.sh "$1" "$2"
 command -v rt > /dev/null || fail "the program 'rt' is missing: the kit that proves and builds imgcopy"
 folder=$2
 rm -rf "$folder"

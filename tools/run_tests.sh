@@ -54,10 +54,10 @@ skip() {
 
 # preload NAME COMMAND..: runs a script whose last argument is this library for LD_PRELOAD.
 preload() {
-    local library=build/$1.so source=examples/$1.rs
+    local library=build/$1.so source=checks/$1.rs
     shift
     [ "$library" -nt "$source" ] || rustc --edition 2024 --crate-type cdylib -O -o "$library" "$source" || return
-    python3 "$@" "$library"
+    python3 -m "$@" "$library"
 }
 
 # Runs a script whose last argument is the library that refuses allocations.
@@ -68,42 +68,50 @@ refuse_memory() {
 # The gate has built this program. Else it is built here.
 library_memory() {
     "$is_gate" || tools/build.sh library_player || return
-    refuse_memory examples/library_memory.py "$library_player"
+    refuse_memory checks.library_memory "$library_player"
 }
 
 few_threads() {
     "$is_gate" || tools/build.sh library_player || return
-    preload few_threads examples/few_threads.py "$library_player"
+    preload few_threads checks.few_threads "$library_player"
+}
+
+repairs() {
+    "$is_gate" || tools/build.sh library_player || return
+    python3 -m checks.repairs "$library_player"
 }
 
 fault_sweeps() {
     "$is_gate" || tools/build.sh fault_player || return
-    examples/fault_sweeps.py "$fault_player"
+    python3 -m checks.fault_sweeps "$fault_player"
 }
 
 bank() {
     "$is_gate" || tools/build.sh bank || return
-    examples/bank.py "$bank"
+    python3 -m checks.bank "$bank"
 }
 
 run_checks() {
     check contracts python3 -- python3 tools/contracts.py --check
     check documents python3 -- python3 tools/check_docs.py
-    check examples "$program" python3 -- examples/check.sh "$program"
-    check day "$program" python3 -- examples/day.sh "$program" build/day
-    check memory "$program" python3 rustc -- refuse_memory examples/memory.py "$program"
-    check run_memory "$program" python3 rustc -- refuse_memory examples/run_memory.py "$program"
-    check unsaved "$program" python3 -- python3 examples/unsaved.py "$program"
-    check frames "$program" python3 -- python3 examples/few_frames.py "$program"
-    check faults "$program" python3 -- python3 examples/faults.py "$program"
-    check model "$program" python3 -- python3 examples/model_check.py "$program"
+    check examples "$program" python3 -- checks/check.sh "$program"
+    check day "$program" python3 -- checks/day.sh "$program" build/day
+    check memory "$program" python3 rustc -- refuse_memory checks.memory "$program"
+    check run_memory "$program" python3 rustc -- refuse_memory checks.run_memory "$program"
+    check unsaved "$program" python3 -- python3 -m checks.unsaved "$program"
+    check operator "$program" python3 -- python3 -m checks.operator "$program"
+    check saves_at_once "$program" python3 -- python3 -m checks.saves_at_once "$program"
+    check frames "$program" python3 -- python3 -m checks.few_frames "$program"
+    check faults "$program" python3 -- python3 -m checks.faults "$program"
+    check model "$program" python3 -- python3 -m checks.answers "$program"
     if "$uses_rt"; then
         check library_memory "$program" rt python3 rustc -- library_memory
         check few_threads "$program" rt python3 rustc -- few_threads
+        check repairs "$program" rt python3 -- repairs
         check fault_sweeps "$program" rt python3 -- fault_sweeps
         check bank "$program" rt python3 -- bank
     else
-        for name in library_memory few_threads fault_sweeps bank; do
+        for name in library_memory few_threads repairs fault_sweeps bank; do
             skip "$name" "it has rt prove another program"
         done
     fi

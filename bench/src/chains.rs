@@ -35,14 +35,13 @@ pub struct Transaction {
     first_lsn: u64,
     last_lsn: u64,
     is_rolling: bool,
-    is_aborted: bool,
     pub pending: Vec<Pending>,
 }
 
 impl Transaction {
     /// How many records it may still need.
     pub fn owed(&self) -> usize {
-        self.pending.len() + if self.is_aborted { 1 } else { 2 }
+        self.pending.len() + if self.is_rolling { 1 } else { 2 }
     }
 }
 
@@ -93,7 +92,6 @@ impl Chains {
         opened.first_lsn = lsn;
         opened.last_lsn = lsn;
         opened.is_rolling = false;
-        opened.is_aborted = false;
         Some(())
     }
 
@@ -137,7 +135,6 @@ impl Chains {
     #[inline]
     pub fn compensate(&mut self, seat: Seat, change: &Change, undo_next: u64) -> Option<()> {
         let open = &mut self.open[usize::from(seat.0)];
-        open.is_rolling = true;
         let pending = open.pending.pop()?;
         if *change != pending.undo || undo_next != u64::from(pending.previous) {
             return None;
@@ -150,7 +147,6 @@ impl Chains {
     pub fn abort(&mut self, seat: Seat) -> Option<()> {
         let open = &mut self.open[usize::from(seat.0)];
         let was_rolling = std::mem::replace(&mut open.is_rolling, true);
-        open.is_aborted = true;
         (!was_rolling).then_some(())
     }
 

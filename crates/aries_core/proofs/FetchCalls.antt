@@ -1,6 +1,6 @@
 -- Calls that need a page in memory.
-use Rattle.std.proofs.Common.{◌≡◌, ℕ, Bool, true, false, refl, ap, subst, ◌∙◌, inl, inr}
-use Rattle.std.specs.Prelude.{Some, None, Option, IfErr, IfOk, OnErr, Result, Ok, Err}
+use Rattle.std.proofs.Common.{◌≡◌, ℕ, Bool, true, false, refl, ap, inr}
+use Rattle.std.specs.Prelude.{Some, None, IfErr, IfOk, OnErr, Result, Ok, Err}
 use Rattle.page_core.specs.declared.change.Change.TheVariants.{Set, Add}
 use Rattle.log_history.specs.declared.pending_change.PendingChange.{PendingChange}
 use Rattle.log_history.specs.Linked.{number_in}
@@ -10,10 +10,9 @@ use Rattle.aries_core.specs.declared.event.Answer.TheVariants as answer
 use Rattle.aries_core.specs.declared.event.Event.TheVariants as event
 use Rattle.aries_core.specs.declared.refusal.Refusal.{Refusal}
 use Rattle.aries_core.specs.declared.refusal.Refusal.TheVariants.{OutOfMemory, StoreFault}
-use Rattle.aries_core.specs.EngineState.{EngineState, appended, comp_record, end, update_record, with_page}
+use Rattle.aries_core.specs.EngineState.{EngineState, appended, end, update_record, with_page}
 use Rattle.aries_core.specs.Refusal.{refusal}
-use Rattle.aries_core.specs.Step.{FailsFetching, Step, reply_of, undo_answer}
-use Rattle.aries_core.specs.declared.event.Undone.TheVariants as undone
+use Rattle.aries_core.specs.Step.{FailsFetching, Step, reply_of}
 
 pub set_step : (s new : EngineState) (txn page slot number : ℕ) (result : Result ℕ Refusal)
     → refusal s (event.Set txn page slot number) ≡ None

@@ -1,5 +1,5 @@
 -- Each engine is fit: a new one, and one after a step.
-use Rattle.std.proofs.Common.{◌≡◌, ℕ, zero, suc, get_or, replicate, ◌+◌, ◌<◌, ◌≤◌, ◌++◌, List, [], ◌∷◌, length, map, take}
+use Rattle.std.proofs.Common.{◌≡◌, ℕ, zero, suc, get_or, replicate, ◌+◌, ◌<◌, ◌≤◌, ◌++◌, List, [], ◌∷◌, length, take}
 use Rattle.std.proofs.Common.{lit≤, refl, sym, ap, ◌⊎◌, ◌∙◌, subst, arith, inl, inr, true≢false}
 use Rattle.std.specs.Prelude.{IfSome, Option, Result, Some, None}
 use Rattle.std.proofs.lemmas.List.FromFn.{get_or-map-range_with_len, length-map-range_with_len}
@@ -7,7 +7,7 @@ use Rattle.page_core.specs.declared.page.Page.{Page}
 use Rattle.page_core.specs.Page.{formatted}
 use Rattle.page_core.specs.Volume.{formatted_pages}
 use Rattle.log_records.proofs.Stored.{stored_later}
-use Rattle.log_records.specs.Image.{image, with_record}
+use Rattle.log_records.specs.Image.{image}
 use Rattle.buffer_pool.proofs.Pools.{images_later, resident_later}
 use Rattle.buffer_pool.specs.Frames.{IsResident}
 use Rattle.buffer_pool.specs.Pool.{is_clean}

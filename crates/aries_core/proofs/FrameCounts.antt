@@ -55,7 +55,7 @@ failed old (event.Repair copy page) StoreFault new fails = elim fails [
 failed old event StoreFault new fails = same old new _ fails.1 refl
 failed old event why new fails = absurd fails
 
-frames_of_step : (old : EngineState) (event : Event) (reply : Result Answer Refusal) (new : EngineState)
+pub frames_of_step : (old : EngineState) (event : Event) (reply : Result Answer Refusal) (new : EngineState)
     → Step old event reply new → new.frames ≡ old.frames
 frames_of_step old event (Ok answer) new step = same old new _ step.2 (effect_keeps old event)
 frames_of_step old event (Err why) new (inl both) = same old new old both.1 refl

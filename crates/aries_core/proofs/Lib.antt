@@ -1,4 +1,5 @@
 pub mod Appends
+pub mod Asks
 pub mod Beside
 pub mod Calls
 pub mod Catalogues
@@ -24,6 +25,7 @@ pub mod Plays
 pub mod PoolStates
 pub mod Refusals
 pub mod Repairs
+pub mod Residents
 pub mod Retires
 pub mod Rooms
 pub mod Runs

@@ -3,9 +3,8 @@ use Rattle.std.proofs.Common.{◌≡◌, ℕ, ◌<◌, ◌≤◌, ◌++◌, Bool
 use Rattle.std.proofs.Common.{refl, sym, ap, subst, ◌∙◌, arith, inl, inr, true≢false, eqb}
 use Rattle.std.specs.Prelude.{Option, Some, None, IfSome, is_none, nat_lt, Result, Ok, Err}
 use Rattle.std.specs.Option.{option_map, option_map_or, unwrap_or}
-use Rattle.std.specs.List.{All}
 use Rattle.std.proofs.lemmas.Bool.{cases_eq, eqb-true, le-ltb, ltb-false}
-use Rattle.std.proofs.lemmas.List.{get_or-set_other, get_or-set_same, get_or_past, length-set}
+use Rattle.std.proofs.lemmas.List.{get_or-set_other, get_or-set_same}
 use Rattle.std.proofs.lemmas.List.Elements.{All-push}
 use Rattle.page_core.specs.declared.page.Page.{Page}
 use Rattle.page_core.specs.Page.{formatted}
@@ -29,7 +28,7 @@ use Rattle.aries_core.specs.declared.event.Event.{Event}
 use Rattle.aries_core.specs.declared.event.Event.TheVariants as event
 use Rattle.aries_core.specs.declared.refusal.Refusal.{Refusal}
 use Rattle.page_core.specs.declared.change.ChangeKind.TheVariants as kind
-use Rattle.aries_core.specs.EngineState.{AreHeld, AreImages, EngineState, IsFit, comp_record, end, image_of, log_of}
+use Rattle.aries_core.specs.EngineState.{AreImages, EngineState, IsFit, comp_record, end, image_of, log_of}
 use Rattle.aries_core.specs.EngineState.{page_needed, page_now, rec_lsn_of, stored_page, with_page}
 use Rattle.aries_core.specs.Refusal.{refusal}
 use Rattle.aries_core.specs.Step.{Step}
@@ -57,7 +56,7 @@ pub stored_is_now : (s : EngineState) (p : ℕ) → IsFit s → p < s.pages → 
 stored_is_now s p fit within absent =
     clean_is_stored s p (formatted p) fit within (absent_is_clean s p fit within absent)
 
-number_is : (s : EngineState) (p : ℕ) → IsFit s → p < s.pages → is_resident s.resident p ≡ false
+pub number_is : (s : EngineState) (p : ℕ) → IsFit s → p < s.pages → is_resident s.resident p ≡ false
     → (stored_page s p).number ≡ p
 number_is s p fit within absent =
     ap (λ (q : Page). q.number) (stored_is_now s p fit within absent) ∙ number-image s.log p

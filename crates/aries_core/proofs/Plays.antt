@@ -12,13 +12,15 @@ use Rattle.aries_core.specs.declared.refusal.Refusal.TheVariants.{CommitUnsure, 
 use Rattle.log_records.specs.Log.{lsn_of}
 use Rattle.log_records.specs.declared.record.Record.{Record}
 use Rattle.log_store.specs.Stores.{StoreCall, StoresEach, records_between}
+use Rattle.page_store.specs.Store.{ReadCall, WriteCall}
+use Rattle.aries_core.specs.Asked.{Asks, FailsAsking, asked}
 use Rattle.aries_core.specs.EngineState.{EngineState, EngineView, end, new_state}
 use Rattle.aries_core.specs.Run.{Run}
 use Rattle.aries_core.specs.declared.event.Event.TheVariants as event
-use Rattle.aries_core.specs.Step.{FailsForcing, Forces, IsAtRepair, IsByDevice, IsByStore, IsFaultReply, LeavesStore}
+use Rattle.aries_core.specs.Step.{FailsForcing, Forces, IsAtRepair, IsByDevice, IsByStore, IsFaultReply}
 use Rattle.aries_core.specs.Step.{Step}
 use Rattle.aries_core.specs.Step.{TellsOfFault}
-use Rattle.aries_core.specs.Storage.{CallOn, CallsDevice, IsStoredOn, MayCallStore, PlaysOn, RunOn, Storage}
+use Rattle.aries_core.specs.Storage.{CallOn, CallsDevice, CallsStore, IsStoredOn, PlaysOn, RunOn, Storage}
 use Rattle.aries_core.proofs.Steps.{stays_or_grows, stored_or_not}
 
 -- ---- one step more
@@ -165,32 +167,34 @@ at_repair : (event : Event) → IsAtRepair event StoreFault ⊎ (¬ IsAtRepair e
 at_repair (event.Repair copy page) = inl tt
 at_repair event = inr (λ h. h)
 
-calls_device : {S D : Type 0} (called : StoreCall D) (asked : Event) (old new : EngineView S D)
-    (reply : Result Answer Refusal) → Step old.state asked reply new.state
-    → IfErr reply (λ why. ¬ IsByDevice why → ¬ IsAtRepair asked why → new.device ≡ old.device)
-    → OnOk reply (Forces called old new) → IfErr reply (λ why. IsAtRepair asked why → Forces called old new)
+calls_device : {S D : Type 0} (called : StoreCall D) (call : Event) (old new : EngineView S D)
+    (reply : Result Answer Refusal) → Step old.state call reply new.state
+    → IfErr reply (λ why. ¬ IsByDevice why → ¬ IsAtRepair call why → new.device ≡ old.device)
+    → OnOk reply (Forces called old new) → IfErr reply (λ why. IsAtRepair call why → Forces called old new)
     → IfErr reply (λ why. IsByDevice why → FailsForcing called old new)
     → CallsDevice called old reply new
-calls_device called asked old new (Ok answer) step refused ok first failed = ok
-calls_device called asked old new (Err LogFault) step refused ok first failed = failed tt
-calls_device called asked old new (Err (CommitUnsure lsn)) step refused ok first failed = failed tt
-calls_device called asked old new (Err StoreFault) step refused ok first failed = elim (at_repair asked) [
+calls_device called call old new (Ok answer) step refused ok first failed = ok
+calls_device called call old new (Err LogFault) step refused ok first failed = failed tt
+calls_device called call old new (Err (CommitUnsure lsn)) step refused ok first failed = failed tt
+calls_device called call old new (Err StoreFault) step refused ok first failed = elim (at_repair call) [
   | inl repair ↦ first repair
   | inr other ↦
-      forces_none called old new (same_end old.state asked new.state other step) (refused (λ h. h) other)
+      forces_none called old new (same_end old.state call new.state other step) (refused (λ h. h) other)
 ]
-calls_device called asked old new (Err other) step refused ok first failed = refused (λ h. h) (by_event asked)
+calls_device called call old new (Err other) step refused ok first failed = refused (λ h. h) (by_event call)
   where
-    by_event : (call : Event) → ¬ IsAtRepair call other
+    by_event : (event : Event) → ¬ IsAtRepair event other
     by_event (event.Repair copy page) = λ h. h
-    by_event call = λ h. h
+    by_event other_event = λ h. h
 
-may_call_store : {S D : Type 0} (event : Event) (old new : EngineView S D) (reply : Result Answer Refusal)
-    → (LeavesStore old.state event → new.store ≡ old.store)
-    → IfErr reply (λ why. ¬ IsByStore why → new.store ≡ old.store) → MayCallStore event old reply new
-may_call_store event old new (Ok answer) leaves refused = leaves
-may_call_store event old new (Err StoreFault) leaves refused = tt
-may_call_store event old new (Err other) leaves refused = refused (λ h. h)
+calls_store : {S D : Type 0} (gave : ReadCall S) (wrote : WriteCall S) (event : Event) (old new : EngineView S D)
+    (reply : Result Answer Refusal) → OnOk reply (Asks gave wrote (asked old.state event) old new)
+    → IfErr reply (λ why. ¬ IsByStore why → new.store ≡ old.store)
+    → IfErr reply (λ why. IsByStore why → FailsAsking gave wrote (asked old.state event) old new)
+    → CallsStore gave wrote event old reply new
+calls_store gave wrote event old new (Ok answer) ok refused failed = ok
+calls_store gave wrote event old new (Err StoreFault) ok refused failed = failed tt
+calls_store gave wrote event old new (Err other) ok refused failed = refused (λ h. h)
 
 -- what the contract of a call says of it
 pub call_on : {S D : Type 0} (on : Storage S D) (old : EngineView S D) (event : Event)
@@ -201,17 +205,18 @@ pub call_on : {S D : Type 0} (on : Storage S D) (old : EngineView S D) (event : 
     → IfErr reply (λ why. ¬ IsByDevice why → on.device_failures new.device ≡ on.device_failures old.device)
     → OnOk reply (on.device_failures new.device ≡ on.device_failures old.device)
     → IfErr reply (λ why. IsByDevice why → on.device_failures old.device < on.device_failures new.device)
-    → (LeavesStore old.state event → new.store ≡ old.store)
+    → OnOk reply (Asks on.gave on.wrote (asked old.state event) old new)
     → IfErr reply (λ why. ¬ IsByStore why → new.store ≡ old.store)
+    → IfErr reply (λ why. IsByStore why → FailsAsking on.gave on.wrote (asked old.state event) old new)
     → OnOk reply (on.store_failures new.store ≡ on.store_failures old.store)
     → IfErr reply (λ why. IsByStore why → on.store_failures old.store < on.store_failures new.store)
     → IsStoredOn on new → CallOn on old event reply new
-call_on on old event reply new step same called first last sound none cause leaves store_same store_none store_cause
+call_on on old event reply new step same called first last sound none cause ok store_same failed store_none store_cause
     stored = record {
       step = step;
       stored = stored;
       device = calls_device on.called event old new reply step same called first last;
-      store = may_call_store event old new reply leaves store_same;
+      store = calls_store on.gave on.wrote event old new reply ok store_same failed;
       device_told = counts IsByDevice on.device_failures old.device new.device reply sound none cause;
       store_told = counts IsByStore on.store_failures old.store new.store reply
           (left_sound IsByStore on.store_failures old.store new.store reply store_same) store_none store_cause;
@@ -228,11 +233,11 @@ run_on_push on old (first ∷ events) (answered ∷ replies) mid event reply new
 run_on_push on old [] (answered ∷ replies) mid event reply new run call = absurd run
 run_on_push on old (first ∷ events) [] mid event reply new run call = absurd run
 
-pub plays_push : {S D : Type 0} (on : Storage S D) (pages : ℕ) (store : S) (device : D) (events : List Event)
+pub plays_push : {S D : Type 0} (on : Storage S D) (pages frames : ℕ) (store : S) (device : D) (events : List Event)
     (replies : List (Result Answer Refusal)) (mid : EngineView S D) (event : Event) (reply : Result Answer Refusal)
-    (new : EngineView S D) → PlaysOn on pages store device events replies mid → CallOn on mid event reply new
-    → PlaysOn on pages store device (events ++ event ∷ []) (replies ++ reply ∷ []) new
-plays_push on pages store device events replies mid event reply new plays call = record {
+    (new : EngineView S D) → PlaysOn on pages frames store device events replies mid → CallOn on mid event reply new
+    → PlaysOn on pages frames store device (events ++ event ∷ []) (replies ++ reply ∷ []) new
+plays_push on pages frames store device events replies mid event reply new plays call = record {
   first = plays.first;
   made = plays.made;
   run = run_on_push on plays.first events replies mid event reply new plays.run call;

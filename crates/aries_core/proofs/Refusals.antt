@@ -1,11 +1,14 @@
 -- What an event that is not refused has passed.
 use Rattle.std.proofs.Common.{◌≡◌, ℕ, ◌+◌, ◌<◌, ◌≤◌, ◌⊎◌, Bool, true, false, ◌&&◌, not, length, refl, sym, ap, ◌∙◌, inl}
 use Rattle.std.proofs.Common.{inr}
-use Rattle.std.specs.Prelude.{Option, Some, None, IsSome, is_none, is_some, nat_le, nat_lt, List, if◌then◌else◌}
+use Rattle.std.specs.Prelude.{IfSome, Option, Some, None, IsSome, is_none, is_some, nat_le, nat_lt, List, if◌then◌else◌}
 use Rattle.std.specs.Option.{option_map, option_map_or, option_or}
 use Rattle.std.proofs.lemmas.Option.{cond_some, same_Some}
 use Rattle.std.proofs.lemmas.Bool.{not-false, leb-false, ltb-false, ltb-true}
 use Rattle.page_core.specs.declared.change.ChangeKind.{ChangeKind}
+use Rattle.page_core.specs.declared.change.ChangeKind.TheVariants as kind
+use Rattle.buffer_pool.specs.Frames.{is_full, is_resident}
+use Rattle.buffer_pool.specs.Pool.{is_clean}
 use Rattle.page_core.specs.declared.page.Page.{Page}
 use Rattle.page_core.specs.declared.page.TheConstants.{SLOTS}
 use Rattle.log_records.specs.declared.limits.TheConstants.{MAX_OPEN, MAX_RECORDS}
@@ -28,7 +31,7 @@ use Rattle.aries_core.specs.declared.refusal.Refusal.TheVariants.{CkptOpen, Comm
 use Rattle.aries_core.specs.declared.refusal.Refusal.TheVariants.{NoMaster, NoTxn, PageDecided, NoWrite, NotDirty}
 use Rattle.aries_core.specs.declared.refusal.Refusal.TheVariants.{NotRolling, PageOut, SlotBusy, SlotOut, TooManyTxns}
 use Rattle.aries_core.specs.declared.refusal.Refusal.TheVariants.{PoolFull, TxnRolling, WriteBegun}
-use Rattle.aries_core.specs.EngineState.{EngineState, gathered_record, image_of, rec_lsn_of}
+use Rattle.aries_core.specs.EngineState.{EngineState, gathered_record, image_of, page_needed, rec_lsn_of}
 use Rattle.aries_core.specs.Gather.{Left, is_done, none_left, pages_left, txns_left}
 use Rattle.aries_core.specs.Refusal.{active_refusal, change_refusal, ckpt_refusal, copy_refusal, of_vault, has_no_room}
 use Rattle.aries_core.specs.Refusal.{frame_refusal, or_else, page_refusal, refused_if, refusal, rolling_refusal}
@@ -114,6 +117,28 @@ pub begin_passes : (s : EngineState) → refusal s event.Begin ≡ None → Begi
 begin_passes s none =
     let both = none_of_both _ _ none in
     record { few = leb-false _ _ (not_refused _ _ both.0); room = has_room s 3 _ both.1 }
+
+-- a page that is not in memory and is not refused finds a frame
+pub frame_passes : (s : EngineState) (page : ℕ) → frame_refusal s page ≡ None → is_resident s.resident page ≡ false
+    → is_full s.frames (is_clean s.log s.written) s.resident ≡ false
+frame_passes s page none absent =
+    ap (λ (b : Bool). not b && is_full s.frames (is_clean s.log s.written) s.resident) (sym absent)
+    ∙ not_refused _ PoolFull none
+
+-- nor is the page that a call needs refused
+pub needed_passes : (s : EngineState) (event : Event) → refusal s event ≡ None
+    → IfSome (page_needed s event) (λ p. frame_refusal s p ≡ None)
+needed_passes s (event.Set txn page slot number) none = (change_passes s txn page slot kind.Set none).frame
+needed_passes s (event.Add txn page slot amount) none = (change_passes s txn page slot kind.Add none).frame
+needed_passes s (event.Read page slot) none = (none_of_both (page_refusal s page slot) _ none).1
+needed_passes s (event.UndoStep txn) none =
+    by_last (last_of (pending s.log txn)) (none_of_both (rolling_refusal s txn) _ none).1
+  where
+    by_last : (o : Option PendingChange) → option_map_or (λ p. frame_refusal s p.page) o None ≡ None
+        → IfSome (option_map (λ p. p.page) o) (λ p. frame_refusal s p ≡ None)
+    by_last None none = tt
+    by_last (Some p) none = none
+needed_passes s other none = tt
 
 pub undo_passes : (s : EngineState) (txn : ℕ) → refusal s (event.UndoStep txn) ≡ None → RollsIn s txn
 undo_passes s txn none =

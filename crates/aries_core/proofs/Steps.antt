@@ -1,5 +1,5 @@
 -- What a step does to the log.
-use Rattle.std.proofs.Common.{◌≡◌, ℕ, ◌++◌, ◌⊎◌, [], ◌∷◌, map, refl, ap, ◌∙◌, inl, inr}
+use Rattle.std.proofs.Common.{◌≡◌, ℕ, ◌++◌, ◌⊎◌, [], ◌∷◌, cond, map, refl, sym, ap, ◌∙◌, inl, inr}
 use Rattle.std.specs.Prelude.{Option, Some, None, IfSome, IsSomeAnd, Result, Ok, Err}
 use Rattle.std.specs.Option.{option_map, option_map_or}
 use Rattle.page_core.specs.declared.page.Page.{Page}
@@ -9,7 +9,7 @@ use Rattle.log_records.specs.Image.{with_record}
 use Rattle.log_records.specs.Record.{change_of}
 use Rattle.log_history.specs.Checkpoint.{Checkpoint, open_checkpoint}
 use Rattle.log_history.specs.Transactions.{last_of, pending}
-use Rattle.log_history.specs.Work.{call_of}
+use Rattle.log_history.specs.Work.{UndoCall, UndoToCall, call_of}
 use Rattle.aries_core.specs.Call.{record_for}
 use Rattle.aries_core.specs.declared.event.Answer.{Answer}
 use Rattle.aries_core.specs.declared.event.Event.{Event}
@@ -23,7 +23,7 @@ use Rattle.aries_core.specs.Refusal.{refusal}
 use Rattle.aries_core.specs.Step.{Fails, MayBeStored, Step}
 use Rattle.aries_core.proofs.Gathers.{PassesPages, PassesTxns, TakesPages, TakesTxn, WasDone, ckpt_end_is, closed_part}
 use Rattle.aries_core.proofs.Gathers.{gather_case, passes_pages, passes_txns, takes_pages, takes_txn, was_done}
-use Rattle.aries_core.proofs.Refusals.{ckpt_end_passes, commit_not_unsure, gather_passes}
+use Rattle.aries_core.proofs.Refusals.{ckpt_end_passes, commit_not_unsure, gather_passes, undo_passes}
 
 -- the state whose log and pages an answered call changes: that with the page which it needs in memory
 abbrev pub start : EngineState → Event → Result Answer Refusal → EngineState
@@ -46,7 +46,7 @@ pub record Grows (old : EngineState) (event : Event) (reply : Result Answer Refu
   pub log : new.log ≡ old.log ++ r ∷ []
   pub resident : new.resident ≡ map (λ page. with_record page r) (start old event reply).resident
   pub needs : IfSome (change_of r) (λ c. start old event reply ≡ with_page old c.page)
-  pub shown : shown_call event reply ≡ call_of r
+  pub shown : shown_call event reply ≡ call_of old.log r
 
 -- ---- each reply
 
@@ -67,7 +67,7 @@ grows : (old : EngineState) (event : Event) (reply : Result Answer Refusal) (new
     → state.log ≡ old.log ++ r ∷ []
     → state.resident ≡ map (λ page. with_record page r) (start old event reply).resident
     → IfSome (change_of r) (λ c. start old event reply ≡ with_page old c.page)
-    → shown_call event reply ≡ call_of r → Grows old event reply new
+    → shown_call event reply ≡ call_of old.log r → Grows old event reply new
 grows old event reply new state r is accepted made pages log resident needs shown = record {
   r = r;
   accepted = accepted;
@@ -90,7 +90,8 @@ undo_grows old txn answer new None o none is =
 undo_grows old txn answer new (Some p) o none is =
     let r = comp_record old txn p in
     grows old (event.UndoStep txn) (Ok answer) new (appended (with_page old p.page) r) r
-    (rw o at is) none (rw o refl) refl refl (rw o refl) (rw o refl) refl
+    (rw o at is) none (rw o refl) refl refl (rw o refl) (rw o refl)
+    (ap (λ b. Some (cond b (UndoCall txn) (UndoToCall txn))) (sym (undo_passes old txn none).rolling))
 
 -- the end of a write leaves the log
 write_end_stays : (old : EngineState) (page : ℕ) (answer : Answer) (new : EngineState) (o : Option Page)

@@ -1,6 +1,6 @@
 -- What an engine is, and what an accepted call makes of it.
 use Rattle.std.specs.Prelude.{ℕ, ◌≡◌, ◌+◌, ◌<◌, ◌≤◌, List, [], ◌∷◌, ◌++◌, length, map, max}
-use Rattle.std.specs.Prelude.{replicate, slice_index, slice_index_or, slice_set, take, Option, Some}
+use Rattle.std.specs.Prelude.{replicate, slice_index, slice_index_or, slice_set, Option, Some}
 use Rattle.std.specs.Prelude.{IsSome, IsSomeAnd, None, IfSome, false, if◌then◌else◌}
 use Rattle.std.specs.List.{All}
 use Rattle.std.specs.Option.{option_map, option_map_or}
@@ -12,7 +12,6 @@ use Rattle.page_core.specs.Volume.{formatted_pages}
 use Rattle.buffer_pool.specs.Frames.{IsResident, fetched, is_resident}
 use Rattle.buffer_pool.specs.Pool.{IsPoolOf, PoolView, is_clean, writing_of, written_of}
 use Rattle.log_records.specs.Coverage.{AreStored, rec_lsn}
-use Rattle.log_records.specs.declared.limits.TheConstants.{MAX_RECORDS}
 use Rattle.log_history.specs.declared.pending_change.PendingChange.{PendingChange}
 use Rattle.log_history.specs.Checkpoint.{Checkpoint, IsCompleteCheckpoint, open_checkpoint}
 use Rattle.log_history.specs.Checkpoint.{redo_point}
@@ -22,7 +21,7 @@ use Rattle.page_core.specs.declared.page.Page.{Page}
 use Rattle.log_records.specs.Image.{image, with_record}
 use Rattle.log_history.specs.Linked.{IsLinked, number_in}
 use Rattle.log_records.specs.Log.{IsLog, Log, lsn_of}
-use Rattle.log_history.specs.Transactions.{begun, last_lsn, last_of, owed, pending}
+use Rattle.log_history.specs.Transactions.{begun, last_lsn, last_of, pending}
 use Rattle.log_history.specs.Table.{Table}
 use Rattle.log_store.specs.declared.master.Master.{Master}
 use Rattle.log_store.specs.WrittenLog.{WrittenLog, end_up_to}
@@ -38,6 +37,7 @@ use Rattle.copy_vault.specs.Copy.{CopyView}
 use Rattle.copy_vault.specs.Vault.{CopyState, answer_in, decided, opened, sealed, state_of}
 use Rattle.copy_vault.specs.Vault.{taken_in, without}
 use Rattle.copy_coverage.specs.Copied.{AreCopied, copy_in}
+use Rattle.copy_coverage.specs.Retired.{HasRoom}
 use Rattle.aries_core.specs.declared.event.Answer.{Answer}
 use Rattle.aries_core.specs.declared.event.Answer.TheVariants as answer
 use Rattle.aries_core.specs.declared.event.Event.{Event}
@@ -385,7 +385,7 @@ HaveMaster master copies = (id : ℕ) (copy : CopyView) → copy_in (state_of co
 pub record IsFit (s : EngineState) : Type 0 where
   pub valid : IsLog (log_of s)
   pub linked : IsLinked s.log
-  pub room : (n : ℕ) → n ≤ length s.log → length (take n s.log) + owed (take n s.log) ≤ MAX_RECORDS
+  pub room : HasRoom s.log
   pub forced : (k : ℕ) × (k ≤ length s.log) × (s.forced_end ≡ lsn_of k)
   pub counted : AreCounted s
   pub resident : AreImages s.log s.resident

@@ -1,5 +1,6 @@
 pub mod Accepted
 pub mod AnsweredCommits
+pub mod Asked
 pub mod Call
 pub mod Catalogue
 pub mod CkptReplies

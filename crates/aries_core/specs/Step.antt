@@ -1,6 +1,6 @@
 -- One call of the engine: what it may answer, and what stands after it.
 use Rattle.std.specs.Prelude.{ℕ, ◌≡◌, ◌<◌, ◌≤◌, ◌⊎◌, Some, None, IsSome, IsSomeAnd, Result, Ok}
-use Rattle.std.specs.Prelude.{Err, List, [], ◌∷◌, false}
+use Rattle.std.specs.Prelude.{Err, false}
 use Rattle.buffer_pool.specs.Frames.{is_resident}
 use Rattle.log_records.specs.Log.{lsn_of}
 use Rattle.log_history.specs.Checkpoint.{open_checkpoint}
@@ -151,13 +151,6 @@ LeavesDevice event.CkptEnd = ⊥
 LeavesDevice (event.Repair copy page) = ⊥
 LeavesDevice other = Unit {0}
 
--- the event ends no write, takes, repairs and fetches no page, so no call of the page store is made
-abbrev pub LeavesStore : EngineState → Event → Type 0
-LeavesStore s (event.WriteEnd page) = ⊥
-LeavesStore s (event.Take copy page) = ⊥
-LeavesStore s (event.Repair copy page) = ⊥
-LeavesStore s other = ¬ Fetches s other
-
 -- a reply that tells of a fault of such a kind
 abbrev pub IsFaultReply : (Refusal → Type 0) → Result Answer Refusal → Type 0
 IsFaultReply IsOfKind (Ok answer) = ⊥
@@ -168,10 +161,3 @@ pub record TellsOfFault (IsOfKind : Refusal → Type 0) (before : ℕ) (reply : 
     (after : ℕ) : Type 0 where
   pub sound : ¬ IsFaultReply IsOfKind reply → after ≡ before
   pub fault : IsFaultReply IsOfKind reply → before < after
-
--- the same of each call of a run, one after another
-abbrev pub EachTellsOfFault : (Refusal → Type 0) → ℕ → List (Result Answer Refusal) → ℕ → Type 0
-EachTellsOfFault IsOfKind before [] after = after ≡ before
-EachTellsOfFault IsOfKind before (reply ∷ replies) after =
-    (next : ℕ) × TellsOfFault IsOfKind before reply next
-    × EachTellsOfFault IsOfKind next replies after

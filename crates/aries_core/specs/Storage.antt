@@ -5,20 +5,25 @@ use Rattle.log_records.specs.Log.{header_bytes}
 use Rattle.log_store.specs.declared.device.DeviceFault.{DeviceFault}
 use Rattle.log_store.specs.Stores.{StoreCall}
 use Rattle.log_store.specs.WrittenLog.{IsWritten}
+use Rattle.page_store.specs.Store.{ReadCall, WriteCall}
 use Rattle.aries_core.specs.declared.event.Answer.{Answer}
 use Rattle.aries_core.specs.declared.event.Event.{Event}
 use Rattle.aries_core.specs.declared.refusal.Refusal.{Refusal}
 use Rattle.aries_core.specs.declared.refusal.Refusal.TheVariants.{CommitUnsure, LogFault, StoreFault}
 use Rattle.aries_core.specs.EngineState.{EngineView, new_state}
-use Rattle.aries_core.specs.Step.{FailsForcing, Forces, IsByDevice, IsByStore, LeavesStore, Step}
-use Rattle.aries_core.specs.Step.{TellsOfFault, written_log_of}
+use Rattle.aries_core.specs.Asked.{Asks, FailsAsking, asked}
+use Rattle.aries_core.specs.Step.{FailsForcing, Forces, IsByDevice, IsByStore, Step, TellsOfFault}
+use Rattle.aries_core.specs.Step.{written_log_of}
 
 -- what contracts see of a store and of a device: what one call of the device did, the bytes on it,
--- the stored pages, and how often each of the two has failed
+-- what one read and one write of the store did, the stored pages, and how often each of the two has
+-- failed
 pub record Storage (S D : Type 0) : Type 1 where
   pub called : StoreCall D
   pub bytes : D → List ℕ
   pub device_failures : D → ℕ
+  pub gave : ReadCall S
+  pub wrote : WriteCall S
   pub stored : S → List Page
   pub store_failures : S → ℕ
 
@@ -39,13 +44,15 @@ CallsDevice called old (Err (CommitUnsure lsn)) new = FailsForcing called old ne
 CallsDevice called old (Err StoreFault) new = Forces called old new
 CallsDevice called old (Err other) new = new.device ≡ old.device
 
--- the store is not called by an event that ends no write, takes, repairs and fetches no page, nor where a
--- call is refused, unless the store fails
-abbrev pub MayCallStore : {S D : Type 0} → Event → EngineView S D → Result Answer Refusal
-    → EngineView S D → Type 0
-MayCallStore event old (Ok answer) new = LeavesStore old.state event → new.store ≡ old.store
-MayCallStore event old (Err StoreFault) new = Unit {0}
-MayCallStore event old (Err other) new = new.store ≡ old.store
+-- which calls of the store a call of the engine makes: where it is answered, the one that asks what
+-- it has to ask, or none if that is nothing; where the store failed, that call, which failed; else
+-- none
+abbrev pub CallsStore : {S D : Type 0} → ReadCall S → WriteCall S → Event → EngineView S D
+    → Result Answer Refusal → EngineView S D → Type 0
+CallsStore gave wrote event old (Ok answer) new = Asks gave wrote (asked old.state event) old new
+CallsStore gave wrote event old (Err StoreFault) new =
+    FailsAsking gave wrote (asked old.state event) old new
+CallsStore gave wrote event old (Err other) new = new.store ≡ old.store
 
 -- one call of an engine, with what it does to its store and its device; its reply tells of a fault
 -- of one of them just where there was one in this call
@@ -54,7 +61,7 @@ pub record CallOn {S D : Type 0} (on : Storage S D) (old : EngineView S D) (even
   pub step : Step old.state event reply new.state
   pub stored : IsStoredOn on new
   pub device : CallsDevice on.called old reply new
-  pub store : MayCallStore event old reply new
+  pub store : CallsStore on.gave on.wrote event old reply new
   pub device_told : TellsOfFault IsByDevice
       (on.device_failures old.device) reply (on.device_failures new.device)
   pub store_told : TellsOfFault IsByStore
@@ -71,26 +78,26 @@ RunOn on old (event ∷ events) [] new = ⊥
 
 -- a new engine on this store, which was not called, and on this device, which was called once, for
 -- the log's header
-pub record IsNewOn {S D : Type 0} (on : Storage S D) (pages : ℕ) (store : S) (device : D)
+pub record IsNewOn {S D : Type 0} (on : Storage S D) (pages frames : ℕ) (store : S) (device : D)
     (it : EngineView S D) : Type 0 where
-  pub state : it.state ≡ new_state pages it.state.frames
+  pub state : it.state ≡ new_state pages frames
   pub stored : IsStoredOn on it
   pub given : it.store ≡ store
   pub header : on.called device 0 (header_bytes pages) (Ok tt) it.device
   pub no_failure : on.device_failures it.device ≡ on.device_failures device
 
--- a new engine on this store and this device gives these replies to these events, and ends so
-pub record PlaysOn {S D : Type 0} (on : Storage S D) (pages : ℕ) (store : S) (device : D)
+-- a new engine of so many pages and frames, on this store and this device, gives these replies to
+-- these events, and ends so
+pub record PlaysOn {S D : Type 0} (on : Storage S D) (pages frames : ℕ) (store : S) (device : D)
     (events : List Event) (replies : List (Result Answer Refusal)) (last : EngineView S D)
     : Type 0 where
   pub first : EngineView S D
-  pub made : IsNewOn on pages store device first
+  pub made : IsNewOn on pages frames store device first
   pub run : RunOn on first events replies last
 
--- no engine is made on this device: it was called once, for the log's header, and failed
+-- no engine is made on this device: it was called once, for the log's header, failed, and is left so
 pub record FailsAtHeader {D : Type 0} (called : StoreCall D) (failures : D → ℕ) (pages : ℕ)
-    (device : D) : Type 0 where
-  pub left : D
+    (device left : D) : Type 0 where
   pub why : DeviceFault
   pub failed : called device 0 (header_bytes pages) (Err why) left
   pub more : failures device < failures left

@@ -2,6 +2,7 @@
 
 ghost use Rattle.std.specs.Prelude.{◌≡◌, ◌<◌, Some, None, IfErr, OnOk};
 ghost use Rattle.std.specs.Option.{option_map_or};
+ghost use Rattle.aries_core.specs.Asked.{Asks, FailsAsking, asked};
 ghost use Rattle.aries_core.specs.Refusal.{refusal};
 ghost use Rattle.aries_core.specs.Step.{IsByStore, Step, reply_of, took_answer};
 ghost use Rattle.aries_core.specs.declared.event.Answer.TheVariants as answer;
@@ -59,6 +60,10 @@ impl<S: PageStore, D: LogDevice> Engine<S, D> {
         ensures device { self.new.device ≡ self.old.device }
         ensures store_refused { IfErr result (λ why. ¬ IsByStore why
             → self.new.store ≡ self.old.store) }
+        ensures asked { OnOk result (Asks S.gave S.wrote
+            (asked self.old.state (event.Take copy page)) self.old self.new) }
+        ensures failed { IfErr result (λ why. IsByStore why → FailsAsking S.gave S.wrote
+            (asked self.old.state (event.Take copy page)) self.old self.new) }
         ensures no_store_failure { OnOk result
             (S.failures self.new.store ≡ S.failures self.old.store) }
         ensures store_cause { IfErr result (λ why. IsByStore why
@@ -125,13 +130,7 @@ impl<S: PageStore, D: LogDevice> Engine<S, D> {
             refusal self.now.state (event.Take copy page) ≡ Some why) }
         ensures free { OnOk result (refusal self.now.state (event.Take copy page) ≡ None) }
     {
-        let Some(reading) = self.vault.reading(copy) else {
-            return Err(if self.vault.complete(copy).is_some() {
-                Refusal::CopyNotOpen
-            } else {
-                Refusal::NoCopy
-            });
-        };
+        let reading = self.vault.reading_copy(copy)?;
         if page.0 >= self.pool.pages() {
             return Err(Refusal::PageOut);
         }

@@ -9,6 +9,7 @@ ghost use Rattle.page_core.specs.Volume.{formatted_pages};
 ghost use Rattle.log_records.specs.Log.{IsPageCount};
 ghost use Rattle.log_records.specs.Record.{change_of};
 ghost use Rattle.log_history.specs.Transactions.{is_open, last_lsn};
+ghost use Rattle.aries_core.specs.Asked.{Asks, FailsAsking, asked};
 ghost use Rattle.aries_core.specs.Call.{Calls};
 ghost use Rattle.aries_core.specs.EngineState.{Fetches, IsFit, appended, end, forced_to, new_state};
 ghost use Rattle.aries_core.specs.EngineState.{update_record};
@@ -17,7 +18,7 @@ ghost use Rattle.aries_core.specs.Refusal.{has_no_room};
 ghost use Rattle.aries_core.specs.Refusal.{page_refusal, rolling_refusal};
 ghost use Rattle.aries_core.specs.Refusal.{refusal};
 ghost use Rattle.aries_core.specs.Step.{ForcedPart, IsAtRepair, IsByDevice, IsByStore, IsUnsure};
-ghost use Rattle.aries_core.specs.Step.{FailsForcing, Forces, LeavesDevice, LeavesStore};
+ghost use Rattle.aries_core.specs.Step.{FailsForcing, Forces, LeavesDevice};
 ghost use Rattle.aries_core.specs.Step.{Step, reply_of, undo_answer};
 ghost use Rattle.aries_core.specs.declared.event.Answer.TheVariants as answer;
 ghost use Rattle.aries_core.specs.declared.event.Event.TheVariants as event;
@@ -77,8 +78,15 @@ impl<S: PageStore + Drop, D: LogDevice + Drop> Engine<S, D> {
 
     /// An engine over a formatted volume, with a log without records, whose header is stored by one
     /// call of the device. No page is in memory yet. The store is not called but for its count.
-    /// Where this call fails, store and device are dropped.
-    pub fn new(alloc: Global, setup: Setup, store: S, device: D) -> Result<Engine<S, D>, PlayFault>
+    ///
+    /// A fault hands the device back: where memory ran out, it was not called. The store is dropped
+    /// then.
+    pub fn new(
+        alloc: Global,
+        setup: Setup,
+        store: S,
+        device: D,
+    ) -> Result<Engine<S, D>, (PlayFault, D)>
         requires pages { IsPageCount setup.pages }
         requires frames { IsFrameCount setup.frames }
         requires formatted { S.stored store ≡ formatted_pages setup.pages }
@@ -89,14 +97,15 @@ impl<S: PageStore + Drop, D: LogDevice + Drop> Engine<S, D> {
         ensures header { IfOk result (λ it.
             D.called device 0 (header_bytes setup.pages) (Ok tt) it.device) }
         ensures no_failure { IfOk result (λ it. D.failures it.device ≡ D.failures device) }
-        ensures cause { IfErr result (λ why. why ≡ PlayFault.LogFault
-            → FailsAtHeader D.called D.failures setup.pages device) }
+        ensures untouched { IfErr result (λ e. e.0 ≡ PlayFault.OutOfMemory → e.1 ≡ device) }
+        ensures cause { IfErr result (λ e. e.0 ≡ PlayFault.LogFault
+            → FailsAtHeader D.called D.failures setup.pages device e.1) }
         ensures same_bound { IfOk result (λ it. D.fails_from it.device ≡ D.fails_from device) }
-        ensures past_bound { IfErr result (λ why. why ≡ PlayFault.LogFault
+        ensures past_bound { IfErr result (λ e. e.0 ≡ PlayFault.LogFault
             → D.fails_from device ≤ 64) }
     {
         let Ok(pool) = Pool::new(alloc, store, setup.frames) else {
-            return Err(PlayFault::OutOfMemory);
+            return Err((PlayFault::OutOfMemory, device));
         };
         match Log::new(alloc, setup.pages, device) {
             Ok(log) => Ok(Engine {
@@ -108,7 +117,7 @@ impl<S: PageStore + Drop, D: LogDevice + Drop> Engine<S, D> {
                 vault: Vault::new(alloc),
                 alloc,
             }),
-            Err(_) => Err(PlayFault::LogFault),
+            Err((_, device)) => Err((PlayFault::LogFault, device)),
         }
     }
 }
@@ -135,11 +144,14 @@ impl<S: PageStore, D: LogDevice> Engine<S, D> {
         ensures past_bound { IfErr result (λ why. IsByDevice why
             → D.fails_from self.old.device ≤ end self.new.state) }
 
-        ensures store { LeavesStore self.old.state event → self.new.store ≡ self.old.store }
+        ensures asked { OnOk result
+            (Asks S.gave S.wrote (asked self.old.state event) self.old self.new) }
         ensures store_refused { IfErr result (λ why. ¬ IsByStore why
             → self.new.store ≡ self.old.store) }
         ensures no_store_failure { OnOk result
             (S.failures self.new.store ≡ S.failures self.old.store) }
+        ensures failed { IfErr result (λ why. IsByStore why
+            → FailsAsking S.gave S.wrote (asked self.old.state event) self.old self.new) }
         ensures store_cause { IfErr result (λ why. IsByStore why
             → S.failures self.old.store < S.failures self.new.store) }
     {
@@ -224,6 +236,10 @@ impl<S: PageStore, D: LogDevice> Engine<S, D> {
         ensures device { self.new.device ≡ self.old.device }
         ensures store { ¬ Fetches self.old.state (event.Set txn page slot number)
             → self.new.store ≡ self.old.store }
+        ensures asked { OnOk result (Asks S.gave S.wrote
+            (asked self.old.state (event.Set txn page slot number)) self.old self.new) }
+        ensures failed { IfErr result (λ why. IsByStore why → FailsAsking S.gave S.wrote
+            (asked self.old.state (event.Set txn page slot number)) self.old self.new) }
         ensures store_refused { IfErr result (λ why. ¬ IsByStore why
             → self.new.store ≡ self.old.store) }
         ensures no_store_failure { OnOk result
@@ -254,6 +270,10 @@ impl<S: PageStore, D: LogDevice> Engine<S, D> {
         ensures device { self.new.device ≡ self.old.device }
         ensures store { ¬ Fetches self.old.state (event.Add txn page slot amount)
             → self.new.store ≡ self.old.store }
+        ensures asked { OnOk result (Asks S.gave S.wrote
+            (asked self.old.state (event.Add txn page slot amount)) self.old self.new) }
+        ensures failed { IfErr result (λ why. IsByStore why → FailsAsking S.gave S.wrote
+            (asked self.old.state (event.Add txn page slot amount)) self.old self.new) }
         ensures store_refused { IfErr result (λ why. ¬ IsByStore why
             → self.new.store ≡ self.old.store) }
         ensures no_store_failure { OnOk result
@@ -275,6 +295,10 @@ impl<S: PageStore, D: LogDevice> Engine<S, D> {
         ensures device { self.new.device ≡ self.old.device }
         ensures store { ¬ Fetches self.old.state (event.Read page slot)
             → self.new.store ≡ self.old.store }
+        ensures asked { OnOk result (Asks S.gave S.wrote
+            (asked self.old.state (event.Read page slot)) self.old self.new) }
+        ensures failed { IfErr result (λ why. IsByStore why → FailsAsking S.gave S.wrote
+            (asked self.old.state (event.Read page slot)) self.old self.new) }
         ensures store_refused { IfErr result (λ why. ¬ IsByStore why
             → self.new.store ≡ self.old.store) }
         ensures no_store_failure { OnOk result
@@ -340,6 +364,10 @@ impl<S: PageStore, D: LogDevice> Engine<S, D> {
         ensures device { self.new.device ≡ self.old.device }
         ensures store { ¬ Fetches self.old.state (event.UndoStep txn)
             → self.new.store ≡ self.old.store }
+        ensures asked { OnOk result (Asks S.gave S.wrote
+            (asked self.old.state (event.UndoStep txn)) self.old self.new) }
+        ensures failed { IfErr result (λ why. IsByStore why → FailsAsking S.gave S.wrote
+            (asked self.old.state (event.UndoStep txn)) self.old self.new) }
         ensures store_refused { IfErr result (λ why. ¬ IsByStore why
             → self.new.store ≡ self.old.store) }
         ensures no_store_failure { OnOk result

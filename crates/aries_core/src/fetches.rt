@@ -9,6 +9,7 @@ ghost use Rattle.log_history.specs.Growth.{MayGrow};
 ghost use Rattle.log_history.specs.Linked.{number_in};
 ghost use Rattle.log_history.specs.Transactions.{last_lsn};
 ghost use Rattle.buffer_pool.specs.Frames.{IsResident, is_resident};
+ghost use Rattle.aries_core.specs.Asked.{Asks, FailsAsking, page_asked};
 ghost use Rattle.aries_core.specs.Call.{Calls};
 ghost use Rattle.aries_core.specs.EngineState.{appended, end, update_record, with_page};
 ghost use Rattle.aries_core.specs.Refusal.{frame_refusal, page_refusal};
@@ -71,6 +72,10 @@ impl<S: PageStore, D: LogDevice> Engine<S, D> {
             → self.new.store ≡ self.old.store) }
         ensures no_store_failure { OnOk result
             (S.failures self.new.store ≡ S.failures self.old.store) }
+        ensures asked { OnOk result
+            (Asks S.gave S.wrote (page_asked self.old.state page) self.old self.new) }
+        ensures failed { IfErr result (λ why. IsByStore why
+            → FailsAsking S.gave S.wrote (page_asked self.old.state page) self.old self.new) }
         ensures store_cause { IfErr result (λ why. IsByStore why
             → S.failures self.old.store < S.failures self.new.store) }
     {
@@ -113,6 +118,10 @@ impl<S: PageStore, D: LogDevice> Engine<S, D> {
             → self.new.store ≡ self.old.store) }
         ensures no_store_failure { OnOk result
             (S.failures self.new.store ≡ S.failures self.old.store) }
+        ensures asked { OnOk result
+            (Asks S.gave S.wrote (page_asked self.old.state page) self.old self.new) }
+        ensures failed { IfErr result (λ why. IsByStore why
+            → FailsAsking S.gave S.wrote (page_asked self.old.state page) self.old self.new) }
         ensures store_cause { IfErr result (λ why. IsByStore why
             → S.failures self.old.store < S.failures self.new.store) }
     {
@@ -159,6 +168,10 @@ impl<S: PageStore, D: LogDevice> Engine<S, D> {
             → self.new.store ≡ self.old.store) }
         ensures no_store_failure { OnOk result
             (S.failures self.new.store ≡ S.failures self.old.store) }
+        ensures asked { OnOk result
+            (Asks S.gave S.wrote (page_asked self.old.state page) self.old self.new) }
+        ensures failed { IfErr result (λ why. IsByStore why
+            → FailsAsking S.gave S.wrote (page_asked self.old.state page) self.old self.new) }
         ensures store_cause { IfErr result (λ why. IsByStore why
             → S.failures self.old.store < S.failures self.new.store) }
     {
@@ -213,6 +226,10 @@ impl<S: PageStore, D: LogDevice> Engine<S, D> {
             → self.new.store ≡ self.old.store) }
         ensures no_store_failure { OnOk result
             (S.failures self.new.store ≡ S.failures self.old.store) }
+        ensures asked { OnOk result
+            (Asks S.gave S.wrote (page_asked self.old.state page) self.old self.new) }
+        ensures failed { IfErr result (λ why. IsByStore why
+            → FailsAsking S.gave S.wrote (page_asked self.old.state page) self.old self.new) }
         ensures store_cause { IfErr result (λ why. IsByStore why
             → S.failures self.old.store < S.failures self.new.store) }
     {

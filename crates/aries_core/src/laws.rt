@@ -2,7 +2,8 @@
 
 ghost use Rattle.std.specs.Prelude.{ℕ, ◌≡◌, ◌≢◌, ◌+◌, ◌<◌, ◌≤◌, ◌++◌, List, [], ◌∷◌, length};
 ghost use Rattle.std.specs.Prelude.{Option, Some, None, Result, Ok, Err, false, slice_index_or};
-ghost use Rattle.std.specs.List.{All};
+ghost use Rattle.std.specs.Prelude.{map, nat_eq};
+ghost use Rattle.std.specs.List.{All, IsDistinct};
 ghost use Rattle.log_records.specs.declared.limits.TheConstants.{MAX_RECORDS};
 ghost use Rattle.log_records.specs.declared.record.Record.{Record};
 ghost use Rattle.log_records.specs.declared.record.Record.TheVariants as log;
@@ -41,6 +42,17 @@ pub fn engines_stay_fit()
     ensures { (old : EngineState) (events : List Event)
         (replies : List (Result Answer Refusal)) (new : EngineState)
         → IsFit old → All EventFits events → Run old events replies new → IsFit new }
+{}
+
+/// There are never more pages in memory than frames, and no page is there twice.
+pub fn pages_in_memory_are_few_and_distinct()
+    ensures few { (pages frames : ℕ) (events : List Event) (replies : List (Result Answer Refusal))
+        (new : EngineState) → IsPageCount pages → All EventFits events
+        → Run (new_state pages frames) events replies new → length new.resident ≤ frames }
+    ensures distinct { (pages frames : ℕ) (events : List Event)
+        (replies : List (Result Answer Refusal)) (new : EngineState) → IsPageCount pages
+        → All EventFits events → Run (new_state pages frames) events replies new
+        → IsDistinct nat_eq (map (λ page. page.number) new.resident) }
 {}
 
 /// LogFull is answered exactly where the log's records and those that open transactions may still

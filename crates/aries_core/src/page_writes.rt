@@ -1,6 +1,7 @@
 //! The calls of the engine that write a page to its store in two steps.
 
 ghost use Rattle.std.specs.Prelude.{◌≡◌, ◌<◌, ◌≤◌, Some, None, IfErr, OnOk};
+ghost use Rattle.aries_core.specs.Asked.{Asks, FailsAsking, asked};
 ghost use Rattle.aries_core.specs.EngineState.{end};
 ghost use Rattle.aries_core.specs.Refusal.{refusal};
 ghost use Rattle.aries_core.specs.Step.{FailsForcing, Forces};
@@ -59,6 +60,10 @@ impl<S: PageStore, D: LogDevice> Engine<S, D> {
         ensures device { self.new.device ≡ self.old.device }
         ensures refused { IfErr result (λ why. ¬ IsByStore why
             → self.new.store ≡ self.old.store) }
+        ensures asked { OnOk result (Asks S.gave S.wrote
+            (asked self.old.state (event.WriteEnd page)) self.old self.new) }
+        ensures failed { IfErr result (λ why. IsByStore why → FailsAsking S.gave S.wrote
+            (asked self.old.state (event.WriteEnd page)) self.old self.new) }
         ensures no_failure { OnOk result
             (S.failures self.new.store ≡ S.failures self.old.store) }
         ensures cause { IfErr result (λ why. IsByStore why

@@ -33,14 +33,15 @@ pub struct Played<S: PageStore, D: LogDevice> {
 /// the next one is played.
 ///
 /// A fault comes before the first event, of want of memory for the replies or for the engine, or
-/// of the log's device at the header. Store and device are dropped then.
+/// of the log's device at the header. It hands the device back: where memory ran out, it was not
+/// called. The store is dropped then.
 pub fn play<S: PageStore + Drop, D: LogDevice + Drop>(
     alloc: Global,
     setup: Setup,
     store: S,
     device: D,
     events: &[Event],
-) -> Result<Played<S, D>, PlayFault>
+) -> Result<Played<S, D>, (PlayFault, D)>
     requires pages { IsPageCount setup.pages }
     requires frames { IsFrameCount setup.frames }
     requires formatted { S.stored store ≡ formatted_pages setup.pages }
@@ -62,10 +63,12 @@ pub fn play<S: PageStore + Drop, D: LogDevice + Drop>(
           called = D.called;
           bytes = D.bytes;
           device_failures = D.failures;
+          gave = S.gave;
+          wrote = S.wrote;
           stored = S.stored;
           store_failures = S.failures;
         })
-        setup.pages store device events.now it.replies.items it.engine) }
+        setup.pages setup.frames store device events.now it.replies.items it.engine) }
     ensures frames { IfOk result (λ it. it.engine.state.frames ≡ setup.frames) }
 
     // So the device failed just where a reply tells of it.
@@ -86,14 +89,15 @@ pub fn play<S: PageStore + Drop, D: LogDevice + Drop>(
     ensures store_failure { IfOk result (λ it. Any (IsFaultReply IsByStore) it.replies.items
         → S.failures store < S.failures it.engine.store) }
 
-    ensures cause { IfErr result (λ why. why ≡ PlayFault.LogFault
-        → FailsAtHeader D.called D.failures setup.pages device) }
-    ensures header_fits { IfErr result (λ why. why ≡ PlayFault.LogFault
+    ensures untouched { IfErr result (λ e. e.0 ≡ PlayFault.OutOfMemory → e.1 ≡ device) }
+    ensures cause { IfErr result (λ e. e.0 ≡ PlayFault.LogFault
+        → FailsAtHeader D.called D.failures setup.pages device e.1) }
+    ensures header_fits { IfErr result (λ e. e.0 ≡ PlayFault.LogFault
         → D.fails_from device ≤ 64) }
 {
     let mut replies = match Vec::with_capacity(alloc, events.len()) {
         Ok(replies) => replies,
-        Err(_) => return Err(PlayFault::OutOfMemory),
+        Err(_) => return Err((PlayFault::OutOfMemory, device)),
     };
     let mut engine = Engine::new(alloc, setup, store, device)?;
     // What an engine keeps holds of it now, and is seen where it is read.

@@ -1,6 +1,7 @@
 //! The engine's call that stores a page anew, rebuilt from image copies and the log.
 
 ghost use Rattle.std.specs.Prelude.{◌≡◌, ◌<◌, ◌≤◌, Some, None, IfOk, IfErr, OnOk};
+ghost use Rattle.aries_core.specs.Asked.{Asks, FailsAsking, asked};
 ghost use Rattle.aries_core.specs.EngineState.{end, page_now};
 ghost use Rattle.aries_core.specs.Refusal.{refusal};
 ghost use Rattle.aries_core.specs.Step.{FailsForcing, Forces, IsByDevice, IsByStore, Step, reply_of};
@@ -46,6 +47,10 @@ impl<S: PageStore, D: LogDevice> Engine<S, D> {
 
         ensures store_refused { IfErr result (λ why. ¬ IsByStore why
             → self.new.store ≡ self.old.store) }
+        ensures asked { OnOk result (Asks S.gave S.wrote
+            (asked self.old.state (event.Repair copy page)) self.old self.new) }
+        ensures failed { IfErr result (λ why. IsByStore why → FailsAsking S.gave S.wrote
+            (asked self.old.state (event.Repair copy page)) self.old self.new) }
         ensures no_store_failure { OnOk result
             (S.failures self.new.store ≡ S.failures self.old.store) }
         ensures store_cause { IfErr result (λ why. IsByStore why
@@ -68,13 +73,7 @@ impl<S: PageStore, D: LogDevice> Engine<S, D> {
             refusal self.now.state (event.Repair copy page) ≡ Some why) }
         ensures may { OnOk result (refusal self.now.state (event.Repair copy page) ≡ None) }
     {
-        if self.vault.complete(copy).is_none() {
-            return Err(if self.vault.reading(copy).is_some() {
-                Refusal::CopyNotComplete
-            } else {
-                Refusal::NoCopy
-            });
-        }
+        self.vault.complete_copy(copy)?;
         if page.0 >= self.log.pages() {
             return Err(Refusal::PageOut);
         }

@@ -37,10 +37,13 @@ fn main(rt: HostRuntime) -> ExitCode {
         return ExitCode::from(2);
     };
     match play(&rt, rt.alloc(), &case) {
-        Ok(text) => {
-            let _ = rt.print(&text);
-            ExitCode::SUCCESS
-        }
+        Ok(text) => match rt.print(&text) {
+            Ok(()) => ExitCode::SUCCESS,
+            Err(error) => {
+                let _ = eprintln!(rt; "bank: standard output: {error}");
+                ExitCode::FAILURE
+            }
+        },
         Err(fault) => {
             let _ = rt.eprintln(&fault);
             ExitCode::FAILURE

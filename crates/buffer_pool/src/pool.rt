@@ -2,7 +2,7 @@
 
 ghost use Rattle.std.specs.Prelude.{ℕ, ◌≡◌, ◌<◌, List, [], ◌∷◌, false, length, map, slice_get};
 ghost use Rattle.std.specs.Prelude.{slice_index_or, slice_set, None, Some, IfSome, IsNone, IsSome};
-ghost use Rattle.std.specs.Prelude.{MatchOption, is_some, IfOk, OnOk, OnErr};
+ghost use Rattle.std.specs.Prelude.{MatchOption, is_some, Ok, Err, IfOk, IfErr, OnOk, OnErr};
 ghost use Rattle.std.specs.List.{Contains};
 ghost use Rattle.page_core.specs.declared.page.Page.{Page};
 ghost use Rattle.page_core.specs.Volume.{AreNumbered, formatted_pages};
@@ -162,6 +162,11 @@ impl<S: PageStore> Pool<S> {
         ensures kept { (log : Log) → IsPoolOf S.stored log self.old
             → IsPoolOf S.stored log self.new }
 
+        // The store was asked for the page once, and for nothing else.
+        ensures gave { OnOk result ((d : Page) → S.gave self.old.store number
+            (Ok (slice_index_or (S.stored self.old.store) number d)) self.new.store) }
+        ensures failed { IfErr result (λ why.
+            S.gave self.old.store number (Err why) self.new.store) }
         ensures no_failure { OnOk result
             (S.failures self.new.store ≡ S.failures self.old.store) }
         ensures failure { OnErr result (S.failures self.old.store < S.failures self.new.store) }
@@ -201,6 +206,7 @@ impl<S: PageStore> Pool<S> {
         ensures kept { (log : Log) → IsPoolOf S.stored log self.old
             → IsPoolOf S.stored log self.new }
 
+        ensures gave { S.gave self.old.store number result self.new.store }
         ensures no_failure { OnOk result
             (S.failures self.new.store ≡ S.failures self.old.store) }
         ensures failure { OnErr result (S.failures self.old.store < S.failures self.new.store) }
@@ -307,6 +313,12 @@ impl<S: PageStore> Pool<S> {
 
         ensures kept { (log : Log) → IsPoolOf S.stored log self.old
             → IsPoolOf S.stored log self.new }
+
+        // The image was stored by one call, and nothing else was asked of the store.
+        ensures wrote { OnOk result (IfSome (state_at self.old number).writing
+            (λ q. S.wrote self.old.store number q (Ok tt) self.new.store)) }
+        ensures failed { IfErr result (λ why. IfSome (state_at self.old number).writing
+            (λ q. S.wrote self.old.store number q (Err why) self.new.store)) }
         ensures no_failure { OnOk result
             (S.failures self.new.store ≡ S.failures self.old.store) }
         ensures failure { OnErr result (S.failures self.old.store < S.failures self.new.store) }
@@ -345,6 +357,7 @@ impl<S: PageStore> Pool<S> {
 
         ensures kept { (log : Log) → IsPoolOf S.stored log self.old
             → rebuilt.now ≡ image log.records number → IsPoolOf S.stored log self.new }
+        ensures wrote { S.wrote self.old.store number rebuilt.now result self.new.store }
         ensures no_failure { OnOk result
             (S.failures self.new.store ≡ S.failures self.old.store) }
         ensures failure { OnErr result (S.failures self.old.store < S.failures self.new.store) }

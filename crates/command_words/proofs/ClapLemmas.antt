@@ -13,7 +13,7 @@ use Rattle.clap.specs.declared.error.kind.ErrorKind.TheVariants as kind
 use Rattle.clap.proofs.CallerReads.{signed_reads}
 use Rattle.clap.proofs.OnLiterals.{clap_on_literals}
 use Rattle.command_words.specs.Command.{ExplainsRead, IsFramesRead, IsRead, Names, PassesFrames, apps, audit_app}
-use Rattle.command_words.specs.Command.{redo_app, restore_app, run_app}
+use Rattle.command_words.specs.Command.{redo_into_app, restore_app, run_app}
 use Rattle.command_words.specs.declared.command.UsageFault.{UsageFault}
 use Rattle.command_words.specs.declared.command.UsageFault.TheVariants.{BadArguments, OutOfMemory}
 
@@ -102,7 +102,7 @@ frames_read E G found r number (inr it) none value parses is =
 
 -- ---- `NAME --help`
 
-pub help_of_redo : fault_of redo_app (codes "redo" ∷ codes "--help" ∷ []) ≡ kind.DisplayHelp ∷ []
+pub help_of_redo : fault_of redo_into_app (codes "redo" ∷ codes "--help" ∷ []) ≡ kind.DisplayHelp ∷ []
 unfolding clap_on_literals
 help_of_redo = refl
 

@@ -9,10 +9,10 @@ use Rattle.std.proofs.lemmas.Option.{none-some, same_Some}
 use Rattle.clap.specs.Words.{App, Text, fault_of}
 use Rattle.command_words.specs.Command.{IsRedo, IsTaken, IsTakenBy, IsUnknown, Names, apps, audit_app, redo_app}
 use Rattle.command_words.specs.Command.{AsksForHelp, Explains, ExplainsRead, ExplainsUnknown, Gives}
-use Rattle.command_words.specs.Command.{read_as, restore_app, run_app}
+use Rattle.command_words.specs.Command.{read_as, redo_into_app, restore_app, run_app}
 use Rattle.clap.specs.declared.error.kind.ErrorKind.TheVariants.{DisplayHelp}
 use Rattle.command_words.specs.declared.command.Command.{Command}
-use Rattle.command_words.specs.declared.command.Command.TheVariants.{Audit, Redo, Restore, Run}
+use Rattle.command_words.specs.declared.command.Command.TheVariants.{Audit, Redo, RedoInto, Restore, Run}
 use Rattle.command_words.specs.declared.command.UsageFault.{UsageFault}
 use Rattle.command_words.specs.declared.command.UsageFault.TheVariants.{BadArguments, HelpAsked, MisspelledCommand}
 use Rattle.command_words.specs.declared.command.UsageFault.TheVariants.{NoCommand, OutOfMemory, UnknownCommand}
@@ -22,16 +22,19 @@ pub first_word : {X : Type 0} (f : X → Text) (xs : List X) (x : X) (word : Tex
 first_word f [] x word is same = absurd (none-some _ (sym is))
 first_word f (y ∷ ys) x word is same = ap Some (ap f (sym (same_Some _ _ is)) ∙ sym same)
 
-taken_among : (words : List Text) → IsTaken words
+pub taken_among : (words : List Text) → IsTaken words
     → IsTakenBy words redo_app
-    ⊎ (IsTakenBy words run_app ⊎ (IsTakenBy words restore_app ⊎ IsTakenBy words audit_app))
+    ⊎ (IsTakenBy words run_app ⊎ (IsTakenBy words restore_app
+    ⊎ (IsTakenBy words audit_app ⊎ IsTakenBy words redo_into_app)))
 taken_among words (zero, app, lt, at, by) = inl (subst (IsTakenBy words) (sym at) by)
 taken_among words (suc zero, app, lt, at, by) = inr (inl (subst (IsTakenBy words) (sym at) by))
 taken_among words (suc (suc zero), app, lt, at, by) = inr (inr (inl (subst (IsTakenBy words) (sym at) by)))
-taken_among words (suc (suc (suc zero)), app, lt, at, by) = inr (inr (inr (subst (IsTakenBy words) (sym at) by)))
-taken_among words (suc (suc (suc (suc k))), app, lt, at, by) = absurd (omega arith)
+taken_among words (suc (suc (suc zero)), app, lt, at, by) = inr (inr (inr (inl (subst (IsTakenBy words) (sym at) by))))
+taken_among words (suc (suc (suc (suc zero))), app, lt, at, by) =
+    inr (inr (inr (inr (subst (IsTakenBy words) (sym at) by))))
+taken_among words (suc (suc (suc (suc (suc k)))), app, lt, at, by) = absurd (omega arith)
 
-same_name : (words : List Text) (a b : App) → Names words a → Names words b → length a.top.name ≡ length b.top.name
+pub same_name : (words : List Text) (a b : App) → Names words a → Names words b → length a.top.name ≡ length b.top.name
 same_name words a b p q = ap length (same_Some _ _ (sym p ∙ q))
 
 pub taken_run : (words : List Text) → Names words run_app → IsTaken words → fault_of run_app words ≡ []
@@ -41,19 +44,10 @@ taken_run words named taken = elim (taken_among words taken) [
     | inl it ↦ it.1
     | inr it ↦ elim it [
       | inl one ↦ absurd (let e : 3 ≡ 7 = same_name words run_app restore_app named one.0 in omega arith)
-      | inr one ↦ absurd (let e : 3 ≡ 5 = same_name words run_app audit_app named one.0 in omega arith)
-    ]
-  ]
-]
-
-pub taken_redo : (words : List Text) → Names words redo_app → IsTaken words → fault_of redo_app words ≡ []
-taken_redo words named taken = elim (taken_among words taken) [
-  | inl by ↦ by.1
-  | inr by ↦ elim by [
-    | inl it ↦ absurd (let e : 4 ≡ 3 = same_name words redo_app run_app named it.0 in omega arith)
-    | inr it ↦ elim it [
-      | inl one ↦ absurd (let e : 4 ≡ 7 = same_name words redo_app restore_app named one.0 in omega arith)
-      | inr one ↦ absurd (let e : 4 ≡ 5 = same_name words redo_app audit_app named one.0 in omega arith)
+      | inr one ↦ elim one [
+        | inl last ↦ absurd (let e : 3 ≡ 5 = same_name words run_app audit_app named last.0 in omega arith)
+        | inr last ↦ absurd (let e : 3 ≡ 4 = same_name words run_app redo_into_app named last.0 in omega arith)
+      ]
     ]
   ]
 ]
@@ -65,7 +59,10 @@ taken_restore words named taken = elim (taken_among words taken) [
     | inl it ↦ absurd (let e : 7 ≡ 3 = same_name words restore_app run_app named it.0 in omega arith)
     | inr it ↦ elim it [
       | inl one ↦ one.1
-      | inr one ↦ absurd (let e : 7 ≡ 5 = same_name words restore_app audit_app named one.0 in omega arith)
+      | inr one ↦ elim one [
+        | inl last ↦ absurd (let e : 7 ≡ 5 = same_name words restore_app audit_app named last.0 in omega arith)
+        | inr last ↦ absurd (let e : 7 ≡ 4 = same_name words restore_app redo_into_app named last.0 in omega arith)
+      ]
     ]
   ]
 ]
@@ -77,7 +74,10 @@ taken_audit words named taken = elim (taken_among words taken) [
     | inl it ↦ absurd (let e : 5 ≡ 3 = same_name words audit_app run_app named it.0 in omega arith)
     | inr it ↦ elim it [
       | inl one ↦ absurd (let e : 5 ≡ 7 = same_name words audit_app restore_app named one.0 in omega arith)
-      | inr one ↦ one.1
+      | inr one ↦ elim one [
+        | inl last ↦ last.1
+        | inr last ↦ absurd (let e : 5 ≡ 4 = same_name words audit_app redo_into_app named last.0 in omega arith)
+      ]
     ]
   ]
 ]
@@ -98,7 +98,10 @@ unnamed words name first not-redo not-run not-restore not-audit taken = elim (ta
     | inl it ↦ not-run (same_Some _ _ (sym first ∙ it.0))
     | inr it ↦ elim it [
       | inl one ↦ not-restore (same_Some _ _ (sym first ∙ one.0))
-      | inr one ↦ not-audit (same_Some _ _ (sym first ∙ one.0))
+      | inr one ↦ elim one [
+        | inl last ↦ not-audit (same_Some _ _ (sym first ∙ last.0))
+        | inr last ↦ not-redo (same_Some _ _ (sym first ∙ last.0))
+      ]
     ]
   ]
 ]
@@ -126,7 +129,8 @@ unknown name not-redo not-run not-restore not-audit not-help not-long not-short 
     none (suc zero) app lt same = not-run (sym same)
     none (suc (suc zero)) app lt same = not-restore (sym same)
     none (suc (suc (suc zero))) app lt same = not-audit (sym same)
-    none (suc (suc (suc (suc k)))) app lt same = absurd (omega arith)
+    none (suc (suc (suc (suc zero)))) app lt same = not-redo (sym same)
+    none (suc (suc (suc (suc (suc k))))) app lt same = absurd (omega arith)
 
 -- ---- `help NAME`, read as `NAME --help`
 
@@ -178,9 +182,10 @@ audit_not_help name is help = absurd (let e : 5 ≡ 4 = ap length (sym is ∙ he
 
 gives_taken : (words : List Text) (command : Command) → Gives words command → IsTaken words
 gives_taken words Redo gives = (0, redo_app, lit< tt, refl, gives)
-gives_taken words (Run pages frames save) gives = (1, run_app, lit< tt, refl, gives.0)
-gives_taken words (Restore log master archives) gives = (2, restore_app, lit< tt, refl, gives.0)
-gives_taken words (Audit log archives) gives = (3, audit_app, lit< tt, refl, gives.0)
+gives_taken words (RedoInto output) gives = (4, redo_into_app, lit< tt, refl, gives.0)
+gives_taken words (Run pages frames save strict) gives = (1, run_app, lit< tt, refl, gives.0)
+gives_taken words (Restore log master archives output) gives = (2, restore_app, lit< tt, refl, gives.0)
+gives_taken words (Audit log archives master all) gives = (3, audit_app, lit< tt, refl, gives.0)
 
 -- words in which clap finds a fault give no command
 pub help_gives_none : (words : List Text) (app : App) (r : Result Command UsageFault) → IfOk r (Gives words)

@@ -1,7 +1,9 @@
 -- `clap` takes `redo` alone, and `redo --`, and no other words of `redo`.
 use Rattle.std.proofs.Common.{◌≡◌, ◌⊎◌, ℕ, Bool, true, false, List, [], ◌∷◌, Option, Some, None, refl, inl, inr, codes}
-use Rattle.std.proofs.Common.{ap, sym, subst, ◌∙◌, cond, length}
-use Rattle.std.specs.Prelude.{◌&&◌, not, is_some, find, slice_get, Result, Ok, Err, IfErr, IfOk, MatchResult}
+use Rattle.std.proofs.Common.{ap, arith, sym, subst, ◌∙◌, cond, length, map}
+use Rattle.std.specs.Prelude.{◌&&◌, ◌↔◌, not, is_some, find, slice_get, Result, Ok, Err, IfErr, IfOk, IsTrue, MatchResult}
+use Rattle.std.specs.Prelude.{suc}
+use Rattle.std.specs.List.{slice_index_or}
 use Rattle.std.specs.Option.{option_map_or}
 use Rattle.std.specs.Str.{bytes_eq, chars}
 use Rattle.std.proofs.lemmas.Slice.Eq.{bytes_eq-Decides}
@@ -16,7 +18,9 @@ use Rattle.clap.specs.Faults.{bundle_fault, bundle_step_fault, flag_word_fault, 
 use Rattle.clap.specs.Faults.{step_fault}
 use Rattle.clap.specs.declared.error.kind.ErrorKind.{ErrorKind}
 use Rattle.clap.proofs.OnLiterals.{clap_on_literals}
-use Rattle.command_words.specs.Command.{Gives, IsRedo, redo_app}
+use Rattle.command_words.specs.Command.{Gives, IsRedo, IsTaken, Names, audit_app, redo_app, redo_into_app, restore_app}
+use Rattle.command_words.specs.Command.{run_app}
+use Rattle.command_words.proofs.NameLemmas.{same_name, taken_among}
 use Rattle.command_words.specs.declared.command.Command.{Command}
 use Rattle.command_words.specs.declared.command.Command.TheVariants.{Redo}
 use Rattle.command_words.specs.declared.command.UsageFault.{UsageFault}
@@ -155,3 +159,76 @@ pub only_for_redo : (words : List Text) (r : Result Command UsageFault) → IfOk
     → IfOk r (λ command. command ≡ Redo → IsRedo words)
 only_for_redo words (Ok command) given = given_redo words command given
 only_for_redo words (Err fault) given = tt
+
+-- ---- `redo` is read in one of two ways
+
+-- words of `redo` that name an output are taken for that alone
+pub taken_redo_into : (words : List Text) → Names words redo_into_app → (IsRedo words → ⊥) → IsTaken words
+    → fault_of redo_into_app words ≡ []
+taken_redo_into words named other taken = elim (taken_among words taken) [
+  | inl by ↦ absurd (other (redo_words words by.0 by.1))
+  | inr by ↦ elim by [
+    | inl it ↦ absurd (let e : 4 ≡ 3 = same_name words redo_into_app run_app named it.0 in omega arith)
+    | inr it ↦ elim it [
+      | inl one ↦ absurd (let e : 4 ≡ 7 = same_name words redo_into_app restore_app named one.0 in omega arith)
+      | inr one ↦ elim one [
+        | inl last ↦ absurd (let e : 4 ≡ 5 = same_name words redo_into_app audit_app named last.0 in omega arith)
+        | inr last ↦ last.1
+      ]
+    ]
+  ]
+]
+
+-- `redo` alone is taken
+pub taken_redo : (words : List Text) → IsRedo words → IsTaken words → fault_of redo_app words ≡ []
+taken_redo words redo taken = redo_faultless words redo
+
+-- `redo --help` is not `redo` alone
+pub help_is_other : IsRedo (codes "redo" ∷ codes "--help" ∷ []) → ⊥
+help_is_other (inl same) = let e : 2 ≡ 1 = ap (λ (ws : List Text). length ws) same in omega (arith, e)
+help_is_other (inr same) = let word : codes "--help" ≡ codes "--" = same_Some _ _ (ap (λ ws. slice_get ws 1) same) in
+    let e : 6 ≡ 2 = ap (λ (w : Text). length w) word in omega (arith, e)
+
+-- ---- which words are `redo` alone
+
+two : (a b : Text) (words : List Text) → words ≡ a ∷ b ∷ [] → a ≡ codes "redo"
+    → (b ≡ codes "--" → IsRedo words) × (IsRedo words → b ≡ codes "--")
+two a b words is first = (
+  λ second. inr (is ∙ ap (λ n. n ∷ b ∷ []) first ∙ ap (λ w. codes "redo" ∷ w ∷ []) second),
+  λ redo. elim redo [
+    | inl same ↦ absurd (let e : 2 ≡ 1 = ap (λ (ws : List Text). length ws) (sym is ∙ same) in omega (arith, e))
+    | inr same ↦ same_Some _ _ (ap (λ ws. slice_get ws 1) (sym is ∙ same))
+  ],
+)
+
+-- one word
+pub one_word : {X : Type 0} (f : X → Text) (xs : List X) → slice_get (map f xs) 0 ≡ Some (codes "redo") → length xs ≡ 1
+    → IsRedo (map f xs)
+one_word f [] named count = absurd (none-some _ named)
+one_word f (x ∷ []) named count = inl (ap (λ n. n ∷ []) (same_Some _ _ named))
+one_word f (x ∷ y ∷ rest) named count = absurd (omega (arith, count))
+
+-- two words, by what the second one is
+pub two_words : {X : Type 0} (f : X → Text) (xs : List X) (d : X) (same : Bool)
+    → slice_get (map f xs) 0 ≡ Some (codes "redo") → length xs ≡ 2
+    → same ≡ bytes_eq (f (slice_index_or xs 1 d)) (codes "--") → IsTrue same ↔ IsRedo (map f xs)
+two_words f [] d same named count is = absurd (none-some _ named)
+two_words f (x ∷ []) d same named count is = absurd (omega (arith, count))
+two_words f (x ∷ y ∷ []) d same named count is =
+    let it = two (f x) (f y) (f x ∷ f y ∷ []) refl (same_Some _ _ named) in (
+      λ yes. it.0 ((bytes_eq-Decides (f y) (codes "--")).0 (sym is ∙ yes)),
+      λ redo. is ∙ (bytes_eq-Decides (f y) (codes "--")).1 (it.1 redo),
+    )
+two_words f (x ∷ y ∷ z ∷ rest) d same named count is = absurd (omega (arith, count))
+
+-- any other number of words
+pub more_words : {X : Type 0} (f : X → Text) (xs : List X) → (length xs ≡ 1 → ⊥) → (length xs ≡ 2 → ⊥)
+    → IsRedo (map f xs) → ⊥
+more_words f xs not-one not-two redo = elim redo [
+  | inl same ↦ not-one (sym (as_many f xs) ∙ ap (λ (ws : List Text). length ws) same)
+  | inr same ↦ not-two (sym (as_many f xs) ∙ ap (λ (ws : List Text). length ws) same)
+]
+  where
+    as_many : {Y : Type 0} (f : Y → Text) (xs : List Y) → length (map f xs) ≡ length xs
+    as_many f [] = refl
+    as_many f (x ∷ xs) = ap suc (as_many f xs)

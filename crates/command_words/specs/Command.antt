@@ -1,6 +1,6 @@
 -- Which words give which command, and why others give none.
 use Rattle.std.specs.Prelude.{◌≡◌, ◌≢◌, ◌⊎◌, ◌≤◌, ℕ, List, [], ◌∷◌, None, Option, IsSomeAnd, Some, codes}
-use Rattle.std.specs.Prelude.{◌<◌, false, if◌then◌else◌, length, map, nat_eq, option_map, pos}
+use Rattle.std.specs.Prelude.{◌<◌, Bool, false, if◌then◌else◌, length, map, nat_eq, option_map, pos}
 use Rattle.std.specs.Prelude.{slice_get, true, unwrap_or}
 use Rattle.std.specs.List.{All, Any}
 use Rattle.std.specs.Str.{bytes_eq, chars}
@@ -13,13 +13,14 @@ use Rattle.clap.specs.Words.{one_text, rule_of, with_rule, without_minus}
 use Rattle.clap.specs.declared.builder.arg.Arg.{Arg}
 use Rattle.clap.specs.declared.builder.command.Command.{Command as Parser}
 use Rattle.clap.specs.declared.builder.command.Command.TheViews.{out-Command as fields_of}
-use Rattle.clap.specs.declared.builder.action.ArgAction.TheVariants.{Append, Set}
+use Rattle.clap.specs.declared.builder.action.ArgAction.TheVariants.{Append, Set, SetTrue}
 use Rattle.clap.specs.declared.builder.value_parser.ValueParser.{ValueParser}
 use Rattle.clap.specs.declared.builder.value_parser.ValueParser.TheVariants.{Signed}
 use Rattle.clap.specs.declared.parser.matches.Found.{Found}
 use Rattle.strsim.specs.Edits.{levenshtein_row}
 use Rattle.command_words.specs.declared.command.Command.{Command}
-use Rattle.command_words.specs.declared.command.Command.TheVariants.{Audit, Redo, Restore, Run}
+use Rattle.command_words.specs.declared.command.Command.TheVariants.{Audit, Redo, RedoInto}
+use Rattle.command_words.specs.declared.command.Command.TheVariants.{Restore, Run}
 use Rattle.command_words.specs.declared.command.UsageFault.{UsageFault}
 use Rattle.command_words.specs.declared.command.UsageFault.TheVariants.{BadArguments, HelpAsked}
 use Rattle.command_words.specs.declared.command.UsageFault.TheVariants.{MisspelledCommand}
@@ -30,6 +31,19 @@ use Rattle.command_words.specs.declared.command.UsageFault.TheVariants.{UnknownC
 -- `redo`, which has no arguments
 abbrev pub redo_app : App
 redo_app = new_app (codes "redo")
+
+-- a file that takes the place of standard output
+abbrev pub output_rule : Rule
+output_rule = record (new_rule (codes "into")) {
+  long = Some (codes "output");
+  short = Some 111;
+  action = Some Set;
+  value_names = 1;
+}
+
+-- `redo -o FILE`
+abbrev pub redo_into_app : App
+redo_into_app = with_rule (new_app (codes "redo")) (record output_rule { required = true })
 
 -- a number from 1 to 65,536
 abbrev pub count_parser : ValueParser
@@ -59,10 +73,17 @@ save_rule = record (new_rule (codes "save")) {
   value_names = 1;
 }
 
--- `run --pages N [--frames B] [--save FOLDER]`
+abbrev pub strict_rule : Rule
+strict_rule = record (new_rule (codes "is_strict")) {
+  long = Some (codes "strict");
+  action = Some SetTrue;
+}
+
+-- `run --pages N [--frames B] [--save FOLDER] [--strict]`
 abbrev pub run_app : App
-run_app =
-    with_rule (with_rule (with_rule (new_app (codes "run")) pages_rule) frames_rule) save_rule
+run_app = with_rule
+    (with_rule (with_rule (with_rule (new_app (codes "run")) pages_rule) frames_rule) save_rule)
+    strict_rule
 
 abbrev pub log_rule : Rule
 log_rule = record (new_rule (codes "log")) {
@@ -85,18 +106,34 @@ archive_rule = record (new_rule (codes "archive")) {
   value_names = 1;
 }
 
--- `restore LOG MASTER [ARCHIVE]...`
+-- `restore [-o FILE] LOG MASTER [ARCHIVE]...`
 abbrev pub restore_app : App
-restore_app =
-    with_rule (with_rule (with_rule (new_app (codes "restore")) log_rule) master_rule) archive_rule
+restore_app = with_rule
+    (with_rule (with_rule (with_rule (new_app (codes "restore")) log_rule) master_rule) archive_rule)
+    output_rule
 
--- `audit LOG [ARCHIVE]...`
+abbrev pub audited_master_rule : Rule
+audited_master_rule = record (new_rule (codes "master")) {
+  long = Some (codes "master");
+  action = Some Set;
+  value_names = 1;
+}
+
+abbrev pub all_rule : Rule
+all_rule = record (new_rule (codes "every")) {
+  long = Some (codes "all");
+  action = Some SetTrue;
+}
+
+-- `audit [--all] [--master FILE] LOG [ARCHIVE]...`
 abbrev pub audit_app : App
-audit_app = with_rule (with_rule (new_app (codes "audit")) log_rule) archive_rule
+audit_app = with_rule
+    (with_rule (with_rule (with_rule (new_app (codes "audit")) log_rule) archive_rule)
+    audited_master_rule) all_rule
 
--- each command, as clap reads it
+-- each command, as clap reads it; `redo` is read in two ways
 abbrev pub apps : List App
-apps = redo_app ∷ run_app ∷ restore_app ∷ audit_app ∷ []
+apps = redo_app ∷ run_app ∷ restore_app ∷ audit_app ∷ redo_into_app ∷ []
 
 -- the first word is the name of the command
 abbrev pub Names : List Text → App → Type 0
@@ -120,28 +157,40 @@ abbrev pub IsFramesRead : Option Text → ℕ → Type 0
 IsFramesRead None frames = frames ≡ 65536
 IsFramesRead (Some text) frames = IsRead (Some text) frames
 
+-- what the text of a flag says of it; without it there is none
+abbrev pub IsFlag : Option Text → Bool → Type 0
+IsFlag text given = (text ≡ None → given ≡ false) × (text ≡ Some (codes "true") → given ≡ true)
+    × (text ≡ Some (codes "false") → given ≡ false)
+
 -- the words give this command, with the values that clap matches after its name
 abbrev pub Gives : List Text → Command → Type 0
 Gives words Redo = IsTakenBy words redo_app
-Gives words (Run pages frames save) = let rows = matches_of run_app words in
+Gives words (RedoInto output) = IsTakenBy words redo_into_app
+    × (first_of (codes "into") (matches_of redo_into_app words) ≡ Some output.now)
+Gives words (Run pages frames save strict) = let rows = matches_of run_app words in
     IsTakenBy words run_app × IsRead (one_of (codes "pages") rows) pages
     × IsFramesRead (one_of (codes "frames") rows) frames
     × (option_map (λ name. name.now) save ≡ first_of (codes "save") rows)
-Gives words (Restore log master archives) = let rows = matches_of restore_app words in
+    × IsFlag (one_of (codes "is_strict") rows) strict
+Gives words (Restore log master archives output) = let rows = matches_of restore_app words in
     IsTakenBy words restore_app × (first_of (codes "log") rows ≡ Some log.now)
     × (first_of (codes "master") rows ≡ Some master.now)
     × (map (λ name. name.now) archives.items ≡ unwrap_or (all_of (codes "archive") rows) [])
-Gives words (Audit log archives) = let rows = matches_of audit_app words in
+    × (option_map (λ name. name.now) output ≡ first_of (codes "into") rows)
+Gives words (Audit log archives master all) = let rows = matches_of audit_app words in
     IsTakenBy words audit_app × (first_of (codes "log") rows ≡ Some log.now)
     × (map (λ name. name.now) archives.items ≡ unwrap_or (all_of (codes "archive") rows) [])
+    × (option_map (λ name. name.now) master ≡ first_of (codes "master") rows)
+    × IsFlag (one_of (codes "every") rows) all
 
 -- a volume has 1 to 65,536 pages, and 1 to 65,536 frames are there for them
 abbrev pub HasCounts : Command → Type 0
 HasCounts Redo = Unit {0}
-HasCounts (Run pages frames save) =
+HasCounts (RedoInto output) = Unit {0}
+HasCounts (Run pages frames save strict) =
     (1 ≤ pages) × (pages ≤ 65536) × (1 ≤ frames) × (frames ≤ 65536)
-HasCounts (Restore log master archives) = Unit {0}
-HasCounts (Audit log archives) = Unit {0}
+HasCounts (Restore log master archives output) = Unit {0}
+HasCounts (Audit log archives master all) = Unit {0}
 
 -- clap builds the command of these arguments, one after another
 pub record IsMadeOf (command : Parser) (arguments : List Arg) : Type 0 where
@@ -153,39 +202,54 @@ pub record IsMadeOf (command : Parser) (arguments : List Arg) : Type 0 where
   pub chain : AddsInTurn AddsArg start arguments command
   pub fit : All FitsChain arguments
 
--- the number of pages is required, and then the number of frames and a folder may be told
+-- the number of pages is required, and then the number of frames, a folder and a flag may be told
 pub record AsksForPages (command : Parser) : Type 0 where
   pub pages : Arg
   pub frames : Arg
   pub save : Arg
-  pub made : IsMadeOf command (pages ∷ frames ∷ save ∷ [])
+  pub strict : Arg
+  pub made : IsMadeOf command (pages ∷ frames ∷ save ∷ strict ∷ [])
   pub pages_is : rule_of pages ≡ pages_rule
   pub frames_is : rule_of frames ≡ frames_rule
   pub save_is : rule_of save ≡ save_rule
+  pub strict_is : rule_of strict ≡ strict_rule
   pub required : TakesValue pages
   pub pages_parsed : pages.value_parser ≡ Some count_parser
   pub frames_parsed : frames.value_parser ≡ Some count_parser
 
--- two files are required, and then more may be named
+-- two files are required, and then more may be named, and one for the output
 pub record AsksForFiles (command : Parser) : Type 0 where
   pub log : Arg
   pub master : Arg
   pub archive : Arg
-  pub made : IsMadeOf command (log ∷ master ∷ archive ∷ [])
+  pub output : Arg
+  pub made : IsMadeOf command (log ∷ master ∷ archive ∷ output ∷ [])
   pub log_is : rule_of log ≡ log_rule
   pub master_is : rule_of master ≡ master_rule
   pub archive_is : rule_of archive ≡ archive_rule
+  pub output_is : rule_of output ≡ output_rule
   pub log_required : TakesValue log
   pub master_required : TakesValue master
 
--- a log is required, and then archives may be named
+-- a log is required, and then archives and a master record may be named, and a flag
 pub record AsksForLog (command : Parser) : Type 0 where
   pub log : Arg
   pub archive : Arg
-  pub made : IsMadeOf command (log ∷ archive ∷ [])
+  pub master : Arg
+  pub all : Arg
+  pub made : IsMadeOf command (log ∷ archive ∷ master ∷ all ∷ [])
   pub log_is : rule_of log ≡ log_rule
   pub archive_is : rule_of archive ≡ archive_rule
+  pub master_is : rule_of master ≡ audited_master_rule
+  pub all_is : rule_of all ≡ all_rule
   pub log_required : TakesValue log
+
+-- an output is required
+pub record AsksForOutput (command : Parser) : Type 0 where
+  pub output : Arg
+  pub made : IsMadeOf command (output ∷ [])
+  pub output_is : rule_of output ≡ record output_rule { required = true }
+  pub output_required : TakesValue output
 
 -- what was found has a number of this name, and clap let it through
 abbrev pub PassesCount : Found → Text → Type 0

@@ -3,11 +3,13 @@ ghost use Rattle.std.specs.Prelude.{◌≡◌, IfErr, IfOk, Some, [], codes, is_
 ghost use Rattle.clap.specs.Built.{FitsChain, TakesValue};
 ghost use Rattle.clap.specs.Words.{app_of, fault_of, first_value, found_of, matches_of, rows_of};
 ghost use Rattle.clap.specs.Words.{rule_of};
-ghost use Rattle.command_words.specs.Command.{AsksForFiles, AsksForLog, AsksForPages};
-ghost use Rattle.command_words.specs.Command.{ExplainsRead, Names, PassesFrames, PassesPages};
-ghost use Rattle.command_words.specs.Command.{archive_rule, audit_app, count_parser, frames_rule};
-ghost use Rattle.command_words.specs.Command.{log_rule, master_rule, pages_rule, redo_app};
-ghost use Rattle.command_words.specs.Command.{restore_app, run_app, save_rule};
+ghost use Rattle.command_words.specs.Command.{AsksForFiles, AsksForLog, AsksForOutput};
+ghost use Rattle.command_words.specs.Command.{AsksForPages, ExplainsRead, Names, PassesFrames};
+ghost use Rattle.command_words.specs.Command.{PassesPages, all_rule, archive_rule, audit_app};
+ghost use Rattle.command_words.specs.Command.{audited_master_rule, count_parser, frames_rule};
+ghost use Rattle.command_words.specs.Command.{log_rule, master_rule, output_rule, pages_rule};
+ghost use Rattle.command_words.specs.Command.{redo_app, redo_into_app, restore_app, run_app};
+ghost use Rattle.command_words.specs.Command.{save_rule, strict_rule};
 ghost use Rattle.command_words.specs.declared.command.UsageFault.TheVariants.{OutOfMemory};
 
 use crate::command::UsageFault;
@@ -29,6 +31,23 @@ pub(crate) fn redo_matches<'a, S: AsStr>(
     ensures explained { IfErr result (ExplainsRead (map S.text words.now)) }
 {
     Ok(redo_command(alloc)?.try_get_matches_from(words)?)
+}
+
+/// What `clap` makes of the words of `redo` with an output.
+pub(crate) fn redo_into_matches<'a, S: AsStr>(
+    alloc: Global,
+    words: &'a [S],
+) -> Result<ArgMatches<'a>, UsageFault<'a>>
+    requires { Names (map S.text words.now) redo_into_app }
+    ensures taken { IfOk result (λ _. fault_of redo_into_app (map S.text words.now) ≡ []) }
+    ensures rows { IfOk result (λ it.
+        rows_of (found_of it) ≡ matches_of redo_into_app (map S.text words.now)) }
+    ensures output { IfOk result (λ it. is_some (first_value (found_of it) (codes "into")) ≡ true) }
+    ensures only { IfErr result (λ fault.
+        fault_of redo_into_app (map S.text words.now) ≡ [] → fault ≡ OutOfMemory) }
+    ensures explained { IfErr result (ExplainsRead (map S.text words.now)) }
+{
+    Ok(redo_into_command(alloc)?.try_get_matches_from(words)?)
 }
 
 /// What `clap` makes of the words of `run`.
@@ -85,14 +104,34 @@ pub(crate) fn audit_matches<'a, S: AsStr>(
     Ok(audit_command(alloc)?.try_get_matches_from(words)?)
 }
 
-// The usage of each shows the program's name before the command's.
+// The usage of each shows the program's name before the command's, and what it reads and writes.
+
+const REDO_USAGE: &str = "imgcopy redo < LOG > VOLUME\n       imgcopy redo -o <FILE> < LOG";
+
+const RUN_USAGE: &str = "imgcopy run --pages <N> [OPTIONS] < SCRIPT";
+
+const RESTORE_USAGE: &str = "imgcopy restore <LOG> <MASTER> <ARCHIVE>... > VOLUME\n       \
+    imgcopy restore -o <FILE> <LOG> <MASTER> <ARCHIVE>...";
+
+const AUDIT_USAGE: &str = "imgcopy audit [OPTIONS] <LOG> <ARCHIVE>...";
 
 fn redo_command<'a>(alloc: Global) -> Result<clap::Command<'a>, AllocError>
     ensures { IfOk result (λ it. app_of it ≡ redo_app) }
 {
     clap::Command::new(alloc, "redo")
-        .about("Write the volume that the log on standard input makes, to standard output")
+        .about("Write the volume that the log on standard input makes")
         .bin_name("imgcopy redo")
+}
+
+fn redo_into_command<'a>(alloc: Global) -> Result<clap::Command<'a>, AllocError>
+    ensures app { IfOk result (λ it. app_of it ≡ redo_into_app) }
+    ensures made { IfOk result AsksForOutput }
+{
+    clap::Command::new(alloc, "redo")
+        .about("Write the volume that the log on standard input makes")
+        .override_usage(REDO_USAGE)
+        .bin_name("imgcopy redo")?
+        .arg(required_output_arg(alloc))
 }
 
 fn run_command<'a>(alloc: Global) -> Result<clap::Command<'a>, AllocError>
@@ -101,10 +140,12 @@ fn run_command<'a>(alloc: Global) -> Result<clap::Command<'a>, AllocError>
 {
     clap::Command::new(alloc, "run")
         .about("Play the script on standard input on a formatted volume")
+        .override_usage(RUN_USAGE)
         .bin_name("imgcopy run")?
         .arg(pages_arg(alloc))?
         .arg(frames_arg(alloc))?
-        .arg(save_arg(alloc))
+        .arg(save_arg(alloc))?
+        .arg(strict_arg(alloc))
 }
 
 fn restore_command<'a>(alloc: Global) -> Result<clap::Command<'a>, AllocError>
@@ -112,11 +153,13 @@ fn restore_command<'a>(alloc: Global) -> Result<clap::Command<'a>, AllocError>
     ensures made { IfOk result AsksForFiles }
 {
     clap::Command::new(alloc, "restore")
-        .about("Write the volume that a log and image copies restore, to standard output")
+        .about("Write the volume that a log and image copies restore")
+        .override_usage(RESTORE_USAGE)
         .bin_name("imgcopy restore")?
         .arg(log_arg(alloc))?
         .arg(master_arg(alloc))?
-        .arg(archive_arg(alloc))
+        .arg(archive_arg(alloc))?
+        .arg(output_arg(alloc))
 }
 
 fn audit_command<'a>(alloc: Global) -> Result<clap::Command<'a>, AllocError>
@@ -124,10 +167,13 @@ fn audit_command<'a>(alloc: Global) -> Result<clap::Command<'a>, AllocError>
     ensures made { IfOk result AsksForLog }
 {
     clap::Command::new(alloc, "audit")
-        .about("Say whether a log and image copies restore what the log says")
+        .about("Check that a chain of image copies restores what the log says")
+        .override_usage(AUDIT_USAGE)
         .bin_name("imgcopy audit")?
         .arg(log_arg(alloc))?
-        .arg(archive_arg(alloc))
+        .arg(archive_arg(alloc))?
+        .arg(audited_master_arg(alloc))?
+        .arg(all_arg(alloc))
 }
 
 fn pages_arg<'a>(alloc: Global) -> Arg<'a>
@@ -166,6 +212,57 @@ fn save_arg<'a>(alloc: Global) -> Arg<'a>
         .long("save")
         .value_name("FOLDER")
         .help("Write the log, the master record and the complete copies into this folder")
+        .action(ArgAction::Set)
+}
+
+fn strict_arg<'a>(alloc: Global) -> Arg<'a>
+    ensures rule { rule_of result ≡ strict_rule }
+    ensures fits { FitsChain result }
+{
+    Arg::new(alloc, "is_strict")
+        .long("strict")
+        .help("End with status 1 if a call was refused, and say so")
+        .action(ArgAction::SetTrue)
+}
+
+fn output_arg<'a>(alloc: Global) -> Arg<'a>
+    ensures rule { rule_of result ≡ output_rule }
+    ensures fits { FitsChain result }
+{
+    Arg::new(alloc, "into")
+        .short('o')
+        .long("output")
+        .value_name("FILE")
+        .help("Write the volume to this file, which is put in place once it is whole and synced")
+        .action(ArgAction::Set)
+}
+
+fn required_output_arg<'a>(alloc: Global) -> Arg<'a>
+    ensures rule { rule_of result ≡ record output_rule { required = true } }
+    ensures fits { FitsChain result }
+    ensures value { TakesValue result }
+{
+    output_arg(alloc).required(true)
+}
+
+fn all_arg<'a>(alloc: Global) -> Arg<'a>
+    ensures rule { rule_of result ≡ all_rule }
+    ensures fits { FitsChain result }
+{
+    Arg::new(alloc, "every")
+        .long("all")
+        .help("Show each unsound page, up to 1000 of them")
+        .action(ArgAction::SetTrue)
+}
+
+fn audited_master_arg<'a>(alloc: Global) -> Arg<'a>
+    ensures rule { rule_of result ≡ audited_master_rule }
+    ensures fits { FitsChain result }
+{
+    Arg::new(alloc, "master")
+        .long("master")
+        .value_name("FILE")
+        .help("Check this master record, too, as restore does")
         .action(ArgAction::Set)
 }
 

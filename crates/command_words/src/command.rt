@@ -1,18 +1,21 @@
 //! The command line: the first word names a command, and `clap` reads the words after it.
-ghost use Rattle.std.specs.Prelude.{◌≡◌, ◌≢◌, ◌≤◌, ◌⊎◌, ◌∷◌, IfErr, IfOk, MatchOption, MatchResult};
-ghost use Rattle.std.specs.Prelude.{Some, [], codes};
+ghost use Rattle.std.specs.Prelude.{◌≡◌, ◌≢◌, ◌≤◌, ◌↔◌, ◌⊎◌, ◌∷◌, IfErr, IfOk, IsTrue, MatchOption};
+ghost use Rattle.std.specs.Prelude.{MatchResult, Some, [], codes};
 ghost use Rattle.std.specs.Prelude.{is_some, map, option_map, true, unwrap_or};
 ghost use Rattle.clap.specs.Words.{fault_of, first_value, found_of, kind_of, matched_of, one_of};
 ghost use Rattle.clap.specs.Words.{raw_values, rows_of};
 ghost use Rattle.command_words.specs.Command.{Explains, Gives, HasCounts, IsRead, IsRedo, IsTaken};
 ghost use Rattle.command_words.specs.Command.{ExplainsRead, ExplainsUnknown, IsFar, IsFramesRead};
 ghost use Rattle.command_words.specs.Command.{IsNear, IsUnknown, Names, PassesFrames, PassesPages};
-ghost use Rattle.command_words.specs.Command.{audit_app, redo_app, restore_app, run_app};
+ghost use Rattle.command_words.specs.Command.{audit_app, redo_app, redo_into_app, restore_app};
+ghost use Rattle.command_words.specs.Command.{run_app};
 ghost use Rattle.command_words.specs.declared.command.UsageFault.TheVariants.{BadArguments};
 ghost use Rattle.command_words.specs.declared.command.UsageFault.TheVariants.{OutOfMemory};
 ghost use Rattle.clap.specs.declared.error.kind.ErrorKind.TheVariants as kind;
 
-use crate::arguments::{audit_matches, redo_matches, restore_matches, run_matches};
+use crate::arguments::{
+    audit_matches, redo_into_matches, redo_matches, restore_matches, run_matches,
+};
 use clap::ArgMatches;
 use clap::error::ErrorKind;
 use page_core::FaultName;
@@ -26,26 +29,35 @@ use thiserror::Error;
 pub enum Command<'a> {
     /// To redo the log on standard input.
     Redo,
+    /// The same, and to put the volume into this file.
+    RedoInto {
+        output: &'a str,
+    },
     /// To play the script on standard input on a volume of so many pages, with memory for so many of
     /// them at a time, each 1 to 65,536. The log, the master record and the copies go into the
-    /// folder, if one is named.
+    /// folder, if one is named. If it is strict, a refused call is told at the end.
     Run {
         pages: u32,
         frames: u32,
         save: Option<&'a str>,
+        strict: bool,
     },
     /// To restore a volume of these files: the log, its master record, and the archives of a chain
-    /// of copies, the full one first.
+    /// of copies, the full one first. The volume goes into the output, if one is named.
     Restore {
         log: &'a str,
         master: &'a str,
         archives: Vec<&'a str>,
+        output: Option<&'a str>,
     },
     /// To audit a chain of copies against a log: the log, and the archives of the chain, the full
-    /// one first.
+    /// one first, and then the master record, if one is named. All unsound pages are told, or the
+    /// first one.
     Audit {
         log: &'a str,
         archives: Vec<&'a str>,
+        master: Option<&'a str>,
+        all: bool,
     },
 }
 
@@ -61,10 +73,11 @@ Commands:
   redo     Write the volume that the log on standard input makes
   run      Play the script on standard input on a formatted volume
   restore  Write the volume that a log and image copies restore
-  audit    Say whether each image copy restores what the log says
+  audit    Check that a chain of image copies restores what the log says
   help     Print this help, or that of a command
 
 For the arguments of a command, try 'imgcopy help <COMMAND>'.
+This is imgcopy 0.1.0.
 ";
 
 /// Why the words give no command. Its `Display` is the whole text for the user, with its last line
@@ -148,7 +161,7 @@ fn help_of<'a>(alloc: Global, name: &'a str) -> Result<Command<'a>, UsageFault<'
     ensures explained { IfErr result (ExplainsRead (name.now ∷ codes "--help" ∷ [])) }
 {
     match name {
-        "redo" => redo_of(alloc, &["redo", "--help"]),
+        "redo" => redo_into_of(alloc, &["redo", "--help"]),
         "run" => run_of(alloc, &["run", "--help"]),
         "restore" => restore_of(alloc, &["restore", "--help"]),
         "audit" => audit_of(alloc, &["audit", "--help"]),
@@ -185,7 +198,53 @@ fn nearest(alloc: Global, word: &str) -> Result<Option<&'static str>, AllocError
     Ok(best)
 }
 
+/// `redo` alone writes to standard output. What else follows it has to name an output.
 fn redo_of<'a, S: AsStr>(alloc: Global, words: &'a [S]) -> Result<Command<'a>, UsageFault<'a>>
+    requires { Names (map S.text words.now) redo_app }
+    ensures ok { IfOk result (Gives (map S.text words.now)) }
+    ensures counts { IfOk result HasCounts }
+    ensures only { IfErr result (λ fault.
+        IsTaken (map S.text words.now) → fault ≡ UsageFault.OutOfMemory) }
+    ensures explained { IfErr result (ExplainsRead (map S.text words.now)) }
+    ensures redo { IsRedo (map S.text words.now) → MatchResult result
+        (λ command. command ≡ Command.Redo) (λ fault. fault ≡ UsageFault.OutOfMemory) }
+    ensures redo_only { IfOk result (λ command.
+        command ≡ Command.Redo → IsRedo (map S.text words.now)) }
+{
+    if is_redo(words) {
+        redo_alone_of(alloc, words)
+    } else {
+        redo_into_of(alloc, words)
+    }
+}
+
+/// Whether nothing follows `redo`, or what only ends the options.
+fn is_redo<S: AsStr>(words: &[S]) -> bool
+    requires { Names (map S.text words.now) redo_app }
+    ensures { IsTrue result ↔ IsRedo (map S.text words.now) }
+{
+    match words.len() {
+        1 => true,
+        2 => words[1].as_str() == "--",
+        _ => false,
+    }
+}
+
+fn redo_into_of<'a, S: AsStr>(alloc: Global, words: &'a [S]) -> Result<Command<'a>, UsageFault<'a>>
+    requires { Names (map S.text words.now) redo_into_app }
+    ensures ok { IfOk result (Gives (map S.text words.now)) }
+    ensures is_redo_into { IfOk result (λ command. command ≢ Command.Redo) }
+    ensures counts { IfOk result HasCounts }
+    ensures only { IfErr result (λ fault.
+        fault_of redo_into_app (map S.text words.now) ≡ [] → fault ≡ UsageFault.OutOfMemory) }
+    ensures explained { IfErr result (ExplainsRead (map S.text words.now)) }
+{
+    let matches = redo_into_matches(alloc, words)?;
+    let output = value_in(&matches, "into");
+    Ok(Command::RedoInto { output })
+}
+
+fn redo_alone_of<'a, S: AsStr>(alloc: Global, words: &'a [S]) -> Result<Command<'a>, UsageFault<'a>>
     requires { Names (map S.text words.now) redo_app }
     ensures ok { IfOk result (Gives (map S.text words.now)) }
     ensures is_redo { IfOk result (λ command. command ≡ Command.Redo) }
@@ -210,10 +269,12 @@ fn run_of<'a, S: AsStr>(alloc: Global, words: &'a [S]) -> Result<Command<'a>, Us
     let pages = pages_in(&matches);
     let frames = frames_in(&matches);
     let save = matches.get_str("save");
+    let strict = matches.get_flag("is_strict");
     Ok(Command::Run {
         pages,
         frames,
         save,
+        strict,
     })
 }
 
@@ -249,10 +310,12 @@ fn restore_of<'a, S: AsStr>(alloc: Global, words: &'a [S]) -> Result<Command<'a>
     let log = value_in(&matches, "log");
     let master = value_in(&matches, "master");
     let archives = archives_in(alloc, &matches)?;
+    let output = matches.get_str("into");
     Ok(Command::Restore {
         log,
         master,
         archives,
+        output,
     })
 }
 
@@ -268,7 +331,14 @@ fn audit_of<'a, S: AsStr>(alloc: Global, words: &'a [S]) -> Result<Command<'a>, 
     let matches = audit_matches(alloc, words)?;
     let log = value_in(&matches, "log");
     let archives = archives_in(alloc, &matches)?;
-    Ok(Command::Audit { log, archives })
+    let master = matches.get_str("master");
+    let all = matches.get_flag("every");
+    Ok(Command::Audit {
+        log,
+        archives,
+        master,
+        all,
+    })
 }
 
 fn value_in<'a>(matches: &ArgMatches<'a>, id: &str) -> &'a str

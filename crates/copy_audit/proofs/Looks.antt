@@ -5,8 +5,6 @@ use Rattle.std.proofs.lemmas.List.{length-append}
 use Rattle.page_core.specs.declared.page.Page.{Page}
 use Rattle.log_records.specs.declared.record.Record.{Record}
 use Rattle.log_records.specs.Log.{Log}
-use Rattle.copy_vault.specs.declared.chain_read_fault.ChainReadFault.{ChainReadFault}
-use Rattle.copy_vault.specs.declared.chain_read_fault.ChainReadFault.TheVariants as chain
 use Rattle.copy_vault.specs.declared.chain_reader.ChainReader.{ChainReader}
 use Rattle.copy_vault.specs.ChainEach.{IsEachRead, IsReadingEach, ids_of, place_list, points_of}
 use Rattle.copy_vault.specs.Chain.{FitFrom, rows}
@@ -15,9 +13,7 @@ use Rattle.copy_vault.specs.declared.copy_id.CopyKind.TheVariants.{Full}
 use Rattle.copy_vault.specs.Copy.{CopyView}
 use Rattle.copy_audit.specs.declared.found.Found.{Found}
 use Rattle.copy_audit.specs.declared.unsound.Unsound as fault
-use Rattle.copy_audit.specs.declared.unsound.Unsound.TheVariants.{ReadFault}
 use Rattle.copy_audit.specs.Audit.{end_of}
-use Rattle.copy_audit.specs.AuditFault.{of_chain}
 use Rattle.copy_audit.specs.Audited.{IsLooked, IsLookedAt, IsNamed}
 use Rattle.copy_audit.specs.Rows.{AreFound}
 use Rattle.copy_audit.proofs.Founds.{nothing_found, one_found}
@@ -107,13 +103,3 @@ all_looked inputs lefts log old new members number found named looked read point
           (subst (λ (m : ℕ). AreFound log.records (points_of new) m looked.given found) many
           (subst (λ (ps : List ℕ). AreFound log.records ps members looked.given found) (sym points) looked.found_in)) is;
     }
-
--- why a reader that failed is told
-pub read_failed : (why : ChainReadFault) → of_chain why ≡ ReadFault → why ≡ chain.ReadFault
-read_failed chain.OutOfMemory e = cc
-read_failed (chain.BadArchive at) e = cc
-read_failed (chain.ChainBroken copy) e = cc
-read_failed chain.CountDiffers e = cc
-read_failed chain.ReadFault e = refl
-read_failed chain.RedoBeyondLog e = cc
-read_failed (chain.PageBeyondLog page) e = cc

@@ -1,14 +1,13 @@
 -- What an audit answers of the bytes of a log and of archives.
 use Rattle.std.specs.Prelude.{ℕ, ◌≡◌, List, [], Option, None, Some, IfSome, slice_index}
 use Rattle.copy_audit.specs.declared.found.Found.{Found}
+use Rattle.page_core.specs.Input.{HasGivenAll}
 use Rattle.log_records.specs.Log.{Log}
 use Rattle.log_store.specs.declared.fault.LogReadFault.{LogReadFault}
-use Rattle.log_store.specs.declared.fault.LogReadFault.TheVariants as log
 use Rattle.log_store.specs.Fault.{GaveNoFault, Refuses}
 use Rattle.copy_vault.specs.declared.chain_read_fault.ChainReadFault.{ChainReadFault}
-use Rattle.copy_vault.specs.declared.chain_read_fault.ChainReadFault.TheVariants as chain
 use Rattle.copy_vault.specs.Chain.{IsChain}
-use Rattle.copy_vault.specs.ChainReading.{AreNoChain}
+use Rattle.copy_vault.specs.ChainReading.{AreNoChain, HaveGivenAll}
 use Rattle.copy_vault.specs.Copy.{CopyView}
 use Rattle.copy_audit.specs.declared.unsound.Unsound as fault
 use Rattle.copy_audit.specs.declared.unsound.Unsound.TheVariants.{OutOfMemory, Unsound}
@@ -44,13 +43,19 @@ pub data AreRefused (input : Option (List ℕ)) (archives : List (Option (List �
       → AreRefused input archives why
   of_memory : why ≡ OutOfMemory → AreRefused input archives why
 
--- a reader failed: what it gave until then holds no fault, and all that was read before it is right
-pub data AreUnread (input left : Option (List ℕ)) (archives lefts : List (Option (List ℕ)))
-    : Type 0 where
-  in_the_log : GaveNoFault [] input left log.ReadFault → AreUnread input left archives lefts
-  in_an_archive : (log : Log) → IsOfLog input log
-      → AreNoChain log.pages (end_of log) archives lefts chain.ReadFault
-      → AreUnread input left archives lefts
+-- where an audit stopped: in the log, of which it may not have read an archive then; in an archive,
+-- behind a log that it read to its end; or behind all of them. What a reader gave before it failed
+-- holds no fault
+pub data StopsIn (input left : Option (List ℕ)) (archives lefts : List (Option (List ℕ)))
+    (none_read : Type 0) (why : fault.Unsound) : Type 0 where
+  the_log : (first : LogReadFault) → why ≡ of_log first → GaveNoFault [] input left first
+      → none_read → StopsIn input left archives lefts none_read why
+  the_archives : (log : Log) → IsOfLog input log → HasGivenAll input left
+      → (first : ChainReadFault) → why ≡ of_chain first
+      → AreNoChain log.pages (end_of log) archives lefts first
+      → StopsIn input left archives lefts none_read why
+  a_page : (id page : ℕ) → why ≡ Unsound id page → HasGivenAll input left
+      → HaveGivenAll archives lefts → StopsIn input left archives lefts none_read why
 
 -- the archives spell a chain of copies for the log, which is audited, or has a page for which it is
 -- refused

@@ -1,14 +1,15 @@
 //! The audit of a chain of copies.
 
-ghost use Rattle.std.specs.Prelude.{ℕ, ◌≡◌, ◌+◌, ◌<◌, ◌≤◌, ◌++◌, [], ◌∷◌, List, Err, IfErr, IfOk, IfSome};
+ghost use Rattle.std.specs.Prelude.{ℕ, ◌≡◌, ◌+◌, ◌<◌, ◌≤◌, ◌++◌, [], ◌∷◌, List, IfErr, IfOk, IfSome};
 ghost use Rattle.std.specs.Prelude.{OnOk, length, map};
 ghost use Rattle.page_core.specs.declared.page.Page.{Page};
+ghost use Rattle.page_core.specs.Input.{HasGivenAll};
 ghost use Rattle.log_records.specs.Log.{IsLog};
 ghost use Rattle.copy_vault.specs.ChainEach.{ids_of, place_list, points_of};
-ghost use Rattle.copy_vault.specs.ChainReading.{AreNoChain};
+ghost use Rattle.copy_vault.specs.ChainReading.{AreNoChain, HaveGivenAll};
 ghost use Rattle.page_redo.specs.PageRecords.{numbers_on};
 ghost use Rattle.copy_audit.specs.Audit.{end_of};
-ghost use Rattle.copy_audit.specs.Audited.{AreAudited, AreRefused, AreUnread, IsLooked, IsNamed};
+ghost use Rattle.copy_audit.specs.Audited.{AreAudited, AreRefused, IsLooked, IsNamed, StopsIn};
 ghost use Rattle.copy_audit.specs.Rows.{AreFound};
 
 use crate::found::Found;
@@ -51,9 +52,13 @@ pub fn audit<L: Read, A: Read>(
         (AreAudited (L.remaining log.old) (map (λ a. A.remaining a) archives.old)) }
     ensures err { IfErr result
         (AreRefused (L.remaining log.old) (map (λ a. A.remaining a) archives.old)) }
-    ensures unread { result ≡ Err Unsound.ReadFault
-        → AreUnread (L.remaining log.old) (L.remaining log.new)
-        (map (λ a. A.remaining a) archives.old) (map (λ a. A.remaining a) archives.new) }
+    // It reads to the first file that is refused, and of none behind it.
+    ensures stops { IfErr result (StopsIn (L.remaining log.old) (L.remaining log.new)
+        (map (λ a. A.remaining a) archives.old) (map (λ a. A.remaining a) archives.new)
+        (archives.new ≡ archives.old)) }
+    ensures log_end { OnOk result (HasGivenAll (L.remaining log.old) (L.remaining log.new)) }
+    ensures end { OnOk result (HaveGivenAll (map (λ a. A.remaining a) archives.old)
+        (map (λ a. A.remaining a) archives.new)) }
 {
     let image = read_log(alloc, log)?;
     match first_in(alloc, &image, archives)? {
@@ -69,6 +74,8 @@ fn first_in<A: Read>(
     archives: &mut [A],
 ) -> Result<Option<Unsound>, ChainReadFault>
     ensures ok { IfOk result (IsLooked log.now (map (λ a. A.remaining a) archives.old)) }
+    ensures end { OnOk result (HaveGivenAll (map (λ a. A.remaining a) archives.old)
+        (map (λ a. A.remaining a) archives.new)) }
     ensures err { IfErr result (AreNoChain log.now.pages (end_of log.now)
         (map (λ a. A.remaining a) archives.old) (map (λ a. A.remaining a) archives.new)) }
 {
@@ -88,7 +95,7 @@ fn first_in<A: Read>(
 }
 
 /// As many places as a chain has members.
-fn places(alloc: Global, members: usize) -> Result<Vec<Option<Page>>, AllocError>
+pub(crate) fn places(alloc: Global, members: usize) -> Result<Vec<Option<Page>>, AllocError>
     ensures { IfOk result (λ row. length row.items ≡ members) }
 {
     let mut row = Vec::with_capacity(alloc, members)?;

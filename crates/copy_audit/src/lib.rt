@@ -2,6 +2,7 @@
 //! wrote the copies.
 #![tactic(auto)]
 
+mod all_pages;
 mod chain_audit;
 mod found;
 mod laws;
@@ -9,6 +10,7 @@ mod members;
 mod trace;
 mod unsound;
 
+pub use all_pages::{UnsoundPages, unsound_pages};
 pub use chain_audit::{Sound, audit};
 pub use laws::{
     a_part_of_an_audited_chain_is_audited, an_audited_chain_is_called_sound,

@@ -7,6 +7,7 @@ use Rattle.std.proofs.lemmas.List.{get_or-map, length-map}
 use Rattle.std.proofs.lemmas.List.FromFn.{length-map-range_with_len, map-range_with_len_more}
 use Rattle.page_core.specs.declared.page.Page.{Page}
 use Rattle.page_core.proofs.Inputs.{of_all}
+use Rattle.page_core.specs.Input.{HasGivenAll}
 use Rattle.copy_vault.specs.declared.archive_cursor.ArchiveCursor.{ArchiveCursor}
 use Rattle.copy_vault.specs.declared.chain_reader.ChainReader.{ChainReader}
 use Rattle.copy_vault.specs.declared.copy_id.CopyKind.{CopyKind}
@@ -16,7 +17,7 @@ use Rattle.copy_vault.specs.Archive.{SpellsCopy, front_bytes, header_of}
 use Rattle.copy_vault.specs.ArchiveRead.{IsPart, given_for}
 use Rattle.copy_vault.specs.Chain.{FitFrom, content, last_redo, page_count, row}
 use Rattle.copy_vault.specs.ChainRead.{AreBelow, AreRead, HasRead, HeadsFit, IsGiven, copy_of, last_point, moment_of}
-use Rattle.copy_vault.specs.ChainReading.{AreWithinLog, IsChainRead, IsReading, SpellCopies, heads_of}
+use Rattle.copy_vault.specs.ChainReading.{AreWithinLog, HaveGivenAll, IsChainRead, IsReading, SpellCopies, heads_of}
 use Rattle.copy_vault.specs.Copy.{CopyView, IsComplete, decision_at, page_of, taken_count, taken_pages}
 use Rattle.copy_vault.proofs.ArchiveReads.{spells_read}
 use Rattle.copy_vault.proofs.ArchiveSteps.{kept_up_to, length_up_to, page_with_kept}
@@ -313,6 +314,32 @@ read_whole inputs lefts it given read past =
           ∙ ap (λ m. map (content copies) (range_with_len 0 m)) (all ∙ sym counted);
       last = read.last ∙ last_whole n read.heads inputs copies whole;
     }
+
+-- and were read to their ends
+given_one : (end n : ℕ) (h : ArchiveHeader) (input left : Option (List ℕ)) (it : ArchiveCursor) (copy : CopyView)
+    → HasRead end (n + 1) h input left it copy → h.pages ≡ n → HasGivenAll input left
+given_one end n h input left it copy read pages =
+    let all : taken_count copy.pages ≡ h.taken = elim read.far [
+      | inl le ↦ absurd (omega (arith, le, read.read.part.within, pages))
+      | inr all ↦ all
+    ] in
+    ((given_for h copy.pages, read.given), read.ended (omega arith) all)
+
+pub given_whole : (inputs lefts : List (Option (List ℕ))) (it : ChainReader) (given : List Page)
+    → IsReading inputs lefts it given → it.pages ≤ it.given → HaveGivenAll inputs lefts
+given_whole inputs lefts it given read past = λ k i l lt.
+    let n = it.pages in
+    let h = header_of no_copy in
+    let some : 0 < n = some_pages it.end (moment_of it.given) n read.heads inputs lefts it.cursors.items read.copies
+    read.read read.fit read.some in
+    let all : it.given ≡ n = omega (arith, read.within) in
+    let moment : moment_of it.given ≡ n + 1 = later_moment it.given (omega arith) ∙ omega arith in
+    let ready = subst (λ m. AreRead it.end m 0 read.heads inputs lefts it.cursors.items read.copies) moment read.read in
+    let there : k < length it.cursors.items = omega (arith, ready.inputs_count) in
+    given_one it.end n (get_or read.heads k h) (get_or inputs k i) (get_or lefts k l)
+    (get_or it.cursors.items k (blank h)) (get_or read.copies k no_copy)
+    (ready.due k h i l (blank h) no_copy there (omega arith))
+    (pages_at n k Full read.heads h read.fit (omega (arith, ready.heads_count)))
 
 pub whole_copies : (inputs lefts : List (Option (List ℕ))) (it : ChainReader) (given : List Page)
     (read : IsReading inputs lefts it given) (past : it.pages ≤ it.given)

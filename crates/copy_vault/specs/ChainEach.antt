@@ -5,7 +5,7 @@ use Rattle.page_core.specs.declared.page.Page.{Page}
 use Rattle.copy_vault.specs.declared.chain_reader.ChainReader.{ChainReader}
 use Rattle.copy_vault.specs.declared.copy_id.CopyKind.TheVariants.{Full}
 use Rattle.copy_vault.specs.Chain.{FitFrom, IsChain}
-use Rattle.copy_vault.specs.ChainReading.{AreWithinLog, IsReading, SpellCopies, heads_of}
+use Rattle.copy_vault.specs.ChainReading.{AreWithinLog, HaveGivenAll, IsReading, SpellCopies, heads_of}
 use Rattle.copy_vault.specs.Copy.{CopyView}
 pub use Rattle.copy_vault.specs.Chain.{row, rows}
 pub use Rattle.copy_vault.specs.ChainRead.{place_list}
@@ -44,4 +44,4 @@ abbrev pub GoesOnEach : List (Option (List ℕ)) → List (Option (List ℕ)) �
     → List (List (List Page)) → Bool → List (List Page) → Type 0
 GoesOnEach inputs lefts it given true pages = IsReadingEach inputs lefts it (given ++ pages ∷ [])
 GoesOnEach inputs lefts it given false pages =
-    IsEachRead it.pages it.end inputs (ids_of it) (points_of it) given
+    IsEachRead it.pages it.end inputs (ids_of it) (points_of it) given × HaveGivenAll inputs lefts

@@ -3,6 +3,7 @@ use Rattle.std.specs.Prelude.{ℕ, ◌≡◌, ◌<◌, ◌≤◌, ◌⊎◌, Lis
 use Rattle.std.specs.Prelude.{slice_index_or, Option, None, Some, IfSome}
 use Rattle.std.specs.List.{AllByRecursion, range_with_len}
 use Rattle.std.specs.Io.KnownBytes.{Consumes}
+use Rattle.page_core.specs.Input.{HasGivenAll}
 use Rattle.page_core.specs.declared.page.Page.{Page}
 use Rattle.copy_vault.specs.declared.archive_cursor.ArchiveCursor.{ArchiveCursor}
 use Rattle.copy_vault.specs.declared.chain_read_fault.ChainReadFault.{ChainReadFault}
@@ -132,10 +133,21 @@ pub record IsChainRead (pages end : ℕ) (inputs : List (Option (List ℕ))) (gi
   pub made : given ≡ contents copies
   pub last : redo ≡ last_redo copies
 
+-- each archive was read to its end
+abbrev pub HaveGivenAll : List (Option (List ℕ)) → List (Option (List ℕ)) → Type 0
+HaveGivenAll inputs lefts =
+    (k : ℕ) (i l : Option (List ℕ)) → k < length inputs
+    → HasGivenAll (slice_index_or inputs k i) (slice_index_or lefts k l)
+
+-- the reader has given all pages of its chain
+abbrev pub HasEnded : ChainReader → Type 0
+HasEnded it = (it.failed ≡ None) × (it.pages ≤ it.given)
+
 -- what a reader that had given these pages gives next: a page, or none where the chain has no more
 abbrev pub GoesOn : List (Option (List ℕ)) → List (Option (List ℕ)) → ChainReader → List Page
     → Option Page → Type 0
-GoesOn inputs lefts it given None = IsChainRead it.pages it.end inputs given it.redo
+GoesOn inputs lefts it given None =
+    IsChainRead it.pages it.end inputs given it.redo × HaveGivenAll inputs lefts
 GoesOn inputs lefts it given (Some page) = IsReading inputs lefts it (given ++ page ∷ [])
 
 -- why a reader gives no page: the first fault that is met in the archives, whose headers fit

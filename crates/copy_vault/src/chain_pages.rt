@@ -1,7 +1,7 @@
 //! Reads all pages of a chain from its archives.
 
-ghost use Rattle.std.specs.Prelude.{map, IfOk, IfErr};
-ghost use Rattle.copy_vault.specs.ChainReading.{AreNoChain, IsChainRead};
+ghost use Rattle.std.specs.Prelude.{map, IfOk, IfErr, OnOk};
+ghost use Rattle.copy_vault.specs.ChainReading.{AreNoChain, HaveGivenAll, IsChainRead};
 
 use crate::chain_read_fault::ChainReadFault;
 use crate::chain_reader::ChainReader;
@@ -23,6 +23,8 @@ pub fn read_chain_pages<R: Read>(
 ) -> Result<(Vec<Page>, Lsn), ChainReadFault>
     ensures ok { IfOk result (λ it.
         IsChainRead pages end (map (λ r. R.remaining r) readers.old) it.0.items it.1) }
+    ensures end { OnOk result (HaveGivenAll (map (λ r. R.remaining r) readers.old)
+        (map (λ r. R.remaining r) readers.new)) }
     ensures err { IfErr result (AreNoChain pages end (map (λ r. R.remaining r) readers.old)
         (map (λ r. R.remaining r) readers.new)) }
 {

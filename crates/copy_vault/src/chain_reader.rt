@@ -1,14 +1,15 @@
 //! Gives the pages of a chain from the readers of its archives.
 
 ghost use Rattle.std.specs.Prelude.{ℕ, ◌≡◌, ◌<◌, ◌≤◌, [], List, length, map, slice_index_or};
-ghost use Rattle.std.specs.Prelude.{Option, Err, Some, IfOk, IfErr, slice_index, true, false};
+ghost use Rattle.std.specs.Prelude.{Option, Ok, Err, Some, None, IfOk, IfErr, slice_index, true};
+ghost use Rattle.std.specs.Prelude.{false};
 ghost use Rattle.page_core.specs.declared.page.Page.{Page};
 ghost use Rattle.copy_vault.specs.declared.archive_cursor.ArchiveCursor.{ArchiveCursor};
 ghost use Rattle.copy_vault.specs.declared.chain_read_fault.ChainReadFault.{ChainReadFault};
 ghost use Rattle.copy_vault.specs.ChainEach.{GoesOnEach, IsReadingEach, ids_of, place_list};
 ghost use Rattle.copy_vault.specs.ChainEach.{points_of};
 ghost use Rattle.copy_vault.specs.ChainRead.{IsHeadFit, IsNew, last_point};
-ghost use Rattle.copy_vault.specs.ChainReading.{AreOpened, GoesOn, IsHeadRefused};
+ghost use Rattle.copy_vault.specs.ChainReading.{AreOpened, GoesOn, HasEnded, IsHeadRefused};
 ghost use Rattle.copy_vault.specs.ChainReading.{IsNotMade, IsNotOpened, IsReading, IsStopped};
 ghost use Rattle.copy_vault.specs.ChainReading.{heads_of};
 
@@ -103,7 +104,7 @@ impl ChainReader {
     }
 
     /// Gives the next page of the chain, from the last archive that has it, and `None` once all
-    /// were given. The first call reads the first page of each archive, in order. Each archive that
+    /// were given, from then on. The first call reads the first page of each archive, in order. Each archive that
     /// had the page then reads its next one, in order. Nothing may follow its last page, which is
     /// looked at as soon as that was read, or in the first call where it has none.
     ///
@@ -115,6 +116,10 @@ impl ChainReader {
         ensures ok { IfOk result (λ page. (inputs : List (Option (List ℕ))) (given : List Page)
             → IsReading inputs (map (λ r. R.remaining r) readers.old) self.old given
             → GoesOn inputs (map (λ r. R.remaining r) readers.new) self.new given page) }
+        // Behind the last page there is none, from then on, and nothing is read.
+        ensures ended { IfOk result (λ page. page ≡ None → HasEnded self.new) }
+        ensures over { HasEnded self.old → result ≡ Ok None }
+        ensures idle { HasEnded self.old → readers.new ≡ readers.old }
         // The fault is the first one that is met.
         ensures err { IfErr result (λ fault. (inputs : List (Option (List ℕ))) (given : List Page)
             → IsReading inputs (map (λ r. R.remaining r) readers.old) self.old given
@@ -148,7 +153,7 @@ impl ChainReader {
 
     /// Gives, at the next number, the page of each archive that took it: a place in `row` is that of
     /// an archive, in their order, and has nothing where its archive does not have the page. It
-    /// answers `false` once all numbers were given. The archives are read as `next` reads them, each
+    /// answers `false` once all numbers were given, from then on. The archives are read as `next` reads them, each
     /// one on as soon as its page was given.
     ///
     /// The refusals are those of `next`, in the same order, and the refusal is answered from then
@@ -165,6 +170,10 @@ impl ChainReader {
             → IsReadingEach inputs (map (λ r. R.remaining r) readers.old) self.old given
             → GoesOnEach inputs (map (λ r. R.remaining r) readers.new) self.new given more
             (map place_list row.new)) }
+        // Behind the last row there is none, from then on, and nothing is read.
+        ensures ended { IfOk result (λ more. more ≡ false → HasEnded self.new) }
+        ensures over { HasEnded self.old → result ≡ Ok false }
+        ensures idle { HasEnded self.old → readers.new ≡ readers.old }
         // The fault is the first one that is met.
         ensures err { IfErr result (λ fault.
             (inputs : List (Option (List ℕ))) (given : List (List (List Page)))

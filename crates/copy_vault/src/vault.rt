@@ -8,9 +8,9 @@ ghost use Rattle.copy_vault.specs.Reading.{ReadingView};
 ghost use Rattle.copy_vault.specs.Vault.{CopyState, HasRoom, OpenRefuses, answer_in, complete};
 ghost use Rattle.copy_vault.specs.Vault.{complete_of, complete_refusal, inc_refusal, pages_in};
 ghost use Rattle.copy_vault.specs.Vault.{decided, drop_refusal, dropped, open_refusal, opened};
-ghost use Rattle.copy_vault.specs.Vault.{pages_read, reading_of, seal_refusal, sealed, sealed_in};
+ghost use Rattle.copy_vault.specs.Vault.{pages_read, reading, reading_of, seal_refusal, sealed};
 ghost use Rattle.copy_vault.specs.Vault.{HasParent, IsKept, IsOfId, since_of, state_in, state_of};
-ghost use Rattle.copy_vault.specs.Vault.{WaitsFor, taken_in, without};
+ghost use Rattle.copy_vault.specs.Vault.{WaitsFor, sealed_in, taken_in, without};
 ghost use Rattle.copy_vault.specs.declared.copy_id.CopyKind.TheVariants.{Full, Inc};
 ghost use Rattle.copy_vault.specs.declared.vault.Entry.TheVariants as entry;
 
@@ -228,8 +228,22 @@ impl Vault {
         Ok(Chain::new(members))
     }
 
-    /// The copy of this id, which has to be complete.
-    fn complete_copy(&self, id: CopyId) -> Result<&CompleteCopy, CopyFault>
+    /// The copy of this id, which has to be being read. Refusals in order: `NoCopy`, `CopyNotOpen`.
+    pub fn reading_copy(&self, id: CopyId) -> Result<&ReadingCopy, CopyFault>
+        ensures ok { IfOk result (λ copy. state_of self.now.copies id ≡ reading copy.now.copy) }
+        ensures err { IfErr result (λ fault.
+            drop_refusal (state_of self.now.copies id) ≡ Some fault) }
+    {
+        match self.entry(id) {
+            Some(Entry::Reading(copy)) => Ok(copy),
+            Some(Entry::Complete(_)) => Err(CopyFault::CopyNotOpen),
+            _ => Err(CopyFault::NoCopy),
+        }
+    }
+
+    /// The copy of this id, which has to be complete. Refusals in order: `NoCopy`,
+    /// `CopyNotComplete`.
+    pub fn complete_copy(&self, id: CopyId) -> Result<&CompleteCopy, CopyFault>
         ensures ok { IfOk result (λ copy. state_of self.now.copies id ≡ complete copy.now) }
         ensures kept { IfOk result (λ copy. IsOfId self.now.copies id copy.now) }
         ensures err { IfErr result (λ fault.

@@ -11,7 +11,7 @@ use std::test::Fail;
 
 /// The bytes of an archive with this id, parent (0 of a full copy), page count and redo point, and
 /// these pages: their numbers and LSNs.
-fn archive(
+pub(crate) fn archive(
     alloc: Global,
     (id, parent): (u32, u32),
     (count, redo): (u32, u64),

@@ -30,4 +30,6 @@ mod stores;
 #[cfg(test)]
 mod tails;
 #[cfg(test)]
+mod turns;
+#[cfg(test)]
 mod vaults;

@@ -2,7 +2,7 @@
 //! steps, and one function runs them.
 
 use log_history::{OpenTransactions, PendingChange, TxnState};
-use log_records::Record;
+use log_records::{Record, TxnPhase};
 use page_core::{Change, ChangeKind, Lsn, PageNo, SlotNo, TxnNo};
 use std::alloc::AllocError;
 use std::process::Abort;
@@ -140,11 +140,10 @@ fn take_over(
 }
 
 /// The first transaction, with one pending change.
-fn first_state(last: u64, aborted: bool) -> TxnState {
+fn first_state(last: u64, rolling: bool) -> TxnState {
     TxnState {
         last: Lsn(last),
-        rolling: aborted,
-        aborted,
+        rolling,
         pending: 1,
         ..begun_state(64, 1)
     }
@@ -157,7 +156,6 @@ fn begun_state(lsn: u64, txn: u32) -> TxnState {
         first: Lsn(lsn),
         last: Lsn(lsn),
         rolling: false,
-        aborted: false,
         pending: 0,
     }
 }
@@ -241,6 +239,57 @@ fn a_slot_is_kept_until_the_first_change_is_taken_back(rt: HostRuntime) -> Resul
         Step::Note(comp(320, 1, 256, 192, SLOT, UNSET)),
         Step::Holder(SLOT, ChangeKind::Add, TxnNo(2), None),
         Step::Holder(SLOT, ChangeKind::Set, TxnNo(2), Some(TxnNo(1))),
+    ];
+    take_over(&rt, table, &steps)
+}
+
+/// A checkpoint's entry of the first transaction.
+fn found(state: TxnPhase, last: u64, undo_next: u64) -> Record {
+    Record::ChkptTxns {
+        lsn: Lsn(640),
+        begin: Lsn(576),
+        txn: TxnNo(1),
+        state,
+        last: Lsn(last),
+        undo_next: Lsn(undo_next),
+    }
+}
+
+/// A transaction takes back its last change, makes another one behind the Comp, takes that back too,
+/// and aborts only then.
+#[test]
+fn a_transaction_goes_on_behind_a_comp(rt: HostRuntime) -> Result<(), AllocError> {
+    let table = OpenTransactions::new(rt.alloc());
+    let other = SlotNo(4);
+    let first = PendingChange {
+        lsn: Lsn(128),
+        prev: Lsn(64),
+        page: PAGE,
+        slot: SLOT,
+        change: ADD,
+    };
+    let steps = [
+        Step::Note(begin(64, 1)),
+        Step::Note(update(128, 1, 64, SLOT, ADD)),
+        Step::Note(update(192, 1, 128, SLOT, ADD)),
+        Step::Note(comp(256, 1, 192, 128, SLOT, UNDO_ADD)),
+        Step::State(1, Some(first_state(256, false))),
+        Step::Counts(1, 1, 3),
+        Step::Note(found(TxnPhase::Active, 256, 128)),
+        Step::Refused(found(TxnPhase::Rolling, 256, 128)),
+        Step::Refused(end(320, 1, 256)),
+        Step::Note(update(320, 1, 256, other, SET)),
+        // The PrevLSN of the change that is taken back is the LSN of a Comp.
+        Step::Refused(comp(384, 1, 320, 128, other, UNSET)),
+        Step::Note(comp(384, 1, 320, 256, other, UNSET)),
+        Step::Pending(1, Some(first)),
+        Step::Note(abort(448, 1, 384)),
+        Step::State(1, Some(first_state(448, true))),
+        Step::Note(found(TxnPhase::Rolling, 448, 128)),
+        Step::Refused(update(512, 1, 448, SLOT, ADD)),
+        Step::Note(comp(512, 1, 448, 64, SLOT, UNDO_ADD)),
+        Step::Note(end(576, 1, 512)),
+        Step::Counts(1, 0, 0),
     ];
     take_over(&rt, table, &steps)
 }

@@ -80,23 +80,23 @@ copies_told left sessions works kept settled restores =
 
 pub wrong_told : (e : Evidence) (sessions : List (List Receipt)) (works : List Work) (at : ℕ)
     → IsWrongAt e sessions works at → IsSettled e sessions works → ⊥
-wrong_told e sessions works at (inl (none, differ)) settled = differ settled.counted
-wrong_told e sessions works at (inr (inl (inl bad))) settled =
+wrong_told e sessions works at (inl (differ, none)) settled = differ settled.counted
+wrong_told e sessions works at (inr (added, inl (inl bad))) settled =
     let some : Receipt = Read 0 0 0 0 in
     bad.bad some
     (settled.receipts bad.session [] bad.session_within bad.index some bad.index_within)
-wrong_told e sessions works at (inr (inl (inr two))) settled =
+wrong_told e sessions works at (inr (added, inl (inr two))) settled =
     let few = records_apart e sessions works settled at in
     absurd (omega arith)
-wrong_told e sessions works at (inr (inr (inl bad))) settled =
+wrong_told e sessions works at (inr (added, inr (inl bad))) settled =
     let some : Work = Copied 0 Full 0 in
     bad.bad some (settled.work bad.index some bad.within)
-wrong_told e sessions works at (inr (inr (inr (inl two)))) settled =
+wrong_told e sessions works at (inr (added, inr (inr (inl two)))) settled =
     let few = settled.lsns at in
     absurd (omega arith)
-wrong_told e sessions works at (inr (inr (inr (inr (none, inl bad))))) settled =
+wrong_told e sessions works at (inr (added, inr (inr (inr (none, inl bad))))) settled =
     let some : Work = Copied 0 Full 0 in
     bad.bad some (settled.work bad.index some bad.within)
-wrong_told e sessions works at (inr (inr (inr (inr (none, inr (id, two)))))) settled =
+wrong_told e sessions works at (inr (added, inr (inr (inr (none, inr (id, two)))))) settled =
     let few = settled.copies id in
     absurd (omega arith)

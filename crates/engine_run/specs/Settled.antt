@@ -108,13 +108,14 @@ IsWorkBad e marks given (Copied id kind taken) at =
     (at ≡ 0) × ((¬ WorkStands e (Copied id kind taken))
     ⊎ ((ids : List ℕ) → AreGiven given ids → 0 < times id ids))
 
--- what an LSN names where a run is not settled: a receipt or Point that does not stand, or two that
--- have the LSN; and 0 also that the shares do not add up, or that a copy does not stand or comes
--- twice
+-- what an LSN names where a run is not settled. The shares are looked at first: where they do not
+-- add up, it is 0. Else it is that of a receipt or Point that does not stand, or of two that have
+-- it; or it is 0, and a copy does not stand or comes twice
 abbrev pub IsWrongAt : Evidence → List (List Receipt) → List Work → ℕ → Type 0
 IsWrongAt e sessions works at =
-    ((at ≡ 0) × (¬ AddUp sessions e.log)) ⊎ AreWrongAt e.log e.forced_end sessions at
-    ⊎ IsWorkWrongAt e (written (all_receipts sessions)) works at
+    ((¬ AddUp sessions e.log) × (at ≡ 0))
+    ⊎ (AddUp sessions e.log × (AreWrongAt e.log e.forced_end sessions at
+    ⊎ IsWorkWrongAt e (written (all_receipts sessions)) works at))
 
 -- what a refusal tells: memory is asked for once the shares were compared
 abbrev pub IsFaultOf : Evidence → List (List Receipt) → List Work → SettleFault → Type 0

@@ -4,6 +4,7 @@ ghost use Rattle.std.specs.Prelude.{◌≡◌, ◌≤◌, IfOk};
 ghost use Rattle.engine_run.specs.Work.{IsCopiedAs};
 
 use crate::gate::HoldGate;
+use crate::refused::FirstRefusal;
 use crate::shared::Shared;
 use crate::work::Work;
 use crate::worker::{Worker, workers_of};
@@ -17,9 +18,6 @@ use std::sync::ledger::Ledger;
 use std::sync::{Mutex, Wait};
 use std::thread;
 use std::thread::{Scope, Threads};
-
-/// The refusal of the least-numbered worker that met one, with its number.
-type FirstRefusal = Mutex<Option<(u32, Refusal)>>;
 
 impl<S: PageStore, D: LogDevice, G: Ledger> Shared<S, D, G> {
     /// Opens a copy, and answers its id and the page count of the volume.
@@ -61,12 +59,11 @@ impl<S: PageStore, D: LogDevice, G: Ledger> Shared<S, D, G> {
         copy: CopyId,
         worker: Worker<'_>,
         gate: &impl HoldGate,
-        refused: &FirstRefusal,
+        refused: &Mutex<FirstRefusal>,
     ) {
         let number = worker.number;
         if let Err(why) = self.take_claimed(rt, copy, worker, gate) {
-            let mut first = refused.lock(rt);
-            *first = least(*first, (number, why));
+            refused.lock(rt).note(number, why);
         }
     }
 }
@@ -111,7 +108,7 @@ impl<S: PageStore + Send, D: LogDevice + Send, G: Ledger + Send + Sync> Shared<S
         copy: CopyId,
         worker: Worker<'s>,
         gate: &'s H,
-        refused: &'s FirstRefusal,
+        refused: &'s Mutex<FirstRefusal>,
     ) -> bool {
         scope
             .spawn(move || self.work(rt, copy, worker, gate, refused))
@@ -126,7 +123,7 @@ impl<S: PageStore + Send, D: LogDevice + Send, G: Ledger + Send + Sync> Shared<S
         copy: CopyId,
         workers: Vec<Worker<'s>>,
         gate: &'s H,
-        refused: &'s FirstRefusal,
+        refused: &'s Mutex<FirstRefusal>,
     ) -> bool {
         for worker in workers {
             if !self.start(scope, rt, copy, worker, gate, refused) {
@@ -154,23 +151,15 @@ impl<S: PageStore + Send, D: LogDevice + Send, G: Ledger + Send + Sync> Shared<S
         let Ok(workers) = workers_of(alloc, &claims, seats) else {
             return Err(Refusal::OutOfMemory);
         };
-        let refused = Mutex::new(None);
+        let refused = Mutex::new(FirstRefusal::new());
         let shared_refusal = &refused;
         let started = thread::scope(thread::scope_env(), rt, |scope| {
             self.start_all(scope, rt, copy, workers, gate, shared_refusal)
         });
-        match refused.into_inner() {
+        match refused.into_inner().why() {
             _ if !started => Err(Refusal::OutOfMemory),
-            Some((_, why)) => Err(why),
+            Some(why) => Err(why),
             None => Ok(()),
         }
-    }
-}
-
-/// Of two refusals the one of the lesser worker.
-fn least(first: Option<(u32, Refusal)>, other: (u32, Refusal)) -> Option<(u32, Refusal)> {
-    match first {
-        Some(before) if before.0 <= other.0 => Some(before),
-        _ => Some(other),
     }
 }

@@ -4,12 +4,12 @@ ghost use Rattle.std.specs.Prelude.{ℕ, ◌≡◌, ◌+◌, ◌<◌, ◌≤◌,
 ghost use Rattle.page_core.specs.Volume.{formatted_pages};
 ghost use Rattle.log_records.specs.Log.{IsPageCount};
 ghost use Rattle.settlement.specs.Counts.{updates_in};
-ghost use Rattle.aries_core.specs.EngineState.{Fetches, IsFit, end, new_state};
+ghost use Rattle.aries_core.specs.Asked.{Asks, FailsAsking, asked};
+ghost use Rattle.aries_core.specs.EngineState.{Fetches, end};
 ghost use Rattle.aries_core.specs.Step.{FailsForcing, Forces, IsByStore, IsUnsure, Step, reply_of};
 ghost use Rattle.aries_core.specs.Step.{undo_answer};
 ghost use Rattle.aries_core.specs.declared.event.Answer.TheVariants as answer;
 ghost use Rattle.aries_core.specs.declared.event.Event.TheVariants as event;
-ghost use Rattle.engine_run.specs.Held.{IsCounted};
 
 use aries_core::{Engine, Refusal, Undone};
 use log_store::LogDevice;
@@ -54,16 +54,6 @@ impl<S: PageStore, D: LogDevice, G: Ledger> Held<S, D, G> {
         self.engine.log().pages()
     }
 
-    /// What holds whenever the lock is free: the engine is fit, and the book has counted the changes
-    /// of its log.
-    pub fn is_as_counted(&self) -> bool
-        ensures fit { IsFit self.now.engine.state }
-        ensures counted { IsCounted self.now }
-    {
-        let _end = self.engine.log_end();
-        true
-    }
-
     /// Begins a transaction, as `Engine::begin` does.
     pub fn begin(&mut self) -> Result<(TxnNo, Lsn), Refusal>
         ensures step { Step self.old.engine.state event.Begin
@@ -91,6 +81,12 @@ impl<S: PageStore, D: LogDevice, G: Ledger> Held<S, D, G> {
             → self.new.engine.store ≡ self.old.engine.store }
         ensures store_refused { IfErr result (λ why. ¬ IsByStore why
             → self.new.engine.store ≡ self.old.engine.store) }
+        ensures asked { OnOk result (Asks S.gave S.wrote
+            (asked self.old.engine.state (event.Set txn page slot number)) self.old.engine
+            self.new.engine) }
+        ensures failed { IfErr result (λ why. IsByStore why → FailsAsking S.gave S.wrote
+            (asked self.old.engine.state (event.Set txn page slot number)) self.old.engine
+            self.new.engine) }
         ensures no_store_failure { OnOk result
             (S.failures self.new.engine.store ≡ S.failures self.old.engine.store) }
         ensures store_cause { IfErr result (λ why. IsByStore why
@@ -121,6 +117,12 @@ impl<S: PageStore, D: LogDevice, G: Ledger> Held<S, D, G> {
             → self.new.engine.store ≡ self.old.engine.store }
         ensures store_refused { IfErr result (λ why. ¬ IsByStore why
             → self.new.engine.store ≡ self.old.engine.store) }
+        ensures asked { OnOk result (Asks S.gave S.wrote
+            (asked self.old.engine.state (event.Add txn page slot amount)) self.old.engine
+            self.new.engine) }
+        ensures failed { IfErr result (λ why. IsByStore why → FailsAsking S.gave S.wrote
+            (asked self.old.engine.state (event.Add txn page slot amount)) self.old.engine
+            self.new.engine) }
         ensures no_store_failure { OnOk result
             (S.failures self.new.engine.store ≡ S.failures self.old.engine.store) }
         ensures store_cause { IfErr result (λ why. IsByStore why
@@ -145,6 +147,12 @@ impl<S: PageStore, D: LogDevice, G: Ledger> Held<S, D, G> {
             → self.new.engine.store ≡ self.old.engine.store }
         ensures store_refused { IfErr result (λ why. ¬ IsByStore why
             → self.new.engine.store ≡ self.old.engine.store) }
+        ensures asked { OnOk result (Asks S.gave S.wrote
+            (asked self.old.engine.state (event.Read page slot)) self.old.engine
+            self.new.engine) }
+        ensures failed { IfErr result (λ why. IsByStore why → FailsAsking S.gave S.wrote
+            (asked self.old.engine.state (event.Read page slot)) self.old.engine
+            self.new.engine) }
         ensures no_store_failure { OnOk result
             (S.failures self.new.engine.store ≡ S.failures self.old.engine.store) }
         ensures store_cause { IfErr result (λ why. IsByStore why
@@ -195,6 +203,12 @@ impl<S: PageStore, D: LogDevice, G: Ledger> Held<S, D, G> {
             → self.new.engine.store ≡ self.old.engine.store }
         ensures store_refused { IfErr result (λ why. ¬ IsByStore why
             → self.new.engine.store ≡ self.old.engine.store) }
+        ensures asked { OnOk result (Asks S.gave S.wrote
+            (asked self.old.engine.state (event.UndoStep txn)) self.old.engine
+            self.new.engine) }
+        ensures failed { IfErr result (λ why. IsByStore why → FailsAsking S.gave S.wrote
+            (asked self.old.engine.state (event.UndoStep txn)) self.old.engine
+            self.new.engine) }
         ensures no_store_failure { OnOk result
             (S.failures self.new.engine.store ≡ S.failures self.old.engine.store) }
         ensures store_cause { IfErr result (λ why. IsByStore why

@@ -1,6 +1,7 @@
 //! The calls of a shared engine that write pages, take checkpoints and make copies.
 
 ghost use Rattle.std.specs.Prelude.{ℕ, ◌≡◌, ◌<◌, ◌≤◌, IfErr, IfOk, OnErr, OnOk};
+ghost use Rattle.aries_core.specs.Asked.{Asks, FailsAsking, asked};
 ghost use Rattle.aries_core.specs.EngineState.{end};
 ghost use Rattle.aries_core.specs.Step.{FailsForcing, Forces, IsByDevice, IsByStore, Step};
 ghost use Rattle.aries_core.specs.Step.{reply_of};
@@ -66,6 +67,12 @@ impl<S: PageStore, D: LogDevice, G: Ledger> Held<S, D, G> {
         ensures device { self.new.engine.device ≡ self.old.engine.device }
         ensures refused { IfErr result (λ why. ¬ IsByStore why
             → self.new.engine.store ≡ self.old.engine.store) }
+        ensures asked { OnOk result (Asks S.gave S.wrote
+            (asked self.old.engine.state (event.WriteEnd page)) self.old.engine
+            self.new.engine) }
+        ensures failed { IfErr result (λ why. IsByStore why → FailsAsking S.gave S.wrote
+            (asked self.old.engine.state (event.WriteEnd page)) self.old.engine
+            self.new.engine) }
         ensures no_failure { OnOk result
             (S.failures self.new.engine.store ≡ S.failures self.old.engine.store) }
         ensures cause { IfErr result (λ why. IsByStore why
@@ -143,6 +150,12 @@ impl<S: PageStore, D: LogDevice, G: Ledger> Held<S, D, G> {
         ensures device { self.new.engine.device ≡ self.old.engine.device }
         ensures store_refused { IfErr result (λ why. ¬ IsByStore why
             → self.new.engine.store ≡ self.old.engine.store) }
+        ensures asked { OnOk result (Asks S.gave S.wrote
+            (asked self.old.engine.state (event.Take copy page)) self.old.engine
+            self.new.engine) }
+        ensures failed { IfErr result (λ why. IsByStore why → FailsAsking S.gave S.wrote
+            (asked self.old.engine.state (event.Take copy page)) self.old.engine
+            self.new.engine) }
         ensures no_store_failure { OnOk result
             (S.failures self.new.engine.store ≡ S.failures self.old.engine.store) }
         ensures store_cause { IfErr result (λ why. IsByStore why
@@ -195,6 +208,12 @@ impl<S: PageStore, D: LogDevice, G: Ledger> Held<S, D, G> {
 
         ensures store_refused { IfErr result (λ why. ¬ IsByStore why
             → self.new.engine.store ≡ self.old.engine.store) }
+        ensures asked { OnOk result (Asks S.gave S.wrote
+            (asked self.old.engine.state (event.Repair copy page)) self.old.engine
+            self.new.engine) }
+        ensures failed { IfErr result (λ why. IsByStore why → FailsAsking S.gave S.wrote
+            (asked self.old.engine.state (event.Repair copy page)) self.old.engine
+            self.new.engine) }
         ensures no_store_failure { OnOk result
             (S.failures self.new.engine.store ≡ S.failures self.old.engine.store) }
         ensures store_cause { IfErr result (λ why. IsByStore why

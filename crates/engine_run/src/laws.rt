@@ -4,17 +4,41 @@ ghost use Rattle.std.specs.Prelude.{ℕ, ◌≡◌, ◌<◌, true, List, length,
 ghost use Rattle.std.specs.List.{All};
 ghost use Rattle.log_records.specs.declared.record.Record.{Record};
 ghost use Rattle.log_records.specs.Log.{Log, lsn_of};
+ghost use Rattle.copy_vault.specs.Copy.{CopyView};
+ghost use Rattle.copy_vault.specs.Vault.{complete, state_of};
+ghost use Rattle.copy_coverage.specs.Copied.{Restores};
 ghost use Rattle.copy_coverage.specs.Kept.{IsKeptOf};
 ghost use Rattle.copy_coverage.specs.Retired.{IsRetired, RetiredView};
 ghost use Rattle.settlement.specs.declared.receipt.Receipt.{Receipt};
 ghost use Rattle.settlement.specs.Counts.{is_update};
 ghost use Rattle.settlement.specs.Receipt.{times};
 ghost use Rattle.settlement.specs.Sessions.{IsCommitIn, all_receipts, changed};
+ghost use Rattle.aries_core.specs.EngineState.{IsFit, log_of};
 ghost use Rattle.engine_run.specs.declared.work.Work.{Work};
+ghost use Rattle.engine_run.specs.Held.{IsCounted};
 ghost use Rattle.engine_run.specs.Laws.{IsRestoredBy, ReadsItsOwn};
 ghost use Rattle.engine_run.specs.Settled.{Evidence, IsSettled, IsWrongAt, evidence_in};
 
-use copy_coverage::a_complete_copy_restores;
+use crate::held::Held;
+use copy_coverage::{a_complete_copy_restores, copies_may_be_restored};
+use log_store::LogDevice;
+use page_store::PageStore;
+use std::sync::ledger::Ledger;
+
+/// Whenever the lock is free, what lies under it is what the promise on restores speaks of: its
+/// engine is fit, and its book has counted each change of its log. So each complete copy restores
+/// every log that a crash may leave then, while all others go on.
+pub fn a_free_lock_guards_a_fit_engine<S: PageStore, D: LogDevice, G: Ledger>(held: &Held<S, D, G>)
+    ensures fit { IsFit held.now.engine.state }
+    ensures counted { IsCounted held.now }
+    ensures restores { let s = held.now.engine.state in (kept : Log) (id : ℕ) (copy : CopyView)
+        → IsKeptOf (log_of s) s.forced_end kept → state_of s.copies id ≡ complete copy
+        → Restores s.copies s.pages copy kept.records }
+{
+    let _end = held.engine.log_end();
+    copies_may_be_restored();
+    a_complete_copy_restores();
+}
 
 /// The changes in the log are those that were answered, each once: one receipt of a change has the
 /// LSN of each Update. That a receipt of a change has an Update of its own in the log is a part of

@@ -10,6 +10,8 @@ mod gate;
 mod held;
 mod held_media;
 mod laws;
+mod opened;
+mod refused;
 mod repair;
 mod room;
 mod session;
@@ -23,9 +25,11 @@ pub use fault::SettleFault;
 pub use gate::{HoldGate, OpenGate};
 pub use held::Held;
 pub use laws::{
-    a_session_reads_its_own_writes, an_acknowledged_commit_is_kept, an_answered_copy_restores,
-    each_change_was_answered_once, what_is_wrong_is_not_settled,
+    a_free_lock_guards_a_fit_engine, a_session_reads_its_own_writes,
+    an_acknowledged_commit_is_kept, an_answered_copy_restores, each_change_was_answered_once,
+    what_is_wrong_is_not_settled,
 };
+pub use opened::Opened;
 pub use session::Session;
 pub use settling::{Unsettled, settle};
 pub use shared::{MAX_SESSIONS, Shared};

@@ -11,6 +11,7 @@ use crate::check_sessions::{add_up, check_sessions};
 use crate::check_works::check_works;
 use crate::fault::SettleFault;
 use crate::held::Held;
+use crate::opened::Opened;
 use crate::room::Room;
 use crate::session::Session;
 use crate::shared::Shared;
@@ -22,14 +23,14 @@ use log_store::LogDevice;
 use page_core::Lsn;
 use page_store::PageStore;
 use std::alloc::Global;
-use std::sync::Mutex;
 use std::sync::ledger::Ledger;
 
-/// What `settle` gives back where it is refused.
+/// What `settle` gives back where it is refused: all that it was given, and why. The shared engine
+/// is out of its lock, where contracts see it. `Opened::into_shared` puts it behind one again.
 #[derive(Drop)]
 pub struct Unsettled<S: PageStore, D: LogDevice, G: Ledger> {
     pub sessions: Vec<Session<G>>,
-    pub shared: Shared<S, D, G>,
+    pub shared: Opened<S, D, G>,
     pub fault: SettleFault,
 }
 
@@ -125,23 +126,16 @@ pub fn settle<S: PageStore + Drop, D: LogDevice + Drop, G: Ledger>(
 ) -> Result<Retired, Unsettled<S, D, G>>
     ensures settled { IfOk result (λ left. IsSettled (evidence_in left) sessions.items works.now) }
     ensures sessions { IfErr result (λ back. back.sessions ≡ sessions) }
-    ensures shared { IfErr result (λ back. back.shared ≡ shared) }
+    ensures shared { IfErr result (λ back. back.shared.sessions ≡ shared.sessions) }
+    ensures fault { IfErr result (λ back. IsFaultOf (evidence_of back.shared.held.engine.state)
+        back.sessions.items works.now back.fault) }
 {
-    let Shared {
-        held,
-        spares,
-        sessions: made,
-    } = shared;
-    let held = held.into_inner();
-    match held.check(alloc, sessions.as_slice(), works) {
-        Ok(()) => Ok(held.retire()),
+    let shared = Opened::new(shared);
+    match shared.held().check(alloc, sessions.as_slice(), works) {
+        Ok(()) => Ok(shared.into_held().retire()),
         Err(fault) => Err(Unsettled {
             sessions,
-            shared: Shared {
-                held: Mutex::new(held),
-                spares,
-                sessions: made,
-            },
+            shared,
             fault,
         }),
     }

@@ -69,7 +69,10 @@ impl<S: PageStore + Drop, D: LogDevice + Drop, G: Ledger> Shared<S, D, G> {
                 return Err(PlayFault::OutOfMemory);
             }
         }
-        let engine = Engine::new(alloc, setup, store, device)?;
+        let engine = match Engine::new(alloc, setup, store, device) {
+            Ok(engine) => engine,
+            Err((fault, _)) => return Err(fault),
+        };
         Ok(Shared {
             held: Mutex::new(Held::new(engine, book)),
             spares,

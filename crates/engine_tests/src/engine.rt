@@ -88,10 +88,9 @@ pub(crate) fn called_on<S: PageStore + Drop, D: LogDevice + Drop>(
     requires pages { IsPageCount pages }
     requires formatted { S.stored store ≡ formatted_pages pages }
 {
-    let mut engine = Engine::new(rt.alloc(), setup_of(pages), store, device).expect(
-        rt,
-        "an engine",
-    );
+    let mut engine = Engine::new(rt.alloc(), setup_of(pages), store, device)
+        .ok()
+        .expect(rt, "an engine");
     call(rt, &mut engine, calls);
     engine
 }
@@ -107,10 +106,9 @@ fn played_on<S: PageStore + Drop, D: LogDevice + Drop>(
     requires pages { IsPageCount pages }
     requires formatted { S.stored store ≡ formatted_pages pages }
 {
-    let played = play(rt.alloc(), setup_of(pages), store, device, &calls.events).expect(
-        rt,
-        "an engine",
-    );
+    let played = play(rt.alloc(), setup_of(pages), store, device, &calls.events)
+        .ok()
+        .expect(rt, "an engine");
     assert_replies(rt, &played.replies, calls);
     played.engine
 }

@@ -127,7 +127,10 @@ impl Case {
         let device = self
             .device(alloc, events.len())
             .map_err(|_| PlayFault::OutOfMemory)?;
-        let Played { replies, engine } = play(alloc, self.setup, store, device, events)?;
+        let Played { replies, engine } = play(alloc, self.setup, store, device, events).map_err(|(
+            fault,
+            _,
+        )| fault)?;
         Ok((replies, engine.retire()))
     }
 }

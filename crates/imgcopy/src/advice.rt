@@ -1,102 +1,102 @@
 //! Lines for a person on standard error, behind the line of a fault.
 
+use crate::bad_line::BadLine;
 use crate::notes::Notes;
+use crate::reasons::{
+    Named, Reason, reason_of_audit, reason_of_restore, tell_beyond, tell_unsound, what_stands,
+};
 use copy_audit::Unsound;
 use copy_coverage::Retired;
 use copy_vault::{CopyId, MAX_COPIES};
 use event_script::{MAX_SCRIPT_BYTES, ScriptFault};
 use media_restore::RestoreFault;
-use saved_files::{FileFault, SaveFault, SavedName};
+use saved_files::{SaveFault, SavedName};
 use script_run::RunFault;
 use std::alloc::{AllocError, Global};
+use std::io::ErrorKind;
 use std::path::Path;
 use std::rt::Files;
 use std::{fs, io};
 
-/// The place of the first archive, behind the log and the master record.
-const FIRST_ARCHIVE: usize = 2;
+/// How many names of unfinished files are told.
+const MOST_TOLD: usize = 64;
 
-/// Names the file in which a restore from files met its fault, the one that was read last, and why
-/// the system failed there.
-pub fn tell_input(
-    rt: &impl Eprint,
-    log: &str,
-    master: &str,
-    archives: &[&str],
-    fault: &RestoreFault,
-    notes: &Notes,
-) {
-    let place = match (fault, notes.read_last()) {
-        // These are no fault of one file, or are seen once all headers were read.
-        (
-            RestoreFault::OutOfMemory
-            | RestoreFault::LogFull
-            | RestoreFault::WriteFault(_)
-            | RestoreFault::RedoBeyondLog
-            | RestoreFault::ChainBroken(CopyId(0)),
-            _,
-        ) => return,
-        (_, Some(place)) => place,
-        (_, None) => return,
-    };
+/// Names the file in which a restore from files met its fault, and says what is wrong with it, or why
+/// the system failed there. It is the one that was read last.
+pub fn tell_input(rt: &HostRuntime, names: &Named<'_>, fault: &RestoreFault, notes: &Notes) {
     let failed = match fault {
+        // These are no fault of one file.
+        RestoreFault::OutOfMemory
+        | RestoreFault::LogFull
+        | RestoreFault::WriteFault(_)
+        | RestoreFault::ChainBroken(CopyId(0)) => return,
+        RestoreFault::RedoBeyondLog => return tell_beyond(rt, names),
         RestoreFault::ReadFault => notes.error(),
         _ => None,
     };
-    match place {
-        0 => tell_file(rt, log, "log", failed),
-        1 => tell_file(rt, master, "master record", failed),
-        _ => {
-            if let Some(archive) = archives.get(place - FIRST_ARCHIVE) {
-                tell_file(rt, archive, "image copy", failed);
-            }
-        }
-    }
+    let Some(place) = notes.read_last() else {
+        return;
+    };
+    tell_file(
+        rt,
+        names,
+        place,
+        failed,
+        reason_of_restore(rt, names, place, fault),
+    );
 }
 
-/// Names the file in which an audit met its fault, the one that was read last, and why the system
-/// failed there. An unsound page is a fault of the chain, and is seen once all files were read.
-pub fn tell_audited(
-    rt: &impl Eprint,
-    log: &str,
-    archives: &[&str],
-    fault: &Unsound,
-    notes: &Notes,
-) {
-    let place = match (fault, notes.read_last()) {
-        (
-            Unsound::OutOfMemory
-            | Unsound::Unsound(_, _)
-            | Unsound::RedoBeyondLog
-            | Unsound::ChainBroken(CopyId(0)),
-            _,
-        ) => return,
-        (_, Some(place)) => place,
-        (_, None) => return,
-    };
+/// The same of an audit.
+pub fn tell_audited(rt: &HostRuntime, names: &Named<'_>, fault: &Unsound, notes: &Notes) {
     let failed = match fault {
+        Unsound::OutOfMemory | Unsound::ChainBroken(CopyId(0)) => return,
+        Unsound::RedoBeyondLog => return tell_beyond(rt, names),
+        Unsound::Unsound(copy, page) => return tell_unsound(rt, names, *copy, *page),
         Unsound::ReadFault => notes.error(),
         _ => None,
     };
-    if place < FIRST_ARCHIVE {
-        tell_file(rt, log, "log", failed);
-    } else if let Some(archive) = archives.get(place - FIRST_ARCHIVE) {
-        tell_file(rt, archive, "image copy", failed);
-    }
+    let Some(place) = notes.read_last() else {
+        return;
+    };
+    tell_file(
+        rt,
+        names,
+        place,
+        failed,
+        reason_of_audit(rt, names, place, fault),
+    );
 }
 
-/// Names a file, says what it was read as, and why the system failed there, if it did.
-fn tell_file(rt: &impl Eprint, name: &str, what: &str, failed: Option<io::Error>) {
-    let _ = match failed {
-        Some(error) => eprintln!(rt; "imgcopy: {name} ({what}): {error}"),
-        None => eprintln!(rt; "imgcopy: {name} ({what})"),
+/// Names a file, says what it was read as, and why the system failed there or what is wrong with it.
+fn tell_file(
+    rt: &impl Eprint,
+    names: &Named<'_>,
+    place: usize,
+    failed: Option<io::Error>,
+    reason: Option<Reason>,
+) {
+    let Some(name) = names.at(place) else {
+        return;
+    };
+    let what = what_stands(place);
+    let _ = match (failed, reason) {
+        (Some(error), _) => eprintln!(rt; "imgcopy: {name} ({what}): {error}"),
+        (None, Some(reason)) => eprintln!(rt; "imgcopy: {name} ({what}): {reason}"),
+        (None, None) => eprintln!(rt; "imgcopy: {name} ({what})"),
     };
 }
 
 /// Tells what is wrong with a script that was not played, or why its replies could not be written.
-pub fn tell_script(rt: &impl Eprint, fault: &RunFault, input: &Notes, output: &Notes) {
+pub fn tell_script(
+    rt: &impl Eprint,
+    fault: &RunFault,
+    script: &[u8],
+    input: &Notes,
+    output: &Notes,
+) {
     let _ = match fault {
         RunFault::Script(ScriptFault::BadLine(number, why)) => {
+            let why = BadLine::of(*why, script, *number);
             eprintln!(rt; "imgcopy: line {number}: {why}")
         }
         RunFault::Script(ScriptFault::Input) => {
@@ -122,19 +122,95 @@ pub fn tell_unwritten(rt: &impl Eprint, notes: &Notes) {
     }
 }
 
-/// Names the file that could not be saved, and why the system failed there.
-pub fn tell_unsaved(rt: &impl Eprint, folder: &str, fault: &SaveFault, notes: &Notes) {
+/// Says why the files were not saved, and which names have their new file already.
+pub fn tell_unsaved(
+    rt: &impl Eprint,
+    alloc: Global,
+    folder: &str,
+    fault: &SaveFault,
+    retired: &Retired,
+    notes: &Notes,
+) {
     if folder.is_empty() {
         let _ = eprintln!(rt; "imgcopy: --save names no folder");
         return;
     }
-    let file = fault.file;
-    let _ = match (fault.why, notes.error()) {
-        (FileFault::WriteFault(_), Some(error)) => {
+    let _ = match (fault, notes.error()) {
+        (SaveFault::Unclaimed(_), Some(error)) if error.kind() == ErrorKind::WouldBlock => {
+            eprintln!(rt; "imgcopy: {folder}: another save into this folder is going on")
+        }
+        (SaveFault::Unclaimed(_), Some(error)) | (SaveFault::Unstored(_), Some(error)) => {
+            eprintln!(rt; "imgcopy: {folder}: {error}")
+        }
+        (SaveFault::Unsaved(file, _), Some(error)) => {
             eprintln!(rt; "imgcopy: {folder}/{file}: {error}")
         }
-        _ => eprintln!(rt; "imgcopy: {folder}/{file}: not saved"),
+        (SaveFault::Unsaved(file, _), None) => eprintln!(rt; "imgcopy: {folder}/{file}: not saved"),
+        (_, None) => eprintln!(rt; "imgcopy: {folder}: not saved"),
     };
+    let stopped = match fault {
+        SaveFault::Unclaimed(_) => return,
+        SaveFault::Unsaved(file, _) => Some(*file),
+        SaveFault::Unstored(_) => None,
+    };
+    let Ok(names) = new_names(alloc, stopped, retired) else {
+        return;
+    };
+    let _ = if names.is_empty() {
+        eprintln!(rt; "imgcopy: {folder}: no name has its new file")
+    } else {
+        eprintln!(rt; "imgcopy: {folder}: these have their new file already:{names}")
+    };
+}
+
+/// The names of the files of a run before this one, or of all, each behind a space.
+fn new_names(
+    alloc: Global,
+    stopped: Option<SavedName>,
+    retired: &Retired,
+) -> Result<String, AllocError> {
+    let mut names = String::new(alloc);
+    if stopped == Some(SavedName::Log) {
+        return Ok(names);
+    }
+    write!(names, " {}", SavedName::Log)?;
+    if stopped == Some(SavedName::Master) {
+        return Ok(names);
+    }
+    if retired.master().is_some() {
+        write!(names, " {}", SavedName::Master)?;
+    }
+    let vault = retired.vault();
+    for id in 1..=MAX_COPIES {
+        let file = SavedName::Copy(CopyId(id));
+        if stopped == Some(file) {
+            return Ok(names);
+        }
+        if vault.complete(CopyId(id)).is_some() {
+            write!(names, " {file}")?;
+        }
+    }
+    Ok(names)
+}
+
+/// Names the unfinished files of a folder: a save or another command that was cut off left them.
+pub fn tell_left(rt: &HostRuntime, folder: &str) {
+    let Ok(entries) = fs::read_dir(rt, folder) else {
+        return;
+    };
+    let mut told = 0usize;
+    for entry in entries {
+        let Ok(entry) = entry else {
+            continue;
+        };
+        let name = entry.file_name();
+        if name.contains(".unfinished-") && told < MOST_TOLD {
+            let _ = eprintln!(rt;
+                "imgcopy: {folder}/{name}: left by a command that was cut off; it may be deleted"
+            );
+            told += 1;
+        }
+    }
 }
 
 /// Names the files of a folder that look like those of a run, and are not of this one: they do not

@@ -8,29 +8,44 @@ ghost use Rattle.log_records.specs.Log.{IsPageCount};
 ghost use Rattle.script_run.specs.Status.{status_of_audit, status_of_finish, status_of_restore};
 
 mod advice;
+mod bad_line;
+mod chain_reason;
 mod notes;
+mod output;
+mod reasons;
+mod strict;
 mod system_files;
 
 use advice::{
-    tell_audited, tell_input, tell_script, tell_stale, tell_unread, tell_unsaved, tell_unwritten,
+    tell_audited, tell_input, tell_left, tell_script, tell_stale, tell_unread, tell_unsaved,
+    tell_unwritten,
 };
 use aries_core::Setup;
 use command_words::{Command, command_of, words_of};
 use copy_audit::{Sound, Unsound};
+use copy_vault::CopyId;
+use event_script::MAX_SCRIPT_BYTES;
 use media_restore::RestoreFault;
 use notes::{Noted, Notes};
-use page_core::FaultName;
-use saved_files::{audit_files, restore_volume, save_files};
+use output::{Output, tell_noted};
+use page_core::{FaultName, PageNo};
+use reasons::{Named, tell_redo};
+use saved_files::{audit_files, check_master, restore_volume, save_files, unsound_pages};
 use script_run::{
-    FAULT_STATUS, FinishFault, Ran, audit_status, finish_script, refused_status, restore_status,
-    run_script,
+    FAULT_STATUS, FinishFault, REFUSED_STATUS, Ran, RunFault, audit_status, finish_script,
+    refused_status, restore_status, run_script,
 };
 use std::fmt::Display;
 use std::io;
+use std::io::{IsTerminal, Read, Write};
 use std::process::ExitCode;
 use std::thread::Threads;
+use strict::{Kept, Refusals, Tallied, line_of_call};
 use system_files::{SystemFiles, SystemFolder};
 use volume_redo::{Fault, redo_stream};
+
+/// How many bytes of a script are kept at most, to show a bad line.
+const MOST_KEPT: usize = 65_536;
 
 fn main(rt: HostRuntime) -> ExitCode {
     let words = match words_of(&rt) {
@@ -39,27 +54,54 @@ fn main(rt: HostRuntime) -> ExitCode {
     };
     match command_of(rt.alloc(), words.as_slice()) {
         Ok(Command::Redo) => redo(&rt),
+        Ok(Command::RedoInto { output }) => redo_into(&rt, output),
         Ok(
             Command::Run {
                 pages,
                 frames,
                 save,
+                strict,
             },
-        ) => run(&rt, &rt, Setup { pages, frames }, save),
+        ) => run(&rt, &rt, Setup { pages, frames }, save, strict),
         Ok(
             Command::Restore {
                 log,
                 master,
                 archives,
+                output,
             },
-        ) => restore(&rt, &rt, log, master, &archives),
-        Ok(Command::Audit { log, archives }) => audit(&rt, log, &archives),
+        ) => {
+            let names = Named {
+                log,
+                master: Some(master),
+                archives: &archives,
+            };
+            restore(&rt, &rt, &names, master, output)
+        }
+        Ok(
+            Command::Audit {
+                log,
+                archives,
+                master,
+                all,
+            },
+        ) => {
+            let names = Named {
+                log,
+                master,
+                archives: &archives,
+            };
+            audit(&rt, &names, all)
+        }
         Err(fault) => told_whole(&rt, &fault),
     }
 }
 
 /// Rebuilds the volume of the log on standard input.
 fn redo(rt: &HostRuntime) -> ExitCode {
+    if rt.stdout().is_terminal() {
+        return refused_terminal(rt);
+    }
     let (input, output) = (Notes::new(), Notes::new());
     let done = redo_stream(
         rt.alloc(),
@@ -67,12 +109,62 @@ fn redo(rt: &HostRuntime) -> ExitCode {
         &mut noted(io::writer(rt), &output),
     );
     let status = status_of(rt, &done);
-    match done {
+    match &done {
         Err(Fault::ReadFault) => tell_unread(rt, &input),
         Err(Fault::WriteFault(_)) => tell_unwritten(rt, &output),
-        _ => {}
+        Err(fault) => tell_redo(rt, fault),
+        Ok(()) => {}
     }
     status
+}
+
+/// The same, into a file.
+fn redo_into(rt: &HostRuntime, path: &str) -> ExitCode {
+    let (input, notes) = (Notes::new(), Notes::new());
+    let Some(mut output) = Output::begin(rt, path, &notes) else {
+        return ExitCode::from(FAULT_STATUS);
+    };
+    let done = redo_stream(rt.alloc(), &mut noted(rt.stdin(), &input), &mut output.file);
+    let Err(fault) = &done else {
+        return put_in_place(rt, path, output, &notes);
+    };
+    let status = status_of(rt, &done);
+    match fault {
+        Fault::ReadFault => tell_unread(rt, &input),
+        Fault::WriteFault(_) => tell_output(rt, path, &notes),
+        fault => tell_redo(rt, fault),
+    }
+    output.drop_file();
+    status
+}
+
+/// Puts a volume in place that was written whole.
+fn put_in_place(rt: &HostRuntime, path: &str, output: Output<'_>, notes: &Notes) -> ExitCode {
+    match output.put() {
+        Ok(()) => ExitCode::SUCCESS,
+        Err(_) => {
+            tell_noted(rt, path, notes);
+            ExitCode::from(FAULT_STATUS)
+        }
+    }
+}
+
+/// Says why a file of the output could not be written.
+fn tell_output(rt: &impl Eprint, path: &str, notes: &Notes) {
+    if let Some(error) = notes.error() {
+        let _ = eprintln!(rt; "imgcopy: {path}: {error}");
+    }
+}
+
+/// No volume is written to a terminal.
+fn refused_terminal(rt: &impl Eprint) -> ExitCode
+    ensures { exit_status result ≡ 2 }
+{
+    let _ = eprintln!(rt; "{} 0", FaultName::WriteFault);
+    let _ = eprintln!(rt;
+        "imgcopy: standard output is a terminal: name a file by -o, or redirect it"
+    );
+    ExitCode::from(FAULT_STATUS)
 }
 
 /// Plays the script on standard input, saves what it leaves, and does its last restore.
@@ -81,47 +173,64 @@ fn run(
     threads: &(impl Threads + Sync),
     setup: Setup,
     save: Option<&str>,
+    strict: bool,
 ) -> ExitCode
     requires pages { IsPageCount setup.pages }
     requires frames { IsFrameCount setup.frames }
 {
     let (input, output) = (Notes::new(), Notes::new());
-    match run_script(
-        rt.alloc(),
-        setup,
-        &mut noted(rt.stdin(), &input),
-        &mut noted(io::writer(rt), &output),
-    ) {
-        Ok(ran) => finish(rt, threads, ran, save),
+    let most = if strict { MAX_SCRIPT_BYTES } else { MOST_KEPT };
+    let mut reader = Kept::new(noted(rt.stdin(), &input), Vec::new(rt.alloc()), most);
+    let mut writer = Tallied::new(noted(io::writer(rt), &output));
+    let status = match played(rt, threads, setup, save, &mut reader, &mut writer) {
+        Ok(status) => status,
         Err(fault) => {
             let status = told(rt, &fault);
-            tell_script(rt, &fault, &input, &output);
-            status
+            tell_script(rt, &fault, reader.given(), &input, &output);
+            return status;
         }
+    };
+    match writer.tally().first_refused() {
+        Some(place) if strict => {
+            let refusals = Refusals {
+                tally: writer.tally(),
+                line: line_of_call(reader.given(), place),
+            };
+            let _ = rt.eprintln(&refusals);
+            ExitCode::from(if status == 0 { REFUSED_STATUS } else { status })
+        }
+        _ => ExitCode::from(status),
     }
 }
 
-/// Saves what a script left, and does its last restore.
-fn finish(
+/// Plays a script, and answers the program's status.
+fn played<R: Read, W: Write>(
     rt: &HostRuntime,
     threads: &(impl Threads + Sync),
-    ran: Ran,
+    setup: Setup,
     save: Option<&str>,
-) -> ExitCode {
+    reader: &mut R,
+    writer: &mut W,
+) -> Result<u8, RunFault>
+    requires pages { IsPageCount setup.pages }
+    requires frames { IsFrameCount setup.frames }
+{
+    let ran = run_script(rt.alloc(), setup, reader, writer)?;
+    Ok(finish(rt, threads, ran, save))
+}
+
+/// Saves what a script left, and does its last restore.
+fn finish(rt: &HostRuntime, threads: &(impl Threads + Sync), ran: Ran, save: Option<&str>) -> u8 {
     if let Some(folder) = save {
         let notes = Notes::new();
-        let mut made = SystemFolder {
-            files: rt,
-            alloc: rt.alloc(),
-            name: folder,
-            notes: &notes,
-        };
+        let mut made = SystemFolder::new(rt, rt.alloc(), folder, &notes);
         if let Err(fault) = save_files(&mut made, rt.alloc(), &ran.retired) {
-            let status = told(rt, &fault);
-            tell_unsaved(rt, folder, &fault, &notes);
-            return status;
+            let _ = rt.eprintln(&fault);
+            tell_unsaved(rt, rt.alloc(), folder, &fault, &ran.retired, &notes);
+            return FAULT_STATUS;
         }
         tell_stale(rt, rt.alloc(), folder, &ran.retired);
+        tell_left(rt, folder);
     }
     let output = Notes::new();
     let done = finish_script(
@@ -141,10 +250,16 @@ fn finish(
 fn restore(
     rt: &HostRuntime,
     threads: &(impl Threads + Sync),
-    log: &str,
+    names: &Named<'_>,
     master: &str,
-    archives: &[&str],
+    path: Option<&str>,
 ) -> ExitCode {
+    if let Some(path) = path {
+        return restore_into(rt, threads, names, master, path);
+    }
+    if rt.stdout().is_terminal() {
+        return refused_terminal(rt);
+    }
     let (notes, output) = (Notes::new(), Notes::new());
     let files = SystemFiles {
         files: rt,
@@ -154,33 +269,130 @@ fn restore(
         &files,
         threads,
         rt.alloc(),
-        log,
+        names.log,
         master,
-        archives,
+        names.archives,
         &mut noted(io::writer(rt), &output),
     );
     let status = status_of_files(rt, &done);
     match &done {
         Err(RestoreFault::WriteFault(_)) => tell_unwritten(rt, &output),
-        Err(fault) => tell_input(rt, log, master, archives, fault, &notes),
+        Err(fault) => tell_input(rt, names, fault, &notes),
         Ok(()) => {}
     }
     status
 }
 
-/// Audits a chain of copies against a log.
-fn audit(rt: &HostRuntime, log: &str, archives: &[&str]) -> ExitCode {
+/// The same, into a file.
+fn restore_into(
+    rt: &HostRuntime,
+    threads: &(impl Threads + Sync),
+    names: &Named<'_>,
+    master: &str,
+    path: &str,
+) -> ExitCode {
+    let (notes, written) = (Notes::new(), Notes::new());
+    let Some(mut output) = Output::begin(rt, path, &written) else {
+        return ExitCode::from(FAULT_STATUS);
+    };
+    let files = SystemFiles {
+        files: rt,
+        notes: &notes,
+    };
+    let done = restore_volume(
+        &files,
+        threads,
+        rt.alloc(),
+        names.log,
+        master,
+        names.archives,
+        &mut output.file,
+    );
+    let Err(fault) = &done else {
+        return put_in_place(rt, path, output, &written);
+    };
+    let status = status_of_files(rt, &done);
+    match fault {
+        RestoreFault::WriteFault(_) => tell_output(rt, path, &written),
+        fault => tell_input(rt, names, fault, &notes),
+    }
+    output.drop_file();
+    status
+}
+
+/// Audits a chain of copies against a log, and the master record first, if one is named.
+fn audit(rt: &HostRuntime, names: &Named<'_>, all: bool) -> ExitCode {
     let notes = Notes::new();
     let files = SystemFiles {
         files: rt,
         notes: &notes,
     };
-    let done = audit_files(&files, rt.alloc(), log, archives);
+    if let Some(master) = names.master {
+        if let Err(fault) = check_master(&files, rt.alloc(), names.log, master) {
+            let status = answered(rt, &fault, restore_status(&fault));
+            tell_input(rt, names, &fault, &notes);
+            return status;
+        }
+    }
+    let done = audit_files(&files, rt.alloc(), names.log, names.archives);
     let status = status_of_audit(rt, &done);
     if let Err(fault) = &done {
-        tell_audited(rt, log, archives, fault, &notes);
+        tell_audited(rt, names, fault, &notes);
+        if all {
+            if let Unsound::Unsound(copy, page) = fault {
+                return told_others(rt, &files, names, (*copy, *page), status);
+            }
+        }
     }
     status
+}
+
+/// Tells the other unsound pages, each with the first copy up to which the chain has it so.
+fn told_others(
+    rt: &HostRuntime,
+    files: &SystemFiles<'_, HostRuntime>,
+    names: &Named<'_>,
+    first: (CopyId, PageNo),
+    status: ExitCode,
+) -> ExitCode {
+    let found = match unsound_pages(files, rt.alloc(), names.log, names.archives) {
+        Ok(found) => found,
+        Err(fault) => {
+            let _ = rt.eprintln(&fault);
+            return ExitCode::from(FAULT_STATUS);
+        }
+    };
+    for (copy, page) in found.pages.as_slice() {
+        if (*copy, *page) != first {
+            if let Err(error) = rt.println(&Unsound::Unsound(*copy, *page)) {
+                return told_unprinted(rt, &error);
+            }
+        }
+    }
+    if found.has_more {
+        let _ = eprintln!(rt; "imgcopy: more pages than these are unsound");
+    }
+    status
+}
+
+/// Tells that an answer could not be written to standard output.
+fn told_unprinted(rt: &impl Eprint, error: &io::Error) -> ExitCode
+    ensures { exit_status result ≡ 2 }
+{
+    let _ = eprintln!(rt; "{} 0", FaultName::WriteFault);
+    let _ = eprintln!(rt; "imgcopy: standard output: {error}");
+    ExitCode::from(FAULT_STATUS)
+}
+
+/// Tells an answer on standard output, and answers this status, or that of a fault where the answer
+/// cannot be written.
+fn answered(rt: &(impl Print + Eprint), answer: &impl Display, status: u8) -> ExitCode
+    ensures { (exit_status result ≡ status) ⊎ (exit_status result ≡ 2) }
+{
+    match rt.println(answer) {
+        Ok(()) => ExitCode::from(status),
+        Err(error) => told_unprinted(rt, &error),
+    }
 }
 
 /// Tells on standard output what an audit found, and answers the program's status. Where that
@@ -190,30 +402,25 @@ fn status_of_audit(rt: &(impl Print + Eprint), done: &Result<Sound, Unsound>) ->
     ensures fault { IfErr done.now (λ fault. (exit_status result ≡ status_of_audit fault)
         ⊎ (exit_status result ≡ 2)) }
 {
-    let (line, status) = match done {
-        Ok(Sound) => (println!(rt; "sound"), ExitCode::SUCCESS),
-        Err(fault) => (rt.println(fault), ExitCode::from(audit_status(fault))),
-    };
-    match line {
-        Ok(()) => status,
-        Err(error) => {
-            let _ = eprintln!(rt; "{} 0", FaultName::WriteFault);
-            let _ = eprintln!(rt; "imgcopy: standard output: {error}");
-            ExitCode::from(FAULT_STATUS)
-        }
+    match done {
+        Ok(Sound) => answered(rt, &"sound", 0),
+        Err(fault) => answered(rt, fault, audit_status(fault)),
     }
 }
 
 /// Tells why a script's last restore came to no end, and answers the program's status.
-fn status_of_finish(rt: &impl Eprint, done: &Result<(), FinishFault>) -> ExitCode
-    ensures done { OnOk done.now (exit_status result ≡ 0) }
-    ensures fault { IfErr done.now (λ fault. exit_status result ≡ status_of_finish fault) }
+fn status_of_finish(rt: &impl Eprint, done: &Result<(), FinishFault>) -> u8
+    ensures done { OnOk done.now (result ≡ 0) }
+    ensures fault { IfErr done.now (λ fault. result ≡ status_of_finish fault) }
 {
     match done {
-        Ok(()) => ExitCode::SUCCESS,
+        Ok(()) => 0,
         // Its line is on standard output.
-        Err(FinishFault::Refused(why)) => ExitCode::from(refused_status(why)),
-        Err(fault) => told(rt, fault),
+        Err(FinishFault::Refused(why)) => refused_status(why),
+        Err(fault) => {
+            let _ = rt.eprintln(fault);
+            FAULT_STATUS
+        }
     }
 }
 

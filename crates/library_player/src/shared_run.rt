@@ -7,6 +7,7 @@ use aries_core::{Refusal, Setup};
 use copy_coverage::Retired;
 use copy_vault::{CopyId, CopyKind};
 use engine_run::{MAX_SESSIONS, OpenGate, Session, SettleFault, Shared, Unsettled, Work, settle};
+use log_records::Record;
 use log_store::MemDevice;
 use media_restore::{LoadFault, load};
 use page_core::{Lsn, PageNo, SlotNo, TxnNo};
@@ -161,9 +162,19 @@ fn settled<G: Ledger>(
                 return None;
             }
             *again = true;
-            settle(alloc, sessions, works, shared).ok()
+            settle(alloc, sessions, works, shared.into_shared()).ok()
         }
     }
+}
+
+/// How many transactions the log has: as many as were answered, also where one was refused the
+/// place of its receipt and was begun again.
+fn transactions(retired: &Retired) -> usize {
+    let records = retired.log().records();
+    records
+        .iter()
+        .filter(|record| matches!(record, Record::Begin { .. }))
+        .count()
 }
 
 /// Whether the copy restores the sum; None where a call is refused twice.
@@ -234,6 +245,9 @@ fn run<G: Ledger + Send + Sync, R: Threads + Wait + Sync>(
         works.push(work).ok()?;
     }
     let retired = settled(alloc, sessions, &works, shared, again)?;
+    if transactions(&retired) != ROUNDS as usize {
+        return None;
+    }
     restores(rt, alloc, retired, CopyId(number), again)
 }
 

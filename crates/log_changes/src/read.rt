@@ -2,6 +2,7 @@
 
 ghost use Rattle.std.specs.Prelude.{◌≡◌, [], IfOk, IfErr, IfSome, OnOk};
 ghost use Rattle.std.specs.Io.KnownBytes.{IsAtEnd};
+ghost use Rattle.page_core.specs.Input.{StaysKnown};
 ghost use Rattle.log_history.specs.Linked.{IsLinked};
 ghost use Rattle.log_history.specs.Table.{table_of};
 ghost use Rattle.log_records.specs.Log.{IsLog, Log, SpellsLog};
@@ -23,6 +24,7 @@ pub fn read_changes<R: Read>(
     alloc: Global,
     reader: &mut R,
 ) -> Result<(LogChanges, OpenTransactions), LogReadFault>
+    ensures known { StaysKnown (R.remaining reader.old) (R.remaining reader.new) }
     ensures found { IfOk result (λ it. (log : Log)
         × ((it.0 ≡ kept_of log) × ((it.1 ≡ table_of log.records) × (IsLinked log.records
         × (IsLog log × IfSome (R.remaining reader.old) (SpellsLog log)))))) }

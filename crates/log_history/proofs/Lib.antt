@@ -1,5 +1,6 @@
 pub mod AdderSets
 pub mod Ahead
+pub mod CountsUpTo
 pub mod AtEnd
 pub mod Barred
 pub mod Begun

@@ -1,6 +1,6 @@
 -- What one more record changes in what a log says of its transactions.
 use Rattle.std.proofs.Common.{◌≡◌, ◌≢◌, ℕ, ◌<◌, Bool, true, false, ◌&&◌, ◌||◌, not, eqb, List, [], ◌∷◌, ◌++◌, length}
-use Rattle.std.proofs.Common.{map, slice_get, inl, inr, sym, refl, ap, ap₂, ◌∙◌, ne_eqb, eq-eqb}
+use Rattle.std.proofs.Common.{append_assoc, map, slice_get, inl, inr, sym, refl, ap, ap₂, ◌∙◌, ne_eqb, eq-eqb}
 use Rattle.std.specs.Prelude.{Some, None}
 use Rattle.std.specs.Option.{option_map_or, option_to_list}
 use Rattle.std.specs.List.{filter, list_any}
@@ -12,10 +12,10 @@ use Rattle.log_history.specs.declared.pending_change.PendingChange.{PendingChang
 use Rattle.log_records.specs.declared.record.Record.{Record}
 use Rattle.log_records.specs.declared.record.Record.TheVariants.{Begin}
 use Rattle.log_records.specs.Record.{own_lsn}
-use Rattle.log_history.specs.Transactions.{begun, begun_by, first_lsn, has_aborted, is_abort, is_last, is_open}
-use Rattle.log_history.specs.Transactions.{is_rollback, is_rolling, last_lsn, last_or, open_in, pending, pending_from}
+use Rattle.log_history.specs.Transactions.{begun, begun_by, first_lsn, is_abort, is_last, is_open}
+use Rattle.log_history.specs.Transactions.{is_rolling, last_lsn, last_or, open_in, pending, pending_from}
 use Rattle.log_history.specs.Transactions.{records_of, txn_of, with_pending}
-use Rattle.log_history.specs.Work.{call_of, work}
+use Rattle.log_history.specs.Work.{call_of, work, work_from}
 use Rattle.log_history.proofs.Filters.{filter-filter, filter_agree_but, filter_map_push, filter_push_in}
 use Rattle.log_history.proofs.Filters.{filter_push_out, first_push, list_any_push}
 
@@ -62,12 +62,8 @@ pub any_push : (p : Record → Bool) (rs : List Record) (r : Record) (t : ℕ) �
 any_push p rs r t same = ap (list_any p) (records_of_push_own rs r t same) ∙ list_any_push p (records_of rs t) r
 
 pub is_rolling_push : (rs : List Record) (r : Record) (t : ℕ) → txn_of r ≡ t
-    → is_rolling (rs ++ r ∷ []) t ≡ (is_rolling rs t || is_rollback r)
-is_rolling_push = any_push is_rollback
-
-pub has_aborted_push : (rs : List Record) (r : Record) (t : ℕ) → txn_of r ≡ t
-    → has_aborted (rs ++ r ∷ []) t ≡ (has_aborted rs t || is_abort r)
-has_aborted_push = any_push is_abort
+    → is_rolling (rs ++ r ∷ []) t ≡ (is_rolling rs t || is_abort r)
+is_rolling_push = any_push is_abort
 
 -- ---- which transactions began
 
@@ -179,5 +175,17 @@ open_in_push_last rs r none last =
 
 -- ---- the calls that it shows
 
-pub work_push : (rs : List Record) (r : Record) → work (rs ++ r ∷ []) ≡ work rs ++ option_to_list (call_of r)
-work_push rs r = filter_map_push call_of rs r
+work_from_push : (before rs : List Record) (r : Record)
+    → work_from before (rs ++ r ∷ []) ≡ work_from before rs ++ option_to_list (call_of (before ++ rs) r)
+work_from_push before [] r =
+    append-nil (option_to_list (call_of before r))
+    ∙ ap (λ xs. option_to_list (call_of xs r)) (sym (append-nil before))
+work_from_push before (x ∷ xs) r =
+    let here = option_to_list (call_of before x) in
+    ap (λ ys. here ++ ys)
+    (work_from_push (before ++ x ∷ []) xs r
+    ∙ ap (λ ys. work_from (before ++ x ∷ []) xs ++ option_to_list (call_of ys r)) (append_assoc before (x ∷ []) xs))
+    ∙ sym (append_assoc here (work_from (before ++ x ∷ []) xs) (option_to_list (call_of (before ++ x ∷ xs) r)))
+
+pub work_push : (rs : List Record) (r : Record) → work (rs ++ r ∷ []) ≡ work rs ++ option_to_list (call_of rs r)
+work_push rs r = work_from_push [] rs r

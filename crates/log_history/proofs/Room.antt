@@ -15,12 +15,12 @@ use Rattle.log_history.specs.declared.pending_change.PendingChange.{PendingChang
 use Rattle.log_records.specs.declared.record.Record.{Record}
 use Rattle.log_records.specs.declared.record.Record.TheVariants.{Begin, Update, Comp, Commit, Abort, End, BeginChkpt}
 use Rattle.log_records.specs.declared.record.Record.TheVariants.{ChkptPages, ChkptTxns, EndChkpt}
-use Rattle.log_history.specs.Transactions.{begun, begun_by, has_aborted, is_abort, is_last, is_open, is_rollback}
+use Rattle.log_history.specs.Transactions.{begun, begun_by, is_abort, is_last, is_open, is_rolling}
 use Rattle.log_history.specs.Transactions.{last_of, open_in, owed, owed_by, pending, pending_from, records_of, txn_of}
 use Rattle.log_history.specs.Transactions.{with_pending, without_last}
 use Rattle.log_history.specs.Linked.{IsLinked, MayFollow}
 use Rattle.log_history.proofs.Filters.{filter-filter, map_agree_but}
-use Rattle.log_history.proofs.Pushes.{has_aborted_push, has_begun, open_in_push_begin, open_in_push_last}
+use Rattle.log_history.proofs.Pushes.{has_begun, is_rolling_push, open_in_push_begin, open_in_push_last}
 use Rattle.log_history.proofs.Pushes.{open_in_push_same, pending_push, records_of_push_other, records_of_push_own}
 use Rattle.log_history.proofs.Begun.{begun_bounds, begun_is, next_is_new, none_before_begin, open_has_begun}
 use Rattle.log_history.proofs.Begun.{zero_not_open}
@@ -90,18 +90,18 @@ unfolding owed_by_from
 owed_by_push_other rs r t other = ap owed_by_from (records_of_push_other rs r t (λ same. other (sym same)))
 
 owed_by_push_own : (rs : List Record) (r : Record) (t : ℕ) → txn_of r ≡ t
-    → owed_by (rs ++ r ∷ []) t ≡ length (with_pending (pending rs t) r) + cond (has_aborted rs t || is_abort r) 1 2
+    → owed_by (rs ++ r ∷ []) t ≡ length (with_pending (pending rs t) r) + cond (is_rolling rs t || is_abort r) 1 2
 owed_by_push_own rs r t same =
-    ap₂ (λ ps b. length ps + cond b 1 2) (pending_push rs r t same) (has_aborted_push rs r t same)
+    ap₂ (λ ps b. length ps + cond b 1 2) (pending_push rs r t same) (is_rolling_push rs r t same)
 
 -- a record that is no Abort
 owed_by_push_kept : (rs : List Record) (r : Record) (t : ℕ) → txn_of r ≡ t → is_abort r ≡ false
-    → owed_by (rs ++ r ∷ []) t ≡ length (with_pending (pending rs t) r) + cond (has_aborted rs t) 1 2
+    → owed_by (rs ++ r ∷ []) t ≡ length (with_pending (pending rs t) r) + cond (is_rolling rs t) 1 2
 owed_by_push_kept rs r t same other =
     owed_by_push_own rs r t same
     ∙ ap
     (λ b. length (with_pending (pending rs t) r) + cond b 1 2)
-    (ap (λ b. has_aborted rs t || b) other ∙ or-false (has_aborted rs t))
+    (ap (λ b. is_rolling rs t || b) other ∙ or-false (is_rolling rs t))
 
 -- ---- what is owed after one more record
 
@@ -152,17 +152,6 @@ length-without_last : (changes : List PendingChange) → 0 < length changes
 length-without_last changes some =
     omega (arith, length-take-le (length changes - 1) changes (omega arith))
 
--- what shows no rollback is no Abort
-no_abort : (xs : List Record) → list_any is_rollback xs ≡ false → list_any is_abort xs ≡ false
-no_abort [] none = refl
-no_abort (x ∷ xs) none =
-    let parts = or_parts (is_rollback x) (list_any is_rollback xs) none in
-    or_from (is_abort x) (list_any is_abort xs) (not_abort x parts.0) (no_abort xs parts.1)
-  where
-    not_abort : (r : Record) → is_rollback r ≡ false → is_abort r ≡ false
-    not_abort (Abort lsn t prev) other = other
-    not_abort r other = refl
-
 -- ---- records and what is owed: a Begin needs room for three, an Update for two, a checkpoint's record for itself,
 -- and no other record needs any
 
@@ -203,9 +192,8 @@ pub claimed_abort : (rs : List Record) (lsn t prev : ℕ) → IsLinked rs → Ma
     → claimed (rs ++ Abort lsn t prev ∷ []) ≡ claimed rs
 claimed_abort rs lsn t prev linked may =
     let r = Abort lsn t prev in
-    let not_yet : has_aborted rs t ≡ false = no_abort (records_of rs t) may.active in
-    let before : owed_by rs t ≡ length (pending rs t) + 2 = ap (λ b. length (pending rs t) + cond b 1 2) not_yet in
-    let after = owed_by_push_own rs r t refl ∙ ap (λ b. length (pending rs t) + cond (b || true) 1 2) not_yet in
+    let before : owed_by rs t ≡ length (pending rs t) + 2 = ap (λ b. length (pending rs t) + cond b 1 2) may.active in
+    let after = owed_by_push_own rs r t refl ∙ ap (λ b. length (pending rs t) + cond (b || true) 1 2) may.active in
     let step = owed_push rs r linked refl refl may.goes_on.still_open in
     omega (arith, step, before, after, length_push rs r)
 
@@ -213,8 +201,7 @@ pub claimed_commit : (rs : List Record) (lsn t prev : ℕ) → IsLinked rs → M
     → claimed (rs ++ Commit lsn t prev ∷ []) + length (pending rs t) + 1 ≡ claimed rs
 claimed_commit rs lsn t prev linked may =
     let r = Commit lsn t prev in
-    let not_yet : has_aborted rs t ≡ false = no_abort (records_of rs t) may.active in
-    let before : owed_by rs t ≡ length (pending rs t) + 2 = ap (λ b. length (pending rs t) + cond b 1 2) not_yet in
+    let before : owed_by rs t ≡ length (pending rs t) + 2 = ap (λ b. length (pending rs t) + cond b 1 2) may.active in
     let step = owed_push_last rs r linked refl refl may.goes_on.still_open in
     omega (arith, step, before, length_push rs r)
 
@@ -224,7 +211,7 @@ claimed_end rs lsn t prev linked may =
     let r = End lsn t prev in
     let one : (b : Bool) → 1 ≤ cond b 1 2 = elim [ true ↦ omega arith | false ↦ omega arith ] in
     let step = owed_push_last rs r linked refl refl may.0.still_open in
-    omega (arith, step, one (has_aborted rs t), length_push rs r)
+    omega (arith, step, one (is_rolling rs t), length_push rs r)
 
 -- a record of no transaction
 pub claimed_aside : (rs : List Record) (r : Record) → IsLinked rs → begun_by r ≡ None → is_last r ≡ false → txn_of r ≡ 0

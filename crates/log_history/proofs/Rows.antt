@@ -1,5 +1,5 @@
 -- The definitions on worked logs: what they compute to.
-use Rattle.std.proofs.Common.{◌≡◌, zero, suc, ◌-◌, ◌^◌, List, [], ◌∷◌, ◌++◌, take, map, refl, arith, ℕ, lit<, lit≤}
+use Rattle.std.proofs.Common.{◌≡◌, zero, suc, false, ◌-◌, ◌^◌, List, [], ◌∷◌, ◌++◌, take, map, refl, arith, ℕ, lit<, lit≤}
 use Rattle.std.specs.Prelude.{Some, None, Contains}
 use Rattle.page_core.specs.declared.change.Change.TheVariants.{Set, Add}
 use Rattle.page_core.specs.declared.change.ChangeKind.TheVariants as kind
@@ -14,10 +14,11 @@ use Rattle.log_records.specs.declared.txn_phase.TxnPhase.{TxnPhase}
 use Rattle.log_records.specs.declared.txn_phase.TxnPhase.TheVariants.{Active, Rolling}
 use Rattle.log_history.specs.Checkpoint.{open_checkpoint, redo_point}
 use Rattle.std.specs.Option.{option_map}
-use Rattle.log_history.specs.Transactions.{begun, holder, open_in, owed, pending}
+use Rattle.log_history.specs.Transactions.{begun, holder, is_rolling, open_in, owed, pending}
 use Rattle.log_history.specs.Linked.{HasOldTxns, IsLinked, MayFollow, number_in}
 use Rattle.log_history.specs.Committed.{committed}
-use Rattle.log_history.specs.Work.{AbortCall, AddCall, BeginCall, CommitCall, SetCall, UndoCall, work}
+use Rattle.log_history.specs.Savepoints.{savepoint}
+use Rattle.log_history.specs.Work.{AbortCall, AddCall, BeginCall, CommitCall, SetCall, UndoCall, UndoToCall, work}
 
 -- ---- a transaction that commits
 
@@ -133,6 +134,65 @@ aborting_is_linked (suc (suc (suc (suc (suc zero))))) d lt = (
 )
 aborting_is_linked (suc (suc (suc (suc (suc (suc zero)))))) d lt = (record { still_open = refl; chained = refl }, refl)
 aborting_is_linked (suc (suc (suc (suc (suc (suc (suc i))))))) d lt = absurd (omega arith)
+
+-- ---- a transaction that takes its last change back, and goes on
+
+abbrev going_back : List Record
+going_back =
+    Begin 64 1
+    ∷ Update 128 1 64 0 0 (Add 5)
+    ∷ Update 192 1 128 0 0 (Add 7)
+    ∷ Comp 256 1 192 128 0 0 (Add (2 ^ 64 - 7))
+    ∷ Update 320 1 256 0 1 (Set 0 9)
+    ∷ Commit 384 1 320
+    ∷ []
+
+abbrev gone_back : List Record
+gone_back = take 5 going_back
+
+still_active : is_rolling gone_back 1 ≡ false
+still_active = refl
+
+calls_of_going_back : work going_back
+    ≡ BeginCall 1 ∷ AddCall 1 0 0 5 ∷ AddCall 1 0 0 7 ∷ UndoToCall 1 ∷ SetCall 1 0 1 9 ∷ CommitCall 1 ∷ []
+calls_of_going_back = refl
+
+owed_on_the_way : map (λ n. owed (take n going_back)) (1 ∷ 2 ∷ 3 ∷ 4 ∷ 5 ∷ 6 ∷ []) ≡ 2 ∷ 3 ∷ 4 ∷ 3 ∷ 4 ∷ 0 ∷ []
+owed_on_the_way = refl
+
+what_stays_is_committed : map (committed going_back 0) (0 ∷ 1 ∷ []) ≡ 5 ∷ 9 ∷ []
+what_stays_is_committed = refl
+
+-- it may go back to each of its records but the Update that was taken back
+savepoints_of_it : map (savepoint gone_back 1) (64 ∷ 128 ∷ 192 ∷ 256 ∷ 320 ∷ 384 ∷ [])
+    ≡ Some 0 ∷ Some 1 ∷ None ∷ Some 1 ∷ Some 2 ∷ None ∷ []
+savepoints_of_it = refl
+
+pub going_back_is_linked : IsLinked going_back
+unfolding formatted
+going_back_is_linked zero d lt = record { next = refl; room = lit< tt }
+going_back_is_linked (suc zero) d lt = record {
+  active = record { goes_on = record { still_open = refl; chained = refl }; active = refl };
+  free = refl;
+  replaces = tt;
+}
+going_back_is_linked (suc (suc zero)) d lt = record {
+  active = record { goes_on = record { still_open = refl; chained = refl }; active = refl };
+  free = refl;
+  replaces = tt;
+}
+going_back_is_linked (suc (suc (suc zero))) d lt = (
+  record { still_open = refl; chained = refl },
+  record { next = refl; same_page = refl; same_slot = refl; undoes = refl },
+)
+going_back_is_linked (suc (suc (suc (suc zero)))) d lt = record {
+  active = record { goes_on = record { still_open = refl; chained = refl }; active = refl };
+  free = refl;
+  replaces = refl;
+}
+going_back_is_linked (suc (suc (suc (suc (suc zero))))) d lt =
+    record { goes_on = record { still_open = refl; chained = refl }; active = refl }
+going_back_is_linked (suc (suc (suc (suc (suc (suc i)))))) d lt = absurd (omega arith)
 
 -- ---- two transactions on one slot
 

@@ -15,13 +15,13 @@ use Rattle.log_records.specs.declared.record.Record.{Record}
 use Rattle.log_records.specs.declared.record.Record.TheVariants.{Begin, Update, Comp, Commit, Abort, End, BeginChkpt}
 use Rattle.log_records.specs.declared.record.Record.TheVariants.{ChkptPages, ChkptTxns, EndChkpt}
 use Rattle.log_records.specs.Record.{IsOfTransaction, own_lsn}
-use Rattle.log_history.specs.Transactions.{begun, begun_by, first_lsn, has_aborted, is_abort, is_last, is_open}
-use Rattle.log_history.specs.Transactions.{is_rollback, is_rolling, last_or, open_in, pending, pending_from, records_of}
+use Rattle.log_history.specs.Transactions.{begun, begun_by, first_lsn, is_abort, is_last, is_open}
+use Rattle.log_history.specs.Transactions.{is_rolling, last_or, open_in, pending, pending_from, records_of}
 use Rattle.log_history.specs.Transactions.{txn_of, with_pending}
 use Rattle.log_history.specs.Linked.{IsLinked, MayFollow}
 use Rattle.log_history.specs.Table.{Entry, entry_after, entry_of, noted, table_of, with_entry, without_entry}
 use Rattle.log_history.proofs.Filters.{filter-map, map_agree_but}
-use Rattle.log_history.proofs.Pushes.{begun_push, begun_push_none, first_lsn_push, has_aborted_push, has_begun}
+use Rattle.log_history.proofs.Pushes.{begun_push, begun_push_none, first_lsn_push, has_begun}
 use Rattle.log_history.proofs.Pushes.{is_rolling_push, last_lsn_push, open_in_push_begin, open_in_push_last}
 use Rattle.log_history.proofs.Pushes.{open_in_push_same, pending_push, records_of_push_other, records_of_push_own}
 use Rattle.log_history.proofs.Begun.{next_is_new, none_before_begin, open_has_begun, some_from_begin, zero_not_open}
@@ -34,8 +34,7 @@ entry_from t xs = record {
   txn = t;
   first = option_map_or own_lsn (slice_get xs 0) 0;
   last = last_or 0 (map own_lsn xs);
-  rolling = list_any is_rollback xs;
-  aborted = list_any is_abort xs;
+  rolling = list_any is_abort xs;
   pending = pending_from [] xs;
 }
 
@@ -49,8 +48,7 @@ grown rs r t = record {
   txn = t;
   first = first_lsn rs t;
   last = own_lsn r;
-  rolling = is_rolling rs t || is_rollback r;
-  aborted = has_aborted rs t || is_abort r;
+  rolling = is_rolling rs t || is_abort r;
   pending = with_pending (pending rs t) r;
 }
 
@@ -61,7 +59,6 @@ entry_of_push_own rs r t same some = λ i. record {
   first = first_lsn_push rs r t same some i;
   last = last_lsn_push rs r t same i;
   rolling = is_rolling_push rs r t same i;
-  aborted = has_aborted_push rs r t same i;
   pending = pending_push rs r t same i;
 }
 
@@ -73,15 +70,13 @@ grown_is_after rs (Update lsn u prev page slot change) t of none more = λ i. re
   first = first_lsn rs t;
   last = lsn;
   rolling = or-false (is_rolling rs t) i;
-  aborted = or-false (has_aborted rs t) i;
   pending = with_pending (pending rs t) (Update lsn u prev page slot change);
 }
 grown_is_after rs (Comp lsn u prev undo_next page slot change) t of none more = λ i. record {
   txn = t;
   first = first_lsn rs t;
   last = lsn;
-  rolling = or-true (is_rolling rs t) i;
-  aborted = or-false (has_aborted rs t) i;
+  rolling = or-false (is_rolling rs t) i;
   pending = with_pending (pending rs t) (Comp lsn u prev undo_next page slot change);
 }
 grown_is_after rs (Commit lsn u prev) t of none more = cc
@@ -90,7 +85,6 @@ grown_is_after rs (Abort lsn u prev) t of none more = λ i. record {
   first = first_lsn rs t;
   last = lsn;
   rolling = or-true (is_rolling rs t) i;
-  aborted = or-true (has_aborted rs t) i;
   pending = pending rs t;
 }
 grown_is_after rs (End lsn u prev) t of none more = cc

@@ -5,6 +5,7 @@ pub mod Checkpoint
 pub mod CheckpointTable
 pub mod Claims
 pub mod Committed
+pub mod CountUpTo
 pub mod Growth
 pub mod History
 pub mod Linked
@@ -14,6 +15,7 @@ pub mod OpenEntry
 pub mod OpenList
 pub mod OpenTransactions
 pub mod Pending
+pub mod Savepoints
 pub mod SeatSet
 pub mod Table
 pub mod Transactions

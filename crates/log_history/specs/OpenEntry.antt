@@ -23,7 +23,6 @@ entry_view e = record {
   first = e.first;
   last = e.last;
   rolling = e.rolling;
-  aborted = e.aborted;
   pending = changes_of e.pending.items;
 }
 
@@ -34,7 +33,6 @@ pub record IsBegun (e : OpenEntry) (txn seat lsn : ℕ) : Type 0 where
   pub first_is : e.first ≡ lsn
   pub last_is : e.last ≡ lsn
   pub active : e.rolling ≡ false
-  pub not_aborted : e.aborted ≡ false
   pub none_pending : e.pending.items ≡ []
 
 -- what these pending changes keep out of a slot

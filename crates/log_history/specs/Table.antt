@@ -13,18 +13,17 @@ use Rattle.log_records.specs.declared.txn_phase.TxnPhase.{TxnPhase}
 use Rattle.log_records.specs.declared.txn_phase.TxnPhase.TheVariants.{Active, Rolling}
 use Rattle.std.specs.Option.{option_map_or}
 use Rattle.log_history.specs.Linked.{Compensates}
-use Rattle.log_history.specs.Transactions.{begun, first_lsn, has_aborted, is_rolling, keeps_out}
+use Rattle.log_history.specs.Transactions.{begun, first_lsn, is_rolling, keeps_out}
 use Rattle.log_history.specs.Transactions.{last_lsn, last_of, open_in, pending, with_pending}
 use Rattle.log_records.specs.Least.{least}
 
 -- an open transaction: the LSNs of its Begin and of its last record, whether it is rolling back,
--- whether it aborted, and its pending changes
+-- and its pending changes
 pub record Entry : Type 0 where
   pub txn : ℕ
   pub first : ℕ
   pub last : ℕ
   pub rolling : Bool
-  pub aborted : Bool
   pub pending : List PendingChange
 
 -- how many transactions began, and the open ones, the first that began first
@@ -40,7 +39,6 @@ entry_of rs t = record {
   first = first_lsn rs t;
   last = last_lsn rs t;
   rolling = is_rolling rs t;
-  aborted = has_aborted rs t;
   pending = pending rs t;
 }
 
@@ -60,7 +58,7 @@ holder_in table page slot kind t =
     (λ e. not (e.txn == t) && list_any (keeps_out page slot kind) e.pending) table.entries))
 
 abbrev pub owed_by_entry : Entry → ℕ
-owed_by_entry e = length e.pending + (if e.aborted then 1 else 2)
+owed_by_entry e = length e.pending + (if e.rolling then 1 else 2)
 
 abbrev pub owed_in : Table → ℕ
 owed_in table = sum_by owed_by_entry table.entries
@@ -110,10 +108,9 @@ entry_after e (Update lsn txn prev page slot change) = record e {
 }
 entry_after e (Comp lsn txn prev undo_next page slot change) = record e {
   last = lsn;
-  rolling = true;
   pending = with_pending e.pending (Comp lsn txn prev undo_next page slot change);
 }
-entry_after e (Abort lsn txn prev) = record e { last = lsn; rolling = true; aborted = true }
+entry_after e (Abort lsn txn prev) = record e { last = lsn; rolling = true }
 entry_after e other = e
 
 abbrev pub with_entry : Table → ℕ → Record → Table
@@ -133,8 +130,6 @@ noted table (Begin lsn txn) = record {
     first = lsn;
     last = lsn;
     rolling = false;
-    aborted =
-        false;
     pending = [];
   } ∷ [];
 }

@@ -37,16 +37,10 @@ is_last (Commit lsn txn prev) = true
 is_last (End lsn txn prev) = true
 is_last other = false
 
--- a record says that its transaction takes its changes back
+-- a record says that its transaction takes all its changes back, and ends
 abbrev pub is_abort : Record → Bool
 is_abort (Abort lsn txn prev) = true
 is_abort other = false
-
--- a record shows that its transaction takes its changes back
-abbrev pub is_rollback : Record → Bool
-is_rollback (Abort lsn txn prev) = true
-is_rollback (Comp lsn txn prev undo_next page slot change) = true
-is_rollback other = false
 
 -- the records of a transaction
 abbrev pub records_of : List Record → ℕ → List Record
@@ -63,12 +57,9 @@ is_open rs t = list_any (λ b. b == t) (begun rs) && not (list_any is_last (reco
 abbrev pub open_in : List Record → List ℕ
 open_in rs = filter (is_open rs) (begun rs)
 
--- a transaction that aborted, and one that is rolling back
-abbrev pub has_aborted : List Record → ℕ → Bool
-has_aborted rs t = list_any is_abort (records_of rs t)
-
+-- a transaction is rolling back from its Abort on; a Comp alone takes back a change, and no more
 abbrev pub is_rolling : List Record → ℕ → Bool
-is_rolling rs t = list_any is_rollback (records_of rs t)
+is_rolling rs t = list_any is_abort (records_of rs t)
 
 -- the last of a list, or what stands in for it
 abbrev pub last_or : {X : Type 0} → X → List X → X
@@ -140,7 +131,7 @@ holder rs page slot kind t =
 -- the records that an open transaction may still need: one for each pending change, its Abort, and
 -- its last one
 abbrev pub owed_by : List Record → ℕ → ℕ
-owed_by rs t = length (pending rs t) + (if has_aborted rs t then 1 else 2)
+owed_by rs t = length (pending rs t) + (if is_rolling rs t then 1 else 2)
 
 abbrev pub owed : List Record → ℕ
 owed rs = sum_by (owed_by rs) (open_in rs)

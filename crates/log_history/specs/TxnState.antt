@@ -11,7 +11,6 @@ state_of e = record {
   first = e.first;
   last = e.last;
   rolling = e.rolling;
-  aborted = e.aborted;
   pending = length e.pending;
 }
 

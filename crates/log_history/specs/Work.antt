@@ -1,11 +1,12 @@
 -- The log read back as the calls that wrote it.
-use Rattle.std.specs.Prelude.{ℕ, List, Option, Some, None}
-use Rattle.std.specs.List.{filter_map}
+use Rattle.std.specs.Prelude.{ℕ, ◌++◌, List, [], ◌∷◌, Option, Some, None, if◌then◌else◌}
+use Rattle.std.specs.Option.{option_to_list}
 use Rattle.page_core.specs.declared.change.Change.{Change}
 use Rattle.page_core.specs.declared.change.Change.TheVariants.{Set, Add}
 use Rattle.log_records.specs.declared.record.Record.{Record}
 use Rattle.log_records.specs.declared.record.Record.TheVariants.{Begin, Update, Comp, Commit, Abort}
 use Rattle.log_records.specs.declared.record.Record.TheVariants.{End}
+use Rattle.log_history.specs.Transactions.{is_rolling}
 
 -- a call that a log shows: a begin with the number that it answered, and a Set without the number
 -- that it replaced
@@ -14,6 +15,7 @@ pub data Call : Type 0 where
   SetCall : (txn page slot number : ℕ) → Call
   AddCall : (txn page slot amount : ℕ) → Call
   UndoCall : (txn : ℕ) → Call
+  UndoToCall : (txn : ℕ) → Call
   CommitCall : (txn : ℕ) → Call
   AbortCall : (txn : ℕ) → Call
 
@@ -21,17 +23,24 @@ abbrev pub change_call : ℕ → ℕ → ℕ → Change → Call
 change_call txn page slot (Set before after) = SetCall txn page slot after
 change_call txn page slot (Add amount) = AddCall txn page slot amount
 
--- the call that a record shows; a Comp and an End are steps of an undo, and a checkpoint's record
--- shows none
-abbrev pub call_of : Record → Option Call
-call_of (Begin lsn txn) = Some (BeginCall txn)
-call_of (Update lsn txn prev page slot change) = Some (change_call txn page slot change)
-call_of (Comp lsn txn prev undo_next page slot change) = Some (UndoCall txn)
-call_of (Commit lsn txn prev) = Some (CommitCall txn)
-call_of (Abort lsn txn prev) = Some (AbortCall txn)
-call_of (End lsn txn prev) = Some (UndoCall txn)
-call_of of_checkpoint = None
+-- the call that a record shows behind these. A Comp of a transaction that rolls back is a step of
+-- its rollback, as its End is; any other one goes back to a savepoint. A checkpoint's record shows
+-- none
+abbrev pub call_of : List Record → Record → Option Call
+call_of before (Begin lsn txn) = Some (BeginCall txn)
+call_of before (Update lsn txn prev page slot change) = Some (change_call txn page slot change)
+call_of before (Comp lsn txn prev undo_next page slot change) =
+    Some (if is_rolling before txn then UndoCall txn else UndoToCall txn)
+call_of before (Commit lsn txn prev) = Some (CommitCall txn)
+call_of before (Abort lsn txn prev) = Some (AbortCall txn)
+call_of before (End lsn txn prev) = Some (UndoCall txn)
+call_of before of_checkpoint = None
 
--- the calls that the log shows, in order
+abbrev pub work_from : List Record → List Record → List Call
+work_from before [] = []
+work_from before (r ∷ rs) =
+    option_to_list (call_of before r) ++ work_from (before ++ r ∷ []) rs
+
+-- the calls that the log shows, in order: each record is read with those before it
 abbrev pub work : List Record → List Call
-work rs = filter_map call_of rs
+work rs = work_from [] rs

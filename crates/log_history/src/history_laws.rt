@@ -66,10 +66,11 @@ pub fn tables_say_what_logs_say()
     ensures rooms { (rs : List Record) → owed_in (table_of rs) ≡ owed rs }
 {}
 
-/// A log with one more record shows the calls that it showed, and the one that the record shows.
+/// A log with one more record shows the calls that it showed, and the one that the record shows
+/// behind it.
 pub fn work_grows_call_by_call()
     ensures { (rs : List Record) (r : Record)
-        → work (rs ++ r ∷ []) ≡ work rs ++ option_to_list (call_of r) }
+        → work (rs ++ r ∷ []) ≡ work rs ++ option_to_list (call_of rs r) }
 {}
 
 /// In a linked log each slot has the committed number, with the pending changes of the open

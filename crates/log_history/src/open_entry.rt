@@ -2,6 +2,7 @@
 
 ghost use Rattle.std.specs.Prelude.{ℕ, ◌≡◌, ◌<◌, ◌↔◌, [], IfOk, IsSomeAnd, IsTrue, OnErr};
 ghost use Rattle.log_history.specs.declared.claims.Claims.{Claims};
+ghost use Rattle.log_history.specs.CountUpTo.{IsCountUpTo};
 ghost use Rattle.log_history.specs.Ahead.{entry_back, entry_with_before, last_with_before};
 ghost use Rattle.log_history.specs.Linked.{Compensates};
 ghost use Rattle.log_history.specs.OpenEntry.{IsBegun, IsHeld, KeepsOtherSeats, Pushes};
@@ -25,7 +26,6 @@ pub struct OpenEntry {
     pub first: Lsn,
     pub last: Lsn,
     pub rolling: bool,
-    pub aborted: bool,
     /// The oldest first.
     pub pending: Vec<Pending>,
 }
@@ -96,8 +96,25 @@ fn set_last_before(pending: &mut Vec<Pending>, before: u64)
     }
 }
 
+/// How many pending changes have an LSN up to this one, where their LSNs rise.
+fn count_up_to(pending: &[Pending], lsn: Lsn) -> usize
+    ensures { IsCountUpTo (changes_of pending.now) lsn result }
+{
+    let mut low = 0;
+    let mut high = pending.len();
+    'halves: while low < high {
+        let middle = low + (high - low) / 2;
+        if pending[middle].lsn() <= lsn {
+            low = middle + 1;
+        } else {
+            high = middle;
+        }
+    }
+    low
+}
+
 impl OpenEntry {
-    ghost use Rattle.std.specs.Prelude.{min, true};
+    ghost use Rattle.std.specs.Prelude.{min, slice_get, true};
     ghost use Rattle.log_history.specs.OpenEntry.{IsBegun, KeepsSeat, Updates, entry_view};
     ghost use Rattle.log_history.specs.TxnState.{state_of};
     ghost use Rattle.log_history.specs.Table.{IsActiveEntry, IsChained, owed_by_entry};
@@ -112,7 +129,6 @@ impl OpenEntry {
         self.first = lsn;
         self.last = lsn;
         self.rolling = false;
-        self.aborted = false;
         self.pending.clear();
     }
 
@@ -140,14 +156,12 @@ impl OpenEntry {
         requires held { IsHeld claims.old self.old.seat self.old.pending.items }
         ensures entry { entry_view self.new ≡ record (entry_view self.old) {
           last = lsn;
-          rolling = true;
           pending = without_last (entry_view self.old).pending;
         } }
         ensures kept { KeepsSeat self.old self.new claims.old claims.new }
     {
         pop_pending(&mut self.pending, claims, self.seat);
         self.last = lsn;
-        self.rolling = true;
     }
 
     /// Takes the last change back, as if it had not come: the record before it has this LSN.
@@ -176,14 +190,12 @@ impl OpenEntry {
         ensures entry { entry_view self.new ≡ record (entry_view self.old) {
           last = lsn;
           rolling = true;
-          aborted = true;
         } }
         ensures same { (self.new.seat ≡ self.old.seat)
             × (self.new.pending.items ≡ self.old.pending.items) }
     {
         self.last = lsn;
         self.rolling = true;
-        self.aborted = true;
     }
 
     /// It does not roll back, and this is the LSN of its last record.
@@ -230,7 +242,6 @@ impl OpenEntry {
             first: self.first,
             last: self.last,
             rolling: self.rolling,
-            aborted: self.aborted,
             pending: self.pending.len(),
         }
     }
@@ -239,7 +250,7 @@ impl OpenEntry {
     pub fn owed(&self) -> u64
         ensures { result ≡ min (owed_by_entry (entry_view self.now)) u64.MAX }
     {
-        let last = if self.aborted { 1 } else { 2 };
+        let last = if self.rolling { 1 } else { 2 };
         (self.pending.len() as u64).saturating_add(last)
     }
 
@@ -248,6 +259,20 @@ impl OpenEntry {
         ensures { result ≡ last_of (entry_view self.now).pending }
     {
         self.pending.last().map(|pending| pending.change())
+    }
+
+    /// Its pending change at this place, the oldest at 0.
+    pub fn pending_at(&self, place: usize) -> Option<PendingChange>
+        ensures { result ≡ slice_get (entry_view self.now).pending place }
+    {
+        self.pending.get(place).map(|pending| pending.change())
+    }
+
+    /// How many of its pending changes have an LSN up to this one, where their LSNs rise.
+    pub fn pending_up_to(&self, lsn: Lsn) -> usize
+        ensures { IsCountUpTo (entry_view self.now).pending lsn result }
+    {
+        count_up_to(&self.pending, lsn)
     }
 
     /// The transaction keeps nothing out any more.
@@ -271,7 +296,6 @@ pub fn begun_entry(alloc: Global, txn: TxnNo, seat: u8, lsn: Lsn) -> OpenEntry
         first: lsn,
         last: lsn,
         rolling: false,
-        aborted: false,
         pending: Vec::new(alloc),
     }
 }

@@ -1,9 +1,10 @@
 //! The table of open transactions.
 
 ghost use Rattle.std.specs.Prelude.{ℕ, ◌≡◌, ◌↔◌, min, IfOk, IsTrue, IsSomeAnd, OnOk, OnErr};
-ghost use Rattle.std.specs.Prelude.{MatchOption, IsSome, None, [], length};
+ghost use Rattle.std.specs.Prelude.{MatchOption, IfSome, IsSome, None, [], length, slice_get};
 ghost use Rattle.std.specs.Option.{option_and_then, option_map};
 ghost use Rattle.log_history.specs.Ahead.{entry_back, entry_with_before, with_changed};
+ghost use Rattle.log_history.specs.CountUpTo.{IsCountUpTo};
 ghost use Rattle.log_history.specs.Growth.{MayGrow};
 ghost use Rattle.log_history.specs.Linked.{Compensates};
 ghost use Rattle.log_history.specs.CheckpointTable.{HasOldEntries};
@@ -110,6 +111,29 @@ impl OpenTransactions {
         match self.list.seat_of(txn) {
             Some(seat) => self.list.seats[seat as usize].last_pending(),
             None => None,
+        }
+    }
+
+    /// The pending change of an open transaction at this place, the oldest at 0; None where there is
+    /// none.
+    pub fn pending_at(&self, txn: TxnNo, place: usize) -> Option<PendingChange>
+        ensures { MatchOption (entry_in self.now txn) (result ≡ None)
+            (λ e. result ≡ slice_get e.pending place) }
+    {
+        match self.list.seat_of(txn) {
+            Some(seat) => self.list.seats[seat as usize].pending_at(place),
+            None => None,
+        }
+    }
+
+    /// How many pending changes of an open transaction have an LSN up to this one, where their LSNs
+    /// rise. The time is logarithmic in their number.
+    pub fn pending_up_to(&self, txn: TxnNo, lsn: Lsn) -> usize
+        ensures { IfSome (entry_in self.now txn) (λ e. IsCountUpTo e.pending lsn result) }
+    {
+        match self.list.seat_of(txn) {
+            Some(seat) => self.list.seats[seat as usize].pending_up_to(lsn),
+            None => 0,
         }
     }
 

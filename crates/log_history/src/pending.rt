@@ -102,6 +102,13 @@ impl Pending {
         }
     }
 
+    /// The LSN of its Update.
+    pub fn lsn(&self) -> Lsn
+        ensures { result ≡ self.now.change.lsn }
+    {
+        self.lsn
+    }
+
     /// The change.
     #[inline(always)]
     pub fn change(&self) -> PendingChange

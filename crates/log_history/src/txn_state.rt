@@ -11,10 +11,8 @@ pub struct TxnState {
     pub first: Lsn,
     /// The LSN of its last record.
     pub last: Lsn,
-    /// It takes its changes back: it has an Abort or a compensation record.
+    /// It takes all its changes back: it has an Abort.
     pub rolling: bool,
-    /// It has an Abort.
-    pub aborted: bool,
     /// How many of its changes are pending.
     pub pending: usize,
 }

@@ -2,15 +2,14 @@
 
 ghost use Rattle.std.specs.Prelude.{ℕ, ◌≡◌, [], List, IfOk, IfErr, IfSome, OnOk, MatchResult, Some};
 ghost use Rattle.std.specs.Io.KnownBytes.{IsAtEnd};
+ghost use Rattle.page_core.specs.Input.{StaysKnown};
 ghost use Rattle.log_history.specs.Linked.{IsLinked};
-ghost use Rattle.log_history.specs.Table.{table_of};
 ghost use Rattle.log_records.specs.Log.{Log, SpellsLog};
 ghost use Rattle.log_store.specs.Fault.{Refuses, IsOutside, GaveNoFault};
 
 use crate::fault::LogReadFault;
 use crate::log_image::LogImage;
 use crate::scan::scan_log;
-use log_history::OpenTransactions;
 use std::alloc::Global;
 use std::io::Read;
 
@@ -18,6 +17,7 @@ use std::io::Read;
 ///
 /// The faults, and where the reader stands after one, are those of `scan_log`.
 pub fn read_log<R: Read>(alloc: Global, reader: &mut R) -> Result<LogImage, LogReadFault>
+    ensures known { StaysKnown (R.remaining reader.old) (R.remaining reader.new) }
     // What is read is spelled so, and nothing follows it.
     ensures found { IfOk result (λ log. IfSome (R.remaining reader.old) (SpellsLog log)) }
     ensures linked { IfOk result (λ log. IsLinked log.records) }
@@ -34,27 +34,4 @@ pub fn read_log<R: Read>(alloc: Global, reader: &mut R) -> Result<LogImage, LogR
         (R.remaining reader.new)) }
 {
     Ok(scan_log::<R, LogImage>(alloc, reader)?.sink)
-}
-
-/// Reads a whole log, to the input's end, and answers the transactions that are open at its end,
-/// too, with their pending changes: reading has made them, since they decide what may follow.
-///
-/// The faults, and where the reader stands after one, are those of `scan_log`.
-pub fn read_log_with_open<R: Read>(
-    alloc: Global,
-    reader: &mut R,
-) -> Result<(LogImage, OpenTransactions), LogReadFault>
-    ensures found { IfOk result (λ it. IfSome (R.remaining reader.old) (SpellsLog it.0)) }
-    ensures linked { IfOk result (λ it. IsLinked it.0.records) }
-    ensures open { IfOk result (λ it. it.1 ≡ table_of it.0.records) }
-    ensures end { OnOk result (IsAtEnd (R.remaining reader.new)) }
-    // The fault is the first one.
-    ensures first { IfErr result (λ fault. IfSome (R.remaining reader.old)
-        (λ input. Refuses input fault)) }
-    // Where the reader failed, what it gave until then holds none.
-    ensures unread { IfErr result (GaveNoFault [] (R.remaining reader.old)
-        (R.remaining reader.new)) }
-{
-    let scan = scan_log::<R, LogImage>(alloc, reader)?;
-    Ok((scan.sink, scan.history.into_open()))
 }

@@ -3,6 +3,7 @@
 ghost use Rattle.std.specs.Prelude.{ℕ, ◌≡◌, ◌+◌, ◌*◌, ◌/◌, ◌<◌, ◌≤◌, ◌++◌, ◌-◌, [], List};
 ghost use Rattle.std.specs.Prelude.{length, take, drop, IfOk, IfErr, IfSome, OnOk};
 ghost use Rattle.std.specs.Io.KnownBytes.{Consumes, IsAtEnd};
+ghost use Rattle.page_core.specs.Input.{StaysKnown};
 ghost use Rattle.log_history.specs.History.{IsMadeOf};
 ghost use Rattle.log_history.specs.Linked.{IsLinked};
 ghost use Rattle.log_records.specs.Log.{IsLog, Log, SpellsLog, header_bytes};
@@ -108,6 +109,7 @@ fn take_records<S: RecordSink>(
 /// Reads the header, and answers how many turns that took.
 fn read_header<R: Read>(reader: &mut R, header: &mut [u8]) -> Result<u32, LogReadFault>
     requires { length header.old ≡ HEADER_BYTES }
+    ensures known { StaysKnown (R.remaining reader.old) (R.remaining reader.new) }
     ensures ok { OnOk result (Consumes (R.remaining reader.old)
         (R.remaining reader.new) header.new) }
     ensures turns { IfOk result (λ turns. turns ≤ MAX_TURNS) }
@@ -140,6 +142,7 @@ fn read_records<R: Read, S: RecordSink>(
 ) -> Result<(), LogReadFault>
     requires room { 128 ≤ length buffer.old }
     requires taken { HasTaken S.holds scan.old.sink scan.old.history pages 0 (header_bytes pages) }
+    ensures known { StaysKnown (R.remaining reader.old) (R.remaining reader.new) }
     ensures end { OnOk result (IsAtEnd (R.remaining reader.new)) }
     ensures found { OnOk result ((read : List ℕ)
         × (Consumes (R.remaining reader.old) (R.remaining reader.new) read
@@ -206,6 +209,7 @@ pub fn scan_log<R: Read, S: RecordSink + Drop>(
     alloc: Global,
     reader: &mut R,
 ) -> Result<Scan<S>, LogReadFault>
+    ensures known { StaysKnown (R.remaining reader.old) (R.remaining reader.new) }
     // The input spells a linked log, and these are what the sink and the history make of it.
     ensures found { IfOk result (λ scan. (log : Log)
         × (S.holds scan.sink log × (IsMadeOf log scan.history × (IsLinked log.records

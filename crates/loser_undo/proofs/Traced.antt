@@ -1,7 +1,9 @@
 -- What the records of an open transaction tell of it, from its last one back.
 use Rattle.std.proofs.Common.{◌≡◌, ℕ, ◌-◌, ◌<◌, Bool, true, false, ◌&&◌, ◌||◌, not, List, [], ◌∷◌, ◌++◌}
 use Rattle.std.proofs.Common.{append_assoc, get_or, length, sym, refl, ap, subst, subst₂, ◌∙◌, inl, inr, arith, true≢false}
-use Rattle.std.specs.Prelude.{Some, None, IsSomeAnd, reverse}
+use Rattle.std.specs.Prelude.{Option, Some, None, IsSomeAnd, reverse}
+use Rattle.std.specs.List.{cons_option, filter_map}
+use Rattle.std.specs.Option.{option_to_list}
 use Rattle.std.proofs.lemmas.Bool.{cases_eq}
 use Rattle.std.proofs.lemmas.List.{append-nil, get_or_append_left, get_or_push, length_push}
 use Rattle.std.proofs.lemmas.Option.{same_Some, slice_get-get_or}
@@ -16,14 +18,14 @@ use Rattle.log_records.specs.Record.{own_lsn}
 use Rattle.log_history.specs.declared.pending_change.PendingChange.{PendingChange}
 use Rattle.log_history.specs.Linked.{Compensates, GoesOn, IsActive, IsLinked, MayFollow}
 use Rattle.log_history.specs.Table.{Entry, entry_of}
-use Rattle.log_history.specs.Transactions.{begun_by, first_lsn, has_aborted, is_abort, is_last, is_open, is_rollback}
-use Rattle.log_history.specs.Transactions.{is_rolling, last_lsn, last_of, pending, records_of, txn_of, with_pending, without_last}
+use Rattle.log_history.specs.Transactions.{begun_by, first_lsn, is_abort, is_last, is_open, is_rolling}
+use Rattle.log_history.specs.Transactions.{last_lsn, last_of, pending, records_of, txn_of, with_pending, without_last}
 use Rattle.log_history.proofs.Begun.{next_is_new, none_before_begin, open_has_begun, some_from_begin, zero_not_open}
 use Rattle.log_history.proofs.Histories.{along_linked, linked_push}
-use Rattle.log_history.proofs.Pushes.{first_lsn_push, has_aborted_push, is_open_push_other, is_open_push_own}
+use Rattle.log_history.proofs.Pushes.{first_lsn_push, is_open_push_other, is_open_push_own}
 use Rattle.log_history.proofs.Pushes.{is_rolling_push, last_lsn_push, pending_push, records_of_push_own}
 use Rattle.log_history.proofs.Steps.{entry_from, entry_of_push_other}
-use Rattle.loser_undo.specs.Losers.{IsTraced, Leads, LeadsToAbort, Stands, before_comp, goes_from, update_of}
+use Rattle.loser_undo.specs.Losers.{IsTraced, Leads, LeadsToAbort, Stands, before_comp, change_by, way_back}
 use Rattle.loser_undo.proofs.Lost.{last_apart}
 
 -- ---- records that stand
@@ -56,15 +58,11 @@ stands_one rs at x y sx sy =
     let same : sx.place ≡ sy.place = omega (arith, sx.at_is, sy.at_is) in
     sym (sx.is x) ∙ ap (λ n. get_or rs n x) same ∙ sy.is x
 
-pub placed_own : (rs : List Record) (at : ℕ) (x : Record) → ArePlaced rs → Stands rs at x → own_lsn x ≡ at
-placed_own rs at x placed stands =
-    sym (ap own_lsn (stands.is x)) ∙ placed stands.place x stands.within ∙ sym stands.at_is
-
-still_leads : (rs : List Record) (r : Record) (t first at : ℕ) (ps : List PendingChange) → Leads rs t first at ps
-    → Leads (rs ++ r ∷ []) t first at ps
+still_leads : (rs : List Record) (r : Record) (t first at : ℕ) (way : List Record) → Leads rs t first at way
+    → Leads (rs ++ r ∷ []) t first at way
 still_leads rs r t first at [] leads = (leads.0, still_stands rs r (Begin at t) at leads.1)
-still_leads rs r t first at (p ∷ ps) leads =
-    (leads.0, still_stands rs r (update_of t p) at leads.1, still_leads rs r t first p.prev ps leads.2)
+still_leads rs r t first at (x ∷ more) leads =
+    (still_stands rs r x at leads.0, (leads.1.0, (leads.1.1.0, still_leads rs r t first leads.1.0 more leads.1.1.1)))
 
 still_to_abort : (rs : List Record) (r : Record) (b : Bool) (at : ℕ) (comps : List ℕ) → LeadsToAbort rs b at comps
     → LeadsToAbort (rs ++ r ∷ []) b at comps
@@ -74,13 +72,11 @@ still_to_abort rs r b at (next ∷ more) leads =
 
 still_traced : (rs : List Record) (r : Record) (e : Entry) → IsTraced rs e → IsTraced (rs ++ r ∷ []) e
 still_traced rs r e traced = record {
-  last = traced.last;
-  stands = still_stands rs r traced.last e.last traced.stands;
-  rolling = traced.rolling;
-  pending = still_leads rs r e.txn e.first (goes_from traced.last) (reverse e.pending) traced.pending;
+  way = traced.way;
+  leads = still_leads rs r e.txn e.first e.last traced.way traced.leads;
+  pending = traced.pending;
   comps = traced.comps;
-  aborted = still_to_abort rs r e.aborted e.last traced.comps traced.aborted;
-  quiet = traced.quiet;
+  rolling = still_to_abort rs r e.rolling e.last traced.comps traced.rolling;
 }
 
 -- ---- one record more
@@ -91,8 +87,7 @@ with_own : (rs : List Record) (r : Record) (t : ℕ) → txn_of r ≡ t → is_o
       txn = t;
       first = first_lsn rs t;
       last = own_lsn r;
-      rolling = is_rolling rs t || is_rollback r;
-      aborted = has_aborted rs t || is_abort r;
+      rolling = is_rolling rs t || is_abort r;
       pending = with_pending (pending rs t) r;
     }
 with_own rs r t same still =
@@ -102,30 +97,8 @@ with_own rs r t same still =
       first = first_lsn_push rs r t same some i;
       last = last_lsn_push rs r t same i;
       rolling = is_rolling_push rs r t same i;
-      aborted = has_aborted_push rs r t same i;
       pending = pending_push rs r t same i;
     }
-
--- a transaction that does not roll back goes on from its last record
-goes_from_own : (r : Record) → is_rollback r ≡ false → goes_from r ≡ own_lsn r
-goes_from_own (Begin lsn t) quiet = refl
-goes_from_own (Update lsn t prev page slot change) quiet = refl
-goes_from_own (Comp lsn t prev undo_next page slot change) quiet = absurd (true≢false quiet)
-goes_from_own (Commit lsn t prev) quiet = refl
-goes_from_own (Abort lsn t prev) quiet = absurd (true≢false quiet)
-goes_from_own (End lsn t prev) quiet = refl
-goes_from_own (BeginChkpt lsn) quiet = refl
-goes_from_own (ChkptPages lsn begin pages) quiet = refl
-goes_from_own (ChkptTxns lsn begin t state last undo) quiet = refl
-goes_from_own (EndChkpt lsn begin redo) quiet = refl
-
-from_last : (rs : List Record) (t prev : ℕ) → ArePlaced rs → IsTraced rs (entry_of rs t) → IsActive rs t prev
-    → Leads rs t (first_lsn rs t) prev (reverse (pending rs t))
-from_last rs t prev placed traced active =
-    let at : goes_from traced.last ≡ prev =
-    goes_from_own traced.last (sym traced.rolling ∙ active.active)
-    ∙ placed_own rs (last_lsn rs t) traced.last placed traced.stands ∙ sym active.goes_on.chained in
-    subst (λ n. Leads rs t (first_lsn rs t) n (reverse (pending rs t))) at traced.pending
 
 reverse_push : (ps : List PendingChange) (p : PendingChange) → reverse (ps ++ p ∷ []) ≡ p ∷ reverse ps
 reverse_push ps p = reverse-append ps (p ∷ [])
@@ -147,26 +120,70 @@ last_is (x ∷ xs) P has =
       has = subst (λ o. IsSomeAnd o P) (slice_get-get_or (x ∷ xs) i x lt) has;
     }
 
-update_traced : (rs : List Record) (lsn t prev page slot : ℕ) (change : Change) → ArePlaced rs → lsn ≡ lsn_of (length rs)
+-- the search goes on from an Update where its change had its PrevLSN
+change_leads : (r : Record) (c : PendingChange) → change_by r ≡ Some c → way_back r ≡ Some c.prev
+change_leads (Update lsn t prev page slot change) c is = ap (λ (o : Option PendingChange). prev_in o) is
+  where
+    prev_in : Option PendingChange → Option ℕ
+    prev_in None = None
+    prev_in (Some c) = Some c.prev
+change_leads (Begin lsn t) c is = cc
+change_leads (Comp lsn t prev undo_next page slot change) c is = cc
+change_leads (Commit lsn t prev) c is = cc
+change_leads (Abort lsn t prev) c is = cc
+change_leads (End lsn t prev) c is = cc
+change_leads (BeginChkpt lsn) c is = cc
+change_leads (ChkptPages lsn begin pages) c is = cc
+change_leads (ChkptTxns lsn begin u state last undo) c is = cc
+change_leads (EndChkpt lsn begin redo) c is = cc
+
+-- the search from behind the Update of the change that it meets first
+record IsBehind (rs : List Record) (t first : ℕ) (p : PendingChange) (ps : List PendingChange) : Type 0 where
+  way : List Record
+  leads : Leads rs t first p.prev way
+  changes : filter_map change_by way ≡ ps
+
+behind_first : (rs : List Record) (t first at : ℕ) (way : List Record) (p : PendingChange) (ps : List PendingChange)
+    → Leads rs t first at way → filter_map change_by way ≡ p ∷ ps → IsBehind rs t first p ps
+behind_first rs t first at [] p ps leads changes = cc
+behind_first rs t first at (r ∷ more) p ps leads changes =
+    by (change_by r) refl changes (λ rest. behind_first rs t first leads.1.0 more p ps leads.1.1.1 rest)
+  where
+    by : (o : Option PendingChange) → change_by r ≡ o → cons_option o (filter_map change_by more) ≡ p ∷ ps
+        → (filter_map change_by more ≡ p ∷ ps → IsBehind rs t first p ps) → IsBehind rs t first p ps
+    by None none changes rest = rest changes
+    by (Some c) is changes rest =
+        let same : c ≡ p = cc in
+        let next : leads.1.0 ≡ p.prev =
+        same_Some _ _ (sym leads.1.1.0 ∙ change_leads r c is) ∙ ap (λ (x : PendingChange). x.prev) same in
+        record {
+          way = more;
+          leads = subst (λ n. Leads rs t first n more) next leads.1.1.1;
+          changes = cc;
+        }
+
+update_traced : (rs : List Record) (lsn t prev page slot : ℕ) (change : Change) → lsn ≡ lsn_of (length rs)
     → IsActive rs t prev → IsTraced rs (entry_of rs t)
     → IsTraced (rs ++ Update lsn t prev page slot change ∷ []) (entry_of (rs ++ Update lsn t prev page slot change ∷ []) t)
-update_traced rs lsn t prev page slot change placed at active traced =
+update_traced rs lsn t prev page slot change at active traced =
     let r = Update lsn t prev page slot change in
     let p : PendingChange = record { lsn = lsn; prev = prev; page = page; slot = slot; change = change } in
     let here = new_stands rs r lsn at in
-    let not_aborted = or-false (has_aborted rs t) ∙ traced.quiet active.active in
     subst (IsTraced (rs ++ r ∷ [])) (sym (with_own rs r t refl active.goes_on.still_open)) (record {
-      last = r;
-      stands = here;
-      rolling = or-false (is_rolling rs t) ∙ active.active;
-      pending = subst (Leads (rs ++ r ∷ []) t (first_lsn rs t) lsn) (sym (reverse_push (pending rs t) p)) (
-        refl,
+      way = r ∷ traced.way;
+      leads = (
         here,
-        still_leads rs r t (first_lsn rs t) prev (reverse (pending rs t)) (from_last rs t prev placed traced active),
+        (
+          last_lsn rs t,
+          (
+            ap Some active.goes_on.chained,
+            still_leads rs r t (first_lsn rs t) (last_lsn rs t) traced.way traced.leads,
+          ),
+        ),
       );
+      pending = ap (λ qs. p ∷ qs) traced.pending ∙ sym (reverse_push (pending rs t) p);
       comps = [];
-      aborted = (r, here, refl, sym not_aborted);
-      quiet = λ none. not_aborted;
+      rolling = (r, here, refl, sym (or-false (is_rolling rs t) ∙ active.active));
     })
 
 comp_traced : (rs : List Record) (lsn t prev undo_next page slot : ℕ) (change : Change) → lsn ≡ lsn_of (length rs)
@@ -179,41 +196,52 @@ comp_traced rs lsn t prev undo_next page slot change at goes_on last traced =
     let here = new_stands rs r lsn at in
     let ps = pending rs t in
     let found = last_is ps (Compensates undo_next page slot change) last in
-    let all = subst (Leads rs t (first_lsn rs t) (goes_from traced.last))
-    (ap reverse found.apart ∙ reverse_push (without_last ps) found.p) traced.pending in
-    let rest = subst (λ n. Leads rs t (first_lsn rs t) n (reverse (without_last ps))) (sym found.has.next) all.2 in
-    let kept = or-false (has_aborted rs t) in
+    let rest = behind_first rs t (first_lsn rs t) (last_lsn rs t) traced.way found.p (reverse (without_last ps))
+    traced.leads (traced.pending ∙ ap reverse found.apart ∙ reverse_push (without_last ps) found.p) in
     subst (IsTraced (rs ++ r ∷ [])) (sym (with_own rs r t refl goes_on.still_open)) (record {
-      last = r;
-      stands = here;
-      rolling = or-true (is_rolling rs t);
-      pending = still_leads rs r t (first_lsn rs t) undo_next (reverse (without_last ps)) rest;
+      way = r ∷ rest.way;
+      leads = (
+        here,
+        (
+          found.p.prev,
+          (
+            ap Some found.has.next,
+            still_leads rs r t (first_lsn rs t) found.p.prev rest.way rest.leads,
+          ),
+        ),
+      );
+      pending = rest.changes;
       comps = last_lsn rs t ∷ traced.comps;
-      aborted = (
+      rolling = (
         r,
         here,
         ap Some goes_on.chained,
-        subst (λ b. LeadsToAbort (rs ++ r ∷ []) b (last_lsn rs t) traced.comps) (sym kept)
-            (still_to_abort rs r (has_aborted rs t) (last_lsn rs t) traced.comps traced.aborted),
+        subst (λ b. LeadsToAbort (rs ++ r ∷ []) b (last_lsn rs t) traced.comps) (sym (or-false (is_rolling rs t)))
+            (still_to_abort rs r (is_rolling rs t) (last_lsn rs t) traced.comps traced.rolling),
       );
-      quiet = λ none. absurd (true≢false (sym (or-true (is_rolling rs t)) ∙ none));
     })
 
-abort_traced : (rs : List Record) (lsn t prev : ℕ) → ArePlaced rs → lsn ≡ lsn_of (length rs) → IsActive rs t prev
+abort_traced : (rs : List Record) (lsn t prev : ℕ) → lsn ≡ lsn_of (length rs) → IsActive rs t prev
     → IsTraced rs (entry_of rs t)
     → IsTraced (rs ++ Abort lsn t prev ∷ []) (entry_of (rs ++ Abort lsn t prev ∷ []) t)
-abort_traced rs lsn t prev placed at active traced =
+abort_traced rs lsn t prev at active traced =
     let r = Abort lsn t prev in
     let here = new_stands rs r lsn at in
     subst (IsTraced (rs ++ r ∷ [])) (sym (with_own rs r t refl active.goes_on.still_open)) (record {
-      last = r;
-      stands = here;
-      rolling = or-true (is_rolling rs t);
-      pending = still_leads rs r t (first_lsn rs t) prev (reverse (pending rs t))
-          (from_last rs t prev placed traced active);
+      way = r ∷ traced.way;
+      leads = (
+        here,
+        (
+          last_lsn rs t,
+          (
+            ap Some active.goes_on.chained,
+            still_leads rs r t (first_lsn rs t) (last_lsn rs t) traced.way traced.leads,
+          ),
+        ),
+      );
+      pending = traced.pending;
       comps = [];
-      aborted = (r, here, refl, sym (or-true (has_aborted rs t)));
-      quiet = λ none. absurd (true≢false (sym (or-true (is_rolling rs t)) ∙ none));
+      rolling = (r, here, refl, sym (or-true (is_rolling rs t)));
     })
 
 begin_traced : (rs : List Record) (lsn t : ℕ) → lsn ≡ lsn_of (length rs) → records_of rs t ≡ []
@@ -223,13 +251,11 @@ begin_traced rs lsn t at none =
     let here = new_stands rs r lsn at in
     let alone = records_of_push_own rs r t refl ∙ ap (λ xs. xs ++ r ∷ []) none in
     subst (λ xs. IsTraced (rs ++ r ∷ []) (entry_from t xs)) (sym alone) (record {
-      last = r;
-      stands = here;
-      rolling = refl;
-      pending = (refl, here);
+      way = [];
+      leads = (refl, here);
+      pending = refl;
       comps = [];
-      aborted = (r, here, refl, refl);
-      quiet = λ quiet. refl;
+      rolling = (r, here, refl, refl);
     })
 
 -- ---- all of them
@@ -265,12 +291,12 @@ own_traced rs (Begin lsn t) linked may placed at before still =
     let new = next_is_new rs linked t (omega arith) in
     begin_traced rs lsn t at (none_before_begin rs linked t (omega arith) new)
 own_traced rs (Update lsn t prev page slot change) linked may placed at before still =
-    update_traced rs lsn t prev page slot change placed at may.active
+    update_traced rs lsn t prev page slot change at may.active
     (before placed t may.active.goes_on.still_open)
 own_traced rs (Comp lsn t prev undo_next page slot change) linked may placed at before still =
     comp_traced rs lsn t prev undo_next page slot change at may.0 may.1 (before placed t may.0.still_open)
 own_traced rs (Abort lsn t prev) linked may placed at before still =
-    abort_traced rs lsn t prev placed at may (before placed t may.goes_on.still_open)
+    abort_traced rs lsn t prev at may (before placed t may.goes_on.still_open)
 own_traced rs (Commit lsn t prev) linked may placed at before still =
     absurd (ended_own rs (Commit lsn t prev) refl refl still)
 own_traced rs (End lsn t prev) linked may placed at before still =
@@ -311,66 +337,78 @@ stands_at log at r valid stands =
     subst₂ (StandsAt log.pages) (sym stands.at_is) (stands.is r) (valid.records stands.place r stands.within)
 
 -- some record stands where the search goes on
-pub leads_stands : (rs : List Record) (t first at : ℕ) (ps : List PendingChange) → Leads rs t first at ps
+pub leads_stands : (rs : List Record) (t first at : ℕ) (way : List Record) → Leads rs t first at way
     → (r : Record) × Stands rs at r
 leads_stands rs t first at [] leads = (Begin at t, leads.1)
-leads_stands rs t first at (p ∷ ps) leads = (update_of t p, leads.1)
+leads_stands rs t first at (r ∷ more) leads = (r, leads.0)
 
--- these were found, and the others come behind them
+-- these were found, and those that the rest of the way has come behind them
 pub record IsFound (rs : List Record) (t first at : ℕ) (found all : List PendingChange) : Type 0 where
-  pub rest : List PendingChange
-  pub leads : Leads rs t first at rest
-  pub split : all ≡ found ++ rest
+  pub way : List Record
+  pub leads : Leads rs t first at way
+  pub split : all ≡ found ++ filter_map change_by way
 
-pub found_more : (log : Log) (t first at : ℕ) (found all : List PendingChange) (lsn u prev page slot : ℕ) (change : Change)
-    → IsFound log.records t first at found all
-    → ((r : Record) → Stands log.records at r → Update lsn u prev page slot change ≡ r)
-    → IsFound log.records t first prev
-    (found ++ record { lsn = lsn; prev = prev; page = page; slot = slot; change = change } ∷ []) all
-found_more log t first at found all lsn u prev page slot change so_far is = by so_far.rest so_far.leads so_far.split
+cons_is_append : (o : Option PendingChange) (ps : List PendingChange) → cons_option o ps ≡ option_to_list o ++ ps
+cons_is_append None ps = refl
+cons_is_append (Some p) ps = refl
+
+pub found_more : (rs : List Record) (t first at next : ℕ) (found all : List PendingChange) (x : Record)
+    → IsFound rs t first at found all → ((r : Record) → Stands rs at r → x ≡ r) → way_back x ≡ Some next
+    → IsFound rs t first next (found ++ option_to_list (change_by x)) all
+found_more rs t first at next found all x so_far is goes = by so_far.way so_far.leads so_far.split
   where
-    by : (rest : List PendingChange) → Leads log.records t first at rest → all ≡ found ++ rest
-        → IsFound log.records t first prev
-        (found ++ record { lsn = lsn; prev = prev; page = page; slot = slot; change = change } ∷ []) all
-    by [] leads split = let same = is (Begin at t) leads.1 in cc
-    by (p ∷ ps) leads split =
-        let same = is (update_of t p) leads.1 in
-        let q : PendingChange = record { lsn = lsn; prev = prev; page = page; slot = slot; change = change } in
-        let one : q ≡ p = ap change_in same in
+    by : (way : List Record) → Leads rs t first at way → all ≡ found ++ filter_map change_by way
+        → IsFound rs t first next (found ++ option_to_list (change_by x)) all
+    by [] leads split = let same = sym (ap way_back (is (Begin at t) leads.1)) ∙ goes in cc
+    by (r ∷ more) leads split =
+        let same = is r leads.0 in
+        let on : leads.1.0 ≡ next = same_Some _ _ (sym leads.1.1.0 ∙ sym (ap way_back same) ∙ goes) in
+        let rest = filter_map change_by more in
         record {
-          rest = ps;
-          leads = subst (λ n. Leads log.records t first n ps) (sym (ap (λ (x : PendingChange). x.prev) one)) leads.2;
-          split = split ∙ ap (λ x. found ++ x ∷ ps) (sym one) ∙ sym (append_assoc found (q ∷ []) ps);
+          way = more;
+          leads = subst (λ n. Leads rs t first n more) on leads.1.1.1;
+          split = split ∙ ap (λ qs. found ++ qs) (cons_is_append (change_by r) rest)
+              ∙ ap (λ o. found ++ (option_to_list o ++ rest)) (sym (ap change_by same))
+              ∙ sym (append_assoc found (option_to_list (change_by x)) rest);
         }
-      where
-        change_in : Record → PendingChange
-        change_in (Update lsn u prev page slot change) = record
-            { lsn = lsn; prev = prev; page = page; slot = slot; change = change }
-        change_in r = p
 
-abbrev pub IsUpdate : Record → Bool
-IsUpdate (Update lsn u prev page slot change) = true
-IsUpdate other = false
-
-pub found_all : (log : Log) (t first at : ℕ) (found all : List PendingChange) (r : Record) → IsUpdate r ≡ false
-    → IsFound log.records t first at found all → ((x : Record) → Stands log.records at x → r ≡ x)
+pub found_all : (rs : List Record) (t first at : ℕ) (found all : List PendingChange) (x : Record)
+    → IsFound rs t first at found all → ((r : Record) → Stands rs at r → x ≡ r) → way_back x ≡ None
     → (at ≡ first) × (all ≡ found)
-found_all log t first at found all r none so_far is = by so_far.rest so_far.leads so_far.split
+found_all rs t first at found all x so_far is ends = by so_far.way so_far.leads so_far.split
   where
-    by : (rest : List PendingChange) → Leads log.records t first at rest → all ≡ found ++ rest
+    by : (way : List Record) → Leads rs t first at way → all ≡ found ++ filter_map change_by way
         → (at ≡ first) × (all ≡ found)
     by [] leads split = (leads.0, split ∙ append-nil found)
-    by (p ∷ ps) leads split =
-        absurd (true≢false (sym (ap IsUpdate (is (update_of t p) leads.1)) ∙ none))
+    by (r ∷ more) leads split = let same = sym ends ∙ ap way_back (is r leads.0) ∙ leads.1.1.0 in cc
 
-pub update_earlier : (log : Log) (at : ℕ) (x : Record) (lsn u prev page slot : ℕ) (change : Change) → IsLog log
-    → (r : Record) × Stands log.records at r → ((r : Record) → Stands log.records at r → x ≡ r)
-    → x ≡ Update lsn u prev page slot change → prev < at
-update_earlier log at x lsn u prev page slot change valid there is of =
-    let stands = subst (StandsAt log.pages at) (sym (is there.0 there.1) ∙ of) (stands_at log at there.0 valid there.1) in
+-- the search goes back
+goes_earlier : (pages at next : ℕ) (x : Record) → StandsAt pages at x → way_back x ≡ Some next → next < at
+goes_earlier pages at next (Update lsn u prev page slot change) stands goes =
     let lt = stands.valid.2.earlier in
     let here = stands.lsn in
-    omega arith
+    let same : prev ≡ next = same_Some _ _ goes in omega arith
+goes_earlier pages at next (Comp lsn u prev undo_next page slot change) stands goes =
+    let lt = stands.valid.4.earlier in
+    let here = stands.lsn in
+    let same : undo_next ≡ next = same_Some _ _ goes in omega arith
+goes_earlier pages at next (Abort lsn u prev) stands goes =
+    let lt = stands.valid.2.earlier in
+    let here = stands.lsn in
+    let same : prev ≡ next = same_Some _ _ goes in omega arith
+goes_earlier pages at next (Begin lsn u) stands goes = cc
+goes_earlier pages at next (Commit lsn u prev) stands goes = cc
+goes_earlier pages at next (End lsn u prev) stands goes = cc
+goes_earlier pages at next (BeginChkpt lsn) stands goes = cc
+goes_earlier pages at next (ChkptPages lsn begin pages_found) stands goes = cc
+goes_earlier pages at next (ChkptTxns lsn begin u state last undo) stands goes = cc
+goes_earlier pages at next (EndChkpt lsn begin redo) stands goes = cc
+
+pub next_earlier : (log : Log) (at next : ℕ) (x : Record) → IsLog log → (r : Record) × Stands log.records at r
+    → ((r : Record) → Stands log.records at r → x ≡ r) → way_back x ≡ Some next → next < at
+next_earlier log at next x valid there is goes =
+    goes_earlier log.pages at next x
+    (subst (StandsAt log.pages at) (sym (is there.0 there.1)) (stands_at log at there.0 valid there.1)) goes
 
 -- ---- the Abort
 
@@ -404,19 +442,6 @@ to_abort_end rs b at (next ∷ more) x leads is none =
     let same = sym none ∙ ap before_comp (is leads.0 leads.1) ∙ leads.2 in cc
 
 -- ---- a record that is none of these
-
-pub not_update : (x : Record)
-    → ((lsn u prev page slot : ℕ) (change : Change) → x ≡ Update lsn u prev page slot change → ⊥) → IsUpdate x ≡ false
-not_update (Update lsn u prev page slot change) other = absurd (other lsn u prev page slot change refl)
-not_update (Begin lsn u) other = refl
-not_update (Comp lsn u prev undo_next page slot change) other = refl
-not_update (Commit lsn u prev) other = refl
-not_update (Abort lsn u prev) other = refl
-not_update (End lsn u prev) other = refl
-not_update (BeginChkpt lsn) other = refl
-not_update (ChkptPages lsn begin pages) other = refl
-not_update (ChkptTxns lsn begin u state last undo) other = refl
-not_update (EndChkpt lsn begin redo) other = refl
 
 pub not_comp : (x : Record)
     → ((lsn u prev undo_next page slot : ℕ) (change : Change) → x ≡ Comp lsn u prev undo_next page slot change → ⊥)

@@ -1,15 +1,15 @@
 -- The open transactions of a log with their pending changes, and how its records tell of them.
 use Rattle.std.specs.Prelude.{ℕ, ◌≡◌, ◌<◌, ◌≤◌, ◌==◌, Bool, true, false, List, [], ◌∷◌, map, length, reverse}
 use Rattle.std.specs.Prelude.{Option, Some, None, slice_index_or, if◌then◌else◌}
+use Rattle.std.specs.List.{filter_map}
 use Rattle.log_records.specs.declared.limits.TheConstants.{MAX_RECORDS}
 use Rattle.log_records.specs.declared.record.Record.{Record}
 use Rattle.log_records.specs.declared.record.Record.TheVariants.{Begin, Update, Comp, Abort}
 use Rattle.log_records.specs.Log.{lsn_of}
-use Rattle.log_records.specs.Record.{own_lsn}
 use Rattle.log_history.specs.declared.pending_change.PendingChange.{PendingChange}
 use Rattle.log_history.specs.Linked.{IsLinked}
 use Rattle.log_history.specs.Table.{Entry, entry_of}
-use Rattle.log_history.specs.Transactions.{is_abort, is_rollback, open_in, without_last}
+use Rattle.log_history.specs.Transactions.{is_abort, open_in, without_last}
 use Rattle.loser_undo.specs.declared.loser_table.Loser.{Loser}
 
 -- ---- what is asked for
@@ -21,7 +21,6 @@ loser_view l = record {
   first = l.first;
   last = l.last;
   rolling = l.rolling;
-  aborted = l.aborted;
   pending = l.pending.items;
 }
 
@@ -39,7 +38,6 @@ pub record AreLosersOf (rs : List Record) (losers : List Entry) : Type 0 where
 abbrev pub compensated : ℕ → ℕ → Entry → Entry
 compensated txn lsn e = if e.txn == txn then record e {
   last = lsn;
-  rolling = true;
   pending = without_last e.pending;
 } else e
 
@@ -52,22 +50,26 @@ pub record Stands (rs : List Record) (at : ℕ) (r : Record) : Type 0 where
   pub at_is : at ≡ lsn_of place
   pub is : (d : Record) → slice_index_or rs place d ≡ r
 
--- where the search for a transaction's pending changes begins, by its last record: a Comp names the
--- place in its UndoNxt, and an Abort stands behind it
-abbrev pub goes_from : Record → ℕ
-goes_from (Comp lsn t prev undo_next page slot change) = undo_next
-goes_from (Abort lsn t prev) = prev
-goes_from other = own_lsn other
+-- where the search for a transaction's pending changes goes on behind a record, if it does: a Comp
+-- names the place in its UndoNxt, so that what was taken back is passed over, and an Update and an
+-- Abort in their PrevLSN
+abbrev pub way_back : Record → Option ℕ
+way_back (Update lsn t prev page slot change) = Some prev
+way_back (Comp lsn t prev undo_next page slot change) = Some undo_next
+way_back (Abort lsn t prev) = Some prev
+way_back other = None
 
--- the Update that made a pending change
-abbrev pub update_of : ℕ → PendingChange → Record
-update_of t p = Update p.lsn t p.prev p.page p.slot p.change
-
--- from this LSN on PrevLSN leads over the Updates of these changes, the last first, to the Begin
-abbrev pub Leads : List Record → ℕ → ℕ → ℕ → List PendingChange → Type 0
+-- from this LSN on the search meets these records, and then the Begin
+abbrev pub Leads : List Record → ℕ → ℕ → ℕ → List Record → Type 0
 Leads rs t first at [] = (at ≡ first) × Stands rs at (Begin at t)
-Leads rs t first at (p ∷ ps) =
-    (at ≡ p.lsn) × Stands rs at (update_of t p) × Leads rs t first p.prev ps
+Leads rs t first at (r ∷ more) =
+    Stands rs at r × ((next : ℕ) × ((way_back r ≡ Some next) × Leads rs t first next more))
+
+-- the change that an Update made
+abbrev pub change_by : Record → Option PendingChange
+change_by (Update lsn t prev page slot change) =
+    Some (record { lsn = lsn; prev = prev; page = page; slot = slot; change = change })
+change_by other = None
 
 -- the PrevLSN of a Comp
 abbrev pub before_comp : Record → Option ℕ
@@ -77,18 +79,15 @@ before_comp other = None
 -- from this LSN on PrevLSN leads over Comps, of which these are the LSNs behind the first, to a
 -- record that is an Abort or is none
 abbrev pub LeadsToAbort : List Record → Bool → ℕ → List ℕ → Type 0
-LeadsToAbort rs aborted at [] =
-    (r : Record) × Stands rs at r × (before_comp r ≡ None) × (is_abort r ≡ aborted)
-LeadsToAbort rs aborted at (next ∷ more) =
-    (r : Record) × Stands rs at r × (before_comp r ≡ Some next) × LeadsToAbort rs aborted next more
+LeadsToAbort rs rolling at [] =
+    (r : Record) × Stands rs at r × (before_comp r ≡ None) × (is_abort r ≡ rolling)
+LeadsToAbort rs rolling at (next ∷ more) =
+    (r : Record) × Stands rs at r × (before_comp r ≡ Some next) × LeadsToAbort rs rolling next more
 
 -- what the records tell of an open transaction, from its last one back
 pub record IsTraced (rs : List Record) (e : Entry) : Type 0 where
-  pub last : Record
-  pub stands : Stands rs e.last last
-  pub rolling : e.rolling ≡ is_rollback last
-  pub pending : Leads rs e.txn e.first (goes_from last) (reverse e.pending)
+  pub way : List Record
+  pub leads : Leads rs e.txn e.first e.last way
+  pub pending : filter_map change_by way ≡ reverse e.pending
   pub comps : List ℕ
-  pub aborted : LeadsToAbort rs e.aborted e.last comps
-  -- it aborts only to roll back
-  pub quiet : e.rolling ≡ false → e.aborted ≡ false
+  pub rolling : LeadsToAbort rs e.rolling e.last comps

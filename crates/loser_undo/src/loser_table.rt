@@ -31,10 +31,8 @@ pub struct Loser {
     pub first: Lsn,
     /// The LSN of its last record.
     pub last: Lsn,
-    /// It takes its changes back.
+    /// It has an Abort, and takes all its changes back.
     pub rolling: bool,
-    /// It has an Abort.
-    pub aborted: bool,
     /// Its changes that are not compensated yet, the oldest first.
     pub pending: Vec<PendingChange>,
 }
@@ -49,7 +47,6 @@ impl Loser {
             first: self.first,
             last: self.last,
             rolling: self.rolling,
-            aborted: self.aborted,
             pending: self.pending.len(),
         }
     }
@@ -65,7 +62,7 @@ impl Loser {
     fn owed(&self) -> u64
         ensures { result ≡ min (owed_by_entry (loser_view self.now)) u64.MAX }
     {
-        let last = if self.aborted { 1 } else { 2 };
+        let last = if self.rolling { 1 } else { 2 };
         (self.pending.len() as u64).saturating_add(last)
     }
 
@@ -76,7 +73,6 @@ impl Loser {
         if self.txn.0 == txn.0 {
             let _ = self.pending.pop();
             self.last = lsn;
-            self.rolling = true;
         }
     }
 }
@@ -101,8 +97,8 @@ impl Model for LoserTable {
 /// It reads the log from the BeginChkpt of the complete checkpoint that the master record names.
 /// What an open transaction did before, it finds from its last record back: a Comp names in its
 /// UndoNxt where to go on, and each Update in its PrevLSN. So it takes time for the records from
-/// the checkpoint on, for the pending changes, and for the Comps of transactions that roll back,
-/// and for no other record of the log. An `Err` comes where memory for the answer is refused.
+/// the checkpoint on, for the pending changes, and for the Comps between them and behind them, and
+/// for no change that was taken back. An `Err` comes where memory for the answer is refused.
 pub fn losers(alloc: Global, log: &LogImage, master: &Master) -> Result<LoserTable, AllocError>
     requires linked { IsLinked log.now.records }
     requires complete { IsCompleteCheckpoint log.now.records master.now.begin master.now.end }

@@ -1,13 +1,15 @@
 //! What the records of an open transaction tell of it, from its last one back.
 
-ghost use Rattle.std.specs.Prelude.{ℕ, ◌≡◌, true, List, reverse, IfOk};
+ghost use Rattle.std.specs.Prelude.{ℕ, ◌≡◌, ◌++◌, true, List, reverse, IfOk, OnOk};
+ghost use Rattle.std.specs.List.{filter_map};
+ghost use Rattle.std.specs.Option.{option_to_list};
 ghost use Rattle.log_records.specs.declared.record.Record.{Record};
 ghost use Rattle.log_records.specs.Log.{IsLog};
 ghost use Rattle.log_history.specs.Linked.{IsLinked};
 ghost use Rattle.log_history.specs.Table.{entry_of};
-ghost use Rattle.log_history.specs.Transactions.{first_lsn, has_aborted, is_open, is_rollback};
-ghost use Rattle.log_history.specs.Transactions.{last_lsn, pending};
-ghost use Rattle.loser_undo.specs.Losers.{Leads, LeadsToAbort, Stands, goes_from, loser_view};
+ghost use Rattle.log_history.specs.Transactions.{first_lsn, is_open, is_rolling, last_lsn, pending};
+ghost use Rattle.loser_undo.specs.Losers.{Leads, LeadsToAbort, Stands, change_by, loser_view};
+ghost use Rattle.loser_undo.specs.Losers.{way_back};
 
 use crate::loser_table::Loser;
 use crate::tail::{OpenTxn, count_before};
@@ -25,16 +27,13 @@ pub(crate) fn trace(alloc: Global, log: &LogImage, one: OpenTxn) -> Result<Loser
     requires last { one.last ≡ last_lsn log.now.records one.txn }
     ensures { IfOk result (λ loser. loser_view loser ≡ entry_of log.now.records one.txn) }
 {
-    let last = record_at(log, one.last);
-    let rolling = is_rollback(last);
-    let aborted = has_aborted(log, &one);
-    let (first, pending) = pending_of(alloc, log, &one, goes_from(last))?;
+    let rolling = is_rolling(log, &one);
+    let (first, pending) = pending_of(alloc, log, &one)?;
     Ok(Loser {
         txn: one.txn,
         first,
         last: one.last,
         rolling,
-        aborted,
         pending,
     })
 }
@@ -48,48 +47,31 @@ fn record_at(log: &LogImage, at: Lsn) -> &Record
     &log.records()[count_before(at)]
 }
 
-/// Where the search for the pending changes begins: at the UndoNxt of a Comp, before an Abort, and
-/// else at the record itself.
-fn goes_from(last: &Record) -> Lsn
-    ensures { result ≡ goes_from last.now }
+/// Where the search for the pending changes goes on behind a record: at the UndoNxt of a Comp, and
+/// at the PrevLSN of an Update or an Abort.
+fn way_back(met: &Record) -> Option<Lsn>
+    ensures { result ≡ way_back met.now }
 {
-    match *last {
-        Record::Comp { undo_next, .. } => undo_next,
-        Record::Abort { prev, .. } => prev,
-        _ => last.lsn(),
+    match *met {
+        Record::Update { prev, .. } | Record::Abort { prev, .. } => Some(prev),
+        Record::Comp { undo_next, .. } => Some(undo_next),
+        _ => None,
     }
 }
 
-/// The record shows that its transaction takes its changes back.
-fn is_rollback(last: &Record) -> bool
-    ensures { result ≡ is_rollback last.now }
+/// Keeps the change that an Update made.
+fn keep_change(found: &mut Vec<PendingChange>, met: &Record) -> Result<(), AllocError>
+    ensures { OnOk result (found.new.items
+        ≡ found.old.items ++ option_to_list (change_by met.now)) }
 {
-    matches!(*last, Record::Abort { .. } | Record::Comp { .. })
-}
-
-/// The LSN of the transaction's Begin, and its pending changes, the oldest first: they are found
-/// from the last one back.
-fn pending_of(
-    alloc: Global,
-    log: &LogImage,
-    one: &OpenTxn,
-    from: Lsn,
-) -> Result<(Lsn, Vec<PendingChange>), AllocError>
-    requires leads { Leads log.now.records one.now.txn (first_lsn log.now.records one.now.txn) from
-        (reverse (pending log.now.records one.now.txn)) }
-    ensures first { IfOk result (λ it. it.0 ≡ first_lsn log.now.records one.now.txn) }
-    ensures pending { IfOk result (λ it. it.1.items ≡ pending log.now.records one.now.txn) }
-{
-    let mut found = Vec::new(alloc);
-    let mut at = from;
-    while let Record::Update {
+    if let Record::Update {
         lsn,
         prev,
         page,
         slot,
         change,
         ..
-    } = *record_at(log, at)
+    } = *met
     {
         found.push(PendingChange {
             lsn,
@@ -98,17 +80,38 @@ fn pending_of(
             slot,
             change,
         })?;
-        at = prev;
+    }
+    Ok(())
+}
+
+/// The LSN of the transaction's Begin, and its pending changes, the oldest first: they are found
+/// from the last one back.
+fn pending_of(
+    alloc: Global,
+    log: &LogImage,
+    one: &OpenTxn,
+) -> Result<(Lsn, Vec<PendingChange>), AllocError>
+    requires leads { (way : List Record)
+        × (Leads log.now.records one.now.txn (first_lsn log.now.records one.now.txn) one.now.last way
+        × (filter_map change_by way ≡ reverse (pending log.now.records one.now.txn))) }
+    ensures first { IfOk result (λ it. it.0 ≡ first_lsn log.now.records one.now.txn) }
+    ensures pending { IfOk result (λ it. it.1.items ≡ pending log.now.records one.now.txn) }
+{
+    let mut found = Vec::new(alloc);
+    let mut at = one.last;
+    'back: while let Some(next) = way_back(record_at(log, at)) {
+        keep_change(&mut found, record_at(log, at))?;
+        at = next;
     }
     found.reverse();
     Ok((at, found))
 }
 
 /// The transaction has an Abort. Only Comps may stand behind it.
-fn has_aborted(log: &LogImage, one: &OpenTxn) -> bool
+fn is_rolling(log: &LogImage, one: &OpenTxn) -> bool
     requires { (comps : List ℕ) × LeadsToAbort log.now.records
-        (has_aborted log.now.records one.now.txn) one.now.last comps }
-    ensures { result ≡ has_aborted log.now.records one.now.txn }
+        (is_rolling log.now.records one.now.txn) one.now.last comps }
+    ensures { result ≡ is_rolling log.now.records one.now.txn }
 {
     let mut at = one.last;
     while let Record::Comp { prev, .. } = *record_at(log, at) {

@@ -11,7 +11,7 @@ use Rattle.log_store.proofs.Masters.{length-master_bytes}
 use Rattle.media_restore.specs.declared.files_fault.RestoreFault.{RestoreFault}
 use Rattle.media_restore.specs.declared.files_fault.RestoreFault.TheVariants.{BadHeader}
 use Rattle.media_restore.specs.Files.{NotSpelled}
-use Rattle.media_restore.specs.FilesUnread.{MayBeMaster}
+use Rattle.media_restore.specs.FilesStop.{MayBeMaster}
 
 pub spelled_length : (m : Master) (bytes : List ℕ) → SpellsMaster m bytes → length bytes ≡ 64
 spelled_length m bytes is = ap length is.spelled ∙ length-master_bytes m

@@ -59,9 +59,9 @@ refused_by it entries copy cut is =
 
 -- ---- what a restore makes of what an engine left
 
-pub rebuilt_of : (pages : ℕ) (events : List Event) (copy cut : ℕ) (replies : List (Result Answer Refusal))
+pub rebuilt_of : (pages frames : ℕ) (events : List Event) (copy cut : ℕ) (replies : List (Result Answer Refusal))
     (outcome : Result Recovery Refused) (e : EngineState) (left : RetiredView)
-    → Run (new_state pages e.frames) events replies e
+    → Run (new_state pages frames) events replies e
     → work e.log ≡ accepted events replies → map entry_of e.copies ≡ catalogue pages events replies
     → left.log ≡ log_of e → left.forced_end ≡ e.forced_end → left.copies ≡ e.copies
     → left.master ≡ option_map master_record e.master
@@ -70,8 +70,8 @@ pub rebuilt_of : (pages : ℕ) (events : List Event) (copy cut : ℕ) (replies :
     → OnOk outcome (IsKeptOf left.log left.forced_end (kept_log left.log cut))
     → IfOk outcome (IsRestored (kept_log left.log cut))
     → IfOk outcome (λ it. left.master ≡ Some it.master)
-    → IsRebuilt pages events copy cut replies outcome e
-rebuilt_of pages events copy cut replies outcome e left run shown told same_log same_end same_copies same_master ok err
+    → IsRebuilt pages frames events copy cut replies outcome e
+rebuilt_of pages frames events copy cut replies outcome e left run shown told same_log same_end same_copies same_master ok err
     kept done mastered =
     let entries = catalogue pages events replies in
     let refusal : load_refusal left copy cut ≡ restore_refusal entries e.forced_end (length e.log) copy cut =
@@ -81,7 +81,7 @@ rebuilt_of pages events copy cut replies outcome e left run shown told same_log 
     record {
       run = run;
       work = shown;
-      commits = λ rest is. commits_are_kept pages e.frames events replies e rest run is;
+      commits = λ rest is. commits_are_kept pages frames events replies e rest run is;
       let_in = subst (λ (o : Option LoadFault). OnOk outcome (o ≡ None)) refusal ok;
       refused = subst (λ (o : Option LoadFault). IfErr outcome (RestoreRefuses o)) refusal err;
       kept = subst (λ (end : ℕ). OnOk outcome (IsKeptOf (log_of e) end (kept_log (log_of e) cut))) same_end

@@ -161,16 +161,6 @@ log_is_full (Ok it) files log kept table master pages copies parts read why = tt
 log_is_full (Err e) files log kept table master pages copies parts read why =
     of_undo log master copies parts why.0 (why.1 log read)
 
--- a reader of an archive failed
-pub read_failed : (why : ChainReadFault) → from.of_chain why ≡ ReadFault → why ≡ chain.ReadFault
-read_failed chain.OutOfMemory e = cc
-read_failed (chain.BadArchive at) e = cc
-read_failed (chain.ChainBroken copy) e = cc
-read_failed chain.CountDiffers e = cc
-read_failed chain.ReadFault e = refl
-read_failed chain.RedoBeyondLog e = cc
-read_failed (chain.PageBeyondLog page) e = cc
-
 -- the fault of the files is no fault of writing
 
 no_log : (why : LogReadFault) (done : ℕ) → ¬ (WriteFault done ≡ from.of_log why)

@@ -2,7 +2,8 @@ pub mod Fault
 pub mod Files
 pub mod FilesArchives
 pub mod FilesFault
-pub mod FilesUnread
+pub mod FilesStop
 pub mod Load
+pub mod MasterCheck
 pub mod Rebuild
 pub mod Saved

@@ -73,13 +73,13 @@ abbrev pub restore_refusal : List Entry → ℕ → ℕ → ℕ → ℕ → Opti
 restore_refusal entries forced_end count copy cut =
     first_of (entry_refusal (entry_at entries copy)) (cut_refusal forced_end count cut)
 
--- a list of events is played on a new engine with so many pages, which ends as e, and a volume is
--- restored of what it leaves
-pub record IsRebuilt (pages : ℕ) (events : List Event) (copy cut : ℕ)
+-- a list of events is played on a new engine with so many pages and frames, which ends as e, and a
+-- volume is restored of what it leaves
+pub record IsRebuilt (pages frames : ℕ) (events : List Event) (copy cut : ℕ)
     (replies : List (Result Answer Refusal)) (outcome : Result Recovery Refused)
     (e : EngineState) : Type 0 where
   -- the replies are those of a run
-  pub run : Run (new_state pages e.frames) events replies e
+  pub run : Run (new_state pages frames) events replies e
   -- the log shows the calls that were accepted, and no others
   pub work : work e.log ≡ accepted events replies
   -- whatever a crash leaves of the log has the record of each commit that was answered

@@ -1,6 +1,6 @@
 //! Restores a volume from files: a log, its master record and the archives of a chain.
 
-ghost use Rattle.std.specs.Prelude.{◌≡◌, ◌<◌, ◌≤◌, map, Err, IfOk, IfErr, OnOk};
+ghost use Rattle.std.specs.Prelude.{◌≡◌, ◌<◌, ◌≤◌, map, IfOk, IfErr, OnOk};
 ghost use Rattle.log_records.specs.Coverage.{resume};
 ghost use Rattle.log_records.specs.Image.{image_from};
 ghost use Rattle.log_records.specs.Log.{Log};
@@ -8,7 +8,7 @@ ghost use Rattle.log_records.specs.declared.limits.TheConstants.{MAX_RECORDS};
 ghost use Rattle.loser_undo.specs.Recovery.{appended};
 ghost use Rattle.media_restore.specs.Files.{IsRead, IsRestored, Leaves, Refused, WritesVolume};
 ghost use Rattle.media_restore.specs.Files.{most_records};
-ghost use Rattle.media_restore.specs.FilesUnread.{FailedUnread};
+ghost use Rattle.media_restore.specs.FilesStop.{AreReadWhole, StopsIn};
 ghost use Rattle.media_restore.specs.declared.files_fault.RestoreFault.TheVariants.{LogFull};
 
 use crate::files_fault::RestoreFault;
@@ -65,10 +65,8 @@ pub fn restore_files<L: Read, M: Read, A: Read, W: Write>(
           archives = map (λ a. A.remaining a) archives.old;
         })
         (W.contents writer.old) (W.contents writer.new)) }
-    // Where a reader failed, what it gave until then holds no fault, and what was read before is
-    // right.
-    ensures unread { result ≡ Err RestoreFault.ReadFault
-        → FailedUnread
+    // It reads to the first file that is refused, and of none behind it.
+    ensures stops { IfErr result (StopsIn
         (record {
           log = L.remaining log.old;
           master = M.remaining master.old;
@@ -78,7 +76,19 @@ pub fn restore_files<L: Read, M: Read, A: Read, W: Write>(
           log = L.remaining log.new;
           master = M.remaining master.new;
           archives = map (λ a. A.remaining a) archives.new;
-        }) }
+        })
+        (master.new ≡ master.old) (archives.new ≡ archives.old)) }
+    ensures end { OnOk result (AreReadWhole
+        (record {
+          log = L.remaining log.old;
+          master = M.remaining master.old;
+          archives = map (λ a. A.remaining a) archives.old;
+        })
+        (record {
+          log = L.remaining log.new;
+          master = M.remaining master.new;
+          archives = map (λ a. A.remaining a) archives.new;
+        })) }
 {
     let pages = restored(rt, alloc, log, master, archives)?;
     let mut buffer = zeros(alloc, BUFFER_PAGES * PAGE_BYTES)?;
@@ -108,8 +118,7 @@ fn restored<L: Read, M: Read, A: Read>(
           master = M.remaining master.old;
           archives = map (λ a. A.remaining a) archives.old;
         })) }
-    ensures unread { result ≡ Err RestoreFault.ReadFault
-        → FailedUnread
+    ensures stops { IfErr result (StopsIn
         (record {
           log = L.remaining log.old;
           master = M.remaining master.old;
@@ -119,7 +128,19 @@ fn restored<L: Read, M: Read, A: Read>(
           log = L.remaining log.new;
           master = M.remaining master.new;
           archives = map (λ a. A.remaining a) archives.new;
-        }) }
+        })
+        (master.new ≡ master.old) (archives.new ≡ archives.old)) }
+    ensures end { OnOk result (AreReadWhole
+        (record {
+          log = L.remaining log.old;
+          master = M.remaining master.old;
+          archives = map (λ a. A.remaining a) archives.old;
+        })
+        (record {
+          log = L.remaining log.new;
+          master = M.remaining master.new;
+          archives = map (λ a. A.remaining a) archives.new;
+        })) }
 {
     let (kept, table) = read_changes(alloc, log)?;
     read_master(master, &kept)?;

@@ -1,12 +1,13 @@
 //! Reads the master record of a log, and checks that it names a complete checkpoint.
 
-ghost use Rattle.std.specs.Prelude.{◌≡◌, ◌↔◌, ◌≤◌, Err, IfOk, IfErr, IfSome, IsTrue, None, Some};
+ghost use Rattle.std.specs.Prelude.{◌≡◌, ◌↔◌, ◌≤◌, IfOk, IfErr, IfSome, IsTrue, None, OnOk, Some};
+ghost use Rattle.page_core.specs.Input.{HasGivenAll};
 ghost use Rattle.log_records.specs.Log.{Log};
 ghost use Rattle.log_history.specs.Linked.{IsLinked};
 ghost use Rattle.log_changes.specs.Kept.{kept_of};
 ghost use Rattle.log_store.specs.Master.{SpellsMaster};
 ghost use Rattle.media_restore.specs.Files.{IsOfMaster, MasterRefused, NotSpelled};
-ghost use Rattle.media_restore.specs.FilesUnread.{FailedInMaster};
+ghost use Rattle.media_restore.specs.FilesStop.{FailsInMaster};
 ghost use Rattle.media_restore.specs.declared.files_fault.RestoreFault.TheVariants.{BadHeader};
 
 use crate::files_fault::RestoreFault;
@@ -25,8 +26,8 @@ pub(crate) fn read_master<M: Read>(
         → IsLinked log.records → IsOfMaster (M.remaining reader.old) log.records master) }
     ensures err { IfErr result (λ fault. (log : Log) → kept.now ≡ kept_of log
         → IsLinked log.records → MasterRefused (M.remaining reader.old) log.records fault) }
-    ensures unread { result ≡ Err RestoreFault.ReadFault
-        → FailedInMaster (M.remaining reader.old) (M.remaining reader.new) }
+    ensures stops { IfErr result (FailsInMaster (M.remaining reader.old) (M.remaining reader.new)) }
+    ensures end { OnOk result (HasGivenAll (M.remaining reader.old) (M.remaining reader.new)) }
 {
     let master = spelled_master(reader)?;
     if !kept.has_completed(&master) {
@@ -39,8 +40,8 @@ pub(crate) fn read_master<M: Read>(
 fn spelled_master<M: Read>(reader: &mut M) -> Result<Master, RestoreFault>
     ensures ok { IfOk result (λ master. IfSome (M.remaining reader.old) (SpellsMaster master)) }
     ensures err { IfErr result (NotSpelled (M.remaining reader.old)) }
-    ensures unread { result ≡ Err RestoreFault.ReadFault
-        → FailedInMaster (M.remaining reader.old) (M.remaining reader.new) }
+    ensures stops { IfErr result (FailsInMaster (M.remaining reader.old) (M.remaining reader.new)) }
+    ensures end { OnOk result (HasGivenAll (M.remaining reader.old) (M.remaining reader.new)) }
 {
     let mut bytes = [0; MASTER_BYTES + 1];
     let mut filled = 0;

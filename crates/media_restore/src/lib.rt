@@ -9,6 +9,7 @@ mod files;
 mod files_fault;
 mod files_master;
 mod loaded;
+mod master_check;
 mod master_laws;
 mod rebuilt;
 mod saved_laws;
@@ -21,6 +22,7 @@ pub use fault::{LoadFault, RedoFault, Refused};
 pub use files::restore_files;
 pub use files_fault::RestoreFault;
 pub use loaded::Loaded;
+pub use master_check::check_master;
 pub use master_laws::masters_have_one_fault;
 pub use rebuilt::{Rebuilt, rebuild, recover};
 pub use saved_laws::{

@@ -6,7 +6,7 @@ ghost use Rattle.log_records.specs.Log.{IsPageCount, lsn_of};
 ghost use Rattle.copy_coverage.specs.Kept.{IsKeptOf};
 ghost use Rattle.copy_coverage.specs.Retired.{HasRoom};
 ghost use Rattle.loser_undo.specs.Recovery.{IsWhole};
-ghost use Rattle.aries_core.specs.EngineState.{EngineState, EngineView};
+ghost use Rattle.aries_core.specs.EngineState.{EngineView};
 ghost use Rattle.aries_core.specs.Step.{IsByDevice, IsFaultReply};
 ghost use Rattle.aries_core.specs.Storage.{FailsAtHeader, PlaysOn};
 ghost use Rattle.page_core.specs.Volume.{formatted_pages};
@@ -48,40 +48,37 @@ pub fn rebuild<S: PageStore + Drop, D: LogDevice + Drop>(
     events: &[Event],
     copy: CopyId,
     cut: usize,
-) -> Result<Rebuilt, PlayFault>
+) -> Result<Rebuilt, (PlayFault, D)>
     requires pages { IsPageCount setup.pages }
     requires frames { IsFrameCount setup.frames }
     requires formatted { S.stored store ≡ formatted_pages setup.pages }
 
-    ensures rebuilt { IfOk result (λ it. (e : EngineState)
-        × IsRebuilt setup.pages events.now copy cut it.replies.items it.outcome e) }
-
-    // Its engine has the frames that were asked for.
-    ensures frames { IfOk result (λ it. (e : EngineState)
-        × (IsRebuilt setup.pages events.now copy cut it.replies.items it.outcome e
-        × (e.frames ≡ setup.frames))) }
-
-    // Its calls were calls on the store and the device that were given, as the calls before left
-    // them, and each reply tells of a fault of theirs just where there was one in its call.
-    ensures played { IfOk result (λ it. (e : EngineView S D)
+    // The engine of which this holds was made on the store and the device that were given; its
+    // calls were calls on these two as the calls before left them, and each reply tells of a fault
+    // of theirs just where there was one in its call.
+    ensures rebuilt { IfOk result (λ it. (e : EngineView S D)
         × PlaysOn
         (record {
           called = D.called;
           bytes = D.bytes;
           device_failures = D.failures;
+          gave = S.gave;
+          wrote = S.wrote;
           stored = S.stored;
           store_failures = S.failures;
         })
-        setup.pages store device events.now it.replies.items e
-        × IsRebuilt setup.pages events.now copy cut it.replies.items it.outcome e.state) }
+        setup.pages setup.frames store device events.now it.replies.items e
+        × IsRebuilt setup.pages setup.frames events.now copy cut it.replies.items it.outcome
+        e.state) }
 
     // And none tells of the device where this has room for a record of each event.
     ensures within_bound { IfOk result (λ it. lsn_of (length events.now) < D.fails_from device
         → All (λ reply. ¬ IsFaultReply IsByDevice reply) it.replies.items) }
 
-    ensures cause { IfErr result (λ why. why ≡ PlayFault.LogFault
-        → FailsAtHeader D.called D.failures setup.pages device) }
-    ensures header_fits { IfErr result (λ why. why ≡ PlayFault.LogFault
+    ensures untouched { IfErr result (λ e. e.0 ≡ PlayFault.OutOfMemory → e.1 ≡ device) }
+    ensures cause { IfErr result (λ e. e.0 ≡ PlayFault.LogFault
+        → FailsAtHeader D.called D.failures setup.pages device e.1) }
+    ensures header_fits { IfErr result (λ e. e.0 ≡ PlayFault.LogFault
         → D.fails_from device ≤ 64) }
 {
     let Played { replies, engine } = play(alloc, setup, store, device, events)?;

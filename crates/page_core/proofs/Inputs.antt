@@ -3,6 +3,8 @@ use Rattle.std.proofs.Common.{List, ℕ, [], ◌≡◌, ◌++◌, sym, ap, subst
 use Rattle.std.specs.Prelude.{Option, Some, None, IfSome, Result, Ok, Err, IfErr, OnOk}
 use Rattle.std.specs.Io.KnownBytes.{Consumes, IsAtEnd}
 use Rattle.std.proofs.lemmas.List.{append-nil}
+use Rattle.std.proofs.KnownBytes.{Consumes-nil, Consumes-trans}
+use Rattle.page_core.specs.Input.{StaysKnown}
 
 pub of_input : (old new : Option (List ℕ)) (given : List ℕ) (P : List ℕ → Type 0) → Consumes old new given
     → ((rest : List ℕ) → (IsAtEnd new → rest ≡ []) → P (given ++ rest)) → IfSome old P
@@ -24,6 +26,13 @@ pub of_all : (old new : Option (List ℕ)) (given : List ℕ) (P : List ℕ → 
 of_all old new given P taken end h = of_input old new given P taken
     (λ rest none. subst P (sym (append-nil given) ∙ ap (λ (r : List ℕ). given ++ r) (sym (none end))) h)
 
+pub known_same : (old : Option (List ℕ)) → StaysKnown old old
+known_same old = ([], Consumes-nil old)
+
+pub known_more : (old mid new : Option (List ℕ)) → StaysKnown old mid → StaysKnown mid new → StaysKnown old new
+known_more old mid new first second =
+    (first.0 ++ second.0, Consumes-trans old mid new first.0 second.0 first.1 second.1)
+
 -- ---- what follows of an answer
 
 pub if_err : {T E : Type 0} (r : Result T E) (P Q : E → Type 0) → ((e : E) → P e → Q e) → IfErr r P → IfErr r Q
@@ -33,3 +42,7 @@ if_err (Err e) P Q step h = step e h
 pub on_ok : {T E : Type 0} (r : Result T E) (P Q : Type 0) → (P → Q) → OnOk r P → OnOk r Q
 on_ok (Ok x) P Q step h = step h
 on_ok (Err e) P Q step h = tt
+
+pub always_ok : {T E : Type 0} (r : Result T E) (P : Type 0) → P → OnOk r P
+always_ok (Ok x) P h = h
+always_ok (Err e) P h = tt

@@ -4,6 +4,14 @@ use Rattle.std.specs.Io.KnownBytes.{Consumes, IsAtEnd}
 use Rattle.page_core.specs.declared.input.Turn.{Turn}
 use Rattle.page_core.specs.declared.input.Turn.TheVariants.{More, End, Failed}
 
+-- a reader's known bytes stay known: some were given, or none, and the others are left
+abbrev pub StaysKnown : Option (List ℕ) → Option (List ℕ) → Type 0
+StaysKnown old new = (given : List ℕ) × Consumes old new given
+
+-- a reader has given all that it had
+abbrev pub HasGivenAll : Option (List ℕ) → Option (List ℕ) → Type 0
+HasGivenAll old new = StaysKnown old new × IsAtEnd new
+
 -- from wherever the reader gave these bytes and what fills the buffer, it has now given so many
 -- more
 abbrev pub GoesOn : Option (List ℕ) → Option (List ℕ) → List ℕ → List ℕ → Type 0

@@ -1,8 +1,10 @@
 -- A store in memory that fails where it is told to.
-use Rattle.std.specs.Prelude.{ℕ, ◌≡◌, ◌+◌, ◌-◌, ◌^◌, ◌⊎◌, nat_le, Bool, true, false, List}
-use Rattle.std.specs.Prelude.{Option, None, slice_index_or, if◌then◌else◌, slice_set}
+use Rattle.std.specs.Prelude.{ℕ, ◌≡◌, ◌+◌, ◌-◌, ◌^◌, ◌⊎◌, ◌↔◌, nat_le, Bool, true, false, List}
+use Rattle.std.specs.Prelude.{Option, None, Some, slice_get, slice_index_or, if◌then◌else◌}
+use Rattle.std.specs.Prelude.{slice_set, Result, IsErr, IfOk, OnOk, OnErr}
 use Rattle.std.specs.Option.{option_map_or}
 use Rattle.page_core.specs.declared.page.Page.{Page}
+use Rattle.page_store.specs.declared.store.StoreFault.{StoreFault}
 
 -- calls are counted, up to the greatest number of 64 bits; the call that fails is counted from the
 -- next one on as 1, and at 0 none is to fail; a write that fails late leaves the new page; of each
@@ -48,3 +50,18 @@ abbrev pub after_failed_write : Faulty → ℕ → Page → Faulty
 after_failed_write old number page = record old {
   pages = if old.is_late then slice_set old.pages number page else old.pages;
 }
+
+-- what comes of a read
+pub record FaultyReads (old : Faulty) (number : ℕ) (result : Result Page StoreFault) (new : Faulty)
+    : Type 0 where
+  pub fails : IsErr result ↔ ReadFails old number
+  pub found : IfOk result (λ page. slice_get old.pages number ≡ Some page)
+  pub ok : OnOk result (new ≡ after_call old)
+  pub err : OnErr result (new ≡ after_failure (after_call old))
+
+-- what comes of a write: it fails where it is the call that is to
+pub record FaultyWrites (old : Faulty) (number : ℕ) (page : Page) (result : Result Unit StoreFault)
+    (new : Faulty) : Type 0 where
+  pub fails : IsErr result ↔ (old.calls_to_fault ≡ 1)
+  pub ok : OnOk result (new ≡ after_write old number page)
+  pub err : OnErr result (new ≡ after_failure (after_failed_write (after_call old) number page))

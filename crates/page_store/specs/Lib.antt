@@ -1,2 +1,3 @@
 pub mod FaultyStore
+pub mod MemStore
 pub mod Store

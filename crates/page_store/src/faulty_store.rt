@@ -1,11 +1,10 @@
 //! A store that fails where a test tells it to.
 
 ghost use Rattle.std.specs.Prelude.{◌≡◌, ◌<◌, ◌↔◌, length, replicate, false};
-ghost use Rattle.std.specs.Prelude.{slice_get, slice_set, None, Some, IfOk, IsErr, OnOk, OnErr};
-ghost use Rattle.std.specs.Prelude.{IsTrue, true};
+ghost use Rattle.std.specs.Prelude.{slice_set, None, Some, IfOk, IsTrue, true};
 ghost use Rattle.page_core.specs.Volume.{AreNumbered};
-ghost use Rattle.page_store.specs.FaultyStore.{ReadFails, after_call, after_failed_write};
-ghost use Rattle.page_store.specs.FaultyStore.{after_failure, after_write, is_damaged};
+ghost use Rattle.page_store.specs.FaultyStore.{FaultyReads, FaultyWrites, after_call};
+ghost use Rattle.page_store.specs.FaultyStore.{after_failed_write, after_failure, is_damaged};
 
 use crate::mem_store::MemStore;
 use crate::store::{PageStore, StoreFault};
@@ -168,6 +167,10 @@ impl FaultyStore {
 impl PageStore for FaultyStore {
     ghost stored = { λ faulty. faulty.pages };
 
+    ghost gave = { λ old number result new. FaultyReads old number result new };
+
+    ghost wrote = { λ old number page result new. FaultyWrites old number page result new };
+
     ghost failures = { λ faulty. faulty.failures };
 
     fn pages(&self) -> u32
@@ -182,11 +185,8 @@ impl PageStore for FaultyStore {
     fn read(&mut self, number: PageNo) -> Result<Page, StoreFault>
         requires { number < length self.old.pages }
 
-        ensures fails { IsErr result ↔ ReadFails self.old number }
-        ensures found { IfOk result (λ page. slice_get self.old.pages number ≡ Some page) }
+        ensures exact { FaultyReads self.old number result self.new }
         ensures numbered { IfOk result (λ page. page.number ≡ number) }
-        ensures ok { OnOk result (self.new ≡ after_call self.old) }
-        ensures err { OnErr result (self.new ≡ after_failure (after_call self.old)) }
     {
         let is_damaged = self.is_damaged(number);
         if self.count_call() || is_damaged {
@@ -202,10 +202,7 @@ impl PageStore for FaultyStore {
         requires there { number < length self.old.pages }
         requires numbered { page.now.number ≡ number }
 
-        ensures fails { IsErr result ↔ (self.old.calls_to_fault ≡ 1) }
-        ensures ok { OnOk result (self.new ≡ after_write self.old number page.now) }
-        ensures err { OnErr result (self.new
-            ≡ after_failure (after_failed_write (after_call self.old) number page.now)) }
+        ensures exact { FaultyWrites self.old number page.now result self.new }
     {
         let is_damaged = self.is_damaged(number);
         if self.count_call() {

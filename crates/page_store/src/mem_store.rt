@@ -1,8 +1,8 @@
 //! A store in memory.
 
-ghost use Rattle.std.specs.Prelude.{◌≡◌, ◌<◌, ◌≤◌, length, slice_get, slice_set, Some};
-ghost use Rattle.std.specs.Prelude.{IfOk, IsOk, IsOkAnd};
+ghost use Rattle.std.specs.Prelude.{◌≡◌, ◌<◌, ◌≤◌, length, IfOk};
 ghost use Rattle.page_core.specs.Volume.{AreNumbered, formatted_pages};
+ghost use Rattle.page_store.specs.MemStore.{Reads, Writes};
 
 use crate::store::{PageStore, StoreFault};
 use page_core::{MAX_PAGES, Page, PageNo, formatted_pages};
@@ -53,6 +53,10 @@ impl MemStore {
 impl PageStore for MemStore {
     ghost stored = { λ pages. pages };
 
+    ghost gave = { λ old number result new. Reads old number result new };
+
+    ghost wrote = { λ old number page result new. Writes old number page result new };
+
     ghost failures = { λ _. 0 };
 
     fn pages(&self) -> u32
@@ -66,9 +70,8 @@ impl PageStore for MemStore {
     fn read(&mut self, number: PageNo) -> Result<Page, StoreFault>
         requires { number < length self.old }
 
-        ensures found { IsOkAnd result (λ page. slice_get self.old number ≡ Some page) }
+        ensures exact { Reads self.old number result self.new }
         ensures numbered { IfOk result (λ page. page.number ≡ number) }
-        ensures same { self.new ≡ self.old }
     {
         Ok(self.pages[number.0 as usize].copy())
     }
@@ -78,8 +81,7 @@ impl PageStore for MemStore {
         requires there { number < length self.old }
         requires numbered { page.now.number ≡ number }
 
-        ensures ok { IsOk result }
-        ensures stored { self.new ≡ slice_set self.old number page.now }
+        ensures exact { Writes self.old number page.now result self.new }
     {
         self.pages[number.0 as usize] = page.copy();
         Ok(())

@@ -4,7 +4,7 @@ ghost use Rattle.std.specs.Prelude.{ℕ, ◌≡◌, ◌<◌, List, length, slice
 ghost use Rattle.std.specs.Prelude.{IfOk, OnOk, OnErr};
 ghost use Rattle.page_core.specs.declared.page.Page.{Page};
 ghost use Rattle.page_core.specs.Volume.{AreNumbered};
-ghost use Rattle.page_store.specs.Store.{StoresOrKeeps};
+ghost use Rattle.page_store.specs.Store.{ReadCall, StoresOrKeeps, WriteCall};
 
 use page_core::{Page, PageNo};
 use std::error::Error;
@@ -14,6 +14,16 @@ use std::fmt;
 pub trait PageStore {
     /// The stored pages.
     ghost stored: { Self → List Page };
+
+    /// What one call of `read` gave: the store before it, the number, what it answered, and the
+    /// store after it. A caller that is written for any store has no other way to show this than to
+    /// make the call. A store of which no more is to be known than what follows may say that it
+    /// always holds; the same goes for `wrote`.
+    ghost gave: { ReadCall Self };
+
+    /// What one call of `write` wrote: the store before it, the number, the page, what it answered,
+    /// and the store after it.
+    ghost wrote: { WriteCall Self };
 
     /// How often the store has failed: a number that contracts alone see. It has no last value.
     ghost failures: { Self → ℕ };
@@ -33,6 +43,7 @@ pub trait PageStore {
         ensures numbered { IfOk result (λ page. page.number ≡ number) }
         ensures same { stored self.new ≡ stored self.old }
 
+        ensures gave { gave self.old number result self.new }
         ensures no_failure { OnOk result (failures self.new ≡ failures self.old) }
         ensures failure { OnErr result (failures self.old < failures self.new) };
 
@@ -49,6 +60,7 @@ pub trait PageStore {
         ensures either { OnErr result
             (StoresOrKeeps (stored self.old) number page.now (stored self.new)) }
 
+        ensures wrote { wrote self.old number page.now result self.new }
         ensures no_failure { OnOk result (failures self.new ≡ failures self.old) }
         ensures failure { OnErr result (failures self.old < failures self.new) };
 }

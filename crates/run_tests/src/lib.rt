@@ -6,8 +6,12 @@ mod faults;
 #[cfg(test)]
 mod gates;
 #[cfg(test)]
+mod holds;
+#[cfg(test)]
 mod sessions;
 #[cfg(test)]
 mod settling;
+#[cfg(test)]
+mod takes;
 #[cfg(test)]
 mod volume;

@@ -2,7 +2,7 @@
 
 ghost use Rattle.std.specs.Prelude.{◌≡◌};
 
-use crate::volume::{Volume, full_copy, volume};
+use crate::volume::{Volume, add_one, full_copy, volume};
 use aries_core::{Refusal, Undone};
 use copy_coverage::Retired;
 use copy_vault::{CopyId, CopyKind};
@@ -227,6 +227,30 @@ fn day<G: Ledger + Send + Sync, R: Threads + Wait + Abort + AllocGlobal + Sync>(
     assert_restored(rt, alloc, left)
 }
 
+/// A session reads a slot again each time another one has changed it and committed.
+fn read_again<G: Ledger, R: Wait + Abort + AllocGlobal>(rt: &R, blank: Blank) -> Result<(), Fail>
+    requires name { blank.name ≡ G.name }
+    requires parts { blank.parts ≡ G.parts }
+    requires sessions { blank.parts ≡ 65 }
+{
+    let alloc = rt.alloc();
+    let mut shared = volume::<G, R>(rt, blank, 8)?;
+    let mut reader = shared.session(alloc);
+    let mut writer = shared.session(alloc);
+    for sum in 0..3u64 {
+        assert_eq!(rt; reader.read(rt, &shared, PageNo(0), SlotNo(0)), Ok(sum));
+        add_one(rt, &shared, &mut writer, PageNo(0));
+    }
+    let settled = settle(alloc, vec![in alloc; reader, writer]?, &[], shared);
+    assert!(rt; settled.is_ok());
+    Ok(())
+}
+
+#[test]
+fn a_session_reads_what_another_one_has_committed(rt: HostRuntime) -> Result<(), Fail> {
+    read_again::<Brand, HostRuntime>(&rt, Blank::new(65))
+}
+
 #[test]
 fn four_sessions_and_a_flusher_share_an_engine(rt: HostRuntime) -> Result<(), Fail> {
     for _ in 0..8 {
@@ -237,7 +261,7 @@ fn four_sessions_and_a_flusher_share_an_engine(rt: HostRuntime) -> Result<(), Fa
 
 #[test]
 fn a_page_is_repaired_beside_sessions(rt: HostRuntime) -> Result<(), Fail> {
-    for _ in 0..1000 {
+    for _ in 0..40 {
         day::<Brand, HostRuntime>(&rt, Blank::new(65), true)?;
     }
     Ok(())

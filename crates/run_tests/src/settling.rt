@@ -36,6 +36,7 @@ fn assert_refused<G: Ledger>(
     let text = format!(in alloc; "{fault}")?;
     assert_eq!(rt; text.as_str(), line);
     assert_eq!(rt; sessions.len(), count);
+    let shared = shared.into_shared();
     assert_eq!(rt; shared.sessions(), made);
     Ok((sessions, shared))
 }

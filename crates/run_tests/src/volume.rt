@@ -73,9 +73,14 @@ pub(crate) fn pointed(begin: u64, end: u64, redo: u64) -> Work {
 
 /// What a full copy of this id answers, which took all of eight pages.
 pub(crate) fn full_copy(id: u32) -> Work {
+    copied(id, 8)
+}
+
+/// What a full copy of this id answers, which took so many pages.
+pub(crate) fn copied(id: u32, taken: u32) -> Work {
     Work::Copied {
         id: CopyId(id),
         kind: CopyKind::Full,
-        taken: 8,
+        taken,
     }
 }

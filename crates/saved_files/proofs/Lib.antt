@@ -1,2 +1,3 @@
 mod Groups
+mod Puts
 mod Saves

@@ -1,5 +1,5 @@
 -- A file that was not written.
-use Rattle.std.specs.Prelude.{ℕ, ◌<◌, ◌≤◌, List, length, take, Option}
+use Rattle.std.specs.Prelude.{ℕ, ◌≡◌, ◌<◌, List, length, take, Option}
 use Rattle.std.specs.Io.KnownBytes.{Appends, Keeps}
 use Rattle.page_core.specs.FaultName.{fault_line, fault_line_with}
 use Rattle.page_core.specs.declared.fault_name.FaultName.TheVariants as name
@@ -24,7 +24,7 @@ Leaves bytes old new OutOfMemory = Keeps old new
 Leaves bytes old new (WriteFault done) =
     (done < length bytes) × Appends old new (take done bytes)
 
--- no more bytes went out than these
-abbrev pub IsWithin : List ℕ → FileFault → Type 0
-IsWithin bytes OutOfMemory = Unit {0}
-IsWithin bytes (WriteFault done) = done ≤ length bytes
+-- no byte is told to have gone out
+abbrev pub IsOfNoByte : FileFault → Type 0
+IsOfNoByte OutOfMemory = Unit {0}
+IsOfNoByte (WriteFault done) = done ≡ 0

@@ -1,5 +1,5 @@
 -- What stands in a folder under each name.
-use Rattle.std.specs.Prelude.{ℕ, ◌≡◌, ◌≢◌, ◌⊎◌, List, [], codes, ⊤, Option, Some, None}
+use Rattle.std.specs.Prelude.{ℕ, ◌≡◌, ◌≢◌, ◌⊎◌, List, [], ◌++◌, codes, decimal, ⊤, Option, Some, None}
 
 -- what stands under a name: nothing; a file that was not synced after it was made, so that it is not
 -- known which bytes are stored; or a file of which these bytes are stored
@@ -22,8 +22,10 @@ Changes like (Some old) (Some new) = like old new
 abbrev pub KeepsOthers : List ℕ → Entries → Entries → Type 0
 KeepsOthers name old new = (n : List ℕ) → n ≢ name → new n ≡ old n
 
--- a new file of this name stands there, which has no bytes yet, and the other names are as before
+-- a new file of this name stands there, where nothing stood, which has no bytes yet, and the other
+-- names are as before
 pub record IsMade (name : List ℕ) (contents : Option (List ℕ)) (old new : Entries) : Type 0 where
+  pub fresh : old name ≡ absent
   pub made : new name ≡ unsynced
   pub empty : contents ≡ Some []
   pub others : KeepsOthers name old new
@@ -56,19 +58,30 @@ RenamesOrKeeps from to old new = IsRenamed from to old new ⊎ IsSame old new
 
 -- ---- a file that takes the place of an older one
 
--- the name that a file has while it is written
-abbrev pub unfinished : List ℕ
-unfinished = codes "unfinished"
+-- a name that a file has while it is written, beside the name that it is to have
+abbrev pub IsBeside : List ℕ → List ℕ → Type 0
+IsBeside name n = (number : ℕ) × (n ≡ name ++ (codes ".unfinished-" ++ decimal number))
 
--- a file of these bytes stands under this name, none is left unfinished, and every other name keeps
--- what stood under it
-pub record Puts (name bytes : List ℕ) (old new : Entries) : Type 0 where
+-- every name but this one keeps what stood under it; but where nothing stood, an unfinished file may
+-- be left
+abbrev pub KeepsBeside : List ℕ → Entries → Entries → Type 0
+KeepsBeside name old new = (n : List ℕ) → n ≢ name
+    → (new n ≡ old n) ⊎ ((old n ≡ absent) × IsBeside name n)
+
+-- a file of such bytes stands under this name, whole, and every other name keeps what stood under it:
+-- no unfinished file is left
+pub record Puts (name : List ℕ) (fits : List ℕ → Type 0) (old new : Entries) : Type 0 where
+  pub bytes : List ℕ
+  pub right : fits bytes
   pub put : new name ≡ stored bytes
-  pub finished : new unfinished ≡ absent
-  pub others : (n : List ℕ) → n ≢ unfinished → n ≢ name → new n ≡ old n
+  pub others : KeepsOthers name old new
 
--- the name has what it had, or a file of these bytes, whole; and every other one what it had, but
--- for an unfinished file
-pub record PutsOrKeeps (name bytes : List ℕ) (old new : Entries) : Type 0 where
-  pub either : (new name ≡ stored bytes) ⊎ (new name ≡ old name)
-  pub others : (n : List ℕ) → n ≢ unfinished → n ≢ name → new n ≡ old n
+-- the name has what it had, or a file of such bytes, whole
+abbrev pub HasNewOrOld : List ℕ → (List ℕ → Type 0) → Entries → Entries → Type 0
+HasNewOrOld name fits old new =
+    ((bytes : List ℕ) × fits bytes × (new name ≡ stored bytes)) ⊎ (new name ≡ old name)
+
+-- and every other name has what it had, but for an unfinished file where nothing stood
+pub record PutsOrKeeps (name : List ℕ) (fits : List ℕ → Type 0) (old new : Entries) : Type 0 where
+  pub either : HasNewOrOld name fits old new
+  pub others : KeepsBeside name old new

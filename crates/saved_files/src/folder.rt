@@ -2,7 +2,7 @@
 
 ghost use Rattle.std.specs.Prelude.{ℕ, ◌≡◌, List, Option, OnOk, OnErr, IfOk};
 ghost use Rattle.saved_files.specs.Folder.{Changes, Entries, Entry, IsMade, IsRemoved, IsRenamed};
-ghost use Rattle.saved_files.specs.Folder.{IsSynced, KeepsOthers, RenamesOrKeeps};
+ghost use Rattle.saved_files.specs.Folder.{IsSame, IsSynced, KeepsOthers, RenamesOrKeeps};
 
 use std::io;
 use std::io::Write;
@@ -15,32 +15,69 @@ pub trait Folder {
     /// What stands under each name, as far as it is known.
     ghost entries: { Self → Option (List ℕ → Entry) };
 
-    /// Makes a file of this name without bytes, in the place of one that has the name.
+    /// It is this caller's, and no other one's that asks by `claim`.
+    ghost is_claimed: { Self → Type 0 };
+
+    /// Its names are stored as they stand, so that they outlast the system's end.
+    ghost is_stored: { Self → Type 0 };
+
+    /// What went out to the file that was given up last, as far as it is known.
+    ghost given_up: { Self → Option (List ℕ) };
+
+    /// Takes the folder, until it is dropped, from all others that ask in this way. Where another
+    /// one has it, that is an error of the kind `WouldBlock`.
+    fn claim(&mut self) -> io::Result<()>
+        ensures claimed { OnOk result (is_claimed self.new) }
+        ensures same { Changes IsSame (entries self.old) (entries self.new) }
+        ensures given_up { given_up self.new ≡ given_up self.old };
+
+    /// Makes a file of this name without bytes, where nothing has the name, not even a link that
+    /// leads nowhere. Where something has it, that is an error of the kind `AlreadyExists`. At
+    /// `Err` nothing is made.
     fn make(&mut self, name: &str) -> io::Result<Self::File>
+        requires { is_claimed self.old }
         ensures made { IfOk result (λ file. Changes (IsMade name.now (Self.File.contents file))
             (entries self.old) (entries self.new)) }
-        ensures others { OnErr result
-            (Changes (KeepsOthers name.now) (entries self.old) (entries self.new)) };
+        ensures same { OnErr result (Changes IsSame (entries self.old) (entries self.new)) }
+        ensures claimed { is_claimed self.new }
+        ensures given_up { given_up self.new ≡ given_up self.old };
 
-    /// Sees that all bytes of a file are stored, and closes it. It has to be one that was made by
-    /// this name; another one is an error.
-    fn sync(&mut self, name: &str, file: Self::File) -> io::Result<()>
-        ensures synced { OnOk result (Changes (IsSynced name.now (Self.File.contents file))
+    /// Sees that all bytes of a file are stored. It has to be one that was made by this name;
+    /// another one is an error.
+    fn sync(&mut self, name: &str, file: &mut Self::File) -> io::Result<()>
+        requires { is_claimed self.old }
+        ensures synced { OnOk result (Changes (IsSynced name.now (Self.File.contents file.old))
             (entries self.old) (entries self.new)) }
         ensures others { OnErr result
-            (Changes (KeepsOthers name.now) (entries self.old) (entries self.new)) };
+            (Changes (KeepsOthers name.now) (entries self.old) (entries self.new)) }
+        ensures contents { Self.File.contents file.new ≡ Self.File.contents file.old }
+        ensures claimed { is_claimed self.new }
+        ensures given_up { given_up self.new ≡ given_up self.old };
 
     /// Gives a file another name, in the place of one that has it. At no moment is there neither.
     fn rename(&mut self, from: &str, to: &str) -> io::Result<()>
+        requires { is_claimed self.old }
         ensures renamed { OnOk result
             (Changes (IsRenamed from.now to.now) (entries self.old) (entries self.new)) }
         ensures either { OnErr result
-            (Changes (RenamesOrKeeps from.now to.now) (entries self.old) (entries self.new)) };
+            (Changes (RenamesOrKeeps from.now to.now) (entries self.old) (entries self.new)) }
+        ensures claimed { is_claimed self.new }
+        ensures given_up { given_up self.new ≡ given_up self.old };
 
-    /// Removes the file of this name.
-    fn remove(&mut self, name: &str) -> io::Result<()>
+    /// Removes a file that was made by this name, and closes it.
+    fn give_up(&mut self, name: &str, file: Self::File) -> io::Result<()>
+        requires { is_claimed self.old }
         ensures removed { OnOk result
             (Changes (IsRemoved name.now) (entries self.old) (entries self.new)) }
         ensures others { OnErr result
-            (Changes (KeepsOthers name.now) (entries self.old) (entries self.new)) };
+            (Changes (KeepsOthers name.now) (entries self.old) (entries self.new)) }
+        ensures claimed { is_claimed self.new }
+        ensures given_up { given_up self.new ≡ Self.File.contents file };
+
+    /// Sees that the names are stored as they stand.
+    fn sync_names(&mut self) -> io::Result<()>
+        requires { is_claimed self.old }
+        ensures stored { OnOk result (is_stored self.new) }
+        ensures same { Changes IsSame (entries self.old) (entries self.new) }
+        ensures claimed { is_claimed self.new };
 }

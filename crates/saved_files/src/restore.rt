@@ -16,7 +16,7 @@ use std::thread::Threads;
 /// The places of the log, of the master record, and of the first archive.
 pub(crate) const LOG: usize = 0;
 
-const MASTER: usize = 1;
+pub(crate) const MASTER: usize = 1;
 
 const FIRST_ARCHIVE: usize = 2;
 

@@ -14,4 +14,4 @@ pub use finish::finish_script;
 pub use finish_fault::FinishFault;
 pub use run::{Ran, run_script};
 pub use run_fault::RunFault;
-pub use status::{FAULT_STATUS, audit_status, refused_status, restore_status};
+pub use status::{FAULT_STATUS, REFUSED_STATUS, audit_status, refused_status, restore_status};

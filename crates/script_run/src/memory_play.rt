@@ -31,7 +31,7 @@ pub(crate) fn play_in_memory(
     let device = MemDevice::new(alloc, events.len())?;
     match play(alloc, setup, store, device, events) {
         Ok(Played { replies, engine }) => Ok((replies, engine.retire())),
-        Err(PlayFault::OutOfMemory) => Err(AllocError),
-        Err(PlayFault::LogFault) => unreachable!(),
+        Err((PlayFault::OutOfMemory, _)) => Err(AllocError),
+        Err((PlayFault::LogFault, _)) => unreachable!(),
     }
 }

@@ -49,7 +49,7 @@ owed_alike t txn c number =
         → owed_by_entry (cond b (entry_after e (update_of txn c)) e)
         ≡ owed_by_entry (cond b (entry_after e (update_of txn (as_read c number))) e)
     alike e true =
-        ap (λ n. n + cond e.aborted 1 2) (length_push e.pending c ∙ sym (length_push e.pending (as_read c number)))
+        ap (λ n. n + cond e.rolling 1 2) (length_push e.pending c ∙ sym (length_push e.pending (as_read c number)))
     alike e false = refl
 
 -- one record more than before

@@ -1,3 +1,5 @@
 pub mod Ahead
 pub mod Tables
 pub mod Owed
+pub mod Savepoints
+pub mod Searches

@@ -136,14 +136,14 @@ owed_next old new count rs next of may is made = λ fits.
 
 pub state_owed : (held now : Table) (rs : List Record) (t : ℕ) (found : Option TxnState) (state : TxnState)
     → held ≡ now → IsTableOf rs now → is_open rs t ≡ true → found ≡ option_map state_of (entry_in held t)
-    → found ≡ Some state → owed_by rs t ≡ state.pending + (if state.aborted then 1 else 2)
+    → found ≡ Some state → owed_by rs t ≡ state.pending + (if state.rolling then 1 else 2)
 state_owed held now rs t found state same of still found-is is =
     let own : TxnState = state_of (entry_of rs t) in
     let some : Some state ≡ Some own =
     sym is ∙ found-is ∙ state_is rs held t (subst (λ (x : Table). IsTableOf rs x) (sym same) of)
     ∙ ap (λ b. if b then Some own else None) still in
     let equal : state ≡ own = cc in
-    ap (λ (s : TxnState). s.pending + (if s.aborted then 1 else 2)) (sym equal)
+    ap (λ (s : TxnState). s.pending + (if s.rolling then 1 else 2)) (sym equal)
 
 pub state_is_there : (held now : Table) (rs : List Record) (t : ℕ) (found : Option TxnState) (n : ℕ)
     → held ≡ now → IsTableOf rs now → is_open rs t ≡ true → found ≡ option_map state_of (entry_in held t)

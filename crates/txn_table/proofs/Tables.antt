@@ -33,6 +33,13 @@ begun_few (ChkptPages lsn begin pages ∷ rs) = let few = begun_few rs in omega 
 begun_few (ChkptTxns lsn begin txn state last undo ∷ rs) = let few = begun_few rs in omega arith
 begun_few (EndChkpt lsn begin redo ∷ rs) = let few = begun_few rs in omega arith
 
+-- the entry of an open transaction
+pub entry_is : (rs : List Record) (table : Table) (t : ℕ) → IsTableOf rs table → is_open rs t ≡ true
+    → entry_in table t ≡ Some (entry_of rs t)
+entry_is rs table t of still =
+    ap (λ (x : Table). entry_in x t) of.made ∙ entry_in-table_of rs t
+    ∙ ap (λ b. cond b (Some (entry_of rs t)) None) still
+
 pub state_is : (rs : List Record) (table : Table) (t : ℕ) → IsTableOf rs table
     → option_map state_of (entry_in table t) ≡ (if is_open rs t then Some (state_of (entry_of rs t)) else None)
 state_is rs table t of =

@@ -1,19 +1,22 @@
 //! The table of open transactions.
 
 ghost use Rattle.std.specs.Prelude.{ℕ, ◌≡◌, ◌+◌, ◌<◌, ◌≤◌, ◌++◌, ◌∷◌, [], List, length, IfOk, OnOk};
-ghost use Rattle.std.specs.Prelude.{OnErr, true, min};
+ghost use Rattle.std.specs.Prelude.{◌-◌, ◌↔◌, OnErr, IsSomeAnd, IsTrue, slice_get, true, min};
 ghost use Rattle.std.specs.Prelude.{if◌then◌else◌, Some, None};
 ghost use Rattle.log_records.specs.declared.record.Record.{Record};
+ghost use Rattle.log_history.specs.CountUpTo.{IsCountUpTo};
 ghost use Rattle.log_history.specs.Growth.{MayGrow};
 ghost use Rattle.log_history.specs.Linked.{MayFollow};
-ghost use Rattle.log_history.specs.Transactions.{begun, holder, is_open, last_of, open_in, owed};
-ghost use Rattle.log_history.specs.Transactions.{owed_by, pending};
+ghost use Rattle.log_history.specs.Transactions.{begun, holder, is_open, is_rolling, last_of, open_in};
+ghost use Rattle.log_history.specs.Transactions.{owed, owed_by, pending};
 ghost use Rattle.log_history.specs.Table.{entry_of, table_of};
 ghost use Rattle.log_history.specs.TxnState.{state_of};
 ghost use Rattle.log_history.specs.declared.pending_change.PendingChange.{PendingChange};
+ghost use Rattle.txn_table.specs.Returns.{return_of};
 ghost use Rattle.txn_table.specs.TxnTable.{IsAhead, IsTableOf, as_read, next_open, update_of};
 ghost use Rattle.std.specs.Option.{option_map};
 
+use crate::returns::Return;
 use log_history::{OpenTransactions, PendingChange, TxnState};
 use log_records::Record;
 use page_core::{ChangeKind, Lsn, PageNo, SlotNo, TxnNo};
@@ -184,10 +187,60 @@ impl TxnTable {
         self.open.last_pending(txn)
     }
 
+    /// How many pending changes of an open transaction have an LSN up to this one, where their LSNs
+    /// rise. The time is logarithmic in their number.
+    pub(crate) fn pending_up_to(&self, txn: TxnNo, lsn: Lsn) -> usize
+        ensures { (rs : List Record) → IsTableOf rs self.now → is_open rs txn ≡ true
+            → IsCountUpTo (pending rs txn) lsn result }
+    {
+        self.open.pending_up_to(txn, lsn)
+    }
+
+    /// Of the first so many pending changes of an open transaction the last one has this LSN.
+    pub(crate) fn is_update(&self, txn: TxnNo, count: usize, lsn: Lsn) -> bool
+        ensures { (rs : List Record) → IsTableOf rs self.now → is_open rs txn ≡ true
+            → IsTrue result ↔ ((0 < count)
+            × IsSomeAnd (slice_get (pending rs txn) (count - 1)) (λ p. p.lsn ≡ lsn)) }
+    {
+        if count == 0 {
+            return false;
+        }
+        match self.open.pending_at(txn, count - 1) {
+            Some(change) => change.lsn == lsn,
+            None => false,
+        }
+    }
+
+    /// What the next record of the log shows, if it is a Comp that goes back to a savepoint.
+    pub fn return_of(&self, next: &Record) -> Option<Return>
+        requires { (rs : List Record) × (IsTableOf rs self.now × MayFollow rs next.now) }
+        ensures { (rs : List Record) → IsTableOf rs self.now → MayFollow rs next.now
+            → result ≡ return_of rs next.now }
+    {
+        match *next {
+            Record::Comp { lsn, txn, .. } => self.return_by(lsn, txn),
+            _ => None,
+        }
+    }
+
+    /// What a Comp of an open transaction shows that takes its last pending change back.
+    fn return_by(&self, lsn: Lsn, txn: TxnNo) -> Option<Return>
+        ensures { (rs : List Record) → IsTableOf rs self.now → is_open rs txn ≡ true
+            → result ≡ (if is_rolling rs txn then None else Some (record {
+              lsn = lsn;
+              txn = txn;
+              left = length (pending rs txn) - 1;
+            })) }
+    {
+        match self.open.state(txn) {
+            Some(state) => return_in(lsn, txn, &state),
+            None => None,
+        }
+    }
+
     /// How many records the open transactions may still need.
     pub fn owed(&self) -> u64
-        ensures { (rs : List Record) → IsTableOf rs self.now → owed rs ≤ u64.MAX
-            → result ≡ owed rs }
+        ensures { (rs : List Record) → IsTableOf rs self.now → result ≡ owed rs }
     {
         self.owed
     }
@@ -225,10 +278,28 @@ impl TxnTable {
     }
 }
 
+/// What a Comp of a transaction in this state shows.
+fn return_in(lsn: Lsn, txn: TxnNo, state: &TxnState) -> Option<Return>
+    ensures { result ≡ (if state.now.rolling then None else Some (record {
+      lsn = lsn;
+      txn = txn;
+      left = state.now.pending - 1;
+    })) }
+{
+    if state.rolling {
+        return None;
+    }
+    Some(Return {
+        lsn,
+        txn,
+        left: state.pending.saturating_sub(1),
+    })
+}
+
 /// How many records a transaction in this state may still need, as far as the type can count them.
 fn owed_in_state(state: &TxnState) -> u64
-    ensures { result ≡ min (state.now.pending + (if state.now.aborted then 1 else 2)) u64.MAX }
+    ensures { result ≡ min (state.now.pending + (if state.now.rolling then 1 else 2)) u64.MAX }
 {
-    let last = if state.aborted { 1 } else { 2 };
+    let last = if state.rolling { 1 } else { 2 };
     (state.pending as u64).saturating_add(last)
 }

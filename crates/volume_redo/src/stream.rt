@@ -2,6 +2,7 @@
 
 ghost use Rattle.std.specs.Prelude.{◌≡◌, IfErr, OnOk};
 ghost use Rattle.std.specs.Io.KnownBytes.{IsAtEnd};
+ghost use Rattle.page_core.specs.Input.{StaysKnown};
 ghost use Rattle.volume_redo.specs.Stream.{WritesVolume, Leaves, FailedUnread};
 
 use crate::fault::Fault;
@@ -24,6 +25,7 @@ pub fn redo_stream<R: Read, W: Write>(
     reader: &mut R,
     writer: &mut W,
 ) -> Result<(), Fault>
+    ensures known { StaysKnown (R.remaining reader.old) (R.remaining reader.new) }
     ensures ok { OnOk result
         (WritesVolume (R.remaining reader.old) (W.contents writer.old) (W.contents writer.new)) }
     ensures end { OnOk result (IsAtEnd (R.remaining reader.new)) }

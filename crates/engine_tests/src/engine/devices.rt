@@ -59,7 +59,9 @@ fn assert_failing(rt: &(impl Abort + AllocGlobal), calls: &Calls, k: u64, place:
     drop(played);
     let store = store_of(rt, 1);
     let device = failing_device(rt, records, k);
-    let mut engine = Engine::new(rt.alloc(), setup_of(1), store, device).expect(rt, "an engine");
+    let mut engine = Engine::new(rt.alloc(), setup_of(1), store, device)
+        .ok()
+        .expect(rt, "an engine");
     call_each(rt, &mut engine, calls, k, place);
     drop(engine);
 }
@@ -263,7 +265,8 @@ fn the_header_is_not_stored(rt: HostRuntime) {
     let store = store_of(&rt, 1);
     let device = failing_device(&rt, 1, 1);
     let fault = Engine::new(rt.alloc(), setup_of(1), store, device).err();
-    same(&rt, &fault, &Some(PlayFault::LogFault));
+    let left = fault.map(|(fault, device)| (fault, device.bytes().len()));
+    same(&rt, &left, &Some((PlayFault::LogFault, 0)));
 }
 
 #[test]
@@ -271,5 +274,6 @@ fn the_header_is_not_stored_for_a_list(rt: HostRuntime) {
     let store = store_of(&rt, 1);
     let device = failing_device(&rt, 1, 1);
     let fault = play(rt.alloc(), setup_of(1), store, device, &[Event::Begin]).err();
-    same(&rt, &fault, &Some(PlayFault::LogFault));
+    let left = fault.map(|(fault, device)| (fault, device.bytes().len()));
+    same(&rt, &left, &Some((PlayFault::LogFault, 0)));
 }

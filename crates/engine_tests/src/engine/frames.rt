@@ -19,7 +19,9 @@ fn assert_calls(rt: &(impl Abort + AllocGlobal), pages: u32, frames: u32, k: u64
     let store = failing_store(rt, pages, k);
     let device = device_of(rt, calls.events.len());
     let setup = Setup { pages, frames };
-    let mut engine = Engine::new(rt.alloc(), setup, store, device).expect(rt, "an engine");
+    let mut engine = Engine::new(rt.alloc(), setup, store, device)
+        .ok()
+        .expect(rt, "an engine");
     call(rt, &mut engine, &calls);
     drop(engine);
 }

@@ -70,10 +70,9 @@ fn answers_so(
     requires formatted { store.pages ≡ formatted_pages pages }
 {
     let device = failing_device(rt, calls.events.len(), 0);
-    let mut engine = Engine::new(rt.alloc(), setup_of(pages), store, device).expect(
-        rt,
-        "an engine",
-    );
+    let mut engine = Engine::new(rt.alloc(), setup_of(pages), store, device)
+        .ok()
+        .expect(rt, "an engine");
     let is_so = answers(rt, &mut engine, calls);
     drop(engine);
     is_so

@@ -152,7 +152,9 @@ fn event_of(number: u64, begun: u32) -> Event {
 fn random_retired(rt: &(impl Abort + AllocGlobal), seed: u64) -> Retired {
     let store = failing_store(rt, 4, 0);
     let device = failing_device(rt, 400, 0);
-    let mut engine = Engine::new(rt.alloc(), setup_of(4), store, device).expect(rt, "an engine");
+    let mut engine = Engine::new(rt.alloc(), setup_of(4), store, device)
+        .ok()
+        .expect(rt, "an engine");
     for event in [
         Event::CkptBegin,
         Event::CkptGather,

@@ -52,6 +52,7 @@ fn rebuilt_of(
         copy,
         given.cut,
     )
+    .ok()
     .expect(rt, "a run");
     assert_replies(rt, &rebuilt.replies, calls);
     rebuilt.outcome

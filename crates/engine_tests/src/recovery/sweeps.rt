@@ -50,10 +50,9 @@ fn run(rt: &(impl Abort + AllocGlobal), sweep: Sweep<'_>) -> (Retired, bool) {
     let pages = sweep.row.pages(rt);
     let store = failing_store(rt, pages, sweep.store);
     let device = failing_device(rt, sweep.calls.events.len(), sweep.device);
-    let mut engine = Engine::new(rt.alloc(), setup_of(pages), store, device).expect(
-        rt,
-        "an engine",
-    );
+    let mut engine = Engine::new(rt.alloc(), setup_of(pages), store, device)
+        .ok()
+        .expect(rt, "an engine");
     let mut has_failed = false;
     for event in &sweep.calls.events {
         if is_fault(engine.apply(*event)) {

@@ -1,7 +1,7 @@
 use Rattle.std.proofs.Common.{refl, rules, ◌≡◌, ◌<◌, ◌+◌, length, [], ◌∷◌, ◌++◌, arith, take, take_all, subst, sym, ap, ◌∙◌}
 use Rattle.std.proofs.lemmas.List.{length-take, take_more}
 use Rattle.aries_core.specs.declared.event.Event.{Event}
-use Rattle.aries_core.specs.EngineState.{EngineState, IsFit, EngineView, new_state}
+use Rattle.aries_core.specs.EngineState.{IsFit, EngineView, new_state}
 use Rattle.aries_core.specs.Step.{IsByDevice, IsByStore}
 use Rattle.aries_core.proofs.Calls.{work_of_run}
 use Rattle.aries_core.proofs.Catalogues.{copies_of_run}
@@ -36,12 +36,13 @@ loop-event-preserved g c =
           c.loop-event.engine.store c.apply.new.self.store c.loop-event.replies.items c.apply.result so_far.store_tells
           (left_sound IsByStore g.S.PageStore.failures c.loop-event.engine.store c.apply.new.self.store c.apply.result
           c.apply.ensures.store_refused) c.apply.ensures.no_store_failure c.apply.ensures.store_cause);
-      on = rw (next, items) (plays_push (given_storage g) c.args.setup.pages c.args.store c.args.device (take i events)
+      on = rw (next, items) (plays_push (given_storage g) c.args.setup.pages c.args.setup.frames c.args.store c.args.device (take i events)
           c.loop-event.replies.items c.loop-event.engine event c.apply.result c.apply.new.self so_far.on
           (call_on (given_storage g) c.loop-event.engine event c.apply.result c.apply.new.self c.apply.ensures.step
           c.apply.ensures.refused c.apply.ensures.called c.apply.ensures.forced_first c.apply.ensures.last_call
           c.apply.ensures.sound c.apply.ensures.no_failure
-          c.apply.ensures.cause c.apply.ensures.store c.apply.ensures.store_refused c.apply.ensures.no_store_failure
+          c.apply.ensures.cause c.apply.ensures.asked c.apply.ensures.store_refused c.apply.ensures.failed
+          c.apply.ensures.no_store_failure
           c.apply.ensures.store_cause (record { pages = c.log-in-loop-event.ensures.pages; records = c.log-in-loop-event.ensures.records })));
       bound = c.apply.ensures.same_bound ∙ so_far.bound;
       within_bound = rw items (within_push c.args.setup.pages c.args.setup.frames (length events) (g.D.LogDevice.fails_from c.args.device)
@@ -94,8 +95,7 @@ loop-event-init g c = record {
       rw c.in-Ok.ensures.items (record {
         first = c.in_ok-engine.engine;
         made = record {
-          state = made.empty ∙ ap (λ n. new_state c.args.setup.pages n)
-              (sym (ap (λ (s : EngineState). s.frames) made.empty));
+          state = made.empty;
           stored = record { pages = c.log.ensures.pages; records = c.log.ensures.records };
           given = made.store;
           header = made.header;

@@ -15,6 +15,8 @@ given_storage g = record {
   called = g.D.LogDevice.called;
   bytes = g.D.LogDevice.bytes;
   device_failures = g.D.LogDevice.failures;
+  gave = g.S.PageStore.gave;
+  wrote = g.S.PageStore.wrote;
   stored = g.S.PageStore.stored;
   store_failures = g.S.PageStore.failures;
 }
@@ -28,7 +30,7 @@ invariant-loop-event g l = record {
       (g.D.LogDevice.failures l.engine.device);
   store_tells : Tells IsByStore (g.S.PageStore.failures l.fn.store) l.replies.items
       (g.S.PageStore.failures l.engine.store);
-  on : PlaysOn (given_storage g) l.fn.setup.pages l.fn.store l.fn.device (take l.event-index l.events)
+  on : PlaysOn (given_storage g) l.fn.setup.pages l.fn.setup.frames l.fn.store l.fn.device (take l.event-index l.events)
       l.replies.items l.engine;
   bound : g.D.LogDevice.fails_from l.engine.device ≡ g.D.LogDevice.fails_from l.fn.device;
   within_bound : lsn_of (length l.events) < g.D.LogDevice.fails_from l.fn.device

@@ -3,7 +3,7 @@ use Rattle.std.proofs.lemmas.Result.{IfOk-weaker}
 use Rattle.clap.specs.declared.builder.command.Command.{Command as Parser}
 use Rattle.clap.specs.declared.builder.command.Command.TheOpen.{Command-F}
 use Rattle.clap.specs.Simple.{app_of_fields, new_app, with_rule}
-use Rattle.command_words.specs.Command.{archive_rule, log_rule}
+use Rattle.command_words.specs.Command.{all_rule, archive_rule, audited_master_rule, log_rule}
 use Rattle.command_words.proofs.RequiredLemmas.{app_with, asks_for_log}
 use Rattle.command_words.proofs.arguments.audit_command.Goals as goal
 
@@ -14,24 +14,31 @@ returns-clause-made c =
     let globals = λ (f : Command-F Parser). f.has_globals in
     let negates = λ (f : Command-F Parser). f.subcommand_negates_reqs in
     let named = c.in_ok-bin_name.ensures.0 in
-    IfOk-weaker c.arg-2.result _ _ (λ command added. asks_for_log
-    c.in_ok-bin_name.field-0 c.in_ok-arg.field-0 command
-    c.log_arg.result c.archive_arg.result
-    (ap args named ∙ (ap args c.about.ensures ∙ c.new.ensures.empty.0))
-    (ap groups named ∙ (ap groups c.about.ensures ∙ c.new.ensures.empty.1))
-    (ap globals named ∙ (ap globals c.about.ensures ∙ c.new.ensures.local))
-    (ap negates named ∙ (ap negates c.about.ensures ∙ c.new.ensures.negates))
-    c.log_arg.ensures.fits c.archive_arg.ensures.fits
-    c.log_arg.ensures.rule c.archive_arg.ensures.rule
-    c.log_arg.ensures.value c.in_ok-arg.ensures added) c.arg-2.ensures
+    let shown = c.override_usage.ensures in
+    IfOk-weaker c.arg-4.result _ _ (λ command added. asks_for_log
+    c.in_ok-bin_name.field-0 c.in_ok-arg.field-0 c.in_ok-arg-2.field-0 c.in_ok-arg-3.field-0 command
+    c.log_arg.result c.archive_arg.result c.audited_master_arg.result c.all_arg.result
+    (ap args named ∙ (ap args shown ∙ (ap args c.about.ensures ∙ c.new.ensures.empty.0)))
+    (ap groups named ∙ (ap groups shown ∙ (ap groups c.about.ensures ∙ c.new.ensures.empty.1)))
+    (ap globals named ∙ (ap globals shown ∙ (ap globals c.about.ensures ∙ c.new.ensures.local)))
+    (ap negates named ∙ (ap negates shown ∙ (ap negates c.about.ensures ∙ c.new.ensures.negates)))
+    c.log_arg.ensures.fits c.archive_arg.ensures.fits c.audited_master_arg.ensures.fits c.all_arg.ensures.fits
+    c.log_arg.ensures.rule c.archive_arg.ensures.rule c.audited_master_arg.ensures.rule c.all_arg.ensures.rule
+    c.log_arg.ensures.value
+    c.in_ok-arg.ensures c.in_ok-arg-2.ensures c.in_ok-arg-3.ensures added) c.arg-4.ensures
 
 pub returns-clause-app : goal.returns-clause-app
 returns-clause-app c =
     let named = c.in_ok-bin_name.ensures.0 in
-    let start = ap app_of_fields named ∙ (ap app_of_fields c.about.ensures ∙ c.new.ensures.app) in
+    let shown = c.override_usage.ensures in
+    let start = ap app_of_fields named ∙ (ap app_of_fields shown ∙ (ap app_of_fields c.about.ensures ∙ c.new.ensures.app)) in
     let app = new_app (codes "audit") in
-    let with_log = app_with c.in_ok-bin_name.field-0 c.in_ok-arg.field-0 c.log_arg.result app log_rule
+    let with_1 = app_with c.in_ok-bin_name.field-0 c.in_ok-arg.field-0 c.log_arg.result app log_rule
     c.in_ok-arg.ensures c.log_arg.ensures.fits.1 start c.log_arg.ensures.rule in
-    IfOk-weaker c.arg-2.result _ _ (λ command added. app_with c.in_ok-arg.field-0 command c.archive_arg.result
-    (with_rule app log_rule) archive_rule added c.archive_arg.ensures.fits.1 with_log c.archive_arg.ensures.rule)
-    c.arg-2.ensures
+    let with_2 = app_with c.in_ok-arg.field-0 c.in_ok-arg-2.field-0 c.archive_arg.result (with_rule app log_rule) archive_rule
+    c.in_ok-arg-2.ensures c.archive_arg.ensures.fits.1 with_1 c.archive_arg.ensures.rule in
+    let with_3 = app_with c.in_ok-arg-2.field-0 c.in_ok-arg-3.field-0 c.audited_master_arg.result (with_rule (with_rule app log_rule) archive_rule) audited_master_rule
+    c.in_ok-arg-3.ensures c.audited_master_arg.ensures.fits.1 with_2 c.audited_master_arg.ensures.rule in
+    IfOk-weaker c.arg-4.result _ _ (λ command added. app_with c.in_ok-arg-3.field-0 command c.all_arg.result
+    (with_rule (with_rule (with_rule app log_rule) archive_rule) audited_master_rule) all_rule added c.all_arg.ensures.fits.1 with_3
+    c.all_arg.ensures.rule) c.arg-4.ensures

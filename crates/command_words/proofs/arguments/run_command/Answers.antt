@@ -3,7 +3,7 @@ use Rattle.std.proofs.lemmas.Result.{IfOk-weaker}
 use Rattle.clap.specs.declared.builder.command.Command.{Command as Parser}
 use Rattle.clap.specs.declared.builder.command.Command.TheOpen.{Command-F}
 use Rattle.clap.specs.Simple.{app_of_fields, new_app, with_rule}
-use Rattle.command_words.specs.Command.{frames_rule, pages_rule, save_rule}
+use Rattle.command_words.specs.Command.{frames_rule, pages_rule, save_rule, strict_rule}
 use Rattle.command_words.proofs.RequiredLemmas.{app_with, asks_for_pages}
 use Rattle.command_words.proofs.arguments.run_command.Goals as goal
 
@@ -14,27 +14,31 @@ returns-clause-made c =
     let globals = λ (f : Command-F Parser). f.has_globals in
     let negates = λ (f : Command-F Parser). f.subcommand_negates_reqs in
     let named = c.in_ok-bin_name.ensures.0 in
-    IfOk-weaker c.arg-3.result _ _ (λ command added. asks_for_pages
-    c.in_ok-bin_name.field-0 c.in_ok-arg.field-0 c.in_ok-arg-2.field-0 command
-    c.pages_arg.result c.frames_arg.result c.save_arg.result
-    (ap args named ∙ (ap args c.about.ensures ∙ c.new.ensures.empty.0))
-    (ap groups named ∙ (ap groups c.about.ensures ∙ c.new.ensures.empty.1))
-    (ap globals named ∙ (ap globals c.about.ensures ∙ c.new.ensures.local))
-    (ap negates named ∙ (ap negates c.about.ensures ∙ c.new.ensures.negates))
-    c.pages_arg.ensures.fits c.frames_arg.ensures.fits c.save_arg.ensures.fits
-    c.pages_arg.ensures.rule c.frames_arg.ensures.rule c.save_arg.ensures.rule
+    let shown = c.override_usage.ensures in
+    IfOk-weaker c.arg-4.result _ _ (λ command added. asks_for_pages
+    c.in_ok-bin_name.field-0 c.in_ok-arg.field-0 c.in_ok-arg-2.field-0 c.in_ok-arg-3.field-0 command
+    c.pages_arg.result c.frames_arg.result c.save_arg.result c.strict_arg.result
+    (ap args named ∙ (ap args shown ∙ (ap args c.about.ensures ∙ c.new.ensures.empty.0)))
+    (ap groups named ∙ (ap groups shown ∙ (ap groups c.about.ensures ∙ c.new.ensures.empty.1)))
+    (ap globals named ∙ (ap globals shown ∙ (ap globals c.about.ensures ∙ c.new.ensures.local)))
+    (ap negates named ∙ (ap negates shown ∙ (ap negates c.about.ensures ∙ c.new.ensures.negates)))
+    c.pages_arg.ensures.fits c.frames_arg.ensures.fits c.save_arg.ensures.fits c.strict_arg.ensures.fits
+    c.pages_arg.ensures.rule c.frames_arg.ensures.rule c.save_arg.ensures.rule c.strict_arg.ensures.rule
     c.pages_arg.ensures.value c.pages_arg.ensures.parser c.frames_arg.ensures.parser
-    c.in_ok-arg.ensures c.in_ok-arg-2.ensures added) c.arg-3.ensures
+    c.in_ok-arg.ensures c.in_ok-arg-2.ensures c.in_ok-arg-3.ensures added) c.arg-4.ensures
 
 pub returns-clause-app : goal.returns-clause-app
 returns-clause-app c =
     let named = c.in_ok-bin_name.ensures.0 in
-    let start = ap app_of_fields named ∙ (ap app_of_fields c.about.ensures ∙ c.new.ensures.app) in
+    let shown = c.override_usage.ensures in
+    let start = ap app_of_fields named ∙ (ap app_of_fields shown ∙ (ap app_of_fields c.about.ensures ∙ c.new.ensures.app)) in
     let app = new_app (codes "run") in
-    let with_pages = app_with c.in_ok-bin_name.field-0 c.in_ok-arg.field-0 c.pages_arg.result app pages_rule
+    let with_1 = app_with c.in_ok-bin_name.field-0 c.in_ok-arg.field-0 c.pages_arg.result app pages_rule
     c.in_ok-arg.ensures c.pages_arg.ensures.fits.1 start c.pages_arg.ensures.rule in
-    let with_frames = app_with c.in_ok-arg.field-0 c.in_ok-arg-2.field-0 c.frames_arg.result (with_rule app pages_rule)
-    frames_rule c.in_ok-arg-2.ensures c.frames_arg.ensures.fits.1 with_pages c.frames_arg.ensures.rule in
-    IfOk-weaker c.arg-3.result _ _ (λ command added. app_with c.in_ok-arg-2.field-0 command c.save_arg.result
-    (with_rule (with_rule app pages_rule) frames_rule) save_rule added c.save_arg.ensures.fits.1 with_frames
-    c.save_arg.ensures.rule) c.arg-3.ensures
+    let with_2 = app_with c.in_ok-arg.field-0 c.in_ok-arg-2.field-0 c.frames_arg.result (with_rule app pages_rule) frames_rule
+    c.in_ok-arg-2.ensures c.frames_arg.ensures.fits.1 with_1 c.frames_arg.ensures.rule in
+    let with_3 = app_with c.in_ok-arg-2.field-0 c.in_ok-arg-3.field-0 c.save_arg.result (with_rule (with_rule app pages_rule) frames_rule) save_rule
+    c.in_ok-arg-3.ensures c.save_arg.ensures.fits.1 with_2 c.save_arg.ensures.rule in
+    IfOk-weaker c.arg-4.result _ _ (λ command added. app_with c.in_ok-arg-3.field-0 command c.strict_arg.result
+    (with_rule (with_rule (with_rule app pages_rule) frames_rule) save_rule) strict_rule added c.strict_arg.ensures.fits.1 with_3
+    c.strict_arg.ensures.rule) c.arg-4.ensures

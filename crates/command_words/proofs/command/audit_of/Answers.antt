@@ -1,7 +1,8 @@
-use Rattle.std.proofs.Common.{List, Option, [], ap, codes, sym, ◌∙◌}
+use Rattle.std.proofs.Common.{List, Option, [], ap, codes, subst, sym, ◌∙◌}
 use Rattle.std.specs.Prelude.{unwrap_or}
-use Rattle.clap.specs.Words.{Text, all_of, found_of, first_of}
-use Rattle.clap.proofs.WalkLemmas.{first_value-rows, raw_values-rows}
+use Rattle.clap.specs.Words.{Text, all_of, found_of, first_of, one_of}
+use Rattle.clap.proofs.WalkLemmas.{first_value-rows, one_text-rows, raw_values-rows}
+use Rattle.command_words.specs.Command.{IsFlag}
 use Rattle.command_words.proofs.command.audit_of.Goals as goal
 
 pub returns-clause-ok : goal.returns-clause-ok
@@ -13,4 +14,8 @@ returns-clause-ok g c =
           ∙ (sym (first_value-rows found (codes "log")) ∙ c.value_in-log.ensures),
       c.in_ok-archives.ensures ∙ ap (λ (o : Option (List Text)). unwrap_or o [])
           (raw_values-rows found (codes "archive") ∙ ap (all_of (codes "archive")) rows),
+      c.get_str-master.ensures ∙ (first_value-rows found (codes "master") ∙ ap (first_of (codes "master")) rows),
+      subst (λ o. IsFlag o c.get_flag-all.result)
+          (one_text-rows found (codes "every") ∙ ap (one_of (codes "every")) rows)
+          (c.get_flag-all.ensures.none, c.get_flag-all.ensures.value, c.get_flag-all.ensures.other),
     )

@@ -1,25 +1,10 @@
 use Rattle.std.proofs.Common.{Some, ap, inr, map, refl, ◌∙◌}
-use Rattle.command_words.specs.Command.{audit_app, redo_app, restore_app, run_app}
-use Rattle.command_words.proofs.NameLemmas.{first_word, not_of_redo, only_by, taken_audit, taken_redo, taken_restore}
+use Rattle.command_words.specs.Command.{audit_app, restore_app, run_app}
+use Rattle.command_words.proofs.NameLemmas.{first_word, not_of_redo, only_by, taken_audit, taken_restore}
 use Rattle.command_words.proofs.NameLemmas.{audit_not_help, help_explains, not_help, read_as_they_stand, read_explains}
 use Rattle.command_words.proofs.NameLemmas.{taken_run}
 use Rattle.command_words.proofs.NameLemmas.{unknown, unknown_explains, unnamed}
-use Rattle.command_words.proofs.RedoLemmas.{comes_for_redo, only_for_redo}
 use Rattle.command_words.proofs.command.command_of.Goals as goal
-
-pub returns-in-redo-clause-redo : goal.returns-in-redo-clause-redo
-returns-in-redo-clause-redo g c =
-    comes_for_redo _ c.redo_of.result c.redo_of.ensures.is_redo c.redo_of.ensures.only
-
-pub returns-in-redo-clause-redo_only : goal.returns-in-redo-clause-redo_only
-returns-in-redo-clause-redo_only g c = only_for_redo _ c.redo_of.result c.redo_of.ensures.ok
-
-pub returns-in-redo-clause-only : goal.returns-in-redo-clause-only
-returns-in-redo-clause-only g c =
-    let words = map g.S.AsStr.text c.args.words.now in
-    let first = first_word g.S.AsStr.text c.args.words.now c.in-Some.name.now c.as_str.result.now
-    c.in-Some.ensures.value c.as_str.ensures in
-    only_by words redo_app c.redo_of.result (taken_redo words (first ∙ ap Some c.in-redo.is)) c.redo_of.ensures.only
 
 pub returns-in-run-clause-only : goal.returns-in-run-clause-only
 returns-in-run-clause-only g c =

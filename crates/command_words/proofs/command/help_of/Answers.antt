@@ -1,18 +1,20 @@
 use Rattle.std.proofs.Common.{IfErr, [], codes, refl, subst, sym, ◌∷◌}
-use Rattle.command_words.specs.Command.{ExplainsRead, audit_app, redo_app, restore_app, run_app}
+use Rattle.command_words.specs.Command.{ExplainsRead, audit_app, redo_into_app, restore_app, run_app}
 use Rattle.command_words.proofs.ClapLemmas.{help_of_audit, help_of_redo, help_of_restore, help_of_run}
-use Rattle.command_words.proofs.NameLemmas.{help_gives_none, taken_audit, taken_redo, taken_restore, taken_run}
+use Rattle.command_words.proofs.NameLemmas.{help_gives_none, taken_audit, taken_restore, taken_run}
+use Rattle.command_words.proofs.RedoLemmas.{help_is_other, taken_redo_into}
 use Rattle.command_words.proofs.command.help_of.Goals as goal
 
 pub returns-in-redo-clause-refused : goal.returns-in-redo-clause-refused
 returns-in-redo-clause-refused c =
     let words = codes "redo" ∷ codes "--help" ∷ [] in
-    help_gives_none words redo_app c.redo_of.result c.redo_of.ensures.ok (taken_redo words refl) help_of_redo
+    help_gives_none words redo_into_app c.redo_into_of.result c.redo_into_of.ensures.ok
+    (taken_redo_into words refl help_is_other) help_of_redo
 
 pub returns-in-redo-clause-explained : goal.returns-in-redo-clause-explained
 returns-in-redo-clause-explained c =
-    subst (λ name. IfErr c.redo_of.result (ExplainsRead (name ∷ codes "--help" ∷ []))) (sym c.in-redo.is)
-    c.redo_of.ensures.explained
+    subst (λ name. IfErr c.redo_into_of.result (ExplainsRead (name ∷ codes "--help" ∷ []))) (sym c.in-redo.is)
+    c.redo_into_of.ensures.explained
 
 pub returns-in-run-clause-refused : goal.returns-in-run-clause-refused
 returns-in-run-clause-refused c =

@@ -15,4 +15,5 @@ returns-clause-ok g c =
           ∙ (sym (first_value-rows found (codes "master")) ∙ c.value_in-master.ensures),
       c.in_ok-archives.ensures ∙ ap (λ (o : Option (List Text)). unwrap_or o [])
           (raw_values-rows found (codes "archive") ∙ ap (all_of (codes "archive")) rows),
+      c.get_str-output.ensures ∙ (first_value-rows found (codes "into") ∙ ap (first_of (codes "into")) rows),
     )

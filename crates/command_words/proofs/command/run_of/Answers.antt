@@ -1,7 +1,7 @@
 use Rattle.std.proofs.Common.{ap, codes, subst, ◌∙◌}
 use Rattle.clap.specs.Words.{found_of, first_of, one_of}
-use Rattle.clap.proofs.WalkLemmas.{first_value-rows}
-use Rattle.command_words.specs.Command.{IsFramesRead, IsRead}
+use Rattle.clap.proofs.WalkLemmas.{first_value-rows, one_text-rows}
+use Rattle.command_words.specs.Command.{IsFlag, IsFramesRead, IsRead}
 use Rattle.command_words.proofs.command.run_of.Goals as goal
 
 pub returns-clause-ok : goal.returns-clause-ok
@@ -13,4 +13,7 @@ returns-clause-ok g c =
           c.frames_in-frames.ensures.read,
       c.get_str-save.ensures ∙ (first_value-rows (found_of c.in_ok-matches.matches) (codes "save")
           ∙ ap (first_of (codes "save")) rows),
+      subst (λ o. IsFlag o c.get_flag-strict.result)
+          (one_text-rows (found_of c.in_ok-matches.matches) (codes "is_strict") ∙ ap (one_of (codes "is_strict")) rows)
+          (c.get_flag-strict.ensures.none, c.get_flag-strict.ensures.value, c.get_flag-strict.ensures.other),
     )

@@ -32,10 +32,16 @@ returns-then-not-branch-clause-ok g c =
     let inputs = map left c.args.archives.now in
     let looked = c.rows.invariant.looked in
     let ended = c.in_ok-next_each.ensures in
-    let read = rw c.if-not-branch.true at (ended.ok inputs looked.given looked.reading) in
+    let read = (rw c.if-not-branch.true at (ended.ok inputs looked.given looked.reading)).0 in
     all_looked inputs (map left c.rows.archives) c.args.log.now c.rows.chain c.next_each.new.self
     (length c.rows.row.items) c.rows.number c.rows.found c.named.result looked read ended.points ended.pages ended.end
     c.named.ensures
+
+pub returns-then-not-branch-clause-end : goal.returns-then-not-branch-clause-end
+returns-then-not-branch-clause-end g c =
+    let inputs = map g.A.Read.remaining c.args.archives.now in
+    let looked = c.rows.invariant.looked in
+    (rw c.if-not-branch.true at (c.in_ok-next_each.ensures.ok inputs looked.given looked.reading)).1
 
 pub of-requires : goal.of-requires
 of-requires g c =

@@ -55,9 +55,14 @@ returns-in-None-clause-ok g c =
     let inputs = map left c.args.readers.now in
     let inv = c.pages.invariant in
     let given = c.pages.given.items in
-    let whole = rw c.in-None.is at (c.in_ok-page.ensures.ok inputs given inv.reading) in
+    let whole = (rw c.in-None.is at (c.in_ok-page.ensures.ok inputs given inv.reading)).0 in
     subst (λ n. IsChainRead c.args.pages c.args.end inputs given n) (sym c.redo.ensures)
     (subst (λ n. IsChainRead n c.args.end inputs given c.next.new.self.redo)
     (c.in_ok-page.ensures.pages ∙ inv.pages)
     (subst (λ n. IsChainRead c.next.new.self.pages n inputs given c.next.new.self.redo)
     (c.in_ok-page.ensures.end ∙ inv.end) whole))
+
+pub returns-in-None-clause-end : goal.returns-in-None-clause-end
+returns-in-None-clause-end g c =
+    let inputs = map g.R.Read.remaining c.args.readers.now in
+    (rw c.in-None.is at (c.in_ok-page.ensures.ok inputs c.pages.given.items c.pages.invariant.reading)).1

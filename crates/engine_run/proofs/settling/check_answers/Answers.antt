@@ -12,8 +12,11 @@ check_works-requires-clause-none g c =
 
 pub returns-in-Err-check_works-clause-err : goal.returns-in-Err-check_works-clause-err
 returns-in-Err-check_works-clause-err g c =
-    inr (inr (c.in-Err-check_works.ensures.err (written (all_receipts c.args.sessions.now))
-    c.in_default.ensures.marked))
+    inr (
+      c.requires.counted,
+      inr (c.in-Err-check_works.ensures.err (written (all_receipts c.args.sessions.now))
+          c.in_default.ensures.marked),
+    )
 
 pub returns-clause-ok : goal.returns-clause-ok
 returns-clause-ok g c = record {

@@ -48,3 +48,20 @@ returns-clause-unread g c =
             (omega (arith, length-take c.loop-turn.filled c.loop-turn.header)),
       ),
     )
+
+pub returns-in-End-clause-known : goal.returns-in-End-clause-known
+returns-in-End-clause-known g c =
+    (take c.loop-turn.filled c.loop-turn.header, c.in-End.ensures.1 _ [] c.loop-turn.invariant.taken)
+
+pub returns-in-Failed-clause-known : goal.returns-in-Failed-clause-known
+returns-in-Failed-clause-known g c =
+    (take c.loop-turn.filled c.loop-turn.header, c.in-Failed.ensures _ [] c.loop-turn.invariant.taken)
+
+pub returns-then-filled-ge-HEADER_BYTES-clause-known : goal.returns-then-filled-ge-HEADER_BYTES-clause-known
+returns-then-filled-ge-HEADER_BYTES-clause-known g c = (
+  take (c.loop-turn.filled + c.in-More.count) c.read_more.new.buffer,
+  c.in-More.ensures.1 _ [] c.loop-turn.invariant.taken,
+)
+
+pub returns-clause-known : goal.returns-clause-known
+returns-clause-known g c = (take c.loop-turn.filled c.loop-turn.header, c.loop-turn.invariant.taken)

@@ -181,3 +181,32 @@ returns-clause-unread g c =
             (λ full. let none = inv.few (omega arith) in omega (arith, length-take c.loop.filled c.loop.buffer)),
       ),
     )
+
+pub returns-in-End-clause-known : goal.returns-in-End-clause-known
+returns-in-End-clause-known g c =
+    let read = c.loop.invariant.so_far.0 in
+    (read ++ take c.loop.filled c.loop.buffer, c.in-End.ensures.1 _ read c.loop.invariant.so_far.1.1)
+
+pub returns-in-Failed-clause-known : goal.returns-in-Failed-clause-known
+returns-in-Failed-clause-known g c =
+    let read = c.loop.invariant.so_far.0 in
+    (read ++ take c.loop.filled c.loop.buffer, c.in-Failed.ensures _ read c.loop.invariant.so_far.1.1)
+
+pub returns-in_err-seen-clause-known : goal.returns-in_err-seen-clause-known
+returns-in_err-seen-clause-known g c =
+    let read = c.loop.invariant.so_far.0 in (
+      read ++ take (c.loop.filled + c.in-More.more) c.read_more.new.buffer,
+      c.in-More.ensures.1 _ read c.loop.invariant.so_far.1.1,
+    )
+
+pub returns-then-filled-gt0-clause-known : goal.returns-then-filled-gt0-clause-known
+returns-then-filled-gt0-clause-known g c =
+    let read = c.loop.invariant.so_far.0 in (
+      read ++ take (c.loop.filled + c.in-More.more) c.read_more.new.buffer,
+      c.in-More.ensures.1 _ read c.loop.invariant.so_far.1.1,
+    )
+
+pub returns-clause-known : goal.returns-clause-known
+returns-clause-known g c =
+    let read = c.loop.invariant.so_far.0 in
+    (read ++ take c.loop.filled c.loop.buffer, c.loop.invariant.so_far.1.1)

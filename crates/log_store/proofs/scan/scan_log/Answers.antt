@@ -7,6 +7,7 @@ use Rattle.log_store.specs.declared.fault.LogReadFault.TheVariants.{BadHeader}
 use Rattle.log_records.specs.Log.{SpellsLog, header_bytes}
 use Rattle.log_store.specs.Fault.{Refuses, IsHeader}
 use Rattle.log_store.proofs.Faults.{first_header}
+use Rattle.page_core.proofs.Inputs.{known_more}
 use Rattle.log_store.proofs.Inputs.{of_input, goes_on_header}
 use Rattle.log_store.proofs.Scans.{of_rest, of_all, gave_more}
 use Rattle.log_store.proofs.scan.scan_log.Goals as goal
@@ -63,3 +64,10 @@ returns-clause-found g c =
         ),
       ),
     )
+
+pub returns-in_err-read_records-clause-known : goal.returns-in_err-read_records-clause-known
+returns-in_err-read_records-clause-known g c =
+    known_more _ _ _ c.read_header.ensures.known c.read_records.ensures.known
+
+pub returns-clause-known : goal.returns-clause-known
+returns-clause-known g c = known_more _ _ _ c.read_header.ensures.known c.read_records.ensures.known

@@ -3,9 +3,9 @@ use Rattle.log_history.specs.Transactions.{first_lsn, pending}
 use Rattle.loser_undo.proofs.Traced.{IsFound}
 use Rattle.loser_undo.proofs.trace.pending_of.Given as goal
 
-abbrev pub invariant-loop-lsn : goal.invariant-loop-lsn
-invariant-loop-lsn l = IsFound l.log.records l.one.txn (first_lsn l.log.records l.one.txn) l.at l.found.items
+abbrev pub invariant-back : goal.invariant-back
+invariant-back l = IsFound l.log.records l.one.txn (first_lsn l.log.records l.one.txn) l.at l.found.items
     (reverse (pending l.log.records l.one.txn))
 
-abbrev pub decreases-loop-lsn : goal.decreases-loop-lsn
-decreases-loop-lsn l = l.at
+abbrev pub decreases-back : goal.decreases-back
+decreases-back l = l.at

@@ -1,8 +1,7 @@
-use Rattle.std.proofs.Common.{◌≡◌, ap, map, sym, subst}
-use Rattle.std.specs.Prelude.{Err}
+use Rattle.std.proofs.Common.{map, sym, subst}
 use Rattle.std.proofs.lemmas.Result.{err_from_is_err_and}
 use Rattle.media_restore.specs.Files.{Files, IsRestored}
-use Rattle.media_restore.specs.declared.files_fault.RestoreFault.TheVariants.{ReadFault}
+use Rattle.media_restore.specs.FilesStop.{behind_all}
 use Rattle.page_core.specs.Page.{volume_bytes}
 use Rattle.media_restore.proofs.Restored.{leaves, restored_spelled}
 use Rattle.media_restore.proofs.files.restore_files.Goals as goal
@@ -18,11 +17,18 @@ returns-in_err-pages-clause-err g c =
     rw (p.1, p.2)
     (leaves files (g.W.Write.contents c.args.writer.now) c.in_err-pages.field-0.0 c.in_err-pages.ensures.err)
 
-pub returns-in_err-pages-clause-unread : goal.returns-in_err-pages-clause-unread
-returns-in_err-pages-clause-unread g c =
+pub returns-in_err-pages-clause-stops : goal.returns-in_err-pages-clause-stops
+returns-in_err-pages-clause-stops g c =
     let p = err_from_is_err_and c.from_residual.result c.from_residual.ensures.1 in
-    rw (p.1, p.2) (λ is.
-    let same : c.in_err-pages.field-0.0 ≡ ReadFault = cc in c.in_err-pages.ensures.unread (ap Err same))
+    rw (p.1, p.2) c.in_err-pages.ensures.stops
+
+pub returns-in_err-buffer-clause-stops : goal.returns-in_err-buffer-clause-stops
+returns-in_err-buffer-clause-stops g c =
+    let p = err_from_is_err_and c.from_residual-in_err-buffer.result c.from_residual-in_err-buffer.ensures.1 in
+    rw (p.1, p.2) (behind_all tt c.in_ok-pages.ensures.end)
+
+pub returns-clause-stops : goal.returns-clause-stops
+returns-clause-stops g c = behind_all tt c.in_ok-pages.ensures.end
 
 pub returns-in-Ok-clause-ok : goal.returns-in-Ok-clause-ok
 returns-in-Ok-clause-ok g c =

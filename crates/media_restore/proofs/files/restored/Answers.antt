@@ -1,16 +1,13 @@
-use Rattle.std.proofs.Common.{◌≡◌, ◌∙◌, ap, map, refl, subst, ℕ, List}
-use Rattle.std.specs.Prelude.{Err}
+use Rattle.std.proofs.Common.{◌∙◌, ap, map, refl, sym, subst, ℕ}
 use Rattle.std.proofs.lemmas.Result.{err_from_is_err_and}
 use Rattle.log_records.specs.Log.{lsn_of}
 use Rattle.log_changes.specs.Kept.{Kept}
-use Rattle.copy_vault.specs.declared.chain_read_fault.ChainReadFault.{ChainReadFault}
+use Rattle.page_core.proofs.Inputs.{always_ok, if_err}
 use Rattle.copy_vault.specs.ChainReading.{AreNoChain, IsChainRead}
 use Rattle.media_restore.specs.Files.{Files, IsOfLog, of_the_archives, of_the_master}
 use Rattle.media_restore.specs.FilesArchives.{end_of}
-use Rattle.media_restore.specs.FilesFault.{of_chain}
-use Rattle.media_restore.specs.FilesUnread.{in_an_archive, in_the_master}
-use Rattle.media_restore.specs.declared.files_fault.RestoreFault.TheVariants.{ReadFault}
-use Rattle.media_restore.proofs.Restored.{all_restored, is_read, log_is_full, of_read, read_failed}
+use Rattle.media_restore.specs.FilesStop.{IsBehindFiles, behind_all, the_archives, the_log, the_master}
+use Rattle.media_restore.proofs.Restored.{all_restored, is_read, log_is_full, of_read}
 use Rattle.media_restore.proofs.files.restored.Goals as goal
 
 pub returns-in_err-read_master-clause-err : goal.returns-in_err-read_master-clause-err
@@ -26,8 +23,13 @@ returns-in_err-read_master-clause-err g c =
     let p = err_from_is_err_and c.from_residual-in_err-read_master.result c.from_residual-in_err-read_master.ensures.1 in
     rw (p.1, p.2) (of_the_master log of_log why)
 
-pub returns-in_err-read_master-clause-unread : goal.returns-in_err-read_master-clause-unread
-returns-in_err-read_master-clause-unread g c =
+pub returns-in_err-kept-clause-stops : goal.returns-in_err-kept-clause-stops
+returns-in_err-kept-clause-stops g c =
+    let p = err_from_is_err_and c.from_residual.result c.from_residual.ensures.1 in
+    rw (p.1, p.2) (the_log c.in_err-kept.field-0.0 refl c.in_err-kept.ensures.unread refl refl)
+
+pub returns-in_err-read_master-clause-stops : goal.returns-in_err-read_master-clause-stops
+returns-in_err-read_master-clause-stops g c =
     let found = c.in_ok-kept.ensures.found in
     let log = found.0 in
     let of_log : IsOfLog (g.L.Read.remaining c.args.log.now) log = record {
@@ -36,9 +38,8 @@ returns-in_err-read_master-clause-unread g c =
       spelled = found.1.1.1.1.1;
     } in
     let p = err_from_is_err_and c.from_residual-in_err-read_master.result c.from_residual-in_err-read_master.ensures.1 in
-    rw (p.1, p.2) (λ is.
-    let same : c.in_err-read_master.field-0.0 ≡ ReadFault = cc in
-    in_the_master log of_log (c.in_err-read_master.ensures.unread (ap Err same)))
+    rw (p.1, p.2)
+    (the_master log of_log (c.read_changes.ensures.known, c.in_ok-kept.ensures.end) c.in_err-read_master.ensures.stops refl)
 
 pub returns-in_err-pages-clause-err : goal.returns-in_err-pages-clause-err
 returns-in_err-pages-clause-err g c =
@@ -66,8 +67,8 @@ returns-in_err-pages-clause-err g c =
       refused = refused;
     }))
 
-pub returns-in_err-pages-clause-unread : goal.returns-in_err-pages-clause-unread
-returns-in_err-pages-clause-unread g c =
+pub returns-in_err-pages-clause-stops : goal.returns-in_err-pages-clause-stops
+returns-in_err-pages-clause-stops g c =
     let found = c.in_ok-kept.ensures.found in
     let log = found.0 in
     let named = c.in_ok-read_master.field-0 in
@@ -85,11 +86,8 @@ returns-in_err-pages-clause-unread g c =
     let refused = subst (λ (n : ℕ). AreNoChain n (end_of log) inputs lefts fault) count
     (subst (λ (n : ℕ). AreNoChain c.pages.result n inputs lefts fault) end c.in_err-pages.ensures.err) in
     let p = err_from_is_err_and c.from_residual-in_err-pages.result c.from_residual-in_err-pages.ensures.1 in
-    rw (p.1, p.2) (λ is.
-    let same : of_chain fault ≡ ReadFault = cc in
-    in_an_archive log named of_log of_master
-    (subst (λ (why : ChainReadFault). AreNoChain log.pages (end_of log) inputs lefts why) (read_failed fault same)
-    refused))
+    rw (p.1, p.2) (the_archives log named of_log (c.read_changes.ensures.known, c.in_ok-kept.ensures.end) of_master
+    c.in_ok-read_master.ensures.end fault refl refused)
 
 pub recovered-requires-after_bounds : goal.recovered-requires-after_bounds
 recovered-requires-after_bounds g c = λ _ _.
@@ -166,3 +164,18 @@ returns-clause-err g c =
       of_archives = of_read log inputs pages redo read;
       chain = read.chain;
     }) is c.recovered.ensures.err
+
+pub returns-clause-stops : goal.returns-clause-stops
+returns-clause-stops g c = if_err c.recovered.result _ _ (λ fault why.
+    behind_all (subst IsBehindFiles (sym why.0) tt) (record {
+      log = (c.read_changes.ensures.known, c.in_ok-kept.ensures.end);
+      master = c.in_ok-read_master.ensures.end;
+      archives = c.in_ok-pages.ensures.end;
+    })) c.recovered.ensures.err
+
+pub returns-clause-end : goal.returns-clause-end
+returns-clause-end g c = always_ok c.recovered.result _ (record {
+  log = (c.read_changes.ensures.known, c.in_ok-kept.ensures.end);
+  master = c.in_ok-read_master.ensures.end;
+  archives = c.in_ok-pages.ensures.end;
+})

@@ -1,9 +1,10 @@
-use Rattle.std.proofs.Common.{◌≡◌, ◌+◌, [], length, take, refl, arith, inl}
+use Rattle.std.proofs.Common.{◌≡◌, ◌+◌, [], length, take, refl, sym, subst, arith, inl}
 use Rattle.std.proofs.KnownBytes.{Consumes-nil}
 use Rattle.std.proofs.lemmas.List.{length-take}
 use Rattle.log_store.specs.declared.master.Master.{Master}
 use Rattle.log_store.specs.Master.{SpellsMaster}
-use Rattle.page_core.proofs.Inputs.{of_input}
+use Rattle.page_core.proofs.Inputs.{always_ok, if_err, of_input}
+use Rattle.media_restore.specs.FilesStop.{FailsInMaster}
 use Rattle.media_restore.proofs.Masters.{IsFoundIn, found_at_end, none_at_end, none_begins, none_in_nothing}
 use Rattle.media_restore.proofs.Masters.{still_open, still_short}
 use Rattle.media_restore.proofs.files_master.spelled_master.Goals as goal
@@ -56,14 +57,29 @@ loop-preserved g c =
       right = right;
     }
 
-pub returns-in-Failed-clause-unread : goal.returns-in-Failed-clause-unread
-returns-in-Failed-clause-unread g c = λ is. (
+pub returns-in-End-clause-stops : goal.returns-in-End-clause-stops
+returns-in-End-clause-stops g c = if_err c.whole_master.result _ _ (λ fault is.
+    subst (FailsInMaster (g.M.Read.remaining c.args.reader.now) (g.M.Read.remaining c.read_more.new.reader)) (sym is.0)
+    (take c.loop.filled c.loop.bytes, c.in-End.ensures.1 _ [] c.loop.invariant.taken)) c.whole_master.ensures.err
+
+pub returns-in-End-clause-end : goal.returns-in-End-clause-end
+returns-in-End-clause-end g c = always_ok c.whole_master.result _
+    ((take c.loop.filled c.loop.bytes, c.in-End.ensures.1 _ [] c.loop.invariant.taken), c.in-End.ensures.0)
+
+pub returns-then-is_misspelt-clause-stops : goal.returns-then-is_misspelt-clause-stops
+returns-then-is_misspelt-clause-stops g c = (
+  take (c.loop.filled + c.in-More.count) c.read_more.new.buffer,
+  c.in-More.ensures.1 _ [] c.loop.invariant.taken,
+)
+
+pub returns-in-Failed-clause-stops : goal.returns-in-Failed-clause-stops
+returns-in-Failed-clause-stops g c = (
   take c.loop.filled c.loop.bytes,
   (c.in-Failed.ensures _ [] c.loop.invariant.taken, c.loop.invariant.gave),
 )
 
-pub returns-clause-unread : goal.returns-clause-unread
-returns-clause-unread g c = λ is. (
+pub returns-clause-stops : goal.returns-clause-stops
+returns-clause-stops g c = (
   take c.loop.filled c.loop.bytes,
   (c.loop.invariant.taken, c.loop.invariant.gave),
 )

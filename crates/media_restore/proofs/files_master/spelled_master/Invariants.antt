@@ -1,6 +1,6 @@
 use Rattle.std.proofs.Common.{◌<◌, take}
 use Rattle.std.specs.Io.KnownBytes.{Consumes}
-use Rattle.media_restore.specs.FilesUnread.{MayBeMaster}
+use Rattle.media_restore.specs.FilesStop.{MayBeMaster}
 use Rattle.media_restore.proofs.Masters.{IsFoundIn}
 use Rattle.media_restore.proofs.files_master.spelled_master.Given as goal
 

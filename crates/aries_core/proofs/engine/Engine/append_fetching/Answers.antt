@@ -1,17 +1,16 @@
-use Rattle.std.proofs.Common.{◌≡◌, ◌<◌, ◌∷◌, [], List, length, get_or, refl, sym, ap, subst, ◌∙◌, arith, false}
-use Rattle.std.specs.Prelude.{IfSome, Result, Ok, Err, OnOk, is_err}
-use Rattle.page_core.specs.declared.page.Page.{Page}
+use Rattle.std.proofs.Common.{◌≡◌, ◌<◌, length, get_or, sym, ap, subst, ◌∙◌, arith, false}
+use Rattle.std.specs.Prelude.{Result, Ok, Err, OnOk, is_err}
 use Rattle.page_core.specs.Page.{formatted}
-use Rattle.buffer_pool.specs.Frames.{fetched, is_resident}
-use Rattle.buffer_pool.specs.Pool.{IsPoolOf, PoolView, is_clean, written_of}
-use Rattle.log_records.specs.declared.record.Record.{Record}
+use Rattle.buffer_pool.specs.Frames.{fetched}
+use Rattle.buffer_pool.specs.Pool.{PoolView, is_clean, written_of}
 use Rattle.log_records.specs.Log.{Log, StandsAt, lsn_of}
-use Rattle.log_records.specs.Record.{change_of}
 use Rattle.aries_core.specs.Call.{Calls}
 use Rattle.aries_core.specs.EngineState.{EngineState, EngineView, appended, engine_view, log_of, with_page}
 use Rattle.aries_core.specs.OpenCkpt.{media_view}
 use Rattle.aries_core.proofs.Appends.{after_fetch, appended_is, valid_with}
-use Rattle.aries_core.proofs.Fit.{Comes, comes, comes_few}
+use Rattle.aries_core.specs.Asked.{Asks, FailsAsking, page_asked}
+use Rattle.aries_core.proofs.Asks.{asks_page, fails_asking, why_failed}
+use Rattle.aries_core.proofs.Fit.{comes, comes_few}
 use Rattle.aries_core.proofs.PoolStates.{fetched_is}
 use Rattle.aries_core.proofs.engine.Engine.append_fetching.Goals as goal
 use Rattle.aries_core.proofs.engine.Engine.append_fetching.Given as given
@@ -141,3 +140,35 @@ returns-clause-ok g c =
     (media_view c.self.inside.master c.self.inside.session c.self.inside.vault.copies)).state
     ≡ appended (with_page v.state c.args.page) c.args.next) c.self.view_is
     (grown g c ∙ ap (λ (t : EngineState). appended t c.args.next) (came g c))
+
+pub returns-clause-asked : goal.returns-clause-asked
+returns-clause-asked g c =
+    let it = c.self.inside in
+    let stored = g.S.PageStore.stored in
+    let gave = g.S.PageStore.gave in
+    let wrote = g.S.PageStore.wrote in
+    let media = media_view it.master it.session it.vault.copies in
+    let p = c.args.page in
+    let new = engine_view stored c.append-2.new.self c.change.new.self media in
+    let given = said c.fetch.result _ (sym c.is_err-2.ensures.value ∙ c.if-is_err-3.false) c.fetch.ensures.gave
+    (formatted p) in
+    subst (λ (v : EngineView g.row.S.Denot g.row.D.Denot). Asks gave wrote (page_asked v.state p) v new) c.self.view_is
+    (asks_page stored gave wrote it.log it.pool c.make_room-else-is_err.new.self media new p
+    (sym c.is_resident.ensures ∙ c.if-is_resident.false) c.make_room-else-is_err.ensures.same
+    (subst (λ (x : g.row.S.Denot). gave c.make_room-else-is_err.new.self.store p
+    (Ok (get_or (stored c.make_room-else-is_err.new.self.store) p (formatted p))) x) (sym c.change.ensures.store) given))
+
+pub returns-then-is_err-3-clause-failed : goal.returns-then-is_err-3-clause-failed
+returns-then-is_err-3-clause-failed g c = λ by_store.
+    let it = c.self.inside in
+    let stored = g.S.PageStore.stored in
+    let gave = g.S.PageStore.gave in
+    let wrote = g.S.PageStore.wrote in
+    let media = media_view it.master it.session it.vault.copies in
+    let p = c.args.page in
+    let new = engine_view stored c.make_room.new.self c.fetch.new.self media in
+    let failed = why_failed c.fetch.result _ (sym c.is_err-2.ensures.value ∙ c.if-is_err-3.true) c.fetch.ensures.failed in
+    subst (λ (v : EngineView g.row.S.Denot g.row.D.Denot). FailsAsking gave wrote (page_asked v.state p) v new)
+    c.self.view_is
+    (fails_asking stored gave wrote it.log it.pool c.make_room-else-is_err.new.self media new p
+    (sym c.is_resident.ensures ∙ c.if-is_resident.false) c.make_room-else-is_err.ensures.same failed)

@@ -1,5 +1,5 @@
-use Rattle.std.proofs.Common.{◌≡◌, ◌∙◌, ◌<◌, ℕ, length, max, ap, subst, sym, arith}
-use Rattle.std.specs.Prelude.{None, Result, Ok, Err, OnOk, is_err, false}
+use Rattle.std.proofs.Common.{◌≡◌, ◌∙◌, ◌<◌, length, ap, subst, sym, arith}
+use Rattle.std.specs.Prelude.{IfErr, None, Result, Ok, Err, OnOk, is_err, false}
 use Rattle.page_core.specs.declared.numbers.Lsn.{Lsn}
 use Rattle.page_core.specs.declared.page.Page.{Page}
 use Rattle.log_records.specs.Image.{image}
@@ -8,7 +8,9 @@ use Rattle.aries_core.specs.declared.event.Event.TheVariants as event
 use Rattle.aries_core.specs.declared.refusal.Refusal.{Refusal}
 use Rattle.aries_core.specs.EngineState.{EngineView, engine_view, log_of, page_now}
 use Rattle.aries_core.specs.Refusal.{refusal}
-use Rattle.aries_core.specs.Step.{Step, reply_of}
+use Rattle.aries_core.specs.Step.{IsByStore, Step, reply_of}
+use Rattle.aries_core.specs.Asked.{Asks, FailsAsking, asked}
+use Rattle.page_store.specs.declared.store.StoreFault.{StoreFault}
 use Rattle.aries_core.specs.OpenCkpt.{media_view}
 use Rattle.aries_core.proofs.Refusals.{repair_passes}
 use Rattle.aries_core.proofs.Repairs.{done, half_done}
@@ -77,3 +79,58 @@ returns-clause-step g c =
     (engine_view g.S.PageStore.stored c.force_to.new.self c.repair.new.self
     (media_view c.self.inside.master c.self.inside.session c.self.inside.vault.copies)).state)
     c.self.view_is (call g c).step
+
+pub returns-clause-asked : goal.returns-clause-asked
+returns-clause-asked g c =
+    let it = c.self.inside in
+    let stored = g.S.PageStore.stored in
+    let gave = g.S.PageStore.gave in
+    let wrote = g.S.PageStore.wrote in
+    let media = media_view it.master it.session it.vault.copies in
+    let p = c.args.page in
+    let now = engine_view stored it.log it.pool media in
+    let copy = c.args.copy in
+    let q = c.in_ok-rebuilt.rebuilt in
+    let new = engine_view stored c.force_to.new.self c.repair.new.self media in
+    let same : q ≡ page_now now.state p =
+    c.in_ok-rebuilt.ensures.rebuilt
+    ∙ sym (ap (λ (v : EngineView g.row.S.Denot g.row.D.Denot). page_now v.state p) c.self.view_is) in
+    subst (λ (v : EngineView g.row.S.Denot g.row.D.Denot). OnOk c.match-repair.result
+    (Asks gave wrote (asked v.state (event.Repair copy p)) v new)) c.self.view_is
+    (elim c.match-repair.branch [
+      | in-Ok w ↦
+          subst (λ (r : Result Lsn Refusal). OnOk r (Asks gave wrote (asked now.state (event.Repair copy p)) now new))
+          (sym w.result-is)
+          (subst (λ (x : Page). wrote it.pool.store p x (Ok tt) c.repair.new.self.store) same w.in-Ok.ensures.wrote)
+      | in-Err w ↦
+          subst (λ (r : Result Lsn Refusal). OnOk r (Asks gave wrote (asked now.state (event.Repair copy p)) now new))
+          (sym w.result-is) tt
+    ])
+
+pub returns-clause-failed : goal.returns-clause-failed
+returns-clause-failed g c =
+    let it = c.self.inside in
+    let stored = g.S.PageStore.stored in
+    let gave = g.S.PageStore.gave in
+    let wrote = g.S.PageStore.wrote in
+    let media = media_view it.master it.session it.vault.copies in
+    let p = c.args.page in
+    let now = engine_view stored it.log it.pool media in
+    let copy = c.args.copy in
+    let q = c.in_ok-rebuilt.rebuilt in
+    let new = engine_view stored c.force_to.new.self c.repair.new.self media in
+    let same : q ≡ page_now now.state p =
+    c.in_ok-rebuilt.ensures.rebuilt
+    ∙ sym (ap (λ (v : EngineView g.row.S.Denot g.row.D.Denot). page_now v.state p) c.self.view_is) in
+    subst (λ (v : EngineView g.row.S.Denot g.row.D.Denot). IfErr c.match-repair.result (λ why. IsByStore why
+    → FailsAsking gave wrote (asked v.state (event.Repair copy p)) v new)) c.self.view_is
+    (elim c.match-repair.branch [
+      | in-Ok w ↦
+          subst (λ (r : Result Lsn Refusal). IfErr r (λ why. IsByStore why
+          → FailsAsking gave wrote (asked now.state (event.Repair copy p)) now new)) (sym w.result-is) tt
+      | in-Err w ↦
+          subst (λ (r : Result Lsn Refusal). IfErr r (λ why. IsByStore why
+          → FailsAsking gave wrote (asked now.state (event.Repair copy p)) now new)) (sym w.result-is)
+          (λ by_store. subst (λ (x : Page). (why : StoreFault) × wrote it.pool.store p x (Err why) c.repair.new.self.store)
+          same (_, w.in-Err.ensures.wrote))
+    ])

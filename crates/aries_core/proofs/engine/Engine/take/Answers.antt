@@ -11,6 +11,12 @@ use Rattle.aries_core.proofs.CopyCalls.{asked_is, copies_kept, take_room, take_s
 use Rattle.aries_core.proofs.engine.Engine.take.Goals as goal
 use Rattle.aries_core.proofs.engine.Engine.take.Given as given
 use Rattle.aries_core.proofs.engine.Engine.take.Goals.{in-Kept, in-Taken}
+use Rattle.page_core.specs.declared.page.Page.{Page}
+use Rattle.page_core.specs.Page.{formatted}
+use Rattle.buffer_pool.proofs.Fetching.{read_is}
+use Rattle.aries_core.specs.Asked.{Asks, a_page}
+use Rattle.aries_core.specs.EngineState.{EngineView}
+use Rattle.aries_core.proofs.Asks.{always}
 
 pub decide-requires-clause-there : goal.decide-requires-clause-there
 decide-requires-clause-there g c =
@@ -67,3 +73,16 @@ returns-clause-step g c =
     subst (λ v. Step v.state (event.Take c.args.copy c.args.page) (reply_of took_answer c.match-decide.result)
     (engine_view g.S.PageStore.stored it.log c.stored.new.self
     (media_view it.master it.session c.decide.new.self.copies)).state) c.self.view_is (take_made g c)
+
+pub returns-clause-asked : goal.returns-clause-asked
+returns-clause-asked g c =
+    let it = c.self.inside in
+    let stored = g.S.PageStore.stored in
+    let gave = g.S.PageStore.gave in
+    let wrote = g.S.PageStore.wrote in
+    let p = c.args.page in
+    let new = engine_view stored it.log c.stored.new.self (media_view it.master it.session c.decide.new.self.copies) in
+    always c.match-decide.result
+    (subst (λ (v : EngineView g.row.S.Denot g.row.D.Denot). Asks gave wrote (a_page p) v new) c.self.view_is
+    (subst (λ (x : Page). gave it.pool.store p (Ok x) c.stored.new.self.store)
+    (read_is (stored it.pool.store) p c.in-Ok.stored (formatted p) c.in-Ok.ensures.found) c.in-Ok.ensures.gave))

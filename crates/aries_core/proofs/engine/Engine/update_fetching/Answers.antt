@@ -1,19 +1,20 @@
-use Rattle.std.proofs.Common.{◌≡◌, ◌<◌, ◌++◌, ◌∷◌, [], ℕ, List, length, get_or, refl, sym, ap, subst, ◌∙◌, arith, false, true}
-use Rattle.std.specs.Prelude.{IfSome, Result, Ok, Err, OnErr, OnOk, is_err}
+use Rattle.std.proofs.Common.{◌≡◌, ◌<◌, ◌++◌, ◌∷◌, [], ℕ, length, get_or, refl, sym, ap, subst, ◌∙◌, arith, false, true}
+use Rattle.std.specs.Prelude.{Result, Ok, Err, OnErr, OnOk, is_err}
 use Rattle.page_core.specs.declared.page.Page.{Page}
 use Rattle.page_core.specs.Page.{formatted}
 use Rattle.buffer_pool.specs.Frames.{fetched, is_resident}
-use Rattle.buffer_pool.specs.Pool.{IsPoolOf, PoolView, is_clean, written_of}
+use Rattle.buffer_pool.specs.Pool.{PoolView, is_clean, written_of}
 use Rattle.log_records.specs.declared.record.Record.{Record}
 use Rattle.log_records.specs.Image.{image}
 use Rattle.log_records.specs.Log.{Log, StandsAt, lsn_of}
-use Rattle.log_records.specs.Record.{change_of}
 use Rattle.log_history.specs.Linked.{number_in}
 use Rattle.log_history.specs.Transactions.{last_lsn}
 use Rattle.aries_core.specs.Call.{Calls}
-use Rattle.aries_core.specs.EngineState.{EngineState, EngineView, IsKept, appended, end, engine_view, log_of, with_page}
+use Rattle.aries_core.specs.EngineState.{EngineState, EngineView, IsKept, end, engine_view, log_of}
 use Rattle.aries_core.specs.OpenCkpt.{media_view}
 use Rattle.aries_core.proofs.Appends.{after_fetch, appended_is, valid_with}
+use Rattle.aries_core.specs.Asked.{Asks, FailsAsking, page_asked}
+use Rattle.aries_core.proofs.Asks.{asks_page, fails_asking, why_failed}
 use Rattle.aries_core.proofs.Fit.{Comes, comes, comes_few}
 use Rattle.aries_core.proofs.Refusals.{slot_passes}
 use Rattle.aries_core.proofs.PoolStates.{fetched_is, stayed_is}
@@ -25,7 +26,6 @@ use Rattle.log_records.specs.declared.record.Record.TheVariants.{Update}
 use Rattle.aries_core.specs.EngineState.{update_record}
 use Rattle.txn_table.specs.TxnTable.{IsAhead}
 use Rattle.aries_core.proofs.engine.Engine.update_fetching.Goals as goal
-use Rattle.aries_core.proofs.engine.Engine.update_fetching.Given as given
 
 -- what an answer that is no `Err` says, and what one says that is
 said : {T E : Type 0} (r : Result T E) (P : Type 0) → is_err r ≡ false → OnOk r P → P
@@ -354,3 +354,41 @@ invariant_of-self-2 g c =
     after_fetch stored s (engine_view stored it.log c.fetch.new.self media).state _ p it.txns c.settle.new.self
     it.pool c.fetch.new.self c.change.new.self media next c.self.invariant comes_next within refl came of_log
     settled (c.change.ensures.kept (log_of s) of_log (valid_with s next fit comes_next)) grown
+
+pub returns-clause-asked : goal.returns-clause-asked
+returns-clause-asked g c =
+    let it = c.self.inside in
+    let stored = g.S.PageStore.stored in
+    let gave = g.S.PageStore.gave in
+    let wrote = g.S.PageStore.wrote in
+    let media = media_view it.master it.session it.vault.copies in
+    let p = c.args.page in
+    let absent : is_resident it.pool.resident p ≡ false =
+    subst (λ (v : EngineView g.row.S.Denot g.row.D.Denot). is_resident v.state.resident p ≡ false) (sym c.self.view_is)
+    c.requires.absent in
+    let new = engine_view stored c.append.new.self c.change.new.self media in
+    let given = said c.fetch.result _ (sym c.is_err-3.ensures.value ∙ c.if-is_err-4.false) c.fetch.ensures.gave
+    (formatted p) in
+    subst (λ (v : EngineView g.row.S.Denot g.row.D.Denot). Asks gave wrote (page_asked v.state p) v new) c.self.view_is
+    (asks_page stored gave wrote it.log it.pool c.make_room-else-is_err.new.self media new p absent
+    c.make_room-else-is_err.ensures.same
+    (subst (λ (x : g.row.S.Denot). gave c.make_room-else-is_err.new.self.store p
+    (Ok (get_or (stored c.make_room-else-is_err.new.self.store) p (formatted p))) x) (sym c.change.ensures.store) given))
+
+pub returns-then-is_err-4-clause-failed : goal.returns-then-is_err-4-clause-failed
+returns-then-is_err-4-clause-failed g c = λ by_store.
+    let it = c.self.inside in
+    let stored = g.S.PageStore.stored in
+    let gave = g.S.PageStore.gave in
+    let wrote = g.S.PageStore.wrote in
+    let media = media_view it.master it.session it.vault.copies in
+    let p = c.args.page in
+    let absent : is_resident it.pool.resident p ≡ false =
+    subst (λ (v : EngineView g.row.S.Denot g.row.D.Denot). is_resident v.state.resident p ≡ false) (sym c.self.view_is)
+    c.requires.absent in
+    let new = engine_view stored c.make_room.new.self c.fetch.new.self media in
+    let failed = why_failed c.fetch.result _ (sym c.is_err-3.ensures.value ∙ c.if-is_err-4.true) c.fetch.ensures.failed in
+    subst (λ (v : EngineView g.row.S.Denot g.row.D.Denot). FailsAsking gave wrote (page_asked v.state p) v new)
+    c.self.view_is
+    (fails_asking stored gave wrote it.log it.pool c.make_room-else-is_err.new.self media new p absent
+    c.make_room-else-is_err.ensures.same failed)

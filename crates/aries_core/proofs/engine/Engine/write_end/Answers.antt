@@ -1,12 +1,14 @@
 use Rattle.std.proofs.Common.{◌≡◌, ◌<◌, length, sym, subst, arith}
-use Rattle.std.specs.Prelude.{None, Result}
+use Rattle.std.specs.Prelude.{IfErr, None, OnOk, Result}
 use Rattle.page_core.specs.declared.numbers.Lsn.{Lsn}
 use Rattle.aries_core.specs.declared.event.Answer.TheVariants as answer
 use Rattle.aries_core.specs.declared.event.Event.TheVariants as event
 use Rattle.aries_core.specs.declared.refusal.Refusal.{Refusal}
 use Rattle.aries_core.specs.EngineState.{EngineView, engine_view, log_of}
 use Rattle.aries_core.specs.Refusal.{refusal}
-use Rattle.aries_core.specs.Step.{Step, reply_of}
+use Rattle.aries_core.specs.Step.{IsByStore, Step, reply_of}
+use Rattle.aries_core.specs.Asked.{Asks, FailsAsking, asked}
+use Rattle.aries_core.proofs.Asks.{asks_to_store, fails_to_store}
 use Rattle.aries_core.specs.OpenCkpt.{media_view}
 use Rattle.aries_core.proofs.Refusals.{write_end_passes}
 use Rattle.aries_core.proofs.WriteCalls.{Called, ended, repeated}
@@ -57,3 +59,59 @@ returns-clause-step g c =
     (engine_view g.S.PageStore.stored c.self.inside.log c.write_end.new.self
     (media_view c.self.inside.master c.self.inside.session c.self.inside.vault.copies)).state)
     c.self.view_is (call g c).step
+
+pub returns-clause-asked : goal.returns-clause-asked
+returns-clause-asked g c =
+    let it = c.self.inside in
+    let stored = g.S.PageStore.stored in
+    let gave = g.S.PageStore.gave in
+    let wrote = g.S.PageStore.wrote in
+    let media = media_view it.master it.session it.vault.copies in
+    let p = c.args.page in
+    let now = engine_view stored it.log it.pool media in
+    let new = engine_view stored it.log c.write_end.new.self media in
+    let none : refusal now.state (event.WriteEnd p) ≡ None =
+    subst (λ (v : EngineView g.row.S.Denot g.row.D.Denot). refusal v.state (event.WriteEnd p) ≡ None)
+    (sym c.self.view_is) c.in_ok-find_writing.ensures.writing in
+    let count = c.self.invariant.pool_of_log.pages in
+    let below = (write_end_passes now.state p none).within in
+    let within : p < length it.pool.states = omega arith in
+    subst (λ (v : EngineView g.row.S.Denot g.row.D.Denot). OnOk c.match-write_end.result
+    (Asks gave wrote (asked v.state (event.WriteEnd p)) v new)) c.self.view_is
+    (elim c.match-write_end.branch [
+      | in-Ok w ↦
+          subst (λ (r : Result Lsn Refusal). OnOk r (Asks gave wrote (asked now.state (event.WriteEnd p)) now new))
+          (sym w.result-is)
+          (asks_to_store stored gave wrote it.log it.pool media new p none within w.in-Ok.ensures.wrote)
+      | in-Err w ↦
+          subst (λ (r : Result Lsn Refusal). OnOk r (Asks gave wrote (asked now.state (event.WriteEnd p)) now new))
+          (sym w.result-is) tt
+    ])
+
+pub returns-clause-failed : goal.returns-clause-failed
+returns-clause-failed g c =
+    let it = c.self.inside in
+    let stored = g.S.PageStore.stored in
+    let gave = g.S.PageStore.gave in
+    let wrote = g.S.PageStore.wrote in
+    let media = media_view it.master it.session it.vault.copies in
+    let p = c.args.page in
+    let now = engine_view stored it.log it.pool media in
+    let new = engine_view stored it.log c.write_end.new.self media in
+    let none : refusal now.state (event.WriteEnd p) ≡ None =
+    subst (λ (v : EngineView g.row.S.Denot g.row.D.Denot). refusal v.state (event.WriteEnd p) ≡ None)
+    (sym c.self.view_is) c.in_ok-find_writing.ensures.writing in
+    let count = c.self.invariant.pool_of_log.pages in
+    let below = (write_end_passes now.state p none).within in
+    let within : p < length it.pool.states = omega arith in
+    subst (λ (v : EngineView g.row.S.Denot g.row.D.Denot). IfErr c.match-write_end.result (λ why. IsByStore why
+    → FailsAsking gave wrote (asked v.state (event.WriteEnd p)) v new)) c.self.view_is
+    (elim c.match-write_end.branch [
+      | in-Ok w ↦
+          subst (λ (r : Result Lsn Refusal). IfErr r (λ why. IsByStore why
+          → FailsAsking gave wrote (asked now.state (event.WriteEnd p)) now new)) (sym w.result-is) tt
+      | in-Err w ↦
+          subst (λ (r : Result Lsn Refusal). IfErr r (λ why. IsByStore why
+          → FailsAsking gave wrote (asked now.state (event.WriteEnd p)) now new)) (sym w.result-is)
+          (λ by_store. fails_to_store stored gave wrote it.log it.pool media new p none within _ w.in-Err.ensures.failed)
+    ])

@@ -4,11 +4,14 @@ use Rattle.std.proofs.lemmas.List.{with_items_is}
 use Rattle.copy_vault.specs.declared.chain_reader.ChainReader.{ChainReader}
 use Rattle.copy_vault.specs.declared.archive_cursor.ArchiveCursor.{ArchiveCursor}
 use Rattle.copy_vault.specs.ChainRead.{AreRead, IsGiven, moment_of}
-use Rattle.copy_vault.proofs.ChainEnds.{read_whole, reading_more}
+use Rattle.copy_vault.proofs.ChainEnds.{given_whole, read_whole, reading_more}
 use Rattle.copy_vault.proofs.chain_reader.ChainReader.next.Goals as goal
 
 pub returns-then-self-clause-ok : goal.returns-then-self-clause-ok
-returns-then-self-clause-ok g c = λ inputs given read. read_whole inputs _ c.args.self.now given read c.if-self.true
+returns-then-self-clause-ok g c = λ inputs given read. (
+  read_whole inputs _ c.args.self.now given read c.if-self.true,
+  given_whole inputs _ c.args.self.now given read c.if-self.true,
+)
 
 pub returns-clause-ok : goal.returns-clause-ok
 returns-clause-ok g c = λ inputs given read.

@@ -4,11 +4,15 @@ use Rattle.std.proofs.lemmas.List.{with_items_is}
 use Rattle.copy_vault.specs.declared.chain_reader.ChainReader.{ChainReader}
 use Rattle.copy_vault.specs.declared.archive_cursor.ArchiveCursor.{ArchiveCursor}
 use Rattle.copy_vault.specs.ChainRead.{AreRead, IsRowGiven, moment_of, place_list}
+use Rattle.copy_vault.proofs.ChainEnds.{given_whole}
 use Rattle.copy_vault.proofs.ChainRows.{each_more, each_whole, found_ok}
 use Rattle.copy_vault.proofs.chain_reader.ChainReader.next_each.Goals as goal
 
 pub returns-then-self-clause-ok : goal.returns-then-self-clause-ok
-returns-then-self-clause-ok g c = λ inputs given each. each_whole inputs _ c.args.self.now given each c.if-self.true
+returns-then-self-clause-ok g c = λ inputs given each. (
+  each_whole inputs _ c.args.self.now given each c.if-self.true,
+  given_whole inputs _ c.args.self.now each.pages each.reading c.if-self.true,
+)
 
 pub returns-clause-ok : goal.returns-clause-ok
 returns-clause-ok g c = λ inputs given each.

@@ -1,0 +1,117 @@
+"""Refuses each allocation of a program in turn, and compares what it answers with what it must.
+
+usage: python3 -m checks.memory PROGRAM LIBRARY
+
+LIBRARY is refuse_memory.rs, built as a library for LD_PRELOAD. Each example log goes to `PROGRAM redo` with its first
+allocation refused, then with its second, and so on until none is left to refuse. So do wrong words, and an audit of the
+files of the day. A run that is refused one has to say so, to write nothing and to end with status 2; or it does without,
+and answers as ever. An audit says it on standard output, but for the memory of the program's words, before it begins.
+"""
+
+import os
+import shutil
+import subprocess
+import sys
+import tempfile
+from itertools import count
+from pathlib import Path
+from typing import NamedTuple
+
+from checks.answers import WRONG_WORDS
+from model.recovery import fault_lines
+from model.scripts import run as run_script
+
+EXAMPLES = Path(__file__).resolve().parent.parent / "examples"
+OUT_OF_MEMORY = (2, b"", b"E1 OutOfMemory\n")
+AUDIT_OUT_OF_MEMORY = (2, b"E1 OutOfMemory\n", b"")
+
+
+class Failure(Exception):
+    """What is missing or wrong, in one line."""
+
+
+class Case(NamedTuple):
+    words: list
+    log: Path
+    answer: tuple
+
+
+def cases(program):
+    for log in sorted(EXAMPLES.glob("*.log")):
+        volume, fault = log.with_suffix(".volume"), log.with_suffix(".fault")
+        answer = (0, volume.read_bytes(), b"") if volume.exists() else (2, b"", fault.read_bytes())
+        yield Case(["redo"], log, answer)
+    # The texts about wrong words are tested elsewhere, so these are compared with a run that has all of its memory.
+    for words in ([], ["help"], ["redo", "extra"], *map(str.split, WRONG_WORDS)):
+        case = Case(words, Path(os.devnull), ())
+        answer, _ = run(program, case, {})
+        yield case._replace(answer=answer)
+
+
+def audit_case(folder):
+    """An audit of the files that the script of the day saves, which are put into this folder."""
+    for name, data in run_script((EXAMPLES / "day.script").read_bytes(), 3).files.items():
+        (folder / name).write_bytes(data)
+    names = [str(folder / name) for name in ("log", "copy-1", "copy-2", "copy-3")]
+    return Case(["audit", *names], Path(os.devnull), (0, b"sound\n", b""))
+
+
+def run(program, case, environment):
+    """The answer, and whether an allocation was refused."""
+    reading, writing = os.pipe()
+    with open(reading, "rb") as report, open(case.log, "rb") as source:
+        with open(writing, "wb"):
+            done = subprocess.run([program, *case.words], stdin=source, capture_output=True, pass_fds=[writing],
+                                  env={**os.environ, **environment, "REFUSAL_REPORT": str(writing)})
+        refused = report.read() != b""
+    return (done.returncode, done.stdout, fault_lines(done.stderr)), refused
+
+
+def refuse_each(program, library, case):
+    """The answer without the first allocation, without the second and so on, each with its number and whether it was
+    refused. The last one had all of its memory."""
+    for number in count(1):
+        answer, refused = run(program, case, {"LD_PRELOAD": library, "REFUSED_ALLOCATION": str(number)})
+        yield number, answer, refused
+        if not refused:
+            return
+
+
+def check(program, library, case, *told):
+    """How many allocations there were to refuse. The program may tell of one by any of these answers."""
+    told = told or (OUT_OF_MEMORY,)
+    for number, answer, refused in refuse_each(program, library, case):
+        if answer != case.answer and not (refused and answer in told):
+            status, output, error = answer
+            raise Failure(f"{' '.join(case.words)} < {case.log.name}: without allocation {number} the status is"
+                          f" {status}, {len(output)} bytes are written, and standard error is {error[:80]!r}")
+    return number - 1
+
+
+def program_and_library(arguments):
+    """The paths of both."""
+    if len(arguments) != 2:
+        raise Failure("two arguments are wanted, the program to check and the library that refuses")
+    program, library = shutil.which(arguments[0]), os.path.abspath(arguments[1])
+    if program is None:
+        raise Failure(f"there is no program {arguments[0]}")
+    if not os.path.isfile(library):
+        raise Failure(f"there is no file {arguments[1]}")
+    return os.path.abspath(program), library
+
+
+def main(arguments):
+    try:
+        program, library = program_and_library(arguments)
+        total = sum(check(program, library, case) for case in cases(program))
+        with tempfile.TemporaryDirectory() as folder:
+            total += check(program, library, audit_case(Path(folder)), OUT_OF_MEMORY, AUDIT_OUT_OF_MEMORY)
+        if total == 0:
+            raise Failure("no allocation was refused")
+    except (Failure, OSError) as failure:
+        sys.exit(f"memory.py: {failure}")
+    print(f"ok memory: {total} refused allocations are told, or done without")
+
+
+if __name__ == "__main__":
+    main(sys.argv[1:])

@@ -1,0 +1,99 @@
+"""Has several runs of `imgcopy run --save` save into one folder at once, and puts links in their way.
+
+usage: python3 -m checks.saves_at_once PROGRAM [ROUNDS]
+
+In each of ROUNDS rounds, 200 where none is told, two or four runs that differ in every file begin at once. Each of them
+ends with status 0, or is refused with a line that says why, and has saved nothing then. All files are those of one run
+that ended with status 0, whole. Then links stand where a save makes its files and where it puts them: what they lead to
+stays as it is.
+"""
+
+import os
+import shutil
+import subprocess
+import sys
+import tempfile
+from collections import Counter
+from pathlib import Path
+
+from model.scripts import run
+from checks.unsaved import Failure, fresh, script_of, text_of
+
+ROUNDS = 200
+PAGES = 48
+MOST_SECONDS = 60
+
+
+class Runs:
+    """Runs that save five files each, all of which differ."""
+
+    def __init__(self, program, place, count):
+        self.program, self.texts, self.files = program, [], []
+        for number in range(count):
+            text = text_of(script_of(PAGES, 1000 * (number + 1), 3))
+            self.files.append(run(text, PAGES).files)
+            self.texts.append(place / f"script-{number}")
+            self.texts[-1].write_bytes(text)
+
+    def start(self, number, folder):
+        with open(self.texts[number], "rb") as text:
+            return subprocess.Popen([self.program, "run", "--pages", str(PAGES), "--save", str(folder)], stdin=text,
+                                    stdout=subprocess.DEVNULL, stderr=subprocess.PIPE)
+
+
+def check_round(runs, folder, count, counts):
+    fresh(folder)
+    children = [runs.start(number, folder) for number in range(count)]
+    said = [child.communicate(timeout=MOST_SECONDS)[1] for child in children]
+    done = [child.returncode == 0 for child in children]
+    refusal = f"E29 WriteFault 0\nimgcopy: {folder}: another save into this folder is going on\n".encode()
+    for child, text in zip(children, said):
+        if (child.returncode, text) not in ((0, b""), (2, refusal)):
+            raise Failure(f"{count} saves at once: status {child.returncode}, {text[:200]!r}")
+    given = {path.name: path.read_bytes() for path in folder.iterdir()}
+    if given not in [runs.files[number] for number in range(count) if done[number]]:
+        raise Failure(f"{count} saves at once: the files are of no run that ended with status 0")
+    counts[f"{count} at once, refused"] += count - sum(done)
+
+
+def check_links(runs, folder):
+    """Links stand where an unfinished file would be made, and where a file is to be."""
+    outside = folder.with_name("outside")
+    for name in ("log", "master", "copy-1", "log.unfinished-1", "copy-3.unfinished-1"):
+        for target in (outside, folder / "nothing"):
+            fresh(folder)
+            outside.write_bytes(b"outside")
+            (folder / name).symlink_to(target)
+            child = runs.start(0, folder)
+            said = child.communicate(timeout=MOST_SECONDS)[1].decode()
+            given = {path.name: path.read_bytes() for path in folder.iterdir() if not path.is_symlink()}
+            if child.returncode != 0 or given != runs.files[0] or outside.read_bytes() != b"outside":
+                raise Failure(f"a link in the place of {name}: status {child.returncode}, {sorted(given)}")
+            if ("unfinished" in name) != (f"imgcopy: {folder}/{name}: left by" in said):
+                raise Failure(f"a link in the place of {name}: {said!r}")
+
+
+def main(arguments):
+    try:
+        if not 1 <= len(arguments) <= 2 or not all(number.isdigit() for number in arguments[1:]):
+            raise Failure("usage: python3 -m checks.saves_at_once PROGRAM [ROUNDS]")
+        program = shutil.which(arguments[0])
+        if program is None:
+            raise Failure(f"there is no program {arguments[0]}")
+        rounds, counts = int(arguments[1]) if arguments[1:] else ROUNDS, Counter()
+        with tempfile.TemporaryDirectory() as place:
+            folder = Path(place, "saved")
+            runs = Runs(os.path.abspath(program), Path(place), 4)
+            for number in range(rounds):
+                check_round(runs, folder, (2, 4)[number % 2], counts)
+            check_links(runs, folder)
+        if rounds >= ROUNDS and not sum(counts.values()):
+            raise Failure("no save met another one")
+    except (Failure, OSError, subprocess.SubprocessError) as failure:
+        sys.exit(f"saves_at_once.py: {failure}")
+    print(f"ok saves_at_once: {rounds} rounds, the files are those of one run each time, {sum(counts.values())} saves were"
+          " refused, and no link was followed")
+
+
+if __name__ == "__main__":
+    main(sys.argv[1:])

@@ -1,0 +1,82 @@
+//! A shared engine that was taken out of its lock.
+
+ghost use Rattle.std.specs.Prelude.{◌≡◌};
+
+use crate::held::Held;
+use crate::shared::Shared;
+use crate::spare::Spare;
+use log_store::LogDevice;
+use page_store::PageStore;
+use std::marker::Model;
+use std::sync::Mutex;
+use std::sync::ledger::Ledger;
+
+/// A shared engine out of its lock. Nobody else can change it, so contracts see what lay under the
+/// lock. `into_shared` puts it behind a lock again.
+#[derive(Drop)]
+pub struct Opened<S: PageStore, D: LogDevice, G: Ledger> {
+    held: Held<S, D, G>,
+    spares: Vec<Mutex<Spare<G>>>,
+    sessions: u32,
+}
+
+impl<S: PageStore, D: LogDevice, G: Ledger> Model for Opened<S, D, G> {
+    ghost use Rattle.std.specs.Prelude.{◌≡◌, ◌+◌, vec_len};
+    ghost use Rattle.engine_run.specs.Shared.{OpenedView};
+
+    ghost Value = { OpenedView S D };
+
+    ghost view = { λ it. record { held = it.held; sessions = it.sessions } };
+
+    ghost invariant = { λ it. it.sessions + vec_len it.spares ≡ 64 };
+}
+
+impl<S: PageStore, D: LogDevice, G: Ledger> Opened<S, D, G> {
+    /// Takes a shared engine out of its lock.
+    pub(crate) fn new(shared: Shared<S, D, G>) -> Opened<S, D, G>
+        ensures { result.sessions ≡ shared.sessions }
+    {
+        let Shared {
+            held,
+            spares,
+            sessions,
+        } = shared;
+        Opened {
+            held: held.into_inner(),
+            spares,
+            sessions,
+        }
+    }
+
+    /// What lay under the lock.
+    pub fn held(&self) -> &Held<S, D, G>
+        ensures { result.now ≡ self.now.held }
+    {
+        &self.held
+    }
+
+    /// Puts the engine behind a lock again, for its sessions, flushers and copies to go on.
+    pub fn into_shared(self) -> Shared<S, D, G>
+        ensures { result.sessions ≡ self.sessions }
+    {
+        let Opened {
+            held,
+            spares,
+            sessions,
+        } = self;
+        Shared {
+            held: Mutex::new(held),
+            spares,
+            sessions,
+        }
+    }
+}
+
+impl<S: PageStore + Drop, D: LogDevice + Drop, G: Ledger> Opened<S, D, G> {
+    /// What lay under the lock. The spare parts go.
+    pub(crate) fn into_held(self) -> Held<S, D, G>
+        ensures { result ≡ self.held }
+    {
+        self.held
+    }
+}

@@ -1,0 +1,127 @@
+//! The file that `redo -o` and `restore -o` write. It has a name of its own until it is put in place.
+
+use crate::notes::{Noted, Notes};
+use crate::system_files::SystemFolder;
+use page_core::FaultName;
+use saved_files::{Folder, make_beside};
+use std::fs::File;
+use std::io::ErrorKind;
+use std::path::Path;
+use std::{fs, io};
+
+/// A file that is written beside the name that it is to have.
+#[derive(Drop)]
+pub struct Output<'a> {
+    folder: SystemFolder<'a>,
+    beside: String,
+    name: &'a str,
+    pub file: Noted<'a, File>,
+}
+
+impl<'a> Output<'a> {
+    /// Makes the file. Where it cannot be made, that is told.
+    pub fn begin(rt: &'a HostRuntime, path: &'a str, notes: &'a Notes) -> Option<Output<'a>> {
+        let Some((folder, name)) = parts_of(path) else {
+            tell(rt, path, &"this names no file");
+            return None;
+        };
+        if !is_replaceable(rt, path) {
+            tell(rt, path, &"this is no regular file");
+            return None;
+        }
+        let mut folder_there = SystemFolder::new(rt, rt.alloc(), folder, notes);
+        if let Err(error) = folder_there.open() {
+            tell(rt, folder, &error);
+            return None;
+        }
+        match make_beside(&mut folder_there, rt.alloc(), name) {
+            Ok((beside, file)) => Some(Output {
+                folder: folder_there,
+                beside,
+                name,
+                file,
+            }),
+            Err(_) => {
+                tell_noted(rt, path, notes);
+                None
+            }
+        }
+    }
+
+    /// Puts the file in place: it is synced and renamed, and its folder synced.
+    pub fn put(self) -> io::Result<()> {
+        let Output {
+            mut folder,
+            beside,
+            name,
+            mut file,
+        } = self;
+        match placed(&mut folder, beside.as_str(), name, &mut file) {
+            Ok(()) => folder.sync_names(),
+            Err(error) => {
+                let _ = folder.give_up(beside.as_str(), file);
+                Err(error)
+            }
+        }
+    }
+
+    /// Removes the file: nothing is put in place.
+    pub fn drop_file(self) {
+        let Output {
+            mut folder,
+            beside,
+            name: _,
+            file,
+        } = self;
+        let _ = folder.give_up(beside.as_str(), file);
+    }
+}
+
+/// Syncs a file, and has it take its name.
+fn placed<'a>(
+    folder: &mut SystemFolder<'a>,
+    beside: &str,
+    name: &str,
+    file: &mut Noted<'a, File>,
+) -> io::Result<()> {
+    folder.sync(beside, file)?;
+    folder.rename(beside, name)
+}
+
+/// Tells that an output cannot be written, and why.
+fn tell(rt: &impl Eprint, path: &str, why: &impl std::fmt::Display) {
+    let _ = eprintln!(rt; "{} 0", FaultName::WriteFault);
+    let _ = eprintln!(rt; "imgcopy: {path}: {why}");
+}
+
+/// The same, for a call of the system that failed.
+pub fn tell_noted(rt: &impl Eprint, path: &str, notes: &Notes) {
+    match notes.error() {
+        Some(error) => tell(rt, path, &error),
+        None => tell(rt, path, &"not written"),
+    }
+}
+
+/// The folder and the name that a path has.
+fn parts_of(path: &str) -> Option<(&str, &str)> {
+    match path.rsplit_once('/') {
+        None => named(".", path),
+        Some(("", name)) => named("/", name),
+        Some((folder, name)) => named(folder, name),
+    }
+}
+
+fn named<'a>(folder: &'a str, name: &'a str) -> Option<(&'a str, &'a str)> {
+    if name.is_empty() || name == "." || name == ".." {
+        return None;
+    }
+    Some((folder, name))
+}
+
+/// Nothing stands there, or a regular file: no folder, device or link is replaced.
+fn is_replaceable(rt: &HostRuntime, path: &str) -> bool {
+    match fs::symlink_metadata(rt, Path::new(path)) {
+        Ok(there) => there.is_file(),
+        Err(error) => error.kind() == ErrorKind::NotFound,
+    }
+}

@@ -1,0 +1,345 @@
+//! What is wrong with a file that was refused, for a person: the file is read once more.
+
+use crate::chain_reason::{ChainReason, chain_reason};
+use copy_audit::Unsound;
+use copy_vault::CopyId;
+use log_records::RECORD_BYTES;
+use media_restore::RestoreFault;
+use page_core::field::{u32_at, u64_at};
+use page_core::{Lsn, PAGE_BYTES, PageNo};
+use std::io::{Read, Seek, SeekFrom};
+use std::{fmt, fs};
+use volume_redo::Fault;
+
+/// The place of the first archive, behind the log and the master record.
+const FIRST_ARCHIVE: usize = 2;
+
+/// The name that the system has for standard input.
+const STANDARD_INPUT: &str = "/dev/stdin";
+
+/// The files of a restore or an audit.
+#[derive(Drop)]
+pub struct Named<'a> {
+    pub log: &'a str,
+    pub master: Option<&'a str>,
+    pub archives: &'a [&'a str],
+}
+
+impl<'a> Named<'a> {
+    /// The file at this place: the log, the master record, and then the archives.
+    pub fn at(&self, place: usize) -> Option<&'a str> {
+        match place {
+            0 => Some(self.log),
+            1 => self.master,
+            _ => Some(*self.archives.get(place - FIRST_ARCHIVE)?),
+        }
+    }
+}
+
+/// As what the file at this place is read.
+pub fn what_stands(place: usize) -> &'static str {
+    match place {
+        0 => "log",
+        1 => "master record",
+        _ => "image copy",
+    }
+}
+
+/// What is wrong with a file. Its text follows the file's name.
+#[derive(Clone, Copy)]
+pub enum Reason {
+    IsLog,
+    IsMaster,
+    IsArchive,
+    /// It has fewer than 64 bytes, and how many.
+    IsShort(u64),
+    /// It begins like nothing that is known here.
+    IsOther,
+    /// A header of the right kind with a number or a byte that none has.
+    BadHeader,
+    /// The record at the offset has a kind that is none.
+    Kind(u8),
+    /// It has another offset as its own LSN.
+    OwnLsn(u64),
+    Misspelt,
+    /// So many bytes of the last record are there.
+    Torn(u64),
+    Chain(ChainReason),
+    /// The master record names this checkpoint, and the log has no such complete one.
+    NoCheckpoint(u64, u64),
+    /// The copy is full, and stands behind others.
+    FullBehind,
+    /// The copy is incremental, and stands first.
+    IncFirst(u32),
+    /// The parent of the copy, and the copy before it.
+    Parent(u32, u32),
+    /// The pages of the copy, and those of the log.
+    Pages(u32, u32),
+    /// As many pages follow as its length allows, and as many as its header says.
+    Count(u64, u32),
+    /// The redo point of the copy, and the log's end.
+    RedoPoint(u64, u64),
+    /// A page whose LSN is not below the log's end.
+    PageLsn(u32, u64),
+    /// A page that is not as the log made it, or lacks a change below the redo point.
+    Unsound(u32, u64),
+}
+
+impl fmt::Display for Reason {
+    fn fmt<W: fmt::Write>(&self, f: &mut fmt::Formatter<W>) -> fmt::Result {
+        match self {
+            Reason::IsLog => f.write_str("is a log"),
+            Reason::IsMaster => f.write_str("is a master record"),
+            Reason::IsArchive => f.write_str("is an image copy"),
+            Reason::IsShort(count) => write!(f, "has {count} bytes, and a header has 64"),
+            Reason::IsOther => f.write_str("begins like no file of imgcopy"),
+            Reason::BadHeader => f.write_str("its header has a number that none may have"),
+            Reason::Kind(kind) => write!(f, "kind {kind} is that of no record"),
+            Reason::OwnLsn(lsn) => write!(f, "the record there has LSN {lsn} in itself"),
+            Reason::Misspelt => f.write_str("the bytes there spell no record of this volume"),
+            Reason::Torn(count) => write!(f, "{count} of the 64 bytes there are left"),
+            Reason::Chain(why) => why.fmt(f),
+            Reason::NoCheckpoint(begin, end) => {
+                write!(
+                    f,
+                    "the log has no complete checkpoint from {begin} to {end}"
+                )
+            }
+            Reason::FullBehind => f.write_str("is a full copy, but others stand before it"),
+            Reason::IncFirst(parent) => {
+                write!(f, "is an increment of copy {parent}, but stands first")
+            }
+            Reason::Parent(parent, before) => {
+                write!(
+                    f,
+                    "parent is copy {parent}, but copy {before} stands before it"
+                )
+            }
+            Reason::Pages(copy, log) => write!(f, "has {copy} pages, but the log has {log}"),
+            Reason::Count(there, said) => {
+                write!(
+                    f,
+                    "its header says {said} pages, and there is room for {there}"
+                )
+            }
+            Reason::RedoPoint(redo, end) => {
+                write!(f, "its redo point {redo} is not below the log's end {end}")
+            }
+            Reason::PageLsn(page, end) => {
+                write!(f, "the LSN of page {page} is not below the log's end {end}")
+            }
+            Reason::Unsound(page, redo) => write!(
+                f,
+                "page {page} is not what the log made of it, or lacks a change below LSN {redo}"
+            ),
+        }
+    }
+}
+
+/// What is wrong with the log on standard input, where that is a file that can be read again.
+pub fn tell_redo(rt: &HostRuntime, fault: &Fault) {
+    if !is_regular(rt, STANDARD_INPUT) {
+        return;
+    }
+    let reason = match fault {
+        Fault::BadHeader => reason_of_header(rt, STANDARD_INPUT, 0),
+        Fault::BadRecord(at) => reason_of_record(rt, STANDARD_INPUT, *at),
+        Fault::Torn(at) => reason_of_torn(rt, STANDARD_INPUT, *at),
+        Fault::BadChain(at) => reason_of_chain(rt, STANDARD_INPUT, *at),
+        _ => None,
+    };
+    if let Some(reason) = reason {
+        let _ = eprintln!(rt; "imgcopy: standard input: {reason}");
+    }
+}
+
+/// What is wrong with the file at this place, where a restore met this fault.
+pub fn reason_of_restore(
+    rt: &HostRuntime,
+    names: &Named<'_>,
+    place: usize,
+    fault: &RestoreFault,
+) -> Option<Reason> {
+    let name = names.at(place)?;
+    if !is_regular(rt, name) {
+        return None;
+    }
+    match fault {
+        RestoreFault::BadHeader => reason_of_header(rt, name, place),
+        RestoreFault::BadRecord(at) => reason_of_record(rt, name, *at),
+        RestoreFault::Torn(at) => reason_of_torn(rt, name, *at),
+        RestoreFault::BadChain(at) if place == 0 => reason_of_chain(rt, name, *at),
+        RestoreFault::BadChain(_) => reason_of_master(rt, name),
+        RestoreFault::BadArchive(0) => reason_of_header(rt, name, place),
+        RestoreFault::ChainBroken(_) => reason_of_broken(rt, names, place),
+        RestoreFault::CountDiffers => reason_of_count(rt, name),
+        RestoreFault::PageBeyondLog(page) => Some(Reason::PageLsn(page.0, end_of(rt, names.log)?)),
+        _ => None,
+    }
+}
+
+/// The same of an audit.
+pub fn reason_of_audit(
+    rt: &HostRuntime,
+    names: &Named<'_>,
+    place: usize,
+    fault: &Unsound,
+) -> Option<Reason> {
+    let name = names.at(place)?;
+    if !is_regular(rt, name) {
+        return None;
+    }
+    match fault {
+        Unsound::BadHeader | Unsound::BadArchive(0) => reason_of_header(rt, name, place),
+        Unsound::BadRecord(at) => reason_of_record(rt, name, *at),
+        Unsound::Torn(at) => reason_of_torn(rt, name, *at),
+        Unsound::BadChain(at) => reason_of_chain(rt, name, *at),
+        Unsound::ChainBroken(_) => reason_of_broken(rt, names, place),
+        Unsound::CountDiffers => reason_of_count(rt, name),
+        Unsound::PageBeyondLog(page) => Some(Reason::PageLsn(page.0, end_of(rt, names.log)?)),
+        _ => None,
+    }
+}
+
+/// Names the copy whose redo point is not below the log's end.
+pub fn tell_beyond(rt: &HostRuntime, names: &Named<'_>) {
+    let Some(end) = end_of(rt, names.log) else {
+        return;
+    };
+    for name in names.archives {
+        if let Some(header) = archive_at(rt, name) {
+            if header.redo >= end {
+                let (id, reason) = (header.id, Reason::RedoPoint(header.redo, end));
+                let _ = eprintln!(rt; "imgcopy: {name} (image copy {id}): {reason}");
+                return;
+            }
+        }
+    }
+}
+
+/// Names the copy up to which the chain has an unsound page.
+pub fn tell_unsound(rt: &HostRuntime, names: &Named<'_>, copy: CopyId, page: PageNo) {
+    for name in names.archives {
+        if let Some(header) = archive_at(rt, name) {
+            if header.id == copy.0 {
+                let (id, reason) = (header.id, Reason::Unsound(page.0, header.redo));
+                let _ = eprintln!(rt; "imgcopy: {name} (image copy {id}): {reason}");
+                return;
+            }
+        }
+    }
+}
+
+/// Whether the file of this name can be read twice.
+fn is_regular(rt: &HostRuntime, name: &str) -> bool {
+    match fs::metadata(rt, name) {
+        Ok(there) => there.is_file(),
+        Err(_) => false,
+    }
+}
+
+/// What the header of a file of another kind says, or of one that is misspelt.
+fn reason_of_header(rt: &HostRuntime, name: &str, place: usize) -> Option<Reason> {
+    let Some(bytes) = bytes_at(rt, name, 0) else {
+        return Some(Reason::IsShort(end_of(rt, name)?));
+    };
+    let (found, wanted) = match &bytes[..8] {
+        b"AIMGLOG1" => (Reason::IsLog, 0),
+        b"AIMGMST1" => (Reason::IsMaster, 1),
+        b"AIMGARC1" => (Reason::IsArchive, FIRST_ARCHIVE),
+        _ => return Some(Reason::IsOther),
+    };
+    if place.min(FIRST_ARCHIVE) == wanted {
+        Some(Reason::BadHeader)
+    } else {
+        Some(found)
+    }
+}
+
+fn reason_of_record(rt: &HostRuntime, name: &str, at: Lsn) -> Option<Reason> {
+    let bytes = bytes_at(rt, name, at.0)?;
+    if bytes[0] == 0 || bytes[0] > 10 {
+        return Some(Reason::Kind(bytes[0]));
+    }
+    let own = u64_at(&bytes, 56);
+    if own == at.0 {
+        Some(Reason::Misspelt)
+    } else {
+        Some(Reason::OwnLsn(own))
+    }
+}
+
+fn reason_of_torn(rt: &HostRuntime, name: &str, at: Lsn) -> Option<Reason> {
+    Some(Reason::Torn(end_of(rt, name)?.saturating_sub(at.0)))
+}
+
+fn reason_of_chain(rt: &HostRuntime, name: &str, at: Lsn) -> Option<Reason> {
+    let file = fs::open(rt, name).ok()?;
+    Some(Reason::Chain(chain_reason(rt.alloc(), file, at)?))
+}
+
+fn reason_of_master(rt: &HostRuntime, name: &str) -> Option<Reason> {
+    let bytes = bytes_at(rt, name, 0)?;
+    Some(Reason::NoCheckpoint(u64_at(&bytes, 8), u64_at(&bytes, 16)))
+}
+
+/// Why an archive does not follow the one before it, or is none of this log.
+fn reason_of_broken(rt: &HostRuntime, names: &Named<'_>, place: usize) -> Option<Reason> {
+    let index = place.checked_sub(FIRST_ARCHIVE)?;
+    let header = archive_at(rt, names.archives.get(index)?)?;
+    let log = u32_at(&bytes_at(rt, names.log, 0)?, 8);
+    let before = match index.checked_sub(1) {
+        Some(index) => Some(archive_at(rt, names.archives.get(index)?)?.id),
+        None => None,
+    };
+    match before {
+        None if header.parent != 0 => Some(Reason::IncFirst(header.parent)),
+        Some(_) if header.parent == 0 => Some(Reason::FullBehind),
+        Some(id) if header.parent != id => Some(Reason::Parent(header.parent, id)),
+        _ => Some(Reason::Pages(header.pages, log)),
+    }
+}
+
+fn reason_of_count(rt: &HostRuntime, name: &str) -> Option<Reason> {
+    let header = archive_at(rt, name)?;
+    let there = end_of(rt, name)?.saturating_sub(RECORD_BYTES as u64) / PAGE_BYTES as u64;
+    Some(Reason::Count(there, header.taken))
+}
+
+/// What the header of an archive says.
+#[derive(Clone, Copy)]
+struct ArchiveHeader {
+    pages: u32,
+    id: u32,
+    parent: u32,
+    redo: u64,
+    taken: u32,
+}
+
+fn archive_at(rt: &HostRuntime, name: &str) -> Option<ArchiveHeader> {
+    if !is_regular(rt, name) {
+        return None;
+    }
+    let bytes = bytes_at(rt, name, 0)?;
+    Some(ArchiveHeader {
+        pages: u32_at(&bytes, 8),
+        id: u32_at(&bytes, 12),
+        parent: u32_at(&bytes, 20),
+        redo: u64_at(&bytes, 32),
+        taken: u32_at(&bytes, 40),
+    })
+}
+
+/// How many bytes a file has.
+fn end_of(rt: &HostRuntime, name: &str) -> Option<u64> {
+    Some(fs::metadata(rt, name).ok()?.len())
+}
+
+/// The 64 bytes of a file at an offset.
+fn bytes_at(rt: &HostRuntime, name: &str, at: u64) -> Option<[u8; RECORD_BYTES]> {
+    let mut file = fs::open(rt, name).ok()?;
+    file.seek(SeekFrom::Start(at)).ok()?;
+    let mut bytes = [0; RECORD_BYTES];
+    file.read_exact(&mut bytes).ok()?;
+    Some(bytes)
+}

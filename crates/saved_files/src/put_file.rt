@@ -1,0 +1,152 @@
+//! A file that takes the place of an older one.
+
+ghost use Rattle.std.specs.Prelude.{◌≡◌, ◌++◌, IfErr, IfOk, OnErr, OnOk, codes, decimal};
+ghost use Rattle.std.specs.String.{string_bytes};
+ghost use Rattle.saved_files.specs.FileFault.{IsOfNoByte};
+ghost use Rattle.saved_files.specs.Filled.{IsFilled, IsHow, LeavesFill};
+ghost use Rattle.saved_files.specs.Folder.{Changes, IsBeside, IsMade, IsSame, Puts};
+ghost use Rattle.saved_files.specs.PutFault.{IsOfSource, LeavesPut, bytes_by};
+
+use crate::file_fault::FileFault;
+use crate::folder::Folder;
+use crate::put_fault::PutFault;
+use crate::source::Source;
+use std::alloc::{AllocError, Global};
+use std::io;
+use std::io::ErrorKind;
+
+/// How many unfinished files of one name may stand in a folder.
+const MOST_UNFINISHED: u32 = 1_000;
+
+/// Puts a file in the place of an older one of this name, or where nothing stood. It is written
+/// beside the name, as `NAME.unfinished-1`, or with the next number where something has that name.
+/// It is then synced, and renamed: so at a fault the name has the old file or the new one, whole.
+/// The names of the folder are not synced.
+pub(crate) fn put_file<F: Folder, S: Source>(
+    folder: &mut F,
+    alloc: Global,
+    name: &str,
+    source: &mut S,
+) -> Result<(), PutFault<S::Fault>>
+    requires { F.is_claimed folder.old }
+    ensures put { OnOk result (Changes (Puts name.now (bytes_by (S.gives source.old)))
+        (F.entries folder.old) (F.entries folder.new)) }
+    ensures left { IfErr result (λ fault. Changes
+        (LeavesPut name.now (S.gives source.old) (S.leaves source.old)
+        (F.given_up folder.old) (F.given_up folder.new) fault)
+        (F.entries folder.old) (F.entries folder.new)) }
+    ensures of_source { IfErr result (IsOfSource (S.leaves source.old)) }
+    ensures claimed { F.is_claimed folder.new }
+    ensures given_up { OnOk result (F.given_up folder.new ≡ F.given_up folder.old) }
+{
+    let (beside, mut file) = match make_beside(folder, alloc, name) {
+        Ok(made) => made,
+        Err(why) => return Err(PutFault::Unmade(why)),
+    };
+    match fill(folder, alloc, beside.as_str(), name, &mut file, source) {
+        Ok(()) => Ok(()),
+        Err(why) => {
+            // Where even this fails it is left, and the next file gets another name.
+            let _ = folder.give_up(beside.as_str(), file);
+            Err(why)
+        }
+    }
+}
+
+/// Makes a file beside this name, which has no bytes, and answers the name that it has until it is put
+/// in its place: `NAME.unfinished-1`, or with the next number where something has that name.
+pub fn make_beside<F: Folder>(
+    folder: &mut F,
+    alloc: Global,
+    name: &str,
+) -> Result<(String, F::File), FileFault>
+    requires { F.is_claimed folder.old }
+    ensures made { IfOk result (λ it.
+        Changes (IsMade (string_bytes it.0) (F.File.contents it.1))
+        (F.entries folder.old) (F.entries folder.new)) }
+    ensures beside { IfOk result (λ it. IsBeside name.now (string_bytes it.0)) }
+    ensures same { OnErr result
+        (Changes IsSame (F.entries folder.old) (F.entries folder.new)) }
+    ensures no_byte { IfErr result IsOfNoByte }
+    ensures claimed { F.is_claimed folder.new }
+    ensures given_up { F.given_up folder.new ≡ F.given_up folder.old }
+{
+    for number in 1..=MOST_UNFINISHED {
+        let Ok(beside) = name_beside(alloc, name, number) else {
+            return Err(FileFault::OutOfMemory);
+        };
+        match folder.make(beside.as_str()) {
+            Ok(file) => return Ok((beside, file)),
+            Err(error) => if error.kind() != ErrorKind::AlreadyExists {
+                return Err(fault_of(error));
+            },
+        }
+    }
+    Err(FileFault::WriteFault(0))
+}
+
+/// The name of this number beside a name.
+fn name_beside(alloc: Global, name: &str, number: u32) -> Result<String, AllocError>
+    ensures { IfOk result (λ text. IsBeside name.now (string_bytes text)) }
+{
+    text_beside(alloc, name, number)
+}
+
+fn text_beside(alloc: Global, name: &str, number: u32) -> Result<String, AllocError>
+    ensures { IfOk result (λ text.
+        string_bytes text ≡ name.now ++ (codes ".unfinished-" ++ decimal number)) }
+{
+    let mut text = String::from_str(alloc, name)?;
+    put_number(&mut text, number)?;
+    Ok(text)
+}
+
+fn put_number(text: &mut String, number: u32) -> Result<(), AllocError>
+    ensures { OnOk result (string_bytes text.new
+        ≡ string_bytes text.old ++ (codes ".unfinished-" ++ decimal number)) }
+{
+    write!(text, ".unfinished-{number}")
+}
+
+/// Writes a file that was made beside its name, and has it take its name.
+fn fill<F: Folder, S: Source>(
+    folder: &mut F,
+    alloc: Global,
+    beside: &str,
+    name: &str,
+    file: &mut F::File,
+    source: &mut S,
+) -> Result<(), PutFault<S::Fault>>
+    requires { F.is_claimed folder.old }
+    ensures filled { OnOk result (Changes
+        (IsFilled beside.now name.now (S.gives source.old (F.File.contents file.old)))
+        (F.entries folder.old) (F.entries folder.new)) }
+    ensures unfilled { IfErr result (λ fault. Changes
+        (LeavesFill beside.now name.now (S.gives source.old (F.File.contents file.old)) fault)
+        (F.entries folder.old) (F.entries folder.new)) }
+    ensures how { IfErr result (IsHow (S.gives source.old) (S.leaves source.old)
+        (F.File.contents file.old) (F.File.contents file.new)) }
+    ensures claimed { F.is_claimed folder.new }
+    ensures given_up { F.given_up folder.new ≡ F.given_up folder.old }
+{
+    if let Err(why) = source.write_to(alloc, file) {
+        return Err(PutFault::Unwritten(why));
+    }
+    if let Err(error) = folder.sync(beside, file) {
+        return Err(PutFault::Unplaced(fault_of(error)));
+    }
+    match folder.rename(beside, name) {
+        Ok(()) => Ok(()),
+        Err(error) => Err(PutFault::Unplaced(fault_of(error))),
+    }
+}
+
+/// What it is of a file that a call of its folder failed.
+pub(crate) fn fault_of(error: io::Error) -> FileFault
+    ensures { IsOfNoByte result }
+{
+    match error.kind() {
+        ErrorKind::OutOfMemory => FileFault::OutOfMemory,
+        _ => FileFault::WriteFault(0),
+    }
+}

@@ -1,0 +1,3 @@
+//! Pages in memory.
+
+pub use buffer_pool::Pool;

@@ -1,0 +1,3 @@
+//! Pages, slots, changes and their bytes.
+
+pub use page_core::{BadPage, Change, Lsn, Page, PageNo, SlotNo, undo_of};

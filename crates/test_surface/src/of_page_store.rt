@@ -1,0 +1,3 @@
+//! Stores of pages.
+
+pub use page_store::{FaultyStore, MemStore, PageStore, StoreFault};

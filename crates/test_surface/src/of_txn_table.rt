@@ -1,0 +1,3 @@
+//! The table of open transactions.
+
+pub use txn_table::{Return, Returns, TxnTable};

@@ -1,0 +1,22 @@
+use Rattle.std.proofs.Common.{◌∙◌, ◌≡◌, ◌-◌, ap, sym, subst, List, length, cond}
+use Rattle.std.specs.Prelude.{None, Some}
+use Rattle.log_records.specs.declared.record.Record.{Record}
+use Rattle.log_records.specs.declared.record.Record.TheVariants.{Comp}
+use Rattle.log_history.specs.Linked.{MayFollow}
+use Rattle.log_history.specs.Transactions.{is_rolling, pending}
+use Rattle.txn_table.specs.Returns.{return_of}
+use Rattle.txn_table.proofs.Savepoints.{length_without, no_return, return_at}
+use Rattle.txn_table.proofs.table.TxnTable.return_of.Goals as goal
+
+pub returns-in-Comp : goal.returns-in-Comp
+returns-in-Comp c = λ rs of may.
+    let r = c.in-Comp in
+    let here : MayFollow rs (Comp r.lsn r.txn r.prev r.undo_next r.page r.slot r.change) =
+    subst (MayFollow rs) r.is may in
+    c.return_by.ensures rs of here.0.still_open
+    ∙ ap (λ n. cond (is_rolling rs r.txn) None (Some (return_at r.lsn r.txn n)))
+    (sym (length_without (pending rs r.txn)))
+    ∙ ap (return_of rs) (sym r.is)
+
+pub returns-in_default : goal.returns-in_default
+returns-in_default c = λ rs of may. sym (no_return rs c.args.next.now c.in_default.not-Comp)

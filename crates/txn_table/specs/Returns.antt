@@ -1,0 +1,37 @@
+-- The Comps of a log that go back to savepoints.
+use Rattle.std.specs.Prelude.{ℕ, ◌<◌, ◌++◌, List, [], ◌∷◌, length, Option, Some, None, if◌then◌else◌}
+use Rattle.std.specs.List.{AllPairs}
+use Rattle.std.specs.Option.{option_to_list}
+use Rattle.log_records.specs.declared.record.Record.{Record}
+use Rattle.log_records.specs.declared.record.Record.TheVariants.{Comp}
+use Rattle.log_history.specs.Transactions.{is_rolling, pending, without_last}
+use Rattle.txn_table.specs.declared.returns.Return.{Return}
+
+-- those of a log, and room for so many
+pub record ReturnsView : Type 0 where
+  pub made : List Return
+  pub room : ℕ
+
+-- what a record shows behind these, if it is a Comp of a transaction that does not roll back: it
+-- leaves pending what was pending before, but for the last change
+abbrev pub return_of : List Record → Record → Option Return
+return_of before (Comp lsn txn prev undo_next page slot change) =
+    if is_rolling before txn then None else Some (record {
+      lsn = lsn;
+      txn = txn;
+      left = length (without_last (pending before txn));
+    })
+return_of before other = None
+
+abbrev pub returns_from : List Record → List Record → List Return
+returns_from before [] = []
+returns_from before (r ∷ rs) =
+    option_to_list (return_of before r) ++ returns_from (before ++ r ∷ []) rs
+
+-- what the records of a log show, in order
+abbrev pub returns_of : List Record → List Return
+returns_of rs = returns_from [] rs
+
+-- the LSNs rise
+abbrev pub AreRising : List Return → Type 0
+AreRising made = AllPairs (λ a b. a.lsn < b.lsn) made

@@ -1,0 +1,81 @@
+"""Worked rows of `imgcopy redo` and `imgcopy restore`, on files that the scripts of rows.py save. For
+answers.py."""
+
+from typing import NamedTuple
+
+
+class FileRow(NamedTuple):
+    """What `imgcopy redo` answers to the log of a row, or `imgcopy restore` to its files, whose names are told.
+
+    `edits` has the bytes that are put at an offset, and what the file is cut to. The wanted answer is a line, or the
+    first bytes of the volume in hexadecimal digits, which zeros follow to its end.
+    """
+
+    name: str
+    row: str
+    names: str
+    answer: str
+    edits: tuple = ()
+    status: int = 2
+
+    def files(self, saved):
+        files = dict(saved)
+        for name, at, digits in self.edits:
+            data = bytes.fromhex(digits)
+            files[name] = files[name][:at] if digits == "" else files[name][:at] + data + files[name][at + len(data):]
+        return files
+
+    def volume(self):
+        """All rows that end well have one page."""
+        return bytes.fromhex(self.answer).ljust(512, b"\0")
+
+
+INCREMENTS = "two incremental copies of one parent"
+CHAIN = "a chain, and a rollback that was begun"
+DIRTY = "a page that is dirty all the time"
+COPIED = "a change after the copy"
+FILES_OF_CHAIN = "log master copy-1 copy-2 copy-3"
+
+FILE_ROWS = [
+    FileRow("a chain from its files", CHAIN, FILES_OF_CHAIN, "0000000001000000 c002000000000000", status=0),
+    FileRow("redo of a rollback that was begun", CHAIN, "redo", "0000000001000000 8002000000000000 05", status=0),
+    FileRow("redo of four records", "four records", "redo", "0000000001000000 c000000000000000" + "00" * 24 + "0c",
+            status=0),
+    FileRow("a redo point that is too late", DIRTY, "log master copy-1", "0000000001000000",
+            (("copy-1", 32, "c000000000000000"),), status=0),
+    FileRow("an archive that is cut in a page", COPIED, "log master copy-1", "E36 BadArchive 576",
+            (("copy-1", 1000, ""),)),
+    FileRow("an archive with a page too few", COPIED, "log master copy-1", "E38 CountDiffers", (("copy-1", 576, ""),)),
+    FileRow("an archive with a byte too many", COPIED, "log master copy-1", "E38 CountDiffers",
+            (("copy-1", 1088, "00"),)),
+    FileRow("a page that is cut, behind one with a byte too many", INCREMENTS, "log master copy-1 copy-2",
+            "E38 CountDiffers", (("copy-1", 1000, ""), ("copy-2", 576, "00"))),
+    FileRow("a page that is cut, before a whole archive", INCREMENTS, "log master copy-1 copy-2",
+            "E36 BadArchive 576", (("copy-1", 1000, ""),)),
+    FileRow("a redo point at the log's end", DIRTY, "log master copy-1", "E39 RedoBeyondLog",
+            (("copy-1", 24, "0002"), ("copy-1", 32, "0002")), status=1),
+    FileRow("a page at the log's end", DIRTY, "log master copy-1", "E40 PageBeyondLog 0", (("copy-1", 72, "0002"),),
+            status=1),
+    FileRow("an archive that is cut in its header", COPIED, "log master copy-1", "E36 BadArchive 0",
+            (("copy-1", 63, ""),)),
+    FileRow("an archive without bytes", COPIED, "log master copy-1", "E36 BadArchive 0", (("copy-1", 0, ""),)),
+    FileRow("a chain that begins with its second copy", CHAIN, "log master copy-2 copy-1", "E37 ChainBroken 2",
+            status=1),
+    FileRow("a chain without its second copy", CHAIN, "log master copy-1 copy-3", "E37 ChainBroken 3", status=1),
+    FileRow("no archive", CHAIN, "log master", "E37 ChainBroken 0", status=1),
+    FileRow("a log of another volume", DIRTY, "log master copy-1", "E37 ChainBroken 1", (("log", 8, "02"),), status=1),
+    FileRow("a master of no checkpoint", DIRTY, "log master copy-1", "E35 BadChain 128", (("master", 8, "80"),)),
+    FileRow("a master that is misspelt", DIRTY, "log master copy-1", "E30 BadHeader", (("master", 24, "01"),)),
+    FileRow("a RecLSN of a Begin", DIRTY, "log master copy-1", "E35 BadChain 256", (("log", 280, "40"),)),
+    FileRow("an active transaction as rolling", DIRTY, "redo", "E35 BadChain 320", (("log", 344, "02"),)),
+    FileRow("a redo point that is not the least", DIRTY, "redo", "E35 BadChain 384", (("log", 408, "c0"),)),
+    FileRow("a torn record", "four records", "redo", "E32 Torn 256", (("log", 266, ""),)),
+    FileRow("a spare byte", "four records", "redo", "E31 BadRecord 128", (("log", 129, "01"),)),
+    FileRow("another PrevLSN", "four records", "redo", "E35 BadChain 256", (("log", 264, "80"),)),
+    FileRow("another number before", "four records", "redo", "E35 BadChain 128", (("log", 160, "01"),)),
+    FileRow("no log", COPIED, "missing master copy-1", "E33 ReadFault"),
+    FileRow("no master", COPIED, "log missing copy-1", "E33 ReadFault"),
+    FileRow("no file of an archive", CHAIN, "log master copy-1 missing", "E33 ReadFault"),
+    FileRow("a folder as archive", CHAIN, "log master copy-1 .", "E33 ReadFault"),
+    FileRow("a fault before a file that is missing", CHAIN, "log master copy-2 missing", "E37 ChainBroken 2", status=1),
+]
