@@ -1,5 +1,6 @@
 #!/usr/bin/env python3
-"""Looks up what the documents name in backticks, and fails where the repository does not have it.
+"""Looks up what the documents name in backticks, and fails where the repository does not have it, or where a crate's
+README does not name a file of its `src`.
 
 usage: check_docs.py
 
@@ -114,6 +115,16 @@ def fault_of_path(span, folder, sources):
     return None if is_there or fnmatch.filter(sources.names, pattern) else "there is no such file"
 
 
+def unnamed_files():
+    """The files of code that the README of their crate does not name, but for its root."""
+    for crate in crates():
+        folder = ROOT / "crates" / crate
+        told = (folder / "README.md").read_text(encoding="utf-8")
+        for path in sorted((folder / "src").rglob("*.rt")):
+            if path.name not in ("lib.rt", "main.rt") and not re.search(rf"\b{re.escape(path.name)}`", told):
+                yield f"crates/{crate}/README.md: it does not name {path.relative_to(folder)}"
+
+
 def fault_of_version():
     """What is wrong with the version that the manual page tells, or None."""
     latest = re.search(r"^## (\S+),", (ROOT / "CHANGELOG.md").read_text(encoding="utf-8"), re.MULTILINE)[1]
@@ -125,7 +136,7 @@ def fault_of_version():
 
 def main():
     sources, count = Sources(), 0
-    faults = [fault for fault in [fault_of_version()] if fault]
+    faults = [fault for fault in [fault_of_version(), *unnamed_files()] if fault]
     for document in documents():
         for line, span in spans(document.read_text(encoding="utf-8")):
             fault = fault_of(span, document.parent, sources)
