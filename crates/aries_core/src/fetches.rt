@@ -236,7 +236,11 @@ impl<S: PageStore, D: LogDevice> Engine<S, D> {
         if self.pool.is_resident(page) {
             return self.append(next);
         }
-        if self.log.make_room().is_err() || self.pool.make_room().is_err() {
+        let back = self.txns.return_of(&next);
+        if self.log.make_room().is_err()
+            || self.returns.make_room(back).is_err()
+            || self.pool.make_room().is_err()
+        {
             return Err(Refusal::OutOfMemory);
         }
         if self.pool.fetch(page).is_err() {
@@ -246,6 +250,7 @@ impl<S: PageStore, D: LogDevice> Engine<S, D> {
             unreachable!();
         }
         self.log.append(next);
+        self.returns.add(back);
         self.pool.change(&next);
         Ok(())
     }

@@ -58,6 +58,9 @@ pub enum Refusal {
     StoreFault,
     /// The page has to come in, each frame is taken, and none has a clean page.
     PoolFull,
+    /// The LSN is no savepoint of the transaction: none of its records stands there, or some change
+    /// that was pending then was taken back since.
+    NoSavepoint,
     /// All 1,024 ids of copies were given, dropped ones counted.
     TooManyCopies,
     /// The log's device failed. The records that were stored before the fault count as forced.
@@ -134,6 +137,7 @@ impl Refusal {
             Refusal::LogFault => (FaultName::LogFault, None),
             Refusal::PoolFull => (FaultName::PoolFull, None),
             Refusal::TooManyCopies => (FaultName::TooManyCopies, None),
+            Refusal::NoSavepoint => (FaultName::NoSavepoint, None),
             Refusal::CommitUnsure(lsn) => (FaultName::CommitUnsure, Some(lsn.0)),
         }
     }

@@ -24,7 +24,7 @@ pub note-requires : goal.note-requires
 note-requires g c =
     let it = c.self.inside in
     let stored = g.S.PageStore.stored in
-    let media = media_view it.master it.session it.vault.copies in
+    let media = media_view it.master it.session it.vault.copies it.returns.made in
     let s = (engine_view stored it.log it.pool media).state in
     let r = c.args.next in
     let calls : Calls s r =
@@ -37,7 +37,7 @@ pub append-requires-2-clause-stands : goal.append-requires-2-clause-stands
 append-requires-2-clause-stands g c =
     let it = c.self.inside in
     let stored = g.S.PageStore.stored in
-    let media = media_view it.master it.session it.vault.copies in
+    let media = media_view it.master it.session it.vault.copies it.returns.made in
     let s = (engine_view stored it.log it.pool media).state in
     let r = c.args.next in
     let calls : Calls s r =
@@ -50,7 +50,7 @@ pub append-requires-2-clause-few : goal.append-requires-2-clause-few
 append-requires-2-clause-few g c =
     let it = c.self.inside in
     let stored = g.S.PageStore.stored in
-    let media = media_view it.master it.session it.vault.copies in
+    let media = media_view it.master it.session it.vault.copies it.returns.made in
     let s = (engine_view stored it.log it.pool media).state in
     let r = c.args.next in
     let calls : Calls s r =
@@ -64,7 +64,7 @@ pub change-requires-clause-next : goal.change-requires-clause-next
 change-requires-clause-next g c =
     let it = c.self.inside in
     let stored = g.S.PageStore.stored in
-    let media = media_view it.master it.session it.vault.copies in
+    let media = media_view it.master it.session it.vault.copies it.returns.made in
     let s = (engine_view stored it.log it.pool media).state in
     let r = c.args.next in
     let calls : Calls s r =
@@ -77,13 +77,13 @@ change-requires-clause-next g c =
 
 came : (g : given.Over) (c : goal.After-change g)
     → (engine_view g.S.PageStore.stored c.self.inside.log c.fetch.new.self
-    (media_view c.self.inside.master c.self.inside.session c.self.inside.vault.copies)).state
+    (media_view c.self.inside.master c.self.inside.session c.self.inside.vault.copies c.self.inside.returns.made)).state
     ≡ with_page (engine_view g.S.PageStore.stored c.self.inside.log c.self.inside.pool
-    (media_view c.self.inside.master c.self.inside.session c.self.inside.vault.copies)).state c.args.page
+    (media_view c.self.inside.master c.self.inside.session c.self.inside.vault.copies c.self.inside.returns.made)).state c.args.page
 came g c =
     let it = c.self.inside in
     let stored = g.S.PageStore.stored in
-    let media = media_view it.master it.session it.vault.copies in
+    let media = media_view it.master it.session it.vault.copies it.returns.made in
     let s = (engine_view stored it.log it.pool media).state in
     let p = c.args.page in
     let same = c.make_room-else-is_err.ensures.same in
@@ -99,13 +99,13 @@ came g c =
 
 grown : (g : given.Over) (c : goal.After-change g)
     → (engine_view g.S.PageStore.stored c.append-2.new.self c.change.new.self
-    (media_view c.self.inside.master c.self.inside.session c.self.inside.vault.copies)).state
+    (media_view c.self.inside.master c.self.inside.session c.self.inside.vault.copies c.self.inside.returns.made)).state
     ≡ appended (engine_view g.S.PageStore.stored c.self.inside.log c.fetch.new.self
-    (media_view c.self.inside.master c.self.inside.session c.self.inside.vault.copies)).state c.args.next
+    (media_view c.self.inside.master c.self.inside.session c.self.inside.vault.copies c.self.inside.returns.made)).state c.args.next
 grown g c =
     let it = c.self.inside in
     let stored = g.S.PageStore.stored in
-    let media = media_view it.master it.session it.vault.copies in
+    let media = media_view it.master it.session it.vault.copies it.returns.made in
     appended_is stored it.log c.make_room.new.self c.append-2.new.self c.fetch.new.self c.change.new.self media
     c.args.next c.make_room.ensures.same c.make_room.ensures.forced_end c.append-2.ensures.next
     c.append-2.ensures.forced_end (ap (λ x. stored x) c.change.ensures.store) c.change.ensures.frames
@@ -115,7 +115,7 @@ pub invariant_of-self-2 : goal.invariant_of-self-2
 invariant_of-self-2 g c =
     let it = c.self.inside in
     let stored = g.S.PageStore.stored in
-    let media = media_view it.master it.session it.vault.copies in
+    let media = media_view it.master it.session it.vault.copies it.returns.made in
     let s = (engine_view stored it.log it.pool media).state in
     let r = c.args.next in
     let calls : Calls s r =
@@ -137,7 +137,7 @@ pub returns-clause-ok : goal.returns-clause-ok
 returns-clause-ok g c =
     subst (λ (v : EngineView g.row.S.Denot g.row.D.Denot).
     (engine_view g.S.PageStore.stored c.append-2.new.self c.change.new.self
-    (media_view c.self.inside.master c.self.inside.session c.self.inside.vault.copies)).state
+    (media_view c.self.inside.master c.self.inside.session c.self.inside.vault.copies c.self.inside.returns.made)).state
     ≡ appended (with_page v.state c.args.page) c.args.next) c.self.view_is
     (grown g c ∙ ap (λ (t : EngineState). appended t c.args.next) (came g c))
 
@@ -147,7 +147,7 @@ returns-clause-asked g c =
     let stored = g.S.PageStore.stored in
     let gave = g.S.PageStore.gave in
     let wrote = g.S.PageStore.wrote in
-    let media = media_view it.master it.session it.vault.copies in
+    let media = media_view it.master it.session it.vault.copies it.returns.made in
     let p = c.args.page in
     let new = engine_view stored c.append-2.new.self c.change.new.self media in
     let given = said c.fetch.result _ (sym c.is_err-2.ensures.value ∙ c.if-is_err-3.false) c.fetch.ensures.gave
@@ -164,7 +164,7 @@ returns-then-is_err-3-clause-failed g c = λ by_store.
     let stored = g.S.PageStore.stored in
     let gave = g.S.PageStore.gave in
     let wrote = g.S.PageStore.wrote in
-    let media = media_view it.master it.session it.vault.copies in
+    let media = media_view it.master it.session it.vault.copies it.returns.made in
     let p = c.args.page in
     let new = engine_view stored c.make_room.new.self c.fetch.new.self media in
     let failed = why_failed c.fetch.result _ (sym c.is_err-2.ensures.value ∙ c.if-is_err-3.true) c.fetch.ensures.failed in

@@ -40,7 +40,7 @@ pub note_ahead-requires : goal.note_ahead-requires
 note_ahead-requires g c =
     let it = c.self.inside in
     let stored = g.S.PageStore.stored in
-    let media = media_view it.master it.session it.vault.copies in
+    let media = media_view it.master it.session it.vault.copies it.returns.made in
     let s = (engine_view stored it.log it.pool media).state in
     let number = number_in s.log c.args.page c.args.slot in
     let r = update_record s c.args.txn c.args.page c.args.slot (with_before c.args.ahead number) in
@@ -61,7 +61,7 @@ pub take_back-requires : goal.take_back-requires
 take_back-requires g c =
     let it = c.self.inside in
     let stored = g.S.PageStore.stored in
-    let media = media_view it.master it.session it.vault.copies in
+    let media = media_view it.master it.session it.vault.copies it.returns.made in
     let s = (engine_view stored it.log it.pool media).state in
     let number = number_in s.log c.args.page c.args.slot in
     let r = update_record s c.args.txn c.args.page c.args.slot (with_before c.args.ahead number) in
@@ -94,7 +94,7 @@ pub invariant_of-self-then-is_err-4 : goal.invariant_of-self-then-is_err-4
 invariant_of-self-then-is_err-4 g c =
     let it = c.self.inside in
     let stored = g.S.PageStore.stored in
-    let media = media_view it.master it.session it.vault.copies in
+    let media = media_view it.master it.session it.vault.copies it.returns.made in
     let s = (engine_view stored it.log it.pool media).state in
     let number = number_in s.log c.args.page c.args.slot in
     let r = update_record s c.args.txn c.args.page c.args.slot (with_before c.args.ahead number) in
@@ -145,7 +145,7 @@ pub settle-requires : goal.settle-requires
 settle-requires g c =
     let it = c.self.inside in
     let stored = g.S.PageStore.stored in
-    let media = media_view it.master it.session it.vault.copies in
+    let media = media_view it.master it.session it.vault.copies it.returns.made in
     let s = (engine_view stored it.log it.pool media).state in
     let number = number_in s.log c.args.page c.args.slot in
     let r = update_record s c.args.txn c.args.page c.args.slot (with_before c.args.ahead number) in
@@ -178,7 +178,7 @@ pub append-requires-clause-stands : goal.append-requires-clause-stands
 append-requires-clause-stands g c =
     let it = c.self.inside in
     let stored = g.S.PageStore.stored in
-    let media = media_view it.master it.session it.vault.copies in
+    let media = media_view it.master it.session it.vault.copies it.returns.made in
     let s = (engine_view stored it.log it.pool media).state in
     let number = number_in s.log c.args.page c.args.slot in
     let r = update_record s c.args.txn c.args.page c.args.slot (with_before c.args.ahead number) in
@@ -221,7 +221,7 @@ pub append-requires-clause-few : goal.append-requires-clause-few
 append-requires-clause-few g c =
     let it = c.self.inside in
     let stored = g.S.PageStore.stored in
-    let media = media_view it.master it.session it.vault.copies in
+    let media = media_view it.master it.session it.vault.copies it.returns.made in
     let s = (engine_view stored it.log it.pool media).state in
     let number = number_in s.log c.args.page c.args.slot in
     let r = update_record s c.args.txn c.args.page c.args.slot (with_before c.args.ahead number) in
@@ -243,7 +243,7 @@ pub change-requires-clause-next : goal.change-requires-clause-next
 change-requires-clause-next g c =
     let it = c.self.inside in
     let stored = g.S.PageStore.stored in
-    let media = media_view it.master it.session it.vault.copies in
+    let media = media_view it.master it.session it.vault.copies it.returns.made in
     let s = (engine_view stored it.log it.pool media).state in
     let number = number_in s.log c.args.page c.args.slot in
     let r = update_record s c.args.txn c.args.page c.args.slot (with_before c.args.ahead number) in
@@ -290,7 +290,7 @@ pub invariant_of-self-2 : goal.invariant_of-self-2
 invariant_of-self-2 g c =
     let it = c.self.inside in
     let stored = g.S.PageStore.stored in
-    let media = media_view it.master it.session it.vault.copies in
+    let media = media_view it.master it.session it.vault.copies it.returns.made in
     let s = (engine_view stored it.log it.pool media).state in
     let number = number_in s.log c.args.page c.args.slot in
     let r = update_record s c.args.txn c.args.page c.args.slot (with_before c.args.ahead number) in
@@ -361,7 +361,7 @@ returns-clause-asked g c =
     let stored = g.S.PageStore.stored in
     let gave = g.S.PageStore.gave in
     let wrote = g.S.PageStore.wrote in
-    let media = media_view it.master it.session it.vault.copies in
+    let media = media_view it.master it.session it.vault.copies it.returns.made in
     let p = c.args.page in
     let absent : is_resident it.pool.resident p ≡ false =
     subst (λ (v : EngineView g.row.S.Denot g.row.D.Denot). is_resident v.state.resident p ≡ false) (sym c.self.view_is)
@@ -381,7 +381,7 @@ returns-then-is_err-4-clause-failed g c = λ by_store.
     let stored = g.S.PageStore.stored in
     let gave = g.S.PageStore.gave in
     let wrote = g.S.PageStore.wrote in
-    let media = media_view it.master it.session it.vault.copies in
+    let media = media_view it.master it.session it.vault.copies it.returns.made in
     let p = c.args.page in
     let absent : is_resident it.pool.resident p ≡ false =
     subst (λ (v : EngineView g.row.S.Denot g.row.D.Denot). is_resident v.state.resident p ≡ false) (sym c.self.view_is)
