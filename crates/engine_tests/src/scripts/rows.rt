@@ -6,7 +6,7 @@ use event_script::{LineFault, ReplyLine, ScriptFault};
 use page_core::{Lsn, TxnNo};
 
 /// Scripts of one event, and what they say.
-pub(super) static CALLS: [(&str, &str); 19] = [
+pub(super) static CALLS: [(&str, &str); 21] = [
     ("begin", "[Begin] None"),
     (
         "set 4294967295 65536 65535 18446744073709551615",
@@ -28,6 +28,11 @@ pub(super) static CALLS: [(&str, &str); 19] = [
     ),
     ("abort 4294967295\n", "[Abort(TxnNo(4294967295))] None"),
     ("undo 4294967295", "[UndoStep(TxnNo(4294967295))] None"),
+    ("save 4294967295", "[Savepoint(TxnNo(4294967295))] None"),
+    (
+        "undoto 4294967295 18446744073709551615",
+        "[UndoTo { txn: TxnNo(4294967295), savepoint: Lsn(18446744073709551615) }] None",
+    ),
     ("force", "[Force] None"),
     ("ckpt", "[CkptBegin] None"),
     ("gather", "[CkptGather] None"),
