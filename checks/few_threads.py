@@ -48,10 +48,9 @@ def played(program, library, word, text, processors, thread):
 
 def script_of(seed):
     """The first random script from this seed on whose log has a checkpoint, and the engine that has played it."""
-    for number in count(1000 * seed):
-        # The player reads the calls of a script, and has none of savepoints.
-        script = random_script(number, savepoints=False)
-        events = [event for event in read_script(script.text) if event.word != "restore"]
+    # In the scripts of odd seeds transactions go back to savepoints.
+    for number in count(1000 * seed + 1):
+        events = [event for event in read_script(random_script(number).text) if event.word != "restore"]
         text = "".join(" ".join([event.word, *map(str, event.numbers)]) + "\n" for event in events).encode()
         engine = run(text, PAGES).engine
         if engine.master is not None:

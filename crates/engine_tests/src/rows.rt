@@ -420,6 +420,54 @@ pub(crate) const THREE_LOSERS: Row = Row {
     ],
 };
 
+/// A transaction takes its last step back, and goes on.
+pub(crate) const WENT_BACK: Row = Row {
+    pages: 1,
+    parts: &[
+        IDLE,
+        FULL,
+        "
+        begin -> began 1 at 192
+        add 1 0 0 5 -> lsn 256
+        save 1 -> saved 256
+        add 1 0 0 7 -> lsn 320
+        undoto 1 256 -> undid 384
+        undoto 1 256 -> reached
+        undoto 1 320 -> E42 NoSavepoint
+        set 1 0 1 9 -> lsn 448
+    ",
+    ],
+};
+
+/// Between a savepoint and the way back to it a checkpoint is taken, whose entry is of an active
+/// transaction.
+pub(crate) const WENT_BACK_BESIDE_A_CHECKPOINT: Row = Row {
+    pages: 1,
+    parts: &[
+        IDLE,
+        FULL,
+        "
+        begin -> began 1 at 192
+        add 1 0 0 5 -> lsn 256
+        save 1 -> saved 256
+        add 1 0 0 7 -> lsn 320
+        add 1 0 1 8 -> lsn 384
+        undoto 1 256 -> undid 448
+        ckpt -> lsn 512
+        gather -> more
+        gather -> more
+        gather -> more
+        gather -> done
+        endckpt -> point 512 704 256
+        undoto 1 256 -> undid 768
+        undoto 1 256 -> reached
+        undoto 1 448 -> E42 NoSavepoint
+        undoto 1 768 -> reached
+        set 1 0 1 9 -> lsn 832
+    ",
+    ],
+};
+
 /// Sixty-four transactions begin, and one more is refused.
 pub(crate) fn sixty_four_transactions(rt: &(impl Abort + AllocGlobal)) -> String {
     let mut part = String::new(rt.alloc());

@@ -58,7 +58,7 @@ const OF_TWO_PAGES: &str = "
 ";
 
 /// Rows, a restore after each with its lines, or none, and what comes of it.
-static RUNS: [(Row, &str, Result<(), FinishFault>); 25] = [
+static RUNS: [(Row, &str, Result<(), FinishFault>); 28] = [
     (rows::SUM_WRAPS, "", Ok(())),
     (rows::CHANGED_AFTER_A_COPY, OF_TWO_PAGES, Ok(())),
     (
@@ -130,6 +130,24 @@ static RUNS: [(Row, &str, Result<(), FinishFault>); 25] = [
     (
         rows::THREE_LOSERS,
         "restore 1 all -> page 0 lsn 832",
+        Ok(()),
+    ),
+    (
+        rows::WENT_BACK,
+        "restore 1 all -> page 0 lsn 576",
+        Ok(()),
+    ),
+    (
+        rows::WENT_BACK,
+        "
+        commit 1 -> lsn 512
+        restore 1 all -> page 0 lsn 448 0=5 1=9
+    ",
+        Ok(()),
+    ),
+    (
+        rows::WENT_BACK_BESIDE_A_CHECKPOINT,
+        "restore 1 all -> page 0 lsn 960",
         Ok(()),
     ),
     (
