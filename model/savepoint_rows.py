@@ -1,7 +1,4 @@
-"""Worked rows of savepoints, beside those of rows.py, and rows on the files that they save.
-
-They stand apart from the others, so that a program without `save` and `undoto` can be compared with all the rest.
-"""
+"""Worked rows of savepoints, beside those of rows.py, and rows on the files that they save."""
 
 from model.file_rows import FileRow
 from model.rows import PARTS, Row, repeated
