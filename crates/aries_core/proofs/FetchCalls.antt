@@ -10,7 +10,7 @@ use Rattle.aries_core.specs.declared.event.Answer.TheVariants as answer
 use Rattle.aries_core.specs.declared.event.Event.TheVariants as event
 use Rattle.aries_core.specs.declared.refusal.Refusal.{Refusal}
 use Rattle.aries_core.specs.declared.refusal.Refusal.TheVariants.{OutOfMemory, StoreFault}
-use Rattle.aries_core.specs.EngineState.{EngineState, appended, end, update_record, with_page}
+use Rattle.aries_core.specs.EngineState.{EngineState, appended, end, taken_back, update_record, with_page}
 use Rattle.aries_core.specs.Refusal.{refusal}
 use Rattle.aries_core.specs.Step.{FailsFetching, Step, reply_of}
 
@@ -51,6 +51,14 @@ pub undo_fails : (s new : EngineState) (txn : ℕ) (p : PendingChange) (why : Re
 undo_fails s new txn p OutOfMemory none last err same = inr (none, (tt, same))
 undo_fails s new txn p StoreFault none last err same = inr (none, (rw last err, same))
 undo_fails s new txn p other none last err same = absurd err
+
+-- a step back to a savepoint that finds no page
+pub back_fails : (s new : EngineState) (txn at : ℕ) (p : PendingChange) (why : Refusal)
+    → refusal s (event.UndoTo txn at) ≡ None → taken_back s txn at ≡ Some p → FailsFetching s p.page why
+    → new ≡ s → Step s (event.UndoTo txn at) (Err why) new
+back_fails s new txn at p OutOfMemory none taken err same = inr (none, (rw taken tt, same))
+back_fails s new txn at p StoreFault none taken err same = inr (none, (rw taken err, same))
+back_fails s new txn at p other none taken err same = absurd err
 
 -- a page that is not absent is there
 pub is_there : (b : Bool) → ¬ (b ≡ false) → b ≡ true

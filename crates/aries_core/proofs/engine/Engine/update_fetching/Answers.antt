@@ -139,6 +139,7 @@ invariant_of-self-then-is_err-4 g c =
       };
       pool_of_log = of_log;
       session_of_log = c.self.invariant.session_of_log;
+      returns_of_log = c.self.invariant.returns_of_log;
     })
 
 pub settle-requires : goal.settle-requires
