@@ -500,13 +500,13 @@ impl<S: PageStore, D: LogDevice> Engine<S, D> {
     {
         let back = self.txns.return_of(&next);
         if self.log.make_room().is_err()
-            || self.returns.make_room(back).is_err()
+            || self.returns.make_room(&back).is_err()
             || self.txns.note(&next).is_err()
         {
             return Err(Refusal::OutOfMemory);
         }
         self.log.append(next);
-        self.returns.add(back);
+        self.returns.add(&back);
         self.pool.change(&next);
         Ok(())
     }

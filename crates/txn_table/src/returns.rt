@@ -53,10 +53,10 @@ impl Returns {
 
     /// Makes room for what the next record of the log shows, so that `add` takes no memory. Where it
     /// shows nothing, this takes none either. An `Err` comes where memory is refused.
-    pub fn make_room(&mut self, back: Option<Return>) -> Result<(), AllocError>
+    pub fn make_room(&mut self, back: &Option<Return>) -> Result<(), AllocError>
         ensures same { self.new.made ≡ self.old.made }
-        ensures room { OnOk result (IsSome back → length self.new.made < self.new.room) }
-        ensures nothing { back ≡ None → IsOk result }
+        ensures room { OnOk result (IsSome back.now → length self.new.made < self.new.room) }
+        ensures nothing { back.now ≡ None → IsOk result }
     {
         match back {
             Some(_) => self.made.reserve(1),
@@ -65,14 +65,14 @@ impl Returns {
     }
 
     /// Adds what the next record of the log shows, if it shows one.
-    pub fn add(&mut self, back: Option<Return>)
-        requires room { IsSome back → length self.old.made < self.old.room }
-        ensures added { self.new.made ≡ self.old.made ++ option_to_list back }
+    pub fn add(&mut self, back: &Option<Return>)
+        requires room { IsSome back.now → length self.old.made < self.old.room }
+        ensures added { self.new.made ≡ self.old.made ++ option_to_list back.now }
         ensures log { (rs : List Record) (r : Record) → self.old.made ≡ returns_of rs
-            → back ≡ return_of rs r → self.new.made ≡ returns_of (rs ++ r ∷ []) }
+            → back.now ≡ return_of rs r → self.new.made ≡ returns_of (rs ++ r ∷ []) }
     {
         if let Some(back) = back {
-            self.made.push_reserved(back);
+            self.made.push_reserved(*back);
         }
     }
 

@@ -16,6 +16,20 @@ said : {T E : Type 0} (r : Result T E) (P : Type 0) → is_err r ≡ false → O
 said (Ok x) P ok h = h
 said (Err e) P ok h = cc
 
+pub return_of-back-requires : goal.return_of-back-requires
+return_of-back-requires g c =
+    let it = c.self.inside in
+    let s = (engine_view g.S.PageStore.stored it.log it.pool (media_view it.master it.session it.vault.copies it.returns.made)).state in
+    let calls : Calls s c.args.next =
+    subst (λ (v : EngineView g.row.S.Denot g.row.D.Denot). Calls v.state c.args.next)
+    (sym c.self.view_is) c.requires.called in (
+      s.log,
+      (
+        c.self.invariant.table_of_log,
+        (comes s c.args.next c.self.invariant.fit calls).may_follow,
+      ),
+    )
+
 pub note-requires : goal.note-requires
 note-requires g c =
     let it = c.self.inside in
@@ -92,18 +106,23 @@ invariant_of-self-2 g c =
     let r = c.args.next in
     let stored = g.S.PageStore.stored in
     let media = media_view it.master it.session it.vault.copies it.returns.made in
+    let after = media_view it.master it.session it.vault.copies c.add.new.self.made in
     let s = (engine_view stored it.log it.pool media).state in
     let calls : Calls s r =
     subst (λ (v : EngineView g.row.S.Denot g.row.D.Denot). Calls v.state r) (sym c.self.view_is) c.requires.called in
     let come = comes s r c.self.invariant.fit calls in
-    let noted = said c.note.result _ (sym c.is_err-else-is_err.ensures.value ∙ c.if-is_err-2.false) c.note.ensures.ok
-    s.log c.self.invariant.table_of_log come.may_follow in
-    let changed = c.change.ensures.kept (log_of s) c.self.invariant.pool_of_log (valid_with s r c.self.invariant.fit come) in
-    subst (λ (t : EngineState). IsKept stored t c.note.new.self c.change.new.self media) (sym (state_after g c))
-    (kept_next stored s it.txns c.note.new.self it.pool c.change.new.self media r c.self.invariant come
-    (subst (λ (v : EngineView g.row.S.Denot g.row.D.Denot).
+    let table = c.self.invariant.table_of_log in
+    let noted = said c.note.result _ (sym c.is_err-else-is_err-2.ensures.value ∙ c.if-is_err-3.false) c.note.ensures.ok
+    s.log table come.may_follow in
+    let changed = c.change.ensures.kept (log_of s) c.self.invariant.pool_of_log
+    (valid_with s r c.self.invariant.fit come) in
+    let back = c.add.ensures.log s.log r (c.make_room-else-is_err.ensures.same ∙ c.self.invariant.returns_of_log)
+    (c.return_of-back.ensures s.log table come.may_follow) in
+    subst (λ (t : EngineState). IsKept stored t c.note.new.self c.change.new.self after) (sym (state_after g c))
+    (kept_next stored s it.txns c.note.new.self it.pool c.change.new.self media c.add.new.self.made r c.self.invariant
+    come (subst (λ (v : EngineView g.row.S.Denot g.row.D.Denot).
     IfSome (change_of r) (λ x. IsResident v.state.resident x.page)) (sym c.self.view_is) c.requires.there) noted
-    changed)
+    changed back)
 
 pub returns-clause-ok : goal.returns-clause-ok
 returns-clause-ok g c =

@@ -26,6 +26,7 @@ use Rattle.log_records.specs.declared.record.Record.TheVariants.{Update}
 use Rattle.aries_core.specs.EngineState.{update_record}
 use Rattle.txn_table.specs.TxnTable.{IsAhead}
 use Rattle.aries_core.proofs.engine.Engine.update_fetching.Goals as goal
+use Rattle.aries_core.proofs.Returned.{returns_stay}
 
 -- what an answer that is no `Err` says, and what one says that is
 said : {T E : Type 0} (r : Result T E) (P : Type 0) → is_err r ≡ false → OnOk r P → P
@@ -139,6 +140,7 @@ invariant_of-self-then-is_err-4 g c =
       };
       pool_of_log = of_log;
       session_of_log = c.self.invariant.session_of_log;
+      returns_of_log = c.self.invariant.returns_of_log;
     })
 
 pub settle-requires : goal.settle-requires
@@ -352,8 +354,9 @@ invariant_of-self-2 g c =
     ∙ ap (λ x. table_of (s.log ++ Update c.end-lsn.result c.args.txn c.args.prev p c.args.slot x ∷ []))
     (sym c.with_number.ensures) in
     after_fetch stored s (engine_view stored it.log c.fetch.new.self media).state _ p it.txns c.settle.new.self
-    it.pool c.fetch.new.self c.change.new.self media next c.self.invariant comes_next within refl came of_log
-    settled (c.change.ensures.kept (log_of s) of_log (valid_with s next fit comes_next)) grown
+    it.pool c.fetch.new.self c.change.new.self media it.returns.made next c.self.invariant comes_next within refl came
+    of_log settled (c.change.ensures.kept (log_of s) of_log (valid_with s next fit comes_next))
+    (c.self.invariant.returns_of_log ∙ sym (returns_stay s.log next refl)) grown
 
 pub returns-clause-asked : goal.returns-clause-asked
 returns-clause-asked g c =
