@@ -3,13 +3,13 @@
 ghost use Rattle.std.specs.Prelude.{◌≡◌};
 
 use crate::volume::{Volume, add_one, full_copy, volume};
-use aries_core::{Refusal, Undone};
+use aries_core::{Refusal, SteppedBack, Undone};
 use copy_coverage::Retired;
 use copy_vault::{CopyId, CopyKind};
 use engine_run::{OpenGate, Session, Work, settle};
 use fuzzy_ckpt::Point;
 use media_restore::load;
-use page_core::{Page, PageNo, SlotNo, formatted_pages};
+use page_core::{Page, PageNo, SlotNo, TxnNo, formatted_pages};
 use std::alloc::Global;
 use std::marker::Brand;
 use std::process::Abort;
@@ -19,8 +19,26 @@ use std::test::Fail;
 use std::thread;
 use std::thread::{Threads, join};
 
+/// A transaction sets a slot, and takes that back: it goes on as if it had not.
+fn set_and_go_back<G: Ledger>(
+    rt: &(impl Wait + Abort),
+    shared: &Volume<G>,
+    session: &mut Session<G>,
+    txn: TxnNo,
+    page: PageNo,
+) {
+    let savepoint = session.savepoint(rt, shared, txn).expect(rt, "savepoint");
+    session
+        .set(rt, shared, txn, page, SlotNo(1), u64::MAX)
+        .expect(rt, "set");
+    let first = session.undo_to(rt, shared, txn, savepoint);
+    assert!(rt; matches!(first, Ok(SteppedBack::Undid(_))));
+    let last = session.undo_to(rt, shared, txn, savepoint);
+    assert_eq!(rt; last, Ok(SteppedBack::Reached));
+}
+
 /// Fifty transactions of a session: each adds 1 to a slot that all sessions share, and sets a slot
-/// of its own.
+/// of its own, at the second try.
 fn work<G: Ledger>(
     rt: &(impl Wait + Abort),
     shared: &Volume<G>,
@@ -32,6 +50,7 @@ fn work<G: Ledger>(
         session
             .add(rt, shared, txn, PageNo(7), SlotNo(0), 1)
             .expect(rt, "add");
+        set_and_go_back(rt, shared, session, txn, own);
         session
             .set(rt, shared, txn, own, SlotNo(1), round)
             .expect(rt, "set");
@@ -216,9 +235,9 @@ fn day<G: Ledger + Send + Sync, R: Threads + Wait + Abort + AllocGlobal + Sync>(
     assert_eq!(rt; copied, full_copy(if has_copy { 2 } else { 1 }));
     end_the_day(rt, &shared, workers.as_mut_slice());
     let last = clean_checkpoint(rt, &shared);
-    // Each of 50 transactions was answered five times; the fifth session read, and was answered six
-    // times when it took its transaction back.
-    for (worker, count) in workers.iter().zip([250usize, 250, 250, 250, 7]) {
+    // Each of 50 transactions left seven receipts: none is of a savepoint. The fifth session read, and
+    // was answered six times when it took its transaction back.
+    for (worker, count) in workers.iter().zip([350usize, 350, 350, 350, 7]) {
         assert_eq!(rt; worker.receipts().len(), count);
     }
     let Ok(left) = settle(alloc, workers, &[first, full_copy(1), last], shared) else {
