@@ -2,7 +2,6 @@
 
 use engine_run::HoldGate;
 use page_core::PageNo;
-use std::alloc::{AllocError, Global};
 use std::process::Abort;
 use std::sync::atomic::{AtomicU64, Ordering};
 use std::thread;
@@ -76,12 +75,14 @@ impl HoldGate for ClosedGate {
 }
 
 /// Words that count from 0 on.
-fn words(alloc: Global, count: u32) -> Result<Vec<AtomicU64>, AllocError> {
-    let mut words = Vec::new(alloc);
+fn words(rt: &(impl Abort + AllocGlobal), count: u32) -> Vec<AtomicU64> {
+    let mut words = Vec::new(rt.alloc());
     for _ in 0..count {
-        words.push(AtomicU64::new(0))?;
+        words
+            .push(AtomicU64::new(0))
+            .expect(rt, "memory for a gate");
     }
-    Ok(words)
+    words
 }
 
 /// A gate that counts how often it was told each worker and each page.
@@ -92,11 +93,11 @@ pub(crate) struct CountingGate {
 }
 
 impl CountingGate {
-    pub(crate) fn new(alloc: Global, workers: u32, pages: u32) -> Result<CountingGate, AllocError> {
-        Ok(CountingGate {
-            workers: words(alloc, workers)?,
-            pages: words(alloc, pages)?,
-        })
+    pub(crate) fn new(rt: &(impl Abort + AllocGlobal), workers: u32, pages: u32) -> CountingGate {
+        CountingGate {
+            workers: words(rt, workers),
+            pages: words(rt, pages),
+        }
     }
 
     /// Asserts that it was told each page so often, and no others.

@@ -3,17 +3,17 @@
 ghost use Rattle.std.specs.Prelude.{◌≡◌};
 
 use crate::gates::{ClosedGate, CountingGate};
-use crate::volume::{Volume, checkpoint, copied, first_point, pointed, volume};
+use crate::volume::{
+    Volume, checkpoint, copied, first_point, new_session, only, pointed, settled, volume,
+};
 use aries_core::Refusal;
 use copy_vault::{CopyId, CopyKind};
-use engine_run::{OpenGate, Session, Work, settle};
+use engine_run::{OpenGate, Session, Work};
 use page_core::{Lsn, PageNo, SlotNo, TxnNo};
-use std::alloc::Global;
 use std::marker::Brand;
 use std::process::Abort;
 use std::sync::Wait;
 use std::sync::ledger::{Blank, Ledger};
-use std::test::Fail;
 use std::thread::{Threads, join};
 
 const PAGE: PageNo = PageNo(0);
@@ -22,29 +22,26 @@ const PAGE: PageNo = PageNo(0);
 fn volume_of_one<G: Ledger, R: Wait + Abort + AllocGlobal>(
     rt: &R,
     blank: Blank,
-) -> Result<(Volume<G>, Session<G>), Fail>
+) -> (Volume<G>, Session<G>)
     requires name { blank.name ≡ G.name }
     requires parts { blank.parts ≡ G.parts }
     requires sessions { blank.parts ≡ 65 }
 {
-    let mut shared = volume::<G, R>(rt, blank, 1)?;
-    let mut session = shared.session(rt.alloc());
+    let mut shared = volume::<G, R>(rt, blank, 1);
+    let mut session = new_session(rt, &mut shared);
     let begun = session.begin(rt, &shared);
     assert_eq!(rt; begun, Ok((TxnNo(1), Lsn(64))));
-    Ok((shared, session))
+    (shared, session)
 }
 
 /// Settles a run of one session.
 fn settle_one<G: Ledger>(
-    rt: &impl Abort,
-    alloc: Global,
+    rt: &(impl Abort + AllocGlobal),
     session: Session<G>,
     works: &[Work],
     shared: Volume<G>,
-) -> Result<(), Fail> {
-    let settled = settle(alloc, vec![in alloc; session]?, works, shared);
-    assert!(rt; settled.is_ok());
-    Ok(())
+) {
+    let _ = settled(rt, only(rt, session), works, shared);
 }
 
 /// Sets the first slot of the page.
@@ -75,12 +72,12 @@ fn set_at_gate<G: Ledger>(
 fn change_behind_the_cursor<
     G: Ledger + Send + Sync,
     R: Threads + Wait + Abort + AllocGlobal + Sync,
->(rt: &R, blank: Blank) -> Result<(), Fail>
+>(rt: &R, blank: Blank)
     requires name { blank.name ≡ G.name }
     requires parts { blank.parts ≡ G.parts }
     requires sessions { blank.parts ≡ 65 }
 {
-    let (shared, mut session) = volume_of_one::<G, R>(rt, blank)?;
+    let (shared, mut session) = volume_of_one::<G, R>(rt, blank);
     let gate = ClosedGate::new(3);
     let (work, lsn) = join(
         rt,
@@ -90,7 +87,7 @@ fn change_behind_the_cursor<
     gate.assert_opened(rt);
     assert_eq!(rt; lsn, Ok(Lsn(192)));
     assert_eq!(rt; work, Ok(pointed(128, 320, 128)));
-    settle_one(rt, rt.alloc(), session, &[pointed(128, 320, 128)], shared)
+    settle_one(rt, session, &[pointed(128, 320, 128)], shared);
 }
 
 /// A change while its page is written: the second hold of a flush pass waits until page 0 was
@@ -98,12 +95,12 @@ fn change_behind_the_cursor<
 fn change_during_a_write<G: Ledger + Send + Sync, R: Threads + Wait + Abort + AllocGlobal + Sync>(
     rt: &R,
     blank: Blank,
-) -> Result<(), Fail>
+)
     requires name { blank.name ≡ G.name }
     requires parts { blank.parts ≡ G.parts }
     requires sessions { blank.parts ≡ 65 }
 {
-    let (shared, mut session) = volume_of_one::<G, R>(rt, blank)?;
+    let (shared, mut session) = volume_of_one::<G, R>(rt, blank);
     assert_eq!(rt; set(rt, &shared, &mut session, 5), Ok(Lsn(128)));
     let gate = ClosedGate::new(2);
     let (pass, lsn) = join(
@@ -116,7 +113,7 @@ fn change_during_a_write<G: Ledger + Send + Sync, R: Threads + Wait + Abort + Al
     assert_eq!(rt; pass, Ok(()));
     let work = shared.checkpoint(rt, &OpenGate);
     assert_eq!(rt; work, Ok(pointed(256, 448, 192)));
-    settle_one(rt, rt.alloc(), session, &[pointed(256, 448, 192)], shared)
+    settle_one(rt, session, &[pointed(256, 448, 192)], shared);
 }
 
 /// What a repair of the page answers while a hold waits at the gate.
@@ -136,13 +133,13 @@ fn repair_at_gate<G: Ledger>(
 fn repair_during_a_write<G: Ledger + Send + Sync, R: Threads + Wait + Abort + AllocGlobal + Sync>(
     rt: &R,
     blank: Blank,
-) -> Result<(), Fail>
+)
     requires name { blank.name ≡ G.name }
     requires parts { blank.parts ≡ G.parts }
     requires sessions { blank.parts ≡ 65 }
 {
     let alloc = rt.alloc();
-    let (shared, mut session) = volume_of_one::<G, R>(rt, blank)?;
+    let (shared, mut session) = volume_of_one::<G, R>(rt, blank);
     let point = pointed(128, 256, 128);
     assert_eq!(rt;
         shared.checkpoint(rt, &OpenGate),
@@ -161,7 +158,7 @@ fn repair_during_a_write<G: Ledger + Send + Sync, R: Threads + Wait + Abort + Al
     assert_eq!(rt; repaired, Err(Refusal::WriteBegun));
     assert_eq!(rt; pass, Ok(()));
     assert_eq!(rt; shared.repair(rt, CopyId(1), PAGE), Ok(Lsn(320)));
-    settle_one(rt, alloc, session, &[point, copied(1, 1)], shared)
+    settle_one(rt, session, &[point, copied(1, 1)], shared);
 }
 
 /// What a flush pass answers while a hold of another one waits at the gate.
@@ -181,12 +178,12 @@ fn flush_at_gate<G: Ledger>(
 fn flush_by_two<G: Ledger + Send + Sync, R: Threads + Wait + Abort + AllocGlobal + Sync>(
     rt: &R,
     blank: Blank,
-) -> Result<(), Fail>
+)
     requires name { blank.name ≡ G.name }
     requires parts { blank.parts ≡ G.parts }
     requires sessions { blank.parts ≡ 65 }
 {
-    let (shared, mut session) = volume_of_one::<G, R>(rt, blank)?;
+    let (shared, mut session) = volume_of_one::<G, R>(rt, blank);
     assert_eq!(rt; set(rt, &shared, &mut session, 5), Ok(Lsn(128)));
     let gate = ClosedGate::new(2);
     let (first, second) = join(
@@ -199,7 +196,7 @@ fn flush_by_two<G: Ledger + Send + Sync, R: Threads + Wait + Abort + AllocGlobal
     assert_eq!(rt; first, Ok(()));
     let work = shared.checkpoint(rt, &OpenGate);
     assert_eq!(rt; work, Ok(pointed(192, 320, 192)));
-    settle_one(rt, rt.alloc(), session, &[pointed(192, 320, 192)], shared)
+    settle_one(rt, session, &[pointed(192, 320, 192)], shared);
 }
 
 /// What a checkpoint answers while a hold of another one waits at the gate.
@@ -219,12 +216,12 @@ fn checkpoint_at_gate<G: Ledger>(
 fn checkpoint_by_two<G: Ledger + Send + Sync, R: Threads + Wait + Abort + AllocGlobal + Sync>(
     rt: &R,
     blank: Blank,
-) -> Result<(), Fail>
+)
     requires name { blank.name ≡ G.name }
     requires parts { blank.parts ≡ G.parts }
     requires sessions { blank.parts ≡ 65 }
 {
-    let (shared, session) = volume_of_one::<G, R>(rt, blank)?;
+    let (shared, session) = volume_of_one::<G, R>(rt, blank);
     let gate = ClosedGate::new(2);
     let (first, second) = join(
         rt,
@@ -234,55 +231,54 @@ fn checkpoint_by_two<G: Ledger + Send + Sync, R: Threads + Wait + Abort + AllocG
     gate.assert_opened(rt);
     assert_eq!(rt; second, Ok(pointed(128, 256, 128)));
     assert_eq!(rt; first, Err(Refusal::NoCkpt));
-    settle_one(rt, rt.alloc(), session, &[pointed(128, 256, 128)], shared)
+    settle_one(rt, session, &[pointed(128, 256, 128)], shared);
 }
 
 /// A gate is told the page of each hold of a flush pass, and page 0 at each of a checkpoint.
-fn tell_gates<G: Ledger, R: Wait + Abort + AllocGlobal>(rt: &R, blank: Blank) -> Result<(), Fail>
+fn tell_gates<G: Ledger, R: Wait + Abort + AllocGlobal>(rt: &R, blank: Blank)
     requires name { blank.name ≡ G.name }
     requires parts { blank.parts ≡ G.parts }
     requires sessions { blank.parts ≡ 65 }
 {
-    let alloc = rt.alloc();
-    let mut shared = volume::<G, R>(rt, blank, 4)?;
-    let mut session = shared.session(alloc);
+    let mut shared = volume::<G, R>(rt, blank, 4);
+    let mut session = new_session(rt, &mut shared);
     checkpoint(rt, &shared);
     session.begin(rt, &shared).expect(rt, "begin");
     session
         .set(rt, &shared, TxnNo(1), PageNo(2), SlotNo(0), 5)
         .expect(rt, "set");
-    let flushing = CountingGate::new(alloc, 1, 4)?;
+    let flushing = CountingGate::new(rt, 1, 4);
     assert_eq!(rt; shared.flush_pass(rt, &flushing), Ok(()));
     flushing.assert_pages(rt, &[1, 1, 2, 1]);
     flushing.assert_workers(rt, &[5]);
-    let checking = CountingGate::new(alloc, 1, 4)?;
+    let checking = CountingGate::new(rt, 1, 4);
     // It begins, finds no dirty page, records a transaction, finds no other one, and ends.
     let work = shared.checkpoint(rt, &checking);
     assert_eq!(rt; work, Ok(pointed(320, 448, 320)));
     checking.assert_pages(rt, &[5, 0, 0, 0]);
     checking.assert_workers(rt, &[5]);
     let works = [first_point(), pointed(320, 448, 320)];
-    settle_one(rt, alloc, session, &works, shared)
+    settle_one(rt, session, &works, shared);
 }
 
 #[test]
-fn gate_rows(rt: HostRuntime) -> Result<(), Fail> {
-    change_behind_the_cursor::<Brand, HostRuntime>(&rt, Blank::new(65))?;
-    change_during_a_write::<Brand, HostRuntime>(&rt, Blank::new(65))?;
-    repair_during_a_write::<Brand, HostRuntime>(&rt, Blank::new(65))
+fn gate_rows(rt: HostRuntime) {
+    change_behind_the_cursor::<Brand, HostRuntime>(&rt, Blank::new(65));
+    change_during_a_write::<Brand, HostRuntime>(&rt, Blank::new(65));
+    repair_during_a_write::<Brand, HostRuntime>(&rt, Blank::new(65));
 }
 
 #[test]
-fn two_flushers_share_a_write(rt: HostRuntime) -> Result<(), Fail> {
-    flush_by_two::<Brand, HostRuntime>(&rt, Blank::new(65))
+fn two_flushers_share_a_write(rt: HostRuntime) {
+    flush_by_two::<Brand, HostRuntime>(&rt, Blank::new(65));
 }
 
 #[test]
-fn two_checkpointers_share_a_checkpoint(rt: HostRuntime) -> Result<(), Fail> {
-    checkpoint_by_two::<Brand, HostRuntime>(&rt, Blank::new(65))
+fn two_checkpointers_share_a_checkpoint(rt: HostRuntime) {
+    checkpoint_by_two::<Brand, HostRuntime>(&rt, Blank::new(65));
 }
 
 #[test]
-fn gates_are_told_the_page_of_a_hold(rt: HostRuntime) -> Result<(), Fail> {
-    tell_gates::<Brand, HostRuntime>(&rt, Blank::new(65))
+fn gates_are_told_the_page_of_a_hold(rt: HostRuntime) {
+    tell_gates::<Brand, HostRuntime>(&rt, Blank::new(65));
 }

@@ -2,20 +2,20 @@
 
 ghost use Rattle.std.specs.Prelude.{◌≡◌};
 
-use crate::volume::{Volume, add_one, full_copy, volume};
+use crate::volume::{Volume, add_one, full_copy, new_session, settled, volume};
 use aries_core::{Refusal, SteppedBack, Undone};
 use copy_coverage::Retired;
 use copy_vault::{CopyId, CopyKind};
-use engine_run::{OpenGate, Session, Work, settle};
+use engine_run::{OpenGate, Session, Work};
 use fuzzy_ckpt::Point;
+use log_records::Record;
+use loser_undo::Redone;
 use media_restore::load;
 use page_core::{Page, PageNo, SlotNo, TxnNo, formatted_pages};
-use std::alloc::Global;
 use std::marker::Brand;
 use std::process::Abort;
 use std::sync::Wait;
 use std::sync::ledger::{Blank, Ledger};
-use std::test::Fail;
 use std::thread;
 use std::thread::{Threads, join};
 
@@ -174,25 +174,33 @@ fn assert_slot(rt: &impl Abort, page: Option<&Page>, number: u64) {
     assert_eq!(rt; page.slots[0], number);
 }
 
-/// Restores the volume from copy 1 and the whole log: each page is as plain redo of the log makes
-/// it, and has the sums of the day.
-fn assert_restored(
-    rt: &(impl Abort + Threads + Sync),
-    alloc: Global,
-    left: Retired,
-) -> Result<(), Fail> {
-    let mut plain = formatted_pages(alloc, 8)?;
-    for record in left.log().records() {
+/// The pages that these records make of formatted ones.
+fn plain_pages(rt: &(impl Abort + AllocGlobal), records: &[Record]) -> Vec<Page> {
+    let mut plain = formatted_pages(rt.alloc(), 8).expect(rt, "memory for pages");
+    for record in records {
         for page in plain.iter_mut() {
             record.redo_on(page);
         }
     }
-    let Ok(loaded) = load(alloc, left, CopyId(1), usize::MAX) else {
+    plain
+}
+
+/// Copy 1 with the whole log, redone.
+fn redone_of(rt: &(impl Abort + AllocGlobal + Threads + Sync), left: Retired) -> Redone {
+    let Ok(loaded) = load(rt.alloc(), left, CopyId(1), usize::MAX) else {
         panic!(rt; "the copy is not loaded");
     };
-    let Ok(redone) = loaded.redo(rt, alloc) else {
+    let Ok(redone) = loaded.redo(rt, rt.alloc()) else {
         panic!(rt; "the log is not redone");
     };
+    redone
+}
+
+/// Restores the volume from copy 1 and the whole log: each page is as plain redo of the log makes
+/// it, and has the sums of the day.
+fn assert_restored(rt: &(impl Abort + AllocGlobal + Threads + Sync), left: Retired) {
+    let plain = plain_pages(rt, left.log().records());
+    let redone = redone_of(rt, left);
     let pages = redone.pages();
     assert_eq!(rt; pages.len(), plain.len());
     for (page, expected) in pages.iter().zip(&plain) {
@@ -203,7 +211,34 @@ fn assert_restored(
     }
     assert_slot(rt, pages.get(6), 0);
     assert_slot(rt, pages.get(7), 200);
-    Ok(())
+}
+
+/// An engine over eight pages, and five sessions of it.
+fn engine_for_five<G: Ledger, R: Abort + AllocGlobal>(
+    rt: &R,
+    blank: Blank,
+) -> (Volume<G>, Vec<Session<G>>)
+    requires name { blank.name ≡ G.name }
+    requires parts { blank.parts ≡ G.parts }
+    requires sessions { blank.parts ≡ 65 }
+{
+    let mut shared = volume::<G, R>(rt, blank, 8);
+    let mut workers = Vec::new(rt.alloc());
+    for _ in 0..5 {
+        let worker = new_session(rt, &mut shared);
+        workers.push(worker).expect(rt, "memory for sessions");
+    }
+    assert_eq!(rt; shared.sessions(), 5);
+    (shared, workers)
+}
+
+/// Asserts how many receipts the sessions have. Each of 50 transactions left seven: none is of a
+/// savepoint. The fifth session read, and was answered six times when it took its transaction back.
+fn assert_receipts<G: Ledger>(rt: &impl Abort, workers: &[Session<G>]) {
+    assert_eq!(rt; workers.len(), 5);
+    for (worker, count) in workers.iter().zip([350usize, 350, 350, 350, 7]) {
+        assert_eq!(rt; worker.receipts().len(), count);
+    }
 }
 
 /// A run of five sessions, a flusher, two checkpoints and a copy, which is settled and restored;
@@ -212,21 +247,12 @@ fn day<G: Ledger + Send + Sync, R: Threads + Wait + Abort + AllocGlobal + Sync>(
     rt: &R,
     blank: Blank,
     has_copy: bool,
-) -> Result<(), Fail>
+)
     requires name { blank.name ≡ G.name }
     requires parts { blank.parts ≡ G.parts }
     requires sessions { blank.parts ≡ 65 }
 {
-    let alloc = rt.alloc();
-    let mut shared = volume::<G, R>(rt, blank, 8)?;
-    let mut workers = vec![in alloc;
-        shared.session(alloc),
-        shared.session(alloc),
-        shared.session(alloc),
-        shared.session(alloc),
-        shared.session(alloc),
-    ]?;
-    assert_eq!(rt; shared.sessions(), 5);
+    let (shared, mut workers) = engine_for_five::<G, R>(rt, blank);
     let first = clean_checkpoint(rt, &shared);
     if has_copy {
         assert_eq!(rt; copy(rt, &shared), full_copy(1));
@@ -235,53 +261,43 @@ fn day<G: Ledger + Send + Sync, R: Threads + Wait + Abort + AllocGlobal + Sync>(
     assert_eq!(rt; copied, full_copy(if has_copy { 2 } else { 1 }));
     end_the_day(rt, &shared, workers.as_mut_slice());
     let last = clean_checkpoint(rt, &shared);
-    // Each of 50 transactions left seven receipts: none is of a savepoint. The fifth session read, and
-    // was answered six times when it took its transaction back.
-    for (worker, count) in workers.iter().zip([350usize, 350, 350, 350, 7]) {
-        assert_eq!(rt; worker.receipts().len(), count);
-    }
-    let Ok(left) = settle(alloc, workers, &[first, full_copy(1), last], shared) else {
-        panic!(rt; "the run is not settled");
-    };
-    assert_restored(rt, alloc, left)
+    assert_receipts(rt, workers.as_slice());
+    let left = settled(rt, workers, &[first, full_copy(1), last], shared);
+    assert_restored(rt, left);
 }
 
 /// A session reads a slot again each time another one has changed it and committed.
-fn read_again<G: Ledger, R: Wait + Abort + AllocGlobal>(rt: &R, blank: Blank) -> Result<(), Fail>
+fn read_again<G: Ledger, R: Wait + Abort + AllocGlobal>(rt: &R, blank: Blank)
     requires name { blank.name ≡ G.name }
     requires parts { blank.parts ≡ G.parts }
     requires sessions { blank.parts ≡ 65 }
 {
-    let alloc = rt.alloc();
-    let mut shared = volume::<G, R>(rt, blank, 8)?;
-    let mut reader = shared.session(alloc);
-    let mut writer = shared.session(alloc);
+    let mut shared = volume::<G, R>(rt, blank, 8);
+    let mut reader = new_session(rt, &mut shared);
+    let mut writer = new_session(rt, &mut shared);
     for sum in 0..3u64 {
         assert_eq!(rt; reader.read(rt, &shared, PageNo(0), SlotNo(0)), Ok(sum));
         add_one(rt, &shared, &mut writer, PageNo(0));
     }
-    let settled = settle(alloc, vec![in alloc; reader, writer]?, &[], shared);
-    assert!(rt; settled.is_ok());
-    Ok(())
+    let sessions = vec![in rt.alloc(); reader, writer].expect(rt, "memory for a list");
+    let _ = settled(rt, sessions, &[], shared);
 }
 
 #[test]
-fn a_session_reads_what_another_one_has_committed(rt: HostRuntime) -> Result<(), Fail> {
-    read_again::<Brand, HostRuntime>(&rt, Blank::new(65))
+fn a_session_reads_what_another_one_has_committed(rt: HostRuntime) {
+    read_again::<Brand, HostRuntime>(&rt, Blank::new(65));
 }
 
 #[test]
-fn four_sessions_and_a_flusher_share_an_engine(rt: HostRuntime) -> Result<(), Fail> {
+fn four_sessions_and_a_flusher_share_an_engine(rt: HostRuntime) {
     for _ in 0..8 {
-        day::<Brand, HostRuntime>(&rt, Blank::new(65), false)?;
+        day::<Brand, HostRuntime>(&rt, Blank::new(65), false);
     }
-    Ok(())
 }
 
 #[test]
-fn a_page_is_repaired_beside_sessions(rt: HostRuntime) -> Result<(), Fail> {
+fn a_page_is_repaired_beside_sessions(rt: HostRuntime) {
     for _ in 0..40 {
-        day::<Brand, HostRuntime>(&rt, Blank::new(65), true)?;
+        day::<Brand, HostRuntime>(&rt, Blank::new(65), true);
     }
-    Ok(())
 }

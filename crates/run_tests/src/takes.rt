@@ -3,17 +3,17 @@
 ghost use Rattle.std.specs.Prelude.{◌≡◌};
 
 use crate::gates::{CountingGate, wait_until};
-use crate::volume::{Volume, checkpoint, first_point, full_copy, volume};
+use crate::volume::{
+    Volume, checkpoint, first_point, full_copy, new_session, only, settled, volume,
+};
 use copy_vault::CopyKind;
-use engine_run::{HoldGate, Session, settle};
+use engine_run::{HoldGate, Session};
 use page_core::PageNo;
-use std::alloc::{AllocError, Global};
 use std::marker::Brand;
 use std::process::Abort;
 use std::sync::Wait;
 use std::sync::atomic::{AtomicU64, Ordering};
 use std::sync::ledger::{Blank, Ledger};
-use std::test::Fail;
 use std::thread::{Threads, join};
 
 /// A gate that holds the first take of a copy until a second one is at the gate, and a session was
@@ -30,13 +30,13 @@ struct TakesAtOnce {
 
 impl TakesAtOnce {
     /// A gate for two workers and eight pages.
-    fn new(alloc: Global) -> Result<TakesAtOnce, AllocError> {
-        Ok(TakesAtOnce {
+    fn new(rt: &(impl Abort + AllocGlobal)) -> TakesAtOnce {
+        TakesAtOnce {
             came: AtomicU64::new(0),
             answered: AtomicU64::new(0),
             late: AtomicU64::new(0),
-            told: CountingGate::new(alloc, 2, 8)?,
-        })
+            told: CountingGate::new(rt, 2, 8),
+        }
     }
 }
 
@@ -67,16 +67,16 @@ fn begin_at_gate<G: Ledger>(
 fn copy_by_two<G: Ledger + Send + Sync, R: Threads + Wait + Abort + AllocGlobal + Sync>(
     rt: &R,
     blank: Blank,
-) -> Result<(), Fail>
+)
     requires name { blank.name ≡ G.name }
     requires parts { blank.parts ≡ G.parts }
     requires sessions { blank.parts ≡ 65 }
 {
     let alloc = rt.alloc();
-    let mut shared = volume::<G, R>(rt, blank, 8)?;
-    let mut session = shared.session(alloc);
+    let mut shared = volume::<G, R>(rt, blank, 8);
+    let mut session = new_session(rt, &mut shared);
     checkpoint(rt, &shared);
-    let gate = TakesAtOnce::new(alloc)?;
+    let gate = TakesAtOnce::new(rt);
     let (copied, _) = join(
         rt,
         || shared.copy_with(rt, alloc, CopyKind::Full, 2, &gate),
@@ -86,17 +86,11 @@ fn copy_by_two<G: Ledger + Send + Sync, R: Threads + Wait + Abort + AllocGlobal 
     assert_eq!(rt; gate.late.load(Ordering::SeqCst), 0);
     gate.told.assert_pages(rt, &[1; 8]);
     gate.told.assert_each_worker(rt);
-    let settled = settle(
-        alloc,
-        vec![in alloc; session]?,
-        &[first_point(), full_copy(1)],
-        shared,
-    );
-    assert!(rt; settled.is_ok());
-    Ok(())
+    let works = [first_point(), full_copy(1)];
+    let _ = settled(rt, only(rt, session), &works, shared);
 }
 
 #[test]
-fn gate_two_workers(rt: HostRuntime) -> Result<(), Fail> {
-    copy_by_two::<Brand, HostRuntime>(&rt, Blank::new(65))
+fn gate_two_workers(rt: HostRuntime) {
+    copy_by_two::<Brand, HostRuntime>(&rt, Blank::new(65));
 }

@@ -1,18 +1,20 @@
-//! What the tests share: a shared engine over a small volume.
+//! What the tests share: a shared engine over a small volume. Each of these stops its test itself
+//! where memory is refused, so that the tests are cheap to prove.
 
-ghost use Rattle.std.specs.Prelude.{◌≡◌, ◌≤◌, IfOk};
+ghost use Rattle.std.specs.Prelude.{◌≡◌, ◌≤◌};
 
-use aries_core::Setup;
+use aries_core::{Refusal, Setup};
+use copy_coverage::Retired;
 use copy_vault::{CopyId, CopyKind};
-use engine_run::{OpenGate, Session, Shared, Work};
+use engine_run::{MAX_SESSIONS, OpenGate, Session, Shared, Work, settle};
 use fuzzy_ckpt::Point;
 use log_store::MemDevice;
 use page_core::{Lsn, PageNo, SlotNo};
-use page_store::MemStore;
+use page_store::{MemStore, PageStore};
 use std::process::Abort;
 use std::sync::Wait;
 use std::sync::ledger::{Blank, Ledger};
-use std::test::Fail;
+use std::thread::Threads;
 
 pub(crate) type Volume<G> = Shared<MemStore, MemDevice, G>;
 
@@ -21,21 +23,68 @@ pub(crate) fn volume<G: Ledger, R: Abort + AllocGlobal>(
     rt: &R,
     blank: Blank,
     pages: u32,
-) -> Result<Volume<G>, Fail>
+) -> Volume<G>
     requires name { blank.name ≡ G.name }
     requires parts { blank.parts ≡ G.parts }
     requires sessions { blank.parts ≡ 65 }
     requires pages { (1 ≤ pages) × (pages ≤ 65536) }
-    ensures sessions { IfOk result (λ it. it.sessions ≡ 0) }
 {
     let alloc = rt.alloc();
     let setup = Setup {
         pages,
         frames: pages,
     };
-    let store = MemStore::new(alloc, pages)?;
-    let device = MemDevice::new(alloc, 4096)?;
-    Ok(Volume::<G>::new(alloc, blank, setup, store, device).expect(rt, "an engine"))
+    let store = MemStore::new(alloc, pages).expect(rt, "a store");
+    let device = MemDevice::new(alloc, 4096).expect(rt, "a device");
+    Volume::<G>::new(alloc, blank, setup, store, device).expect(rt, "an engine")
+}
+
+/// A session of an engine that is not shared yet.
+pub(crate) fn new_session<S: PageStore, G: Ledger>(
+    rt: &(impl Abort + AllocGlobal),
+    shared: &mut Shared<S, MemDevice, G>,
+) -> Session<G> {
+    assert!(rt; shared.sessions() < MAX_SESSIONS);
+    shared.session(rt.alloc())
+}
+
+/// A list of this session alone.
+pub(crate) fn only<G: Ledger>(
+    rt: &(impl Abort + AllocGlobal),
+    session: Session<G>,
+) -> Vec<Session<G>> {
+    vec![in rt.alloc(); session].expect(rt, "memory for a list")
+}
+
+/// Makes a copy by so many workers, and asserts what is answered.
+pub(crate) fn assert_copy<
+    S: PageStore + Send,
+    G: Ledger + Send + Sync,
+    R: Threads + Wait + Abort + AllocGlobal + Sync,
+>(
+    rt: &R,
+    shared: &Shared<S, MemDevice, G>,
+    kind: CopyKind,
+    workers: u32,
+    wanted: Result<Work, Refusal>,
+)
+    requires { (1 ≤ workers) × (workers ≤ 64) }
+{
+    let copied = shared.copy_with(rt, rt.alloc(), kind, workers, &OpenGate);
+    assert_eq!(rt; copied, wanted);
+}
+
+/// What the engine of a run leaves, which is settled.
+pub(crate) fn settled<S: PageStore + Drop, G: Ledger>(
+    rt: &(impl Abort + AllocGlobal),
+    sessions: Vec<Session<G>>,
+    works: &[Work],
+    shared: Shared<S, MemDevice, G>,
+) -> Retired {
+    match settle(rt.alloc(), sessions, works, shared) {
+        Ok(left) => left,
+        Err(_) => panic!(rt; "the run is not settled"),
+    }
 }
 
 /// Adds 1 to a slot, and commits.
