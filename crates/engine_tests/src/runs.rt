@@ -132,11 +132,7 @@ static RUNS: [(Row, &str, Result<(), FinishFault>); 28] = [
         "restore 1 all -> page 0 lsn 832",
         Ok(()),
     ),
-    (
-        rows::WENT_BACK,
-        "restore 1 all -> page 0 lsn 576",
-        Ok(()),
-    ),
+    (rows::WENT_BACK, "restore 1 all -> page 0 lsn 576", Ok(())),
     (
         rows::WENT_BACK,
         "
