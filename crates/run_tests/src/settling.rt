@@ -90,18 +90,22 @@ fn refuse_works<G: Ledger, R: Wait + Abort + AllocGlobal>(rt: &R, blank: Blank)
 {
     let (shared, first, second) = engine_for_two::<G, R>(rt, blank);
     let sessions = vec![in rt.alloc(); second, first].expect(rt, "memory for a list");
-    let point = first_point();
     let run = (sessions, shared);
-    let run = assert_refused(rt, run, &[point, full_copy(9)], "E28 Unsettled 0");
+    let run = assert_refused(rt, run, &[first_point(), full_copy(9)], "E28 Unsettled 0");
     let run = assert_refused(rt, run, &[pointed(64, 128, 128)], "E28 Unsettled 64");
     let run = assert_refused(
         rt,
         run,
-        &[point, pointed(128, 128, 64)],
+        &[first_point(), pointed(128, 128, 64)],
         "E28 Unsettled 128",
     );
-    let (sessions, shared) = assert_refused(rt, run, &[point, point], "E28 Unsettled 64");
-    let _ = settled(rt, sessions, &[point], shared);
+    let (sessions, shared) = assert_refused(
+        rt,
+        run,
+        &[first_point(), first_point()],
+        "E28 Unsettled 64",
+    );
+    let _ = settled(rt, sessions, &[first_point()], shared);
 }
 
 /// What an incremental copy on copy 1 answers. No page was written since, so the stored LSNs are
