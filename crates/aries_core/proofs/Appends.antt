@@ -72,7 +72,8 @@ pub after_fetch : {S : Type 0} (stored : S → List Page) (s came new : EngineSt
     → table ≡ table_of (s.log ++ r ∷ []) → IsPoolOf stored (with_next (log_of s) (r ∷ [])) after
     → returns ≡ returns_of (s.log ++ r ∷ [])
     → new ≡ appended came r → IsKept stored new table after (record ckpts { returns = returns })
-after_fetch stored s came new p old table pool fetched after ckpts returns r kept come within changes is of_log noted changed back next =
+after_fetch stored s came new p old table pool fetched after ckpts returns r kept come within changes is of_log noted
+    changed back next =
     subst (λ (t : EngineState). IsKept stored t table after (record ckpts { returns = returns }))
     (sym (next ∙ ap (λ (t : EngineState). appended t r) is))
     (kept_next stored (with_page s p) old table fetched after ckpts returns r (record {

@@ -59,14 +59,6 @@ pub back_passes : (s : EngineState) (txn at : ℕ) (p : PendingChange) → activ
     → refusal s (event.UndoTo txn at) ≡ None
 back_passes s txn at p active known taken free = rw (active, known, taken) free
 
--- and one that finds no page
-pub back_fails : (s new : EngineState) (txn at : ℕ) (p : PendingChange) (why : Refusal)
-    → refusal s (event.UndoTo txn at) ≡ None → taken_back s txn at ≡ Some p → FailsFetching s p.page why
-    → new ≡ s → Step s (event.UndoTo txn at) (Err why) new
-back_fails s new txn at p OutOfMemory none taken err same = inr (none, (rw taken refl, same))
-back_fails s new txn at p StoreFault none taken err same = inr (none, (rw taken err, same))
-back_fails s new txn at p other none taken err same = absurd err
-
 -- a page that is not absent is there
 pub is_there : (b : Bool) → ¬ (b ≡ false) → b ≡ true
 is_there true not_absent = refl

@@ -140,7 +140,8 @@ follows s (event.Abort txn) r fit none made =
     subst (MayFollow s.log) (same_Some _ _ made) (abort_follows s txn (active_passes s txn none))
 follows s (event.UndoStep txn) r fit none made =
     let rolls = undo_passes s txn none in
-    undo_has (MayFollow s.log) s txn r made (λ p last. comp_follows s txn p rolls.still_open last) (end_follows s txn rolls)
+    undo_has (MayFollow s.log) s txn r made (λ p last. comp_follows s txn p rolls.still_open last)
+    (end_follows s txn rolls)
 follows s (event.Savepoint txn) r fit none made = absurd (cc)
 follows s (event.UndoTo txn at) r fit none made =
     let still_open = (back_passes s txn at none).still_open in

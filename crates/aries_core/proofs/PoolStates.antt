@@ -117,7 +117,8 @@ map-replicate f zero x = refl
 map-replicate f (suc n) x = ap (λ ys. f x ∷ ys) (map-replicate f n x)
 
 pub new_is : {S D : Type 0} (stored : S → List Page) (it : WrittenLog D) (pool : PoolView S) (store : S) (n frames : ℕ)
-    (copies : List CopyState) (returns : List Return) → copies ≡ [] → it.log ≡ record { pages = n; records = [] } → it.forced_end ≡ 64
+    (copies : List CopyState) (returns : List Return) → copies ≡ [] → it.log ≡ record { pages = n; records = [] }
+    → it.forced_end ≡ 64
     → pool ≡ new_pool store n frames → stored store ≡ formatted_pages n
     → (engine_view stored it pool (record { master = None; session = None; copies = copies; returns = returns })).state
     ≡ new_state n frames

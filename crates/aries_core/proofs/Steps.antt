@@ -202,7 +202,8 @@ answered old (event.Abort txn) answer new none given is =
 answered old (event.UndoStep txn) answer new none given is = inr (undo_grows old txn answer new _ refl none is)
 answered old (event.Savepoint txn) answer new none given is =
     inl (stays old (event.Savepoint txn) (Ok answer) new _ is refl refl refl refl)
-answered old (event.UndoTo txn at) answer new none given is = back_stays_or_grows old txn at answer new _ refl none given is
+answered old (event.UndoTo txn at) answer new none given is =
+    back_stays_or_grows old txn at answer new _ refl none given is
 answered old event.Force answer new none given is = inl (stays old event.Force (Ok answer) new _ is refl refl refl refl)
 answered old (event.WriteBegin page) answer new none given is =
     inl (stays old (event.WriteBegin page) (Ok answer) new _ is refl refl refl refl)

@@ -19,7 +19,8 @@ said (Err e) P ok h = cc
 pub return_of-back-requires : goal.return_of-back-requires
 return_of-back-requires g c =
     let it = c.self.inside in
-    let s = (engine_view g.S.PageStore.stored it.log it.pool (media_view it.master it.session it.vault.copies it.returns.made)).state in
+    let s = (engine_view g.S.PageStore.stored it.log it.pool
+    (media_view it.master it.session it.vault.copies it.returns.made)).state in
     let calls : Calls s c.args.next =
     subst (λ (v : EngineView g.row.S.Denot g.row.D.Denot). Calls v.state c.args.next)
     (sym c.self.view_is) c.requires.called in (
@@ -33,7 +34,8 @@ return_of-back-requires g c =
 pub note-requires : goal.note-requires
 note-requires g c =
     let it = c.self.inside in
-    let s = (engine_view g.S.PageStore.stored it.log it.pool (media_view it.master it.session it.vault.copies it.returns.made)).state in
+    let s = (engine_view g.S.PageStore.stored it.log it.pool
+    (media_view it.master it.session it.vault.copies it.returns.made)).state in
     let calls : Calls s c.args.next =
     subst (λ (v : EngineView g.row.S.Denot g.row.D.Denot). Calls v.state c.args.next)
     (sym c.self.view_is) c.requires.called in (
@@ -47,7 +49,8 @@ note-requires g c =
 pub append-requires-clause-stands : goal.append-requires-clause-stands
 append-requires-clause-stands g c =
     let it = c.self.inside in
-    let s = (engine_view g.S.PageStore.stored it.log it.pool (media_view it.master it.session it.vault.copies it.returns.made)).state in
+    let s = (engine_view g.S.PageStore.stored it.log it.pool
+    (media_view it.master it.session it.vault.copies it.returns.made)).state in
     let calls : Calls s c.args.next =
     subst (λ (v : EngineView g.row.S.Denot g.row.D.Denot). Calls v.state c.args.next) (sym c.self.view_is) c.requires.called in
     subst (λ (l : Log). StandsAt l.pages (lsn_of (length l.records)) c.args.next) (sym c.make_room.ensures.same)
@@ -56,7 +59,8 @@ append-requires-clause-stands g c =
 pub append-requires-clause-few : goal.append-requires-clause-few
 append-requires-clause-few g c =
     let it = c.self.inside in
-    let s = (engine_view g.S.PageStore.stored it.log it.pool (media_view it.master it.session it.vault.copies it.returns.made)).state in
+    let s = (engine_view g.S.PageStore.stored it.log it.pool
+    (media_view it.master it.session it.vault.copies it.returns.made)).state in
     let calls : Calls s c.args.next =
     subst (λ (v : EngineView g.row.S.Denot g.row.D.Denot). Calls v.state c.args.next) (sym c.self.view_is) c.requires.called in
     let few = comes_few s c.args.next (comes s c.args.next c.self.invariant.fit calls) in
@@ -65,7 +69,8 @@ append-requires-clause-few g c =
 pub change-requires-clause-next : goal.change-requires-clause-next
 change-requires-clause-next g c =
     let it = c.self.inside in
-    let s = (engine_view g.S.PageStore.stored it.log it.pool (media_view it.master it.session it.vault.copies it.returns.made)).state in
+    let s = (engine_view g.S.PageStore.stored it.log it.pool
+    (media_view it.master it.session it.vault.copies it.returns.made)).state in
     let calls : Calls s c.args.next =
     subst (λ (v : EngineView g.row.S.Denot g.row.D.Denot). Calls v.state c.args.next)
     (sym c.self.view_is) c.requires.called in (
@@ -85,7 +90,8 @@ state_after : (g : given.Over) (c : goal.After-change g)
     → (engine_view g.S.PageStore.stored c.append.new.self c.change.new.self
     (media_view c.self.inside.master c.self.inside.session c.self.inside.vault.copies c.self.inside.returns.made)).state
     ≡ appended (engine_view g.S.PageStore.stored c.self.inside.log c.self.inside.pool
-    (media_view c.self.inside.master c.self.inside.session c.self.inside.vault.copies c.self.inside.returns.made)).state c.args.next
+    (media_view c.self.inside.master c.self.inside.session c.self.inside.vault.copies c.self.inside.returns.made)).state
+    c.args.next
 state_after g c =
     let it = c.self.inside in
     let r = c.args.next in

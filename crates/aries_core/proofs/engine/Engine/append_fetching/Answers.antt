@@ -92,7 +92,8 @@ came : (g : given.Over) (c : goal.After-change g)
     → (engine_view g.S.PageStore.stored c.self.inside.log c.fetch.new.self
     (media_view c.self.inside.master c.self.inside.session c.self.inside.vault.copies c.self.inside.returns.made)).state
     ≡ with_page (engine_view g.S.PageStore.stored c.self.inside.log c.self.inside.pool
-    (media_view c.self.inside.master c.self.inside.session c.self.inside.vault.copies c.self.inside.returns.made)).state c.args.page
+    (media_view c.self.inside.master c.self.inside.session c.self.inside.vault.copies c.self.inside.returns.made)).state
+    c.args.page
 came g c =
     let it = c.self.inside in
     let stored = g.S.PageStore.stored in
@@ -114,7 +115,8 @@ grown : (g : given.Over) (c : goal.After-change g)
     → (engine_view g.S.PageStore.stored c.append-2.new.self c.change.new.self
     (media_view c.self.inside.master c.self.inside.session c.self.inside.vault.copies c.self.inside.returns.made)).state
     ≡ appended (engine_view g.S.PageStore.stored c.self.inside.log c.fetch.new.self
-    (media_view c.self.inside.master c.self.inside.session c.self.inside.vault.copies c.self.inside.returns.made)).state c.args.next
+    (media_view c.self.inside.master c.self.inside.session c.self.inside.vault.copies c.self.inside.returns.made)).state
+    c.args.next
 grown g c =
     let it = c.self.inside in
     let stored = g.S.PageStore.stored in

@@ -26,7 +26,8 @@ said (Err e) P ok h = cc
 
 call : (g : given.Over) (c : goal.Joined-repair g)
     → Called g.S.PageStore.stored c.self.inside.log c.force_to.new.self c.self.inside.txns c.self.inside.pool
-    c.repair.new.self (media_view c.self.inside.master c.self.inside.session c.self.inside.vault.copies c.self.inside.returns.made)
+    c.repair.new.self
+    (media_view c.self.inside.master c.self.inside.session c.self.inside.vault.copies c.self.inside.returns.made)
     (event.Repair c.args.copy c.args.page) (reply_of (λ lsn. answer.Repaired lsn) c.match-repair.result)
 call g c =
     let it = c.self.inside in

@@ -41,7 +41,8 @@ pub image_of-requires : goal.image_of-requires
 image_of-requires g c =
     let it = c.self.inside in
     let p = c.args.page in
-    let s = (engine_view g.S.PageStore.stored it.log it.pool (media_view it.master it.session it.vault.copies it.returns.made)).state in
+    let s = (engine_view g.S.PageStore.stored it.log it.pool
+    (media_view it.master it.session it.vault.copies it.returns.made)).state in
     let none : refusal s (event.WriteBegin p) ≡ None =
     subst (λ (v : EngineView g.row.S.Denot g.row.D.Denot). refusal v.state (event.WriteBegin p) ≡ None)
     (sym c.self.view_is) c.in_ok-find_dirty.ensures.dirty in
@@ -50,7 +51,8 @@ image_of-requires g c =
 
 call : (g : given.Over) (c : goal.After-write_begin g)
     → Called g.S.PageStore.stored c.self.inside.log c.force_to.new.self c.self.inside.txns c.self.inside.pool
-    c.write_begin.new.self (media_view c.self.inside.master c.self.inside.session c.self.inside.vault.copies c.self.inside.returns.made)
+    c.write_begin.new.self
+    (media_view c.self.inside.master c.self.inside.session c.self.inside.vault.copies c.self.inside.returns.made)
     (event.WriteBegin c.args.page)
     (Ok (answer.Writing c.write_begin.result))
 call g c =
@@ -58,7 +60,8 @@ call g c =
     let stored = g.S.PageStore.stored in
     let p = c.args.page in
     let q = c.in-Ok.image in
-    let s = (engine_view stored it.log it.pool (media_view it.master it.session it.vault.copies it.returns.made)).state in
+    let s = (engine_view stored it.log it.pool
+    (media_view it.master it.session it.vault.copies it.returns.made)).state in
     let none : refusal s (event.WriteBegin p) ≡ None =
     subst (λ (v : EngineView g.row.S.Denot g.row.D.Denot). refusal v.state (event.WriteBegin p) ≡ None)
     (sym c.self.view_is) c.in_ok-find_dirty.ensures.dirty in
