@@ -13,6 +13,7 @@ mod chain_reason;
 mod notes;
 mod output;
 mod reasons;
+mod shown;
 mod strict;
 mod system_files;
 
