@@ -88,7 +88,7 @@ fault_sweeps() {
 
 bank() {
     "$is_gate" || tools/build.sh bank || return
-    python3 -m checks.bank "$bank"
+    python3 -m checks.bank "$bank" "$program"
 }
 
 run_checks() {

@@ -1,7 +1,6 @@
 //! Lines for a person on standard error, behind the line of a fault.
 
 use crate::bad_line::BadLine;
-use crate::notes::Notes;
 use crate::reasons::{
     Named, Reason, reason_of_audit, reason_of_restore, tell_beyond, tell_unsound, what_stands,
 };
@@ -18,6 +17,7 @@ use std::io::ErrorKind;
 use std::path::Path;
 use std::rt::Files;
 use std::{fs, io};
+use system_files::Notes;
 
 /// How many names of unfinished files are told.
 const MOST_TOLD: usize = 64;
