@@ -137,20 +137,26 @@ pub fn day<G: Ledger + Send + Sync, R: Threads + Wait + Sync>(
     let first = open_accounts(rt, alloc, &mut bank)?;
     let mut clerks = clerks_of(alloc, &mut bank, case)?;
     let watch = Watch::new(alloc, case.tellers)?;
-    let office = Office {
-        bank: &bank,
-        watch: &watch,
-    };
     let count = clerks.len();
     if count > 0 {
         thread::for_each_mut(
             rt,
             &mut clerks,
             count,
-            &|_, clerk: &mut Clerk<G>| clerk.work(rt, alloc, &office),
+            &|_, clerk: &mut Clerk<G>| {
+                let office = Office {
+                    bank: &bank,
+                    watch: &watch,
+                };
+                clerk.work(rt, alloc, &office)
+            },
         );
     }
     first_refusal(&clerks)?;
+    let office = Office {
+        bank: &bank,
+        watch: &watch,
+    };
     leave_open(rt, &office, &mut clerks)?;
     clerks.push(first)?;
     let (sessions, works) = answers_of(alloc, clerks)?;
