@@ -45,7 +45,7 @@ imgcopy: need-rt
 
 demo: need-python3
 	@tools/demo.sh $(GIVEN) "$(IMGCOPY)" build/day
-	@tools/bank.sh build/bank
+	@tools/bank.sh build/bank "$(IMGCOPY)" build/bank-day
 
 # The last line must be that of the script, so nothing follows it.
 test:

@@ -88,7 +88,7 @@ fault_sweeps() {
 
 bank() {
     "$is_gate" || tools/build.sh bank || return
-    python3 -m checks.bank "$bank"
+    python3 -m checks.bank "$bank" "$program"
 }
 
 run_checks() {
@@ -100,6 +100,7 @@ run_checks() {
     check run_memory "$program" python3 rustc -- refuse_memory checks.run_memory "$program"
     check unsaved "$program" python3 -- python3 -m checks.unsaved "$program"
     check operator "$program" python3 -- python3 -m checks.operator "$program"
+    check guide "$program" python3 -- python3 -m checks.guide "$program"
     check saves_at_once "$program" python3 -- python3 -m checks.saves_at_once "$program"
     check frames "$program" python3 -- python3 -m checks.few_frames "$program"
     check faults "$program" python3 -- python3 -m checks.faults "$program"

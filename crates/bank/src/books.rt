@@ -2,6 +2,7 @@
 
 use crate::accounts::{ACCOUNT_PAGES, balances_of, sum_of};
 use crate::case::Case;
+use crate::day::Settled;
 use crate::draws::Draws;
 use crate::fault::Fault;
 use copy_coverage::Retired;
@@ -27,25 +28,35 @@ fn lost_records(case: &Case) -> u64 {
     Draws::new(case.seed, CRASH_ROW).below(open + 1)
 }
 
-/// The lines of a settled day: what each copy has, what the accounts have together after redo of
-/// each copy with the whole log, and what they have after redo and after undo of the last one with
-/// the log that the crash left; then each balance.
+/// The lines of a settled day: what each copy has, how many pages were changed behind it, if that is
+/// to be told, what the accounts have together after redo of each copy with the whole log, and what
+/// they have after redo and after undo of the last one with the log that the crash left; then each
+/// balance.
 pub fn lines_of(
     rt: &(impl Threads + Sync),
     alloc: Global,
     case: &Case,
-    retired: Retired,
+    settled: Settled,
+    tells_behind: bool,
 ) -> Result<String, Fault> {
+    let Settled { retired, behind } = settled;
     let mut text = String::new(alloc);
     for id in COPIES {
         put_copy(&mut text, retired.vault(), id)?;
+    }
+    if tells_behind {
+        for (id, pages) in COPIES.iter().zip(behind) {
+            let noun = if pages == 1 { "page" } else { "pages" };
+            write!(text, "changed behind copy {}: {pages} {noun}\n", id.0)?;
+        }
     }
     for id in COPIES {
         let sum = redone_sum(alloc, &retired, id)?;
         write!(text, "copy {} and the whole log: {sum}\n", id.0)?;
     }
     let lost = lost_records(case);
-    write!(text, "the crash takes {lost} records\n")?;
+    let records = if lost == 1 { "record" } else { "records" };
+    write!(text, "the crash takes {lost} {records}\n")?;
     let kept = (retired.log().records().len() as u64).saturating_sub(lost);
     put_restore(rt, &mut text, alloc, retired, kept as usize)?;
     Ok(text)

@@ -1,6 +1,36 @@
-//! What is played.
+//! What is played, and what is done with it.
 
 ghost use Rattle.std.specs.Prelude.{◌≤◌, IfSome};
+
+/// What the words of the command line ask for.
+#[derive(Drop)]
+pub struct Call<'a> {
+    pub case: Case,
+    /// Also how many pages were changed behind each copy is told, which hangs on the schedule.
+    pub tells_behind: bool,
+    /// The folder in which the files are saved.
+    pub save: Option<&'a str>,
+}
+
+impl<'a> Call<'a> {
+    pub fn of(words: &'a [String]) -> Option<Call<'a>> {
+        let (tells_behind, words) = match words {
+            [option, rest @ ..] if option.as_str() == "--behind" => (true, rest),
+            _ => (false, words),
+        };
+        let (save, words) = match words {
+            [option, folder, rest @ ..] if option.as_str() == "--save" => {
+                (Some(folder.as_str()), rest)
+            }
+            _ => (None, words),
+        };
+        Some(Call {
+            case: Case::of(words)?,
+            tells_behind,
+            save,
+        })
+    }
+}
 
 /// The seed from which all is drawn, and how many threads there are.
 #[derive(Clone, Copy)]
@@ -42,7 +72,7 @@ impl Workers {
 
 impl Case {
     /// The case that these words tell: the seed, and the counts of tellers and of workers.
-    pub fn of(words: &[String]) -> Option<Case> {
+    fn of(words: &[String]) -> Option<Case> {
         let [seed, tellers, full, incremental] = words else {
             return None;
         };

@@ -3,6 +3,7 @@
 use crate::accounts::{ACCOUNT_PAGES, ACCOUNTS, OPENING, PAGES, place_of};
 use crate::case::Workers;
 use crate::draws::{Draws, Transfer};
+use crate::watch::{Pace, Watch, Which};
 use aries_core::{Refusal, Undone};
 use copy_vault::{CopyId, CopyKind};
 use engine_run::{HoldGate, MAX_SESSIONS, Session, Shared, Work};
@@ -24,13 +25,20 @@ const PASSES: u32 = 20;
 
 const CHECKPOINTS: u32 = 8;
 
-/// Has others come first before each hold of a copy, a flush pass or a checkpoint.
+/// Has others come first before each hold of a flush pass or a checkpoint.
 struct Polite;
 
 impl HoldGate for Polite {
     fn before(&self, _worker: u32, _page: PageNo) {
         thread::yield_now();
     }
+}
+
+/// Where the clerks work.
+#[derive(Drop)]
+pub struct Office<'a, G: Ledger> {
+    pub bank: &'a Bank<G>,
+    pub watch: &'a Watch,
 }
 
 /// What a clerk does.
@@ -88,15 +96,15 @@ impl<G: Ledger> Clerk<G> {
     pub fn leave_open(
         &mut self,
         rt: &impl Wait,
-        bank: &Bank<G>,
+        office: &Office<'_, G>,
         has_come: bool,
     ) -> Result<(), Refusal> {
         if let Duty::Teller(draws) = &mut self.duty {
             let transfer = draws.transfer();
-            let (txn, _) = self.session.begin(rt, bank)?;
-            self.take_from(rt, bank, txn, &transfer)?;
+            let (txn, _) = self.session.begin(rt, office.bank)?;
+            self.take_from(rt, office, txn, &transfer)?;
             if has_come {
-                self.give_to(rt, bank, txn, &transfer)?;
+                self.give_to(rt, office, txn, &transfer)?;
             }
         }
         Ok(())
@@ -105,48 +113,52 @@ impl<G: Ledger> Clerk<G> {
     fn pay(
         &mut self,
         rt: &impl Wait,
-        bank: &Bank<G>,
+        office: &Office<'_, G>,
         txn: TxnNo,
         account: u32,
         amount: u64,
     ) -> Result<(), Refusal> {
         let (page, slot) = place_of(account);
-        self.session.add(rt, bank, txn, page, slot, amount)?;
+        let behind = office.watch.before_change(page);
+        self.session.add(rt, office.bank, txn, page, slot, amount)?;
+        office.watch.after_change(page, behind);
         Ok(())
     }
 
     fn take_from(
         &mut self,
         rt: &impl Wait,
-        bank: &Bank<G>,
+        office: &Office<'_, G>,
         txn: TxnNo,
         transfer: &Transfer,
     ) -> Result<(), Refusal> {
-        self.pay(rt, bank, txn, transfer.from, transfer.amount.wrapping_neg())
+        let amount = transfer.amount.wrapping_neg();
+        self.pay(rt, office, txn, transfer.from, amount)
     }
 
     fn give_to(
         &mut self,
         rt: &impl Wait,
-        bank: &Bank<G>,
+        office: &Office<'_, G>,
         txn: TxnNo,
         transfer: &Transfer,
     ) -> Result<(), Refusal> {
-        self.pay(rt, bank, txn, transfer.to, transfer.amount)
+        self.pay(rt, office, txn, transfer.to, transfer.amount)
     }
 
     /// Moves money, looks at what is left, and commits, or takes it back.
     fn transfer(
         &mut self,
         rt: &impl Wait,
-        bank: &Bank<G>,
+        office: &Office<'_, G>,
         transfer: &Transfer,
     ) -> Result<(), Refusal> {
+        let bank = office.bank;
         let (txn, _) = self.session.begin(rt, bank)?;
-        self.take_from(rt, bank, txn, transfer)?;
+        self.take_from(rt, office, txn, transfer)?;
         let (page, slot) = place_of(transfer.from);
         self.session.read(rt, bank, page, slot)?;
-        self.give_to(rt, bank, txn, transfer)?;
+        self.give_to(rt, office, txn, transfer)?;
         if !transfer.is_taken_back {
             self.session.commit(rt, bank, txn)?;
             return Ok(());
@@ -163,12 +175,13 @@ impl<G: Ledger> Clerk<G> {
     fn transfers(
         &mut self,
         rt: &impl Wait,
-        bank: &Bank<G>,
+        office: &Office<'_, G>,
         mut draws: Draws,
     ) -> Result<(), Refusal> {
         for _ in 0..TRANSFERS {
             let transfer = draws.transfer();
-            self.transfer(rt, bank, &transfer)?;
+            self.transfer(rt, office, &transfer)?;
+            office.watch.note_transfer();
         }
         self.duty = Duty::Teller(draws);
         Ok(())
@@ -191,10 +204,11 @@ impl<G: Ledger> Clerk<G> {
     }
 
     /// Gives the first account of each page 1 of what the last account has.
-    fn share_out(&mut self, rt: &impl Wait, bank: &Bank<G>) -> Result<(), Refusal> {
+    fn share_out(&mut self, rt: &impl Wait, office: &Office<'_, G>) -> Result<(), Refusal> {
+        let bank = office.bank;
         let (txn, _) = self.session.begin(rt, bank)?;
         for page in 0..ACCOUNT_PAGES {
-            self.pay(rt, bank, txn, ACCOUNTS - 1, 1u64.wrapping_neg())?;
+            self.pay(rt, office, txn, ACCOUNTS - 1, 1u64.wrapping_neg())?;
             self.session.add(rt, bank, txn, PageNo(page), SlotNo(0), 1)?;
         }
         self.session.commit(rt, bank, txn)?;
@@ -204,13 +218,18 @@ impl<G: Ledger> Clerk<G> {
 
 impl<G: Ledger + Send + Sync> Clerk<G> {
     /// Does what is its duty.
-    pub fn work<R: Threads + Wait + Sync>(&mut self, rt: &R, alloc: Global, bank: &Bank<G>) {
+    pub fn work<R: Threads + Wait + Sync>(
+        &mut self,
+        rt: &R,
+        alloc: Global,
+        office: &Office<'_, G>,
+    ) {
         let duty = self.duty;
         self.ended = match duty {
-            Duty::Teller(draws) => self.transfers(rt, bank, draws),
-            Duty::Flusher => flush(rt, bank, PASSES),
-            Duty::Checkpointer => self.checkpoint(rt, bank),
-            Duty::Copier { full, incremental } => self.copy(rt, alloc, bank, full, incremental),
+            Duty::Teller(draws) => self.transfers(rt, office, draws),
+            Duty::Flusher => flush(rt, office.bank, PASSES),
+            Duty::Checkpointer => self.checkpoint(rt, office.bank),
+            Duty::Copier { full, incremental } => self.copy(rt, alloc, office, full, incremental),
         };
     }
 
@@ -220,16 +239,22 @@ impl<G: Ledger + Send + Sync> Clerk<G> {
         &mut self,
         rt: &R,
         alloc: Global,
-        bank: &Bank<G>,
+        office: &Office<'_, G>,
         full: Workers,
         incremental: Workers,
     ) -> Result<(), Refusal> {
-        let first = bank.copy_with(rt, alloc, CopyKind::Full, full.count(), &Polite)?;
+        let bank = office.bank;
+        let mut pace = Pace {
+            watch: office.watch,
+            which: Which::Full,
+        };
+        let first = bank.copy_with(rt, alloc, CopyKind::Full, full.count(), &pace)?;
         self.keep(first)?;
-        self.share_out(rt, bank)?;
+        self.share_out(rt, office)?;
         flush(rt, bank, 2)?;
+        pace.which = Which::Incremental;
         let kind = CopyKind::Inc(CopyId(1));
-        let second = bank.copy_with(rt, alloc, kind, incremental.count(), &Polite)?;
+        let second = bank.copy_with(rt, alloc, kind, incremental.count(), &pace)?;
         self.keep(second)
     }
 }

@@ -5,6 +5,7 @@ use copy_vault::CopyFault;
 use engine_run::SettleFault;
 use loser_undo::UndoFault;
 use media_restore::{LoadFault, RedoFault};
+use saved_files::SaveFault;
 use std::alloc::AllocError;
 use thiserror::Error;
 
@@ -21,6 +22,8 @@ pub enum Fault {
     Copy(#[from] CopyFault),
     #[error("{0}")]
     Settle(SettleFault),
+    #[error(transparent)]
+    Save(#[from] SaveFault),
     #[error(transparent)]
     Load(#[from] LoadFault),
     #[error(transparent)]

@@ -1,10 +1,10 @@
 //! Lines for a person on standard error, behind the line of a fault.
 
 use crate::bad_line::BadLine;
-use crate::notes::Notes;
 use crate::reasons::{
     Named, Reason, reason_of_audit, reason_of_restore, tell_beyond, tell_unsound, what_stands,
 };
+use crate::shown::Shown;
 use copy_audit::Unsound;
 use copy_coverage::Retired;
 use copy_vault::{CopyId, MAX_COPIES};
@@ -17,6 +17,7 @@ use std::io::ErrorKind;
 use std::path::Path;
 use std::rt::Files;
 use std::{fs, io};
+use system_files::Notes;
 
 /// How many names of unfinished files are told.
 const MOST_TOLD: usize = 64;
@@ -205,6 +206,7 @@ pub fn tell_left(rt: &HostRuntime, folder: &str) {
         };
         let name = entry.file_name();
         if name.contains(".unfinished-") && told < MOST_TOLD {
+            let name = Shown::whole(name);
             let _ = eprintln!(rt;
                 "imgcopy: {folder}/{name}: left by a command that was cut off; it may be deleted"
             );

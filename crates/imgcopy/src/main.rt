@@ -10,11 +10,10 @@ ghost use Rattle.script_run.specs.Status.{status_of_audit, status_of_finish, sta
 mod advice;
 mod bad_line;
 mod chain_reason;
-mod notes;
 mod output;
 mod reasons;
+mod shown;
 mod strict;
-mod system_files;
 
 use advice::{
     tell_audited, tell_input, tell_left, tell_script, tell_stale, tell_unread, tell_unsaved,
@@ -26,7 +25,6 @@ use copy_audit::{Sound, Unsound};
 use copy_vault::CopyId;
 use event_script::MAX_SCRIPT_BYTES;
 use media_restore::RestoreFault;
-use notes::{Noted, Notes};
 use output::{Output, tell_noted};
 use page_core::{FaultName, PageNo};
 use reasons::{Named, tell_redo};
@@ -41,7 +39,7 @@ use std::io::{IsTerminal, Read, Write};
 use std::process::ExitCode;
 use std::thread::Threads;
 use strict::{Kept, Refusals, Tallied, line_of_call};
-use system_files::{SystemFiles, SystemFolder};
+use system_files::{Noted, Notes, SystemFiles, SystemFolder};
 use volume_redo::{Fault, redo_stream};
 
 /// How many bytes of a script are kept at most, to show a bad line.

@@ -1,13 +1,12 @@
-//! The real files, by their names. No contract says what they hold.
+//! A folder of the system, in which files are made by their names.
 
 ghost use Rattle.std.specs.Prelude.{None};
 
 use crate::notes::{Noted, Notes};
-use saved_files::{Folder, NamedFiles};
+use saved_files::Folder;
 use std::alloc::Global;
 use std::fs::{File, OpenFile, TryLockError};
 use std::path::{Path, PathBuf};
-use std::rt::Files;
 use std::{fs, io};
 
 /// The number that the system has for a file or folder that is not there.
@@ -15,32 +14,6 @@ const NO_ENTRY: i32 = 2;
 
 /// The number that the system has for what another one has locked.
 const IS_LOCKED: i32 = 11;
-
-/// The files that have these names for the system.
-#[derive(Drop)]
-pub struct SystemFiles<'a, R: Files> {
-    pub files: &'a R,
-    pub notes: &'a Notes,
-}
-
-impl<'a, R: Files> NamedFiles for SystemFiles<'a, R> {
-    type File = Noted<'a, R::File>;
-
-    ghost bytes = { λ _ _. None };
-
-    fn open(&self, name: &str) -> io::Result<Noted<'a, R::File>> {
-        let opened = fs::open(self.files, name);
-        self.notes.note(&opened);
-        Ok(Noted {
-            file: opened?,
-            notes: self.notes,
-        })
-    }
-
-    fn tell_read(&self, place: usize) {
-        self.notes.note_read(place);
-    }
-}
 
 /// A folder of the system. It is opened before files are made in it, and is locked as long as it is
 /// open where it was claimed.

@@ -1,4 +1,4 @@
-//! What the program notes of the system's calls, for a line to a person.
+//! What is noted of the system's calls, for a line to a person.
 
 use std::cell::Cell;
 use std::io;
@@ -12,6 +12,7 @@ pub struct Notes {
 }
 
 impl Notes {
+    /// Notes of no call.
     pub fn new() -> Notes {
         Notes {
             error: Cell::new(None),
