@@ -69,7 +69,7 @@ pub(super) static RESTORES: [(&str, &str); 5] = [
 ];
 
 /// Scripts of one line, each with the number of its first bad line, and what is wrong with it.
-pub(super) static BAD_LINES: [(&str, u64, LineFault); 25] = [
+pub(super) static BAD_LINES: [(&str, u64, LineFault); 28] = [
     (" ", 1, LineFault::NoCall),
     ("start", 1, LineFault::UnknownCall),
     ("Begin", 1, LineFault::UnknownCall),
@@ -79,6 +79,9 @@ pub(super) static BAD_LINES: [(&str, u64, LineFault); 25] = [
     ("commit", 1, LineFault::WordCount(1)),
     ("commit 1 2", 1, LineFault::WordCount(1)),
     ("commit 4294967296", 1, LineFault::BadNumber),
+    ("save", 1, LineFault::WordCount(1)),
+    ("undoto 1", 1, LineFault::WordCount(2)),
+    ("undoto 4294967296 64", 1, LineFault::BadNumber),
     ("commit 000000000000000000001", 1, LineFault::BadNumber),
     ("commit +5", 1, LineFault::BadNumber),
     ("commit -1", 1, LineFault::BadNumber),
@@ -124,7 +127,7 @@ pub(super) static BAD_SCRIPTS: [(&str, u64, LineFault); 5] = [
 
 const LSN: Lsn = Lsn(640);
 
-pub(super) const REPLIES: [(ReplyLine, &str); 18] = [
+pub(super) const REPLIES: [(ReplyLine, &str); 21] = [
     (
         ReplyLine(Ok(Answer::Began {
             txn: TxnNo(2),
@@ -136,6 +139,8 @@ pub(super) const REPLIES: [(ReplyLine, &str); 18] = [
     (ReplyLine(Ok(Answer::Number(12))), "value 12"),
     (ReplyLine(Ok(Answer::Undid(LSN))), "undid 640"),
     (ReplyLine(Ok(Answer::Ended(LSN))), "ended 640"),
+    (ReplyLine(Ok(Answer::Saved(LSN))), "saved 640"),
+    (ReplyLine(Ok(Answer::Reached)), "reached"),
     (ReplyLine(Ok(Answer::Forced(LSN))), "forced 640"),
     (ReplyLine(Ok(Answer::Writing(LSN))), "writing 640"),
     (ReplyLine(Ok(Answer::Written(LSN))), "written 640"),
@@ -156,6 +161,7 @@ pub(super) const REPLIES: [(ReplyLine, &str); 18] = [
     (ReplyLine(Ok(Answer::Dropped)), "dropped"),
     (ReplyLine(Ok(Answer::Repaired(LSN))), "repaired 640"),
     (ReplyLine(Err(Refusal::SlotBusy(TxnNo(1)))), "E5 SlotBusy 1"),
+    (ReplyLine(Err(Refusal::NoSavepoint)), "E42 NoSavepoint"),
 ];
 
 pub(super) static FAULTS: [(ScriptFault, &str); 4] = [
