@@ -41,11 +41,11 @@ need = @command -v "$(1)" > /dev/null || { echo "make: the program '$(1)' is mis
 .PHONY: need-rt need-python3 need-cargo need-rustc need-imgcopy
 
 imgcopy: need-rt
-	@tools/build.sh imgcopy bank
+	@tools/build.sh imgcopy demo_bank
 
 demo: need-python3
 	@tools/demo.sh $(GIVEN) "$(IMGCOPY)" build/day
-	@tools/bank.sh build/bank "$(IMGCOPY)" build/bank-day
+	@tools/bank.sh build/demo_bank "$(IMGCOPY)" build/bank-day
 
 # The last line must be that of the script, so nothing follows it.
 test:
@@ -59,8 +59,8 @@ bench: need-python3 bench-programs $(PROGRAM)
 	@cat build/bench.md
 	@python3 bench/draw.py build/bench.md bench/times.svg
 ifeq ($(GIVEN),)
-	@tools/build.sh copy_bench
-	@python3 bench/copies.py build/copy_bench $(ROUNDS) bench/copies.svg > build/copies.md
+	@tools/build.sh bench_copies
+	@python3 bench/copies.py build/bench_copies $(ROUNDS) bench/copies.svg > build/copies.md
 	@cat build/copies.md
 endif
 

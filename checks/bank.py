@@ -187,10 +187,10 @@ class Bank:
         for words in ((), ("1",), ("--save",), ("--save", "1", "1", "1", "1"), ("--save", ".", "--behind", 1, 1, 1, 1),
                       (1, 33, 1, 1), (1, 0, 1, 1), (1, 1, 65, 1), ("x", 1, 1, 1)):
             done = self.run(*words)
-            if done.returncode != 2 or done.stdout or not done.stderr.startswith("usage: bank "):
+            if done.returncode != 2 or done.stdout or not done.stderr.startswith("usage: demo_bank "):
                 raise Failure(f"the words {words}: status {done.returncode}, standard error {done.stderr[:80]!r}")
         done = self.run("--save", self.folder / "nosuch", 1, 1, 1, 1)
-        why = f"E29 WriteFault 0\nbank: {self.folder / 'nosuch'}: No such file or directory (os error 2)\n"
+        why = f"E29 WriteFault 0\ndemo_bank: {self.folder / 'nosuch'}: No such file or directory (os error 2)\n"
         if (done.returncode, done.stdout, done.stderr) != (1, "", why):
             raise Failure(f"a folder that is not there: status {done.returncode}, standard error {done.stderr[:200]!r}")
         done = self.run(1, 1, 1, 1)

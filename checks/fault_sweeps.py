@@ -1,9 +1,9 @@
 """Fails each call of the page store and of the log's device in turn, and compares what comes of it with the model.
 
-usage: python3 -m checks.fault_sweeps FAULT_PLAYER [COUNT [FIRST]]
+usage: python3 -m checks.fault_sweeps CHECK_FAULTS [COUNT [FIRST]]
        python3 -m checks.fault_sweeps --model [COUNT [FIRST]]     sweeps the model alone
 
-FAULT_PLAYER is the program of that crate. For each worked row, and for COUNT short random scripts from the seed FIRST
+CHECK_FAULTS is the program of that crate. For each worked row, and for COUNT short random scripts from the seed FIRST
 on, 100 from seed 1 where none is told, the first call of the store fails, then the second, and so on until none is left;
 so do those of the device. Each call fails plainly, and then late, after what it writes was stored. Each time the replies
 are those of the model, each complete copy is restored with each part of the log that a crash may leave, and the pages
@@ -182,7 +182,7 @@ def sweep_all(player, task):
 def main(arguments):
     try:
         if not 1 <= len(arguments) <= 3 or not all(number.isdigit() for number in arguments[1:]):
-            raise Failure("usage: python3 -m checks.fault_sweeps FAULT_PLAYER [COUNT [FIRST]]")
+            raise Failure("usage: python3 -m checks.fault_sweeps CHECK_FAULTS [COUNT [FIRST]]")
         player = shutil.which(arguments[0])
         if player is None and arguments[0] != "--model":
             raise Failure(f"there is no program {arguments[0]}")

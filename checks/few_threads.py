@@ -1,8 +1,8 @@
 """Gives the library more and fewer processors, and refuses each start of a thread in turn.
 
-usage: python3 -m checks.few_threads LIBRARY_PLAYER LIBRARY [COUNT [FIRST]]
+usage: python3 -m checks.few_threads CHECK_LIBRARY LIBRARY [COUNT [FIRST]]
 
-LIBRARY is few_threads.rs, built as a library for LD_PRELOAD, and LIBRARY_PLAYER the program of that crate. COUNT random
+LIBRARY is few_threads.rs, built as a library for LD_PRELOAD, and CHECK_LIBRARY the program of that crate. COUNT random
 scripts with a checkpoint, from the seed FIRST on, 300 from seed 1 where none is told, are played, and their logs are
 redone page by page by one, two and eight threads. Each time what is open at the end of the log, found from its last
 checkpoint on, is what a reader from its first record finds, and the pages are those that plain redo makes. If a thread
@@ -97,7 +97,7 @@ def check_copies(program, library):
 def main(arguments):
     try:
         if not 2 <= len(arguments) <= 4 or not all(number.isdigit() for number in arguments[2:]):
-            raise Failure("usage: python3 -m checks.few_threads LIBRARY_PLAYER LIBRARY [COUNT [FIRST]]")
+            raise Failure("usage: python3 -m checks.few_threads CHECK_LIBRARY LIBRARY [COUNT [FIRST]]")
         program = shutil.which(arguments[0])
         if program is None:
             raise Failure(f"there is no program {arguments[0]}")
