@@ -148,6 +148,31 @@ impl OpenTransactions {
         }
     }
 
+    /// The open transaction at this place in the order of their numbers, the least at 0; None where
+    /// there is none. It searches nothing.
+    pub fn state_at(&self, place: usize) -> Option<TxnState>
+        ensures state { result ≡ option_map state_of (slice_get self.now.entries place) }
+        ensures entry { IfSome result
+            (λ state. entry_in self.now state.txn ≡ slice_get self.now.entries place) }
+    {
+        match self.list.seat_at(place) {
+            Some(seat) => Some(self.list.seats[seat as usize].state()),
+            None => None,
+        }
+    }
+
+    /// The last pending change of the open transaction at this place; None where it has none or
+    /// there is no transaction. It searches nothing.
+    pub fn last_pending_at(&self, place: usize) -> Option<PendingChange>
+        ensures { result
+            ≡ option_and_then (λ e. last_of e.pending) (slice_get self.now.entries place) }
+    {
+        match self.list.seat_at(place) {
+            Some(seat) => self.list.seats[seat as usize].last_pending(),
+            None => None,
+        }
+    }
+
     /// How many records the open transactions may still need: one for each pending change, an Abort
     /// of each that has none, and the last of each. A number that is too large for the type is cut
     /// to the largest one.
