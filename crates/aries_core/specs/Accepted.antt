@@ -10,8 +10,8 @@ use Rattle.aries_core.specs.declared.event.Event.TheVariants as event
 use Rattle.aries_core.specs.declared.refusal.Refusal.{Refusal}
 use Rattle.aries_core.specs.declared.refusal.Refusal.TheVariants.{CommitUnsure}
 
--- the call that an accepted event makes; a begin stands with the number that was answered, and a step
--- back to a savepoint that takes no change back is none
+-- the call that an accepted event makes; a begin stands with the number that was answered, and a
+-- step back to a savepoint that takes no change back is none
 abbrev pub accepted_call : Event → Answer → Option Call
 accepted_call event.Begin (answer.Began txn lsn) = Some (BeginCall txn)
 accepted_call (event.Set txn page slot number) answer = Some (SetCall txn page slot number)

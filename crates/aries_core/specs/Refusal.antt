@@ -20,7 +20,8 @@ use Rattle.buffer_pool.specs.Pool.{is_clean}
 use Rattle.copy_vault.specs.declared.fault.CopyFault.{CopyFault}
 use Rattle.copy_vault.specs.declared.fault.CopyFault.TheVariants as fault
 use Rattle.copy_vault.specs.Copy.{decision_at, is_undecided}
-use Rattle.copy_vault.specs.Vault.{CopyState, complete, complete_refusal, drop_refusal, dropped, inc_refusal}
+use Rattle.copy_vault.specs.Vault.{CopyState, complete, complete_refusal, drop_refusal, dropped}
+use Rattle.copy_vault.specs.Vault.{inc_refusal}
 use Rattle.copy_vault.specs.Vault.{open_refusal, reading, seal_refusal, state_of}
 use Rattle.aries_core.specs.declared.event.Event.{Event}
 use Rattle.aries_core.specs.declared.event.Event.TheVariants as event
@@ -34,7 +35,8 @@ use Rattle.aries_core.specs.declared.refusal.Refusal.TheVariants.{NoMaster, NoCo
 use Rattle.aries_core.specs.declared.refusal.Refusal.TheVariants.{CopyNotComplete, PageDecided}
 use Rattle.aries_core.specs.declared.refusal.Refusal.TheVariants.{PagesLeft, TooManyCopies}
 use Rattle.aries_core.specs.declared.refusal.Refusal.TheVariants.{StoreFault, LogFault}
-use Rattle.aries_core.specs.declared.refusal.Refusal.TheVariants.{CommitUnsure, PoolFull, NoSavepoint}
+use Rattle.aries_core.specs.declared.refusal.Refusal.TheVariants.{CommitUnsure, PoolFull}
+use Rattle.aries_core.specs.declared.refusal.Refusal.TheVariants.{NoSavepoint}
 use Rattle.aries_core.specs.declared.setup.PlayFault.{PlayFault}
 use Rattle.aries_core.specs.declared.setup.PlayFault.TheVariants as play
 use Rattle.aries_core.specs.EngineState.{EngineState, gathered_record, image_of, rec_lsn_of}
@@ -73,7 +75,8 @@ rolling_refusal s txn =
 -- of a call that needs a page in memory: it has to come in, and no frame can be had for it
 abbrev pub frame_refusal : EngineState → ℕ → Option Refusal
 frame_refusal s page =
-    refused_if (not (is_resident s.resident page) && is_full s.frames (is_clean s.log s.written) s.resident)
+    refused_if (not (is_resident s.resident page)
+    && is_full s.frames (is_clean s.log s.written) s.resident)
     PoolFull
 
 -- of a change: an Update owes its own compensation, so it takes room for two records

@@ -56,8 +56,8 @@ abbrev pub MayBeStored : ℕ → EngineState → EngineState → Type 0
 MayBeStored page old new = IsSomeAnd (image_of old page)
     (λ image. (new ≡ old) ⊎ (new ≡ with_stored old page image))
 
--- a call that takes memory is refused some; a step of a gather, or back to a savepoint, takes it for
--- a record alone, and a read for a page that it fetches
+-- a call that takes memory is refused some; a step of a gather, or back to a savepoint, takes it
+-- for a record alone, and a read for a page that it fetches
 abbrev pub TakesMemory : EngineState → Event → Type 0
 TakesMemory s (event.Read page slot) = is_resident s.resident page ≡ false
 TakesMemory s (event.Savepoint txn) = ⊥
@@ -69,8 +69,8 @@ TakesMemory s (event.Seal copy) = ⊥
 TakesMemory s (event.DropCopy copy) = ⊥
 TakesMemory s other = Unit {0}
 
--- a page does not come into memory, nor is it changed: for want of memory, or since the store failed
--- at a page that is not there
+-- a page does not come into memory, nor is it changed: for want of memory, or since the store
+-- failed at a page that is not there
 abbrev pub FailsFetching : EngineState → ℕ → Refusal → Type 0
 FailsFetching s page OutOfMemory = Unit {0}
 FailsFetching s page StoreFault = is_resident s.resident page ≡ false

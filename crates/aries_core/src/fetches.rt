@@ -1,5 +1,5 @@
-//! The engine's work on a page that it may have to read from the store first. All memory that a call
-//! takes is taken before that, so a fault of the store leaves everything as it was.
+//! The engine's work on a page that it may have to read from the store first. All memory that a
+//! call takes is taken before that, so a fault of the store leaves everything as it was.
 
 ghost use Rattle.std.specs.Prelude.{◌≡◌, ◌<◌, false, IfOk, IfErr, IfSome, OnOk, OnErr, None, Some};
 ghost use Rattle.page_core.specs.declared.page.TheConstants.{SLOTS};

@@ -22,8 +22,8 @@ const SETUP: Setup = Setup {
     frames: 64,
 };
 
-/// Plays the script, and gives a line for each transaction that is open at the end of its log, and a
-/// line for each page.
+/// Plays the script, and gives a line for each transaction that is open at the end of its log, and
+/// a line for each page.
 pub fn put_recovery(
     rt: &(impl Threads + Sync),
     alloc: Global,

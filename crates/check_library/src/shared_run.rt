@@ -1,5 +1,5 @@
-//! A run of a shared engine, with a copy by three workers. A call that is refused for lack of memory,
-//! or of a thread, is made again, and so is `settle`, with what it gave back.
+//! A run of a shared engine, with a copy by three workers. A call that is refused for lack of
+//! memory, or of a thread, is made again, and so is `settle`, with what it gave back.
 
 ghost use Rattle.std.specs.Prelude.{◌≡◌};
 
@@ -118,8 +118,8 @@ fn copied_as(number: u32) -> Work {
     }
 }
 
-/// A full copy, and the number of its id. A copy that was refused is dropped, and its id is not given
-/// again.
+/// A full copy, and the number of its id. A copy that was refused is dropped, and its id is not
+/// given again.
 fn copy<G: Ledger + Send + Sync, R: Threads + Wait + Sync>(
     rt: &R,
     alloc: Global,

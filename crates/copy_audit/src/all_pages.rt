@@ -13,8 +13,8 @@ use std::io::Read;
 /// How many unsound pages are told.
 const MOST_PAGES: usize = 1_000;
 
-/// Unsound pages of a chain of copies, in page order, each with the first copy up to which the chain
-/// has it so: the first 1,000 of them, and whether there are more.
+/// Unsound pages of a chain of copies, in page order, each with the first copy up to which the
+/// chain has it so: the first 1,000 of them, and whether there are more.
 #[derive(Drop)]
 pub struct UnsoundPages {
     pub pages: Vec<(CopyId, PageNo)>,

@@ -28,10 +28,10 @@ fn lost_records(case: &Case) -> u64 {
     Draws::new(case.seed, CRASH_ROW).below(open + 1)
 }
 
-/// The lines of a settled day: what each copy has, how many pages were changed behind it, if that is
-/// to be told, what the accounts have together after redo of each copy with the whole log, and what
-/// they have after redo and after undo of the last one with the log that the crash left; then each
-/// balance.
+/// The lines of a settled day: what each copy has, how many pages were changed behind it, if that
+/// is to be told, what the accounts have together after redo of each copy with the whole log, and
+/// what they have after redo and after undo of the last one with the log that the crash left; then
+/// each balance.
 pub fn lines_of(
     rt: &(impl Threads + Sync),
     alloc: Global,

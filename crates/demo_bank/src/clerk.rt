@@ -18,7 +18,8 @@ use std::thread::Threads;
 
 pub type Bank<G> = Shared<MemStore, MemDevice, G>;
 
-/// How many transfers a teller makes, how many passes a flusher, and how many checkpoints are taken.
+/// How many transfers a teller makes, how many passes a flusher, and how many checkpoints are
+/// taken.
 pub const TRANSFERS: u32 = 200;
 
 const PASSES: u32 = 20;
@@ -233,8 +234,9 @@ impl<G: Ledger + Send + Sync> Clerk<G> {
         };
     }
 
-    /// Makes a full copy, and one on it. In between it changes each page of accounts, and sees to it
-    /// that the change is stored, by a second pass where another one had begun a write before it.
+    /// Makes a full copy, and one on it. In between it changes each page of accounts, and sees to
+    /// it that the change is stored, by a second pass where another one had begun a write before
+    /// it.
     fn copy<R: Threads + Wait + Sync>(
         &mut self,
         rt: &R,

@@ -1,5 +1,6 @@
-//! Sessions of a shared engine move money between accounts, beside a flusher, a checkpointer and image
-//! copies; then a crash takes a part of the log, and the accounts are restored from the copies.
+//! Sessions of a shared engine move money between accounts, beside a flusher, a checkpointer and
+//! image copies; then a crash takes a part of the log, and the accounts are restored from the
+//! copies.
 #![tactic(auto)]
 
 mod accounts;

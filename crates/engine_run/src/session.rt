@@ -265,10 +265,10 @@ impl<G: Ledger> Session<G> {
         shared.held.lock(rt).savepoint(txn)
     }
 
-    /// Takes one change of a transaction back that was made behind a savepoint, or answers that none
-    /// is left; the transaction goes on. Refusals are those of `Engine::undo_to`; `OutOfMemory`
-    /// comes first, where there is no room for the receipt. Where the savepoint is reached, it
-    /// leaves none.
+    /// Takes one change of a transaction back that was made behind a savepoint, or answers that
+    /// none is left; the transaction goes on. Refusals are those of `Engine::undo_to`;
+    /// `OutOfMemory` comes first, where there is no room for the receipt. Where the savepoint is
+    /// reached, it leaves none.
     pub fn undo_to<S: PageStore, D: LogDevice>(
         &mut self,
         rt: &impl Wait,

@@ -22,8 +22,8 @@ use system_files::Notes;
 /// How many names of unfinished files are told.
 const MOST_TOLD: usize = 64;
 
-/// Names the file in which a restore from files met its fault, and says what is wrong with it, or why
-/// the system failed there. It is the one that was read last.
+/// Names the file in which a restore from files met its fault, and says what is wrong with it, or
+/// why the system failed there. It is the one that was read last.
 pub fn tell_input(rt: &HostRuntime, names: &Named<'_>, fault: &RestoreFault, notes: &Notes) {
     let failed = match fault {
         // These are no fault of one file.
@@ -68,7 +68,8 @@ pub fn tell_audited(rt: &HostRuntime, names: &Named<'_>, fault: &Unsound, notes:
     );
 }
 
-/// Names a file, says what it was read as, and why the system failed there or what is wrong with it.
+/// Names a file, says what it was read as, and why the system failed there or what is wrong with
+/// it.
 fn tell_file(
     rt: &impl Eprint,
     names: &Named<'_>,

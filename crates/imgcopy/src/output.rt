@@ -1,4 +1,5 @@
-//! The file that `redo -o` and `restore -o` write. It has a name of its own until it is put in place.
+//! The file that `redo -o` and `restore -o` write. It has a name of its own until it is put in
+//! place.
 
 use page_core::FaultName;
 use saved_files::{Folder, make_beside};

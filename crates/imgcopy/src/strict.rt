@@ -161,8 +161,8 @@ impl Tally {
     }
 }
 
-/// What is told of a run in which a call was refused: the tally, and the line of the script that has
-/// the first refused call, if it is known.
+/// What is told of a run in which a call was refused: the tally, and the line of the script that
+/// has the first refused call, if it is known.
 #[derive(Drop)]
 pub struct Refusals<'a> {
     pub tally: &'a Tally,

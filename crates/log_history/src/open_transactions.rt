@@ -114,8 +114,8 @@ impl OpenTransactions {
         }
     }
 
-    /// The pending change of an open transaction at this place, the oldest at 0; None where there is
-    /// none.
+    /// The pending change of an open transaction at this place, the oldest at 0; None where there
+    /// is none.
     pub fn pending_at(&self, txn: TxnNo, place: usize) -> Option<PendingChange>
         ensures { MatchOption (entry_in self.now txn) (result ≡ None)
             (λ e. result ≡ slice_get e.pending place) }
@@ -364,8 +364,8 @@ impl OpenTransactions {
         }
     }
 
-    /// The last change of an open transaction had this number before it, where it is a Set. It takes
-    /// no memory.
+    /// The last change of an open transaction had this number before it, where it is a Set. It
+    /// takes no memory.
     pub fn set_before(&mut self, txn: TxnNo, before: u64)
         ensures { IsSome (entry_in self.old txn)
             → self.new ≡ with_changed self.old txn (entry_with_before before) }

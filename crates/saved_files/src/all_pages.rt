@@ -5,8 +5,8 @@ use crate::restore::{LOG, told_late, told_readers};
 use copy_audit::{Unsound, UnsoundPages, unsound_pages as unsound_in};
 use std::alloc::Global;
 
-/// The unsound pages of a chain of copies, as `copy_audit::unsound_pages` finds them, from the files
-/// of these names.
+/// The unsound pages of a chain of copies, as `copy_audit::unsound_pages` finds them, from the
+/// files of these names.
 pub fn unsound_pages<N: NamedFiles>(
     files: &N,
     alloc: Global,

@@ -42,7 +42,8 @@ fn assert_audit(
     Ok(())
 }
 
-/// The same of the full copy alone, with this checkpoint and redo point, and with this LSN and slot.
+/// The same of the full copy alone, with this checkpoint and redo point, and with this LSN and
+/// slot.
 fn assert_full(
     rt: &impl Abort,
     alloc: Global,

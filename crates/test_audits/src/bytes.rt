@@ -68,7 +68,8 @@ pub(crate) struct Head {
     pub(crate) taken: u64,
 }
 
-/// An archive with this header, and page 0 with an LSN and what its slot 0 has, if it took the page.
+/// An archive with this header, and page 0 with an LSN and what its slot 0 has, if it took the
+/// page.
 pub(crate) fn archive(alloc: Global, head: Head, lsn: u64, slot: u64) -> Result<Vec<u8>, Fail> {
     let kind = if head.parent == 0 { 1 } else { 2 };
     let mut bytes = bytes_of(

@@ -255,8 +255,8 @@ fn found(state: TxnPhase, last: u64, undo_next: u64) -> Record {
     }
 }
 
-/// A transaction takes back its last change, makes another one behind the Comp, takes that back too,
-/// and aborts only then.
+/// A transaction takes back its last change, makes another one behind the Comp, takes that back
+/// too, and aborts only then.
 #[test]
 fn a_transaction_goes_on_behind_a_comp(rt: HostRuntime) -> Result<(), AllocError> {
     let table = OpenTransactions::new(rt.alloc());

@@ -51,8 +51,8 @@ impl Returns {
         }
     }
 
-    /// Makes room for what the next record of the log shows, so that `add` takes no memory. Where it
-    /// shows nothing, this takes none either. An `Err` comes where memory is refused.
+    /// Makes room for what the next record of the log shows, so that `add` takes no memory. Where
+    /// it shows nothing, this takes none either. An `Err` comes where memory is refused.
     pub fn make_room(&mut self, back: &Option<Return>) -> Result<(), AllocError>
         ensures same { self.new.made ≡ self.old.made }
         ensures room { OnOk result (IsSome back.now → length self.new.made < self.new.room) }
@@ -76,7 +76,8 @@ impl Returns {
         }
     }
 
-    /// Whether the record at an LSN is a Comp of this transaction that left so many changes pending.
+    /// Whether the record at an LSN is a Comp of this transaction that left so many changes
+    /// pending.
     fn is_return(&self, txn: TxnNo, at: Lsn, left: usize) -> bool
         ensures { AreRising self.now.made → IsTrue result ↔ Contains self.now.made (record {
           lsn = at;
