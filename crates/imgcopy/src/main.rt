@@ -360,9 +360,9 @@ fn told_others(
             return ExitCode::from(FAULT_STATUS);
         }
     };
-    for (copy, page) in found.pages.as_slice() {
-        if (*copy, *page) != first {
-            if let Err(error) = rt.println(&Unsound::Unsound(*copy, *page)) {
+    for it in found.pages.as_slice() {
+        if (it.copy, it.page) != first {
+            if let Err(error) = rt.println(&Unsound::Unsound(it.copy, it.page)) {
                 return told_unprinted(rt, &error);
             }
         }

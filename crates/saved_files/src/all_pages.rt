@@ -1,5 +1,9 @@
 //! The unsound pages of a chain of copies from named files.
 
+ghost use Rattle.std.specs.Prelude.{map, IfErr, IfOk};
+ghost use Rattle.copy_audit.specs.Audited.{AreRefused};
+ghost use Rattle.copy_audit.specs.Told.{AreToldOf};
+
 use crate::named_files::NamedFiles;
 use crate::restore::{LOG, told_late, told_readers};
 use copy_audit::{Unsound, UnsoundPages, unsound_pages as unsound_in};
@@ -12,7 +16,12 @@ pub fn unsound_pages<N: NamedFiles>(
     alloc: Global,
     log: &str,
     archives: &[&str],
-) -> Result<UnsoundPages, Unsound> {
+) -> Result<UnsoundPages, Unsound>
+    ensures told { IfOk result (AreToldOf (N.bytes files.now log.now)
+        (map (λ name. N.bytes files.now name.now) archives.now)) }
+    ensures err { IfErr result (AreRefused (N.bytes files.now log.now)
+        (map (λ name. N.bytes files.now name.now) archives.now)) }
+{
     let mut readers = told_readers(alloc, files, archives)?;
     let mut log = told_late(files, LOG, log);
     unsound_in(alloc, &mut log, &mut readers)
