@@ -46,7 +46,8 @@ pub record AreTold (log : Log) (copies : List CopyView) (told : UnsoundPages) : 
   pub first : AreFirstOf all told
 
 -- the archives spell a chain of copies for the log, of which these are told
-pub record IsTold (log : Log) (archives : List (Option (List ℕ))) (told : UnsoundPages) : Type 0 where
+pub record IsTold (log : Log) (archives : List (Option (List ℕ))) (told : UnsoundPages)
+    : Type 0 where
   pub copies : List CopyView
   pub of_archives : AreOfArchives archives log copies
   pub chain : IsChain copies
