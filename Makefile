@@ -1,7 +1,7 @@
 # make imgcopy    proves and builds the program, and leaves it at build/imgcopy, and a bank for the demo beside it
 # make demo       plays a day of a small database with image copies, loses its volume and restores it, and shows its
 #                 pages; if the program is not built, rt runs the sources unproved; then, if it is built, a day of a
-#                 bank with many threads
+#                 bank with many threads, whose files imgcopy audits and restores
 # make test       all tests: the gate, which proves every crate and tries its tests, its programs and its must-fail
 #                 edits, and then what make check does, on the program that the gate has built
 # make check      compares the program's answers to the examples and to spoiled logs with the expected ones, and those

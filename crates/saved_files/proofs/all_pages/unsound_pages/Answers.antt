@@ -12,10 +12,10 @@ of_same P {a} {b} {xs} {ys} log archives it =
 
 pub returns-clause-told : goal.returns-clause-told
 returns-clause-told g c =
-    of_same (λ log archives. IfOk c.unsound_in.result (AreToldOf log archives)) c.told_late-log.ensures
-    (ap (map _) c.deref_mut.ensures.value ∙ c.in_ok-readers.ensures) c.unsound_in.ensures.told
+    of_same (λ log archives. IfOk c.unsound_pages.result (AreToldOf log archives)) c.told_late-log.ensures
+    (ap (map _) c.deref_mut.ensures.value ∙ c.in_ok-readers.ensures) c.unsound_pages.ensures.told
 
 pub returns-clause-err : goal.returns-clause-err
 returns-clause-err g c =
-    of_same (λ log archives. IfErr c.unsound_in.result (AreRefused log archives)) c.told_late-log.ensures
-    (ap (map _) c.deref_mut.ensures.value ∙ c.in_ok-readers.ensures) c.unsound_in.ensures.err
+    of_same (λ log archives. IfErr c.unsound_pages.result (AreRefused log archives)) c.told_late-log.ensures
+    (ap (map _) c.deref_mut.ensures.value ∙ c.in_ok-readers.ensures) c.unsound_pages.ensures.err
