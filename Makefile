@@ -1,7 +1,7 @@
 # make imgcopy    proves and builds the program, and leaves it at build/imgcopy, and a bank for the demo beside it
 # make demo       plays a day of a small database with image copies, loses its volume and restores it, and shows its
 #                 pages; if the program is not built, rt runs the sources unproved; then, if it is built, a day of a
-#                 bank with many threads
+#                 bank with many threads, whose files imgcopy audits and restores
 # make test       all tests: the gate, which proves every crate and tries its tests, its programs and its must-fail
 #                 edits, and then what make check does, on the program that the gate has built
 # make check      compares the program's answers to the examples and to spoiled logs with the expected ones, and those
@@ -41,11 +41,11 @@ need = @command -v "$(1)" > /dev/null || { echo "make: the program '$(1)' is mis
 .PHONY: need-rt need-python3 need-cargo need-rustc need-imgcopy
 
 imgcopy: need-rt
-	@tools/build.sh imgcopy bank
+	@tools/build.sh imgcopy demo_bank
 
 demo: need-python3
 	@tools/demo.sh $(GIVEN) "$(IMGCOPY)" build/day
-	@tools/bank.sh build/bank
+	@tools/bank.sh build/demo_bank "$(IMGCOPY)" build/bank-day
 
 # The last line must be that of the script, so nothing follows it.
 test:
@@ -59,8 +59,8 @@ bench: need-python3 bench-programs $(PROGRAM)
 	@cat build/bench.md
 	@python3 bench/draw.py build/bench.md bench/times.svg
 ifeq ($(GIVEN),)
-	@tools/build.sh copy_bench
-	@python3 bench/copies.py build/copy_bench $(ROUNDS) bench/copies.svg > build/copies.md
+	@tools/build.sh bench_copies
+	@python3 bench/copies.py build/bench_copies $(ROUNDS) bench/copies.svg > build/copies.md
 	@cat build/copies.md
 endif
 

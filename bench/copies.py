@@ -3,7 +3,7 @@
 
 usage: copies.py PROGRAM ROUNDS PICTURE
 
-PROGRAM is that of the crate copy_bench. For each count of workers, and for sessions alone, it is run ROUNDS times, in
+PROGRAM is that of the crate bench_copies. For each count of workers, and for sessions alone, it is run ROUNDS times, in
 turns; the run whose copy took the middle time is told. PICTURE is drawn of the table. README.md says more.
 """
 

@@ -20,7 +20,7 @@ from functools import lru_cache
 from itertools import repeat
 from pathlib import Path
 
-from checks.savepoints import DifferentWays, compare_ways, has_savepoints
+from checks.savepoints import DifferentWays, compare_ways
 from model import audit_rows as model_audit_rows
 from model import file_rows as model_file_rows
 from model import rows as model_rows
@@ -60,7 +60,6 @@ class Checker:
 
     def __init__(self, program, folder):
         self.program, self.folder, self.saved = program, Path(folder), Path(folder) / "saved"
-        self.savepoints = program is None or has_savepoints(program, "run", "--pages", "1")
         self.counts = Counter()
         self.differences = []
 
@@ -152,7 +151,7 @@ def difference_of_files(given, wanted):
 # Random scripts
 
 def check_seed(checker, seed):
-    script = random_script(seed, checker.savepoints)
+    script = random_script(seed)
     ran = run_script(script)
     name = f"script {seed} on {script.pages} pages with {script.frames} frames"
     checker.check_run(name, script, ran)
@@ -203,12 +202,12 @@ def check_cut_logs(checker, name, ran, seed):
 
 
 @lru_cache(maxsize=None)
-def files_of_another(seed, savepoints):
-    return run_script(random_script(seed, savepoints)).files
+def files_of_another(seed):
+    return run_script(random_script(seed)).files
 
 
 def check_spoiled(checker, name, ran, seed):
-    draw, others = Draw(seed), files_of_another(1 + seed % 7, checker.savepoints)
+    draw, others = Draw(seed), files_of_another(1 + seed % 7)
     for turn in range(SPOILED_IN_A_RUN + MISLED_IN_A_RUN):
         given = Given(ran.files, ran.engine.chain(draw.one_of(ran.engine.complete_copies()).number))
         if turn < SPOILED_IN_A_RUN:
@@ -231,13 +230,11 @@ def check_rows(checker):
 
 
 def check_savepoint_rows(checker):
-    """The model alone is compared with them, where the program has no savepoints."""
-    told = checker if checker.savepoints else Checker(None, checker.folder)
-    saved = {row.name: check_row(told, row) for row in SAVEPOINT_ROWS}
+    saved = {row.name: check_row(checker, row) for row in SAVEPOINT_ROWS}
     for row in SAVEPOINT_FILE_ROWS:
-        check_file_row(told, row, saved[row.row])
-    check_row(told, many_comps(50))
-    for row in (MANY_COMPS, SAVEPOINT_ROOM) if told.program else ():
+        check_file_row(checker, row, saved[row.row])
+    check_row(checker, many_comps(50))
+    for row in (MANY_COMPS, SAVEPOINT_ROOM) if checker.program else ():
         checker.check(row.name, Answer(0, row.output()), run_words(Script(1, b"")), row.script())
 
 
@@ -433,8 +430,7 @@ def main(arguments):
     except (Failure, OSError) as failure:
         sys.exit(f"answers.py: {failure}")
     parts = ", ".join(f"{counts[name]} of {name}" for name in ("run", "redo", "restore", "audit", "words"))
-    lacks = "" if program is None or has_savepoints(program, "run", "--pages", "1") else "; it has no savepoints"
-    print(f"ok model: {count} random scripts and all rows are as defined, by answers: {parts}{lacks}")
+    print(f"ok model: {count} random scripts and all rows are as defined, by answers: {parts}")
 
 
 if __name__ == "__main__":

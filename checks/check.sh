@@ -209,6 +209,7 @@ check_line() {
 check_lines() {
     check_line "   " "it has spaces alone"
     check_line "bgin" "unknown call \`bgin\`"
+    check_line $'\e[2J' "unknown call \`\\\\u{1b}\\[2J\`"
     check_line "begin 1" "\`begin\` takes 0 numbers, and 1 stands here"
     check_line "read 0" "\`read\` takes 2 numbers, and 1 stands here"
     check_line "restore 1 all more" "\`restore\` takes 2 words, and 3 stand here"

@@ -1,9 +1,9 @@
 """Fails each call of the page store and of the log's device in turn, and compares what comes of it with the model.
 
-usage: python3 -m checks.fault_sweeps FAULT_PLAYER [COUNT [FIRST]]
+usage: python3 -m checks.fault_sweeps CHECK_FAULTS [COUNT [FIRST]]
        python3 -m checks.fault_sweeps --model [COUNT [FIRST]]     sweeps the model alone
 
-FAULT_PLAYER is the program of that crate. For each worked row, and for COUNT short random scripts from the seed FIRST
+CHECK_FAULTS is the program of that crate. For each worked row, and for COUNT short random scripts from the seed FIRST
 on, 100 from seed 1 where none is told, the first call of the store fails, then the second, and so on until none is left;
 so do those of the device. Each call fails plainly, and then late, after what it writes was stored. Each time the replies
 are those of the model, each complete copy is restored with each part of the log that a crash may leave, and the pages
@@ -24,7 +24,6 @@ from collections import Counter
 from concurrent.futures import ProcessPoolExecutor
 from itertools import repeat
 
-from checks.savepoints import has_savepoints
 from model import rows as model_rows
 from model.faulty_engine import Damage, Fault, FaultyEngine
 from model.random_scripts import Script, random_script
@@ -148,7 +147,7 @@ def damage_sweep(player, name, script, frames):
     return counts
 
 
-def scripts_of(task, savepoints):
+def scripts_of(task):
     """The rows, with a frame for each page where they want no other count, or short random scripts of these seeds, with
     few frames."""
     if task in ROWS:
@@ -158,22 +157,22 @@ def scripts_of(task, savepoints):
         return
     for seed in task:
         frames = seed % MOST_SCRIPT_FRAMES + 1
-        yield f"script {seed}", short_script(seed, frames, savepoints), frames
+        yield f"script {seed}", short_script(seed, frames), frames
 
 
-def short_script(seed, frames, savepoints):
+def short_script(seed, frames):
     """The first random script from this seed on that is short, and in which a copy becomes complete."""
     for number in range(1000 * seed, 1000 * seed + 1000):
-        script = random_script(number, savepoints)
+        script = random_script(number)
         if script.pages <= MOST_PAGES and script.text.count(b"\n") <= MOST_EVENTS:
             if played(script, frames)[0].complete_copies():
                 return script
     raise Failure(f"no short script from seed {seed} on")
 
 
-def sweep_all(player, savepoints, task):
+def sweep_all(player, task):
     counts = Counter()
-    for name, script, frames in scripts_of(task, savepoints):
+    for name, script, frames in scripts_of(task):
         counts += sweep(player, name, script, frames)
         if task in ROWS:
             counts += damage_sweep(player, name, script, frames)
@@ -183,22 +182,20 @@ def sweep_all(player, savepoints, task):
 def main(arguments):
     try:
         if not 1 <= len(arguments) <= 3 or not all(number.isdigit() for number in arguments[1:]):
-            raise Failure("usage: python3 -m checks.fault_sweeps FAULT_PLAYER [COUNT [FIRST]]")
+            raise Failure("usage: python3 -m checks.fault_sweeps CHECK_FAULTS [COUNT [FIRST]]")
         player = shutil.which(arguments[0])
         if player is None and arguments[0] != "--model":
             raise Failure(f"there is no program {arguments[0]}")
         count, first = [*map(int, arguments[1:]), *(COUNT, 1)[len(arguments) - 1:]]
         seeds, player = range(first, first + count), player and os.path.abspath(player)
-        savepoints = player is None or has_savepoints(player, "1", "1", "0", "0", "none")
-        tasks = [*(ROWS if savepoints else ["rows"]),
-                 *(seeds[at:at + SEEDS_IN_A_TASK] for at in range(0, count, SEEDS_IN_A_TASK))]
+        tasks = [*ROWS, *(seeds[at:at + SEEDS_IN_A_TASK] for at in range(0, count, SEEDS_IN_A_TASK))]
         with ProcessPoolExecutor(os.cpu_count()) as pool:
-            counts = sum(pool.map(sweep_all, repeat(player), repeat(savepoints), tasks), Counter())
+            counts = sum(pool.map(sweep_all, repeat(player), tasks), Counter())
     except (Failure, BadScript, OSError, subprocess.TimeoutExpired) as failure:
         sys.exit(f"fault_sweeps.py: {failure}")
     print(f"ok fault_sweeps: all rows and {count} random scripts, with {counts['store']} calls of the store that fail,"
           f" {counts['device']} of the device, {counts['again']} refused calls made again, and {counts['damage']} damaged"
-          f" pages repaired{'' if savepoints else '; the player has no savepoints'}")
+          " pages repaired")
 
 
 if __name__ == "__main__":

@@ -1,8 +1,8 @@
 """Gives the library more and fewer processors, and refuses each start of a thread in turn.
 
-usage: python3 -m checks.few_threads LIBRARY_PLAYER LIBRARY [COUNT [FIRST]]
+usage: python3 -m checks.few_threads CHECK_LIBRARY LIBRARY [COUNT [FIRST]]
 
-LIBRARY is few_threads.rs, built as a library for LD_PRELOAD, and LIBRARY_PLAYER the program of that crate. COUNT random
+LIBRARY is few_threads.rs, built as a library for LD_PRELOAD, and CHECK_LIBRARY the program of that crate. COUNT random
 scripts with a checkpoint, from the seed FIRST on, 300 from seed 1 where none is told, are played, and their logs are
 redone page by page by one, two and eight threads. Each time what is open at the end of the log, found from its last
 checkpoint on, is what a reader from its first record finds, and the pages are those that plain redo makes. If a thread
@@ -48,10 +48,9 @@ def played(program, library, word, text, processors, thread):
 
 def script_of(seed):
     """The first random script from this seed on whose log has a checkpoint, and the engine that has played it."""
-    for number in count(1000 * seed):
-        # The player reads the calls of a script, and has none of savepoints.
-        script = random_script(number, savepoints=False)
-        events = [event for event in read_script(script.text) if event.word != "restore"]
+    # In the scripts of odd seeds transactions go back to savepoints.
+    for number in count(1000 * seed + 1):
+        events = [event for event in read_script(random_script(number).text) if event.word != "restore"]
         text = "".join(" ".join([event.word, *map(str, event.numbers)]) + "\n" for event in events).encode()
         engine = run(text, PAGES).engine
         if engine.master is not None:
@@ -98,7 +97,7 @@ def check_copies(program, library):
 def main(arguments):
     try:
         if not 2 <= len(arguments) <= 4 or not all(number.isdigit() for number in arguments[2:]):
-            raise Failure("usage: python3 -m checks.few_threads LIBRARY_PLAYER LIBRARY [COUNT [FIRST]]")
+            raise Failure("usage: python3 -m checks.few_threads CHECK_LIBRARY LIBRARY [COUNT [FIRST]]")
         program = shutil.which(arguments[0])
         if program is None:
             raise Failure(f"there is no program {arguments[0]}")

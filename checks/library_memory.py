@@ -1,9 +1,9 @@
 """Refuses each allocation of what the program does not call: `read_log`, the engine, media recovery, and an engine for
 many threads.
 
-usage: python3 -m checks.library_memory LIBRARY_PLAYER LIBRARY
+usage: python3 -m checks.library_memory CHECK_LIBRARY LIBRARY
 
-LIBRARY is refuse_memory.rs, built as a library for LD_PRELOAD, and LIBRARY_PLAYER the program of that crate. Without a
+LIBRARY is refuse_memory.rs, built as a library for LD_PRELOAD, and CHECK_LIBRARY the program of that crate. Without a
 word it reads a log by `read_log` and tells what came of it, and each example log goes to it as in memory.py. With the
 word `play` it first makes calls of the engine, one by one and as a list, restores a copy, and makes a call again that
 was refused for want of memory: each has to get the reply that it has with all of its memory, and the pages have to be

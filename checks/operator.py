@@ -52,13 +52,28 @@ def check_strict(program, day):
     program.check(program.run("run", "--strict", "--pages", 3, data=day), "run --strict of a day", 0,
                   (EXAMPLES / "day.replies").read_bytes(), "")
     for text, why in ((b"sett 1", "unknown call `sett`"), (b"commit", "`commit` takes 1 number, and 0 stand here"),
+                      (b"\x1b[2Jset 1", r"unknown call `\u{1b}[2Jset`"), (b"begin\t", r"unknown call `begin\t`"),
+                      ("\u009b1m\u202e\0".encode(), r"unknown call `\u{9b}1m\u{202e}\0`"),
+                      (b"it's\\a", r"unknown call `it's\\a`"), ("gr\u00f6\u00dfe".encode(), "unknown call `größe`"),
+                      (b"x" * 40 + b" 1", f"unknown call `{'x' * 40}`"),
+                      ("ö".encode() * 41, f"unknown call `{'ö' * 40}...`"), (b"x" * 60000, f"unknown call `{'x' * 40}...`"),
                       (b"set 1 0 5", "`set` takes 4 numbers, and 3 stand here"),
                       (b"force\nbegin 1", "`begin` takes 0 numbers, and 1 stands here"),
                       (b"restore 1", "`restore` takes 2 words, and 1 stands here"),
                       (b"commit x", "a number is misspelled or too large"), (b"  ", "it has spaces alone")):
         line = 1 + text.count(b"\n")
-        program.check(program.run("run", "--pages", 1, data=text), text.decode(), 2, b"",
+        program.check(program.run("run", "--pages", 1, data=text), repr(text[:40]), 2, b"",
                       f"imgcopy: line {line}\nimgcopy: line {line}: {why}\n")
+    whole, cut = "`commit` takes 1 number, and 3 stand here", "after this call's name stand 1 words"
+    for length in range(65500, 65560, 3):
+        done = program.run("run", "--pages", 1, data=b"#" * length + b"\ncommit 1 2 3")
+        if done.stderr.decode() not in [f"imgcopy: line 2\nimgcopy: line 2: {why}\n" for why in (whole, cut)]:
+            raise Failure(f"a bad line behind {length} bytes: {done.stderr!r}")
+        program.check(done, "a bad line behind many bytes", 2, b"")
+    (program.folder / "left").mkdir()
+    (program.folder / "left" / "log.unfinished-\x1b[2J").touch()
+    program.check(program.run("run", "--pages", 1, "--save", "left"), "a name with an escape", 0, b"",
+                  "imgcopy: left/log.unfinished-\\u{1b}[2J: left by a command that was cut off; it may be deleted\n")
 
 
 def check_output(program, names):

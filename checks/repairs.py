@@ -1,8 +1,8 @@
 """Plays days of a shared engine on which the page that all sessions change is repaired meanwhile.
 
-usage: python3 -m checks.repairs LIBRARY_PLAYER [COUNT]
+usage: python3 -m checks.repairs CHECK_LIBRARY [COUNT]
 
-LIBRARY_PLAYER is the program of that crate, which plays a hundred days. It is run COUNT times, 10 where none is told. On
+CHECK_LIBRARY is the program of that crate, which plays a hundred days. It is run COUNT times, 10 where none is told. On
 each day four sessions, a flusher, a repairer and a copy by three workers are at work at once; the run has to be settled,
 and the copy has to restore what plain redo of the log makes. No clock ends a run.
 """
@@ -30,7 +30,7 @@ def play(program, number):
 def main(arguments):
     try:
         if not 1 <= len(arguments) <= 2 or not all(number.isdigit() for number in arguments[1:]):
-            raise Failure("usage: python3 -m checks.repairs LIBRARY_PLAYER [COUNT]")
+            raise Failure("usage: python3 -m checks.repairs CHECK_LIBRARY [COUNT]")
         program = shutil.which(arguments[0])
         if program is None:
             raise Failure(f"there is no program {arguments[0]}")

@@ -21,7 +21,6 @@ from pathlib import Path
 from model.log_format import lsn_of
 from checks.memory import Case, Failure, check, program_and_library, refuse_each
 from checks.memory_scripts import BAD_SCRIPTS, CHAIN, SAVEPOINTS, SCRIPTS
-from checks.savepoints import has_savepoints
 from checks.answers import difference, difference_of_files
 from model.recovery import Answer, encode_pages, fault_lines, redo_all, undo_records
 from model.scripts import CALLS, OUT_OF_MEMORY, Ran, read_script, run
@@ -169,17 +168,15 @@ def compare(program, library, scripts):
 def main(arguments):
     try:
         program, library = program_and_library(arguments)
-        savepoints = has_savepoints(program, "run", "--pages", "1")
-        counts, restores = compare(program, library, [*SCRIPTS, SAVEPOINTS] if savepoints else SCRIPTS)
-        needed = NEED_MEMORY if savepoints else NEED_MEMORY - {"undoto"}
-        missing = [name for name in [*WANTED, *sorted(needed)] if not counts[name]]
+        counts, restores = compare(program, library, [*SCRIPTS, SAVEPOINTS])
+        missing = [name for name in [*WANTED, *sorted(NEED_MEMORY)] if not counts[name]]
         if missing:
             raise Failure(f"this came of no refused allocation: {', '.join(missing)}")
     except (Failure, OSError) as failure:
         sys.exit(f"run_memory.py: {failure}")
     told = ", ".join(f"{name} ({counts[name]})" for name in [*WANTED, AS_EVER])
-    calls = sum(counts[name] for name in needed)
-    print(f"ok run_memory: for want of memory {told}, or refuses a call of {len(needed)} kinds ({calls});"
+    calls = sum(counts[name] for name in NEED_MEMORY)
+    print(f"ok run_memory: for want of memory {told}, or refuses a call of {len(NEED_MEMORY)} kinds ({calls});"
           f" {restores} restores of what was left are as defined")
 
 

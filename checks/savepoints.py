@@ -1,9 +1,4 @@
-"""Compares the model's ways to find a savepoint, and looks whether a program has the calls of savepoints.
-
-For answers.py, run_memory.py and fault_sweeps.py.
-"""
-
-import subprocess
+"""Compares the model's ways to find a savepoint, for answers.py."""
 
 from model.log_format import ADD, BEGIN, RECORD_SIZE, UPDATE, Change, Record, lsn_of
 from model.recovery import Transactions, compensation
@@ -17,12 +12,6 @@ MOST_OPEN = 3
 
 class DifferentWays(Exception):
     """Where two ways differ, in one line."""
-
-
-def has_savepoints(*words):
-    """Whether a program that plays a script on its input knows the call `save`."""
-    done = subprocess.run(words, input=b"save 1\n", capture_output=True)
-    return done.stdout.startswith(b"E2 NoTxn\n")
 
 
 def compare_ways(histories=HISTORIES):

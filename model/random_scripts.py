@@ -31,9 +31,9 @@ class Script(NamedTuple):
 class Play:
     """An engine that is played as its script is made."""
 
-    def __init__(self, seed, savepoints=True):
+    def __init__(self, seed):
         self.draw = draw = Draw(seed)
-        self.way_back = [0.05, 0.2, 0.5][seed // 2 % 3] if seed % 2 and savepoints else 0
+        self.way_back = [0.05, 0.2, 0.5][seed // 2 % 3] if seed % 2 else 0
         self.pages = draw.one_of([1, 1, 2, 2, 3, 4, 5, 7, 9, 13, 40]) if seed % 200 else 3000
         few = seed % 3 == 0 and self.pages <= MOST_PAGES_FEW
         self.frames = 1 + seed // 3 % min(MOST_FEW_FRAMES, self.pages) if few else MOST_FRAMES
@@ -218,8 +218,8 @@ def actors(play):
             *([actor, None, draw.one_of([1, 3, 9])] for actor in chosen)]
 
 
-def random_script(seed, savepoints=True):
-    play = Play(seed, savepoints)
+def random_script(seed):
+    play = Play(seed)
     draw = play.draw
     turns = []
     entries = actors(play)

@@ -1,26 +1,10 @@
-"""Worked rows of savepoints, beside those of rows.py, and rows on the files that they save.
-
-They stand apart from the others, so that a program without `save` and `undoto` can be compared with all the rest.
-"""
+"""Worked rows of savepoints, beside those of rows.py, and rows on the files that they save."""
 
 from model.file_rows import FileRow
-from model.rows import Row, repeated
+from model.rows import PARTS, Row, repeated
 
-BACK = """
-    IDLE
-    FULL
-    begin -> began 1 at 192
-    add 1 0 0 5 -> lsn 256
-    save 1 -> saved 256
-    add 1 0 0 7 -> lsn 320
-    undoto 1 256 -> undid 384
-"""
-
-GONE_ON = BACK + """
-    undoto 1 256 -> reached
-    undoto 1 320 -> E42 NoSavepoint
-    set 1 0 1 9 -> lsn 448
-"""
+GONE_ON = PARTS["WENT_BACK"]
+BACK = GONE_ON.partition("undoto 1 256 -> reached")[0]
 
 # The Comp at 384, in full: PrevLSN 320, UndoNxtLSN 256, and an Add that takes the 7 away.
 COMP = {384: "0300000001000000 4001000000000000 0001000000000000 0000000000000200"
@@ -40,28 +24,7 @@ SAVEPOINT_ROWS = [
         """, files={"log": COMP}),
     Row("the Comp and all behind it lost", 1, GONE_ON + "restore 1 5 -> page 0 lsn 448"),
     Row("all behind the Comp lost", 1, GONE_ON + "restore 1 6 -> page 0 lsn 448"),
-    Row(BESIDE, 1, """
-        IDLE
-        FULL
-        begin -> began 1 at 192
-        add 1 0 0 5 -> lsn 256
-        save 1 -> saved 256
-        add 1 0 0 7 -> lsn 320
-        add 1 0 1 8 -> lsn 384
-        undoto 1 256 -> undid 448
-        ckpt -> lsn 512
-        gather -> more
-        gather -> more
-        gather -> more
-        gather -> done
-        endckpt -> point 512 704 256
-        undoto 1 256 -> undid 768
-        undoto 1 256 -> reached
-        undoto 1 448 -> E42 NoSavepoint
-        undoto 1 768 -> reached
-        set 1 0 1 9 -> lsn 832
-        restore 1 all -> page 0 lsn 960
-        """, files={
+    Row(BESIDE, 1, PARTS["WENT_BACK_BESIDE_A_CHECKPOINT"] + "restore 1 all -> page 0 lsn 960", files={
             "master": {8: "0002000000000000 c002000000000000"},
             "log": {640: "09000000 00000000 0002000000000000 00000000 01000000 01000000"
                          "c001000000000000 4001000000000000",

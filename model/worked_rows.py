@@ -1,4 +1,4 @@
-"""The worked rows of the engine, as `crates/engine_tests/src/rows.rt` has them: the lines of each constant by its name.
+"""The worked rows of the engine, as `crates/test_engine/src/rows.rt` has them: the lines of each constant by its name.
 
 So each of these rows stands once, and both the tests of the engine and the model are compared with it.
 """
@@ -6,7 +6,7 @@ So each of these rows stands once, and both the tests of the engine and the mode
 import re
 from pathlib import Path
 
-SOURCE = Path(__file__).resolve().parent.parent / "crates" / "engine_tests" / "src" / "rows.rt"
+SOURCE = Path(__file__).resolve().parent.parent / "crates" / "test_engine" / "src" / "rows.rt"
 TEXT = re.compile(r'const (\w+): &str = "(.*?)";', re.DOTALL)
 ROW = re.compile(r"const (\w+): Row = Row \{\s*pages: ([\d_]+),\s*parts: &\[(.*?)\],\s*\};", re.DOTALL)
 PART = re.compile(r'"(.*?)"|(\w+)', re.DOTALL)

@@ -1,27 +1,64 @@
 #!/usr/bin/env bash
-# usage: bank.sh BANK
-# Plays a day of a bank on the engine for many threads, if its program is built, says what each of its lines is, and
-# compares what it restores with sums that are made without it. Ends with status 0 where all of it is as expected, or the
-# program is not built.
+# usage: bank.sh BANK IMGCOPY FOLDER
+# Plays a day of a bank on the engine for many threads, if its program BANK is built, says what each of its lines is, and
+# compares what it restores with sums that are made without it. Its files are saved into FOLDER. Where IMGCOPY is built,
+# that audits and restores them. Ends with status 0 where all of it is as expected, or the program BANK is not built.
 set -u
 cd "$(dirname "$0")/.." || exit 1
 
-[ $# -eq 1 ] || { echo "bank.sh: one argument is wanted, the program" >&2; exit 1; }
+fail() {
+    echo "bank.sh: $1" >&2
+    exit 1
+}
+
+[ $# -eq 3 ] || fail "three arguments are wanted, two programs and a folder"
+folder=$3 sum=6400000
 echo
 if ! command -v "$1" > /dev/null; then
     echo "The bank with many threads is left out: 'make' proves and builds its program."
     exit 0
 fi
-cat << 'END'
-A bank has 64 accounts with 100000 each, 6400000 in all, on 8 of 12 pages. At the same time four tellers move money from
+bank=$1
+imgcopy=$(command -v "$2") && imgcopy=$(realpath "$imgcopy")
+rm -rf "$folder"
+mkdir -p "$folder" || fail "$folder cannot be made"
+cat << END
+A bank has 64 accounts with 100000 each, $sum in all, on 8 of 12 pages. At the same time five tellers move money from
 one account to another, a flusher writes pages, a checkpointer takes checkpoints, and three workers make a full copy,
-then two an incremental one. At the end four transfers are left open, and a crash takes some of their records.
-$ bank 1 4 3 2
+then two an incremental one. At the end five transfers are left open, and a crash takes the last of their records. The
+lines are the same each time, but for those of the pages that tellers changed behind a copy: these hang on the schedule.
+\$ bank --behind --save $folder 7 5 3 2
 END
-lines=$("$1" 1 4 3 2) || exit 1
-sed -e '/and the whole log/ s/$/   (redo of the whole log over that copy, with the open transfers)/' \
+"$bank" --behind --save "$folder" 7 5 3 2 > "$folder/lines" || fail "the bank ended with status $?"
+sed -e '/^copy 1, full/ s/$/   (made beside the tellers)/' \
+    -e '/^copy 2, on/ s/$/   (the others are older than copy 1)/' \
+    -e '/^changed behind/ s/$/   (by tellers, after it had taken them and before it was sealed: their changes are in the log)/' \
+    -e '/and the whole log/ s/$/   (redo of the whole log over that copy: all accounts, with the open transfers)/' \
+    -e '/^the crash takes/ s/$/   (not forced yet: a deposit of an open transfer)/' \
     -e '/^after redo/ s/$/   (money of open transfers is out of one account, and not in another)/' \
-    -e '/^after undo/ s/$/   (all of it is back)/' \
-    -e 's/^page \([0-9]*\):/accounts of page \1:/' <<< "$lines"
+    -e "/^after undo/ s/\$/   (all of the $sum is back)/" \
+    -e 's/^page \([0-9]*\):/accounts of page \1:/' "$folder/lines"
+lost=$(sed -n 's/^the crash takes \([0-9]*\) records\{0,1\}$/\1/p' "$folder/lines")
 echo
-exec python3 -m checks.bank "$1" 1
+if [ -n "$imgcopy" ]; then
+    echo "The same from its files, by imgcopy: $(cd "$folder" && echo log master copy-*). First their log loses what the crash took:"
+    cd "$folder" || fail "there is no folder $folder"
+    echo "\$ cd $folder; truncate -s -$((64 * lost)) log"
+    truncate -s "-$((64 * lost))" log || fail "the log cannot be cut"
+    echo "\$ imgcopy audit log copy-1 copy-2"
+    "$imgcopy" audit log copy-1 copy-2 || fail "audit ended with status $?"
+    echo "\$ imgcopy restore log master copy-1 copy-2 > volume"
+    "$imgcopy" restore log master copy-1 copy-2 > volume || fail "restore ended with status $?"
+    cd "$OLDPWD" || exit 1
+    for page in 0 1 2 3 4 5 6 7; do
+        python3 examples/show_page.py "$folder/volume" "$page" || fail "the volume has no page $page"
+    done > "$folder/pages"
+    sed 's/ [0-9]*=/ /g; s/ lsn [0-9]*/:/' "$folder/pages" | diff - <(grep '^page ' "$folder/lines") \
+        || fail "the volume has other balances"
+    cat "$folder/pages"
+    restored=$(sed 's/page .* lsn [0-9]* //' "$folder/pages" | tr ' ' '\n' | awk -F= '{ sum += $2 } END { print sum }')
+    [ "$restored" = "$sum" ] || fail "the restored accounts have $restored"
+    echo "All accounts of the restored volume: $restored"
+    echo
+fi
+exec python3 -m checks.bank "$bank" ${imgcopy:+"$imgcopy"} 1 7

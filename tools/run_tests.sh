@@ -13,10 +13,10 @@ passed=0 failed=0 skipped=0
 # how many checks to make, rt gives each one processor; what it does with more costs a third more of their time.
 run_gate() {
     program=crates/imgcopy/out/imgcopy
-    library_player=crates/library_player/out/library_player
-    fault_player=crates/fault_player/out/fault_player
-    bank=crates/bank/out/bank
-    rm -f "$program" "$library_player" "$fault_player" "$bank"
+    check_library=crates/check_library/out/check_library
+    check_faults=crates/check_faults/out/check_faults
+    bank=crates/demo_bank/out/demo_bank
+    rm -f "$program" "$check_library" "$check_faults" "$bank"
     RT_JOBS=$(lanes) PYTHONUNBUFFERED=1 rt ci 2>&1 | tee build/gate.log
     local status=${PIPESTATUS[0]} counts='^([0-9]+) passed, ([0-9]+) failed$'
     if [[ $(tail -n 1 build/gate.log) =~ $counts ]]; then
@@ -67,28 +67,28 @@ refuse_memory() {
 
 # The gate has built this program. Else it is built here.
 library_memory() {
-    "$is_gate" || tools/build.sh library_player || return
-    refuse_memory checks.library_memory "$library_player"
+    "$is_gate" || tools/build.sh check_library || return
+    refuse_memory checks.library_memory "$check_library"
 }
 
 few_threads() {
-    "$is_gate" || tools/build.sh library_player || return
-    preload few_threads checks.few_threads "$library_player"
+    "$is_gate" || tools/build.sh check_library || return
+    preload few_threads checks.few_threads "$check_library"
 }
 
 repairs() {
-    "$is_gate" || tools/build.sh library_player || return
-    python3 -m checks.repairs "$library_player"
+    "$is_gate" || tools/build.sh check_library || return
+    python3 -m checks.repairs "$check_library"
 }
 
 fault_sweeps() {
-    "$is_gate" || tools/build.sh fault_player || return
-    python3 -m checks.fault_sweeps "$fault_player"
+    "$is_gate" || tools/build.sh check_faults || return
+    python3 -m checks.fault_sweeps "$check_faults"
 }
 
 bank() {
-    "$is_gate" || tools/build.sh bank || return
-    python3 -m checks.bank "$bank"
+    "$is_gate" || tools/build.sh demo_bank || return
+    python3 -m checks.bank "$bank" "$program"
 }
 
 run_checks() {
@@ -100,6 +100,7 @@ run_checks() {
     check run_memory "$program" python3 rustc -- refuse_memory checks.run_memory "$program"
     check unsaved "$program" python3 -- python3 -m checks.unsaved "$program"
     check operator "$program" python3 -- python3 -m checks.operator "$program"
+    check guide "$program" python3 -- python3 -m checks.guide "$program"
     check saves_at_once "$program" python3 -- python3 -m checks.saves_at_once "$program"
     check frames "$program" python3 -- python3 -m checks.few_frames "$program"
     check faults "$program" python3 -- python3 -m checks.faults "$program"
@@ -132,7 +133,7 @@ if [ "$1" = --gate ]; then
     run_gate
 else
     is_gate=false
-    program=$1 library_player=build/library_player fault_player=build/fault_player bank=build/bank
+    program=$1 check_library=build/check_library check_faults=build/check_faults bank=build/demo_bank
 fi
 run_checks
 counts="$passed passed, $failed failed"

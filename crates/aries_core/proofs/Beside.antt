@@ -30,6 +30,7 @@ use Rattle.aries_core.proofs.Follows.{undo_has}
 use Rattle.aries_core.proofs.Gathers.{AreGathered}
 use Rattle.aries_core.proofs.Steps.{stored_or_not}
 use Rattle.aries_core.proofs.Writes.{Begins, Ends, Leaves, PageStep, Repairs, Repeats, repairs_newer}
+use Rattle.aries_core.proofs.StepsBack.{back_has, back_record_has}
 
 -- ---- events beside checkpoints
 
@@ -76,6 +77,10 @@ answered old (event.Repair copy page) new beside is = keeps old new _ is refl re
 answered old (event.Commit txn) new beside is = keeps old new _ is refl refl
 answered old (event.Abort txn) new beside is = keeps old new _ is refl refl
 answered old (event.UndoStep txn) new beside is = undo_keeps old txn new _ refl is
+answered old (event.Savepoint txn) new beside is = keeps old new _ is refl refl
+answered old (event.UndoTo txn at) new beside is =
+    keeps old new _ is (back_has (λ s. s.left ≡ old.left) old txn at refl (λ p. refl))
+    (back_has (λ s. s.master ≡ old.master) old txn at refl (λ p. refl))
 answered old event.Force new beside is = keeps old new _ is refl refl
 answered old (event.WriteBegin page) new beside is = keeps old new _ is refl refl
 answered old (event.WriteEnd page) new beside is = write_end_keeps old page new _ refl is
@@ -125,6 +130,8 @@ of_transaction s (event.Repair copy page) r beside made = absurd (cc)
 of_transaction s (event.Commit txn) r beside made = subst IsOfTransaction (same_Some _ _ made) tt
 of_transaction s (event.Abort txn) r beside made = subst IsOfTransaction (same_Some _ _ made) tt
 of_transaction s (event.UndoStep txn) r beside made = undo_has IsOfTransaction s txn r made (λ p last. tt) (λ last. tt)
+of_transaction s (event.Savepoint txn) r beside made = absurd (cc)
+of_transaction s (event.UndoTo txn at) r beside made = back_record_has IsOfTransaction s txn at r made (λ p last. tt)
 of_transaction s event.Force r beside made = absurd (cc)
 of_transaction s (event.WriteBegin page) r beside made = absurd (cc)
 of_transaction s (event.WriteEnd page) r beside made = absurd (cc)

@@ -29,6 +29,7 @@ use Rattle.aries_core.specs.Run.{Run}
 use Rattle.aries_core.specs.Step.{Fails, Step}
 use Rattle.aries_core.proofs.Gathers.{ckpt_end_has, closed_part, gather_has}
 use Rattle.aries_core.proofs.Steps.{stays_or_grows, stored_or_not}
+use Rattle.aries_core.proofs.StepsBack.{back_has}
 
 -- ---- copies and their entries
 
@@ -123,6 +124,9 @@ answered old (event.Read page slot) answer new given is = same_copies old new _ 
 answered old (event.Commit txn) answer new given is = same_copies old new _ is refl
 answered old (event.Abort txn) answer new given is = same_copies old new _ is refl
 answered old (event.UndoStep txn) answer new given is = undo_copies old txn new _ refl is
+answered old (event.Savepoint txn) answer new given is = same_copies old new _ is refl
+answered old (event.UndoTo txn at) answer new given is =
+    same_copies old new _ is (back_has (λ s. s.copies ≡ old.copies) old txn at refl (λ p. refl))
 answered old event.Force answer new given is = same_copies old new _ is refl
 answered old (event.WriteBegin page) answer new given is = same_copies old new _ is refl
 answered old (event.WriteEnd page) answer new given is = write_copies old page new _ refl is

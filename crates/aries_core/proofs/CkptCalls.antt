@@ -41,6 +41,7 @@ use Rattle.buffer_pool.proofs.Pools.{none_changes}
 use Rattle.aries_core.proofs.Gathers.{PassesPages, PassesTxns, TakesPages, TakesTxn, WasDone}
 use Rattle.aries_core.proofs.Gathers.{at_left, ckpt_end_is, gather_case, pages_record, txn_entry, with_pages, with_txn}
 use Rattle.aries_core.proofs.Refusals.{ckpt_begin_passes, ckpt_end_passes, gather_passes}
+use Rattle.aries_core.proofs.Returned.{none_of_checkpoint, returns_stay}
 
 -- what a call says of the state after it: it is a step, and the engine is in step with its log
 pub record CkptCalled {S D : Type 0} (stored : S → List Page) (it new : WrittenLog D)
@@ -60,9 +61,9 @@ with_record : {S D : Type 0} (stored : S → List Page) (it new : WrittenLog D) 
     → IsKept stored (engine_view stored it pool ckpts).state table pool ckpts → EventFits call
     → Step (engine_view stored it pool ckpts).state call reply (engine_view stored new pool after).state
     → new.log ≡ with_next it.log (r ∷ []) → IsOfCheckpoint r → MayFollow it.log.records r
-    → length it.log.records < MAX_RECORDS → HasSession new.log.records after.session
+    → length it.log.records < MAX_RECORDS → HasSession new.log.records after.session → after.returns ≡ ckpts.returns
     → CkptCalled stored it new table pool ckpts after call reply
-with_record stored it new table pool ckpts after call reply r kept fits step logged of may few session =
+with_record stored it new table pool ckpts after call reply r kept fits step logged of may few session alike =
     let s = (engine_view stored it pool ckpts).state in
     let fit = fit_of_step s call reply (engine_view stored new pool after).state kept.fit fits step in
     let valid : IsLog (with_next it.log (r ∷ [])) = subst IsLog logged fit.valid in
@@ -73,6 +74,8 @@ with_record stored it new table pool ckpts after call reply r kept fits step log
         table_of_log = rw logged (table_kept it.log.records r table of may few kept.table_of_log);
         pool_of_log = rw logged (pool_kept stored it.log r pool of valid kept.pool_of_log);
         session_of_log = session;
+        returns_of_log = rw logged (alike ∙ kept.returns_of_log
+            ∙ sym (returns_stay it.log.records r (none_of_checkpoint it.log.records r of)));
       };
     }
 
@@ -94,6 +97,7 @@ ckpt_begun stored it new table pool ckpts after lsn kept none logged forced is a
     with_record stored it new table pool ckpts after event.CkptBegin (Ok (answer.Logged lsn)) r kept tt
     (none, ap answer.Logged at, state) logged tt passes.idle (omega arith)
     (rw (is, logged) (ap (option_map (session_of pages_left)) (sym (open_push it.log.records r))))
+    (ap (λ (x : MediaView). x.returns) is)
 
 -- ---- its gather goes on
 
@@ -175,9 +179,9 @@ gathered_kept : {S D : Type 0} (stored : S → List Page) (it new : WrittenLog D
     → refusal (engine_view stored it pool ckpts).state event.CkptGather ≡ None
     → Step (engine_view stored it pool ckpts).state event.CkptGather reply (engine_view stored new pool after).state
     → gathered_record (engine_view stored it pool ckpts).state ≡ next → new.log ≡ with_step it.log next
-    → HasSession new.log.records after.session
+    → HasSession new.log.records after.session → after.returns ≡ ckpts.returns
     → CkptCalled stored it new table pool ckpts after event.CkptGather reply
-gathered_kept stored it new table pool ckpts after reply None kept none step made logged session =
+gathered_kept stored it new table pool ckpts after reply None kept none step made logged session alike =
     let s = (engine_view stored it pool ckpts).state in
     record {
       step = step;
@@ -186,14 +190,15 @@ gathered_kept stored it new table pool ckpts after reply None kept none step mad
         table_of_log = rw logged kept.table_of_log;
         pool_of_log = rw logged kept.pool_of_log;
         session_of_log = session;
+        returns_of_log = rw logged (alike ∙ kept.returns_of_log);
       };
     }
-gathered_kept stored it new table pool ckpts after reply (Some r) kept none step made logged session =
+gathered_kept stored it new table pool ckpts after reply (Some r) kept none step made logged session alike =
     let s = (engine_view stored it pool ckpts).state in
     let room = (gather_passes s none).room r made in
     with_record stored it new table pool ckpts after event.CkptGather reply r kept tt step logged
     (gather_record_has IsOfCheckpoint s r none made (λ c pages is finds. tt) (λ c t is finds. tt))
-    (follows s event.CkptGather r kept.fit none made) (omega arith) session
+    (follows s event.CkptGather r kept.fit none made) (omega arith) session alike
 
 pub ckpt_gathered : {S D : Type 0} (stored : S → List Page) (it new : WrittenLog D) (table : Table) (pool : PoolView S)
     (ckpts after : MediaView) (v w : CkptView Phase) (reply : Answer)
@@ -226,7 +231,7 @@ ckpt_gathered stored it new table pool ckpts after v w reply kept none has logge
     said ∙ ap (λ (x : CkptView Phase). if is_done (left_of x.phase) then answer.Done else answer.More) ckpt
     ∙ ap (λ o. o.answer) (sym outcome) in
     gathered_kept stored it new table pool ckpts after (Ok reply) g.next kept none (none, answered, state) made next
-    (rw (now, next) (session_after s c kept.fit passes.still_open))
+    (rw (now, next) (session_after s c kept.fit passes.still_open)) (ap (λ (x : MediaView). x.returns) is)
 
 -- where the session's step appends a record, so does the engine's
 pub gather_takes : {S D : Type 0} (stored : S → List Page) (it : WrittenLog D) (table : Table) (pool : PoolView S)
@@ -252,7 +257,7 @@ pub ckpt_ended : {S D : Type 0} (stored : S → List Page) (it new : WrittenLog 
     → IsKept stored (engine_view stored it pool ckpts).state table pool ckpts
     → refusal (engine_view stored it pool ckpts).state event.CkptEnd ≡ None → ckpts.session ≡ Some v
     → new.log ≡ with_next it.log (end_record it.log.records v ∷ []) → new.forced_end ≡ end_of new.log.records
-    → after ≡ record { master = Some point; session = None; copies = ckpts.copies }
+    → after ≡ record ckpts { master = Some point; session = None }
     → point ≡ record { begin = v.begin; end = end_of it.log.records; redo = v.redo }
     → CkptCalled stored it new table pool ckpts after event.CkptEnd (Ok (answer.Point point.begin point.end point.redo))
 ckpt_ended stored it new table pool ckpts after v point kept none has logged forced is at =
@@ -276,6 +281,7 @@ ckpt_ended stored it new table pool ckpts after v point kept none has logged for
     (Ok (answer.Point point.begin point.end point.redo)) r
     kept tt (none, answered, state) next tt (end_ckpt_follows s c kept.fit passes.still_open passes.done) (omega arith)
     (rw (is, next) (ap (option_map (session_of pages_left)) (sym (open_push it.log.records r))))
+    (ap (λ (x : MediaView). x.returns) is)
 
 -- the log's device failed
 pub ckpt_unforced : {S D : Type 0} (stored : S → List Page) (it new : WrittenLog D) (table : Table) (pool : PoolView S)
@@ -309,6 +315,7 @@ ckpt_unforced stored it new table pool ckpts after v kept none has failed is =
     with_record stored it new table pool ckpts after event.CkptEnd (Err LogFault) r kept tt (inr (none, fails)) next tt
     (end_ckpt_follows s c kept.fit passes.still_open passes.done) (omega arith)
     (rw (is, next) (ap (option_map (session_of pages_left)) (sym (open_push it.log.records r))))
+    (ap (λ (x : MediaView). x.returns) is)
 
 -- ---- nothing has changed
 

@@ -47,6 +47,7 @@ copies_kept stored it table pool after media copies call reply kept fits is step
   table_of_log = kept.table_of_log;
   pool_of_log = is;
   session_of_log = kept.session_of_log;
+  returns_of_log = kept.returns_of_log;
 }
 
 no_fault : (o : Option CopyFault) → o ≡ None → option_map of_vault o ≡ None

@@ -42,6 +42,7 @@ use Rattle.aries_core.proofs.Refusals.{take_passes}
 use Rattle.aries_core.proofs.Stands.{stands}
 use Rattle.aries_core.proofs.Steps.{Grows, Stays, stored_or_not}
 use Rattle.aries_core.proofs.Writes.{PageStep}
+use Rattle.aries_core.proofs.StepsBack.{back_has}
 
 -- a step leaves the copies, or changes nothing else
 pub data CopyStep (old new : EngineState) : Type 0 where
@@ -151,6 +152,9 @@ answered old (event.Read page slot) new fit none is = leaves old new _ is refl
 answered old (event.Commit txn) new fit none is = leaves old new _ is refl
 answered old (event.Abort txn) new fit none is = leaves old new _ is refl
 answered old (event.UndoStep txn) new fit none is = undo_leaves old txn new _ refl is
+answered old (event.Savepoint txn) new fit none is = leaves old new _ is refl
+answered old (event.UndoTo txn at) new fit none is =
+    leaves old new _ is (back_has (λ s. s.copies ≡ old.copies) old txn at refl (λ p. refl))
 answered old event.Force new fit none is = leaves old new _ is refl
 answered old (event.WriteBegin page) new fit none is = leaves old new _ is refl
 answered old (event.WriteEnd page) new fit none is = write_end_leaves old page new _ refl is

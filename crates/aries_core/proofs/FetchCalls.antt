@@ -1,17 +1,18 @@
 -- Calls that need a page in memory.
 use Rattle.std.proofs.Common.{◌≡◌, ℕ, Bool, true, false, refl, ap, inr}
-use Rattle.std.specs.Prelude.{Some, None, IfErr, IfOk, OnErr, Result, Ok, Err}
+use Rattle.std.specs.Prelude.{is_none, Some, None, IfErr, IfOk, OnErr, Result, Ok, Err}
 use Rattle.page_core.specs.declared.change.Change.TheVariants.{Set, Add}
 use Rattle.log_history.specs.declared.pending_change.PendingChange.{PendingChange}
 use Rattle.log_history.specs.Linked.{number_in}
+use Rattle.log_history.specs.Savepoints.{savepoint}
 use Rattle.log_history.specs.Transactions.{last_of, pending}
 use Rattle.buffer_pool.specs.Frames.{is_resident}
 use Rattle.aries_core.specs.declared.event.Answer.TheVariants as answer
 use Rattle.aries_core.specs.declared.event.Event.TheVariants as event
 use Rattle.aries_core.specs.declared.refusal.Refusal.{Refusal}
 use Rattle.aries_core.specs.declared.refusal.Refusal.TheVariants.{OutOfMemory, StoreFault}
-use Rattle.aries_core.specs.EngineState.{EngineState, appended, end, update_record, with_page}
-use Rattle.aries_core.specs.Refusal.{refusal}
+use Rattle.aries_core.specs.EngineState.{EngineState, appended, end, taken_back, update_record, with_page}
+use Rattle.aries_core.specs.Refusal.{active_refusal, frame_refusal, refusal}
 use Rattle.aries_core.specs.Step.{FailsFetching, Step, reply_of}
 
 pub set_step : (s new : EngineState) (txn page slot number : ℕ) (result : Result ℕ Refusal)
@@ -51,6 +52,12 @@ pub undo_fails : (s new : EngineState) (txn : ℕ) (p : PendingChange) (why : Re
 undo_fails s new txn p OutOfMemory none last err same = inr (none, (tt, same))
 undo_fails s new txn p StoreFault none last err same = inr (none, (rw last err, same))
 undo_fails s new txn p other none last err same = absurd err
+
+-- a step back to a savepoint that has a change to take back
+pub back_passes : (s : EngineState) (txn at : ℕ) (p : PendingChange) → active_refusal s txn ≡ None
+    → is_none (savepoint s.log txn at) ≡ false → taken_back s txn at ≡ Some p → frame_refusal s p.page ≡ None
+    → refusal s (event.UndoTo txn at) ≡ None
+back_passes s txn at p active known taken free = rw (active, known, taken) free
 
 -- a page that is not absent is there
 pub is_there : (b : Bool) → ¬ (b ≡ false) → b ≡ true

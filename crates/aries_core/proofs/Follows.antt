@@ -1,5 +1,5 @@
 -- The record of an accepted event may come behind the log.
-use Rattle.std.proofs.Common.{◌≡◌, ℕ, ◌-◌, List, [], ◌∷◌, length, refl, sym, ap, subst, ◌∙◌, arith}
+use Rattle.std.proofs.Common.{◌≡◌, ℕ, ◌-◌, true, List, [], ◌∷◌, length, refl, sym, ap, subst, ◌∙◌, arith}
 use Rattle.std.specs.Prelude.{Option, Some, None}
 use Rattle.std.specs.Option.{option_map}
 use Rattle.std.proofs.lemmas.Option.{same_Some, slice_get-get_or}
@@ -11,7 +11,7 @@ use Rattle.log_records.specs.declared.record.Record.TheVariants as log
 use Rattle.log_records.specs.declared.dirty_page.DirtyPages.{DirtyPages}
 use Rattle.log_history.specs.Checkpoint.{Checkpoint, open_checkpoint}
 use Rattle.log_history.specs.Linked.{GoesOn, IsActive, MayFollow, number_in}
-use Rattle.log_history.specs.Transactions.{holder, last_lsn, last_of, pending}
+use Rattle.log_history.specs.Transactions.{holder, is_open, last_lsn, last_of, pending}
 use Rattle.aries_core.specs.declared.event.Event.{Event}
 use Rattle.aries_core.specs.declared.event.Event.TheVariants as event
 use Rattle.aries_core.specs.EngineState.{EngineState, IsFit, abort_record, commit_record, comp_record, end}
@@ -25,8 +25,9 @@ use Rattle.aries_core.proofs.Gathers.{was_done}
 use Rattle.aries_core.proofs.GatherSteps.{end_ckpt_follows, pages_follow, txn_follows}
 use Rattle.aries_core.proofs.Refusals.{ActiveIn, RollsIn, active_passes, begin_passes, change_passes, ckpt_begin_passes}
 use Rattle.aries_core.proofs.Refusals.{ckpt_end_passes}
-use Rattle.aries_core.proofs.Refusals.{gather_passes, undo_passes}
+use Rattle.aries_core.proofs.Refusals.{back_passes, gather_passes, undo_passes}
 use Rattle.aries_core.specs.Call.{record_for}
+use Rattle.aries_core.proofs.StepsBack.{back_record_has}
 
 -- a list that has no last element has none
 pub none_last : {X : Type 0} (xs : List X) → last_of xs ≡ None → xs ≡ []
@@ -34,8 +35,8 @@ none_last [] none = refl
 none_last (x ∷ xs) none =
     let last = slice_get-get_or (x ∷ xs) (length (x ∷ xs) - 1) x (omega arith) in cc
 
-goes_on : (s : EngineState) (txn : ℕ) → RollsIn s txn → GoesOn s.log txn (last_lsn s.log txn)
-goes_on s txn rolls = record { still_open = rolls.still_open; chained = refl }
+goes_on : (s : EngineState) (txn : ℕ) → is_open s.log txn ≡ true → GoesOn s.log txn (last_lsn s.log txn)
+goes_on s txn still_open = record { still_open = still_open; chained = refl }
 
 is_active : (s : EngineState) (txn : ℕ) → ActiveIn s txn → IsActive s.log txn (last_lsn s.log txn)
 is_active s txn active = record {
@@ -64,14 +65,14 @@ commit_follows s txn active = is_active s txn active
 abort_follows : (s : EngineState) (txn : ℕ) → ActiveIn s txn → MayFollow s.log (abort_record s txn)
 abort_follows s txn active = is_active s txn active
 
-comp_follows : (s : EngineState) (txn : ℕ) (p : PendingChange) → RollsIn s txn → last_of (pending s.log txn) ≡ Some p
-    → MayFollow s.log (comp_record s txn p)
-comp_follows s txn p rolls last =
-    (goes_on s txn rolls, rw last (record { next = refl; same_page = refl; same_slot = refl; undoes = refl }))
+comp_follows : (s : EngineState) (txn : ℕ) (p : PendingChange) → is_open s.log txn ≡ true
+    → last_of (pending s.log txn) ≡ Some p → MayFollow s.log (comp_record s txn p)
+comp_follows s txn p still_open last =
+    (goes_on s txn still_open, rw last (record { next = refl; same_page = refl; same_slot = refl; undoes = refl }))
 
 end_follows : (s : EngineState) (txn : ℕ) → RollsIn s txn → last_of (pending s.log txn) ≡ None
     → MayFollow s.log (end_record s txn)
-end_follows s txn rolls none = (goes_on s txn rolls, none_last (pending s.log txn) none)
+end_follows s txn rolls none = (goes_on s txn rolls.still_open, none_last (pending s.log txn) none)
 
 -- what holds of the record of an undo: it is a Comp, or an End
 pub undo_has : (P : Record → Type 0) (s : EngineState) (txn : ℕ) (r : Record)
@@ -139,7 +140,12 @@ follows s (event.Abort txn) r fit none made =
     subst (MayFollow s.log) (same_Some _ _ made) (abort_follows s txn (active_passes s txn none))
 follows s (event.UndoStep txn) r fit none made =
     let rolls = undo_passes s txn none in
-    undo_has (MayFollow s.log) s txn r made (λ p last. comp_follows s txn p rolls last) (end_follows s txn rolls)
+    undo_has (MayFollow s.log) s txn r made (λ p last. comp_follows s txn p rolls.still_open last)
+    (end_follows s txn rolls)
+follows s (event.Savepoint txn) r fit none made = absurd (cc)
+follows s (event.UndoTo txn at) r fit none made =
+    let still_open = (back_passes s txn at none).still_open in
+    back_record_has (MayFollow s.log) s txn at r made (λ p last. comp_follows s txn p still_open last)
 follows s event.Force r fit none made = absurd (cc)
 follows s (event.WriteBegin page) r fit none made = absurd (cc)
 follows s (event.WriteEnd page) r fit none made = absurd (cc)

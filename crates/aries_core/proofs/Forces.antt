@@ -21,6 +21,7 @@ use Rattle.aries_core.specs.EngineState.{page_now, with_page}
 use Rattle.aries_core.specs.Step.{Fails, ForcedPart, Step}
 use Rattle.aries_core.proofs.Gathers.{ckpt_end_has, closed_part, gather_has}
 use Rattle.aries_core.proofs.Steps.{stored_or_not}
+use Rattle.aries_core.proofs.StepsBack.{back_has}
 
 -- the forced end is the LSN of a record, or of the log's end
 abbrev pub EndsAtRecord : EngineState → Type 0
@@ -127,6 +128,9 @@ effect_forces old (event.Repair copy page) ends =
 effect_forces old (event.Commit txn) ends = commit_forces old txn ends
 effect_forces old (event.Abort txn) ends = appended_forces old _ ends
 effect_forces old (event.UndoStep txn) ends = undo_forces old txn (last_of (pending old.log txn)) refl ends
+effect_forces old (event.Savepoint txn) ends = same_forces old ends
+effect_forces old (event.UndoTo txn at) ends =
+    back_has (Forces old) old txn at (same_forces old ends) (λ p. fetched_forces old p.page _ ends)
 effect_forces old event.Force ends = all_forces old ends
 effect_forces old (event.WriteBegin page) ends =
     let through = through_forces old (page_now old page).lsn ends in

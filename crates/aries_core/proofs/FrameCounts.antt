@@ -14,6 +14,7 @@ use Rattle.aries_core.specs.Run.{Run}
 use Rattle.aries_core.specs.Step.{Fails, Step}
 use Rattle.aries_core.proofs.Gathers.{ckpt_end_has, closed_part, gather_has}
 use Rattle.aries_core.proofs.Steps.{stored_or_not}
+use Rattle.aries_core.proofs.StepsBack.{back_has}
 
 same : (old new state : EngineState) → new ≡ state → state.frames ≡ old.frames → new.frames ≡ old.frames
 same old new state is frames = ap (λ (s : EngineState). s.frames) is ∙ frames
@@ -30,6 +31,7 @@ end_keeps old page (Some image) o = rw o refl
 
 effect_keeps : (old : EngineState) (event : Event) → (effect old event).state.frames ≡ old.frames
 effect_keeps old (event.UndoStep txn) = undo_keeps old txn _ refl
+effect_keeps old (event.UndoTo txn at) = back_has (λ s. s.frames ≡ old.frames) old txn at refl (λ p. refl)
 effect_keeps old (event.WriteEnd page) = end_keeps old page _ refl
 effect_keeps old event.CkptGather = gather_has (λ s. s.frames ≡ old.frames) old refl (λ left. refl) (λ r left. refl)
 effect_keeps old event.CkptEnd = ckpt_end_has (λ s. s.frames ≡ old.frames) old refl (λ c. refl)

@@ -27,9 +27,11 @@ pub mod Refusals
 pub mod Repairs
 pub mod Residents
 pub mod Retires
+pub mod Returned
 pub mod Rooms
 pub mod Runs
 pub mod Stands
 pub mod Steps
+pub mod StepsBack
 pub mod WriteCalls
 pub mod Writes

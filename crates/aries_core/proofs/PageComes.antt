@@ -29,7 +29,7 @@ use Rattle.aries_core.specs.declared.event.Event.TheVariants as event
 use Rattle.aries_core.specs.declared.refusal.Refusal.{Refusal}
 use Rattle.page_core.specs.declared.change.ChangeKind.TheVariants as kind
 use Rattle.aries_core.specs.EngineState.{AreImages, EngineState, IsFit, comp_record, end, image_of, log_of}
-use Rattle.aries_core.specs.EngineState.{page_needed, page_now, rec_lsn_of, stored_page, with_page}
+use Rattle.aries_core.specs.EngineState.{page_needed, page_now, rec_lsn_of, stored_page, taken_back, with_page}
 use Rattle.aries_core.specs.Refusal.{refusal}
 use Rattle.aries_core.specs.Step.{Step}
 use Rattle.aries_core.proofs.PageLaws.{clean_is_stored}
@@ -127,6 +127,14 @@ needed_within s (event.UndoStep txn) fit none = by_last (last_of (pending s.log 
     by_last (Some p) e =
         let r = comp_record s txn p in
         change_within s.pages r (stands s (event.UndoStep txn) r fit tt none (rw e refl)).within
+needed_within s (event.UndoTo txn at) fit none = by_taken (taken_back s txn at) refl
+  where
+    by_taken : (o : Option PendingChange) → taken_back s txn at ≡ o
+        → IfSome (option_map (λ p. p.page) o) (λ p. p < s.pages)
+    by_taken None e = tt
+    by_taken (Some p) e =
+        let r = comp_record s txn p in
+        change_within s.pages r (stands s (event.UndoTo txn at) r fit tt none (rw e refl)).within
 needed_within s other fit none = tt
 
 -- the engine with it is fit

@@ -20,6 +20,7 @@ use Rattle.aries_core.specs.Written.{with_write, written_from}
 use Rattle.aries_core.proofs.Gathers.{ckpt_end_has, closed_part, gather_has}
 use Rattle.aries_core.proofs.Refusals.{write_end_passes}
 use Rattle.aries_core.proofs.Steps.{stored_or_not}
+use Rattle.aries_core.proofs.StepsBack.{back_has}
 
 -- ---- the pages of a fit engine
 
@@ -82,6 +83,9 @@ answered old (event.Repair copy page) answer new none given is =
 answered old (event.Commit txn) answer new none given is = same_written old new _ is refl
 answered old (event.Abort txn) answer new none given is = same_written old new _ is refl
 answered old (event.UndoStep txn) answer new none given is = undo_written old txn new _ refl is
+answered old (event.Savepoint txn) answer new none given is = same_written old new _ is refl
+answered old (event.UndoTo txn at) answer new none given is =
+    same_written old new _ is (back_has (λ s. s.written ≡ old.written) old txn at refl (λ p. refl))
 answered old event.Force answer new none given is = same_written old new _ is refl
 answered old (event.WriteBegin page) answer new none given is = same_written old new _ is refl
 answered old (event.WriteEnd page) answer new none given is = ended_written old page answer new none given is

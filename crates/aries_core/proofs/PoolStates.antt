@@ -20,6 +20,7 @@ use Rattle.aries_core.specs.EngineState.{new_state, rec_lsn_of, stored_page, wit
 use Rattle.buffer_pool.specs.Frames.{fetched, is_resident}
 use Rattle.page_core.specs.Volume.{formatted_pages}
 use Rattle.aries_core.specs.Refusal.{refusal}
+use Rattle.txn_table.specs.declared.returns.Return.{Return}
 
 -- ---- refusals
 
@@ -116,11 +117,12 @@ map-replicate f zero x = refl
 map-replicate f (suc n) x = ap (λ ys. f x ∷ ys) (map-replicate f n x)
 
 pub new_is : {S D : Type 0} (stored : S → List Page) (it : WrittenLog D) (pool : PoolView S) (store : S) (n frames : ℕ)
-    (copies : List CopyState) → copies ≡ [] → it.log ≡ record { pages = n; records = [] } → it.forced_end ≡ 64
+    (copies : List CopyState) (returns : List Return) → copies ≡ [] → it.log ≡ record { pages = n; records = [] }
+    → it.forced_end ≡ 64
     → pool ≡ new_pool store n frames → stored store ≡ formatted_pages n
-    → (engine_view stored it pool (record { master = None; session = None; copies = copies })).state
+    → (engine_view stored it pool (record { master = None; session = None; copies = copies; returns = returns })).state
     ≡ new_state n frames
-new_is {S = S} stored it pool store n frames copies none log forced is formatted =
+new_is {S = S} stored it pool store n frames copies returns none log forced is formatted =
     let written : written_of pool.states ≡ replicate n 0 =
     ap (λ (v : PoolView S). written_of v.states) is ∙ map-replicate (λ s. s.written) n unwritten in
     let writing : writing_of pool.states ≡ replicate n None =

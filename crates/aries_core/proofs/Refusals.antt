@@ -14,6 +14,7 @@ use Rattle.page_core.specs.declared.page.TheConstants.{SLOTS}
 use Rattle.log_records.specs.declared.limits.TheConstants.{MAX_OPEN, MAX_RECORDS}
 use Rattle.log_records.specs.declared.record.Record.{Record}
 use Rattle.log_history.specs.Checkpoint.{Checkpoint, open_checkpoint}
+use Rattle.log_history.specs.Savepoints.{savepoint}
 use Rattle.log_history.specs.Transactions.{holder, is_open, is_rolling, last_of, open_in, owed, pending}
 use Rattle.log_history.specs.declared.pending_change.PendingChange.{PendingChange}
 use Rattle.fuzzy_ckpt.specs.declared.point.Point.{Point}
@@ -30,8 +31,8 @@ use Rattle.aries_core.specs.declared.refusal.Refusal.{Refusal}
 use Rattle.aries_core.specs.declared.refusal.Refusal.TheVariants.{CkptOpen, CommitUnsure, GatherLeft, LogFull, NoCkpt}
 use Rattle.aries_core.specs.declared.refusal.Refusal.TheVariants.{NoMaster, NoTxn, PageDecided, NoWrite, NotDirty}
 use Rattle.aries_core.specs.declared.refusal.Refusal.TheVariants.{NotRolling, PageOut, SlotBusy, SlotOut, TooManyTxns}
-use Rattle.aries_core.specs.declared.refusal.Refusal.TheVariants.{PoolFull, TxnRolling, WriteBegun}
-use Rattle.aries_core.specs.EngineState.{EngineState, gathered_record, image_of, page_needed, rec_lsn_of}
+use Rattle.aries_core.specs.declared.refusal.Refusal.TheVariants.{NoSavepoint, PoolFull, TxnRolling, WriteBegun}
+use Rattle.aries_core.specs.EngineState.{EngineState, gathered_record, image_of, page_needed, rec_lsn_of, taken_back}
 use Rattle.aries_core.specs.Gather.{Left, is_done, none_left, pages_left, txns_left}
 use Rattle.aries_core.specs.Refusal.{active_refusal, change_refusal, ckpt_refusal, copy_refusal, of_vault, has_no_room}
 use Rattle.aries_core.specs.Refusal.{frame_refusal, or_else, page_refusal, refused_if, refusal, rolling_refusal}
@@ -138,6 +139,15 @@ needed_passes s (event.UndoStep txn) none =
         → IfSome (option_map (λ p. p.page) o) (λ p. frame_refusal s p ≡ None)
     by_last None none = tt
     by_last (Some p) none = none
+needed_passes s (event.UndoTo txn at) none =
+    by_taken (taken_back s txn at)
+    (none_of_both (refused_if (is_none (savepoint s.log txn at)) NoSavepoint) _
+    (none_of_both (active_refusal s txn) _ none).1).1
+  where
+    by_taken : (o : Option PendingChange) → option_map_or (λ p. frame_refusal s p.page) o None ≡ None
+        → IfSome (option_map (λ p. p.page) o) (λ p. frame_refusal s p ≡ None)
+    by_taken None none = tt
+    by_taken (Some p) none = none
 needed_passes s other none = tt
 
 pub undo_passes : (s : EngineState) (txn : ℕ) → refusal s (event.UndoStep txn) ≡ None → RollsIn s txn
@@ -145,6 +155,9 @@ undo_passes s txn none =
     let rolls = none_of_both (rolling_refusal s txn) _ none in
     let both = none_of_both _ _ rolls.0 in
     record { still_open = not-false _ (not_refused _ _ both.0); rolling = not-false _ (not_refused _ _ both.1) }
+
+pub back_passes : (s : EngineState) (txn at : ℕ) → refusal s (event.UndoTo txn at) ≡ None → ActiveIn s txn
+back_passes s txn at none = active_passes s txn (none_of_both (active_refusal s txn) _ none).0
 
 -- ---- a Commit is not refused as unsure
 
@@ -240,6 +253,18 @@ undo_not_full s txn full =
     by_last : (o : Option PendingChange) → option_map_or (λ p. frame_refusal s p.page) o None ≡ Some LogFull → ⊥
     by_last None e = (cc)
     by_last (Some p) e = frame_not_full s p.page e
+
+pub back_not_full : (s : EngineState) (txn at : ℕ) → refusal s (event.UndoTo txn at) ≡ Some LogFull → ⊥
+back_not_full s txn at full =
+    let known = second_of_both (active_refusal s txn) _ LogFull
+    (not_of_both _ _ NoTxn TxnRolling LogFull (λ same. (cc)) (λ same. (cc))) full in
+    let frame = second_of_both (refused_if (is_none (savepoint s.log txn at)) NoSavepoint) _ LogFull
+    (not_of_one _ NoSavepoint LogFull (λ same. (cc))) known.1 in
+    by_taken (taken_back s txn at) frame.1
+  where
+    by_taken : (o : Option PendingChange) → option_map_or (λ p. frame_refusal s p.page) o None ≡ Some LogFull → ⊥
+    by_taken None e = (cc)
+    by_taken (Some p) e = frame_not_full s p.page e
 
 pub write_begin_not_full : (s : EngineState) (page : ℕ) → refusal s (event.WriteBegin page) ≡ Some LogFull → ⊥
 write_begin_not_full s page full =

@@ -27,9 +27,10 @@ use Rattle.aries_core.proofs.Gathers.{was_done}
 use Rattle.aries_core.proofs.Refusals.{GatherIsFull, HasRoom, ckpt_begin_full, ckpt_end_full, gather_full}
 use Rattle.aries_core.proofs.Refusals.{active_not_full, begin_full, begin_passes, change_full, change_passes}
 use Rattle.aries_core.proofs.Refusals.{copy_not_full, ckpt_begin_passes, ckpt_end_passes, gather_passes, read_not_full}
-use Rattle.aries_core.proofs.Refusals.{undo_not_full, write_begin_not_full, write_end_not_full}
+use Rattle.aries_core.proofs.Refusals.{back_not_full, undo_not_full, write_begin_not_full, write_end_not_full}
 use Rattle.aries_core.specs.Call.{record_for}
 use Rattle.aries_core.proofs.Steps.{stays_or_grows}
+use Rattle.aries_core.proofs.StepsBack.{back_record_has}
 
 -- ---- an accepted call
 
@@ -64,6 +65,9 @@ grows_within s (event.Abort txn) r fit none made =
     subst (λ (q : Record). HasRoom s (needs q)) (same_Some _ _ made) (room_now s fit)
 grows_within s (event.UndoStep txn) r fit none made =
     undo_has (λ (q : Record). HasRoom s (needs q)) s txn r made (λ p last. room_now s fit) (λ last. room_now s fit)
+grows_within s (event.Savepoint txn) r fit none made = absurd (cc)
+grows_within s (event.UndoTo txn at) r fit none made =
+    back_record_has (λ (q : Record). HasRoom s (needs q)) s txn at r made (λ p last. room_now s fit)
 grows_within s event.Force r fit none made = absurd (cc)
 grows_within s (event.WriteBegin page) r fit none made = absurd (cc)
 grows_within s (event.WriteEnd page) r fit none made = absurd (cc)
@@ -156,6 +160,8 @@ past_if_full s (event.Repair copy page) fit full = absurd (copy_not_full s (even
 past_if_full s (event.Commit txn) fit full = absurd (active_not_full s txn full)
 past_if_full s (event.Abort txn) fit full = absurd (active_not_full s txn full)
 past_if_full s (event.UndoStep txn) fit full = absurd (undo_not_full s txn full)
+past_if_full s (event.Savepoint txn) fit full = absurd (active_not_full s txn full)
+past_if_full s (event.UndoTo txn at) fit full = absurd (back_not_full s txn at full)
 past_if_full s event.Force fit full = absurd (cc)
 past_if_full s (event.WriteBegin page) fit full = absurd (write_begin_not_full s page full)
 past_if_full s (event.WriteEnd page) fit full = absurd (write_end_not_full s page full)

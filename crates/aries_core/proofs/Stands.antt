@@ -27,8 +27,9 @@ use Rattle.log_history.proofs.AtEnd.{lsn_is_lsn, open_is_txn, undo_fits, undo_ha
 use Rattle.aries_core.proofs.GatherSteps.{end_ckpt_stands, pages_stand, txn_stand}
 use Rattle.aries_core.proofs.Numbers.{number_fits}
 use Rattle.aries_core.proofs.Refusals.{ChangePasses, active_passes, change_passes, ckpt_end_passes, gather_passes}
-use Rattle.aries_core.proofs.Refusals.{undo_passes}
+use Rattle.aries_core.proofs.Refusals.{back_passes, undo_passes}
 use Rattle.aries_core.specs.Call.{record_for}
+use Rattle.aries_core.proofs.StepsBack.{back_record_has}
 
 abbrev pub StandsAtEnd : EngineState → Record → Type 0
 StandsAtEnd s r = StandsAt s.pages (end s) r
@@ -151,6 +152,10 @@ stands s (event.UndoStep txn) r fit fits none made =
     let still_open = (undo_passes s txn none).still_open in
     undo_has (StandsAtEnd s) s txn r made (λ p last. comp_stands s txn p fit still_open last)
     (λ no_more. end_stands s txn fit still_open)
+stands s (event.Savepoint txn) r fit fits none made = absurd (cc)
+stands s (event.UndoTo txn at) r fit fits none made =
+    let still_open = (back_passes s txn at none).still_open in
+    back_record_has (StandsAtEnd s) s txn at r made (λ p last. comp_stands s txn p fit still_open last)
 stands s event.Force r fit fits none made = absurd (cc)
 stands s (event.WriteBegin page) r fit fits none made = absurd (cc)
 stands s (event.WriteEnd page) r fit fits none made = absurd (cc)

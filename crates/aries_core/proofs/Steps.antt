@@ -18,12 +18,12 @@ use Rattle.aries_core.specs.declared.refusal.Refusal.{Refusal}
 use Rattle.aries_core.specs.declared.refusal.Refusal.TheVariants.{OutOfMemory, StoreFault, LogFault, CommitUnsure}
 use Rattle.aries_core.specs.Accepted.{shown_call}
 use Rattle.aries_core.specs.EngineState.{EngineState, appended, comp_record, effect, end_ckpt_record, end_record}
-use Rattle.aries_core.specs.EngineState.{ended_write, image_of, page_needed, with_page, with_stored}
+use Rattle.aries_core.specs.EngineState.{ended_write, image_of, page_needed, taken_back, with_page, with_stored}
 use Rattle.aries_core.specs.Refusal.{refusal}
 use Rattle.aries_core.specs.Step.{Fails, MayBeStored, Step}
 use Rattle.aries_core.proofs.Gathers.{PassesPages, PassesTxns, TakesPages, TakesTxn, WasDone, ckpt_end_is, closed_part}
 use Rattle.aries_core.proofs.Gathers.{gather_case, passes_pages, passes_txns, takes_pages, takes_txn, was_done}
-use Rattle.aries_core.proofs.Refusals.{ckpt_end_passes, commit_not_unsure, gather_passes, undo_passes}
+use Rattle.aries_core.proofs.Refusals.{back_passes, ckpt_end_passes, commit_not_unsure, gather_passes, undo_passes}
 
 -- the state whose log and pages an answered call changes: that with the page which it needs in memory
 abbrev pub start : EngineState → Event → Result Answer Refusal → EngineState
@@ -92,6 +92,21 @@ undo_grows old txn answer new (Some p) o none is =
     grows old (event.UndoStep txn) (Ok answer) new (appended (with_page old p.page) r) r
     (rw o at is) none (rw o refl) refl refl (rw o refl) (rw o refl)
     (ap (λ b. Some (cond b (UndoCall txn) (UndoToCall txn))) (sym (undo_passes old txn none).rolling))
+
+-- a step back to a savepoint appends the Comp that it makes, or nothing
+back_stays_or_grows : (old : EngineState) (txn at : ℕ) (answer : Answer) (new : EngineState) (o : Option PendingChange)
+    → taken_back old txn at ≡ o → refusal old (event.UndoTo txn at) ≡ None
+    → answer ≡ (effect old (event.UndoTo txn at)).answer → new ≡ (effect old (event.UndoTo txn at)).state
+    → Stays old (event.UndoTo txn at) (Ok answer) new ⊎ Grows old (event.UndoTo txn at) (Ok answer) new
+back_stays_or_grows old txn at answer new None o none given is =
+    inl (stays old (event.UndoTo txn at) (Ok answer) new old (rw o at is) refl refl (rw o refl)
+    (ap (λ (a : Answer). shown_call (event.UndoTo txn at) (Ok a)) (rw o at given)))
+back_stays_or_grows old txn at answer new (Some p) o none given is =
+    let r = comp_record old txn p in
+    inr (grows old (event.UndoTo txn at) (Ok answer) new (appended (with_page old p.page) r) r
+    (rw o at is) none (rw o refl) refl refl (rw o refl) (rw o refl)
+    (ap (λ (a : Answer). shown_call (event.UndoTo txn at) (Ok a)) (rw o at given)
+    ∙ ap (λ b. Some (cond b (UndoCall txn) (UndoToCall txn))) (sym (back_passes old txn at none).active)))
 
 -- the end of a write leaves the log
 write_end_stays : (old : EngineState) (page : ℕ) (answer : Answer) (new : EngineState) (o : Option Page)
@@ -185,6 +200,10 @@ answered old (event.Commit txn) answer new none given is =
 answered old (event.Abort txn) answer new none given is =
     inr (grows old (event.Abort txn) (Ok answer) new _ _ is none refl refl refl refl tt refl)
 answered old (event.UndoStep txn) answer new none given is = inr (undo_grows old txn answer new _ refl none is)
+answered old (event.Savepoint txn) answer new none given is =
+    inl (stays old (event.Savepoint txn) (Ok answer) new _ is refl refl refl refl)
+answered old (event.UndoTo txn at) answer new none given is =
+    back_stays_or_grows old txn at answer new _ refl none given is
 answered old event.Force answer new none given is = inl (stays old event.Force (Ok answer) new _ is refl refl refl refl)
 answered old (event.WriteBegin page) answer new none given is =
     inl (stays old (event.WriteBegin page) (Ok answer) new _ is refl refl refl refl)

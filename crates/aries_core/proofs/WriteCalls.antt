@@ -50,6 +50,7 @@ called stored it new table pool after ckpts call reply kept fits same step is = 
     table_of_log = rw same kept.table_of_log;
     pool_of_log = rw same is;
     session_of_log = rw same kept.session_of_log;
+    returns_of_log = rw same kept.returns_of_log;
   };
 }
 
@@ -92,6 +93,7 @@ force_kept stored it new table pool ckpts kept same no_less ends =
       table_of_log = rw same kept.table_of_log;
       pool_of_log = rw same kept.pool_of_log;
       session_of_log = rw same kept.session_of_log;
+      returns_of_log = rw same kept.returns_of_log;
     }
   where
     image_below : (o : Option Page) → IfSome o (λ image. image.lsn < it.forced_end)

@@ -29,6 +29,7 @@ use Rattle.aries_core.specs.Step.{Fails, Step}
 use Rattle.aries_core.proofs.Gathers.{ckpt_end_has, closed_part, gather_has}
 use Rattle.aries_core.proofs.Refusals.{WriteBegins, WriteEnds, repair_passes, write_begin_passes, write_end_passes}
 use Rattle.aries_core.proofs.Steps.{stored_or_not}
+use Rattle.aries_core.proofs.StepsBack.{back_has}
 
 -- ---- the five things that a step may do to the pages
 
@@ -162,6 +163,11 @@ answered old (event.Repair copy page) new none is = repaired old copy page new n
 answered old (event.Commit txn) new none is = leaves old new _ is refl refl refl
 answered old (event.Abort txn) new none is = leaves old new _ is refl refl refl
 answered old (event.UndoStep txn) new none is = undo_leaves old txn new _ refl is
+answered old (event.Savepoint txn) new none is = leaves old new _ is refl refl refl
+answered old (event.UndoTo txn at) new none is =
+    leaves old new _ is (back_has (λ s. s.stored ≡ old.stored) old txn at refl (λ p. refl))
+    (back_has (λ s. s.written ≡ old.written) old txn at refl (λ p. refl))
+    (back_has (λ s. s.writing ≡ old.writing) old txn at refl (λ p. refl))
 answered old event.Force new none is = leaves old new _ is refl refl refl
 answered old (event.WriteBegin page) new none is = begun old page new none is
 answered old (event.WriteEnd page) new none is = ended old page new none is

@@ -2,7 +2,7 @@
 use Rattle.std.specs.Prelude.{List, [], ◌∷◌, ◌++◌, Option, Some, None, Result, Ok, Err}
 use Rattle.std.specs.Option.{option_to_list}
 use Rattle.log_history.specs.Work.{AbortCall, AddCall, BeginCall, Call, CommitCall}
-use Rattle.log_history.specs.Work.{SetCall, UndoCall}
+use Rattle.log_history.specs.Work.{SetCall, UndoCall, UndoToCall}
 use Rattle.aries_core.specs.declared.event.Answer.{Answer}
 use Rattle.aries_core.specs.declared.event.Answer.TheVariants as answer
 use Rattle.aries_core.specs.declared.event.Event.{Event}
@@ -10,7 +10,8 @@ use Rattle.aries_core.specs.declared.event.Event.TheVariants as event
 use Rattle.aries_core.specs.declared.refusal.Refusal.{Refusal}
 use Rattle.aries_core.specs.declared.refusal.Refusal.TheVariants.{CommitUnsure}
 
--- the call that an accepted event makes; a begin stands with the number that was answered
+-- the call that an accepted event makes; a begin stands with the number that was answered, and a
+-- step back to a savepoint that takes no change back is none
 abbrev pub accepted_call : Event → Answer → Option Call
 accepted_call event.Begin (answer.Began txn lsn) = Some (BeginCall txn)
 accepted_call (event.Set txn page slot number) answer = Some (SetCall txn page slot number)
@@ -18,6 +19,7 @@ accepted_call (event.Add txn page slot amount) answer = Some (AddCall txn page s
 accepted_call (event.Commit txn) answer = Some (CommitCall txn)
 accepted_call (event.Abort txn) answer = Some (AbortCall txn)
 accepted_call (event.UndoStep txn) answer = Some (UndoCall txn)
+accepted_call (event.UndoTo txn at) (answer.Undid lsn) = Some (UndoToCall txn)
 accepted_call event answer = None
 
 -- the same of any reply: a Commit that is not known to be forced stands in the log, so it counts

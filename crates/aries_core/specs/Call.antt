@@ -12,7 +12,7 @@ use Rattle.aries_core.specs.declared.event.Event.{Event}
 use Rattle.aries_core.specs.declared.event.Event.TheVariants as event
 use Rattle.aries_core.specs.EngineState.{EngineState, abort_record, commit_record, comp_record, end}
 use Rattle.aries_core.specs.EngineState.{begin_ckpt_record, end_ckpt_record, end_record}
-use Rattle.aries_core.specs.EngineState.{gathered_record, next_txn, update_record}
+use Rattle.aries_core.specs.EngineState.{gathered_record, next_txn, taken_back, update_record}
 use Rattle.aries_core.specs.EventFits.{EventFits}
 use Rattle.aries_core.specs.Refusal.{refusal}
 
@@ -33,6 +33,8 @@ record_for s (event.Commit txn) = Some (commit_record s txn)
 record_for s (event.Abort txn) = Some (abort_record s txn)
 record_for s (event.UndoStep txn) =
     Some (option_map_or (comp_record s txn) (last_of (pending s.log txn)) (end_record s txn))
+record_for s (event.Savepoint txn) = None
+record_for s (event.UndoTo txn at) = option_map (comp_record s txn) (taken_back s txn at)
 record_for s event.Force = None
 record_for s (event.WriteBegin page) = None
 record_for s (event.WriteEnd page) = None

@@ -1,9 +1,9 @@
 -- What an engine is, and what an accepted call makes of it.
-use Rattle.std.specs.Prelude.{ℕ, ◌≡◌, ◌+◌, ◌<◌, ◌≤◌, List, [], ◌∷◌, ◌++◌, length, map, max}
+use Rattle.std.specs.Prelude.{ℕ, ◌≡◌, ◌+◌, ◌<◌, ◌≤◌, List, [], ◌∷◌, ◌++◌, length, map, max, nat_lt}
 use Rattle.std.specs.Prelude.{replicate, slice_index, slice_index_or, slice_set, Option, Some}
 use Rattle.std.specs.Prelude.{IsSome, IsSomeAnd, None, IfSome, false, if◌then◌else◌}
 use Rattle.std.specs.List.{All}
-use Rattle.std.specs.Option.{option_map, option_map_or}
+use Rattle.std.specs.Option.{option_and_then, option_map, option_map_or}
 use Rattle.page_core.specs.declared.change.Change.{Change}
 use Rattle.page_core.specs.declared.change.Change.TheVariants.{Set, Add}
 use Rattle.page_core.specs.Change.{undo_of}
@@ -21,10 +21,13 @@ use Rattle.page_core.specs.declared.page.Page.{Page}
 use Rattle.log_records.specs.Image.{image, with_record}
 use Rattle.log_history.specs.Linked.{IsLinked, number_in}
 use Rattle.log_records.specs.Log.{IsLog, Log, lsn_of}
+use Rattle.log_history.specs.Savepoints.{savepoint}
 use Rattle.log_history.specs.Transactions.{begun, last_lsn, last_of, pending}
 use Rattle.log_history.specs.Table.{Table}
 use Rattle.log_store.specs.declared.master.Master.{Master}
 use Rattle.log_store.specs.WrittenLog.{WrittenLog, end_up_to}
+use Rattle.txn_table.specs.declared.returns.Return.{Return}
+use Rattle.txn_table.specs.Returns.{returns_of}
 use Rattle.txn_table.specs.TxnTable.{IsTableOf}
 use Rattle.fuzzy_ckpt.specs.declared.point.Point.{Point}
 use Rattle.fuzzy_ckpt.specs.Ckpt.{AllCover, AreCovered, CkptView, IsCkptOf, Phase}
@@ -163,12 +166,21 @@ image_of s page = slice_index_or s.writing page None
 abbrev pub rec_lsn_of : EngineState → ℕ → Option ℕ
 rec_lsn_of s page = rec_lsn s.log page (slice_index s.written page)
 
+-- the change that a step back to a savepoint takes back: the last pending one, where more are
+-- pending than were at the savepoint
+abbrev pub taken_back : EngineState → ℕ → ℕ → Option PendingChange
+taken_back s txn at =
+    option_and_then
+    (λ left. if nat_lt left (length (pending s.log txn)) then last_of (pending s.log txn) else None)
+    (savepoint s.log txn at)
+
 -- the page that a call needs in memory, if it needs one
 abbrev pub page_needed : EngineState → Event → Option ℕ
 page_needed s (event.Set txn page slot number) = Some page
 page_needed s (event.Add txn page slot amount) = Some page
 page_needed s (event.Read page slot) = Some page
 page_needed s (event.UndoStep txn) = option_map (λ p. p.page) (last_of (pending s.log txn))
+page_needed s (event.UndoTo txn at) = option_map (λ p. p.page) (taken_back s txn at)
 page_needed s other = None
 
 -- the call has to fetch a page
@@ -230,15 +242,22 @@ pub record Outcome : Type 0 where
 abbrev pub logged : EngineState → Record → Outcome
 logged s r = record { answer = answer.Logged (end s); state = appended s r }
 
+-- a pending change is taken back, on its page in memory
+abbrev pub undid : EngineState → ℕ → PendingChange → Outcome
+undid s txn p = record {
+  answer = answer.Undid (end s);
+  state = appended (with_page s p.page) (comp_record s txn p);
+}
+
 abbrev pub undo_effect : EngineState → ℕ → Outcome
 undo_effect s txn =
-    option_map_or (λ p. record {
-      answer = answer.Undid (end s);
-      state =
-          appended (with_page s p.page) (comp_record s txn p);
-    })
-    (last_of (pending s.log txn))
+    option_map_or (undid s txn) (last_of (pending s.log txn))
     (record { answer = answer.Ended (end s); state = appended s (end_record s txn) })
+
+abbrev pub back_effect : EngineState → ℕ → ℕ → Outcome
+back_effect s txn at =
+    option_map_or (undid s txn) (taken_back s txn at)
+    (record { answer = answer.Reached; state = s })
 
 abbrev pub write_end_effect : EngineState → ℕ → Outcome
 write_end_effect s page =
@@ -302,6 +321,11 @@ effect s (event.Commit txn) = record {
 }
 effect s (event.Abort txn) = logged s (abort_record s txn)
 effect s (event.UndoStep txn) = undo_effect s txn
+effect s (event.Savepoint txn) = record {
+  answer = answer.Saved (last_lsn s.log txn);
+  state = s;
+}
+effect s (event.UndoTo txn at) = back_effect s txn at
 effect s event.Force = record { answer = answer.Forced (end s); state = forced_to s (end s) }
 effect s (event.WriteBegin page) = record {
   answer = answer.Writing (page_now s page).lsn;
@@ -404,11 +428,13 @@ pub record EngineView (S D : Type 0) : Type 0 where
   pub store : S
   pub device : D
 
--- the last complete checkpoint, the session of the open one, and the image copies
+-- what an engine keeps beside its log, its table and its pool: the last complete checkpoint, the
+-- session of the open one, the image copies, and the Comps that go back to savepoints
 pub record MediaView : Type 0 where
   pub master : Option Point
   pub session : Option (CkptView Phase)
   pub copies : List CopyState
+  pub returns : List Return
 
 -- what an engine is, by the log that it writes, the pool of its pages, its checkpoints and copies
 abbrev pub engine_view : {S D : Type 0} → (S → List Page) → WrittenLog D → PoolView S
@@ -431,11 +457,12 @@ engine_view stored it pool ckpts = record {
   device = it.device;
 }
 
--- the engine is fit, and its transaction table, its pool and the session of its checkpoint are
--- those of its log
+-- the engine is fit, and its transaction table, its pool, the session of its checkpoint and its
+-- Comps that go back to savepoints are those of its log
 pub record IsKept {S : Type 0} (stored : S → List Page) (s : EngineState) (table : Table)
     (pool : PoolView S) (ckpts : MediaView) : Type 0 where
   pub fit : IsFit s
   pub table_of_log : IsTableOf s.log table
   pub pool_of_log : IsPoolOf stored (log_of s) pool
   pub session_of_log : ckpts.session ≡ option_map (session_of s.left) (open_checkpoint s.log)
+  pub returns_of_log : ckpts.returns ≡ returns_of s.log

@@ -12,6 +12,7 @@ use Rattle.page_core.specs.declared.fault_name.FaultName.TheVariants as name
 use Rattle.page_core.specs.declared.page.TheConstants.{SLOTS}
 use Rattle.log_records.specs.declared.limits.TheConstants.{MAX_OPEN, MAX_RECORDS}
 use Rattle.log_history.specs.Checkpoint.{open_checkpoint}
+use Rattle.log_history.specs.Savepoints.{savepoint}
 use Rattle.log_history.specs.Transactions.{holder, is_open, is_rolling, last_of, open_in, owed}
 use Rattle.log_history.specs.Transactions.{pending}
 use Rattle.buffer_pool.specs.Frames.{is_full, is_resident}
@@ -19,7 +20,8 @@ use Rattle.buffer_pool.specs.Pool.{is_clean}
 use Rattle.copy_vault.specs.declared.fault.CopyFault.{CopyFault}
 use Rattle.copy_vault.specs.declared.fault.CopyFault.TheVariants as fault
 use Rattle.copy_vault.specs.Copy.{decision_at, is_undecided}
-use Rattle.copy_vault.specs.Vault.{CopyState, complete, complete_refusal, drop_refusal, dropped, inc_refusal}
+use Rattle.copy_vault.specs.Vault.{CopyState, complete, complete_refusal, drop_refusal, dropped}
+use Rattle.copy_vault.specs.Vault.{inc_refusal}
 use Rattle.copy_vault.specs.Vault.{open_refusal, reading, seal_refusal, state_of}
 use Rattle.aries_core.specs.declared.event.Event.{Event}
 use Rattle.aries_core.specs.declared.event.Event.TheVariants as event
@@ -34,9 +36,11 @@ use Rattle.aries_core.specs.declared.refusal.Refusal.TheVariants.{CopyNotComplet
 use Rattle.aries_core.specs.declared.refusal.Refusal.TheVariants.{PagesLeft, TooManyCopies}
 use Rattle.aries_core.specs.declared.refusal.Refusal.TheVariants.{StoreFault, LogFault}
 use Rattle.aries_core.specs.declared.refusal.Refusal.TheVariants.{CommitUnsure, PoolFull}
+use Rattle.aries_core.specs.declared.refusal.Refusal.TheVariants.{NoSavepoint}
 use Rattle.aries_core.specs.declared.setup.PlayFault.{PlayFault}
 use Rattle.aries_core.specs.declared.setup.PlayFault.TheVariants as play
 use Rattle.aries_core.specs.EngineState.{EngineState, gathered_record, image_of, rec_lsn_of}
+use Rattle.aries_core.specs.EngineState.{taken_back}
 use Rattle.aries_core.specs.Gather.{is_done}
 
 -- the first refusal that is there
@@ -71,7 +75,8 @@ rolling_refusal s txn =
 -- of a call that needs a page in memory: it has to come in, and no frame can be had for it
 abbrev pub frame_refusal : EngineState → ℕ → Option Refusal
 frame_refusal s page =
-    refused_if (not (is_resident s.resident page) && is_full s.frames (is_clean s.log s.written) s.resident)
+    refused_if (not (is_resident s.resident page)
+    && is_full s.frames (is_clean s.log s.written) s.resident)
     PoolFull
 
 -- of a change: an Update owes its own compensation, so it takes room for two records
@@ -106,8 +111,8 @@ has_decided (complete copy) page = true
 has_decided dropped page = true
 
 -- the refusal that needs neither memory nor a device, in the order of the checks; a Begin owes two
--- more records, a step of a gather that appends nothing needs no room, and a step of a rollback
--- that has nothing left to undo needs no page
+-- more records, a step of a gather that appends nothing needs no room, and a step back that has
+-- nothing left to undo needs no page
 abbrev pub refusal : EngineState → Event → Option Refusal
 refusal s event.Begin =
     or_else (refused_if (nat_le MAX_OPEN (length (open_in s.log))) TooManyTxns)
@@ -120,6 +125,11 @@ refusal s (event.Abort txn) = active_refusal s txn
 refusal s (event.UndoStep txn) =
     or_else (rolling_refusal s txn)
     (option_map_or (λ p. frame_refusal s p.page) (last_of (pending s.log txn)) None)
+refusal s (event.Savepoint txn) = active_refusal s txn
+refusal s (event.UndoTo txn at) =
+    or_else (active_refusal s txn)
+    (or_else (refused_if (is_none (savepoint s.log txn at)) NoSavepoint)
+    (option_map_or (λ p. frame_refusal s p.page) (taken_back s txn at) None))
 refusal s event.Force = None
 refusal s (event.WriteBegin page) =
     or_else (refused_if (nat_le s.pages page) PageOut)
@@ -184,6 +194,7 @@ line_of StoreFault = fault_line name.StoreFault
 line_of LogFault = fault_line name.LogFault
 line_of PoolFull = fault_line name.PoolFull
 line_of TooManyCopies = fault_line name.TooManyCopies
+line_of NoSavepoint = fault_line name.NoSavepoint
 line_of (CommitUnsure lsn) = fault_line_with name.CommitUnsure lsn
 
 -- what is printed where an engine cannot be made

@@ -12,6 +12,8 @@ use Rattle.aries_core.specs.declared.event.Event.{Event}
 use Rattle.aries_core.specs.declared.event.Event.TheVariants as event
 use Rattle.aries_core.specs.declared.event.Gathered.{Gathered}
 use Rattle.aries_core.specs.declared.event.Gathered.TheVariants as gathered
+use Rattle.aries_core.specs.declared.event.SteppedBack.{SteppedBack}
+use Rattle.aries_core.specs.declared.event.SteppedBack.TheVariants as stepped
 use Rattle.aries_core.specs.declared.event.Took.{Took}
 use Rattle.aries_core.specs.declared.event.Took.TheVariants as took
 use Rattle.aries_core.specs.declared.event.Undone.{Undone}
@@ -22,7 +24,7 @@ use Rattle.aries_core.specs.declared.refusal.Refusal.TheVariants.{OutOfMemory, S
 use Rattle.aries_core.specs.EngineState.{EngineState, EngineView, appended, closed, commit_record}
 use Rattle.aries_core.specs.EngineState.{Fetches, effect, end}
 use Rattle.aries_core.specs.EngineState.{forced_to, gathered_record, image_of, log_of, page_now}
-use Rattle.aries_core.specs.EngineState.{with_stored}
+use Rattle.aries_core.specs.EngineState.{taken_back, with_stored}
 use Rattle.aries_core.specs.Refusal.{refusal}
 use Rattle.aries_core.specs.Repair.{MayBeRepaired}
 
@@ -54,10 +56,12 @@ abbrev pub MayBeStored : ℕ → EngineState → EngineState → Type 0
 MayBeStored page old new = IsSomeAnd (image_of old page)
     (λ image. (new ≡ old) ⊎ (new ≡ with_stored old page image))
 
--- a call that takes memory is refused some; a step of a gather takes it for a record alone, and a
--- read for a page that it fetches
+-- a call that takes memory is refused some; a step of a gather, or back to a savepoint, takes it
+-- for a record alone, and a read for a page that it fetches
 abbrev pub TakesMemory : EngineState → Event → Type 0
 TakesMemory s (event.Read page slot) = is_resident s.resident page ≡ false
+TakesMemory s (event.Savepoint txn) = ⊥
+TakesMemory s (event.UndoTo txn at) = IsSome (taken_back s txn at)
 TakesMemory s event.Force = ⊥
 TakesMemory s (event.WriteEnd page) = ⊥
 TakesMemory s event.CkptGather = IsSome (gathered_record s)
@@ -65,8 +69,8 @@ TakesMemory s (event.Seal copy) = ⊥
 TakesMemory s (event.DropCopy copy) = ⊥
 TakesMemory s other = Unit {0}
 
--- a page does not come into memory, nor is it changed: for want of memory, or since the store failed
--- at a page that is not there
+-- a page does not come into memory, nor is it changed: for want of memory, or since the store
+-- failed at a page that is not there
 abbrev pub FailsFetching : EngineState → ℕ → Refusal → Type 0
 FailsFetching s page OutOfMemory = Unit {0}
 FailsFetching s page StoreFault = is_resident s.resident page ≡ false
@@ -110,6 +114,11 @@ reply_of answered (Err why) = Err why
 abbrev pub undo_answer : Undone → Answer
 undo_answer (undone.Undid lsn) = answer.Undid lsn
 undo_answer (undone.Ended lsn) = answer.Ended lsn
+
+-- what a step back to a savepoint answers
+abbrev pub step_back_answer : SteppedBack → Answer
+step_back_answer (stepped.Undid lsn) = answer.Undid lsn
+step_back_answer stepped.Reached = answer.Reached
 
 -- what a step of a gather answers
 abbrev pub gather_answer : Gathered → Answer

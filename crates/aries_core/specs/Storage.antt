@@ -9,7 +9,8 @@ use Rattle.page_store.specs.Store.{ReadCall, WriteCall}
 use Rattle.aries_core.specs.declared.event.Answer.{Answer}
 use Rattle.aries_core.specs.declared.event.Event.{Event}
 use Rattle.aries_core.specs.declared.refusal.Refusal.{Refusal}
-use Rattle.aries_core.specs.declared.refusal.Refusal.TheVariants.{CommitUnsure, LogFault, StoreFault}
+use Rattle.aries_core.specs.declared.refusal.Refusal.TheVariants.{CommitUnsure, LogFault}
+use Rattle.aries_core.specs.declared.refusal.Refusal.TheVariants.{StoreFault}
 use Rattle.aries_core.specs.EngineState.{EngineView, new_state}
 use Rattle.aries_core.specs.Asked.{Asks, FailsAsking, asked}
 use Rattle.aries_core.specs.Step.{FailsForcing, Forces, IsByDevice, IsByStore, Step, TellsOfFault}
@@ -95,7 +96,8 @@ pub record PlaysOn {S D : Type 0} (on : Storage S D) (pages frames : ℕ) (store
   pub made : IsNewOn on pages frames store device first
   pub run : RunOn on first events replies last
 
--- no engine is made on this device: it was called once, for the log's header, failed, and is left so
+-- no engine is made on this device: it was called once, for the log's header, failed, and is left
+-- so
 pub record FailsAtHeader {D : Type 0} (called : StoreCall D) (failures : D → ℕ) (pages : ℕ)
     (device left : D) : Type 0 where
   pub why : DeviceFault

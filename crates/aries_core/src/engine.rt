@@ -19,11 +19,11 @@ ghost use Rattle.aries_core.specs.Refusal.{page_refusal, rolling_refusal};
 ghost use Rattle.aries_core.specs.Refusal.{refusal};
 ghost use Rattle.aries_core.specs.Step.{ForcedPart, IsAtRepair, IsByDevice, IsByStore, IsUnsure};
 ghost use Rattle.aries_core.specs.Step.{FailsForcing, Forces, LeavesDevice};
-ghost use Rattle.aries_core.specs.Step.{Step, reply_of, undo_answer};
+ghost use Rattle.aries_core.specs.Step.{Step, reply_of};
 ghost use Rattle.aries_core.specs.declared.event.Answer.TheVariants as answer;
 ghost use Rattle.aries_core.specs.declared.event.Event.TheVariants as event;
 
-use crate::event::{Answer, Event, Gathered, Reply, Took, Undone};
+use crate::event::{Answer, Event, Gathered, Reply, SteppedBack, Took, Undone};
 use crate::open_ckpt::OpenCkpt;
 use crate::refusal::Refusal;
 use crate::setup::{PlayFault, Setup};
@@ -33,11 +33,11 @@ use fuzzy_ckpt::Point;
 use log_history::{PendingChange, TxnState};
 use log_records::{MAX_OPEN, MAX_RECORDS, Record};
 use log_store::{DeviceFault, Log, LogDevice};
-use page_core::{Change, ChangeKind, Lsn, PageNo, SLOTS, SlotNo, TxnNo, undo_of};
+use page_core::{Change, ChangeKind, Lsn, PageNo, SLOTS, SlotNo, TxnNo};
 use page_store::PageStore;
 use std::alloc::Global;
 use std::marker::Model;
-use txn_table::TxnTable;
+use txn_table::{Returns, TxnTable};
 
 /// An engine for one thread, over a store of pages and a device that keeps its log. Each call is
 /// one event.
@@ -45,6 +45,8 @@ use txn_table::TxnTable;
 pub struct Engine<S: PageStore, D: LogDevice> {
     pub(crate) log: Log<D>,
     pub(crate) txns: TxnTable,
+    /// The Comps that go back to savepoints.
+    pub(crate) returns: Returns,
     pub(crate) pool: Pool<S>,
     /// The last complete checkpoint whose end is forced.
     pub(crate) master: Option<Point>,
@@ -63,13 +65,13 @@ impl<S: PageStore, D: LogDevice> Model for Engine<S, D> {
     ghost Value = { EngineView S D };
 
     ghost view = { λ it. engine_view S.stored it.log it.pool
-        (media_view it.master it.session it.vault.copies) };
+        (media_view it.master it.session it.vault.copies it.returns.made) };
 
     ghost invariant = { λ it.
         IsKept S.stored
         (engine_view S.stored it.log it.pool
-        (media_view it.master it.session it.vault.copies)).state
-        it.txns it.pool (media_view it.master it.session it.vault.copies) };
+        (media_view it.master it.session it.vault.copies it.returns.made)).state
+        it.txns it.pool (media_view it.master it.session it.vault.copies it.returns.made) };
 }
 
 impl<S: PageStore + Drop, D: LogDevice + Drop> Engine<S, D> {
@@ -111,6 +113,7 @@ impl<S: PageStore + Drop, D: LogDevice + Drop> Engine<S, D> {
             Ok(log) => Ok(Engine {
                 log,
                 txns: TxnTable::new(alloc),
+                returns: Returns::new(alloc),
                 pool,
                 master: None,
                 session: None,
@@ -176,6 +179,13 @@ impl<S: PageStore, D: LogDevice> Engine<S, D> {
                 Undone::Undid(lsn) => Answer::Undid(lsn),
                 Undone::Ended(lsn) => Answer::Ended(lsn),
             }),
+            Event::Savepoint(txn) => self.savepoint(txn).map(Answer::Saved),
+            Event::UndoTo { txn, savepoint } => {
+                self.undo_to(txn, savepoint).map(|done| match done {
+                    SteppedBack::Undid(lsn) => Answer::Undid(lsn),
+                    SteppedBack::Reached => Answer::Reached,
+                })
+            }
             Event::Force => self.force().map(Answer::Forced),
             Event::WriteBegin(page) => self.write_begin(page).map(Answer::Writing),
             Event::WriteEnd(page) => self.write_end(page).map(Answer::Written),
@@ -354,53 +364,6 @@ impl<S: PageStore, D: LogDevice> Engine<S, D> {
         Ok(lsn)
     }
 
-    /// Undoes the last pending change of a transaction that is rolling back, or ends the
-    /// transaction if none is left; answers the LSN of the Comp or End. The page of the change is
-    /// read from the store first, where it is not in memory; to end a transaction no page is
-    /// needed. Refusals in order: `NoTxn`, `NotRolling`, `PoolFull`, `OutOfMemory`, `StoreFault`.
-    pub fn undo_step(&mut self, txn: TxnNo) -> Result<Undone, Refusal>
-        ensures step { Step self.old.state (event.UndoStep txn) (reply_of undo_answer result)
-            self.new.state }
-        ensures device { self.new.device ≡ self.old.device }
-        ensures store { ¬ Fetches self.old.state (event.UndoStep txn)
-            → self.new.store ≡ self.old.store }
-        ensures asked { OnOk result (Asks S.gave S.wrote
-            (asked self.old.state (event.UndoStep txn)) self.old self.new) }
-        ensures failed { IfErr result (λ why. IsByStore why → FailsAsking S.gave S.wrote
-            (asked self.old.state (event.UndoStep txn)) self.old self.new) }
-        ensures store_refused { IfErr result (λ why. ¬ IsByStore why
-            → self.new.store ≡ self.old.store) }
-        ensures no_store_failure { OnOk result
-            (S.failures self.new.store ≡ S.failures self.old.store) }
-        ensures store_cause { IfErr result (λ why. IsByStore why
-            → S.failures self.old.store < S.failures self.new.store) }
-    {
-        let prev = self.find_rolling(txn)?;
-        let lsn = self.log.end();
-        match self.txns.last_pending(txn) {
-            Some(last) => {
-                self.find_frame(last.page)?;
-                self.append_fetching(
-                    last.page,
-                    Record::Comp {
-                        lsn,
-                        txn,
-                        prev,
-                        undo_next: last.prev,
-                        page: last.page,
-                        slot: last.slot,
-                        change: undo_of(&last.change),
-                    },
-                )?;
-                Ok(Undone::Undid(lsn))
-            }
-            None => {
-                self.append(Record::End { lsn, txn, prev })?;
-                Ok(Undone::Ended(lsn))
-            }
-        }
-    }
-
     /// Forces the whole log, and answers its forced end. `LogFault` comes where the device fails.
     pub fn force(&mut self) -> Result<Lsn, Refusal>
         ensures step { Step self.old.state event.Force (reply_of answer.Forced result)
@@ -459,7 +422,7 @@ impl<S: PageStore, D: LogDevice> Engine<S, D> {
     }
 
     /// The LSN of the last record of an active transaction.
-    fn find_active(&self, txn: TxnNo) -> Result<Lsn, Refusal>
+    pub(crate) fn find_active(&self, txn: TxnNo) -> Result<Lsn, Refusal>
         ensures refused { IfErr result (λ why. active_refusal self.now.state txn ≡ Some why) }
         ensures active { OnOk result (active_refusal self.now.state txn ≡ None) }
         ensures last { IfOk result (λ last. last ≡ last_lsn self.now.state.log txn) }
@@ -474,7 +437,7 @@ impl<S: PageStore, D: LogDevice> Engine<S, D> {
     }
 
     /// The LSN of the last record of a transaction that rolls back.
-    fn find_rolling(&self, txn: TxnNo) -> Result<Lsn, Refusal>
+    pub(crate) fn find_rolling(&self, txn: TxnNo) -> Result<Lsn, Refusal>
         ensures refused { IfErr result (λ why. rolling_refusal self.now.state txn ≡ Some why) }
         ensures rolling { OnOk result (rolling_refusal self.now.state txn ≡ None) }
         ensures last { IfOk result (λ last. last ≡ last_lsn self.now.state.log txn) }
@@ -535,10 +498,15 @@ impl<S: PageStore, D: LogDevice> Engine<S, D> {
         ensures store { self.new.store ≡ self.old.store }
         ensures device { self.new.device ≡ self.old.device }
     {
-        if self.log.make_room().is_err() || self.txns.note(&next).is_err() {
+        let back = self.txns.return_of(&next);
+        if self.log.make_room().is_err()
+            || self.returns.make_room(&back).is_err()
+            || self.txns.note(&next).is_err()
+        {
             return Err(Refusal::OutOfMemory);
         }
         self.log.append(next);
+        self.returns.add(&back);
         self.pool.change(&next);
         Ok(())
     }

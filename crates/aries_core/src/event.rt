@@ -34,6 +34,14 @@ pub enum Event {
     Abort(TxnNo),
     /// Takes the last pending change of a transaction back, or ends it where none is left.
     UndoStep(TxnNo),
+    /// Tells to where a transaction may go back.
+    Savepoint(TxnNo),
+    /// Takes the last pending change of a transaction back, or none where those are pending that
+    /// were at its savepoint. The transaction goes on.
+    UndoTo {
+        txn: TxnNo,
+        savepoint: Lsn,
+    },
     /// Forces the whole log.
     Force,
     /// Begins to write a page: keeps an image of it, and forces the log through its LSN.
@@ -79,6 +87,10 @@ pub enum Answer {
     Undid(Lsn),
     /// The LSN of the End.
     Ended(Lsn),
+    /// The LSN that names the savepoint: that of the last record of the transaction.
+    Saved(Lsn),
+    /// The pending changes are those that were pending at the savepoint.
+    Reached,
     /// The forced end of the log.
     Forced(Lsn),
     /// The LSN of the image that is being written.
@@ -112,6 +124,15 @@ pub enum Undone {
     Undid(Lsn),
     /// It ended the transaction: the LSN of the End.
     Ended(Lsn),
+}
+
+/// What a step back to a savepoint did.
+#[derive(Clone, Copy, Debug, PartialEq, Eq)]
+pub enum SteppedBack {
+    /// It took a change back: the LSN of the compensation record.
+    Undid(Lsn),
+    /// It took none back: the pending changes are those that were pending at the savepoint.
+    Reached,
 }
 
 /// What a step of a gather answers.

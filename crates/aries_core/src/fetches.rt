@@ -1,5 +1,5 @@
-//! The engine's work on a page that it may have to read from the store first. All memory that a call
-//! takes is taken before that, so a fault of the store leaves everything as it was.
+//! The engine's work on a page that it may have to read from the store first. All memory that a
+//! call takes is taken before that, so a fault of the store leaves everything as it was.
 
 ghost use Rattle.std.specs.Prelude.{◌≡◌, ◌<◌, false, IfOk, IfErr, IfSome, OnOk, OnErr, None, Some};
 ghost use Rattle.page_core.specs.declared.page.TheConstants.{SLOTS};
@@ -236,7 +236,11 @@ impl<S: PageStore, D: LogDevice> Engine<S, D> {
         if self.pool.is_resident(page) {
             return self.append(next);
         }
-        if self.log.make_room().is_err() || self.pool.make_room().is_err() {
+        let back = self.txns.return_of(&next);
+        if self.log.make_room().is_err()
+            || self.returns.make_room(&back).is_err()
+            || self.pool.make_room().is_err()
+        {
             return Err(Refusal::OutOfMemory);
         }
         if self.pool.fetch(page).is_err() {
@@ -246,6 +250,7 @@ impl<S: PageStore, D: LogDevice> Engine<S, D> {
             unreachable!();
         }
         self.log.append(next);
+        self.returns.add(&back);
         self.pool.change(&next);
         Ok(())
     }

@@ -98,7 +98,8 @@ pub fn an_answered_commit_is_forced()
 /// The record of each Commit that was answered in a run is at its LSN, and is forced. So it is in
 /// each log that a crash may leave.
 pub fn answered_commits_are_kept()
-    ensures forced { (pages frames : ℕ) (events : List Event) (replies : List (Result Answer Refusal))
+    ensures forced { (pages frames : ℕ) (events : List Event)
+        (replies : List (Result Answer Refusal))
         (new : EngineState) → Run (new_state pages frames) events replies new
         → All (λ commit. StandsIn new.log commit × (commit.lsn < new.forced_end))
         (answered_commits events replies) }

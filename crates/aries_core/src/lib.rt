@@ -16,6 +16,7 @@ mod readers;
 mod refusal;
 mod repair;
 mod retire;
+mod rollbacks;
 mod setup;
 
 pub use ckpt_laws::{
@@ -28,7 +29,7 @@ pub use copy_laws::{
     a_copy_gets_the_next_id, copies_are_refused_by_the_catalogue, the_copies_are_those_answered,
 };
 pub use engine::Engine;
-pub use event::{Answer, Event, Gathered, Reply, Took, Undone};
+pub use event::{Answer, Event, Gathered, Reply, SteppedBack, Took, Undone};
 pub use laws::{
     a_new_engine_is_fit, a_refusal_changes_nothing, an_answered_commit_is_forced,
     an_unsure_commit_ends_its_transaction, answered_commits_are_kept, engines_stay_fit,

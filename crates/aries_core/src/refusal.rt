@@ -5,7 +5,8 @@ use page_core::{FaultName, Lsn, PageNo, TxnNo};
 use std::error::Error;
 use std::fmt;
 
-/// Why a call is refused. A refusal changes nothing but what its variant says. Its text is its line.
+/// Why a call is refused. A refusal changes nothing but what its variant says. Its text is its
+/// line.
 #[derive(Clone, Copy, Debug, PartialEq, Eq)]
 pub enum Refusal {
     /// Memory ran out.
@@ -51,13 +52,16 @@ pub enum Refusal {
     PageDecided,
     /// Nothing is decided yet of this page, the least such one.
     PagesLeft(PageNo),
-    /// The page store failed. At the end of a write, the write stays in progress with its image, and
-    /// may be ended again; the old page is stored, or the image. At a repair the log is forced
+    /// The page store failed. At the end of a write, the write stays in progress with its image,
+    /// and may be ended again; the old page is stored, or the image. At a repair the log is forced
     /// through the page's LSN, the old page is stored, or the rebuilt one, and the page is as dirty
     /// as before. At a call that reads a page, nothing changed.
     StoreFault,
     /// The page has to come in, each frame is taken, and none has a clean page.
     PoolFull,
+    /// The LSN is no savepoint of the transaction: none of its records stands there, or some change
+    /// that was pending then was taken back since.
+    NoSavepoint,
     /// All 1,024 ids of copies were given, dropped ones counted.
     TooManyCopies,
     /// The log's device failed. The records that were stored before the fault count as forced.
@@ -134,6 +138,7 @@ impl Refusal {
             Refusal::LogFault => (FaultName::LogFault, None),
             Refusal::PoolFull => (FaultName::PoolFull, None),
             Refusal::TooManyCopies => (FaultName::TooManyCopies, None),
+            Refusal::NoSavepoint => (FaultName::NoSavepoint, None),
             Refusal::CommitUnsure(lsn) => (FaultName::CommitUnsure, Some(lsn.0)),
         }
     }

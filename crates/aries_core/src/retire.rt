@@ -22,6 +22,7 @@ impl<S: PageStore + Drop, D: LogDevice + Drop> Engine<S, D> {
         let Engine {
             log,
             txns: _,
+            returns: _,
             pool: _,
             master,
             session: _,

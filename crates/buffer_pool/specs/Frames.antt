@@ -35,9 +35,9 @@ with_room frames is_clean pages =
 abbrev pub fetched : ℕ → (ℕ → Bool) → List Page → Page → List Page
 fetched frames is_clean pages page = with_room frames is_clean pages ++ page ∷ []
 
--- what the frames of a pool hold: in the order of fetch a slot for each page, with holes where pages
--- were given up; how many slots are holes; the pages; for how many more slots there is room, where a
--- frame is free; and marks for the search of a clean page
+-- what the frames of a pool hold: in the order of fetch a slot for each page, with holes where
+-- pages were given up; how many slots are holes; the pages; for how many more slots there is room,
+-- where a frame is free; and marks for the search of a clean page
 pub record FramesView : Type 0 where
   pub slots : List (Option Page)
   pub holes : ℕ

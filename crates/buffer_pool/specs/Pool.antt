@@ -157,7 +157,8 @@ pub record IsWhole (stored : List Page) (states : List PageState) : Type 0 where
   pub stored_numbers : AreNumbered stored
 
 -- and the search for a clean page among the frames passes over none
-pub record IsKept (stored : List Page) (states : List PageState) (frames : FramesView) : Type 0 where
+pub record IsKept (stored : List Page) (states : List PageState) (frames : FramesView)
+    : Type 0 where
   pub whole : IsWhole stored states
   pub sought : IsSought (is_clean_in states) frames
 

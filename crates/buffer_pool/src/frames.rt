@@ -1,7 +1,8 @@
 //! The frames of a pool.
 
 ghost use Rattle.std.specs.Prelude.{ℕ, ◌≡◌, ◌≢◌, ◌<◌, ◌≤◌, ◌++◌, Bool, Option, [], ◌∷◌, None, Some};
-ghost use Rattle.std.specs.Prelude.{true, false, length, map, position, slice_index_or, slice_set, is_some};
+ghost use Rattle.std.specs.Prelude.{true, false, length, map, position, slice_index_or, slice_set};
+ghost use Rattle.std.specs.Prelude.{is_some};
 ghost use Rattle.std.specs.Prelude.{IfOk, IfSome, IsSome, OnOk};
 ghost use Rattle.std.specs.List.{Contains, list_any};
 ghost use Rattle.std.specs.Option.{option_map};

@@ -5,7 +5,8 @@ ghost use Rattle.std.specs.Prelude.{None, Some, IfSome, IsSome, MatchOption};
 ghost use Rattle.std.specs.Option.{option_copied, unwrap_or};
 ghost use Rattle.log_records.specs.Coverage.{entries_of, next_dirty};
 ghost use Rattle.buffer_pool.specs.PageStates.{AreClean, IsFirstDirty, dirty_in};
-ghost use Rattle.buffer_pool.specs.Pool.{changed, is_clean_in, state_in, unwritten, write_begun, write_ended};
+ghost use Rattle.buffer_pool.specs.Pool.{changed, is_clean_in, state_in, unwritten, write_begun};
+ghost use Rattle.buffer_pool.specs.Pool.{write_ended};
 
 use crate::page_image::PageImage;
 use crate::rec_lsns::RecLsns;

@@ -1,5 +1,6 @@
 -- Which words give which command, and why others give none.
-use Rattle.std.specs.Prelude.{◌≡◌, ◌≢◌, ◌⊎◌, ◌≤◌, ℕ, List, [], ◌∷◌, None, Option, IsSomeAnd, Some, codes}
+use Rattle.std.specs.Prelude.{◌≡◌, ◌≢◌, ◌⊎◌, ◌≤◌, ℕ, List, [], ◌∷◌, None, Option, IsSomeAnd, Some}
+use Rattle.std.specs.Prelude.{codes}
 use Rattle.std.specs.Prelude.{◌<◌, Bool, false, if◌then◌else◌, length, map, nat_eq, option_map, pos}
 use Rattle.std.specs.Prelude.{slice_get, true, unwrap_or}
 use Rattle.std.specs.List.{All, Any}
@@ -109,7 +110,8 @@ archive_rule = record (new_rule (codes "archive")) {
 -- `restore [-o FILE] LOG MASTER [ARCHIVE]...`
 abbrev pub restore_app : App
 restore_app = with_rule
-    (with_rule (with_rule (with_rule (new_app (codes "restore")) log_rule) master_rule) archive_rule)
+    (with_rule (with_rule (with_rule (new_app (codes "restore")) log_rule) master_rule)
+    archive_rule)
     output_rule
 
 abbrev pub audited_master_rule : Rule

@@ -33,8 +33,8 @@ pub enum Command<'a> {
     RedoInto {
         output: &'a str,
     },
-    /// To play the script on standard input on a volume of so many pages, with memory for so many of
-    /// them at a time, each 1 to 65,536. The log, the master record and the copies go into the
+    /// To play the script on standard input on a volume of so many pages, with memory for so many
+    /// of them at a time, each 1 to 65,536. The log, the master record and the copies go into the
     /// folder, if one is named. If it is strict, a refused call is told at the end.
     Run {
         pages: u32,

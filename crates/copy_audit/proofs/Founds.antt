@@ -60,23 +60,23 @@ content_at copies n k p page =
     ap (λ (r : List (List Page)). content_in p r (k + 1)) (row_at copies n p page) ∙ content_of_row copies p (k + 1)
 
 -- the redo points of the copies
-abbrev redo_points : List CopyView → List ℕ
+abbrev pub redo_points : List CopyView → List ℕ
 redo_points copies = map (λ c. c.redo) copies
 
 -- in rows and in the chain the same is said of a page up to a member
-to_chain : (log : Log) (copies : List CopyView) (n k p : ℕ) → k < length copies → p < n
+pub to_chain : (log : Log) (copies : List CopyView) (n k p : ℕ) → k < length copies → p < n
     → IsSoundIn log.records p (get_or (rows copies n) p []) (redo_points copies) k → IsSoundAt log copies k p
 to_chain log copies n k p member page sound =
     subst (λ (q : Page). Covers log.records p q (last_redo (chain_to copies k))) (content_at copies n k p page)
     (subst (Covers log.records p (content_in p (get_or (rows copies n) p []) (k + 1))) (point_of_member copies k member) sound)
 
-to_rows : (log : Log) (copies : List CopyView) (n k p : ℕ) → k < length copies → p < n
+pub to_rows : (log : Log) (copies : List CopyView) (n k p : ℕ) → k < length copies → p < n
     → IsSoundAt log copies k p → IsSoundIn log.records p (get_or (rows copies n) p []) (redo_points copies) k
 to_rows log copies n k p member page sound =
     subst (Covers log.records p (content_in p (get_or (rows copies n) p []) (k + 1))) (sym (point_of_member copies k member))
     (subst (λ (q : Page). Covers log.records p q (last_redo (chain_to copies k))) (sym (content_at copies n k p page)) sound)
 
-count_rows : (copies : List CopyView) (n : ℕ) → length (rows copies n) ≡ n
+pub count_rows : (copies : List CopyView) (n : ℕ) → length (rows copies n) ≡ n
 count_rows copies n = length-map-range_with_len (row copies) 0 n
 
 pub nothing_found : (log : Log) (copies : List CopyView) (points : List ℕ) (given : List (List (List Page)))
@@ -126,11 +126,11 @@ one_found log copies ids points given found of_ids of_points of_given some =
 
 -- ---- one row more
 
-old_row : (given : List (List (List Page))) (next : List (List Page)) (p : ℕ) → p < length given
+pub old_row : (given : List (List (List Page))) (next : List (List Page)) (p : ℕ) → p < length given
     → get_or given p [] ≡ get_or (given ++ next ∷ []) p []
 old_row given next p lt = sym (get_or_append_left given (next ∷ []) [] p lt)
 
-new_row : (given : List (List (List Page))) (next : List (List Page)) (p : ℕ) → length given ≡ p
+pub new_row : (given : List (List (List Page))) (next : List (List Page)) (p : ℕ) → length given ≡ p
     → next ≡ get_or (given ++ next ∷ []) p []
 new_row given next p is =
     sym (subst (λ (n : ℕ). get_or (given ++ next ∷ []) n [] ≡ next) is (get_or-append_seam given next [] []))

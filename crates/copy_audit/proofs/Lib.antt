@@ -1,4 +1,6 @@
 pub mod Audits
 pub mod Founds
 pub mod Looks
+pub mod Rowwise
+pub mod Tells
 pub mod Traces

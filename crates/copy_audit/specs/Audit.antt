@@ -21,8 +21,8 @@ pub record IsOfLog (input : Option (List ℕ)) (log : Log) : Type 0 where
   pub linked : IsLinked log.records
   pub spelled : IfSome input (SpellsLog log)
 
--- the archives' bytes spell these copies, one each, which are a chain for the log's volume as far as
--- they go, and reach no further than the log
+-- the archives' bytes spell these copies, one each, which are a chain for the log's volume as far
+-- as they go, and reach no further than the log
 pub record AreOfArchives (inputs : List (Option (List ℕ))) (log : Log) (copies : List CopyView)
     : Type 0 where
   pub spelled : SpellCopies inputs copies

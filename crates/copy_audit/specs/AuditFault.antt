@@ -9,7 +9,8 @@ use Rattle.copy_vault.specs.declared.chain_read_fault.ChainReadFault.{ChainReadF
 use Rattle.copy_vault.specs.declared.chain_read_fault.ChainReadFault.TheVariants as chain
 use Rattle.copy_audit.specs.declared.unsound.Unsound as fault
 use Rattle.copy_audit.specs.declared.unsound.Unsound.TheVariants.{OutOfMemory, BadHeader, BadRecord}
-use Rattle.copy_audit.specs.declared.unsound.Unsound.TheVariants.{Torn, ReadFault, TooLong, BadChain}
+use Rattle.copy_audit.specs.declared.unsound.Unsound.TheVariants.{Torn, ReadFault, TooLong}
+use Rattle.copy_audit.specs.declared.unsound.Unsound.TheVariants.{BadChain}
 use Rattle.copy_audit.specs.declared.unsound.Unsound.TheVariants.{BadArchive, ChainBroken}
 use Rattle.copy_audit.specs.declared.unsound.Unsound.TheVariants.{CountDiffers, RedoBeyondLog}
 use Rattle.copy_audit.specs.declared.unsound.Unsound.TheVariants.{PageBeyondLog, Unsound}

@@ -2,4 +2,5 @@ pub mod Audit
 pub mod AuditFault
 pub mod Audited
 pub mod Rows
+pub mod Told
 pub mod Trace

@@ -28,8 +28,8 @@ pub record IsFirstIn (rs : List Record) (number : ℕ) (row : List (List Page)) 
   pub before : (k : ℕ) → k < member → IsSoundIn rs number row points k
   pub here : ¬ IsSoundIn rs number row points member
 
--- in these rows it holds of all members before this one, and of this one before this page, but not of
--- this page
+-- in these rows it holds of all members before this one, and of this one before this page, but not
+-- of this page
 pub record IsLeastIn (rs : List Record) (points : List ℕ) (members : ℕ)
     (given : List (List (List Page))) (found : Found) : Type 0 where
   pub there : found.member < members

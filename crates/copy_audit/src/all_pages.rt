@@ -1,30 +1,54 @@
 //! All pages that an audit finds unsound.
 
+ghost use Rattle.std.specs.Prelude.{ℕ, ◌≡◌, ◌+◌, ◌++◌, [], ◌∷◌, List, IfErr, IfOk, OnOk, length};
+ghost use Rattle.std.specs.Prelude.{map};
+ghost use Rattle.page_core.specs.declared.page.Page.{Page};
+ghost use Rattle.log_records.specs.Log.{IsLog};
+ghost use Rattle.copy_vault.specs.ChainEach.{ids_of, place_list, points_of};
+ghost use Rattle.copy_vault.specs.ChainReading.{AreNoChain};
+ghost use Rattle.page_redo.specs.PageRecords.{numbers_on};
+ghost use Rattle.copy_audit.specs.declared.all_pages.UnsoundPage.{UnsoundPage};
+ghost use Rattle.copy_audit.specs.Audit.{end_of};
+ghost use Rattle.copy_audit.specs.Audited.{AreRefused};
+ghost use Rattle.copy_audit.specs.Told.{AreFirstOf, AreToldOf, HasTold, IsTold};
+
 use crate::chain_audit::places;
 use crate::members::first_unsound;
 use crate::unsound::Unsound;
 use copy_vault::{ChainReadFault, ChainReader, CopyId};
+use log_records::Record;
 use log_store::{LogImage, read_log};
-use page_core::{Lsn, PageNo};
+use page_core::{Lsn, Page, PageNo};
 use page_redo::by_page;
 use std::alloc::{AllocError, Global};
 use std::io::Read;
 
 /// How many unsound pages are told.
-const MOST_PAGES: usize = 1_000;
+pub const MOST_PAGES: usize = 1_000;
 
-/// Unsound pages of a chain of copies, in page order, each with the first copy up to which the chain
-/// has it so: the first 1,000 of them, and whether there are more.
+/// An unsound page, and the first copy up to which the chain has it so.
+#[derive(Clone, Copy, Debug, PartialEq, Eq)]
+pub struct UnsoundPage {
+    pub copy: CopyId,
+    pub page: PageNo,
+}
+
+/// The unsound pages of a chain of copies, in page order: the first 1,000 of them, and whether
+/// there are more.
 #[derive(Drop)]
 pub struct UnsoundPages {
-    pub pages: Vec<(CopyId, PageNo)>,
+    pub pages: Vec<UnsoundPage>,
     pub has_more: bool,
 }
 
 impl UnsoundPages {
-    fn note(&mut self, copy: CopyId, page: PageNo) -> Result<(), AllocError> {
+    /// Notes one page more.
+    fn note(&mut self, it: UnsoundPage) -> Result<(), AllocError>
+        ensures { OnOk result ((all : List UnsoundPage) → AreFirstOf all self.old
+            → AreFirstOf (all ++ it ∷ []) self.new) }
+    {
         if self.pages.len() < MOST_PAGES {
-            self.pages.push((copy, page))?;
+            self.pages.push(it)?;
         } else {
             self.has_more = true;
         }
@@ -38,16 +62,27 @@ pub fn unsound_pages<L: Read, A: Read>(
     alloc: Global,
     log: &mut L,
     archives: &mut [A],
-) -> Result<UnsoundPages, Unsound> {
+) -> Result<UnsoundPages, Unsound>
+    ensures told { IfOk result
+        (AreToldOf (L.remaining log.old) (map (λ a. A.remaining a) archives.old)) }
+    ensures err { IfErr result
+        (AreRefused (L.remaining log.old) (map (λ a. A.remaining a) archives.old)) }
+{
     let image = read_log(alloc, log)?;
-    Ok(pages_in(alloc, &image, archives)?)
+    let told = pages_in(alloc, &image, archives)?;
+    Ok(told)
 }
 
+/// The unsound pages of the chain that the archives spell.
 fn pages_in<A: Read>(
     alloc: Global,
     log: &LogImage,
     archives: &mut [A],
-) -> Result<UnsoundPages, ChainReadFault> {
+) -> Result<UnsoundPages, ChainReadFault>
+    ensures ok { IfOk result (IsTold log.now (map (λ a. A.remaining a) archives.old)) }
+    ensures err { IfErr result (AreNoChain log.now.pages (end_of log.now)
+        (map (λ a. A.remaining a) archives.old) (map (λ a. A.remaining a) archives.new)) }
+{
     let mut chain = ChainReader::new(alloc, archives, log.pages(), log.end())?;
     let changes = by_page(alloc, log.records(), Lsn(0), log.pages())?;
     let mut row = places(alloc, archives.len())?;
@@ -55,22 +90,46 @@ fn pages_in<A: Read>(
         pages: Vec::new(alloc),
         has_more: false,
     };
-    for number in 0..log.pages() {
+    let mut number = 0;
+    'rows: loop {
         if !chain.next_each(archives, &mut row)? {
-            break;
+            return Ok(found);
         }
         let page = PageNo(number);
-        let first = first_unsound(
+        note_row(
             &chain,
             log.records(),
             changes.of(page),
             page,
             &row,
-            row.len(),
-        );
-        if let Some(member) = first {
-            found.note(chain.id_at(member), page)?;
-        }
+            &mut found,
+        )?;
+        number += 1;
     }
-    Ok(found)
+}
+
+/// Notes the page of a row, where it is unsound.
+fn note_row(
+    chain: &ChainReader,
+    records: &[Record],
+    numbers: &[u32],
+    page: PageNo,
+    row: &[Option<Page>],
+    found: &mut UnsoundPages,
+) -> Result<(), AllocError>
+    requires log { (pages : ℕ) × IsLog (record { pages = pages; records = records.now }) }
+    requires numbers { numbers.now ≡ numbers_on records.now 0 page }
+    requires members { length row.now ≡ length (points_of chain.now) }
+    requires ids { length row.now ≡ length (ids_of chain.now) }
+    ensures { OnOk result ((given : List (List (List Page))) → length given ≡ page
+        → HasTold records.now (points_of chain.now) (ids_of chain.now) (length row.now)
+        given page found.old
+        → HasTold records.now (points_of chain.now) (ids_of chain.now) (length row.now)
+        (given ++ map place_list row.now ∷ []) (page + 1) found.new) }
+{
+    if let Some(member) = first_unsound(chain, records, numbers, page, row, row.len()) {
+        let copy = chain.id_at(member);
+        found.note(UnsoundPage { copy, page })?;
+    }
+    Ok(())
 }

@@ -1,6 +1,7 @@
 //! The audit of a chain of copies.
 
-ghost use Rattle.std.specs.Prelude.{ℕ, ◌≡◌, ◌+◌, ◌<◌, ◌≤◌, ◌++◌, [], ◌∷◌, List, IfErr, IfOk, IfSome};
+ghost use Rattle.std.specs.Prelude.{ℕ, ◌≡◌, ◌+◌, ◌<◌, ◌≤◌, ◌++◌, [], ◌∷◌, List, IfErr, IfOk};
+ghost use Rattle.std.specs.Prelude.{IfSome};
 ghost use Rattle.std.specs.Prelude.{OnOk, length, map};
 ghost use Rattle.page_core.specs.declared.page.Page.{Page};
 ghost use Rattle.page_core.specs.Input.{HasGivenAll};
@@ -40,8 +41,8 @@ pub struct Sound;
 /// memory is refused. `ReadFault` comes where a reader fails or does not come to an end, and what
 /// it gave holds no fault.
 ///
-/// The archives are read side by side, in one pass. Beside the log's records, 4 bytes a record and 4
-/// a page of the volume, just one page of each archive is kept, and a copy of it. Each record is
+/// The archives are read side by side, in one pass. Beside the log's records, 4 bytes a record and
+/// 4 a page of the volume, just one page of each archive is kept, and a copy of it. Each record is
 /// redone once on its page, if no archive has an older page than one before it in the chain.
 pub fn audit<L: Read, A: Read>(
     alloc: Global,

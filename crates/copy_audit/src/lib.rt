@@ -10,7 +10,7 @@ mod members;
 mod trace;
 mod unsound;
 
-pub use all_pages::{UnsoundPages, unsound_pages};
+pub use all_pages::{UnsoundPage, UnsoundPages, unsound_pages};
 pub use chain_audit::{Sound, audit};
 pub use laws::{
     a_part_of_an_audited_chain_is_audited, an_audited_chain_is_called_sound,

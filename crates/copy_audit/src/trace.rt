@@ -1,6 +1,7 @@
 //! A page of a log, made of its changes one after another.
 
-ghost use Rattle.std.specs.Prelude.{ℕ, ◌≡◌, ◌*◌, ◌+◌, ◌≤◌, ◌<◌, ◌/◌, Bool, List, length, min, true, false};
+ghost use Rattle.std.specs.Prelude.{ℕ, ◌≡◌, ◌*◌, ◌+◌, ◌≤◌, ◌<◌, ◌/◌, Bool, List, length, min, true};
+ghost use Rattle.std.specs.Prelude.{false};
 ghost use Rattle.page_core.specs.declared.page.Page.{Page};
 ghost use Rattle.page_core.specs.declared.numbers.TheConstants.{LSN_STEP};
 ghost use Rattle.log_records.specs.declared.record.Record.{Record};

@@ -1,6 +1,7 @@
 //! Laws of copies, for readers of the contracts.
 
-ghost use Rattle.std.specs.Prelude.{ℕ, ◌≡◌, ◌+◌, ◌≤◌, ◌<◌, ◌++◌, ◌∷◌, [], List, length, slice_set, None};
+ghost use Rattle.std.specs.Prelude.{ℕ, ◌≡◌, ◌+◌, ◌≤◌, ◌<◌, ◌++◌, ◌∷◌, [], List, length, slice_set};
+ghost use Rattle.std.specs.Prelude.{None};
 ghost use Rattle.std.specs.Prelude.{slice_index_or};
 ghost use Rattle.page_core.specs.declared.page.Page.{Page};
 ghost use Rattle.log_records.specs.declared.record.Record.{Record};

@@ -5,7 +5,8 @@ use Rattle.page_core.specs.declared.page.Page.{Page}
 use Rattle.copy_vault.specs.declared.chain_reader.ChainReader.{ChainReader}
 use Rattle.copy_vault.specs.declared.copy_id.CopyKind.TheVariants.{Full}
 use Rattle.copy_vault.specs.Chain.{FitFrom, IsChain}
-use Rattle.copy_vault.specs.ChainReading.{AreWithinLog, HaveGivenAll, IsReading, SpellCopies, heads_of}
+use Rattle.copy_vault.specs.ChainReading.{AreWithinLog, HaveGivenAll, IsReading, SpellCopies}
+use Rattle.copy_vault.specs.ChainReading.{heads_of}
 use Rattle.copy_vault.specs.Copy.{CopyView}
 pub use Rattle.copy_vault.specs.Chain.{row, rows}
 pub use Rattle.copy_vault.specs.ChainRead.{place_list}

@@ -1,6 +1,7 @@
 -- The archives of a chain, which are read side by side, page by page.
 use Rattle.std.specs.Prelude.{ℕ, ◌≡◌, ◌+◌, ◌*◌, ◌<◌, ◌≤◌, ◌⊎◌, List, [], ◌∷◌, ◌++◌, length}
-use Rattle.std.specs.Prelude.{slice_index_or, suc, zero, Option, Some, None, IfSome, nat_eq, if◌then◌else◌}
+use Rattle.std.specs.Prelude.{slice_index_or, suc, zero, Option, Some, None, IfSome, nat_eq}
+use Rattle.std.specs.Prelude.{if◌then◌else◌}
 use Rattle.std.specs.List.{AllByRecursion}
 use Rattle.std.specs.Io.KnownBytes.{Consumes, IsAtEnd}
 use Rattle.page_core.specs.declared.page.Page.{Page}

@@ -6,8 +6,8 @@ ghost use Rattle.copy_vault.specs.ChainReading.{IsFromOutside, IsNotMade, IsRigh
 ghost use Rattle.copy_vault.specs.ChainReading.{archives_of};
 ghost use Rattle.copy_vault.specs.declared.chain_read_fault.ChainReadFault.{ChainReadFault};
 
-/// The archives of a chain of which no redo point and no page is past the log's end are refused only
-/// for lack of memory or a failing reader, and never for what is in them.
+/// The archives of a chain of which no redo point and no page is past the log's end are refused
+/// only for lack of memory or a failing reader, and never for what is in them.
 pub fn a_chain_is_not_refused()
     ensures made { (pages end : ℕ) (lefts : List (Option (List ℕ))) (copies : List CopyView)
         (fault : ChainReadFault) → IsRightChain pages end copies

@@ -104,9 +104,10 @@ impl ChainReader {
     }
 
     /// Gives the next page of the chain, from the last archive that has it, and `None` once all
-    /// were given, from then on. The first call reads the first page of each archive, in order. Each archive that
-    /// had the page then reads its next one, in order. Nothing may follow its last page, which is
-    /// looked at as soon as that was read, or in the first call where it has none.
+    /// were given, from then on. The first call reads the first page of each archive, in order.
+    /// Each archive that had the page then reads its next one, in order. Nothing may follow its
+    /// last page, which is looked at as soon as that was read, or in the first call where it has
+    /// none.
     ///
     /// Refusals, as they are met: `ReadFault`; `BadArchive` where a page is misspelt or cut short;
     /// `PageBeyondLog`; `CountDiffers` where pages are missing, or bytes follow the last one. The
@@ -151,10 +152,10 @@ impl ChainReader {
         Ok(Some(page))
     }
 
-    /// Gives, at the next number, the page of each archive that took it: a place in `row` is that of
-    /// an archive, in their order, and has nothing where its archive does not have the page. It
-    /// answers `false` once all numbers were given, from then on. The archives are read as `next` reads them, each
-    /// one on as soon as its page was given.
+    /// Gives, at the next number, the page of each archive that took it: a place in `row` is that
+    /// of an archive, in their order, and has nothing where its archive does not have the page. It
+    /// answers `false` once all numbers were given, from then on. The archives are read as `next`
+    /// reads them, each one on as soon as its page was given.
     ///
     /// The refusals are those of `next`, in the same order, and the refusal is answered from then
     /// on. After a refusal or `false` the row says nothing. This takes no memory.

@@ -1,11 +1,18 @@
--- The receipt of a step of a rollback.
-use Rattle.std.specs.Prelude.{ℕ}
+-- The receipts of steps back: of a rollback, and to a savepoint.
+use Rattle.std.specs.Prelude.{ℕ, List, [], ◌∷◌}
 use Rattle.settlement.specs.declared.receipt.Receipt.{Receipt}
 use Rattle.settlement.specs.declared.receipt.Receipt.TheVariants.{Stepped}
 use Rattle.settlement.specs.declared.receipt.TxnStep.TheVariants as step
+use Rattle.aries_core.specs.declared.event.SteppedBack.{SteppedBack}
+use Rattle.aries_core.specs.declared.event.SteppedBack.TheVariants as back
 use Rattle.aries_core.specs.declared.event.Undone.{Undone}
 use Rattle.aries_core.specs.declared.event.Undone.TheVariants as undone
 
 abbrev pub undo_receipt : ℕ → Undone → Receipt
 undo_receipt txn (undone.Undid lsn) = Stepped lsn txn step.Comp
 undo_receipt txn (undone.Ended lsn) = Stepped lsn txn step.End
+
+-- a step that reached its savepoint leaves none
+abbrev pub step_back_receipts : ℕ → SteppedBack → List Receipt
+step_back_receipts txn (back.Undid lsn) = Stepped lsn txn step.Comp ∷ []
+step_back_receipts txn back.Reached = []

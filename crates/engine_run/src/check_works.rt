@@ -18,8 +18,8 @@ use page_core::Lsn;
 use settlement::mark_checkpoint;
 
 /// Checks what checkpoints and copies answered. `marks` are those of the records that receipts
-/// speak of, and `given` those of ids of copies. An `Err` has the begin LSN of a Point that does not
-/// stand or that another one has too, or 0 where a copy does not stand or comes twice.
+/// speak of, and `given` those of ids of copies. An `Err` has the begin LSN of a Point that does
+/// not stand or that another one has too, or 0 where a copy does not stand or comes twice.
 pub(crate) fn check_works(
     marks: &mut [bool],
     given: &mut [bool],

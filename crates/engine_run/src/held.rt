@@ -7,11 +7,11 @@ ghost use Rattle.settlement.specs.Counts.{updates_in};
 ghost use Rattle.aries_core.specs.Asked.{Asks, FailsAsking, asked};
 ghost use Rattle.aries_core.specs.EngineState.{Fetches, end};
 ghost use Rattle.aries_core.specs.Step.{FailsForcing, Forces, IsByStore, IsUnsure, Step, reply_of};
-ghost use Rattle.aries_core.specs.Step.{undo_answer};
+ghost use Rattle.aries_core.specs.Step.{step_back_answer, undo_answer};
 ghost use Rattle.aries_core.specs.declared.event.Answer.TheVariants as answer;
 ghost use Rattle.aries_core.specs.declared.event.Event.TheVariants as event;
 
-use aries_core::{Engine, Refusal, Undone};
+use aries_core::{Engine, Refusal, SteppedBack, Undone};
 use log_store::LogDevice;
 use page_core::{Lsn, PageNo, SlotNo, TxnNo};
 use page_store::PageStore;
@@ -216,5 +216,38 @@ impl<S: PageStore, D: LogDevice, G: Ledger> Held<S, D, G> {
         ensures device { self.new.engine.device ≡ self.old.engine.device }
     {
         self.engine.undo_step(txn)
+    }
+
+    /// Names the place to which a transaction may go back from here on, as `Engine::savepoint`
+    /// does.
+    pub fn savepoint(&self, txn: TxnNo) -> Result<Lsn, Refusal>
+        ensures step { Step self.now.engine.state (event.Savepoint txn)
+            (reply_of answer.Saved result) self.now.engine.state }
+    {
+        self.engine.savepoint(txn)
+    }
+
+    /// Takes one change of a transaction back that was made behind a savepoint, as
+    /// `Engine::undo_to` does.
+    pub fn undo_to(&mut self, txn: TxnNo, savepoint: Lsn) -> Result<SteppedBack, Refusal>
+        ensures step { Step self.old.engine.state (event.UndoTo txn savepoint)
+            (reply_of step_back_answer result) self.new.engine.state }
+        ensures store { ¬ Fetches self.old.engine.state (event.UndoTo txn savepoint)
+            → self.new.engine.store ≡ self.old.engine.store }
+        ensures store_refused { IfErr result (λ why. ¬ IsByStore why
+            → self.new.engine.store ≡ self.old.engine.store) }
+        ensures asked { OnOk result (Asks S.gave S.wrote
+            (asked self.old.engine.state (event.UndoTo txn savepoint)) self.old.engine
+            self.new.engine) }
+        ensures failed { IfErr result (λ why. IsByStore why → FailsAsking S.gave S.wrote
+            (asked self.old.engine.state (event.UndoTo txn savepoint)) self.old.engine
+            self.new.engine) }
+        ensures no_store_failure { OnOk result
+            (S.failures self.new.engine.store ≡ S.failures self.old.engine.store) }
+        ensures store_cause { IfErr result (λ why. IsByStore why
+            → S.failures self.old.engine.store < S.failures self.new.engine.store) }
+        ensures device { self.new.engine.device ≡ self.old.engine.device }
+    {
+        self.engine.undo_to(txn, savepoint)
     }
 }

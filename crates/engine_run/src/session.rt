@@ -6,10 +6,10 @@ ghost use Rattle.page_core.specs.declared.change.ChangeKind.TheVariants as kind;
 ghost use Rattle.settlement.specs.declared.receipt.Receipt.TheVariants.{Changed, Read, Stepped};
 ghost use Rattle.settlement.specs.declared.receipt.TxnStep.TheVariants as step;
 ghost use Rattle.settlement.specs.Counts.{changes_in};
-ghost use Rattle.engine_run.specs.Undoing.{undo_receipt};
+ghost use Rattle.engine_run.specs.Undoing.{step_back_receipts, undo_receipt};
 
 use crate::shared::Shared;
-use aries_core::{Refusal, Undone};
+use aries_core::{Refusal, SteppedBack, Undone};
 use log_store::LogDevice;
 use page_core::{ChangeKind, Lsn, PageNo, SlotNo, TxnNo};
 use page_store::PageStore;
@@ -249,6 +249,45 @@ impl<G: Ledger> Session<G> {
                 txn,
                 step: TxnStep::End,
             }),
+        }
+        Ok(done)
+    }
+
+    /// Names the place to which a transaction may go back from here on, by the LSN of its last
+    /// record. It changes nothing, takes no memory and leaves no receipt. Refusals are those of
+    /// `Engine::savepoint`.
+    pub fn savepoint<S: PageStore, D: LogDevice>(
+        &self,
+        rt: &impl Wait,
+        shared: &Shared<S, D, G>,
+        txn: TxnNo,
+    ) -> Result<Lsn, Refusal> {
+        shared.held.lock(rt).savepoint(txn)
+    }
+
+    /// Takes one change of a transaction back that was made behind a savepoint, or answers that
+    /// none is left; the transaction goes on. Refusals are those of `Engine::undo_to`;
+    /// `OutOfMemory` comes first, where there is no room for the receipt. Where the savepoint is
+    /// reached, it leaves none.
+    pub fn undo_to<S: PageStore, D: LogDevice>(
+        &mut self,
+        rt: &impl Wait,
+        shared: &Shared<S, D, G>,
+        txn: TxnNo,
+        savepoint: Lsn,
+    ) -> Result<SteppedBack, Refusal>
+        ensures receipt { IfOk result (λ done.
+            self.new ≡ self.old ++ step_back_receipts txn done) }
+        ensures refused { OnErr result (self.new ≡ self.old) }
+    {
+        make_room(&mut self.receipts)?;
+        let done = shared.held.lock(rt).undo_to(txn, savepoint)?;
+        if let SteppedBack::Undid(lsn) = done {
+            self.receipts.push_reserved(Receipt::Stepped {
+                lsn,
+                txn,
+                step: TxnStep::Comp,
+            });
         }
         Ok(done)
     }

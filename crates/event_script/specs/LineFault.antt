@@ -1,5 +1,6 @@
 -- Why a line is bad, and how that is told to a person.
-use Rattle.std.specs.Prelude.{ℕ, ◌++◌, ◌||◌, List, [], ◌∷◌, codes, length, nat_eq, Option, Some, None}
+use Rattle.std.specs.Prelude.{ℕ, ◌++◌, ◌||◌, List, [], ◌∷◌, codes, length, nat_eq, Option, Some}
+use Rattle.std.specs.Prelude.{None}
 use Rattle.std.specs.Prelude.{if◌then◌else◌}
 use Rattle.std.specs.Fmt.{decimal}
 use Rattle.std.specs.Option.{is_some}

@@ -13,8 +13,8 @@ pub record IsText (input : List ℕ) : Type 0 where
   pub short : length input ≤ 16777216
   pub utf8 : IsUtf8 input
 
--- an input that is refused is no text, and a bad line is the first one of a text, and is bad for the
--- reason that is told; memory and the reader are no part of the input
+-- an input that is refused is no text, and a bad line is the first one of a text, and is bad for
+-- the reason that is told; memory and the reader are no part of the input
 abbrev pub Refuses : List ℕ → ScriptFault → Type 0
 Refuses input OutOfMemory = Unit {0}
 Refuses input ReadFault = Unit {0}

@@ -5,7 +5,7 @@ use Rattle.aries_core.specs.declared.event.Answer.{Answer}
 use Rattle.aries_core.specs.declared.event.Answer.TheVariants.{Began, Logged, Number, Undid, Ended}
 use Rattle.aries_core.specs.declared.event.Answer.TheVariants.{Forced, Writing, Written, More, Done}
 use Rattle.aries_core.specs.declared.event.Answer.TheVariants.{Point, Copied, Taken, Kept, Sealed}
-use Rattle.aries_core.specs.declared.event.Answer.TheVariants.{Dropped, Repaired}
+use Rattle.aries_core.specs.declared.event.Answer.TheVariants.{Dropped, Repaired, Saved, Reached}
 use Rattle.aries_core.specs.declared.refusal.Refusal.{Refusal}
 use Rattle.aries_core.specs.Refusal.{line_of as line_of_refusal}
 
@@ -15,6 +15,8 @@ line_of_answer (Logged lsn) = codes "lsn " ++ decimal lsn
 line_of_answer (Number number) = codes "value " ++ decimal number
 line_of_answer (Undid lsn) = codes "undid " ++ decimal lsn
 line_of_answer (Ended lsn) = codes "ended " ++ decimal lsn
+line_of_answer (Saved lsn) = codes "saved " ++ decimal lsn
+line_of_answer Reached = codes "reached"
 line_of_answer (Forced lsn) = codes "forced " ++ decimal lsn
 line_of_answer (Writing lsn) = codes "writing " ++ decimal lsn
 line_of_answer (Written lsn) = codes "written " ++ decimal lsn

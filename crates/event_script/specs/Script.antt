@@ -5,7 +5,8 @@ use Rattle.std.specs.Option.{option_map}
 use Rattle.std.specs.Str.{bytes_eq}
 use Rattle.aries_core.specs.declared.event.Event.{Event}
 use Rattle.aries_core.specs.declared.event.Event.TheVariants.{Begin, Set, Add, Read, Commit, Abort}
-use Rattle.aries_core.specs.declared.event.Event.TheVariants.{UndoStep, Force, WriteBegin, WriteEnd}
+use Rattle.aries_core.specs.declared.event.Event.TheVariants.{UndoStep, Savepoint, UndoTo, Force}
+use Rattle.aries_core.specs.declared.event.Event.TheVariants.{WriteBegin, WriteEnd}
 use Rattle.aries_core.specs.declared.event.Event.TheVariants.{CkptBegin, CkptGather, CkptEnd}
 use Rattle.aries_core.specs.declared.event.Event.TheVariants.{CopyFull, CopyInc, Take, Seal}
 use Rattle.aries_core.specs.declared.event.Event.TheVariants.{DropCopy, Repair}
@@ -39,7 +40,9 @@ checkpoint_calls =
 
 -- the calls of a transaction, of a page and of a copy
 abbrev pub txn_calls : List (List ℕ × (ℕ → Event))
-txn_calls = (codes "commit", Commit) ∷ (codes "abort", Abort) ∷ (codes "undo", UndoStep) ∷ []
+txn_calls =
+    (codes "commit", Commit) ∷ (codes "abort", Abort) ∷ (codes "undo", UndoStep)
+    ∷ (codes "save", Savepoint) ∷ []
 
 abbrev pub page_calls : List (List ℕ × (ℕ → Event))
 page_calls = (codes "wbegin", WriteBegin) ∷ (codes "wend", WriteEnd) ∷ []
@@ -112,9 +115,16 @@ call_of_copied_page name copy page = do
   page ← in_u32 page
   Some (call copy page)
 
+-- a transaction, and the LSN of the savepoint to which it goes back
+abbrev pub undo_to_of : ℕ → ℕ → Option Event
+undo_to_of txn savepoint = do
+  txn ← in_u32 txn
+  Some (UndoTo txn savepoint)
+
 abbrev pub call_of_two : List ℕ → ℕ → ℕ → Option Event
 call_of_two name first second =
     if bytes_eq name (codes "read") then read_of first second
+    else if bytes_eq name (codes "undoto") then undo_to_of first second
     else call_of_copied_page name first second
 
 abbrev pub change_of : List ℕ → ℕ → ℕ → ℕ → ℕ → Option Event

@@ -4,14 +4,14 @@ ghost use Rattle.std.specs.Prelude.{◌≡◌};
 ghost use Rattle.event_script.specs.Script.{args_of, call_of, call_of_copied_page, call_of_none};
 ghost use Rattle.event_script.specs.Script.{call_of_one, call_of_two, called, change_of};
 ghost use Rattle.event_script.specs.Script.{checkpoint_calls, copy_calls, entry_of, page_calls};
-ghost use Rattle.event_script.specs.Script.{plain_calls, read_of, txn_calls};
+ghost use Rattle.event_script.specs.Script.{plain_calls, read_of, txn_calls, undo_to_of};
 ghost use Rattle.event_script.specs.Words.{words_of};
 
 use crate::number::number_of;
 use crate::words::next_word;
 use aries_core::Event;
 use copy_vault::CopyId;
-use page_core::{PageNo, SlotNo, TxnNo};
+use page_core::{Lsn, PageNo, SlotNo, TxnNo};
 
 /// The numbers behind a call's name.
 #[derive(Clone, Copy)]
@@ -89,6 +89,8 @@ fn call_of_txn(name: &[u8], number: u32) -> Option<Event>
         Some(Event::Abort(txn))
     } else if name == b"undo".as_slice() {
         Some(Event::UndoStep(txn))
+    } else if name == b"save".as_slice() {
+        Some(Event::Savepoint(txn))
     } else {
         None
     }
@@ -158,11 +160,22 @@ fn read_of(page: u64, slot: u64) -> Option<Event>
     })
 }
 
+fn undo_to_of(txn: u64, savepoint: u64) -> Option<Event>
+    ensures { result ≡ undo_to_of txn savepoint }
+{
+    Some(Event::UndoTo {
+        txn: TxnNo(u32::try_from(txn).ok()?),
+        savepoint: Lsn(savepoint),
+    })
+}
+
 fn call_of_two(name: &[u8], first: u64, second: u64) -> Option<Event>
     ensures { result ≡ call_of_two name.now first second }
 {
     if name == b"read".as_slice() {
         read_of(first, second)
+    } else if name == b"undoto".as_slice() {
+        undo_to_of(first, second)
     } else {
         call_of_copied_page(name, first, second)
     }

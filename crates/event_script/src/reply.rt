@@ -57,6 +57,11 @@ impl fmt::Display for AnswerLine {
                 let lsn = lsn.0;
                 write!(f, "ended {lsn}")
             }
+            Answer::Saved(lsn) => {
+                let lsn = lsn.0;
+                write!(f, "saved {lsn}")
+            }
+            Answer::Reached => write!(f, "reached"),
             Answer::Forced(lsn) => {
                 let lsn = lsn.0;
                 write!(f, "forced {lsn}")

@@ -1,10 +1,10 @@
 //! Lines for a person on standard error, behind the line of a fault.
 
 use crate::bad_line::BadLine;
-use crate::notes::Notes;
 use crate::reasons::{
     Named, Reason, reason_of_audit, reason_of_restore, tell_beyond, tell_unsound, what_stands,
 };
+use crate::shown::Shown;
 use copy_audit::Unsound;
 use copy_coverage::Retired;
 use copy_vault::{CopyId, MAX_COPIES};
@@ -17,12 +17,13 @@ use std::io::ErrorKind;
 use std::path::Path;
 use std::rt::Files;
 use std::{fs, io};
+use system_files::Notes;
 
 /// How many names of unfinished files are told.
 const MOST_TOLD: usize = 64;
 
-/// Names the file in which a restore from files met its fault, and says what is wrong with it, or why
-/// the system failed there. It is the one that was read last.
+/// Names the file in which a restore from files met its fault, and says what is wrong with it, or
+/// why the system failed there. It is the one that was read last.
 pub fn tell_input(rt: &HostRuntime, names: &Named<'_>, fault: &RestoreFault, notes: &Notes) {
     let failed = match fault {
         // These are no fault of one file.
@@ -67,7 +68,8 @@ pub fn tell_audited(rt: &HostRuntime, names: &Named<'_>, fault: &Unsound, notes:
     );
 }
 
-/// Names a file, says what it was read as, and why the system failed there or what is wrong with it.
+/// Names a file, says what it was read as, and why the system failed there or what is wrong with
+/// it.
 fn tell_file(
     rt: &impl Eprint,
     names: &Named<'_>,
@@ -205,6 +207,7 @@ pub fn tell_left(rt: &HostRuntime, folder: &str) {
         };
         let name = entry.file_name();
         if name.contains(".unfinished-") && told < MOST_TOLD {
+            let name = Shown::whole(name);
             let _ = eprintln!(rt;
                 "imgcopy: {folder}/{name}: left by a command that was cut off; it may be deleted"
             );

@@ -1,10 +1,8 @@
 //! What is wrong with a line of a script, in the words that stand there.
 
+use crate::shown::Shown;
 use event_script::LineFault;
 use std::fmt;
-
-/// The longest word that is shown.
-const MOST_WORD: usize = 64;
 
 /// What is wrong with a bad line, with the words of the line where they are known.
 #[derive(Drop)]
@@ -43,12 +41,11 @@ impl<'a> BadLine<'a> {
 
 impl fmt::Display for BadLine<'_> {
     fn fmt<W: fmt::Write>(&self, f: &mut fmt::Formatter<W>) -> fmt::Result {
-        let name = match self.name {
-            Some(name) if name.len() <= MOST_WORD => name,
-            _ => return self.why.fmt(f),
+        let Some(name) = self.name else {
+            return self.why.fmt(f);
         };
         match self.why {
-            LineFault::UnknownCall => write!(f, "unknown call `{name}`"),
+            LineFault::UnknownCall => write!(f, "unknown call `{word}`", word = Shown::word(name)),
             LineFault::WordCount(wanted) => {
                 let words = match (name, wanted) {
                     ("restore", _) => "words",

@@ -10,11 +10,10 @@ ghost use Rattle.script_run.specs.Status.{status_of_audit, status_of_finish, sta
 mod advice;
 mod bad_line;
 mod chain_reason;
-mod notes;
 mod output;
 mod reasons;
+mod shown;
 mod strict;
-mod system_files;
 
 use advice::{
     tell_audited, tell_input, tell_left, tell_script, tell_stale, tell_unread, tell_unsaved,
@@ -26,7 +25,6 @@ use copy_audit::{Sound, Unsound};
 use copy_vault::CopyId;
 use event_script::MAX_SCRIPT_BYTES;
 use media_restore::RestoreFault;
-use notes::{Noted, Notes};
 use output::{Output, tell_noted};
 use page_core::{FaultName, PageNo};
 use reasons::{Named, tell_redo};
@@ -41,7 +39,7 @@ use std::io::{IsTerminal, Read, Write};
 use std::process::ExitCode;
 use std::thread::Threads;
 use strict::{Kept, Refusals, Tallied, line_of_call};
-use system_files::{SystemFiles, SystemFolder};
+use system_files::{Noted, Notes, SystemFiles, SystemFolder};
 use volume_redo::{Fault, redo_stream};
 
 /// How many bytes of a script are kept at most, to show a bad line.
@@ -362,9 +360,9 @@ fn told_others(
             return ExitCode::from(FAULT_STATUS);
         }
     };
-    for (copy, page) in found.pages.as_slice() {
-        if (*copy, *page) != first {
-            if let Err(error) = rt.println(&Unsound::Unsound(*copy, *page)) {
+    for it in found.pages.as_slice() {
+        if (it.copy, it.page) != first {
+            if let Err(error) = rt.println(&Unsound::Unsound(it.copy, it.page)) {
                 return told_unprinted(rt, &error);
             }
         }

@@ -1,13 +1,13 @@
-//! The file that `redo -o` and `restore -o` write. It has a name of its own until it is put in place.
+//! The file that `redo -o` and `restore -o` write. It has a name of its own until it is put in
+//! place.
 
-use crate::notes::{Noted, Notes};
-use crate::system_files::SystemFolder;
 use page_core::FaultName;
 use saved_files::{Folder, make_beside};
 use std::fs::File;
 use std::io::ErrorKind;
 use std::path::Path;
 use std::{fs, io};
+use system_files::{Noted, Notes, SystemFolder};
 
 /// A file that is written beside the name that it is to have.
 #[derive(Drop)]

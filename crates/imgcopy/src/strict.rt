@@ -26,9 +26,16 @@ impl<R> Kept<R> {
         }
     }
 
-    /// What was kept.
+    /// What was kept, without the line that is cut off.
     pub fn given(&self) -> &[u8] {
-        self.bytes.as_slice()
+        let bytes = self.bytes.as_slice();
+        if !self.is_cut {
+            return bytes;
+        }
+        match bytes.iter().rposition(|byte| *byte == b'\n') {
+            Some(end) => &bytes[..end],
+            None => &[],
+        }
     }
 
     fn keep(&mut self, given: &[u8]) {
@@ -154,8 +161,8 @@ impl Tally {
     }
 }
 
-/// What is told of a run in which a call was refused: the tally, and the line of the script that has
-/// the first refused call, if it is known.
+/// What is told of a run in which a call was refused: the tally, and the line of the script that
+/// has the first refused call, if it is known.
 #[derive(Drop)]
 pub struct Refusals<'a> {
     pub tally: &'a Tally,

@@ -1,5 +1,6 @@
 -- The pages of a volume while undo changes them, without the records that it appends.
-use Rattle.std.specs.Prelude.{ℕ, ◌≡◌, ◌+◌, ◌≤◌, ◌++◌, List, [], length, map, nat_lt, Option, Some, None}
+use Rattle.std.specs.Prelude.{ℕ, ◌≡◌, ◌+◌, ◌≤◌, ◌++◌, List, [], length, map, nat_lt, Option, Some}
+use Rattle.std.specs.Prelude.{None}
 use Rattle.std.specs.Prelude.{IfSome, if◌then◌else◌}
 use Rattle.page_core.specs.declared.page.Page.{Page}
 use Rattle.log_records.specs.declared.limits.TheConstants.{MAX_RECORDS}
@@ -46,7 +47,8 @@ later_of None txn change = Some (txn, change)
 later_of (Some best) txn change =
     if nat_lt change.lsn best.1.lsn then Some best else Some (txn, change)
 
--- of all pending changes that are the last ones of their transactions, this one has the greatest LSN
+-- of all pending changes that are the last ones of their transactions, this one has the greatest
+-- LSN
 pub record IsLastLost (table : Table) (txn : ℕ) (change : PendingChange) : Type 0 where
   pub entry : Entry
   pub there : entry_in table txn ≡ Some entry

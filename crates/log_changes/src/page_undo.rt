@@ -1,6 +1,7 @@
 //! Undoes what is open at the end of a log, on the pages of its volume.
 
-ghost use Rattle.std.specs.Prelude.{◌≡◌, ◌+◌, ◌<◌, ◌++◌, ◌∷◌, [], true, List, length, map, Some, MatchOption};
+ghost use Rattle.std.specs.Prelude.{◌≡◌, ◌+◌, ◌<◌, ◌++◌, ◌∷◌, [], true, List, length, map, Some};
+ghost use Rattle.std.specs.Prelude.{MatchOption};
 ghost use Rattle.std.specs.List.{fold};
 ghost use Rattle.page_core.specs.declared.page.Page.{Page};
 ghost use Rattle.log_records.specs.declared.record.Record.{Record};
@@ -153,12 +154,12 @@ impl PageUndo {
             (λ found. IsLastLost self.now.table found.0 found.1) }
     {
         let mut best: Option<(TxnNo, PendingChange)> = None;
-        let mut from = TxnNo(0);
-        while let Some(state) = self.table.next_from(from) {
-            if let Some(change) = self.table.last_pending(state.txn) {
-                best = later(best, state.txn, change);
+        for place in 0..self.table.open_count() {
+            if let Some(state) = self.table.state_at(place) {
+                if let Some(change) = self.table.last_pending_at(place) {
+                    best = later(best, state.txn, change);
+                }
             }
-            from = after(state.txn);
         }
         best
     }

@@ -12,7 +12,7 @@ use Rattle.std.proofs.lemmas.List.Folds.{list_any_none}
 use Rattle.std.proofs.lemmas.List.Quantifiers.{position-Some}
 use Rattle.std.proofs.lemmas.List.Sums.{fails_before_first, sum_by_more}
 use Rattle.std.proofs.lemmas.Map.Steps.{le-length_from_below}
-use Rattle.std.proofs.lemmas.Option.{slice_get-get_or, slice_get_cases}
+use Rattle.std.proofs.lemmas.Option.{slice_get-get_or, slice_get_cases, slice_get_past}
 use Rattle.std.specs.Cmp.{nat_cmp_is}
 use Rattle.std.specs.List.{cons_option, list_any, position, position_or_len, remove, slice_get, sum_by}
 use Rattle.std.specs.declared.cmp.Ordering.TheVariants.{Less, Equal, Greater}
@@ -432,6 +432,23 @@ pub below-seats : (order os : List ℕ) (seats : List OpenEntry) (taken : SeatSe
 below-seats order os seats taken k seated same lt =
     subst (λ (xs : List ℕ). get_or xs k 0 < length seats) (sym same)
     (seated.there k (subst (λ (xs : List ℕ). k < length xs) same lt))
+
+-- the entry at a place of the order is that of its seat
+pub entry-on : (order os : List ℕ) (seats : List OpenEntry) (taken : SeatSet) (i : ℕ) (d : OpenEntry)
+    → IsSeated order seats taken → os ≡ order → i < length os
+    → slice_get (entries_of order seats) i ≡ Some (get_or seats (get_or os i 0) d)
+entry-on order os seats taken i d seated same lt =
+    let within : i < length order = subst (λ (xs : List ℕ). i < length xs) same lt in
+    slice_get-get_or (entries_of order seats) i d (omega (arith, length-entries order seats seated.there))
+    ∙ ap Some (entries-at order seats seated.there i d within
+    ∙ ap (λ (xs : List ℕ). get_or seats (get_or xs i 0) d) (sym same))
+
+-- and behind its end there is none
+pub no-entry-on : (order os : List ℕ) (seats : List OpenEntry) (taken : SeatSet) (i : ℕ)
+    → IsSeated order seats taken → os ≡ order → length os ≤ i → slice_get (entries_of order seats) i ≡ None
+no-entry-on order os seats taken i seated same past =
+    let long : length os ≡ length order = ap (λ (xs : List ℕ). length xs) same in
+    slice_get_past (entries_of order seats) i (omega (arith, length-entries order seats seated.there))
 
 pub ge-leb : (a b : ℕ) → is_ge (nat_cmp a b) ≡ leb b a
 ge-leb a b = elim (cases_lt a b) [

@@ -22,8 +22,8 @@ stack_at rs t at = stack_from [] (records_of rs t) at
 abbrev pub lsns_of : List PendingChange → List ℕ
 lsns_of changes = map (λ p. p.lsn) changes
 
--- how many changes were pending at a savepoint: at a record of the transaction whose pending changes
--- are, by their LSNs, the first ones of those now. None where the LSN is no savepoint
+-- how many changes were pending at a savepoint: at a record of the transaction whose pending
+-- changes are, by their LSNs, the first ones of those now. None where the LSN is no savepoint
 abbrev pub savepoint : List Record → ℕ → ℕ → Option ℕ
 savepoint rs t at =
     option_and_then

@@ -2,7 +2,8 @@
 
 ghost use Rattle.std.specs.Prelude.{ℕ, ◌≡◌, ◌<◌, ◌≤◌, ◌==◌, ◌&&◌, ◌↔◌, [], not, length, min};
 ghost use Rattle.std.specs.Prelude.{nat_le};
-ghost use Rattle.std.specs.Prelude.{None, Some, IfSome, OnOk, OnErr, slice_index, slice_index_or};
+ghost use Rattle.std.specs.Prelude.{None, Some, IfSome, OnOk, OnErr, slice_get, slice_index};
+ghost use Rattle.std.specs.Prelude.{slice_index_or};
 ghost use Rattle.std.specs.Prelude.{Contains, IsTrue};
 ghost use Rattle.std.specs.List.{All, find, position, remove, sum_by};
 ghost use Rattle.std.specs.Option.{option_map};
@@ -108,6 +109,18 @@ impl OpenList {
             }
         }
         None
+    }
+
+    /// The seat of the transaction at this place.
+    pub fn seat_at(&self, place: usize) -> Option<u8>
+        requires { IsSound self.now }
+        ensures found { IfSome result (λ seat. seat < length self.now.seats.items) }
+        ensures there { IfSome result (λ seat. (d : OpenEntry)
+            → slice_get (entries_in self.now) place
+            ≡ Some (slice_index_or self.now.seats.items seat d)) }
+        ensures none { result ≡ None → slice_get (entries_in self.now) place ≡ None }
+    {
+        self.order.get(place).copied()
     }
 
     /// The seat of the first transaction that has this number or one above it.

@@ -114,8 +114,8 @@ impl OpenTransactions {
         }
     }
 
-    /// The pending change of an open transaction at this place, the oldest at 0; None where there is
-    /// none.
+    /// The pending change of an open transaction at this place, the oldest at 0; None where there
+    /// is none.
     pub fn pending_at(&self, txn: TxnNo, place: usize) -> Option<PendingChange>
         ensures { MatchOption (entry_in self.now txn) (result ≡ None)
             (λ e. result ≡ slice_get e.pending place) }
@@ -144,6 +144,31 @@ impl OpenTransactions {
     {
         match self.list.first_from(from) {
             Some(seat) => Some(self.list.seats[seat as usize].state()),
+            None => None,
+        }
+    }
+
+    /// The open transaction at this place in the order of their numbers, the least at 0; None where
+    /// there is none. It searches nothing.
+    pub fn state_at(&self, place: usize) -> Option<TxnState>
+        ensures state { result ≡ option_map state_of (slice_get self.now.entries place) }
+        ensures entry { IfSome result
+            (λ state. entry_in self.now state.txn ≡ slice_get self.now.entries place) }
+    {
+        match self.list.seat_at(place) {
+            Some(seat) => Some(self.list.seats[seat as usize].state()),
+            None => None,
+        }
+    }
+
+    /// The last pending change of the open transaction at this place; None where it has none or
+    /// there is no transaction. It searches nothing.
+    pub fn last_pending_at(&self, place: usize) -> Option<PendingChange>
+        ensures { result
+            ≡ option_and_then (λ e. last_of e.pending) (slice_get self.now.entries place) }
+    {
+        match self.list.seat_at(place) {
+            Some(seat) => self.list.seats[seat as usize].last_pending(),
             None => None,
         }
     }
@@ -339,8 +364,8 @@ impl OpenTransactions {
         }
     }
 
-    /// The last change of an open transaction had this number before it, where it is a Set. It takes
-    /// no memory.
+    /// The last change of an open transaction had this number before it, where it is a Set. It
+    /// takes no memory.
     pub fn set_before(&mut self, txn: TxnNo, before: u64)
         ensures { IsSome (entry_in self.old txn)
             → self.new ≡ with_changed self.old txn (entry_with_before before) }

@@ -1,5 +1,6 @@
 -- The open transactions of a log, by the records from a checkpoint on.
-use Rattle.std.specs.Prelude.{ℕ, ◌≡◌, ◌==◌, nat_lt, not, List, [], ◌∷◌, ◌++◌, map, filter, if◌then◌else◌}
+use Rattle.std.specs.Prelude.{ℕ, ◌≡◌, ◌==◌, nat_lt, not, List, [], ◌∷◌, ◌++◌, map, filter}
+use Rattle.std.specs.Prelude.{if◌then◌else◌}
 use Rattle.log_records.specs.declared.record.Record.{Record}
 use Rattle.log_records.specs.declared.record.Record.TheVariants.{Begin, Update, Comp, Commit, Abort}
 use Rattle.log_records.specs.declared.record.Record.TheVariants.{End, BeginChkpt, ChkptTxns}
@@ -51,7 +52,8 @@ told known (Begin lsn t) = with_txn (record { txn = t; last = lsn }) known
 told known (Update lsn t prev page slot change) = with_txn (record { txn = t; last = lsn }) known
 told known (Comp lsn t prev undo page slot change) = with_txn (record { txn = t; last = lsn }) known
 told known (Abort lsn t prev) = with_txn (record { txn = t; last = lsn }) known
-told known (ChkptTxns lsn begin t state last undo) = with_txn (record { txn = t; last = last }) known
+told known (ChkptTxns lsn begin t state last undo) =
+    with_txn (record { txn = t; last = last }) known
 told known (Commit lsn t prev) = without_txn t known
 told known (End lsn t prev) = without_txn t known
 told known other = known

@@ -123,7 +123,8 @@ fn take_out(known: &mut Vec<OpenTxn>, txn: TxnNo)
 
 /// The records of a linked log from the BeginChkpt of a complete checkpoint on are such a tail.
 pub fn complete_checkpoints_begin_tails()
-    ensures place { (log : Log) (begin end : ℕ) → IsLog log → IsCompleteCheckpoint log.records begin end
+    ensures place { (log : Log) (begin end : ℕ) → IsLog log
+        → IsCompleteCheckpoint log.records begin end
         → (n : ℕ) × (begin ≡ lsn_of n) × (slice_get log.records n ≡ Some (BeginChkpt begin)) }
     ensures tail { (log : Log) (begin end n : ℕ) → IsLog log → IsLinked log.records
         → IsCompleteCheckpoint log.records begin end → begin ≡ lsn_of n

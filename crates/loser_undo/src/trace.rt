@@ -92,7 +92,8 @@ fn pending_of(
     one: &OpenTxn,
 ) -> Result<(Lsn, Vec<PendingChange>), AllocError>
     requires leads { (way : List Record)
-        × (Leads log.now.records one.now.txn (first_lsn log.now.records one.now.txn) one.now.last way
+        × (Leads log.now.records one.now.txn (first_lsn log.now.records one.now.txn)
+        one.now.last way
         × (filter_map change_by way ≡ reverse (pending log.now.records one.now.txn))) }
     ensures first { IfOk result (λ it. it.0 ≡ first_lsn log.now.records one.now.txn) }
     ensures pending { IfOk result (λ it. it.1.items ≡ pending log.now.records one.now.txn) }

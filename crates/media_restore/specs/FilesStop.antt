@@ -43,7 +43,8 @@ IsBehindFiles (WriteFault done) = Unit {0}
 IsBehindFiles of_a_file = ⊥
 
 -- where a restore stopped: in a file, where those before it were read to their ends, and of those
--- behind it none was read; or behind all of them. What a reader gave before it failed holds no fault
+-- behind it none was read; or behind all of them. What a reader gave before it failed holds no
+-- fault
 pub data StopsIn (old new : Files) (no_master no_archive : Type 0) (fault : RestoreFault)
     : Type 0 where
   the_log : (why : LogReadFault) → fault ≡ of_log why → GaveNoFault [] old.log new.log why

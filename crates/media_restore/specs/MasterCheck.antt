@@ -13,7 +13,8 @@ pub record IsRightMaster (log master : Option (List ℕ)) : Type 0 where
   pub of_log : IsOfLog log read
   pub of_master : IsOfMaster master read.records named
 
--- why they do not: for what is wrong with the log, then with the master record; or for lack of memory
+-- why they do not: for what is wrong with the log, then with the master record; or for lack of
+-- memory
 pub data RefusesMaster (log master : Option (List ℕ)) (fault : RestoreFault) : Type 0 where
   of_the_log : LogRefused log fault → RefusesMaster log master fault
   of_the_master : (read : Log) → IsOfLog log read → MasterRefused master read.records fault

@@ -34,15 +34,16 @@ const BUFFER_PAGES: usize = 512;
 /// It does so whoever wrote the files, and whatever their copies lack. Where these lack no change
 /// below that redo point, the volume is that of the log after undo, and has what was committed. The
 /// archives are read side by side, so that beside the volume just one page of each is kept, and of
-/// the log 16 bytes of each change, and what the transactions have pending that are open at its end.
+/// the log 16 bytes of each change, and what the transactions have pending that are open at its
+/// end.
 ///
 /// The faults of the log come first, those of `read_log`; then those of the master record:
 /// `BadHeader` where its bytes spell none, `BadChain` where it names no complete checkpoint of the
 /// log; then those of the archives, in the order in which `read_chain_pages` meets them; then
-/// `LogFull`, and `OutOfMemory` where memory is refused. Until then nothing is written. `WriteFault`
-/// comes where the writer fails, takes nothing, or is interrupted 17 times in a row. The writer is
-/// not flushed. `ReadFault` comes where a reader fails or does not come to an end, and what it gave
-/// holds no fault.
+/// `LogFull`, and `OutOfMemory` where memory is refused. Until then nothing is written.
+/// `WriteFault` comes where the writer fails, takes nothing, or is interrupted 17 times in a row.
+/// The writer is not flushed. `ReadFault` comes where a reader fails or does not come to an end,
+/// and what it gave holds no fault.
 pub fn restore_files<L: Read, M: Read, A: Read, W: Write>(
     rt: &(impl Threads + Sync),
     alloc: Global,

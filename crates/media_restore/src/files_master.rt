@@ -16,8 +16,8 @@ use log_store::{MASTER_BYTES, Master, decode_master};
 use page_core::{MAX_TURNS, Turn, read_more};
 use std::io::Read;
 
-/// Reads a master record to the input's end, and sees that it names a complete checkpoint of the log
-/// of which this was kept.
+/// Reads a master record to the input's end, and sees that it names a complete checkpoint of the
+/// log of which this was kept.
 pub(crate) fn read_master<M: Read>(
     reader: &mut M,
     kept: &LogChanges,

@@ -9,9 +9,9 @@ use log_changes::read_changes;
 use std::alloc::Global;
 use std::io::Read;
 
-/// Reads a log and its master record, and sees that the master record names a complete checkpoint of
-/// the log, as `restore_files` does before it looks at the archives. The faults are those that it
-/// has of the two.
+/// Reads a log and its master record, and sees that the master record names a complete checkpoint
+/// of the log, as `restore_files` does before it looks at the archives. The faults are those that
+/// it has of the two.
 pub fn check_master<L: Read, M: Read>(
     alloc: Global,
     log: &mut L,

@@ -48,6 +48,7 @@ pub enum FaultName {
     RedoBeyondLog,
     PageBeyondLog,
     Unsound,
+    NoSavepoint,
 }
 
 impl fmt::Display for FaultName {
@@ -111,6 +112,7 @@ impl FaultName {
             FaultName::RedoBeyondLog => "E39 RedoBeyondLog",
             FaultName::PageBeyondLog => "E40 PageBeyondLog",
             FaultName::Unsound => "E41 Unsound",
+            FaultName::NoSavepoint => "E42 NoSavepoint",
         }
     }
 }

@@ -1,8 +1,9 @@
 -- What stands in a folder under each name.
-use Rattle.std.specs.Prelude.{ℕ, ◌≡◌, ◌≢◌, ◌⊎◌, List, [], ◌++◌, codes, decimal, ⊤, Option, Some, None}
+use Rattle.std.specs.Prelude.{ℕ, ◌≡◌, ◌≢◌, ◌⊎◌, List, [], ◌++◌, codes, decimal, ⊤, Option, Some}
+use Rattle.std.specs.Prelude.{None}
 
--- what stands under a name: nothing; a file that was not synced after it was made, so that it is not
--- known which bytes are stored; or a file of which these bytes are stored
+-- what stands under a name: nothing; a file that was not synced after it was made, so that it is
+-- not known which bytes are stored; or a file of which these bytes are stored
 pub data Entry : Type 0 where
   absent : Entry
   unsynced : Entry
@@ -62,14 +63,14 @@ RenamesOrKeeps from to old new = IsRenamed from to old new ⊎ IsSame old new
 abbrev pub IsBeside : List ℕ → List ℕ → Type 0
 IsBeside name n = (number : ℕ) × (n ≡ name ++ (codes ".unfinished-" ++ decimal number))
 
--- every name but this one keeps what stood under it; but where nothing stood, an unfinished file may
--- be left
+-- every name but this one keeps what stood under it; but where nothing stood, an unfinished file
+-- may be left
 abbrev pub KeepsBeside : List ℕ → Entries → Entries → Type 0
 KeepsBeside name old new = (n : List ℕ) → n ≢ name
     → (new n ≡ old n) ⊎ ((old n ≡ absent) × IsBeside name n)
 
--- a file of such bytes stands under this name, whole, and every other name keeps what stood under it:
--- no unfinished file is left
+-- a file of such bytes stands under this name, whole, and every other name keeps what stood under
+-- it: no unfinished file is left
 pub record Puts (name : List ℕ) (fits : List ℕ → Type 0) (old new : Entries) : Type 0 where
   pub bytes : List ℕ
   pub right : fits bytes

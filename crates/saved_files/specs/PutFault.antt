@@ -22,8 +22,8 @@ abbrev pub bytes_by : Writing → List ℕ → Type 0
 bytes_by gives bytes = gives (Some []) (Some bytes)
 
 -- what stands where a file was not put in its place, and what had gone out to it when it was given
--- up: nothing was made; or the source failed, and the name has what it had; or all went out, and the
--- name has the older file or the new one
+-- up: nothing was made; or the source failed, and the name has what it had; or all went out, and
+-- the name has the older file or the new one
 abbrev pub LeavesPut : {E : Type 0} → List ℕ → Writing → (E → Writing) → Option (List ℕ)
     → Option (List ℕ) → PutFault E → Entries → Entries → Type 0
 LeavesPut name gives leaves given_before given_up (Unmade why) old new =

@@ -1,5 +1,6 @@
 -- The files of a run: how they are called, and what is saved.
-use Rattle.std.specs.Prelude.{ℕ, ◌≡◌, ◌≢◌, ◌+◌, ◌<◌, ◌⊎◌, List, [], ◌++◌, codes, decimal, Option, Some}
+use Rattle.std.specs.Prelude.{ℕ, ◌≡◌, ◌≢◌, ◌+◌, ◌<◌, ◌⊎◌, List, [], ◌++◌, codes, decimal, Option}
+use Rattle.std.specs.Prelude.{Some}
 use Rattle.std.specs.Option.{option_map}
 use Rattle.log_records.specs.Log.{log_bytes}
 use Rattle.log_store.specs.Master.{master_bytes}

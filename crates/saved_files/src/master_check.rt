@@ -8,8 +8,8 @@ use crate::restore::{LOG, MASTER, told_late};
 use media_restore::{RestoreFault, check_master as check_readers};
 use std::alloc::Global;
 
-/// Checks a master record against a log, as a restore does before it looks at the archives, from the
-/// files of these names.
+/// Checks a master record against a log, as a restore does before it looks at the archives, from
+/// the files of these names.
 pub fn check_master<N: NamedFiles>(
     files: &N,
     alloc: Global,

@@ -53,8 +53,8 @@ pub(crate) fn put_file<F: Folder, S: Source>(
     }
 }
 
-/// Makes a file beside this name, which has no bytes, and answers the name that it has until it is put
-/// in its place: `NAME.unfinished-1`, or with the next number where something has that name.
+/// Makes a file beside this name, which has no bytes, and answers the name that it has until it is
+/// put in its place: `NAME.unfinished-1`, or with the next number where something has that name.
 pub fn make_beside<F: Folder>(
     folder: &mut F,
     alloc: Global,

@@ -20,12 +20,12 @@ use std::alloc::Global;
 /// Saves what an engine leaves in a folder: `log`, with all records, `master`, if there is a master
 /// record, and `copy-<id>` for each complete copy. Other files stay, older copies too.
 ///
-/// The folder is taken for the time of the save, so that a second save into it is refused. Each file
-/// is written beside its name, synced, and then takes the place of an older file of its name; after
-/// the last one the folder is synced. So at a fault each name has its old file or its new one, whole:
-/// those before the file of the fault are new. `WriteFault` comes with how many bytes of that file
-/// went out where a write failed, and else with 0: where the folder cannot be taken, or a file cannot
-/// be made, synced or put in its place, or the folder cannot be synced.
+/// The folder is taken for the time of the save, so that a second save into it is refused. Each
+/// file is written beside its name, synced, and then takes the place of an older file of its name;
+/// after the last one the folder is synced. So at a fault each name has its old file or its new
+/// one, whole: those before the file of the fault are new. `WriteFault` comes with how many bytes
+/// of that file went out where a write failed, and else with 0: where the folder cannot be taken,
+/// or a file cannot be made, synced or put in its place, or the folder cannot be synced.
 pub fn save_files<F: Folder>(
     folder: &mut F,
     alloc: Global,

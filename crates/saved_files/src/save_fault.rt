@@ -6,7 +6,8 @@ use crate::saved_name::SavedName;
 use std::error::Error;
 use std::fmt;
 
-/// Why the files of a run were not saved. Its text is the line of what befell the folder or the file.
+/// Why the files of a run were not saved. Its text is the line of what befell the folder or the
+/// file.
 #[derive(Clone, Copy, Debug, PartialEq, Eq)]
 pub enum SaveFault {
     /// Another save has the folder, or it cannot be taken. Nothing was changed.

@@ -33,7 +33,8 @@ pub record IsFaultless (reply : Result Answer Refusal) : Type 0 where
 -- a new engine with so many pages and frames plays a script with these replies, of which none
 -- tells of a fault, and leaves this, and this restore is left to do
 pub record Plays (pages frames : ℕ) (input : Option (List ℕ))
-    (replies : List (Result Answer Refusal)) (left : RetiredView) (last : Option LastRestore) : Type 0 where
+    (replies : List (Result Answer Refusal)) (left : RetiredView) (last : Option LastRestore)
+    : Type 0 where
   pub events : List Event
   pub state : EngineState
   pub script : IfSome input (IsScript events last)
@@ -66,7 +67,8 @@ LeavesPart bytes old new other = ⊥
 
 -- what stands where a script is not played, or its replies are not written; but for a fault of the
 -- writer nothing was written
-abbrev pub RunLeaves : ℕ → ℕ → Option (List ℕ) → Option (List ℕ) → Option (List ℕ) → RunFault → Type 0
+abbrev pub RunLeaves : ℕ → ℕ → Option (List ℕ) → Option (List ℕ) → Option (List ℕ) → RunFault
+    → Type 0
 RunLeaves pages frames input old new (Script fault) =
     IfSome input (λ input. Refuses input fault) × Keeps old new
 RunLeaves pages frames input old new OutOfMemory = Keeps old new

@@ -43,7 +43,8 @@ pub fn run_script<R: Read, W: Write>(
     requires pages { IsPageCount setup.pages }
     requires frames { IsFrameCount setup.frames }
     ensures ran { IfOk result (λ ran. Runs setup.pages setup.frames
-        (R.remaining reader.old) (W.contents writer.old) (W.contents writer.new) ran.retired ran.last) }
+        (R.remaining reader.old) (W.contents writer.old) (W.contents writer.new) ran.retired
+        ran.last) }
     ensures err { IfErr result (RunLeaves setup.pages setup.frames
         (R.remaining reader.old) (W.contents writer.old) (W.contents writer.new)) }
     // Where the reader failed, what it gave until then is not too long.

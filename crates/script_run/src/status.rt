@@ -7,8 +7,8 @@ use copy_audit::Unsound;
 use loser_undo::UndoFault;
 use media_restore::{LoadFault, Refused, RestoreFault};
 
-/// The status of a restore or an audit that was refused for what was asked of it, and of a strict run
-/// of which a call was refused.
+/// The status of a restore or an audit that was refused for what was asked of it, and of a strict
+/// run of which a call was refused.
 pub const REFUSED_STATUS: u8 = 1;
 
 /// The status of any other fault: of the words, of an input, of the output, or of memory.

@@ -1,3 +1,5 @@
 //! The engine for one thread.
 
-pub use aries_core::{Engine, Event, PlayFault, Played, Retired, Setup, play};
+pub use aries_core::{
+    Engine, Event, PlayFault, Played, Refusal, Retired, Setup, SteppedBack, play,
+};

@@ -1,5 +1,5 @@
 -- A change that is noted in the table before the number that it replaces is known.
-use Rattle.std.proofs.Common.{ℕ, ◌≡◌, ◌+◌, ◌++◌, Bool, true, false, cond, eqb, List, [], ◌∷◌, length, map, eqb-true}
+use Rattle.std.proofs.Common.{ℕ, ◌≡◌, ◌+◌, ◌++◌, Bool, true, false, cond, eqb, List, [], ◌∷◌, map, eqb-true}
 use Rattle.std.proofs.Common.{arith, refl, sym, ap, subst, ◌∙◌}
 use Rattle.std.specs.Prelude.{Option, Some, None, IsSome}
 use Rattle.std.specs.List.{find, fold}
@@ -8,19 +8,18 @@ use Rattle.std.proofs.Math.Path.{fun_ext}
 use Rattle.std.proofs.lemmas.List.{length_push}
 use Rattle.std.proofs.lemmas.List.Folds.{fold-map}
 use Rattle.std.proofs.lemmas.Simd.{map-map}
-use Rattle.page_core.specs.Change.{kind_of}
 use Rattle.log_records.specs.declared.record.Record.{Record}
 use Rattle.log_history.specs.declared.pending_change.PendingChange.{PendingChange}
 use Rattle.log_history.specs.Ahead.{entry_back, entry_with_before, with_changed}
-use Rattle.log_history.specs.Linked.{IsLinked, MayFollow}
+use Rattle.log_history.specs.Linked.{MayFollow}
 use Rattle.log_history.specs.Table.{Entry, MayNote, Table, entry_after, entry_in, entry_of, holder_in, noted, owed_by_entry}
 use Rattle.log_history.specs.Table.{owed_in, table_of}
-use Rattle.log_history.specs.Transactions.{is_open, open_in, owed, pending}
-use Rattle.log_history.proofs.Ahead.{before_twice, last_before_push, same_kind, without_last_push}
+use Rattle.log_history.specs.Transactions.{open_in, owed, pending}
+use Rattle.log_history.proofs.Ahead.{last_before_push, same_kind, without_last_push}
 use Rattle.log_history.proofs.Checks.{entry_in-table_of, may_note, owed_in-table_of}
 use Rattle.log_history.proofs.Filters.{find-map}
 use Rattle.log_history.proofs.Steps.{table_of_push}
-use Rattle.txn_table.specs.TxnTable.{IsAhead, IsOwed, IsTableOf, as_read, update_of}
+use Rattle.txn_table.specs.TxnTable.{IsAhead, IsOwed, as_read, update_of}
 use Rattle.txn_table.proofs.Owed.{owed_few, owed_step}
 
 -- the entry after the Update of a change

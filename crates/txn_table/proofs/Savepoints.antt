@@ -1,6 +1,6 @@
 -- Where a transaction may go back to, by what is kept of it.
-use Rattle.std.proofs.Common.{◌≡◌, ◌≢◌, ℕ, ◌+◌, ◌-◌, ◌<◌, ◌≤◌, Bool, true, false, cond, ◌&&◌, ◌||◌, not, ◌⊎◌, eqb, List, [], ◌∷◌, ◌++◌}
-use Rattle.std.proofs.Common.{append_assoc, get_or, slice_get, length, drop, take, refl, sym, ap, ap₂, subst, ◌∙◌, inl, inr, arith}
+use Rattle.std.proofs.Common.{◌≡◌, ◌≢◌, ℕ, ◌-◌, ◌<◌, ◌≤◌, Bool, true, false, cond, ◌&&◌, ◌||◌, not, ◌⊎◌, eqb, List, [], ◌∷◌, ◌++◌}
+use Rattle.std.proofs.Common.{append_assoc, get_or, slice_get, length, drop, refl, sym, ap, ap₂, subst, ◌∙◌, inl, inr, arith}
 use Rattle.std.proofs.Common.{eq-eqb, ne_eqb, true≢false}
 use Rattle.std.specs.Prelude.{Option, Some, None, IsSomeAnd, Contains}
 use Rattle.std.specs.List.{All, list_any, starts_with}
@@ -57,6 +57,12 @@ returns_from_push before (x ∷ xs) r =
 pub returns_push : (rs : List Record) (r : Record)
     → returns_of (rs ++ r ∷ []) ≡ returns_of rs ++ option_to_list (return_of rs r)
 returns_push rs r = returns_from_push [] rs r
+
+-- what the next record shows comes behind them
+pub returns_added : (rs : List Record) (r : Record) (made : List Return) (back : Option Return)
+    → made ≡ returns_of rs → back ≡ return_of rs r → made ++ option_to_list back ≡ returns_of (rs ++ r ∷ [])
+returns_added rs r made back same is =
+    ap₂ (λ xs o. xs ++ option_to_list o) same is ∙ sym (returns_push rs r)
 
 abbrev at_last : List PendingChange → Record → ℕ → Option (List PendingChange)
 at_last changes r at = cond (eqb (own_lsn r) at) (Some (with_pending changes r)) None

@@ -1,5 +1,5 @@
 -- A search by halves among the Comps of a log, whose LSNs rise.
-use Rattle.std.proofs.Common.{◌≡◌, ◌≢◌, ℕ, ◌+◌, ◌<◌, ◌≤◌, ◌⊎◌, true, cond, eqb, List, length, get_or, inl, inr, refl, sym}
+use Rattle.std.proofs.Common.{◌≡◌, ℕ, ◌+◌, ◌<◌, ◌≤◌, cond, eqb, List, length, get_or, inl, inr, sym}
 use Rattle.std.proofs.Common.{ap, subst, ◌∙◌, arith, eq-eqb}
 use Rattle.std.specs.Prelude.{Some, None, Contains}
 use Rattle.std.proofs.lemmas.Bool.{cases_eq, cases_lt}

@@ -28,8 +28,8 @@ update_of txn c = Update c.lsn txn c.prev c.page c.slot c.change
 abbrev pub as_read : PendingChange → ℕ → PendingChange
 as_read c number = record c { change = with_before c.change number }
 
--- the table is that of this linked log, and the Update of a change is noted in it that may come next
--- once the number before it is known
+-- the table is that of this linked log, and the Update of a change is noted in it that may come
+-- next once the number before it is known
 pub record IsAhead (rs : List Record) (txn : ℕ) (c : PendingChange) (table : Table) : Type 0 where
   pub linked : IsLinked rs
   pub few : length rs ≤ MAX_RECORDS

@@ -1,13 +1,14 @@
 //! Where a transaction may go back to: its savepoints.
 
-ghost use Rattle.std.specs.Prelude.{ℕ, ◌≡◌, ◌↔◌, ◌<◌, ◌++◌, [], true, false, length, Contains, IfSome};
-ghost use Rattle.std.specs.Prelude.{IsTrue, OnOk};
+ghost use Rattle.std.specs.Prelude.{ℕ, ◌≡◌, ◌↔◌, ◌<◌, ◌++◌, List, [], ◌∷◌, true, false, length};
+ghost use Rattle.std.specs.Prelude.{Contains, IfSome, IsOk, IsSome, IsTrue, OnOk};
 ghost use Rattle.std.specs.Prelude.{◌==◌, None, Some, if◌then◌else◌};
 ghost use Rattle.std.specs.Option.{option_to_list};
+ghost use Rattle.log_records.specs.declared.record.Record.{Record};
 ghost use Rattle.log_records.specs.Log.{IsLog, Log};
 ghost use Rattle.log_history.specs.Savepoints.{savepoint};
 ghost use Rattle.log_history.specs.Transactions.{is_open, is_rolling};
-ghost use Rattle.txn_table.specs.Returns.{AreRising, returns_of};
+ghost use Rattle.txn_table.specs.Returns.{AreRising, return_of, returns_of};
 ghost use Rattle.txn_table.specs.TxnTable.{IsTableOf};
 
 use crate::table::TxnTable;
@@ -50,25 +51,33 @@ impl Returns {
         }
     }
 
-    /// Makes room for one more, so that `add` takes no memory. An `Err` comes where it is refused.
-    pub fn make_room(&mut self) -> Result<(), AllocError>
+    /// Makes room for what the next record of the log shows, so that `add` takes no memory. Where
+    /// it shows nothing, this takes none either. An `Err` comes where memory is refused.
+    pub fn make_room(&mut self, back: &Option<Return>) -> Result<(), AllocError>
         ensures same { self.new.made ≡ self.old.made }
-        ensures room { OnOk result (length self.new.made < self.new.room) }
+        ensures room { OnOk result (IsSome back.now → length self.new.made < self.new.room) }
+        ensures nothing { back.now ≡ None → IsOk result }
     {
-        self.made.reserve(1)
-    }
-
-    /// Adds what the next record of the log shows, if it shows one.
-    pub fn add(&mut self, back: Option<Return>)
-        requires { length self.old.made < self.old.room }
-        ensures { self.new.made ≡ self.old.made ++ option_to_list back }
-    {
-        if let Some(back) = back {
-            self.made.push_reserved(back);
+        match back {
+            Some(_) => self.made.reserve(1),
+            None => Ok(()),
         }
     }
 
-    /// Whether the record at an LSN is a Comp of this transaction that left so many changes pending.
+    /// Adds what the next record of the log shows, if it shows one.
+    pub fn add(&mut self, back: &Option<Return>)
+        requires room { IsSome back.now → length self.old.made < self.old.room }
+        ensures added { self.new.made ≡ self.old.made ++ option_to_list back.now }
+        ensures log { (rs : List Record) (r : Record) → self.old.made ≡ returns_of rs
+            → back.now ≡ return_of rs r → self.new.made ≡ returns_of (rs ++ r ∷ []) }
+    {
+        if let Some(back) = back {
+            self.made.push_reserved(*back);
+        }
+    }
+
+    /// Whether the record at an LSN is a Comp of this transaction that left so many changes
+    /// pending.
     fn is_return(&self, txn: TxnNo, at: Lsn, left: usize) -> bool
         ensures { AreRising self.now.made → IsTrue result ↔ Contains self.now.made (record {
           lsn = at;

@@ -1,23 +1,111 @@
-use Rattle.std.proofs.Common.{◌≡◌, ◌∙◌, ◌+◌, ℕ, List, [], length, get_or, map, sym, ap, arith}
+use Rattle.std.proofs.Common.{◌≡◌, ◌∙◌, ◌+◌, ℕ, List, [], ◌∷◌, ◌++◌, length, get_or, map, sym, ap, subst, arith, inl, inr}
+use Rattle.std.specs.Prelude.{Option}
+use Rattle.std.specs.Vec.{with_items}
+use Rattle.std.proofs.lemmas.List.{with_items_is}
 use Rattle.std.proofs.lemmas.List.FromFn.{get_or-map-range_with_len, length-map-range_with_len}
+use Rattle.std.proofs.lemmas.Result.{err_from_is_err_and}
+use Rattle.page_core.specs.declared.page.Page.{Page}
 use Rattle.log_records.specs.declared.record.Record.{Record}
+use Rattle.copy_vault.specs.ChainEach.{IsReadingEach, place_list}
+use Rattle.copy_vault.specs.ChainReading.{IsStopped}
 use Rattle.page_redo.specs.PageRecords.{numbers_on}
+use Rattle.copy_audit.specs.Audit.{end_of}
+use Rattle.copy_audit.proofs.Rowwise.{HasListed, all_listed, listed_below, listed_more}
 use Rattle.copy_audit.proofs.all_pages.pages_in.Goals as goal
 
-pub of-requires : goal.of-requires
-of-requires g c = omega (
-  arith,
-  c.loop-number-test.true,
-  ap length c.in_ok-changes.ensures.numbers,
-  length-map-range_with_len (numbers_on c.records.result.now 0) 0 c.pages-2.result,
-  c.pages-2.ensures.pages,
-)
+pub returns-in_err-next_each-clause-err : goal.returns-in_err-next_each-clause-err
+returns-in_err-next_each-clause-err g c =
+    let left = g.A.Read.remaining in
+    let inputs = map left c.args.archives.now in
+    let lefts = map left c.next_each.new.readers in
+    let listed = c.rows.invariant.listed in
+    let fault = c.in_err-next_each.field-0.0 in
+    let stopped = c.in_err-next_each.ensures.err inputs listed.given listed.reading in
+    let p = err_from_is_err_and c.from_residual-in_err-next_each.result c.from_residual-in_err-next_each.ensures.1 in
+    rw (p.1, p.2)
+    (inr (inl (subst (λ n. IsStopped n (end_of c.args.log.now) inputs lefts fault) listed.pages
+    (subst (λ n. IsStopped c.rows.chain.pages n inputs lefts fault) listed.end stopped))))
 
-pub first_unsound-first-requires-clause-numbers : goal.first_unsound-first-requires-clause-numbers
-first_unsound-first-requires-clause-numbers g c =
-    let n = c.loop-number.number in
+pub returns-then-not-branch-clause-ok : goal.returns-then-not-branch-clause-ok
+returns-then-not-branch-clause-ok g c =
+    let left = g.A.Read.remaining in
+    let inputs = map left c.args.archives.now in
+    let listed = c.rows.invariant.listed in
+    let ended = c.in_ok-next_each.ensures in
+    let read = (rw c.if-not-branch.true at (ended.ok inputs listed.given listed.reading)).0 in
+    all_listed inputs (map left c.rows.archives) c.args.log.now c.rows.chain c.next_each.new.self
+    (length c.rows.row.items) c.rows.number c.rows.found listed read ended.ids ended.points ended.pages ended.end
+
+pub of-requires : goal.of-requires
+of-requires g c =
+    let left = g.A.Read.remaining in
+    let inputs = map left c.args.archives.now in
+    let listed = c.rows.invariant.listed in
+    let step = c.in_ok-next_each.ensures in
+    let going = rw c.if-not-branch.false at (step.ok inputs listed.given listed.reading) in
+    let below = listed_below inputs (map left c.rows.archives) (map left c.next_each.new.readers) c.args.log.now c.rows.chain
+    c.next_each.new.self (length c.rows.row.items) c.rows.number c.rows.found (map place_list c.next_each.new.row) listed
+    going step.pages in
+    omega (
+      arith,
+      below,
+      ap length c.in_ok-changes.ensures.numbers,
+      length-map-range_with_len (numbers_on c.records.result.now 0) 0 c.pages-2.result,
+      c.pages-2.ensures.pages,
+    )
+
+pub note_row-requires-clause-numbers : goal.note_row-requires-clause-numbers
+note_row-requires-clause-numbers g c =
+    let left = g.A.Read.remaining in
+    let inputs = map left c.args.archives.now in
+    let listed = c.rows.invariant.listed in
+    let step = c.in_ok-next_each.ensures in
+    let going = rw c.if-not-branch.false at (step.ok inputs listed.given listed.reading) in
+    let below = listed_below inputs (map left c.rows.archives) (map left c.next_each.new.readers) c.args.log.now c.rows.chain
+    c.next_each.new.self (length c.rows.row.items) c.rows.number c.rows.found (map place_list c.next_each.new.row) listed
+    going step.pages in
+    let n = c.rows.number in
     c.of.ensures ∙ ap (λ (ls : List (List ℕ)). get_or ls n []) c.in_ok-changes.ensures.numbers
     ∙ get_or-map-range_with_len (numbers_on c.records.result.now 0) 0 c.pages-2.result n n []
-    (omega (arith, c.loop-number-test.true, c.pages-2.ensures.pages, c.pages-number-end.ensures.pages)) (omega arith)
-    ∙ ap (λ (rs : List Record). numbers_on rs 0 n)
-    (c.records.ensures.records ∙ sym c.records-in-loop-number.ensures.records)
+    (omega (arith, below, c.pages-2.ensures.pages)) (omega arith)
+    ∙ ap (λ (rs : List Record). numbers_on rs 0 n) (c.records.ensures.records ∙ sym c.records-in-rows.ensures.records)
+
+pub rows-smaller : goal.rows-smaller
+rows-smaller g c =
+    let left = g.A.Read.remaining in
+    let inputs = map left c.args.archives.now in
+    let listed = c.rows.invariant.listed in
+    let step = c.in_ok-next_each.ensures in
+    let going = rw c.if-not-branch.false at (step.ok inputs listed.given listed.reading) in
+    let below = listed_below inputs (map left c.rows.archives) (map left c.next_each.new.readers) c.args.log.now c.rows.chain
+    c.next_each.new.self (length c.rows.row.items) c.rows.number c.rows.found (map place_list c.next_each.new.row) listed
+    going step.pages in
+    omega (arith, below)
+
+pub rows-preserved : goal.rows-preserved
+rows-preserved g c =
+    let left = g.A.Read.remaining in
+    let inputs = map left c.args.archives.now in
+    let now = map left c.next_each.new.readers in
+    let listed = c.rows.invariant.listed in
+    let step = c.in_ok-next_each.ensures in
+    let going = rw c.if-not-branch.false at (step.ok inputs listed.given listed.reading) in
+    let places = with_items c.rows.row c.next_each.new.row in
+    let wide : length c.next_each.new.row ≡ length c.rows.row.items =
+    step.length ∙ ap length c.deref_mut.ensures.value in
+    let same : places.items ≡ c.next_each.new.row =
+    with_items_is c.rows.row c.next_each.new.row (omega (arith, c.rows.row.ok.0, wide)) in
+    let row : c.deref.result.now ≡ places.items = c.deref.ensures.value in
+    let more = listed_more inputs (map left c.rows.archives) now c.args.log.now c.rows.chain c.next_each.new.self
+    (length c.rows.row.items) c.rows.number c.rows.found c.note_row.new.found c.records-in-rows.result.now
+    c.deref.result.now listed
+    (subst (λ (r : List (Option Page)). IsReadingEach inputs now c.next_each.new.self (listed.given ++ map place_list r ∷ []))
+    (sym (row ∙ same)) going)
+    c.records-in-rows.ensures.records step.ids step.points step.pages step.end (ap length (row ∙ same) ∙ wide)
+    c.in_ok-note_row.ensures in
+    record {
+      listed = subst (λ n. HasListed inputs now c.args.log.now c.next_each.new.self n (c.rows.number + 1)
+          c.note_row.new.found) (ap length row) more;
+      rows = omega (arith, ap length same, wide, c.rows.invariant.rows, c.next_each.auto.readers);
+      many = omega (arith, c.rows.invariant.many, c.next_each.auto.readers);
+    }

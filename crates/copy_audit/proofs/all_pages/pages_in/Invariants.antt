@@ -1,10 +1,14 @@
-use Rattle.std.proofs.Common.{◌≡◌, length}
-use Rattle.copy_vault.specs.ChainEach.{ids_of, points_of}
+use Rattle.std.proofs.Common.{◌≡◌, ◌-◌, length, map}
+use Rattle.copy_audit.proofs.Rowwise.{HasListed}
 use Rattle.copy_audit.proofs.all_pages.pages_in.Given as goal
 
-abbrev pub invariant-loop-number : goal.invariant-loop-number
-invariant-loop-number g l = record {
-  points : length (points_of l.chain) ≡ length l.row.items;
-  ids : length (ids_of l.chain) ≡ length l.row.items;
+abbrev pub invariant-rows : goal.invariant-rows
+invariant-rows g l = record {
+  listed : HasListed (map g.A.Read.remaining l.fn.archives) (map g.A.Read.remaining l.archives) l.fn.log l.chain
+      (length l.row.items) l.number l.found;
   rows : length l.row.items ≡ length l.archives;
+  many : length l.archives ≡ length l.fn.archives;
 }
+
+abbrev pub decreases-rows : goal.decreases-rows
+decreases-rows g l = l.fn.log.pages - l.number

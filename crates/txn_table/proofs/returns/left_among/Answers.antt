@@ -1,4 +1,4 @@
-use Rattle.std.proofs.Common.{◌≡◌, ◌∙◌, ◌+◌, ◌-◌, ◌/◌, ◌<◌, length, sym, arith}
+use Rattle.std.proofs.Common.{◌≡◌, ◌∙◌, ◌+◌, ◌-◌, ◌/◌, ◌<◌, arith}
 use Rattle.std.proofs.lemmas.Grind.{common_steps}
 use Rattle.txn_table.proofs.Searches.{above_middle, below_middle, met_alone}
 use Rattle.txn_table.proofs.returns.left_among.Goals as goal

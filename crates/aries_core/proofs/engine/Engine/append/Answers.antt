@@ -16,10 +16,26 @@ said : {T E : Type 0} (r : Result T E) (P : Type 0) → is_err r ≡ false → O
 said (Ok x) P ok h = h
 said (Err e) P ok h = cc
 
+pub return_of-back-requires : goal.return_of-back-requires
+return_of-back-requires g c =
+    let it = c.self.inside in
+    let s = (engine_view g.S.PageStore.stored it.log it.pool
+    (media_view it.master it.session it.vault.copies it.returns.made)).state in
+    let calls : Calls s c.args.next =
+    subst (λ (v : EngineView g.row.S.Denot g.row.D.Denot). Calls v.state c.args.next)
+    (sym c.self.view_is) c.requires.called in (
+      s.log,
+      (
+        c.self.invariant.table_of_log,
+        (comes s c.args.next c.self.invariant.fit calls).may_follow,
+      ),
+    )
+
 pub note-requires : goal.note-requires
 note-requires g c =
     let it = c.self.inside in
-    let s = (engine_view g.S.PageStore.stored it.log it.pool (media_view it.master it.session it.vault.copies)).state in
+    let s = (engine_view g.S.PageStore.stored it.log it.pool
+    (media_view it.master it.session it.vault.copies it.returns.made)).state in
     let calls : Calls s c.args.next =
     subst (λ (v : EngineView g.row.S.Denot g.row.D.Denot). Calls v.state c.args.next)
     (sym c.self.view_is) c.requires.called in (
@@ -33,7 +49,8 @@ note-requires g c =
 pub append-requires-clause-stands : goal.append-requires-clause-stands
 append-requires-clause-stands g c =
     let it = c.self.inside in
-    let s = (engine_view g.S.PageStore.stored it.log it.pool (media_view it.master it.session it.vault.copies)).state in
+    let s = (engine_view g.S.PageStore.stored it.log it.pool
+    (media_view it.master it.session it.vault.copies it.returns.made)).state in
     let calls : Calls s c.args.next =
     subst (λ (v : EngineView g.row.S.Denot g.row.D.Denot). Calls v.state c.args.next) (sym c.self.view_is) c.requires.called in
     subst (λ (l : Log). StandsAt l.pages (lsn_of (length l.records)) c.args.next) (sym c.make_room.ensures.same)
@@ -42,7 +59,8 @@ append-requires-clause-stands g c =
 pub append-requires-clause-few : goal.append-requires-clause-few
 append-requires-clause-few g c =
     let it = c.self.inside in
-    let s = (engine_view g.S.PageStore.stored it.log it.pool (media_view it.master it.session it.vault.copies)).state in
+    let s = (engine_view g.S.PageStore.stored it.log it.pool
+    (media_view it.master it.session it.vault.copies it.returns.made)).state in
     let calls : Calls s c.args.next =
     subst (λ (v : EngineView g.row.S.Denot g.row.D.Denot). Calls v.state c.args.next) (sym c.self.view_is) c.requires.called in
     let few = comes_few s c.args.next (comes s c.args.next c.self.invariant.fit calls) in
@@ -51,7 +69,8 @@ append-requires-clause-few g c =
 pub change-requires-clause-next : goal.change-requires-clause-next
 change-requires-clause-next g c =
     let it = c.self.inside in
-    let s = (engine_view g.S.PageStore.stored it.log it.pool (media_view it.master it.session it.vault.copies)).state in
+    let s = (engine_view g.S.PageStore.stored it.log it.pool
+    (media_view it.master it.session it.vault.copies it.returns.made)).state in
     let calls : Calls s c.args.next =
     subst (λ (v : EngineView g.row.S.Denot g.row.D.Denot). Calls v.state c.args.next)
     (sym c.self.view_is) c.requires.called in (
@@ -69,14 +88,15 @@ change-requires-clause-resident g c =
 
 state_after : (g : given.Over) (c : goal.After-change g)
     → (engine_view g.S.PageStore.stored c.append.new.self c.change.new.self
-    (media_view c.self.inside.master c.self.inside.session c.self.inside.vault.copies)).state
+    (media_view c.self.inside.master c.self.inside.session c.self.inside.vault.copies c.self.inside.returns.made)).state
     ≡ appended (engine_view g.S.PageStore.stored c.self.inside.log c.self.inside.pool
-    (media_view c.self.inside.master c.self.inside.session c.self.inside.vault.copies)).state c.args.next
+    (media_view c.self.inside.master c.self.inside.session c.self.inside.vault.copies c.self.inside.returns.made)).state
+    c.args.next
 state_after g c =
     let it = c.self.inside in
     let r = c.args.next in
     let stored = g.S.PageStore.stored in
-    let media = media_view it.master it.session it.vault.copies in
+    let media = media_view it.master it.session it.vault.copies it.returns.made in
     let s = (engine_view stored it.log it.pool media).state in
     let calls : Calls s r =
     subst (λ (v : EngineView g.row.S.Denot g.row.D.Denot). Calls v.state r) (sym c.self.view_is) c.requires.called in
@@ -91,23 +111,28 @@ invariant_of-self-2 g c =
     let it = c.self.inside in
     let r = c.args.next in
     let stored = g.S.PageStore.stored in
-    let media = media_view it.master it.session it.vault.copies in
+    let media = media_view it.master it.session it.vault.copies it.returns.made in
+    let after = media_view it.master it.session it.vault.copies c.add.new.self.made in
     let s = (engine_view stored it.log it.pool media).state in
     let calls : Calls s r =
     subst (λ (v : EngineView g.row.S.Denot g.row.D.Denot). Calls v.state r) (sym c.self.view_is) c.requires.called in
     let come = comes s r c.self.invariant.fit calls in
-    let noted = said c.note.result _ (sym c.is_err-else-is_err.ensures.value ∙ c.if-is_err-2.false) c.note.ensures.ok
-    s.log c.self.invariant.table_of_log come.may_follow in
-    let changed = c.change.ensures.kept (log_of s) c.self.invariant.pool_of_log (valid_with s r c.self.invariant.fit come) in
-    subst (λ (t : EngineState). IsKept stored t c.note.new.self c.change.new.self media) (sym (state_after g c))
-    (kept_next stored s it.txns c.note.new.self it.pool c.change.new.self media r c.self.invariant come
-    (subst (λ (v : EngineView g.row.S.Denot g.row.D.Denot).
+    let table = c.self.invariant.table_of_log in
+    let noted = said c.note.result _ (sym c.is_err-else-is_err-2.ensures.value ∙ c.if-is_err-3.false) c.note.ensures.ok
+    s.log table come.may_follow in
+    let changed = c.change.ensures.kept (log_of s) c.self.invariant.pool_of_log
+    (valid_with s r c.self.invariant.fit come) in
+    let back = c.add.ensures.log s.log r (c.make_room-else-is_err.ensures.same ∙ c.self.invariant.returns_of_log)
+    (c.return_of-back.ensures s.log table come.may_follow) in
+    subst (λ (t : EngineState). IsKept stored t c.note.new.self c.change.new.self after) (sym (state_after g c))
+    (kept_next stored s it.txns c.note.new.self it.pool c.change.new.self media c.add.new.self.made r c.self.invariant
+    come (subst (λ (v : EngineView g.row.S.Denot g.row.D.Denot).
     IfSome (change_of r) (λ x. IsResident v.state.resident x.page)) (sym c.self.view_is) c.requires.there) noted
-    changed)
+    changed back)
 
 pub returns-clause-ok : goal.returns-clause-ok
 returns-clause-ok g c =
     subst (λ (v : EngineView g.row.S.Denot g.row.D.Denot).
     (engine_view g.S.PageStore.stored c.append.new.self c.change.new.self
-    (media_view c.self.inside.master c.self.inside.session c.self.inside.vault.copies)).state
+    (media_view c.self.inside.master c.self.inside.session c.self.inside.vault.copies c.self.inside.returns.made)).state
     ≡ appended v.state c.args.next) c.self.view_is (state_after g c)

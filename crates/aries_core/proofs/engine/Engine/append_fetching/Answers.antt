@@ -20,11 +20,24 @@ said : {T E : Type 0} (r : Result T E) (P : Type 0) → is_err r ≡ false → O
 said (Ok x) P ok h = h
 said (Err e) P ok h = cc
 
+pub return_of-back-requires : goal.return_of-back-requires
+return_of-back-requires g c =
+    let it = c.self.inside in
+    let stored = g.S.PageStore.stored in
+    let media = media_view it.master it.session it.vault.copies it.returns.made in
+    let s = (engine_view stored it.log it.pool media).state in
+    let r = c.args.next in
+    let calls : Calls s r =
+    subst (λ (v : EngineView g.row.S.Denot g.row.D.Denot). Calls v.state r) (sym c.self.view_is) c.requires.called in
+    let fit = c.self.invariant.fit in
+    let come = comes s r fit calls in
+    (s.log, (c.self.invariant.table_of_log, come.may_follow))
+
 pub note-requires : goal.note-requires
 note-requires g c =
     let it = c.self.inside in
     let stored = g.S.PageStore.stored in
-    let media = media_view it.master it.session it.vault.copies in
+    let media = media_view it.master it.session it.vault.copies it.returns.made in
     let s = (engine_view stored it.log it.pool media).state in
     let r = c.args.next in
     let calls : Calls s r =
@@ -37,7 +50,7 @@ pub append-requires-2-clause-stands : goal.append-requires-2-clause-stands
 append-requires-2-clause-stands g c =
     let it = c.self.inside in
     let stored = g.S.PageStore.stored in
-    let media = media_view it.master it.session it.vault.copies in
+    let media = media_view it.master it.session it.vault.copies it.returns.made in
     let s = (engine_view stored it.log it.pool media).state in
     let r = c.args.next in
     let calls : Calls s r =
@@ -50,7 +63,7 @@ pub append-requires-2-clause-few : goal.append-requires-2-clause-few
 append-requires-2-clause-few g c =
     let it = c.self.inside in
     let stored = g.S.PageStore.stored in
-    let media = media_view it.master it.session it.vault.copies in
+    let media = media_view it.master it.session it.vault.copies it.returns.made in
     let s = (engine_view stored it.log it.pool media).state in
     let r = c.args.next in
     let calls : Calls s r =
@@ -64,31 +77,32 @@ pub change-requires-clause-next : goal.change-requires-clause-next
 change-requires-clause-next g c =
     let it = c.self.inside in
     let stored = g.S.PageStore.stored in
-    let media = media_view it.master it.session it.vault.copies in
+    let media = media_view it.master it.session it.vault.copies it.returns.made in
     let s = (engine_view stored it.log it.pool media).state in
     let r = c.args.next in
     let calls : Calls s r =
     subst (λ (v : EngineView g.row.S.Denot g.row.D.Denot). Calls v.state r) (sym c.self.view_is) c.requires.called in
     let fit = c.self.invariant.fit in
     let come = comes s r fit calls in
-    let of_log = c.fetch.ensures.kept (log_of s) (c.make_room-else-is_err.ensures.kept (log_of s)
+    let of_log = c.fetch.ensures.kept (log_of s) (c.make_room-else-is_err-2.ensures.kept (log_of s)
     c.self.invariant.pool_of_log) in
     (log_of s, (of_log, valid_with s r fit come))
 
 came : (g : given.Over) (c : goal.After-change g)
     → (engine_view g.S.PageStore.stored c.self.inside.log c.fetch.new.self
-    (media_view c.self.inside.master c.self.inside.session c.self.inside.vault.copies)).state
+    (media_view c.self.inside.master c.self.inside.session c.self.inside.vault.copies c.self.inside.returns.made)).state
     ≡ with_page (engine_view g.S.PageStore.stored c.self.inside.log c.self.inside.pool
-    (media_view c.self.inside.master c.self.inside.session c.self.inside.vault.copies)).state c.args.page
+    (media_view c.self.inside.master c.self.inside.session c.self.inside.vault.copies c.self.inside.returns.made)).state
+    c.args.page
 came g c =
     let it = c.self.inside in
     let stored = g.S.PageStore.stored in
-    let media = media_view it.master it.session it.vault.copies in
+    let media = media_view it.master it.session it.vault.copies it.returns.made in
     let s = (engine_view stored it.log it.pool media).state in
     let p = c.args.page in
-    let same = c.make_room-else-is_err.ensures.same in
-    let of_room = c.make_room-else-is_err.ensures.kept (log_of s) c.self.invariant.pool_of_log in
-    let now = said c.fetch.result _ (sym c.is_err-2.ensures.value ∙ c.if-is_err-3.false) c.fetch.ensures.fetched
+    let same = c.make_room-else-is_err-2.ensures.same in
+    let of_room = c.make_room-else-is_err-2.ensures.kept (log_of s) c.self.invariant.pool_of_log in
+    let now = said c.fetch.result _ (sym c.is_err-2.ensures.value ∙ c.if-is_err-4.false) c.fetch.ensures.fetched
     (log_of s) (formatted p) of_room in
     fetched_is stored it.log it.pool c.fetch.new.self media p (sym c.is_resident.ensures ∙ c.if-is_resident.false)
     (c.fetch.ensures.stored ∙ ap (λ (v : PoolView g.row.S.Denot). stored v.store) same)
@@ -99,13 +113,14 @@ came g c =
 
 grown : (g : given.Over) (c : goal.After-change g)
     → (engine_view g.S.PageStore.stored c.append-2.new.self c.change.new.self
-    (media_view c.self.inside.master c.self.inside.session c.self.inside.vault.copies)).state
+    (media_view c.self.inside.master c.self.inside.session c.self.inside.vault.copies c.self.inside.returns.made)).state
     ≡ appended (engine_view g.S.PageStore.stored c.self.inside.log c.fetch.new.self
-    (media_view c.self.inside.master c.self.inside.session c.self.inside.vault.copies)).state c.args.next
+    (media_view c.self.inside.master c.self.inside.session c.self.inside.vault.copies c.self.inside.returns.made)).state
+    c.args.next
 grown g c =
     let it = c.self.inside in
     let stored = g.S.PageStore.stored in
-    let media = media_view it.master it.session it.vault.copies in
+    let media = media_view it.master it.session it.vault.copies it.returns.made in
     appended_is stored it.log c.make_room.new.self c.append-2.new.self c.fetch.new.self c.change.new.self media
     c.args.next c.make_room.ensures.same c.make_room.ensures.forced_end c.append-2.ensures.next
     c.append-2.ensures.forced_end (ap (λ x. stored x) c.change.ensures.store) c.change.ensures.frames
@@ -115,7 +130,7 @@ pub invariant_of-self-2 : goal.invariant_of-self-2
 invariant_of-self-2 g c =
     let it = c.self.inside in
     let stored = g.S.PageStore.stored in
-    let media = media_view it.master it.session it.vault.copies in
+    let media = media_view it.master it.session it.vault.copies it.returns.made in
     let s = (engine_view stored it.log it.pool media).state in
     let r = c.args.next in
     let calls : Calls s r =
@@ -125,19 +140,22 @@ invariant_of-self-2 g c =
     let within : c.args.page < s.pages =
     subst (λ (v : EngineView g.row.S.Denot g.row.D.Denot). c.args.page < v.state.pages) (sym c.self.view_is)
     c.requires.within in
-    let of_log = c.fetch.ensures.kept (log_of s) (c.make_room-else-is_err.ensures.kept (log_of s)
+    let of_log = c.fetch.ensures.kept (log_of s) (c.make_room-else-is_err-2.ensures.kept (log_of s)
     c.self.invariant.pool_of_log) in
-    let noted = said c.note.result _ (sym c.is_err-3.ensures.value ∙ c.if-is_err-4.false) c.note.ensures.ok
-    s.log c.self.invariant.table_of_log come.may_follow in
+    let table = c.self.invariant.table_of_log in
+    let noted = said c.note.result _ (sym c.is_err-3.ensures.value ∙ c.if-is_err-5.false) c.note.ensures.ok
+    s.log table come.may_follow in
+    let back = c.add.ensures.log s.log r (c.make_room-else-is_err.ensures.same ∙ c.self.invariant.returns_of_log)
+    (c.return_of-back.ensures s.log table come.may_follow) in
     after_fetch stored s (engine_view stored it.log c.fetch.new.self media).state _ c.args.page it.txns c.note.new.self
-    it.pool c.fetch.new.self c.change.new.self media r c.self.invariant come within c.requires.page (came g c) of_log
-    noted (c.change.ensures.kept (log_of s) of_log (valid_with s r fit come)) (grown g c)
+    it.pool c.fetch.new.self c.change.new.self media c.add.new.self.made r c.self.invariant come within c.requires.page
+    (came g c) of_log noted (c.change.ensures.kept (log_of s) of_log (valid_with s r fit come)) back (grown g c)
 
 pub returns-clause-ok : goal.returns-clause-ok
 returns-clause-ok g c =
     subst (λ (v : EngineView g.row.S.Denot g.row.D.Denot).
     (engine_view g.S.PageStore.stored c.append-2.new.self c.change.new.self
-    (media_view c.self.inside.master c.self.inside.session c.self.inside.vault.copies)).state
+    (media_view c.self.inside.master c.self.inside.session c.self.inside.vault.copies c.self.inside.returns.made)).state
     ≡ appended (with_page v.state c.args.page) c.args.next) c.self.view_is
     (grown g c ∙ ap (λ (t : EngineState). appended t c.args.next) (came g c))
 
@@ -147,28 +165,28 @@ returns-clause-asked g c =
     let stored = g.S.PageStore.stored in
     let gave = g.S.PageStore.gave in
     let wrote = g.S.PageStore.wrote in
-    let media = media_view it.master it.session it.vault.copies in
+    let media = media_view it.master it.session it.vault.copies it.returns.made in
     let p = c.args.page in
     let new = engine_view stored c.append-2.new.self c.change.new.self media in
-    let given = said c.fetch.result _ (sym c.is_err-2.ensures.value ∙ c.if-is_err-3.false) c.fetch.ensures.gave
+    let given = said c.fetch.result _ (sym c.is_err-2.ensures.value ∙ c.if-is_err-4.false) c.fetch.ensures.gave
     (formatted p) in
     subst (λ (v : EngineView g.row.S.Denot g.row.D.Denot). Asks gave wrote (page_asked v.state p) v new) c.self.view_is
-    (asks_page stored gave wrote it.log it.pool c.make_room-else-is_err.new.self media new p
-    (sym c.is_resident.ensures ∙ c.if-is_resident.false) c.make_room-else-is_err.ensures.same
-    (subst (λ (x : g.row.S.Denot). gave c.make_room-else-is_err.new.self.store p
-    (Ok (get_or (stored c.make_room-else-is_err.new.self.store) p (formatted p))) x) (sym c.change.ensures.store) given))
+    (asks_page stored gave wrote it.log it.pool c.make_room-else-is_err-2.new.self media new p
+    (sym c.is_resident.ensures ∙ c.if-is_resident.false) c.make_room-else-is_err-2.ensures.same
+    (subst (λ (x : g.row.S.Denot). gave c.make_room-else-is_err-2.new.self.store p
+    (Ok (get_or (stored c.make_room-else-is_err-2.new.self.store) p (formatted p))) x) (sym c.change.ensures.store) given))
 
-pub returns-then-is_err-3-clause-failed : goal.returns-then-is_err-3-clause-failed
-returns-then-is_err-3-clause-failed g c = λ by_store.
+pub returns-then-is_err-4-clause-failed : goal.returns-then-is_err-4-clause-failed
+returns-then-is_err-4-clause-failed g c = λ by_store.
     let it = c.self.inside in
     let stored = g.S.PageStore.stored in
     let gave = g.S.PageStore.gave in
     let wrote = g.S.PageStore.wrote in
-    let media = media_view it.master it.session it.vault.copies in
+    let media = media_view it.master it.session it.vault.copies it.returns.made in
     let p = c.args.page in
     let new = engine_view stored c.make_room.new.self c.fetch.new.self media in
-    let failed = why_failed c.fetch.result _ (sym c.is_err-2.ensures.value ∙ c.if-is_err-3.true) c.fetch.ensures.failed in
+    let failed = why_failed c.fetch.result _ (sym c.is_err-2.ensures.value ∙ c.if-is_err-4.true) c.fetch.ensures.failed in
     subst (λ (v : EngineView g.row.S.Denot g.row.D.Denot). FailsAsking gave wrote (page_asked v.state p) v new)
     c.self.view_is
-    (fails_asking stored gave wrote it.log it.pool c.make_room-else-is_err.new.self media new p
-    (sym c.is_resident.ensures ∙ c.if-is_resident.false) c.make_room-else-is_err.ensures.same failed)
+    (fails_asking stored gave wrote it.log it.pool c.make_room-else-is_err-2.new.self media new p
+    (sym c.is_resident.ensures ∙ c.if-is_resident.false) c.make_room-else-is_err-2.ensures.same failed)

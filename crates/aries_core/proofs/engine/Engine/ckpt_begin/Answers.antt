@@ -15,7 +15,7 @@ pub invariant_of-self-2 : goal.invariant_of-self-2
 invariant_of-self-2 g c =
     let it = c.self.inside in
     let stored = g.S.PageStore.stored in
-    let ckpts = media_view it.master it.session it.vault.copies in
+    let ckpts = media_view it.master it.session it.vault.copies it.returns.made in
     let none : refusal (engine_view stored it.log it.pool ckpts).state event.CkptBegin ≡ None =
     subst (λ (v : EngineView g.row.S.Denot g.row.D.Denot). refusal v.state event.CkptBegin ≡ None)
     (sym c.self.view_is) c.in_ok-find_no_ckpt.ensures.free in
@@ -27,11 +27,11 @@ pub returns-clause-step : goal.returns-clause-step
 returns-clause-step g c =
     let it = c.self.inside in
     let stored = g.S.PageStore.stored in
-    let ckpts = media_view it.master it.session it.vault.copies in
+    let ckpts = media_view it.master it.session it.vault.copies it.returns.made in
     let none : refusal (engine_view stored it.log it.pool ckpts).state event.CkptBegin ≡ None =
     subst (λ (v : EngineView g.row.S.Denot g.row.D.Denot). refusal v.state event.CkptBegin ≡ None)
     (sym c.self.view_is) c.in_ok-find_no_ckpt.ensures.free in
-    let after = media_view it.master (Some (Pages c.in-Ok.ckpt)) it.vault.copies in
+    let after = media_view it.master (Some (Pages c.in-Ok.ckpt)) it.vault.copies it.returns.made in
     subst (λ (v : EngineView g.row.S.Denot g.row.D.Denot). Step v.state event.CkptBegin
     (Ok (answer.Logged c.end-lsn.result)) (engine_view stored c.begin.new.log it.pool after).state) c.self.view_is
     (ckpt_begun stored it.log c.begin.new.log it.txns it.pool ckpts after c.end-lsn.result c.self.invariant none

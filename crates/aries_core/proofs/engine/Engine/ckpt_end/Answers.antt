@@ -17,39 +17,39 @@ pub invariant_of-self-in-Err-LogFault : goal.invariant_of-self-in-Err-LogFault
 invariant_of-self-in-Err-LogFault g c =
     let it = c.self.inside in
     let stored = g.S.PageStore.stored in
-    let ckpts = media_view it.master it.session it.vault.copies in
+    let ckpts = media_view it.master it.session it.vault.copies it.returns.made in
     let none : refusal (engine_view stored it.log it.pool ckpts).state event.CkptEnd ≡ None =
     subst (λ (v : EngineView g.row.S.Denot g.row.D.Denot). refusal v.state event.CkptEnd ≡ None)
     (sym c.self.view_is) c.in_ok-find_gathered.ensures.gathered in
     (ckpt_unforced stored it.log c.finish.new.log it.txns it.pool ckpts
-    (media_view it.master c.take.new.self it.vault.copies)
+    (media_view it.master c.take.new.self it.vault.copies it.returns.made)
     (gathered_ckpt c.in-Some-into_gathered.ckpt) c.self.invariant none
     (ap (option_map view_of) (sym c.take.ensures.value ∙ c.in-Some.is) ∙ ap Some (sym c.in-Some-into_gathered.ensures))
     (subst (FailsAs it.log c.finish.new.log c.in-Some-into_gathered.ckpt) c.in-Err-LogFault.field-0-is
-    c.in-Err-LogFault.ensures.failed) (ap (λ o. media_view it.master o it.vault.copies) c.take.ensures.after)).kept
+    c.in-Err-LogFault.ensures.failed) (ap (λ o. media_view it.master o it.vault.copies it.returns.made) c.take.ensures.after)).kept
 
 pub invariant_of-self-2 : goal.invariant_of-self-2
 invariant_of-self-2 g c =
     let it = c.self.inside in
     let stored = g.S.PageStore.stored in
-    let ckpts = media_view it.master it.session it.vault.copies in
+    let ckpts = media_view it.master it.session it.vault.copies it.returns.made in
     let none : refusal (engine_view stored it.log it.pool ckpts).state event.CkptEnd ≡ None =
     subst (λ (v : EngineView g.row.S.Denot g.row.D.Denot). refusal v.state event.CkptEnd ≡ None)
     (sym c.self.view_is) c.in_ok-find_gathered.ensures.gathered in
     (ckpt_ended stored it.log c.finish.new.log it.txns it.pool ckpts
-    (media_view (Some c.in-Ok.point) c.take.new.self it.vault.copies)
+    (media_view (Some c.in-Ok.point) c.take.new.self it.vault.copies it.returns.made)
     (gathered_ckpt c.in-Some-into_gathered.ckpt) c.in-Ok.point c.self.invariant none
     (ap (option_map view_of) (sym c.take.ensures.value ∙ c.in-Some.is) ∙ ap Some (sym c.in-Some-into_gathered.ensures))
     c.in-Ok.ensures.logged c.in-Ok.ensures.forced
-    (ap (λ o. media_view (Some c.in-Ok.point) o it.vault.copies) c.take.ensures.after)
+    (ap (λ o. media_view (Some c.in-Ok.point) o it.vault.copies it.returns.made) c.take.ensures.after)
     c.in-Ok.ensures.point).kept
 
 pub returns-in-Err-LogFault-clause-step : goal.returns-in-Err-LogFault-clause-step
 returns-in-Err-LogFault-clause-step g c =
     let it = c.self.inside in
     let stored = g.S.PageStore.stored in
-    let ckpts = media_view it.master it.session it.vault.copies in
-    let after = media_view it.master c.take.new.self it.vault.copies in
+    let ckpts = media_view it.master it.session it.vault.copies it.returns.made in
+    let after = media_view it.master c.take.new.self it.vault.copies it.returns.made in
     let none : refusal (engine_view stored it.log it.pool ckpts).state event.CkptEnd ≡ None =
     subst (λ (v : EngineView g.row.S.Denot g.row.D.Denot). refusal v.state event.CkptEnd ≡ None)
     (sym c.self.view_is) c.in_ok-find_gathered.ensures.gathered in
@@ -59,15 +59,15 @@ returns-in-Err-LogFault-clause-step g c =
     (gathered_ckpt c.in-Some-into_gathered.ckpt) c.self.invariant none
     (ap (option_map view_of) (sym c.take.ensures.value ∙ c.in-Some.is) ∙ ap Some (sym c.in-Some-into_gathered.ensures))
     (subst (FailsAs it.log c.finish.new.log c.in-Some-into_gathered.ckpt) c.in-Err-LogFault.field-0-is
-    c.in-Err-LogFault.ensures.failed) (ap (λ o. media_view it.master o it.vault.copies) c.take.ensures.after)).step
+    c.in-Err-LogFault.ensures.failed) (ap (λ o. media_view it.master o it.vault.copies it.returns.made) c.take.ensures.after)).step
 
 pub returns-clause-step : goal.returns-clause-step
 returns-clause-step g c =
     let it = c.self.inside in
     let stored = g.S.PageStore.stored in
-    let ckpts = media_view it.master it.session it.vault.copies in
+    let ckpts = media_view it.master it.session it.vault.copies it.returns.made in
     let point = c.in-Ok.point in
-    let after = media_view (Some point) c.take.new.self it.vault.copies in
+    let after = media_view (Some point) c.take.new.self it.vault.copies it.returns.made in
     let none : refusal (engine_view stored it.log it.pool ckpts).state event.CkptEnd ≡ None =
     subst (λ (v : EngineView g.row.S.Denot g.row.D.Denot). refusal v.state event.CkptEnd ≡ None)
     (sym c.self.view_is) c.in_ok-find_gathered.ensures.gathered in
@@ -78,7 +78,7 @@ returns-clause-step g c =
     (gathered_ckpt c.in-Some-into_gathered.ckpt) point c.self.invariant none
     (ap (option_map view_of) (sym c.take.ensures.value ∙ c.in-Some.is) ∙ ap Some (sym c.in-Some-into_gathered.ensures))
     c.in-Ok.ensures.logged c.in-Ok.ensures.forced
-    (ap (λ o. media_view (Some point) o it.vault.copies) c.take.ensures.after) c.in-Ok.ensures.point).step
+    (ap (λ o. media_view (Some point) o it.vault.copies it.returns.made) c.take.ensures.after) c.in-Ok.ensures.point).step
 
 pub returns-in-Err-LogFault-clause-last_call : goal.returns-in-Err-LogFault-clause-last_call
 returns-in-Err-LogFault-clause-last_call g c =

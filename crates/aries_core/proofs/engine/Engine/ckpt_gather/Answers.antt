@@ -17,7 +17,7 @@ pub gather-requires-clause-covered : goal.gather-requires-clause-covered
 gather-requires-clause-covered g c =
     let it = c.self.inside in
     let stored = g.S.PageStore.stored in
-    let ckpts = media_view it.master it.session it.vault.copies in
+    let ckpts = media_view it.master it.session it.vault.copies it.returns.made in
     (session_covered stored (engine_view stored it.log it.pool ckpts).state it.txns it.pool ckpts
     (view_of c.in-Some.session) c.self.invariant (ap (option_map view_of) (sym c.take.ensures.value ∙ c.in-Some.is))).1
 
@@ -25,7 +25,7 @@ pub invariant_of-self : goal.invariant_of-self
 invariant_of-self g c =
     let it = c.self.inside in
     let stored = g.S.PageStore.stored in
-    let ckpts = media_view it.master it.session it.vault.copies in
+    let ckpts = media_view it.master it.session it.vault.copies it.returns.made in
     let none : refusal (engine_view stored it.log it.pool ckpts).state event.CkptGather ≡ None =
     subst (λ (v : EngineView g.row.S.Denot g.row.D.Denot). refusal v.state event.CkptGather ≡ None)
     (sym c.self.view_is) c.in_ok-find_gather.ensures.open in
@@ -40,8 +40,8 @@ pub returns-after-done-clause-step : goal.returns-after-done-clause-step
 returns-after-done-clause-step g c =
     let it = c.self.inside in
     let stored = g.S.PageStore.stored in
-    let ckpts = media_view it.master it.session it.vault.copies in
-    let after = media_view it.master (Some c.in-Ok.session) it.vault.copies in
+    let ckpts = media_view it.master it.session it.vault.copies it.returns.made in
+    let after = media_view it.master (Some c.in-Ok.session) it.vault.copies it.returns.made in
     let none : refusal (engine_view stored it.log it.pool ckpts).state event.CkptGather ≡ None =
     subst (λ (v : EngineView g.row.S.Denot g.row.D.Denot). refusal v.state event.CkptGather ≡ None)
     (sym c.self.view_is) c.in_ok-find_gather.ensures.open in
@@ -64,8 +64,8 @@ pub returns-in-Err-clause-step : goal.returns-in-Err-clause-step
 returns-in-Err-clause-step g c =
     let it = c.self.inside in
     let stored = g.S.PageStore.stored in
-    let ckpts = media_view it.master it.session it.vault.copies in
-    let after = media_view it.master (Some c.in-Err.session) it.vault.copies in
+    let ckpts = media_view it.master it.session it.vault.copies it.returns.made in
+    let after = media_view it.master (Some c.in-Err.session) it.vault.copies it.returns.made in
     let none : refusal (engine_view stored it.log it.pool ckpts).state event.CkptGather ≡ None =
     subst (λ (v : EngineView g.row.S.Denot g.row.D.Denot). refusal v.state event.CkptGather ≡ None)
     (sym c.self.view_is) c.in_ok-find_gather.ensures.open in

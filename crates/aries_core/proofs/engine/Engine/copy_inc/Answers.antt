@@ -11,14 +11,16 @@ use Rattle.aries_core.proofs.engine.Engine.copy_inc.Goals as goal
 use Rattle.aries_core.proofs.engine.Engine.copy_inc.Given as given
 
 inc_made : (g : given.Over) (c : goal.In_ok-open_inc g) → Step (engine_view g.S.PageStore.stored c.self.inside.log
-    c.self.inside.pool (media_view c.self.inside.master c.self.inside.session c.self.inside.vault.copies)).state
+    c.self.inside.pool
+    (media_view c.self.inside.master c.self.inside.session c.self.inside.vault.copies c.self.inside.returns.made)).state
     (event.CopyInc c.args.parent) (Ok (answer.Copied c.in_ok-open_inc.field-0))
     (with_copies (engine_view g.S.PageStore.stored c.self.inside.log c.self.inside.pool
-    (media_view c.self.inside.master c.self.inside.session c.self.inside.vault.copies)).state
+    (media_view c.self.inside.master c.self.inside.session c.self.inside.vault.copies c.self.inside.returns.made)).state
     c.open_inc.new.self.copies)
 inc_made g c =
     let it = c.self.inside in
-    let s = (engine_view g.S.PageStore.stored it.log it.pool (media_view it.master it.session it.vault.copies)).state in
+    let s = (engine_view g.S.PageStore.stored it.log it.pool
+    (media_view it.master it.session it.vault.copies it.returns.made)).state in
     let ok = c.in_ok-open_inc.ensures in
     inc_step s c.open_inc.new.self.copies c.args.parent c.noted_begin-begin.result c.noted_redo-redo.result
     c.in_ok-open_inc.field-0 c.self.invariant.fit ok.ok
@@ -29,7 +31,8 @@ inc_made g c =
 pub invariant_of-self-2 : goal.invariant_of-self-2
 invariant_of-self-2 g c =
     let it = c.self.inside in
-    copies_kept g.S.PageStore.stored it.log it.txns it.pool it.pool (media_view it.master it.session it.vault.copies)
+    copies_kept g.S.PageStore.stored it.log it.txns it.pool it.pool
+    (media_view it.master it.session it.vault.copies it.returns.made)
     c.open_inc.new.self.copies (event.CopyInc c.args.parent)
     (Ok (answer.Copied c.in_ok-open_inc.field-0)) c.self.invariant tt
     c.self.invariant.pool_of_log (inc_made g c)
@@ -37,6 +40,7 @@ invariant_of-self-2 g c =
 pub returns-clause-step : goal.returns-clause-step
 returns-clause-step g c =
     let it = c.self.inside in
-    let s = (engine_view g.S.PageStore.stored it.log it.pool (media_view it.master it.session it.vault.copies)).state in
+    let s = (engine_view g.S.PageStore.stored it.log it.pool
+    (media_view it.master it.session it.vault.copies it.returns.made)).state in
     subst (λ v. Step v.state (event.CopyInc c.args.parent) (Ok (answer.Copied c.in_ok-open_inc.field-0))
     (with_copies s c.open_inc.new.self.copies)) c.self.view_is (inc_made g c)

@@ -1,8 +1,9 @@
-use Rattle.std.proofs.Common.{List, sym, ap, subst, arith}
+use Rattle.std.proofs.Common.{◌∙◌, List, sym, ap, subst, arith}
 use Rattle.log_records.specs.declared.record.Record.{Record}
 use Rattle.log_records.specs.Log.{Log}
 use Rattle.log_history.proofs.Histories.{linked_none}
 use Rattle.buffer_pool.specs.Pool.{IsPoolOf}
+use Rattle.txn_table.specs.Returns.{returns_of}
 use Rattle.txn_table.specs.TxnTable.{IsTableOf}
 use Rattle.log_history.specs.Checkpoint.{open_checkpoint}
 use Rattle.std.specs.Option.{option_map}
@@ -16,8 +17,8 @@ pub invariant_of-result : goal.invariant_of-result
 invariant_of-result g c =
     let n = c.args.setup.pages in
     let stored = g.S.PageStore.stored in
-    let state = new_is stored c.in-Ok-new.log c.in-Ok.pool c.args.store n c.args.setup.frames c.new-in-Ok-new-2.result.copies
-    c.new-in-Ok-new-2.ensures c.in-Ok-new.ensures.empty
+    let state = new_is stored c.in-Ok-new.log c.in-Ok.pool c.args.store n c.args.setup.frames
+    c.new-in-Ok-new-3.result.copies c.new-in-Ok-new-2.result.made c.new-in-Ok-new-3.ensures c.in-Ok-new.ensures.empty
     c.in-Ok-new.ensures.forced_end (c.in-Ok.ensures.new n c.requires.formatted) c.requires.formatted in
     record {
       fit = subst IsFit (sym state) (new_is_fit n c.args.setup.frames c.requires.pages);
@@ -30,10 +31,12 @@ invariant_of-result g c =
           (c.in-Ok.ensures.empty n c.requires.formatted);
       session_of_log = sym (ap (λ (l : Log). option_map (session_of pages_left)
           (open_checkpoint l.records)) c.in-Ok-new.ensures.empty);
+      returns_of_log = c.new-in-Ok-new-2.ensures
+          ∙ sym (ap (λ (l : Log). returns_of l.records) c.in-Ok-new.ensures.empty);
     }
 
 pub returns-in-Ok-new-clause-empty : goal.returns-in-Ok-new-clause-empty
 returns-in-Ok-new-clause-empty g c =
     new_is g.S.PageStore.stored c.in-Ok-new.log c.in-Ok.pool c.args.store c.args.setup.pages c.args.setup.frames
-    c.new-in-Ok-new-2.result.copies c.new-in-Ok-new-2.ensures c.in-Ok-new.ensures.empty
+    c.new-in-Ok-new-3.result.copies c.new-in-Ok-new-2.result.made c.new-in-Ok-new-3.ensures c.in-Ok-new.ensures.empty
     c.in-Ok-new.ensures.forced_end (c.in-Ok.ensures.new c.args.setup.pages c.requires.formatted) c.requires.formatted

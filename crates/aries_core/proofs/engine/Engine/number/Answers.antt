@@ -15,7 +15,8 @@ current-requires g c =
 pub returns : goal.returns
 returns g c =
     let it = c.self.inside in
-    let s = (engine_view g.S.PageStore.stored it.log it.pool (media_view it.master it.session it.vault.copies)).state in
+    let s = (engine_view g.S.PageStore.stored it.log it.pool
+    (media_view it.master it.session it.vault.copies it.returns.made)).state in
     ap (λ (p : Page). get_or p.slots c.slot.inside.0 0)
     (c.current.ensures.image (log_of s) c.self.invariant.pool_of_log)
     ∙ ap (λ (n : ℕ). get_or (image s.log c.args.page).slots n 0) c.slot.view_is

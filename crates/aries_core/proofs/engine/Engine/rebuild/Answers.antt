@@ -15,7 +15,8 @@ use Rattle.aries_core.proofs.engine.Engine.rebuild.Goals as goal
 pub rebuild_page-requires-clause-within : goal.rebuild_page-requires-clause-within
 rebuild_page-requires-clause-within g c =
     let it = c.self.inside in
-    let s = (engine_view g.S.PageStore.stored it.log it.pool (media_view it.master it.session it.vault.copies)).state in
+    let s = (engine_view g.S.PageStore.stored it.log it.pool
+    (media_view it.master it.session it.vault.copies it.returns.made)).state in
     let none : refusal s (event.Repair c.args.copy c.args.page) ≡ None =
     subst (λ (v : EngineView g.row.S.Denot g.row.D.Denot). refusal v.state (event.Repair c.args.copy c.args.page)
     ≡ None) (sym c.self.view_is) c.requires in
@@ -27,7 +28,8 @@ rebuild_page-requires-clause-within g c =
 pub returns-clause-rebuilt : goal.returns-clause-rebuilt
 returns-clause-rebuilt g c =
     let it = c.self.inside in
-    let s = (engine_view g.S.PageStore.stored it.log it.pool (media_view it.master it.session it.vault.copies)).state in
+    let s = (engine_view g.S.PageStore.stored it.log it.pool
+    (media_view it.master it.session it.vault.copies it.returns.made)).state in
     let p = c.args.page in
     let members = c.in_ok-chain.chain in
     let none : refusal s (event.Repair c.args.copy p) ≡ None =

@@ -26,12 +26,13 @@ said (Err e) P ok h = cc
 
 call : (g : given.Over) (c : goal.Joined-repair g)
     → Called g.S.PageStore.stored c.self.inside.log c.force_to.new.self c.self.inside.txns c.self.inside.pool
-    c.repair.new.self (media_view c.self.inside.master c.self.inside.session c.self.inside.vault.copies)
+    c.repair.new.self
+    (media_view c.self.inside.master c.self.inside.session c.self.inside.vault.copies c.self.inside.returns.made)
     (event.Repair c.args.copy c.args.page) (reply_of (λ lsn. answer.Repaired lsn) c.match-repair.result)
 call g c =
     let it = c.self.inside in
     let stored = g.S.PageStore.stored in
-    let media = media_view it.master it.session it.vault.copies in
+    let media = media_view it.master it.session it.vault.copies it.returns.made in
     let copy = c.args.copy in
     let p = c.args.page in
     let q = c.in_ok-rebuilt.rebuilt in
@@ -66,7 +67,7 @@ pub invariant_of-self : goal.invariant_of-self
 invariant_of-self g c =
     let it = c.self.inside in
     force_kept g.S.PageStore.stored it.log c.force_to.new.self it.txns it.pool
-    (media_view it.master it.session it.vault.copies)
+    (media_view it.master it.session it.vault.copies it.returns.made)
     c.self.invariant c.force_to.ensures.same c.force_to.ensures.rising c.force_to.ensures.at_record
 
 pub invariant_of-self-2 : goal.invariant_of-self-2
@@ -77,7 +78,7 @@ returns-clause-step g c =
     subst (λ (v : EngineView g.row.S.Denot g.row.D.Denot). Step v.state (event.Repair c.args.copy c.args.page)
     (reply_of (λ lsn. answer.Repaired lsn) c.match-repair.result)
     (engine_view g.S.PageStore.stored c.force_to.new.self c.repair.new.self
-    (media_view c.self.inside.master c.self.inside.session c.self.inside.vault.copies)).state)
+    (media_view c.self.inside.master c.self.inside.session c.self.inside.vault.copies c.self.inside.returns.made)).state)
     c.self.view_is (call g c).step
 
 pub returns-clause-asked : goal.returns-clause-asked
@@ -86,7 +87,7 @@ returns-clause-asked g c =
     let stored = g.S.PageStore.stored in
     let gave = g.S.PageStore.gave in
     let wrote = g.S.PageStore.wrote in
-    let media = media_view it.master it.session it.vault.copies in
+    let media = media_view it.master it.session it.vault.copies it.returns.made in
     let p = c.args.page in
     let now = engine_view stored it.log it.pool media in
     let copy = c.args.copy in
@@ -113,7 +114,7 @@ returns-clause-failed g c =
     let stored = g.S.PageStore.stored in
     let gave = g.S.PageStore.gave in
     let wrote = g.S.PageStore.wrote in
-    let media = media_view it.master it.session it.vault.copies in
+    let media = media_view it.master it.session it.vault.copies it.returns.made in
     let p = c.args.page in
     let now = engine_view stored it.log it.pool media in
     let copy = c.args.copy in

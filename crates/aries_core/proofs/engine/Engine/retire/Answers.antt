@@ -11,7 +11,8 @@ use Rattle.aries_core.proofs.engine.Engine.retire.Goals as goal
 pub new-requires : goal.new-requires
 new-requires g c =
     let it = c.self.inside in
-    let s = (engine_view g.S.PageStore.stored it.log it.pool (media_view it.master it.session it.vault.copies)).state in
+    let s = (engine_view g.S.PageStore.stored it.log it.pool
+    (media_view it.master it.session it.vault.copies it.returns.made)).state in
     subst (λ (log : Log). IsRetired (record {
       log = log;
       forced_end = c.forced_end-forced_end.result;

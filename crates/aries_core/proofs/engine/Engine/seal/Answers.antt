@@ -10,7 +10,7 @@ pub invariant_of-self-2 : goal.invariant_of-self-2
 invariant_of-self-2 g c =
     let it = c.self.inside in
     let stored = g.S.PageStore.stored in
-    let media = media_view it.master it.session it.vault.copies in
+    let media = media_view it.master it.session it.vault.copies it.returns.made in
     let s = (engine_view stored it.log it.pool media).state in
     let ok = c.in_ok-seal.ensures in
     copies_kept stored it.log it.txns it.pool it.pool media c.seal.new.self.copies (event.Seal c.args.copy)

@@ -21,21 +21,23 @@ use Rattle.aries_core.proofs.Asks.{always}
 pub decide-requires-clause-there : goal.decide-requires-clause-there
 decide-requires-clause-there g c =
     let it = c.self.inside in
-    let s = (engine_view g.S.PageStore.stored it.log it.pool (media_view it.master it.session it.vault.copies)).state in
+    let s = (engine_view g.S.PageStore.stored it.log it.pool
+    (media_view it.master it.session it.vault.copies it.returns.made)).state in
     take_room s c.make_room.new.self.copies c.args.copy c.args.page c.self.invariant.fit
     (subst (λ v. refusal v.state (event.Take c.args.copy c.args.page) ≡ None) (sym c.self.view_is)
     c.in_ok-find_takeable.ensures.free)
     c.make_room.ensures.copies
 
 take_made : (g : given.Over) (c : goal.Joined-decide g) → Step (engine_view g.S.PageStore.stored c.self.inside.log
-    c.self.inside.pool (media_view c.self.inside.master c.self.inside.session c.self.inside.vault.copies)).state
+    c.self.inside.pool
+    (media_view c.self.inside.master c.self.inside.session c.self.inside.vault.copies c.self.inside.returns.made)).state
     (event.Take c.args.copy c.args.page) (reply_of took_answer c.match-decide.result)
     (engine_view g.S.PageStore.stored c.self.inside.log c.stored.new.self
-    (media_view c.self.inside.master c.self.inside.session c.decide.new.self.copies)).state
+    (media_view c.self.inside.master c.self.inside.session c.decide.new.self.copies c.self.inside.returns.made)).state
 take_made g c =
     let it = c.self.inside in
     let stored = g.S.PageStore.stored in
-    let media = media_view it.master it.session it.vault.copies in
+    let media = media_view it.master it.session it.vault.copies it.returns.made in
     let s = (engine_view stored it.log it.pool media).state in
     let none : refusal s (event.Take c.args.copy c.args.page) ≡ None =
     subst (λ v. refusal v.state (event.Take c.args.copy c.args.page) ≡ None) (sym c.self.view_is)
@@ -52,7 +54,7 @@ take_made g c =
       | in-Kept w ↦ ap (reply_of took_answer) w.result-is ∙ ap (λ d. Ok (take_answer d page)) (sym w.in-Kept.is)
     ] in
     subst (λ r. Step s (event.Take c.args.copy c.args.page) r (engine_view stored it.log c.stored.new.self
-    (media_view it.master it.session c.decide.new.self.copies)).state) (sym reply)
+    (media_view it.master it.session c.decide.new.self.copies it.returns.made)).state) (sym reply)
     (subst (Step s (event.Take c.args.copy c.args.page) (Ok (take_answer c.decide.result page)))
     (sym (asked_is stored it.log it.pool c.stored.new.self media c.decide.new.self.copies c.in-Ok.ensures.same
     c.in-Ok.ensures.rest))
@@ -62,7 +64,8 @@ pub invariant_of-self-2 : goal.invariant_of-self-2
 invariant_of-self-2 g c =
     let it = c.self.inside in
     let stored = g.S.PageStore.stored in
-    copies_kept stored it.log it.txns it.pool c.stored.new.self (media_view it.master it.session it.vault.copies)
+    copies_kept stored it.log it.txns it.pool c.stored.new.self
+    (media_view it.master it.session it.vault.copies it.returns.made)
     c.decide.new.self.copies (event.Take c.args.copy c.args.page)
     (reply_of took_answer c.match-decide.result) c.self.invariant tt
     (c.in-Ok.ensures.kept it.log.log c.self.invariant.pool_of_log) (take_made g c)
@@ -72,7 +75,7 @@ returns-clause-step g c =
     let it = c.self.inside in
     subst (λ v. Step v.state (event.Take c.args.copy c.args.page) (reply_of took_answer c.match-decide.result)
     (engine_view g.S.PageStore.stored it.log c.stored.new.self
-    (media_view it.master it.session c.decide.new.self.copies)).state) c.self.view_is (take_made g c)
+    (media_view it.master it.session c.decide.new.self.copies it.returns.made)).state) c.self.view_is (take_made g c)
 
 pub returns-clause-asked : goal.returns-clause-asked
 returns-clause-asked g c =
@@ -81,7 +84,8 @@ returns-clause-asked g c =
     let gave = g.S.PageStore.gave in
     let wrote = g.S.PageStore.wrote in
     let p = c.args.page in
-    let new = engine_view stored it.log c.stored.new.self (media_view it.master it.session c.decide.new.self.copies) in
+    let new = engine_view stored it.log c.stored.new.self
+    (media_view it.master it.session c.decide.new.self.copies it.returns.made) in
     always c.match-decide.result
     (subst (λ (v : EngineView g.row.S.Denot g.row.D.Denot). Asks gave wrote (a_page p) v new) c.self.view_is
     (subst (λ (x : Page). gave it.pool.store p (Ok x) c.stored.new.self.store)

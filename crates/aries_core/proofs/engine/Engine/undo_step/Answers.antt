@@ -1,6 +1,7 @@
 use Rattle.std.proofs.Common.{◌≡◌, ◌<◌, Bool, true, false, refl, sym, ap, subst, ◌∙◌}
-use Rattle.std.specs.Prelude.{IfSome, Option, None, if◌then◌else◌}
+use Rattle.std.specs.Prelude.{IfSome, Option, None, Some, if◌then◌else◌}
 use Rattle.std.specs.Option.{option_map}
+use Rattle.log_records.specs.Record.{IsOfTransaction}
 use Rattle.log_history.specs.declared.pending_change.PendingChange.{PendingChange}
 use Rattle.log_history.specs.Transactions.{is_open, last_of, pending}
 use Rattle.aries_core.specs.declared.event.Event.TheVariants as event
@@ -17,9 +18,6 @@ of_open false found last is still = cc
 
 pub append_fetching-requires-clause-called : goal.append_fetching-requires-clause-called
 append_fetching-requires-clause-called g c =
-    let lsn : c.end-lsn.result ≡ end c.args.self.now.state =
-    c.end-lsn.ensures ∙ ap (λ (v : EngineView g.row.S.Denot g.row.D.Denot). end v.state) c.self.view_is in
-    let prev = c.in_ok-prev.ensures.last in
     let found : c.last_pending.result ≡ (if is_open c.args.self.now.state.log c.args.txn
     then last_of (pending c.args.self.now.state.log c.args.txn) else None) =
     c.last_pending.ensures _ c.self.invariant.table_of_log
@@ -27,11 +25,11 @@ append_fetching-requires-clause-called g c =
     (pending v.state.log c.args.txn) else None) c.self.view_is in
     let last = of_open _ _ _ found c.in_ok-prev.ensures.still_open ∙ c.in-Some.is in
     record {
-      of_transaction = tt;
+      of_transaction = subst IsOfTransaction (sym c.comp.ensures) tt;
       call = event.UndoStep c.args.txn;
       fits = tt;
       accepted = rw (c.in_ok-prev.ensures.rolling, last) c.in_ok-find_frame-in-Some.ensures.free;
-      made = rw (lsn, prev, last, c.undo_of.ensures.inverse) refl;
+      made = rw last (ap Some (sym c.comp.ensures));
     }
 
 pub append_fetching-requires-clause-within : goal.append_fetching-requires-clause-within

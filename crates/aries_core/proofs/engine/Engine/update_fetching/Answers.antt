@@ -26,6 +26,7 @@ use Rattle.log_records.specs.declared.record.Record.TheVariants.{Update}
 use Rattle.aries_core.specs.EngineState.{update_record}
 use Rattle.txn_table.specs.TxnTable.{IsAhead}
 use Rattle.aries_core.proofs.engine.Engine.update_fetching.Goals as goal
+use Rattle.aries_core.proofs.Returned.{returns_stay}
 
 -- what an answer that is no `Err` says, and what one says that is
 said : {T E : Type 0} (r : Result T E) (P : Type 0) → is_err r ≡ false → OnOk r P → P
@@ -40,7 +41,7 @@ pub note_ahead-requires : goal.note_ahead-requires
 note_ahead-requires g c =
     let it = c.self.inside in
     let stored = g.S.PageStore.stored in
-    let media = media_view it.master it.session it.vault.copies in
+    let media = media_view it.master it.session it.vault.copies it.returns.made in
     let s = (engine_view stored it.log it.pool media).state in
     let number = number_in s.log c.args.page c.args.slot in
     let r = update_record s c.args.txn c.args.page c.args.slot (with_before c.args.ahead number) in
@@ -61,7 +62,7 @@ pub take_back-requires : goal.take_back-requires
 take_back-requires g c =
     let it = c.self.inside in
     let stored = g.S.PageStore.stored in
-    let media = media_view it.master it.session it.vault.copies in
+    let media = media_view it.master it.session it.vault.copies it.returns.made in
     let s = (engine_view stored it.log it.pool media).state in
     let number = number_in s.log c.args.page c.args.slot in
     let r = update_record s c.args.txn c.args.page c.args.slot (with_before c.args.ahead number) in
@@ -94,7 +95,7 @@ pub invariant_of-self-then-is_err-4 : goal.invariant_of-self-then-is_err-4
 invariant_of-self-then-is_err-4 g c =
     let it = c.self.inside in
     let stored = g.S.PageStore.stored in
-    let media = media_view it.master it.session it.vault.copies in
+    let media = media_view it.master it.session it.vault.copies it.returns.made in
     let s = (engine_view stored it.log it.pool media).state in
     let number = number_in s.log c.args.page c.args.slot in
     let r = update_record s c.args.txn c.args.page c.args.slot (with_before c.args.ahead number) in
@@ -139,13 +140,14 @@ invariant_of-self-then-is_err-4 g c =
       };
       pool_of_log = of_log;
       session_of_log = c.self.invariant.session_of_log;
+      returns_of_log = c.self.invariant.returns_of_log;
     })
 
 pub settle-requires : goal.settle-requires
 settle-requires g c =
     let it = c.self.inside in
     let stored = g.S.PageStore.stored in
-    let media = media_view it.master it.session it.vault.copies in
+    let media = media_view it.master it.session it.vault.copies it.returns.made in
     let s = (engine_view stored it.log it.pool media).state in
     let number = number_in s.log c.args.page c.args.slot in
     let r = update_record s c.args.txn c.args.page c.args.slot (with_before c.args.ahead number) in
@@ -178,7 +180,7 @@ pub append-requires-clause-stands : goal.append-requires-clause-stands
 append-requires-clause-stands g c =
     let it = c.self.inside in
     let stored = g.S.PageStore.stored in
-    let media = media_view it.master it.session it.vault.copies in
+    let media = media_view it.master it.session it.vault.copies it.returns.made in
     let s = (engine_view stored it.log it.pool media).state in
     let number = number_in s.log c.args.page c.args.slot in
     let r = update_record s c.args.txn c.args.page c.args.slot (with_before c.args.ahead number) in
@@ -221,7 +223,7 @@ pub append-requires-clause-few : goal.append-requires-clause-few
 append-requires-clause-few g c =
     let it = c.self.inside in
     let stored = g.S.PageStore.stored in
-    let media = media_view it.master it.session it.vault.copies in
+    let media = media_view it.master it.session it.vault.copies it.returns.made in
     let s = (engine_view stored it.log it.pool media).state in
     let number = number_in s.log c.args.page c.args.slot in
     let r = update_record s c.args.txn c.args.page c.args.slot (with_before c.args.ahead number) in
@@ -243,7 +245,7 @@ pub change-requires-clause-next : goal.change-requires-clause-next
 change-requires-clause-next g c =
     let it = c.self.inside in
     let stored = g.S.PageStore.stored in
-    let media = media_view it.master it.session it.vault.copies in
+    let media = media_view it.master it.session it.vault.copies it.returns.made in
     let s = (engine_view stored it.log it.pool media).state in
     let number = number_in s.log c.args.page c.args.slot in
     let r = update_record s c.args.txn c.args.page c.args.slot (with_before c.args.ahead number) in
@@ -290,7 +292,7 @@ pub invariant_of-self-2 : goal.invariant_of-self-2
 invariant_of-self-2 g c =
     let it = c.self.inside in
     let stored = g.S.PageStore.stored in
-    let media = media_view it.master it.session it.vault.copies in
+    let media = media_view it.master it.session it.vault.copies it.returns.made in
     let s = (engine_view stored it.log it.pool media).state in
     let number = number_in s.log c.args.page c.args.slot in
     let r = update_record s c.args.txn c.args.page c.args.slot (with_before c.args.ahead number) in
@@ -352,8 +354,9 @@ invariant_of-self-2 g c =
     ∙ ap (λ x. table_of (s.log ++ Update c.end-lsn.result c.args.txn c.args.prev p c.args.slot x ∷ []))
     (sym c.with_number.ensures) in
     after_fetch stored s (engine_view stored it.log c.fetch.new.self media).state _ p it.txns c.settle.new.self
-    it.pool c.fetch.new.self c.change.new.self media next c.self.invariant comes_next within refl came of_log
-    settled (c.change.ensures.kept (log_of s) of_log (valid_with s next fit comes_next)) grown
+    it.pool c.fetch.new.self c.change.new.self media it.returns.made next c.self.invariant comes_next within refl came
+    of_log settled (c.change.ensures.kept (log_of s) of_log (valid_with s next fit comes_next))
+    (c.self.invariant.returns_of_log ∙ sym (returns_stay s.log next refl)) grown
 
 pub returns-clause-asked : goal.returns-clause-asked
 returns-clause-asked g c =
@@ -361,7 +364,7 @@ returns-clause-asked g c =
     let stored = g.S.PageStore.stored in
     let gave = g.S.PageStore.gave in
     let wrote = g.S.PageStore.wrote in
-    let media = media_view it.master it.session it.vault.copies in
+    let media = media_view it.master it.session it.vault.copies it.returns.made in
     let p = c.args.page in
     let absent : is_resident it.pool.resident p ≡ false =
     subst (λ (v : EngineView g.row.S.Denot g.row.D.Denot). is_resident v.state.resident p ≡ false) (sym c.self.view_is)
@@ -381,7 +384,7 @@ returns-then-is_err-4-clause-failed g c = λ by_store.
     let stored = g.S.PageStore.stored in
     let gave = g.S.PageStore.gave in
     let wrote = g.S.PageStore.wrote in
-    let media = media_view it.master it.session it.vault.copies in
+    let media = media_view it.master it.session it.vault.copies it.returns.made in
     let p = c.args.page in
     let absent : is_resident it.pool.resident p ≡ false =
     subst (λ (v : EngineView g.row.S.Denot g.row.D.Denot). is_resident v.state.resident p ≡ false) (sym c.self.view_is)

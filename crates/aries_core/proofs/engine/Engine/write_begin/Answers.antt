@@ -41,7 +41,8 @@ pub image_of-requires : goal.image_of-requires
 image_of-requires g c =
     let it = c.self.inside in
     let p = c.args.page in
-    let s = (engine_view g.S.PageStore.stored it.log it.pool (media_view it.master it.session it.vault.copies)).state in
+    let s = (engine_view g.S.PageStore.stored it.log it.pool
+    (media_view it.master it.session it.vault.copies it.returns.made)).state in
     let none : refusal s (event.WriteBegin p) ≡ None =
     subst (λ (v : EngineView g.row.S.Denot g.row.D.Denot). refusal v.state (event.WriteBegin p) ≡ None)
     (sym c.self.view_is) c.in_ok-find_dirty.ensures.dirty in
@@ -50,7 +51,8 @@ image_of-requires g c =
 
 call : (g : given.Over) (c : goal.After-write_begin g)
     → Called g.S.PageStore.stored c.self.inside.log c.force_to.new.self c.self.inside.txns c.self.inside.pool
-    c.write_begin.new.self (media_view c.self.inside.master c.self.inside.session c.self.inside.vault.copies)
+    c.write_begin.new.self
+    (media_view c.self.inside.master c.self.inside.session c.self.inside.vault.copies c.self.inside.returns.made)
     (event.WriteBegin c.args.page)
     (Ok (answer.Writing c.write_begin.result))
 call g c =
@@ -58,7 +60,8 @@ call g c =
     let stored = g.S.PageStore.stored in
     let p = c.args.page in
     let q = c.in-Ok.image in
-    let s = (engine_view stored it.log it.pool (media_view it.master it.session it.vault.copies)).state in
+    let s = (engine_view stored it.log it.pool
+    (media_view it.master it.session it.vault.copies it.returns.made)).state in
     let none : refusal s (event.WriteBegin p) ≡ None =
     subst (λ (v : EngineView g.row.S.Denot g.row.D.Denot). refusal v.state (event.WriteBegin p) ≡ None)
     (sym c.self.view_is) c.in_ok-find_dirty.ensures.dirty in
@@ -68,7 +71,7 @@ call g c =
     let forced = said c.force_to.result _ (sym c.is_err.ensures.value ∙ c.if-is_err.false) c.force_to.ensures.forced in
     let number = c.in-Ok.ensures.numbered in
     begun stored it.log c.force_to.new.self it.txns it.pool c.write_begin.new.self
-    (media_view it.master it.session it.vault.copies) p c.write_begin.result q
+    (media_view it.master it.session it.vault.copies it.returns.made) p c.write_begin.result q
     c.self.invariant none within (c.in-Ok.ensures.image (log_of s) c.self.invariant.pool_of_log)
     c.write_begin.ensures.lsn c.force_to.ensures.same
     (forced ∙ ap (λ (x : Page). max it.log.forced_end (end_up_to it.log.log x.lsn)) c.page.ensures)
@@ -80,7 +83,7 @@ pub invariant_of-self : goal.invariant_of-self
 invariant_of-self g c =
     let it = c.self.inside in
     force_kept g.S.PageStore.stored it.log c.force_to.new.self it.txns it.pool
-    (media_view it.master it.session it.vault.copies)
+    (media_view it.master it.session it.vault.copies it.returns.made)
     c.self.invariant c.force_to.ensures.same c.force_to.ensures.rising c.force_to.ensures.at_record
 
 pub invariant_of-self-2 : goal.invariant_of-self-2
@@ -91,5 +94,5 @@ returns-clause-step g c =
     subst (λ (v : EngineView g.row.S.Denot g.row.D.Denot). Step v.state (event.WriteBegin c.args.page)
     (Ok (answer.Writing c.write_begin.result))
     (engine_view g.S.PageStore.stored c.force_to.new.self c.write_begin.new.self
-    (media_view c.self.inside.master c.self.inside.session c.self.inside.vault.copies)).state)
+    (media_view c.self.inside.master c.self.inside.session c.self.inside.vault.copies c.self.inside.returns.made)).state)
     c.self.view_is (call g c).step

@@ -18,13 +18,15 @@ use Rattle.aries_core.proofs.engine.Engine.write_end.Goals as goal
 
 call : (g : given.Over) (c : goal.Joined-write_end g)
     → Called g.S.PageStore.stored c.self.inside.log c.self.inside.log c.self.inside.txns c.self.inside.pool
-    c.write_end.new.self (media_view c.self.inside.master c.self.inside.session c.self.inside.vault.copies)
+    c.write_end.new.self
+    (media_view c.self.inside.master c.self.inside.session c.self.inside.vault.copies c.self.inside.returns.made)
     (event.WriteEnd c.args.page) (reply_of (λ lsn. answer.Written lsn) c.match-write_end.result)
 call g c =
     let it = c.self.inside in
     let stored = g.S.PageStore.stored in
     let p = c.args.page in
-    let s = (engine_view stored it.log it.pool (media_view it.master it.session it.vault.copies)).state in
+    let s = (engine_view stored it.log it.pool
+    (media_view it.master it.session it.vault.copies it.returns.made)).state in
     let none : refusal s (event.WriteEnd p) ≡ None =
     subst (λ (v : EngineView g.row.S.Denot g.row.D.Denot). refusal v.state (event.WriteEnd p) ≡ None)
     (sym c.self.view_is) c.in_ok-find_writing.ensures.writing in
@@ -35,16 +37,18 @@ call g c =
     elim c.match-write_end.branch [
       | in-Ok w ↦
           subst (λ (r : Result Lsn Refusal). Called stored it.log it.log it.txns it.pool c.write_end.new.self
-          (media_view it.master it.session it.vault.copies)
+          (media_view it.master it.session it.vault.copies it.returns.made)
           (event.WriteEnd p) (reply_of (λ lsn. answer.Written lsn) r)) (sym w.result-is)
-          (ended stored it.log it.txns it.pool c.write_end.new.self (media_view it.master it.session it.vault.copies) p
+          (ended stored it.log it.txns it.pool c.write_end.new.self
+          (media_view it.master it.session it.vault.copies it.returns.made) p
           w.in-Ok.lsn c.self.invariant none within
           w.in-Ok.ensures.lsn w.in-Ok.ensures.stored w.in-Ok.ensures.ended of_log)
       | in-Err w ↦
           subst (λ (r : Result Lsn Refusal). Called stored it.log it.log it.txns it.pool c.write_end.new.self
-          (media_view it.master it.session it.vault.copies)
+          (media_view it.master it.session it.vault.copies it.returns.made)
           (event.WriteEnd p) (reply_of (λ lsn. answer.Written lsn) r)) (sym w.result-is)
-          (repeated stored it.log it.txns it.pool c.write_end.new.self (media_view it.master it.session it.vault.copies)
+          (repeated stored it.log it.txns it.pool c.write_end.new.self
+          (media_view it.master it.session it.vault.copies it.returns.made)
           p c.self.invariant none within
           w.in-Err.ensures.either w.in-Err.ensures.goes_on of_log)
     ]
@@ -57,7 +61,7 @@ returns-clause-step g c =
     subst (λ (v : EngineView g.row.S.Denot g.row.D.Denot). Step v.state (event.WriteEnd c.args.page)
     (reply_of (λ lsn. answer.Written lsn) c.match-write_end.result)
     (engine_view g.S.PageStore.stored c.self.inside.log c.write_end.new.self
-    (media_view c.self.inside.master c.self.inside.session c.self.inside.vault.copies)).state)
+    (media_view c.self.inside.master c.self.inside.session c.self.inside.vault.copies c.self.inside.returns.made)).state)
     c.self.view_is (call g c).step
 
 pub returns-clause-asked : goal.returns-clause-asked
@@ -66,7 +70,7 @@ returns-clause-asked g c =
     let stored = g.S.PageStore.stored in
     let gave = g.S.PageStore.gave in
     let wrote = g.S.PageStore.wrote in
-    let media = media_view it.master it.session it.vault.copies in
+    let media = media_view it.master it.session it.vault.copies it.returns.made in
     let p = c.args.page in
     let now = engine_view stored it.log it.pool media in
     let new = engine_view stored it.log c.write_end.new.self media in
@@ -94,7 +98,7 @@ returns-clause-failed g c =
     let stored = g.S.PageStore.stored in
     let gave = g.S.PageStore.gave in
     let wrote = g.S.PageStore.wrote in
-    let media = media_view it.master it.session it.vault.copies in
+    let media = media_view it.master it.session it.vault.copies it.returns.made in
     let p = c.args.page in
     let now = engine_view stored it.log it.pool media in
     let new = engine_view stored it.log c.write_end.new.self media in

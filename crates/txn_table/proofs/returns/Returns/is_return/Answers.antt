@@ -1,5 +1,5 @@
 use Rattle.std.proofs.Common.{◌≡◌, ◌∙◌, ℕ, List, ap, sym, subst, arith}
-use Rattle.std.specs.Prelude.{Contains, IsTrue, None, Some, nat_eq}
+use Rattle.std.specs.Prelude.{Contains, IsTrue, nat_eq}
 use Rattle.std.proofs.lemmas.Grind.{common_steps}
 use Rattle.std.proofs.lemmas.Option.{same_Some}
 use Rattle.txn_table.specs.declared.returns.Return.{Return}

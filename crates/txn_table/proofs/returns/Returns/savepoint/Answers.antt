@@ -1,5 +1,5 @@
-use Rattle.std.proofs.Common.{◌≡◌, ◌∙◌, ◌⊎◌, inl, inr, List, ap, sym, subst, arith, true}
-use Rattle.std.specs.Prelude.{Contains, IsTrue, Some, None, if◌then◌else◌}
+use Rattle.std.proofs.Common.{◌≡◌, ◌∙◌, inl, inr, List, ap, sym, subst, arith, true}
+use Rattle.std.specs.Prelude.{Contains, Some, None, if◌then◌else◌}
 use Rattle.std.proofs.lemmas.Grind.{common_steps}
 use Rattle.std.proofs.lemmas.Option.{same_Some}
 use Rattle.log_history.specs.declared.txn_state.TxnState.{TxnState}

@@ -1,5 +1,5 @@
 use Rattle.std.proofs.Common.{◌≡◌, ◌-◌, None, ap, sym, subst, ◌∙◌, arith, slice_get}
-use Rattle.std.specs.Prelude.{MatchOption, Option, Some, IsSomeAnd, IsTrue}
+use Rattle.std.specs.Prelude.{MatchOption, Some, IsSomeAnd, IsTrue}
 use Rattle.std.proofs.lemmas.Grind.{common_steps}
 use Rattle.log_history.specs.declared.pending_change.PendingChange.{PendingChange}
 use Rattle.log_history.specs.Table.{Entry, Table, entry_in}

@@ -1,6 +1,5 @@
-use Rattle.std.proofs.Common.{◌∙◌, ◌≡◌, ◌-◌, ap, sym, subst, List, length, cond}
+use Rattle.std.proofs.Common.{◌∙◌, ap, sym, subst, cond}
 use Rattle.std.specs.Prelude.{None, Some}
-use Rattle.log_records.specs.declared.record.Record.{Record}
 use Rattle.log_records.specs.declared.record.Record.TheVariants.{Comp}
 use Rattle.log_history.specs.Linked.{MayFollow}
 use Rattle.log_history.specs.Transactions.{is_rolling, pending}

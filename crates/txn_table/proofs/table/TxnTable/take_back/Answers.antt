@@ -1,4 +1,4 @@
-use Rattle.std.proofs.Common.{◌-◌, ap, subst, sym, ◌∙◌, arith}
+use Rattle.std.proofs.Common.{ap, subst, sym, ◌∙◌, arith}
 use Rattle.std.specs.Prelude.{IsSome}
 use Rattle.log_history.specs.Ahead.{entry_back, with_changed}
 use Rattle.log_history.specs.Table.{Table, entry_in, owed_in}

@@ -1,4 +1,0 @@
-use Rattle.copy_bench.proofs.main.Given as goal
-
-abbrev pub ghosts-measure : goal.ghosts-measure
-ghosts-measure g a = record { name = a.blank.name; parts = a.blank.parts }

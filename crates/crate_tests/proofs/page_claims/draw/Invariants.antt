@@ -1,5 +1,0 @@
-use Rattle.page_claim.specs.Claims.{IsSeatOf}
-use Rattle.crate_tests.proofs.page_claims.draw.Given as goal
-
-abbrev pub invariant-loop : goal.invariant-loop
-invariant-loop l = IsSeatOf l.claims l.seat

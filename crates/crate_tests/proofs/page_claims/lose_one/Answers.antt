@@ -1,6 +1,0 @@
-use Rattle.std.proofs.lemmas.List.Elements.{All-pop}
-use Rattle.page_claim.specs.Claims.{IsSeatOf}
-use Rattle.crate_tests.proofs.page_claims.lose_one.Goals as goal
-
-pub returns : goal.returns
-returns c = (All-pop (IsSeatOf c.args.claims.now) _ _ _ c.pop.ensures.items c.requires).0

@@ -1,0 +1,35 @@
+//! Why a case comes to no end.
+
+use aries_core::{PlayFault, Refusal};
+use copy_vault::CopyFault;
+use engine_run::SettleFault;
+use loser_undo::UndoFault;
+use media_restore::{LoadFault, RedoFault};
+use saved_files::SaveFault;
+use std::alloc::AllocError;
+use thiserror::Error;
+
+/// Why a case comes to no end. Its text is the line of what was refused.
+#[derive(Debug, Drop, Error)]
+pub enum Fault {
+    #[error("E1 OutOfMemory")]
+    Memory(#[from(alloc)] AllocError),
+    #[error(transparent)]
+    Play(#[from] PlayFault),
+    #[error(transparent)]
+    Call(#[from] Refusal),
+    #[error(transparent)]
+    Copy(#[from] CopyFault),
+    #[error("{0}")]
+    Settle(SettleFault),
+    #[error(transparent)]
+    Save(#[from] SaveFault),
+    #[error(transparent)]
+    Load(#[from] LoadFault),
+    #[error(transparent)]
+    Redo(#[from] RedoFault),
+    #[error(transparent)]
+    Undo(#[from] UndoFault),
+    #[error("copy {0}: the restored pages are not those that plain redo of the log makes")]
+    Differs(u32),
+}

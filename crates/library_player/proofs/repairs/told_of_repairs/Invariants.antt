@@ -1,4 +1,0 @@
-use Rattle.library_player.proofs.repairs.told_of_repairs.Given as goal
-
-abbrev pub ghosts-day : goal.ghosts-day
-ghosts-day g a = record { name = a.blank.name; parts = a.blank.parts }

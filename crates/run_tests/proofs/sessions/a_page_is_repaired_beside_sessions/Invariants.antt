@@ -1,4 +1,0 @@
-use Rattle.run_tests.proofs.sessions.a_page_is_repaired_beside_sessions.Given as goal
-
-abbrev pub ghosts-day : goal.ghosts-day
-ghosts-day g a = record { name = a.blank.name; parts = a.blank.parts }

@@ -1,4 +1,0 @@
-use Rattle.run_tests.proofs.sessions.four_sessions_and_a_flusher_share_an_engine.Given as goal
-
-abbrev pub ghosts-day : goal.ghosts-day
-ghosts-day g a = record { name = a.blank.name; parts = a.blank.parts }

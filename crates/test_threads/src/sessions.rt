@@ -1,0 +1,303 @@
+//! Sessions, a flusher and a checkpointer of one engine, in threads.
+
+ghost use Rattle.std.specs.Prelude.{◌≡◌};
+
+use crate::volume::{Volume, add_one, full_copy, new_session, settled, volume};
+use aries_core::{Refusal, SteppedBack, Undone};
+use copy_coverage::Retired;
+use copy_vault::{CopyId, CopyKind};
+use engine_run::{OpenGate, Session, Work};
+use fuzzy_ckpt::Point;
+use log_records::Record;
+use loser_undo::Redone;
+use media_restore::load;
+use page_core::{Page, PageNo, SlotNo, TxnNo, formatted_pages};
+use std::marker::Brand;
+use std::process::Abort;
+use std::sync::Wait;
+use std::sync::ledger::{Blank, Ledger};
+use std::thread;
+use std::thread::{Threads, join};
+
+/// A transaction sets a slot, and takes that back: it goes on as if it had not.
+fn set_and_go_back<G: Ledger>(
+    rt: &(impl Wait + Abort),
+    shared: &Volume<G>,
+    session: &mut Session<G>,
+    txn: TxnNo,
+    page: PageNo,
+) {
+    let savepoint = session.savepoint(rt, shared, txn).expect(rt, "savepoint");
+    session
+        .set(rt, shared, txn, page, SlotNo(1), u64::MAX)
+        .expect(rt, "set");
+    let first = session.undo_to(rt, shared, txn, savepoint);
+    assert!(rt; matches!(first, Ok(SteppedBack::Undid(_))));
+    let last = session.undo_to(rt, shared, txn, savepoint);
+    assert_eq!(rt; last, Ok(SteppedBack::Reached));
+}
+
+/// Fifty transactions of a session: each adds 1 to a slot that all sessions share, and sets a slot
+/// of its own, at the second try.
+fn work<G: Ledger>(
+    rt: &(impl Wait + Abort),
+    shared: &Volume<G>,
+    session: &mut Session<G>,
+    own: PageNo,
+) {
+    for round in 1..=50u64 {
+        let (txn, _) = session.begin(rt, shared).expect(rt, "begin");
+        session
+            .add(rt, shared, txn, PageNo(7), SlotNo(0), 1)
+            .expect(rt, "add");
+        set_and_go_back(rt, shared, session, txn, own);
+        session
+            .set(rt, shared, txn, own, SlotNo(1), round)
+            .expect(rt, "set");
+        let read = session.read(rt, shared, own, SlotNo(1)).expect(rt, "read");
+        assert_eq!(rt; read, round);
+        session.commit(rt, shared, txn).expect(rt, "commit");
+    }
+}
+
+/// A full copy by three workers.
+fn copy<G: Ledger + Send + Sync, R: Threads + Wait + Abort + AllocGlobal + Sync>(
+    rt: &R,
+    shared: &Volume<G>,
+) -> Work {
+    shared
+        .copy_with(rt, rt.alloc(), CopyKind::Full, 3, &OpenGate)
+        .expect(rt, "copy")
+}
+
+/// Twenty flush passes.
+fn flush<G: Ledger>(rt: &(impl Wait + Abort), shared: &Volume<G>) {
+    for _ in 0..20 {
+        shared.flush_pass(rt, &OpenGate).expect(rt, "flush");
+    }
+}
+
+/// Repairs page 7 twenty times from copy 1. A flusher may have begun to write it.
+fn repair<G: Ledger>(rt: &(impl Wait + Abort), shared: &Volume<G>) {
+    for _ in 0..20 {
+        let done = shared.repair(rt, CopyId(1), PageNo(7));
+        assert!(rt; matches!(done, Ok(_) | Err(Refusal::WriteBegun)));
+    }
+}
+
+/// A transaction that is taken back.
+fn take_back<G: Ledger>(rt: &(impl Wait + Abort), shared: &Volume<G>, session: &mut Session<G>) {
+    let (txn, _) = session.begin(rt, shared).expect(rt, "begin");
+    session
+        .set(rt, shared, txn, PageNo(6), SlotNo(0), 9)
+        .expect(rt, "set");
+    session.abort(rt, shared, txn).expect(rt, "abort");
+    let first = session.undo_step(rt, shared, txn);
+    assert!(rt; matches!(first, Ok(Undone::Undid(_))));
+    let last = session.undo_step(rt, shared, txn);
+    assert!(rt; matches!(last, Ok(Undone::Ended(_))));
+    let after = session.undo_step(rt, shared, txn);
+    assert!(rt; matches!(after, Err(Refusal::NoTxn)));
+    assert_eq!(rt; session.read(rt, shared, PageNo(6), SlotNo(0)), Ok(0));
+}
+
+/// Takes a checkpoint, before which every page was written.
+fn clean_checkpoint<G: Ledger>(rt: &(impl Wait + Abort), shared: &Volume<G>) -> Work {
+    match shared.checkpoint(rt, &OpenGate) {
+        Ok(Work::Pointed(Point { begin, end, redo })) => {
+            assert_eq!(rt; redo, begin);
+            Work::Pointed(Point { begin, end, redo })
+        }
+        _ => panic!(rt; "no checkpoint"),
+    }
+}
+
+/// Four sessions work at the same time, beside a flusher and a copy by three workers, and beside
+/// repairs of a page where there is an earlier copy.
+fn work_together<G: Ledger + Send + Sync, R: Threads + Wait + Abort + AllocGlobal + Sync>(
+    rt: &R,
+    shared: &Volume<G>,
+    workers: &mut [Session<G>],
+    has_copy: bool,
+) -> Work {
+    let (_, copied) = join(
+        rt,
+        || {
+            thread::for_each_mut(
+                rt,
+                workers,
+                5,
+                &|i, worker| {
+                    if i < 4 {
+                        work(rt, shared, worker, PageNo(i as u32));
+                    } else {
+                        flush(rt, shared);
+                    }
+                },
+            )
+        },
+        || {
+            let (copied, _) = join(
+                rt,
+                || copy(rt, shared),
+                || {
+                    if has_copy {
+                        repair(rt, shared);
+                    }
+                },
+            );
+            copied
+        },
+    );
+    copied
+}
+
+/// What the fifth session does once the others have ended, and one flush pass more.
+fn end_the_day<G: Ledger>(
+    rt: &(impl Wait + Abort),
+    shared: &Volume<G>,
+    workers: &mut [Session<G>],
+) {
+    let Some(fifth) = workers.last_mut() else {
+        panic!(rt; "five sessions");
+    };
+    assert_eq!(rt; fifth.read(rt, shared, PageNo(7), SlotNo(0)), Ok(200));
+    take_back(rt, shared, fifth);
+    shared.flush_pass(rt, &OpenGate).expect(rt, "flush");
+}
+
+/// Asserts that there is this page, with this number in its first slot.
+fn assert_slot(rt: &impl Abort, page: Option<&Page>, number: u64) {
+    let Some(page) = page else {
+        panic!(rt; "a page of the volume");
+    };
+    assert_eq!(rt; page.slots[0], number);
+}
+
+/// The pages that these records make of formatted ones.
+fn plain_pages(rt: &(impl Abort + AllocGlobal), records: &[Record]) -> Vec<Page> {
+    let mut plain = formatted_pages(rt.alloc(), 8).expect(rt, "memory for pages");
+    for record in records {
+        for page in plain.iter_mut() {
+            record.redo_on(page);
+        }
+    }
+    plain
+}
+
+/// Copy 1 with the whole log, redone.
+fn redone_of(rt: &(impl Abort + AllocGlobal + Threads + Sync), left: Retired) -> Redone {
+    let Ok(loaded) = load(rt.alloc(), left, CopyId(1), usize::MAX) else {
+        panic!(rt; "the copy is not loaded");
+    };
+    let Ok(redone) = loaded.redo(rt, rt.alloc()) else {
+        panic!(rt; "the log is not redone");
+    };
+    redone
+}
+
+/// Restores the volume from copy 1 and the whole log: each page is as plain redo of the log makes
+/// it, and has the sums of the day.
+fn assert_restored(rt: &(impl Abort + AllocGlobal + Threads + Sync), left: Retired) {
+    let plain = plain_pages(rt, left.log().records());
+    let redone = redone_of(rt, left);
+    let pages = redone.pages();
+    assert_eq!(rt; pages.len(), plain.len());
+    for (page, expected) in pages.iter().zip(&plain) {
+        assert!(rt; page == expected);
+    }
+    for page in pages.iter().take(4) {
+        assert_eq!(rt; page.slots[1], 50);
+    }
+    assert_slot(rt, pages.get(6), 0);
+    assert_slot(rt, pages.get(7), 200);
+}
+
+/// An engine over eight pages, and five sessions of it.
+fn engine_for_five<G: Ledger, R: Abort + AllocGlobal>(
+    rt: &R,
+    blank: Blank,
+) -> (Volume<G>, Vec<Session<G>>)
+    requires name { blank.name ≡ G.name }
+    requires parts { blank.parts ≡ G.parts }
+    requires sessions { blank.parts ≡ 65 }
+{
+    let mut shared = volume::<G, R>(rt, blank, 8);
+    let mut workers = Vec::new(rt.alloc());
+    for _ in 0..5 {
+        let worker = new_session(rt, &mut shared);
+        workers.push(worker).expect(rt, "memory for sessions");
+    }
+    assert_eq!(rt; shared.sessions(), 5);
+    (shared, workers)
+}
+
+/// Asserts how many receipts the sessions have. Each of 50 transactions left seven: none is of a
+/// savepoint. The fifth session read, and was answered six times when it took its transaction back.
+fn assert_receipts<G: Ledger>(rt: &impl Abort, workers: &[Session<G>]) {
+    assert_eq!(rt; workers.len(), 5);
+    for (worker, count) in workers.iter().zip([350usize, 350, 350, 350, 7]) {
+        assert_eq!(rt; worker.receipts().len(), count);
+    }
+}
+
+/// A run of five sessions, a flusher, two checkpoints and a copy, which is settled and restored;
+/// or of two copies, of which the first one is there before, and repairs a page.
+fn day<G: Ledger + Send + Sync, R: Threads + Wait + Abort + AllocGlobal + Sync>(
+    rt: &R,
+    blank: Blank,
+    has_copy: bool,
+)
+    requires name { blank.name ≡ G.name }
+    requires parts { blank.parts ≡ G.parts }
+    requires sessions { blank.parts ≡ 65 }
+{
+    let (shared, mut workers) = engine_for_five::<G, R>(rt, blank);
+    let first = clean_checkpoint(rt, &shared);
+    if has_copy {
+        assert_eq!(rt; copy(rt, &shared), full_copy(1));
+    }
+    let copied = work_together(rt, &shared, workers.as_mut_slice(), has_copy);
+    assert_eq!(rt; copied, full_copy(if has_copy { 2 } else { 1 }));
+    end_the_day(rt, &shared, workers.as_mut_slice());
+    let last = clean_checkpoint(rt, &shared);
+    assert_receipts(rt, workers.as_slice());
+    let left = settled(rt, workers, &[first, full_copy(1), last], shared);
+    assert_restored(rt, left);
+}
+
+/// A session reads a slot again each time another one has changed it and committed.
+fn read_again<G: Ledger, R: Wait + Abort + AllocGlobal>(rt: &R, blank: Blank)
+    requires name { blank.name ≡ G.name }
+    requires parts { blank.parts ≡ G.parts }
+    requires sessions { blank.parts ≡ 65 }
+{
+    let mut shared = volume::<G, R>(rt, blank, 8);
+    let mut reader = new_session(rt, &mut shared);
+    let mut writer = new_session(rt, &mut shared);
+    for sum in 0..3u64 {
+        assert_eq!(rt; reader.read(rt, &shared, PageNo(0), SlotNo(0)), Ok(sum));
+        add_one(rt, &shared, &mut writer, PageNo(0));
+    }
+    let sessions = vec![in rt.alloc(); reader, writer].expect(rt, "memory for a list");
+    let _ = settled(rt, sessions, &[], shared);
+}
+
+#[test]
+fn a_session_reads_what_another_one_has_committed(rt: HostRuntime) {
+    read_again::<Brand, HostRuntime>(&rt, Blank::new(65));
+}
+
+#[test]
+fn four_sessions_and_a_flusher_share_an_engine(rt: HostRuntime) {
+    for _ in 0..8 {
+        day::<Brand, HostRuntime>(&rt, Blank::new(65), false);
+    }
+}
+
+#[test]
+fn a_page_is_repaired_beside_sessions(rt: HostRuntime) {
+    for _ in 0..40 {
+        day::<Brand, HostRuntime>(&rt, Blank::new(65), true);
+    }
+}
