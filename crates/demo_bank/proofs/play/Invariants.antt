@@ -1,4 +1,4 @@
-use Rattle.bank.proofs.play.Given as goal
+use Rattle.demo_bank.proofs.play.Given as goal
 
 abbrev pub ghosts-day : goal.ghosts-day
 ghosts-day g a = record { name = a.blank.name; parts = a.blank.parts }
