@@ -22,6 +22,11 @@ pub type Bank<G> = Shared<MemStore, MemDevice, G>;
 /// taken.
 pub const TRANSFERS: u32 = 200;
 
+/// How many of them are made before a teller waits for the copies to begin.
+const BEFORE_FULL: u32 = 100;
+
+pub const BEFORE_INCREMENTAL: u32 = 150;
+
 const PASSES: u32 = 20;
 
 const CHECKPOINTS: u32 = 8;
@@ -173,16 +178,25 @@ impl<G: Ledger> Clerk<G> {
         Ok(())
     }
 
+    /// Makes transfers, some of them once the full copy is read, and some once the incremental one
+    /// is. Others come first before each next one.
     fn transfers(
         &mut self,
         rt: &impl Wait,
         office: &Office<'_, G>,
         mut draws: Draws,
     ) -> Result<(), Refusal> {
-        for _ in 0..TRANSFERS {
+        for made in 0..TRANSFERS {
+            if made == BEFORE_FULL {
+                office.watch.wait_for(Which::Full);
+            }
+            if made == BEFORE_INCREMENTAL {
+                office.watch.wait_for(Which::Incremental);
+            }
             let transfer = draws.transfer();
             self.transfer(rt, office, &transfer)?;
             office.watch.note_transfer();
+            thread::yield_now();
         }
         self.duty = Duty::Teller(draws);
         Ok(())

@@ -1,7 +1,7 @@
 //! Which pages were changed after a copy had taken them, and before it was sealed.
 
 use crate::accounts::PAGES;
-use crate::clerk::TRANSFERS;
+use crate::clerk::{BEFORE_INCREMENTAL, TRANSFERS};
 use engine_run::HoldGate;
 use page_core::PageNo;
 use std::alloc::{AllocError, Global};
@@ -9,10 +9,10 @@ use std::sync::atomic::{AtomicBool, AtomicU64, Ordering};
 use std::thread;
 
 /// How many transfers are made between two takes of a worker, as far as there are any left.
-const TRANSFERS_BETWEEN: u64 = 4;
+const TRANSFERS_BETWEEN: u64 = 2;
 
-/// How often a worker looks whether they were made. Then it goes on without them.
-const LOOKS: u32 = 20_000;
+/// How often one who waits looks at most. Then it goes on without what it has waited for.
+const LOOKS: u32 = 100_000;
 
 /// How many workers a copy has at most.
 const WORKERS: u32 = 64;
@@ -20,6 +20,8 @@ const WORKERS: u32 = 64;
 /// How far a copy is, and which pages were changed behind it.
 #[derive(Drop)]
 struct Progress {
+    /// How many times a worker has come for a page.
+    came: AtomicU64,
     /// How many takes have begun. Before the last one has, the copy is not sealed.
     begun: AtomicU64,
     /// For each worker the page that it takes, plus 1; and 0 before its first one.
@@ -76,6 +78,7 @@ impl Progress {
             at.push(AtomicU64::new(0))?;
         }
         Ok(Progress {
+            came: AtomicU64::new(0),
             begun: AtomicU64::new(0),
             at,
             taken: PageMarks::new(alloc)?,
@@ -85,6 +88,7 @@ impl Progress {
 
     /// A worker has come for this page, so it has taken the one before.
     fn come_for(&self, worker: u32, page: PageNo) {
+        self.came.fetch_add(1, Ordering::SeqCst);
         let Some(at) = self.at.get(worker as usize) else {
             return;
         };
@@ -103,6 +107,16 @@ impl Progress {
     }
 }
 
+/// Looks until a word is at least a number, and not for ever.
+fn wait_until(word: &AtomicU64, least: u64) {
+    for _ in 0..LOOKS {
+        if word.load(Ordering::SeqCst) >= least {
+            return;
+        }
+        thread::yield_now();
+    }
+}
+
 /// The copies, in the order in which they are made.
 #[derive(Clone, Copy)]
 pub enum Which {
@@ -113,9 +127,9 @@ pub enum Which {
 /// What those who change pages and those who copy them tell one another.
 #[derive(Drop)]
 pub struct Watch {
-    /// How many transfers were made, and how many will be.
+    /// How many transfers were made.
     made: AtomicU64,
-    all: u64,
+    tellers: u32,
     full: Progress,
     incremental: Progress,
 }
@@ -124,7 +138,7 @@ impl Watch {
     pub fn new(alloc: Global, tellers: u32) -> Result<Watch, AllocError> {
         Ok(Watch {
             made: AtomicU64::new(0),
-            all: tellers as u64 * TRANSFERS as u64,
+            tellers,
             full: Progress::new(alloc)?,
             incremental: Progress::new(alloc)?,
         })
@@ -140,6 +154,11 @@ impl Watch {
     /// A transfer was made.
     pub fn note_transfer(&self) {
         self.made.fetch_add(1, Ordering::SeqCst);
+    }
+
+    /// Waits until a worker has come for the first page of this copy, and not for ever.
+    pub fn wait_for(&self, which: Which) {
+        wait_until(&self.progress(which).came, 1);
     }
 
     /// What is looked up before a page is changed: which copies have taken it.
@@ -167,16 +186,16 @@ impl Watch {
         self.progress(which).changed.count()
     }
 
-    /// Has some transfers come first, as far as there are any left, and does not wait for ever.
-    fn let_others(&self) {
+    /// Has some transfers come first, as far as there are any before the next copy begins, and does
+    /// not wait for ever.
+    fn let_others(&self, which: Which) {
+        let each = match which {
+            Which::Full => BEFORE_INCREMENTAL,
+            Which::Incremental => TRANSFERS,
+        };
         let made = self.made.load(Ordering::SeqCst);
-        let until = made.saturating_add(TRANSFERS_BETWEEN).min(self.all);
-        for _ in 0..LOOKS {
-            if self.made.load(Ordering::SeqCst) >= until {
-                return;
-            }
-            thread::yield_now();
-        }
+        let most = self.tellers as u64 * each as u64;
+        wait_until(&self.made, made.saturating_add(TRANSFERS_BETWEEN).min(most));
     }
 }
 
@@ -198,7 +217,7 @@ impl HoldGate for Pace<'_> {
     fn before(&self, worker: u32, page: PageNo) {
         let progress = self.watch.progress(self.which);
         progress.come_for(worker, page);
-        self.watch.let_others();
+        self.watch.let_others(self.which);
         progress.begun.fetch_add(1, Ordering::SeqCst);
     }
 }
