@@ -37,8 +37,8 @@ fn open_bank<G: Ledger>(alloc: Global, blank: Blank) -> Result<Bank<G>, Fault>
     Ok(Bank::<G>::new(alloc, blank, setup, store, device)?)
 }
 
-/// All who work there: the copier first, so that its copies begin soon; then the tellers, and one of
-/// each other duty.
+/// All who work there: the copier first, so that its copies begin soon; then the tellers, and one
+/// of each other duty.
 fn clerks_of<G: Ledger>(
     alloc: Global,
     bank: &mut Bank<G>,
