@@ -5,4 +5,5 @@ pub mod Fields
 pub mod Image
 pub mod Least
 pub mod Log
+pub mod PageCount
 pub mod Record

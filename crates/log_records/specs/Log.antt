@@ -1,17 +1,19 @@
 -- A whole log, and its bytes.
-use Rattle.std.specs.Prelude.{ℕ, ◌≡◌, ◌+◌, ◌-◌, ◌*◌, ◌<◌, ◌≤◌, List, length, ◌++◌, slice_index_or}
+use Rattle.std.specs.Prelude.{ℕ, ◌≡◌, ◌+◌, ◌-◌, ◌*◌, ◌/◌, ◌<◌, ◌≤◌, List, length, ◌++◌, slice_index_or}
 use Rattle.std.specs.Prelude.{take, replicate, codes, slice_range, IfSome}
-use Rattle.std.specs.List.{AllByRecursion, flat_map}
+use Rattle.std.specs.List.{AllByRecursion, filter_map, flat_map}
 use Rattle.std.specs.Int.{w32, to_le_bytes, from_le_bytes}
 use Rattle.log_records.specs.declared.record.Record.{Record}
 use Rattle.log_records.specs.declared.record.Record.TheVariants.{ChkptPages}
 use Rattle.log_records.specs.DirtyPage.{entries_of}
 use Rattle.page_core.specs.declared.numbers.TheConstants.{LSN_STEP}
 use Rattle.page_core.specs.declared.page.TheConstants.{MAX_PAGES}
+use Rattle.page_core.specs.PageCounts.{PageCounts}
 use Rattle.log_records.specs.declared.limits.TheConstants.{HEADER_BYTES, MAX_RECORDS}
+use Rattle.log_records.specs.PageCount.{count_behind, given_by}
 use Rattle.log_records.specs.Record.{IsRecord, change_of, own_lsn, record_bytes}
 
--- the page count of the volume, and the records, the oldest first
+-- the page count that the header gives, and the records, the oldest first
 pub record Log : Type 0 where
   pub pages : ℕ
   pub records : List Record
@@ -19,6 +21,22 @@ pub record Log : Type 0 where
 -- the log with these records behind its own
 abbrev pub with_next : Log → List Record → Log
 with_next log rs = record log { records = log.records ++ rs }
+
+-- how many pages the volume has
+abbrev pub page_count : Log → ℕ
+page_count log = count_behind log.pages log.records
+
+-- and how many it had when the log had so many records
+abbrev pub page_count_at : Log → ℕ → ℕ
+page_count_at log count = count_behind log.pages (take count log.records)
+
+-- the page count of the log below an LSN
+abbrev pub page_count_below : Log → ℕ → ℕ
+page_count_below log lsn = page_count_at log ((lsn - 1) / LSN_STEP)
+
+-- the counts that the header and the records give
+abbrev pub counts_of : Log → PageCounts
+counts_of log = record { first = log.pages; given = filter_map given_by log.records }
 
 -- where the record at an index stands: behind the header and the records before it, 64 bytes each
 abbrev pub lsn_of : ℕ → ℕ
@@ -44,12 +62,13 @@ pub record IsPageCount (pages : ℕ) : Type 0 where
   pub least : 1 ≤ pages
   pub most : pages ≤ MAX_PAGES
 
--- a log that has a spelling
+-- a log that has a spelling: each record stands at its place, and names no page past the page count
+-- that the records before it leave
 pub record IsLog (log : Log) : Type 0 where
   pub pages : IsPageCount log.pages
   pub count : length log.records ≤ MAX_RECORDS
   pub records : (i : ℕ) (d : Record) → i < length log.records
-      → StandsAt log.pages (lsn_of i) (slice_index_or log.records i d)
+      → StandsAt (page_count_at log i) (lsn_of i) (slice_index_or log.records i d)
 
 -- the 64 bytes in front of the records
 unfoldable pub header_bytes : ℕ → List ℕ

@@ -3,4 +3,5 @@ pub mod Failures
 pub mod FaultName
 pub mod Input
 pub mod Page
+pub mod PageCounts
 pub mod Volume

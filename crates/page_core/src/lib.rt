@@ -10,6 +10,7 @@ mod input;
 mod numbers;
 mod output;
 mod page;
+mod page_counts;
 mod volume;
 
 pub use buffer::zeros;
@@ -23,4 +24,5 @@ pub use page::{
     BadPage, MAX_PAGES, PAGE_BYTES, Page, SLOTS, pages_are_spelled_apart, pages_have_these_numbers,
     volumes_are_spelled_apart,
 };
+pub use page_counts::{GivenCount, PageCounts};
 pub use volume::formatted_pages;

@@ -1,0 +1,163 @@
+-- The page count of a volume along its log: it never falls, so a record that names no page past the
+-- count at its place names none past the count at any later one.
+use Rattle.std.proofs.Common.{◌≡◌, ℕ, ◌+◌, ◌-◌, ◌*◌, ◌/◌, ◌<◌, ◌≤◌, ◌++◌, ◌∷◌, [], List, length, get_or, take, drop}
+use Rattle.std.proofs.Common.{refl, sym, ap, subst, ◌∙◌, arith, max, Option, Some, None}
+use Rattle.std.specs.Prelude.{IfSome}
+use Rattle.std.specs.List.{AllByRecursion, fold}
+use Rattle.std.proofs.Math.Nat.{le-max_left}
+use Rattle.std.proofs.lemmas.List.{get_or-take, length-take, take-append-drop, take-append-le, take-take, take_all}
+use Rattle.std.proofs.lemmas.List.Sums.{fold-append, fold_push}
+use Rattle.log_records.specs.declared.dirty_page.DirtyPage.{DirtyPage}
+use Rattle.log_records.specs.DirtyPage.{entries_of}
+use Rattle.log_records.specs.declared.record.Record.{Record}
+use Rattle.log_records.specs.declared.record.Record.TheVariants.{Begin, Update, Comp, Commit, Abort, End, BeginChkpt}
+use Rattle.log_records.specs.declared.record.Record.TheVariants.{ChkptPages, ChkptTxns, EndChkpt}
+use Rattle.log_records.specs.Log.{AreWithin, IsLog, IsWithin, Log, StandsAt, lsn_of, page_count, page_count_at, with_next}
+use Rattle.log_records.specs.PageCount.{count_after, count_behind, given_count}
+
+-- ---- along a list of records
+
+not_less : (count : ℕ) (given : Option ℕ) → (r : Record) → given_count r ≡ given → count ≤ count_after count r
+not_less count None r is = rw is (omega arith)
+not_less count (Some n) r is = rw is (le-max_left count n)
+
+pub count_after-not_less : (count : ℕ) (r : Record) → count ≤ count_after count r
+count_after-not_less count r = not_less count (given_count r) r refl
+
+pub count_behind-nil : (count : ℕ) → count_behind count [] ≡ count
+unfolding count_behind
+count_behind-nil count = refl
+
+pub count_behind-append : (count : ℕ) (rs more : List Record)
+    → count_behind count (rs ++ more) ≡ count_behind (count_behind count rs) more
+unfolding count_behind
+count_behind-append count rs more = fold-append count_after count rs more
+
+pub count_behind-push : (count : ℕ) (rs : List Record) (r : Record)
+    → count_behind count (rs ++ r ∷ []) ≡ count_after (count_behind count rs) r
+unfolding count_behind
+count_behind-push count rs r = fold_push count_after count rs r
+
+pub count_behind-not_less : (count : ℕ) (rs : List Record) → count ≤ count_behind count rs
+unfolding count_behind
+count_behind-not_less count [] = omega arith
+count_behind-not_less count (r ∷ rs) =
+    omega (arith, count_after-not_less count r, count_behind-not_less (count_after count r) rs)
+
+-- a part of the records leaves no larger count than all of them
+count_behind-part : (count : ℕ) (rs : List Record) (i : ℕ) → count_behind count (take i rs) ≤ count_behind count rs
+count_behind-part count rs i =
+    let first = take i rs in
+    subst (λ (xs : List Record). count_behind count first ≤ count_behind count xs) (take-append-drop i rs)
+    (rw (count_behind-append count first (drop i rs))
+    (count_behind-not_less (count_behind count first) (drop i rs)))
+
+pub count_behind-rises : (count : ℕ) (rs : List Record) (i j : ℕ) → i ≤ j
+    → count_behind count (take i rs) ≤ count_behind count (take j rs)
+count_behind-rises count rs i j le =
+    subst (λ (xs : List Record). count_behind count xs ≤ count_behind count (take j rs)) (take-take i j rs le)
+    (count_behind-part count (take j rs) i)
+
+-- ---- of a log
+
+pub page_count_at-all : (log : Log) (count : ℕ) → length log.records ≤ count → page_count_at log count ≡ page_count log
+page_count_at-all log count all = ap (count_behind log.pages) (take_all count log.records all)
+
+pub page_count_at-not_more : (log : Log) (count : ℕ) → page_count_at log count ≤ page_count log
+page_count_at-not_more log count = count_behind-part log.pages log.records count
+
+-- the log that is cut there
+pub page_count-take : (log : Log) (count : ℕ)
+    → page_count (record log { records = take count log.records }) ≡ page_count_at log count
+page_count-take log count = refl
+
+pub page_count_at-take : (log : Log) (i count : ℕ) → i ≤ count
+    → page_count_at (record log { records = take count log.records }) i ≡ page_count_at log i
+page_count_at-take log i count le = ap (count_behind log.pages) (take-take i count log.records le)
+
+pub page_count_at-append : (log : Log) (more : List Record) (i : ℕ) → i ≤ length log.records
+    → page_count_at (with_next log more) i ≡ page_count_at log i
+page_count_at-append log more i le = ap (count_behind log.pages) (take-append-le i log.records more le)
+
+pub page_count-append : (log : Log) (more : List Record)
+    → page_count (with_next log more) ≡ count_behind (page_count log) more
+page_count-append log more = count_behind-append log.pages log.records more
+
+pub page_count-push : (log : Log) (r : Record) → page_count (with_next log (r ∷ [])) ≡ count_after (page_count log) r
+page_count-push log r = count_behind-push log.pages log.records r
+
+-- ---- what stands within
+
+entries_within : (n m : ℕ) → n ≤ m → (es : List DirtyPage) → AllByRecursion (λ e. e.page < n) es
+    → AllByRecursion (λ e. e.page < m) es
+entries_within n m le [] all = tt
+entries_within n m le (e ∷ es) all = (omega (arith, all.0), entries_within n m le es all.1)
+
+pub within_more : (n m : ℕ) → n ≤ m → (r : Record) → IsWithin n r → IsWithin m r
+within_more n m le (Begin lsn txn) within = tt
+within_more n m le (Update lsn txn prev page slot change) within = omega (arith, within)
+within_more n m le (Comp lsn txn prev undo_next page slot change) within = omega (arith, within)
+within_more n m le (Commit lsn txn prev) within = tt
+within_more n m le (Abort lsn txn prev) within = tt
+within_more n m le (End lsn txn prev) within = tt
+within_more n m le (BeginChkpt lsn) within = tt
+within_more n m le (ChkptPages lsn begin entries) within = entries_within n m le (entries_of entries) within
+within_more n m le (ChkptTxns lsn begin txn state last undo_next) within = tt
+within_more n m le (EndChkpt lsn begin redo) within = tt
+
+pub stands_more : (n m at : ℕ) (r : Record) → n ≤ m → StandsAt n at r → StandsAt m at r
+stands_more n m at r le stands = record {
+  lsn = stands.lsn;
+  valid = stands.valid;
+  within = within_more n m le r stands.within;
+}
+
+-- each record of a log stands within the volume as it is in the end
+pub stands_in : (log : Log) → IsLog log → (i : ℕ) (d : Record) → i < length log.records
+    → StandsAt (page_count log) (lsn_of i) (get_or log.records i d)
+stands_in log valid i d lt =
+    stands_more (page_count_at log i) (page_count log) (lsn_of i) (get_or log.records i d)
+    (page_count_at-not_more log i) (valid.records i d lt)
+
+pub all_within : (log : Log) → IsLog log → AreWithin (page_count log) log.records
+all_within log valid i d lt = (stands_in log valid i d lt).within
+
+-- ---- a log that is cut, and one that goes on
+
+pub valid_cut : (log : Log) (count : ℕ) → IsLog log → IsLog (record log { records = take count log.records })
+valid_cut log count valid =
+    let long = length-take count log.records in
+    record {
+      pages = valid.pages;
+      count = omega (arith, long, valid.count);
+      records = λ i d lt.
+          let below : i < count = omega (arith, long, lt) in
+          let there : i < length log.records = omega (arith, long, lt) in
+          rw (get_or-take count log.records i d below, page_count_at-take log i count (omega arith))
+          (valid.records i d there);
+    }
+
+-- ---- no kind of record gives a count so far
+
+pub gives_none : (r : Record) → given_count r ≡ None
+gives_none (Begin lsn txn) = refl
+gives_none (Update lsn txn prev page slot change) = refl
+gives_none (Comp lsn txn prev undo_next page slot change) = refl
+gives_none (Commit lsn txn prev) = refl
+gives_none (Abort lsn txn prev) = refl
+gives_none (End lsn txn prev) = refl
+gives_none (BeginChkpt lsn) = refl
+gives_none (ChkptPages lsn begin entries) = refl
+gives_none (ChkptTxns lsn begin txn state last undo_next) = refl
+gives_none (EndChkpt lsn begin redo) = refl
+
+pub count_stays : (count : ℕ) (r : Record) → count_after count r ≡ count
+count_stays count r = rw (gives_none r) refl
+
+pub counts_stay : (count : ℕ) (rs : List Record) → count_behind count rs ≡ count
+unfolding count_behind
+counts_stay count [] = refl
+counts_stay count (r ∷ rs) = ap (λ n. count_behind n rs) (count_stays count r) ∙ counts_stay count rs
+
+pub count_is_first : (log : Log) → page_count log ≡ log.pages
+count_is_first log = counts_stay log.pages log.records
