@@ -22,6 +22,7 @@ use Rattle.aries_core.specs.Catalogue.{Entry, catalogue_refusal, count_refusal, 
 use Rattle.aries_core.specs.Catalogue.{mark_of}
 use Rattle.aries_core.specs.Catalogue.{marks_of, not_decided, parent_refusal, reading_refusal}
 use Rattle.aries_core.specs.EngineState.{EngineState, image_of}
+use Rattle.aries_core.specs.EngineState.{pages_of}
 use Rattle.aries_core.specs.Refusal.{has_decided, of_vault, or_else, refusal, refused_if}
 use Rattle.aries_core.proofs.Catalogues.{entries, entry_is}
 
@@ -103,7 +104,7 @@ master_is None = refl
 master_is (Some point) = refl
 
 abbrev pub by_catalogue : EngineState → Event → Option Refusal
-by_catalogue s event = catalogue_refusal (is_some s.master) s.pages (entries s.copies) event
+by_catalogue s event = catalogue_refusal (is_some s.master) (pages_of s) (entries s.copies) event
 
 pub full_by_catalogue : (s : EngineState) → refusal s event.CopyFull ≡ by_catalogue s event.CopyFull
 full_by_catalogue s =
@@ -123,7 +124,7 @@ pub take_by_catalogue : (s : EngineState) (copy page : ℕ)
 take_by_catalogue s copy page =
     take_is (state_of s.copies copy) s.pages page
     ∙ ap (λ (e : Entry). or_else (reading_refusal e)
-    (or_else (refused_if (nat_le s.pages page) PageOut) (refused_if (has_mark e page) PageDecided)))
+    (or_else (refused_if (nat_le (pages_of s) page) PageOut) (refused_if (has_mark e page) PageDecided)))
     (sym (entry_is s.copies copy))
 
 pub seal_by_catalogue : (s : EngineState) (copy : ℕ) → refusal s (event.Seal copy) ≡ by_catalogue s (event.Seal copy)
@@ -149,7 +150,7 @@ or_else_assoc (Some why) b c = refl
 pub repair_by_catalogue : (s : EngineState) (copy page : ℕ) → refusal s (event.Repair copy page)
     ≡ or_else (by_catalogue s (event.Repair copy page)) (refused_if (is_some (image_of s page)) WriteBegun)
 repair_by_catalogue s copy page =
-    let out = refused_if (nat_le s.pages page) PageOut in
+    let out = refused_if (nat_le (pages_of s) page) PageOut in
     let begun = refused_if (is_some (image_of s page)) WriteBegun in
     ap (λ (o : Option Refusal). or_else o (or_else out begun)) (complete_is (state_of s.copies copy)
     ∙ ap parent_refusal (sym (entry_is s.copies copy)))

@@ -32,6 +32,7 @@ use Rattle.aries_core.specs.declared.event.Event.{Event}
 use Rattle.aries_core.specs.declared.refusal.Refusal.{Refusal}
 use Rattle.aries_core.specs.Call.{Calls}
 use Rattle.aries_core.specs.EngineState.{EngineState, HaveMaster, IsFit, appended, end, log_of, new_state, with_page}
+use Rattle.aries_core.specs.EngineState.{pages_of}
 use Rattle.aries_core.specs.EventFits.{EventFits}
 use Rattle.aries_core.specs.Run.{Run}
 use Rattle.aries_core.specs.Step.{Step}
@@ -42,7 +43,7 @@ use Rattle.aries_core.proofs.Follows.{follows}
 use Rattle.aries_core.proofs.Forces.{EndsAtRecord, Forces, forces}
 use Rattle.aries_core.proofs.Rooms.{room_grows}
 use Rattle.aries_core.proofs.Stands.{stands}
-use Rattle.aries_core.proofs.Steps.{Grows, Stays, start, stays_or_grows}
+use Rattle.aries_core.proofs.Steps.{Grows, Stays, grows_count, start, stays_count, stays_or_grows}
 use Rattle.aries_core.proofs.PageComes.{dirty_after, dirty_before, start_dirty, start_fit, start_held, start_images}
 use Rattle.aries_core.proofs.Writes.{GoesOn, PageStep, PagesFit, page_step, pages_fit}
 
@@ -53,12 +54,14 @@ goes_on : (old : EngineState) (event : Event) (reply : Result Answer Refusal) (n
     → Stays old event reply new ⊎ Grows old event reply new → GoesOn old new
 goes_on old event reply new forces (inl stays) = record {
   pages = stays.pages;
+  count = stays_count old event reply new stays;
   rest = [];
   log = stays.log ∙ sym (append-nil old.log);
   no_less = forces.no_less;
 }
 goes_on old event reply new forces (inr grows) = record {
   pages = grows.pages;
+  count = grows_count old event reply new grows;
   rest = grows.r ∷ [];
   log = grows.log;
   no_less = forces.no_less;
@@ -76,7 +79,7 @@ fit_stays old event reply new fit from step forced pages ckpts copied noted stay
   counted = pages.counted;
   resident = rw (stays.log, stays.resident) (start_images old event reply from);
   held = λ q lt dirty.
-      let within : q < old.pages = omega (arith, lt, stays.pages) in
+      let within : q < pages_of old = omega (arith, lt, stays_count old event reply new stays) in
       rw stays.resident (start_held old event reply from q within
       (ap (λ (rs : List Record). is_clean rs old.written q) (sym stays.log)
       ∙ dirty_before old new q fit step within dirty));
@@ -108,7 +111,7 @@ pub record Comes (s : EngineState) (r : Record) : Type 0 where
   pub of_transaction : IsOfTransaction r
   pub may_follow : MayFollow s.log r
   pub room : length (s.log ++ r ∷ []) + owed (s.log ++ r ∷ []) ≤ MAX_RECORDS
-  pub stands_at : StandsAt s.pages (end s) r
+  pub stands_at : StandsAt (pages_of s) (end s) r
 
 pub comes : (s : EngineState) (r : Record) → IsFit s → Calls s r → Comes s r
 comes s r fit calls = record {
@@ -177,7 +180,7 @@ fit_grows old event reply new fit from step numbers forced pages ckpts copied no
       resident = rw (grows.log, grows.resident)
           (images_later old.log r (start old event reply).resident (start_images old event reply from));
       held = λ q lt dirty.
-          let within : q < old.pages = omega (arith, lt, grows.pages) in
+          let within : q < pages_of old = omega (arith, lt, grows_count old event reply new grows) in
           rw grows.resident (resident_later (start old event reply).resident r q
           ∙ start_dirty old event reply from r q fit within at grows.needs
           (ap (λ (rs : List Record). is_clean rs old.written q) (sym grows.log)

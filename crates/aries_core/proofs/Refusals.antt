@@ -33,6 +33,7 @@ use Rattle.aries_core.specs.declared.refusal.Refusal.TheVariants.{NoMaster, NoTx
 use Rattle.aries_core.specs.declared.refusal.Refusal.TheVariants.{NotRolling, PageOut, SlotBusy, SlotOut, TooManyTxns}
 use Rattle.aries_core.specs.declared.refusal.Refusal.TheVariants.{NoSavepoint, PoolFull, TxnRolling, WriteBegun}
 use Rattle.aries_core.specs.EngineState.{EngineState, gathered_record, image_of, page_needed, rec_lsn_of, taken_back}
+use Rattle.aries_core.specs.EngineState.{pages_of}
 use Rattle.aries_core.specs.Gather.{Left, is_done, none_left, pages_left, txns_left}
 use Rattle.aries_core.specs.Refusal.{active_refusal, change_refusal, ckpt_refusal, copy_refusal, of_vault, has_no_room}
 use Rattle.aries_core.specs.Refusal.{frame_refusal, or_else, page_refusal, refused_if, refusal, rolling_refusal}
@@ -60,7 +61,7 @@ pub record ActiveIn (s : EngineState) (txn : ℕ) : Type 0 where
 
 -- the slot is one of the volume
 pub record SlotIn (s : EngineState) (page slot : ℕ) : Type 0 where
-  pub within : page < s.pages
+  pub within : page < pages_of s
   pub fits : slot < SLOTS
 
 -- so many records more, owed ones among them, still fit
@@ -278,13 +279,13 @@ write_end_not_full s page full = not_of_both _ _ PageOut NoWrite LogFull (λ sam
 
 -- a page may be written: it is one of the volume, none of its writes is in progress, and it is dirty
 pub record WriteBegins (s : EngineState) (page : ℕ) : Type 0 where
-  pub within : page < s.pages
+  pub within : page < pages_of s
   pub free : image_of s page ≡ None
   pub dirty : is_none (rec_lsn_of s page) ≡ false
 
 -- a write of the page is in progress
 pub record WriteEnds (s : EngineState) (page : ℕ) : Type 0 where
-  pub within : page < s.pages
+  pub within : page < pages_of s
   pub image : Page
   pub there : image_of s page ≡ Some image
 
@@ -533,13 +534,13 @@ inc_is_few s parent none =
 pub record TakePasses (s : EngineState) (copy page : ℕ) : Type 0 where
   pub view : CopyView
   pub is_read : state_of s.copies copy ≡ reading view
-  pub within : page < s.pages
+  pub within : page < pages_of s
 
 pub take_passes : (s : EngineState) (copy page : ℕ) → refusal s (event.Take copy page) ≡ None → TakePasses s copy page
 take_passes s copy page none =
     let both = none_of_both (copy_refusal s copy) _ none in
     let there = drop_passes s copy both.0 in
-    let rest = none_of_both (refused_if (nat_le s.pages page) PageOut) _ both.1 in
+    let rest = none_of_both (refused_if (nat_le (pages_of s) page) PageOut) _ both.1 in
     record {
       view = there.0;
       is_read = there.1;
@@ -562,7 +563,7 @@ full_is_few s none =
 pub record RepairPasses (s : EngineState) (copy page : ℕ) : Type 0 where
   pub view : CopyView
   pub is_complete : state_of s.copies copy ≡ complete view
-  pub within : page < s.pages
+  pub within : page < pages_of s
   pub idle : image_of s page ≡ None
 
 pub repair_passes : (s : EngineState) (copy page : ℕ) → refusal s (event.Repair copy page) ≡ None
@@ -570,7 +571,7 @@ pub repair_passes : (s : EngineState) (copy page : ℕ) → refusal s (event.Rep
 repair_passes s copy page none =
     let both = none_of_both (option_map of_vault (complete_refusal (state_of s.copies copy))) _ none in
     let there = complete_if (state_of s.copies copy) (vault_passes _ both.0) in
-    let rest = none_of_both (refused_if (nat_le s.pages page) PageOut) _ both.1 in
+    let rest = none_of_both (refused_if (nat_le (pages_of s) page) PageOut) _ both.1 in
     record {
       view = there.0;
       is_complete = there.1;

@@ -22,6 +22,7 @@ use Rattle.aries_core.specs.declared.event.Event.TheVariants as event
 use Rattle.aries_core.specs.declared.refusal.Refusal.TheVariants.{StoreFault}
 use Rattle.aries_core.specs.EngineState.{EngineState, IsFit, IsKept, MediaView, effect, engine_view, forced_through}
 use Rattle.aries_core.specs.EngineState.{log_of, with_stored}
+use Rattle.aries_core.specs.EngineState.{pages_of}
 use Rattle.aries_core.specs.EngineState as engine
 use Rattle.aries_core.specs.Refusal.{refusal}
 use Rattle.aries_core.specs.Repair.{MayBeRepaired}
@@ -33,7 +34,7 @@ use Rattle.aries_core.proofs.WriteCalls.{Called, called}
 
 -- the pages of a complete copy's chain lack nothing below its redo point
 pub chain_covers : (s : EngineState) (copy p : ℕ) (members : List CopyView) → IsFit s → IsChain members
-    → IsChainOf s.copies copy members → p < s.pages → Covers s.log p (content members p) (last_redo members)
+    → IsChainOf s.copies copy members → p < pages_of s → Covers s.log p (content members p) (last_redo members)
 chain_covers s copy p members fit chain of_id within =
     (covered_of_members (log_of s) s.forced_end s.copies copy members p
     (restorable (log_of s) s.forced_end s.stored s.copies fit.counted.stored fit.copied) chain of_id within).covers

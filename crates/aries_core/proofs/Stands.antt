@@ -19,6 +19,7 @@ use Rattle.aries_core.specs.declared.event.Event.{Event}
 use Rattle.aries_core.specs.declared.event.Event.TheVariants as event
 use Rattle.aries_core.specs.EngineState.{EngineState, IsFit, abort_record, commit_record, comp_record, end, end_record}
 use Rattle.aries_core.specs.EngineState.{log_of, next_txn, update_record}
+use Rattle.aries_core.specs.EngineState.{pages_of}
 use Rattle.aries_core.specs.EventFits.{EventFits}
 use Rattle.aries_core.specs.Refusal.{refusal}
 use Rattle.aries_core.proofs.Follows.{end_record_has, gather_record_has, undo_has}
@@ -32,7 +33,7 @@ use Rattle.aries_core.specs.Call.{record_for}
 use Rattle.aries_core.proofs.StepsBack.{back_record_has}
 
 abbrev pub StandsAtEnd : EngineState → Record → Type 0
-StandsAtEnd s r = StandsAt s.pages (end s) r
+StandsAtEnd s r = StandsAt (pages_of s) (end s) r
 
 -- ---- its parts
 
@@ -85,7 +86,7 @@ set_fits : (s : EngineState) (page slot number : ℕ) → IsFit s → number < 2
     → IsChange (Set (number_in s.log page slot) number)
 set_fits s page slot number fit fits =
     let all = all_stand (log_of s) fit.valid in
-    let before = All-weaker (StandsBefore s.pages (end s)) IsRecord (λ r stands. stands.valid) s.log all in
+    let before = All-weaker (StandsBefore (pages_of s) (end s)) IsRecord (λ r stands. stands.valid) s.log all in
     (number_fits s.log page slot before, fits)
 
 commit_stands : (s : EngineState) (txn : ℕ) → IsFit s → is_open s.log txn ≡ true

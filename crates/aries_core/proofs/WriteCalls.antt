@@ -9,6 +9,7 @@ use Rattle.buffer_pool.specs.Pool.{IsPoolOf, PoolView, state_at, with_state, wri
 use Rattle.log_records.specs.Image.{image}
 use Rattle.log_history.specs.Table.{Table}
 use Rattle.log_records.specs.Log.{Log}
+use Rattle.log_records.specs.Log.{page_count}
 use Rattle.log_store.specs.WrittenLog.{EndsAtRecord, WrittenLog, end_up_to}
 use Rattle.aries_core.specs.declared.event.Answer.{Answer}
 use Rattle.aries_core.specs.declared.event.Answer.TheVariants as answer
@@ -69,9 +70,9 @@ force_kept stored it new table pool ckpts kept same no_less ends =
         room = rw same fit.room;
         forced = ends;
         counted = record {
-          stored = fit.counted.stored ∙ ap (λ (l : Log). l.pages) (sym same);
-          written = fit.counted.written ∙ ap (λ (l : Log). l.pages) (sym same);
-          writing = fit.counted.writing ∙ ap (λ (l : Log). l.pages) (sym same);
+          stored = fit.counted.stored ∙ ap page_count (sym same);
+          written = fit.counted.written ∙ ap page_count (sym same);
+          writing = fit.counted.writing ∙ ap page_count (sym same);
         };
         resident = rw same fit.resident;
         held = rw same fit.held;

@@ -24,6 +24,7 @@ use Rattle.aries_core.specs.declared.refusal.Refusal.{Refusal}
 use Rattle.aries_core.specs.declared.refusal.Refusal.TheVariants.{CommitUnsure, LogFault, OutOfMemory, StoreFault}
 use Rattle.aries_core.specs.EngineState.{AreCounted, AreStable, EngineState, IsFit, effect, ended_write, image_of}
 use Rattle.aries_core.specs.EngineState.{forced_through, log_of, page_now, with_stored}
+use Rattle.aries_core.specs.EngineState.{pages_of}
 use Rattle.aries_core.specs.Refusal.{refusal}
 use Rattle.aries_core.specs.Step.{Fails, Step}
 use Rattle.aries_core.proofs.Gathers.{ckpt_end_has, closed_part, gather_has}
@@ -66,7 +67,7 @@ pub record RepeatsWrite (old : EngineState) (page : ℕ) (new : EngineState) : T
 
 -- it stores a page as it is now, while no write of it is in progress; that may count as its last write
 pub record RepairsPage (old : EngineState) (page : ℕ) (new : EngineState) : Type 0 where
-  pub within : page < old.pages
+  pub within : page < pages_of old
   pub idle : image_of old page ≡ None
   pub log : new.log ≡ old.log
   pub stored : new.stored ≡ set old.stored page (page_now old page)
@@ -229,6 +230,7 @@ pub record PagesFit (s : EngineState) : Type 0 where
 -- the rest of a step: the log grows, the forced end does not fall, the page count stays
 pub record GoesOn (old new : EngineState) : Type 0 where
   pub pages : new.pages ≡ old.pages
+  pub count : pages_of new ≡ pages_of old
   pub rest : List Record
   pub log : new.log ≡ old.log ++ rest
   pub no_less : old.forced_end ≤ new.forced_end
@@ -287,9 +289,9 @@ left_fit old new fit goes left =
     let counted = fit.counted in
     record {
       counted = record {
-        stored = ap length left.stored ∙ counted.stored ∙ sym goes.pages;
-        written = ap length left.written ∙ counted.written ∙ sym goes.pages;
-        writing = ap length left.writing ∙ counted.writing ∙ sym goes.pages;
+        stored = ap length left.stored ∙ counted.stored ∙ sym goes.count;
+        written = ap length left.written ∙ counted.written ∙ sym goes.count;
+        writing = ap length left.writing ∙ counted.writing ∙ sym goes.count;
       };
       stored = rw (goes.log, left.stored, left.written, left.writing)
           (stored_later old.log goes.rest old.stored old.written old.writing fit.stored);
@@ -308,9 +310,9 @@ begun_fit old new page fit goes begins =
     let room : page < length old.writing = let count = counted.writing in omega arith in
     record {
       counted = record {
-        stored = ap length begins.stored ∙ counted.stored ∙ sym goes.pages;
-        written = ap length begins.written ∙ counted.written ∙ sym goes.pages;
-        writing = ap length begins.writing ∙ length-set old.writing page (Some now) ∙ counted.writing ∙ sym goes.pages;
+        stored = ap length begins.stored ∙ counted.stored ∙ sym goes.count;
+        written = ap length begins.written ∙ counted.written ∙ sym goes.count;
+        writing = ap length begins.writing ∙ length-set old.writing page (Some now) ∙ counted.writing ∙ sym goes.count;
       };
       stored = rw (begins.log, begins.stored, begins.written, begins.writing)
           (stored_begun old.log old.stored old.written old.writing page now fit.stored room (λ d. record {
@@ -337,9 +339,9 @@ ended_fit old new page fit goes ends =
     let room : page < length old.writing = let count = counted.writing in omega arith in
     record {
       counted = record {
-        stored = ap length ends.stored ∙ length-set old.stored page image ∙ counted.stored ∙ sym goes.pages;
-        written = ap length ends.written ∙ length-set old.written page image.lsn ∙ counted.written ∙ sym goes.pages;
-        writing = ap length ends.writing ∙ length-set old.writing page None ∙ counted.writing ∙ sym goes.pages;
+        stored = ap length ends.stored ∙ length-set old.stored page image ∙ counted.stored ∙ sym goes.count;
+        written = ap length ends.written ∙ length-set old.written page image.lsn ∙ counted.written ∙ sym goes.count;
+        writing = ap length ends.writing ∙ length-set old.writing page None ∙ counted.writing ∙ sym goes.count;
       };
       stored = rw (ends.log, ends.stored, ends.written, ends.writing)
           (stored_ended old.log old.stored old.written old.writing page image fit.stored there known
@@ -363,9 +365,9 @@ repeated_fit old new page fit goes repeats =
     let there : page < length old.stored = let count = counted.stored in omega arith in
     record {
       counted = record {
-        stored = ap length repeats.stored ∙ length-set old.stored page image ∙ counted.stored ∙ sym goes.pages;
-        written = ap length repeats.written ∙ counted.written ∙ sym goes.pages;
-        writing = ap length repeats.writing ∙ counted.writing ∙ sym goes.pages;
+        stored = ap length repeats.stored ∙ length-set old.stored page image ∙ counted.stored ∙ sym goes.count;
+        written = ap length repeats.written ∙ counted.written ∙ sym goes.count;
+        writing = ap length repeats.writing ∙ counted.writing ∙ sym goes.count;
       };
       stored = rw (repeats.log, repeats.stored, repeats.written, repeats.writing)
           (stored_failed old.log old.stored old.written old.writing page image fit.stored there repeats.ends.there);
@@ -395,8 +397,8 @@ repaired_fit old new page fit goes repairs =
     let below : now.lsn < new.forced_end =
     let stable = image_is_stable old page fit in let forced = repairs.forced in omega arith in
     let past = past_now old.log page in
-    let stored_count = ap length repairs.stored ∙ length-set old.stored page now ∙ counted.stored ∙ sym goes.pages in
-    let writing_count = ap length repairs.writing ∙ counted.writing ∙ sym goes.pages in
+    let stored_count = ap length repairs.stored ∙ length-set old.stored page now ∙ counted.stored ∙ sym goes.count in
+    let writing_count = ap length repairs.writing ∙ counted.writing ∙ sym goes.count in
     let stable : AreStable new = record {
       pages = rw repairs.stored
           (All-set (λ page. page.lsn < new.forced_end) old.stored page now below (pages_later old new fit goes));
@@ -406,7 +408,7 @@ repaired_fit old new page fit goes repairs =
       | inl written ↦ record {
         counted = record {
           stored = stored_count;
-          written = ap length written ∙ length-set old.written page now.lsn ∙ counted.written ∙ sym goes.pages;
+          written = ap length written ∙ length-set old.written page now.lsn ∙ counted.written ∙ sym goes.count;
           writing = writing_count;
         };
         stored = rw (repairs.log, repairs.stored, written, repairs.writing)
@@ -417,7 +419,7 @@ repaired_fit old new page fit goes repairs =
       | inr written ↦ record {
         counted = record {
           stored = stored_count;
-          written = ap length written ∙ counted.written ∙ sym goes.pages;
+          written = ap length written ∙ counted.written ∙ sym goes.count;
           writing = writing_count;
         };
         stored = rw (repairs.log, repairs.stored, written, repairs.writing)

@@ -20,7 +20,7 @@ use Rattle.log_records.specs.declared.record.Record.TheVariants as log
 use Rattle.page_core.specs.declared.page.Page.{Page}
 use Rattle.log_records.specs.Image.{image, with_record}
 use Rattle.log_history.specs.Linked.{IsLinked, number_in}
-use Rattle.log_records.specs.Log.{IsLog, Log, lsn_of}
+use Rattle.log_records.specs.Log.{IsLog, Log, lsn_of, page_count, page_count_below}
 use Rattle.log_history.specs.Savepoints.{savepoint}
 use Rattle.log_history.specs.Transactions.{begun, last_lsn, last_of, pending}
 use Rattle.log_history.specs.Table.{Table}
@@ -47,7 +47,7 @@ use Rattle.aries_core.specs.declared.event.Event.{Event}
 use Rattle.aries_core.specs.declared.event.Event.TheVariants as event
 use Rattle.aries_core.specs.Gather.{Left, is_done, left_of, pages_left, session_of}
 
--- the page count of the volume, the log, the LSN below which each record is on the device, and the
+-- the page count in the log's header, the log's records, the LSN below which each record is on the device, and the
 -- last complete checkpoint below it; how many frames there are; the pages in memory, in the order
 -- in which they were fetched; the stored pages; of each page the LSN of its last write, and the
 -- image that is being written;
@@ -102,6 +102,10 @@ forced_to s lsn = record s { forced_end = lsn }
 -- the log of the state
 abbrev pub log_of : EngineState → Log
 log_of s = record { pages = s.pages; records = s.log }
+
+-- how many pages the volume has
+abbrev pub pages_of : EngineState → ℕ
+pages_of s = page_count (log_of s)
 
 -- forced through the record at an LSN, at least
 abbrev pub forced_through : EngineState → ℕ → EngineState
@@ -288,13 +292,16 @@ abbrev pub of_open : EngineState → Answer → (Checkpoint → Outcome) → Out
 of_open s other outcome =
     option_map_or outcome (open_checkpoint s.log) (record { answer = other; state = s })
 
--- a copy begins, with the redo point of the master
+-- a copy begins, with the redo point of the master, of the pages that the volume had when the
+-- master's checkpoint began
 abbrev pub opened_copy : EngineState → CopyKind → Outcome
-opened_copy s kind = record {
-  answer = answer.Copied (length s.copies + 1);
-  state = with_copies s (opened s.copies kind s.pages (option_map_or (λ p. p.begin) s.master 0)
-      (option_map_or (λ p. p.redo) s.master 0));
-}
+opened_copy s kind =
+    let begin = option_map_or (λ p. p.begin) s.master 0 in
+    record {
+      answer = answer.Copied (length s.copies + 1);
+      state = with_copies s (opened s.copies kind (page_count_below (log_of s) begin) begin
+          (option_map_or (λ p. p.redo) s.master 0));
+    }
 
 -- what is answered of a page that a copy has decided of
 abbrev pub take_answer : Decision → Page → Answer
@@ -367,9 +374,9 @@ master_record point = record { begin = point.begin; end = point.end }
 
 -- each page of the volume has its place in each list
 pub record AreCounted (s : EngineState) : Type 0 where
-  pub stored : length s.stored ≡ s.pages
-  pub written : length s.written ≡ s.pages
-  pub writing : length s.writing ≡ s.pages
+  pub stored : length s.stored ≡ pages_of s
+  pub written : length s.written ≡ pages_of s
+  pub writing : length s.writing ≡ pages_of s
 
 -- each page in memory is as the log makes it
 abbrev pub AreImages : List Record → List Page → Type 0
@@ -377,7 +384,7 @@ AreImages rs resident = All (λ page. page ≡ image rs page.number) resident
 
 -- each dirty page is in memory
 abbrev pub AreHeld : EngineState → Type 0
-AreHeld s = (p : ℕ) → p < s.pages → is_clean s.log s.written p ≡ false → IsResident s.resident p
+AreHeld s = (p : ℕ) → p < pages_of s → is_clean s.log s.written p ≡ false → IsResident s.resident p
 
 -- no stored page, and no image that is being written, shows a change whose record is not forced
 pub record AreStable (s : EngineState) : Type 0 where

@@ -3,6 +3,7 @@ use Rattle.std.specs.Prelude.{IfSome, Result, Ok, Err, OnOk, is_err, false}
 use Rattle.buffer_pool.specs.Frames.{IsResident}
 use Rattle.log_records.specs.Record.{change_of}
 use Rattle.log_records.specs.Log.{Log, StandsAt, lsn_of}
+use Rattle.log_records.specs.Log.{page_count}
 use Rattle.aries_core.specs.Call.{Calls}
 use Rattle.aries_core.specs.EngineState.{EngineState, EngineView, IsKept, appended, engine_view, log_of}
 use Rattle.aries_core.specs.OpenCkpt.{media_view}
@@ -53,7 +54,7 @@ append-requires-clause-stands g c =
     (media_view it.master it.session it.vault.copies it.returns.made)).state in
     let calls : Calls s c.args.next =
     subst (λ (v : EngineView g.row.S.Denot g.row.D.Denot). Calls v.state c.args.next) (sym c.self.view_is) c.requires.called in
-    subst (λ (l : Log). StandsAt l.pages (lsn_of (length l.records)) c.args.next) (sym c.make_room.ensures.same)
+    subst (λ (l : Log). StandsAt (page_count l) (lsn_of (length l.records)) c.args.next) (sym c.make_room.ensures.same)
     (comes s c.args.next c.self.invariant.fit calls).stands_at
 
 pub append-requires-clause-few : goal.append-requires-clause-few

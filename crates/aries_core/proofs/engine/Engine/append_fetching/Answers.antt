@@ -4,8 +4,10 @@ use Rattle.page_core.specs.Page.{formatted}
 use Rattle.buffer_pool.specs.Frames.{fetched}
 use Rattle.buffer_pool.specs.Pool.{PoolView, is_clean, written_of}
 use Rattle.log_records.specs.Log.{Log, StandsAt, lsn_of}
+use Rattle.log_records.specs.Log.{page_count}
 use Rattle.aries_core.specs.Call.{Calls}
 use Rattle.aries_core.specs.EngineState.{EngineState, EngineView, appended, engine_view, log_of, with_page}
+use Rattle.aries_core.specs.EngineState.{pages_of}
 use Rattle.aries_core.specs.OpenCkpt.{media_view}
 use Rattle.aries_core.proofs.Appends.{after_fetch, appended_is, valid_with}
 use Rattle.aries_core.specs.Asked.{Asks, FailsAsking, page_asked}
@@ -57,7 +59,7 @@ append-requires-2-clause-stands g c =
     subst (λ (v : EngineView g.row.S.Denot g.row.D.Denot). Calls v.state r) (sym c.self.view_is) c.requires.called in
     let fit = c.self.invariant.fit in
     let come = comes s r fit calls in
-    subst (λ (l : Log). StandsAt l.pages (lsn_of (length l.records)) r) (sym c.make_room.ensures.same) come.stands_at
+    subst (λ (l : Log). StandsAt (page_count l) (lsn_of (length l.records)) r) (sym c.make_room.ensures.same) come.stands_at
 
 pub append-requires-2-clause-few : goal.append-requires-2-clause-few
 append-requires-2-clause-few g c =
@@ -137,8 +139,8 @@ invariant_of-self-2 g c =
     subst (λ (v : EngineView g.row.S.Denot g.row.D.Denot). Calls v.state r) (sym c.self.view_is) c.requires.called in
     let fit = c.self.invariant.fit in
     let come = comes s r fit calls in
-    let within : c.args.page < s.pages =
-    subst (λ (v : EngineView g.row.S.Denot g.row.D.Denot). c.args.page < v.state.pages) (sym c.self.view_is)
+    let within : c.args.page < pages_of s =
+    subst (λ (v : EngineView g.row.S.Denot g.row.D.Denot). c.args.page < pages_of v.state) (sym c.self.view_is)
     c.requires.within in
     let of_log = c.fetch.ensures.kept (log_of s) (c.make_room-else-is_err-2.ensures.kept (log_of s)
     c.self.invariant.pool_of_log) in
