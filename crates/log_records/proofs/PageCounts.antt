@@ -2,7 +2,7 @@
 -- count at its place names none past the count at any later one.
 use Rattle.std.proofs.Common.{◌≡◌, ℕ, suc, ◌+◌, ◌-◌, ◌*◌, ◌/◌, ◌<◌, ◌≤◌, ◌++◌, ◌∷◌, [], List, length, get_or, take}
 use Rattle.std.proofs.Common.{drop, refl, sym, ap, subst, ◌∙◌, arith, max, Option, Some, None, inl, inr, true, false, filter}
-use Rattle.std.specs.Prelude.{nat_lt}
+use Rattle.std.specs.Prelude.{IfSome, nat_lt}
 use Rattle.std.specs.List.{AllByRecursion, filter_map, fold}
 use Rattle.std.specs.Option.{option_map_or}
 use Rattle.std.proofs.Math.Seq.{take-nil}
@@ -15,10 +15,10 @@ use Rattle.log_records.specs.DirtyPage.{entries_of}
 use Rattle.log_records.specs.declared.record.Record.{Record}
 use Rattle.log_records.specs.declared.record.Record.TheVariants.{Begin, Update, Comp, Commit, Abort, End, BeginChkpt}
 use Rattle.log_records.specs.declared.record.Record.TheVariants.{ChkptPages, ChkptTxns, EndChkpt}
-use Rattle.log_records.specs.Log.{AreWithin, IsLog, IsWithin, Log, StandsAt, counts_of, lsn_of, page_count, page_count_at}
+use Rattle.log_records.specs.Log.{AreWithin, IsLog, IsPageCount, IsWithin, Log, StandsAt, counts_of, lsn_of, page_count, page_count_at}
 use Rattle.log_records.specs.Log.{page_count_below, with_next}
 use Rattle.log_records.specs.PageCount.{count_after, count_behind, given_by, given_count}
-use Rattle.log_records.specs.Record.{own_lsn}
+use Rattle.log_records.specs.Record.{IsRecord, own_lsn}
 use Rattle.page_core.specs.PageCounts.{count_below, greatest, last_count}
 
 -- ---- along a list of records
@@ -208,6 +208,41 @@ stands_in log valid i d lt =
 
 pub all_within : (log : Log) → IsLog log → AreWithin (page_count log) log.records
 all_within log valid i d lt = (stands_in log valid i d lt).within
+
+-- ---- a count that a header may have
+
+gives_a_count : (r : Record) → IsRecord r → IfSome (given_count r) IsPageCount
+gives_a_count (Begin lsn txn) valid = tt
+gives_a_count (Update lsn txn prev page slot change) valid = tt
+gives_a_count (Comp lsn txn prev undo_next page slot change) valid = tt
+gives_a_count (Commit lsn txn prev) valid = tt
+gives_a_count (Abort lsn txn prev) valid = tt
+gives_a_count (End lsn txn prev) valid = tt
+gives_a_count (BeginChkpt lsn) valid = tt
+gives_a_count (ChkptPages lsn begin entries) valid = tt
+gives_a_count (ChkptTxns lsn begin txn state last undo_next) valid = tt
+gives_a_count (EndChkpt lsn begin redo) valid = tt
+
+greater_is_count : (count : ℕ) (given : Option ℕ) → IsPageCount count → IfSome given IsPageCount
+    → IsPageCount (option_map_or (max count) given count)
+greater_is_count count None is given_is = is
+greater_is_count count (Some n) is given_is = record {
+  least = omega (arith, is.least, given_is.least);
+  most = omega (arith, is.most, given_is.most);
+}
+
+behind_is_count : (count : ℕ) (rs : List Record) → IsPageCount count
+    → ((i : ℕ) (d : Record) → i < length rs → IsRecord (get_or rs i d)) → IsPageCount (fold count_after count rs)
+behind_is_count count [] is valid = is
+behind_is_count count (r ∷ rs) is valid =
+    behind_is_count (count_after count r) rs
+    (greater_is_count count (given_count r) is (gives_a_count r (valid 0 r (omega arith))))
+    (λ i d lt. valid (suc i) d (omega (arith, lt)))
+
+pub page_count-is_count : (log : Log) → IsLog log → IsPageCount (page_count log)
+unfolding count_behind
+page_count-is_count log valid =
+    behind_is_count log.pages log.records valid.pages (λ i d lt. (valid.records i d lt).valid)
 
 -- ---- a log that is cut, and one that goes on
 

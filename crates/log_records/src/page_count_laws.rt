@@ -4,8 +4,9 @@ ghost use Rattle.std.specs.Prelude.{ℕ, ◌≡◌, ◌-◌, ◌/◌, ◌<◌, �
 ghost use Rattle.page_core.specs.PageCounts.{count_below, last_count};
 ghost use Rattle.page_core.specs.declared.numbers.TheConstants.{LSN_STEP};
 ghost use Rattle.log_records.specs.declared.record.Record.{Record};
-ghost use Rattle.log_records.specs.Log.{AreWithin, IsLog, Log, StandsAt, counts_of, lsn_of};
-ghost use Rattle.log_records.specs.Log.{page_count, page_count_at, page_count_below, with_next};
+ghost use Rattle.log_records.specs.Log.{AreWithin, IsLog, IsPageCount, Log, StandsAt, counts_of};
+ghost use Rattle.log_records.specs.Log.{lsn_of, page_count, page_count_at, page_count_below};
+ghost use Rattle.log_records.specs.Log.{with_next};
 
 /// A longer log has no smaller page count, and what comes behind a place changes nothing there.
 pub fn volumes_never_get_smaller()
@@ -35,4 +36,9 @@ pub fn records_name_pages_of_the_volume()
     ensures stands { (log : Log) (i : ℕ) (d : Record) → IsLog log → i < length log.records
         → StandsAt (page_count log) (lsn_of i) (slice_index_or log.records i d) }
     ensures within { (log : Log) → IsLog log → AreWithin (page_count log) log.records }
+{}
+
+/// The page count of a log is one that a header may have.
+pub fn page_counts_are_those_of_a_header()
+    ensures { (log : Log) → IsLog log → IsPageCount (page_count log) }
 {}
