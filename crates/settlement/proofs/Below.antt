@@ -14,9 +14,10 @@ use Rattle.page_core.specs.Page.{formatted}
 use Rattle.log_records.specs.declared.page_change.PageChange.{PageChange}
 use Rattle.log_records.specs.declared.record.Record.{Record}
 use Rattle.log_records.specs.Image.{image, image_from, redo_all, with_record}
-use Rattle.log_records.specs.Log.{IsLog, IsWithin, Log, StandsAt, lsn_of}
+use Rattle.log_records.specs.Log.{IsLog, IsWithin, Log, StandsAt, lsn_of, page_count}
 use Rattle.log_records.specs.Record.{change_of, own_lsn}
 use Rattle.log_records.proofs.Changes.{change_within}
+use Rattle.log_records.proofs.PageCounts.{count_is_first, stands_in, valid_cut}
 use Rattle.log_records.proofs.Images.{length-redo_all, no_change, other_page, redo_all-append}
 use Rattle.log_history.specs.Linked.{number_in}
 use Rattle.log_history.proofs.Slots.{slots_of_image}
@@ -52,18 +53,6 @@ below_from (r ∷ rs) s end stand =
 less_none : (n : ℕ) → n - 0 ≡ n
 less_none n = omega arith
 
--- the first records of a log are a log
-pub first_valid : (log : Log) (k : ℕ) → IsLog log
-    → IsLog (record { pages = log.pages; records = take k log.records })
-first_valid log k valid = record {
-  pages = valid.pages;
-  count = let l = length-take k log.records in let m = valid.count in omega arith;
-  records = λ i d lt.
-      let l = length-take k log.records in
-      subst (λ (r : Record). StandsAt log.pages (lsn_of i) r)
-      (sym (get_or-take k log.records i d (omega arith))) (valid.records i d (omega arith));
-}
-
 -- the records below an LSN are the first so many
 pub below_is : (log : Log) (end : ℕ) → IsLog log
     → below log.records end ≡ take (min ((end - 1) / 64) (length log.records)) log.records
@@ -85,7 +74,7 @@ shown_below log end page slot count number pages valid is made shows =
     let long : length pages ≡ log.pages = ap length made ∙ length-redo_all rs log.pages in
     let first : IsLog (record { pages = length pages; records = rs }) =
     subst (λ (n : ℕ). IsLog (record { pages = n; records = rs })) (sym long)
-    (first_valid log count valid) in
+    (valid_cut log count valid) in
     shows rs first (subst (λ (n : ℕ). pages ≡ redo_all rs n) (sym long) made)
     ∙ ap (λ (xs : List Record). number_in xs page slot)
     (ap (λ (n : ℕ). take n log.records) is ∙ sym (below_is log end valid))
@@ -145,9 +134,9 @@ zero_in p slot = elim (cases_lt slot SLOTS) [
 pub number_outside : (log : Log) (page slot : ℕ) → IsLog log → log.pages ≤ page
     → number_in log.records page slot ≡ 0
 number_outside log page slot valid out =
-    let same = same_outside (formatted page) log.records log.pages
-    (let n = number_formatted page in omega arith)
-    (λ i d lt. (valid.records i d lt).within) in
+    let same = same_outside (formatted page) log.records (page_count log)
+    (omega (arith, number_formatted page, count_is_first log, out))
+    (λ i d lt. (stands_in log valid i d lt).within) in
     ap (λ (p : Page). slice_index p.slots slot) same ∙ zero_in page slot
 
 -- and a page has none behind its last slot
