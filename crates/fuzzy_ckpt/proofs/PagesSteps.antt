@@ -24,7 +24,7 @@ use Rattle.log_records.specs.declared.record.Record.TheVariants.{ChkptPages}
 use Rattle.log_records.specs.Coverage.{AreStored, Covers, IsPast, changes_on, dirty, next_dirty, rec_lsn}
 use Rattle.log_records.specs.DirtyPage.{entries_of}
 use Rattle.log_records.specs.Log.{IsLog, Log, StandsAt, page_count}
-use Rattle.log_records.proofs.PageCounts.{stands_in}
+use Rattle.log_records.proofs.PageCounts.{page_count-is_count, stands_in}
 use Rattle.log_records.specs.Record.{AreDirtyPages, IsBefore, IsDirtyPage, change_of}
 use Rattle.log_records.proofs.Changes.{change_within, valid_change}
 use Rattle.log_records.proofs.Coverage.{clean_is_image, covers_later, covers_lower, dirty_covers, of_each}
@@ -215,7 +215,7 @@ entry_is : (log : Log) (written : List ℕ) (from : ℕ) (e : DirtyPage) → IsL
     → IsEntry (lsn_at log.records written) from (length written) e → IsDirtyPage (end_of log.records) e
 entry_is log written from e valid count it =
     let within = it.within in
-    let most = valid.pages.most in
+    let most = (page_count-is_count log valid).most in
     record {
       page = omega arith;
       rec_lsn = change_before log e.page e.rec_lsn valid
@@ -279,7 +279,7 @@ more_pages log stored written writing c pages valid count are is covered found =
     let next : AreNext (lsn_at rs written) c.phase end (entries_of pages) =
     subst (AreNext (lsn_at rs written) c.phase end) (sym found) (next_dirty_are rs written c.phase) in
     let last = last_is (lsn_at rs written) c.phase end pages next in
-    let most = valid.pages.most in
+    let most = (page_count-is_count log valid).most in
     let before = ckpt_redo_before log (pages_ckpt c) valid is in
     let low = lowered_falls (entries_of pages) c.redo in
     record {
