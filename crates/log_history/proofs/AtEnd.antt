@@ -15,9 +15,10 @@ use Rattle.log_records.specs.declared.limits.TheConstants.{MAX_RECORDS}
 use Rattle.log_records.specs.declared.record.Record.{Record}
 use Rattle.log_records.specs.declared.record.Record.TheVariants.{Begin, Update, Comp, Commit, Abort, End, BeginChkpt}
 use Rattle.log_records.specs.declared.record.Record.TheVariants.{ChkptPages, ChkptTxns, EndChkpt}
-use Rattle.log_records.specs.Log.{IsLog, IsWithin, Log, StandsAt, lsn_of, with_next}
+use Rattle.log_records.specs.Log.{IsLog, IsWithin, Log, StandsAt, lsn_of, page_count, page_count_at, with_next}
 use Rattle.log_records.specs.Record.{HasNoBefore, IsBefore, IsChange, IsLsn, IsPageChange, IsRecord, IsTxn, own_lsn}
 use Rattle.log_records.proofs.Changes.{valid_change}
+use Rattle.log_records.proofs.PageCounts.{page_count_at-all, page_count_at-append, stands_in}
 use Rattle.log_history.specs.declared.pending_change.PendingChange.{PendingChange}
 use Rattle.log_history.specs.Linked.{IsLinked}
 use Rattle.log_history.specs.Transactions.{begun, is_open, last_lsn, last_of, last_or, pending, pending_from}
@@ -30,7 +31,15 @@ use Rattle.log_history.proofs.Begun.{begun_bounds, open_has_begun, some_from_beg
 abbrev pub noted : Record → Option PendingChange
 noted (Update lsn txn prev page slot change) =
     Some (record { lsn = lsn; prev = prev; page = page; slot = slot; change = change })
-noted other = None
+noted (Begin lsn txn) = None
+noted (Comp lsn txn prev undo_next page slot change) = None
+noted (Commit lsn txn prev) = None
+noted (Abort lsn txn prev) = None
+noted (End lsn txn prev) = None
+noted (BeginChkpt lsn) = None
+noted (ChkptPages lsn begin entries) = None
+noted (ChkptTxns lsn begin txn state last undo) = None
+noted (EndChkpt lsn begin redo) = None
 
 All-with_pending : (Q : PendingChange → Type 0) (changes : List PendingChange) (r : Record) → All Q changes
     → IfSome (noted r) Q → All Q (with_pending changes r)
@@ -72,9 +81,9 @@ pub record StandsBefore (pages at : ℕ) (r : Record) : Type 0 where
   pub earlier : own_lsn r < at
 
 pub all_stand : (log : Log) → IsLog log
-    → All (StandsBefore log.pages (lsn_of (length log.records))) log.records
+    → All (StandsBefore (page_count log) (lsn_of (length log.records))) log.records
 all_stand log valid = λ i d lt.
-    let stands = valid.records i d lt in
+    let stands = stands_in log valid i d lt in
     let lsn = stands.lsn in
     record { valid = stands.valid; within = stands.within; earlier = omega arith }
 
@@ -112,18 +121,18 @@ is_noted pages at (ChkptTxns lsn begin txn state last undo) stands = tt
 is_noted pages at (EndChkpt lsn begin redo) stands = tt
 
 pub all_pending : (log : Log) (t : ℕ) → IsLog log
-    → All (IsPending log.pages (lsn_of (length log.records))) (pending log.records t)
+    → All (IsPending (page_count log) (lsn_of (length log.records))) (pending log.records t)
 all_pending log t valid =
     let at = lsn_of (length log.records) in
-    All-pending (IsPending log.pages at) log.records t
-    (All-weaker (StandsBefore log.pages at) (λ r. IfSome (noted r) (IsPending log.pages at)) (is_noted log.pages at)
+    All-pending (IsPending (page_count log) at) log.records t
+    (All-weaker (StandsBefore (page_count log) at) (λ r. IfSome (noted r) (IsPending (page_count log) at)) (is_noted (page_count log) at)
     log.records (all_stand log valid))
 
 pub last_pending : (log : Log) (t : ℕ) (p : PendingChange) → IsLog log → last_of (pending log.records t) ≡ Some p
-    → IsPending log.pages (lsn_of (length log.records)) p
+    → IsPending (page_count log) (lsn_of (length log.records)) p
 last_pending log t p valid last =
     let at = lsn_of (length log.records) in
-    All-last_of (IsPending log.pages at) (pending log.records t) p (all_pending log t valid) last
+    All-last_of (IsPending (page_count log) at) (pending log.records t) p (all_pending log t valid) last
 
 -- ---- transactions that began
 
@@ -158,7 +167,7 @@ last_lsn_is_before log t valid still_open =
     last_or-of_some (IsBefore at) 0 (map own_lsn own) (omega (arith, length-map own own_lsn))
     (All-map (IsBefore at) own_lsn own
     (All-filter (λ r. eqb (txn_of r) t) (λ r. IsBefore at (own_lsn r)) log.records
-    (All-weaker (StandsBefore log.pages at) (λ r. IsBefore at (own_lsn r)) (is_before log.pages at) log.records
+    (All-weaker (StandsBefore (page_count log) at) (λ r. IsBefore at (own_lsn r)) (is_before (page_count log) at) log.records
     (all_stand log valid))))
 
 -- ---- the log's end
@@ -173,15 +182,28 @@ lsn_is_lsn n few = record {
 -- ---- one record more
 
 pub valid_next : (log : Log) (r : Record) → IsLog log → length log.records < 1048576
-    → StandsAt log.pages (lsn_of (length log.records)) r → IsLog (with_next log (r ∷ []))
-valid_next log r valid few stands = record {
-  pages = valid.pages;
-  count = omega (arith, length_push log.records r);
-  records = λ i d lt. below_more (λ n. StandsAt log.pages (lsn_of n) (get_or (log.records ++ r ∷ []) n d))
-      (length log.records)
-      (λ n below. rw (get_or_append_left log.records (r ∷ []) d n below) (valid.records n d below))
-      (rw (get_or_push log.records r d (length log.records) refl) stands) i (omega (arith, length_push log.records r));
-}
+    → StandsAt (page_count log) (lsn_of (length log.records)) r → IsLog (with_next log (r ∷ []))
+valid_next log r valid few stands =
+    let all : page_count_at log (length log.records) ≡ page_count log =
+    page_count_at-all log (length log.records) (omega arith) in
+    record {
+      pages = valid.pages;
+      count = omega (arith, length_push log.records r);
+      records = λ i d lt.
+          below_more
+          (λ n. StandsAt (page_count_at (with_next log (r ∷ [])) n) (lsn_of n) (get_or (log.records ++ r ∷ []) n d))
+          (length log.records)
+          (λ n below. rw (
+            get_or_append_left log.records (r ∷ []) d n below,
+            page_count_at-append log (r ∷ []) n (omega (arith, below)),
+          ) (valid.records n d below))
+          (rw (
+            get_or_push log.records r d (length log.records) refl,
+            page_count_at-append log (r ∷ []) (length log.records) (omega arith),
+            all,
+          ) stands) i
+          (omega (arith, length_push log.records r));
+    }
 
 -- ---- what undoes a change
 

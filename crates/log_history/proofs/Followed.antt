@@ -1,5 +1,5 @@
 -- What the records so far make says whether the next one may follow.
-use Rattle.std.proofs.Common.{◌≡◌, ℕ, ◌<◌, ◌∷◌, [], List, get_or, map, sym, ap, subst, subst₂, ◌∙◌, ◌↔◌, arith}
+use Rattle.std.proofs.Common.{◌≡◌, ℕ, ◌<◌, ◌∷◌, ◌++◌, [], List, get_or, map, sym, ap, subst, subst₂, ◌∙◌, ◌↔◌, arith}
 use Rattle.std.specs.Prelude.{slice_index}
 use Rattle.std.proofs.lemmas.List.{map-id}
 use Rattle.std.proofs.lemmas.List.FromFn.{get_or-map-range_with_len}
@@ -13,7 +13,7 @@ use Rattle.log_history.specs.Checked.{GoesWithCheckpoint, NamesNumber}
 use Rattle.log_history.specs.History.{IsMadeOf, Made, MayComeNext, NamesNumberOn, followed, number_on}
 use Rattle.log_records.specs.Image.{image, redo_all, with_record}
 use Rattle.log_history.specs.Linked.{IsLinked, MayFollow, number_in}
-use Rattle.log_records.specs.Log.{IsLog, IsWithin, Log, with_next}
+use Rattle.log_records.specs.Log.{IsLog, IsWithin, Log, page_count, with_next}
 use Rattle.log_history.specs.Table.{MayNote, Table, noted}
 use Rattle.log_history.proofs.Checks.{goes_with_checkpoint, may_note, names_number}
 use Rattle.log_history.proofs.CheckpointTables.{checkpoint_table_of_push, goes_as_noted}
@@ -21,6 +21,7 @@ use Rattle.log_history.specs.CheckpointTable.{CheckpointTable, MayNoteCheckpoint
 use Rattle.log_records.specs.Record.{IsOfCheckpoint, IsRecord}
 use Rattle.log_history.proofs.Checks.{may_follow as table_allows}
 use Rattle.log_records.proofs.Images.{redo_all-append}
+use Rattle.log_records.proofs.PageCounts.{count_stays, page_count-push}
 use Rattle.log_history.proofs.Steps.{table_of_push}
 
 -- the number in a slot of a log's volume
@@ -31,13 +32,13 @@ number_of_volume rs n page slot d lt =
     (get_or-map-range_with_len (image rs) 0 n page page d lt (omega arith))
 
 -- the number in a slot of the pages is that of the log
-number_made : (log : Log) (made : Made) → IsMadeOf log made → (page slot : ℕ) → page < log.pages
+number_made : (log : Log) (made : Made) → IsMadeOf log made → (page slot : ℕ) → page < page_count log
     → number_on made.pages page slot ≡ number_in log.records page slot
 number_made log made of page slot lt =
     ap (λ (pages : List Page). number_on pages page slot) of.pages
-    ∙ number_of_volume log.records log.pages page slot (formatted page) lt
+    ∙ number_of_volume log.records (page_count log) page slot (formatted page) lt
 
-names : (log : Log) (made : Made) (r : Record) → IsMadeOf log made → IsWithin log.pages r
+names : (log : Log) (made : Made) (r : Record) → IsMadeOf log made → IsWithin (page_count log) r
     → NamesNumberOn made.pages r → NamesNumber log.records r
 names log made (Update lsn txn prev page slot change) of within on =
     subst (Replaces change) (number_made log made of page slot within) on
@@ -51,7 +52,7 @@ names log made (ChkptPages lsn begin pages) of within on = tt
 names log made (ChkptTxns lsn begin txn state last undo) of within on = tt
 names log made (EndChkpt lsn begin redo) of within on = tt
 
-names_on : (log : Log) (made : Made) (r : Record) → IsMadeOf log made → IsWithin log.pages r
+names_on : (log : Log) (made : Made) (r : Record) → IsMadeOf log made → IsWithin (page_count log) r
     → NamesNumber log.records r → NamesNumberOn made.pages r
 names_on log made (Update lsn txn prev page slot change) of within named =
     subst (Replaces change) (sym (number_made log made of page slot within)) named
@@ -73,13 +74,13 @@ goes log made r of valid is =
     (sym of.table) (sym of.checkpoints) (goes_as_noted log r valid is)
 
 pub may_follow : (log : Log) (made : Made) (r : Record) → IsMadeOf log made → IsLog log → IsRecord r
-    → IsWithin log.pages r → MayComeNext made r → MayFollow log.records r
+    → IsWithin (page_count log) r → MayComeNext made r → MayFollow log.records r
 may_follow log made r of valid is within may =
     table_allows log.records r (subst (λ (t : Table). MayNote t r) of.table may.may_note)
     (names log made r of within may.replaces) ((goes log made r of valid is).1 may.may_note_checkpoint)
 
 pub may_come : (log : Log) (made : Made) (r : Record) → IsMadeOf log made → IsLog log → IsRecord r
-    → IsWithin log.pages r → MayFollow log.records r → MayComeNext made r
+    → IsWithin (page_count log) r → MayFollow log.records r → MayComeNext made r
 may_come log made r of valid is within may = record {
   may_note = subst (λ (t : Table). MayNote t r) (sym of.table) (may_note log.records r may);
   may_note_checkpoint = (goes log made r of valid is).0 (goes_with_checkpoint log.records r may);
@@ -94,7 +95,8 @@ made_next log made new r linked of may e = record {
   checkpoints = ap (λ (m : Made). m.checkpoints) e ∙ ap (λ (t : CheckpointTable). noted_checkpoint t r) of.checkpoints
       ∙ sym (checkpoint_table_of_push log.records r);
   pages = ap (λ (m : Made). m.pages) e ∙ ap (map (λ page. with_record page r)) of.pages
-      ∙ redo_all-append log.records (r ∷ []) log.pages;
+      ∙ redo_all-append log.records (r ∷ []) (page_count log)
+      ∙ ap (redo_all (log.records ++ r ∷ [])) (sym (page_count-push log r ∙ count_stays (page_count log) r));
 }
 
 -- ---- a record of a checkpoint changes neither the transactions nor the pages

@@ -2,7 +2,8 @@
 use Rattle.page_core.specs.Change.{Replaces}
 use Rattle.std.specs.Prelude.{◌≡◌, List, None, IsSomeAnd}
 use Rattle.log_records.specs.declared.record.Record.{Record}
-use Rattle.log_records.specs.declared.record.Record.TheVariants.{Update, BeginChkpt, ChkptPages}
+use Rattle.log_records.specs.declared.record.Record.TheVariants.{Begin, Update, Comp, Commit, Abort}
+use Rattle.log_records.specs.declared.record.Record.TheVariants.{End, BeginChkpt, ChkptPages}
 use Rattle.log_records.specs.declared.record.Record.TheVariants.{ChkptTxns, EndChkpt}
 use Rattle.log_history.specs.Checkpoint.{open_checkpoint}
 use Rattle.log_history.specs.Linked.{ArePagesNow, HasOldTxns, MayEnd, MayRecordPages, MayRecordTxn}
@@ -11,7 +12,15 @@ use Rattle.log_history.specs.Linked.{number_in}
 -- a Set of an Update names the number that is there
 abbrev pub NamesNumber : List Record → Record → Type 0
 NamesNumber rs (Update lsn txn prev page slot change) = Replaces change (number_in rs page slot)
-NamesNumber rs other = Unit {0}
+NamesNumber rs (Begin lsn txn) = Unit {0}
+NamesNumber rs (Comp lsn txn prev undo_next page slot change) = Unit {0}
+NamesNumber rs (Commit lsn txn prev) = Unit {0}
+NamesNumber rs (Abort lsn txn prev) = Unit {0}
+NamesNumber rs (End lsn txn prev) = Unit {0}
+NamesNumber rs (BeginChkpt lsn) = Unit {0}
+NamesNumber rs (ChkptPages lsn begin pages) = Unit {0}
+NamesNumber rs (ChkptTxns lsn begin txn state last undo) = Unit {0}
+NamesNumber rs (EndChkpt lsn begin redo) = Unit {0}
 
 -- a checkpoint's record goes on with the open checkpoint, or opens one
 abbrev pub GoesWithCheckpoint : List Record → Record → Type 0
@@ -22,4 +31,9 @@ GoesWithCheckpoint rs (ChkptTxns lsn begin txn state last undo) =
     IsSomeAnd (open_checkpoint rs) (MayRecordTxn begin txn)
 GoesWithCheckpoint rs (EndChkpt lsn begin redo) =
     IsSomeAnd (open_checkpoint rs) (λ c. MayEnd begin redo c × HasOldTxns rs c)
-GoesWithCheckpoint rs of_transaction = Unit {0}
+GoesWithCheckpoint rs (Begin lsn txn) = Unit {0}
+GoesWithCheckpoint rs (Update lsn txn prev page slot change) = Unit {0}
+GoesWithCheckpoint rs (Comp lsn txn prev undo_next page slot change) = Unit {0}
+GoesWithCheckpoint rs (Commit lsn txn prev) = Unit {0}
+GoesWithCheckpoint rs (Abort lsn txn prev) = Unit {0}
+GoesWithCheckpoint rs (End lsn txn prev) = Unit {0}

@@ -4,8 +4,9 @@ use Rattle.std.specs.List.{fold}
 use Rattle.std.specs.Option.{option_map}
 use Rattle.log_records.specs.declared.dirty_page.DirtyPage.{DirtyPage}
 use Rattle.log_records.specs.declared.record.Record.{Record}
-use Rattle.log_records.specs.declared.record.Record.TheVariants.{BeginChkpt, ChkptPages, ChkptTxns}
-use Rattle.log_records.specs.declared.record.Record.TheVariants.{EndChkpt}
+use Rattle.log_records.specs.declared.record.Record.TheVariants.{Begin, Update, Comp, Commit, Abort}
+use Rattle.log_records.specs.declared.record.Record.TheVariants.{End, BeginChkpt, ChkptPages}
+use Rattle.log_records.specs.declared.record.Record.TheVariants.{ChkptTxns, EndChkpt}
 use Rattle.log_records.specs.DirtyPage.{entries_of}
 
 -- a checkpoint that is open: the LSN of its BeginChkpt, and the dirty pages and transactions that
@@ -27,7 +28,12 @@ checkpoint_after c (BeginChkpt lsn) = Some (record { begin = lsn; pages = []; tx
 checkpoint_after c (ChkptPages lsn begin pages) = option_map (with_pages (entries_of pages)) c
 checkpoint_after c (ChkptTxns lsn begin txn state last undo_next) = option_map (with_txn txn) c
 checkpoint_after c (EndChkpt lsn begin redo) = None
-checkpoint_after c of_transaction = c
+checkpoint_after c (Begin lsn txn) = c
+checkpoint_after c (Update lsn txn prev page slot change) = c
+checkpoint_after c (Comp lsn txn prev undo_next page slot change) = c
+checkpoint_after c (Commit lsn txn prev) = c
+checkpoint_after c (Abort lsn txn prev) = c
+checkpoint_after c (End lsn txn prev) = c
 
 -- the checkpoint that is open at the end of a log, if one is
 abbrev pub open_checkpoint : List Record → Option Checkpoint

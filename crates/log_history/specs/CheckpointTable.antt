@@ -8,8 +8,9 @@ use Rattle.log_records.specs.declared.dirty_page.DirtyPage.{DirtyPage}
 use Rattle.log_records.specs.declared.dirty_page.DirtyPages.{DirtyPages}
 use Rattle.log_records.specs.declared.dirty_page.DirtyPages.TheVariants.{One, Two, Three}
 use Rattle.log_records.specs.declared.record.Record.{Record}
-use Rattle.log_records.specs.declared.record.Record.TheVariants.{BeginChkpt, ChkptPages, ChkptTxns}
-use Rattle.log_records.specs.declared.record.Record.TheVariants.{EndChkpt}
+use Rattle.log_records.specs.declared.record.Record.TheVariants.{Begin, Update, Comp, Commit, Abort}
+use Rattle.log_records.specs.declared.record.Record.TheVariants.{End, BeginChkpt, ChkptPages}
+use Rattle.log_records.specs.declared.record.Record.TheVariants.{ChkptTxns, EndChkpt}
 use Rattle.log_records.specs.DirtyPage.{entries_of}
 use Rattle.log_records.specs.Record.{change_of}
 use Rattle.log_history.specs.declared.checkpoints.TheConstants.{NO_PAGE}
@@ -87,7 +88,12 @@ MayNoteCheckpoint table t (ChkptTxns lsn begin txn state last undo) =
     IsSomeAnd t.current (MayAddTxn begin txn)
 MayNoteCheckpoint table t (EndChkpt lsn begin redo) =
     IsSomeAnd t.current (MayClose table begin redo)
-MayNoteCheckpoint table t of_transaction = Unit {0}
+MayNoteCheckpoint table t (Begin lsn txn) = Unit {0}
+MayNoteCheckpoint table t (Update lsn txn prev page slot change) = Unit {0}
+MayNoteCheckpoint table t (Comp lsn txn prev undo_next page slot change) = Unit {0}
+MayNoteCheckpoint table t (Commit lsn txn prev) = Unit {0}
+MayNoteCheckpoint table t (Abort lsn txn prev) = Unit {0}
+MayNoteCheckpoint table t (End lsn txn prev) = Unit {0}
 
 -- ---- the table after one more record
 
@@ -112,7 +118,12 @@ current_after c (BeginChkpt lsn) =
 current_after c (ChkptPages lsn begin pages) = option_map (add_pages pages) c
 current_after c (ChkptTxns lsn begin txn state last undo) = option_map (add_txn txn) c
 current_after c (EndChkpt lsn begin redo) = None
-current_after c of_transaction = c
+current_after c (Begin lsn txn) = c
+current_after c (Update lsn txn prev page slot change) = c
+current_after c (Comp lsn txn prev undo_next page slot change) = c
+current_after c (Commit lsn txn prev) = c
+current_after c (Abort lsn txn prev) = c
+current_after c (End lsn txn prev) = c
 
 abbrev pub noted_checkpoint : CheckpointTable → Record → CheckpointTable
 noted_checkpoint t r = record {

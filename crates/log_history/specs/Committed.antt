@@ -3,7 +3,9 @@ use Rattle.std.specs.Prelude.{ℕ, ◌==◌, ◌&&◌, List, [], ◌∷◌, ◌+
 use Rattle.page_core.specs.Change.{changed}
 use Rattle.log_history.specs.declared.pending_change.PendingChange.{PendingChange}
 use Rattle.log_records.specs.declared.record.Record.{Record}
-use Rattle.log_records.specs.declared.record.Record.TheVariants.{Commit}
+use Rattle.log_records.specs.declared.record.Record.TheVariants.{Begin, Update, Comp, Commit, Abort}
+use Rattle.log_records.specs.declared.record.Record.TheVariants.{End, BeginChkpt, ChkptPages}
+use Rattle.log_records.specs.declared.record.Record.TheVariants.{ChkptTxns, EndChkpt}
 use Rattle.log_history.specs.Transactions.{pending}
 
 -- the number of each slot of each page
@@ -24,7 +26,15 @@ with_changes values (p ∷ ps) = with_changes
 -- a Commit makes the changes that are pending for its transaction there, as one block
 abbrev pub with_commit : List Record → Values → Record → Values
 with_commit before values (Commit lsn txn prev) = with_changes values (pending before txn)
-with_commit before values other = values
+with_commit before values (Begin lsn txn) = values
+with_commit before values (Update lsn txn prev page slot change) = values
+with_commit before values (Comp lsn txn prev undo_next page slot change) = values
+with_commit before values (Abort lsn txn prev) = values
+with_commit before values (End lsn txn prev) = values
+with_commit before values (BeginChkpt lsn) = values
+with_commit before values (ChkptPages lsn begin pages) = values
+with_commit before values (ChkptTxns lsn begin txn state last undo) = values
+with_commit before values (EndChkpt lsn begin redo) = values
 
 abbrev pub committed_from : List Record → Values → List Record → Values
 committed_from before values [] = values

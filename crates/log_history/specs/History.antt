@@ -5,9 +5,11 @@ use Rattle.page_core.specs.declared.page.Page.{Page}
 use Rattle.page_core.specs.Change.{Replaces}
 use Rattle.page_core.specs.Page.{formatted}
 use Rattle.log_records.specs.declared.record.Record.{Record}
-use Rattle.log_records.specs.declared.record.Record.TheVariants.{Update}
+use Rattle.log_records.specs.declared.record.Record.TheVariants.{Begin, Update, Comp, Commit, Abort}
+use Rattle.log_records.specs.declared.record.Record.TheVariants.{End, BeginChkpt, ChkptPages}
+use Rattle.log_records.specs.declared.record.Record.TheVariants.{ChkptTxns, EndChkpt}
 use Rattle.log_records.specs.Image.{redo_all, with_record}
-use Rattle.log_records.specs.Log.{Log}
+use Rattle.log_records.specs.Log.{Log, page_count}
 use Rattle.log_history.specs.CheckpointTable.{CheckpointTable, MayNoteCheckpoint}
 use Rattle.log_history.specs.CheckpointTable.{checkpoint_table_of, noted_checkpoint}
 use Rattle.log_history.specs.Table.{MayNote, Table, noted, table_of}
@@ -21,7 +23,7 @@ pub record Made : Type 0 where
 pub record IsMadeOf (log : Log) (made : Made) : Type 0 where
   pub table : made.table ≡ table_of log.records
   pub checkpoints : made.checkpoints ≡ checkpoint_table_of log.records
-  pub pages : made.pages ≡ redo_all log.records log.pages
+  pub pages : made.pages ≡ redo_all log.records (page_count log)
 
 -- the number in a slot of these pages
 abbrev pub number_on : List Page → ℕ → ℕ → ℕ
@@ -31,7 +33,15 @@ number_on pages page slot = slice_index (slice_index_or pages page (formatted pa
 abbrev pub NamesNumberOn : List Page → Record → Type 0
 NamesNumberOn pages (Update lsn txn prev page slot change) =
     Replaces change (number_on pages page slot)
-NamesNumberOn pages other = Unit {0}
+NamesNumberOn pages (Begin lsn txn) = Unit {0}
+NamesNumberOn pages (Comp lsn txn prev undo_next page slot change) = Unit {0}
+NamesNumberOn pages (Commit lsn txn prev) = Unit {0}
+NamesNumberOn pages (Abort lsn txn prev) = Unit {0}
+NamesNumberOn pages (End lsn txn prev) = Unit {0}
+NamesNumberOn pages (BeginChkpt lsn) = Unit {0}
+NamesNumberOn pages (ChkptPages lsn begin dirty) = Unit {0}
+NamesNumberOn pages (ChkptTxns lsn begin txn state last undo) = Unit {0}
+NamesNumberOn pages (EndChkpt lsn begin redo) = Unit {0}
 
 -- the record may come next, as far as the transactions, the checkpoints and the pages say
 pub record MayComeNext (made : Made) (r : Record) : Type 0 where

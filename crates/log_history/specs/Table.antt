@@ -8,7 +8,8 @@ use Rattle.log_records.specs.declared.limits.TheConstants.{MAX_OPEN}
 use Rattle.log_history.specs.declared.pending_change.PendingChange.{PendingChange}
 use Rattle.log_records.specs.declared.record.Record.{Record}
 use Rattle.log_records.specs.declared.record.Record.TheVariants.{Begin, Update, Comp, Commit, Abort}
-use Rattle.log_records.specs.declared.record.Record.TheVariants.{End, ChkptTxns}
+use Rattle.log_records.specs.declared.record.Record.TheVariants.{End, BeginChkpt, ChkptPages}
+use Rattle.log_records.specs.declared.record.Record.TheVariants.{ChkptTxns, EndChkpt}
 use Rattle.log_records.specs.declared.txn_phase.TxnPhase.{TxnPhase}
 use Rattle.log_records.specs.declared.txn_phase.TxnPhase.TheVariants.{Active, Rolling}
 use Rattle.std.specs.Option.{option_map_or}
@@ -96,7 +97,9 @@ MayNote table (End lsn txn prev) = IsSomeAnd (entry_in table txn)
     (λ e. IsChained prev e × (e.pending ≡ []))
 MayNote table (ChkptTxns lsn begin txn state last undo) =
     IsSomeAnd (entry_in table txn) (IsEntryNow state last undo)
-MayNote table of_checkpoint = Unit {0}
+MayNote table (BeginChkpt lsn) = Unit {0}
+MayNote table (ChkptPages lsn begin pages) = Unit {0}
+MayNote table (EndChkpt lsn begin redo) = Unit {0}
 
 -- ---- the table after one more record
 
@@ -111,7 +114,13 @@ entry_after e (Comp lsn txn prev undo_next page slot change) = record e {
   pending = with_pending e.pending (Comp lsn txn prev undo_next page slot change);
 }
 entry_after e (Abort lsn txn prev) = record e { last = lsn; rolling = true }
-entry_after e other = e
+entry_after e (Begin lsn txn) = e
+entry_after e (Commit lsn txn prev) = e
+entry_after e (End lsn txn prev) = e
+entry_after e (BeginChkpt lsn) = e
+entry_after e (ChkptPages lsn begin pages) = e
+entry_after e (ChkptTxns lsn begin txn state last undo) = e
+entry_after e (EndChkpt lsn begin redo) = e
 
 abbrev pub with_entry : Table → ℕ → Record → Table
 with_entry table t r = record table {
@@ -140,4 +149,7 @@ noted table (Comp lsn txn prev undo_next page slot change) =
 noted table (Commit lsn txn prev) = without_entry table txn
 noted table (Abort lsn txn prev) = with_entry table txn (Abort lsn txn prev)
 noted table (End lsn txn prev) = without_entry table txn
-noted table of_checkpoint = table
+noted table (BeginChkpt lsn) = table
+noted table (ChkptPages lsn begin pages) = table
+noted table (ChkptTxns lsn begin txn state last undo) = table
+noted table (EndChkpt lsn begin redo) = table

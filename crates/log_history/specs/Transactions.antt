@@ -11,7 +11,8 @@ use Rattle.log_history.specs.declared.pending_change.PendingChange.{PendingChang
 use Rattle.log_records.specs.Least.{least}
 use Rattle.log_records.specs.declared.record.Record.{Record}
 use Rattle.log_records.specs.declared.record.Record.TheVariants.{Begin, Update, Comp, Commit, Abort}
-use Rattle.log_records.specs.declared.record.Record.TheVariants.{End}
+use Rattle.log_records.specs.declared.record.Record.TheVariants.{End, BeginChkpt, ChkptPages}
+use Rattle.log_records.specs.declared.record.Record.TheVariants.{ChkptTxns, EndChkpt}
 use Rattle.log_records.specs.declared.txn_phase.TxnPhase.{TxnPhase}
 use Rattle.log_records.specs.declared.txn_phase.TxnPhase.TheVariants.{Active, Rolling}
 use Rattle.log_records.specs.Record.{own_lsn}
@@ -24,23 +25,49 @@ txn_of (Comp lsn txn prev undo_next page slot change) = txn
 txn_of (Commit lsn txn prev) = txn
 txn_of (Abort lsn txn prev) = txn
 txn_of (End lsn txn prev) = txn
-txn_of of_checkpoint = 0
+txn_of (BeginChkpt lsn) = 0
+txn_of (ChkptPages lsn begin pages) = 0
+txn_of (ChkptTxns lsn begin txn state last undo) = 0
+txn_of (EndChkpt lsn begin redo) = 0
 
 -- the transaction that a record begins
 abbrev pub begun_by : Record → Option ℕ
 begun_by (Begin lsn txn) = Some txn
-begun_by other = None
+begun_by (Update lsn txn prev page slot change) = None
+begun_by (Comp lsn txn prev undo_next page slot change) = None
+begun_by (Commit lsn txn prev) = None
+begun_by (Abort lsn txn prev) = None
+begun_by (End lsn txn prev) = None
+begun_by (BeginChkpt lsn) = None
+begun_by (ChkptPages lsn begin pages) = None
+begun_by (ChkptTxns lsn begin txn state last undo) = None
+begun_by (EndChkpt lsn begin redo) = None
 
 -- a record ends its transaction: it commits, or all is taken back
 abbrev pub is_last : Record → Bool
 is_last (Commit lsn txn prev) = true
 is_last (End lsn txn prev) = true
-is_last other = false
+is_last (Begin lsn txn) = false
+is_last (Update lsn txn prev page slot change) = false
+is_last (Comp lsn txn prev undo_next page slot change) = false
+is_last (Abort lsn txn prev) = false
+is_last (BeginChkpt lsn) = false
+is_last (ChkptPages lsn begin pages) = false
+is_last (ChkptTxns lsn begin txn state last undo) = false
+is_last (EndChkpt lsn begin redo) = false
 
 -- a record says that its transaction takes all its changes back, and ends
 abbrev pub is_abort : Record → Bool
 is_abort (Abort lsn txn prev) = true
-is_abort other = false
+is_abort (Begin lsn txn) = false
+is_abort (Update lsn txn prev page slot change) = false
+is_abort (Comp lsn txn prev undo_next page slot change) = false
+is_abort (Commit lsn txn prev) = false
+is_abort (End lsn txn prev) = false
+is_abort (BeginChkpt lsn) = false
+is_abort (ChkptPages lsn begin pages) = false
+is_abort (ChkptTxns lsn begin txn state last undo) = false
+is_abort (EndChkpt lsn begin redo) = false
 
 -- the records of a transaction
 abbrev pub records_of : List Record → ℕ → List Record
@@ -88,7 +115,14 @@ abbrev pub with_pending : List PendingChange → Record → List PendingChange
 with_pending changes (Update lsn txn prev page slot change) =
     changes ++ record { lsn = lsn; prev = prev; page = page; slot = slot; change = change } ∷ []
 with_pending changes (Comp lsn txn prev undo_next page slot change) = without_last changes
-with_pending changes other = changes
+with_pending changes (Begin lsn txn) = changes
+with_pending changes (Commit lsn txn prev) = changes
+with_pending changes (Abort lsn txn prev) = changes
+with_pending changes (End lsn txn prev) = changes
+with_pending changes (BeginChkpt lsn) = changes
+with_pending changes (ChkptPages lsn begin pages) = changes
+with_pending changes (ChkptTxns lsn begin txn state last undo) = changes
+with_pending changes (EndChkpt lsn begin redo) = changes
 
 abbrev pub pending_from : List PendingChange → List Record → List PendingChange
 pending_from changes [] = changes

@@ -5,7 +5,8 @@ use Rattle.page_core.specs.declared.change.Change.{Change}
 use Rattle.page_core.specs.declared.change.Change.TheVariants.{Set, Add}
 use Rattle.log_records.specs.declared.record.Record.{Record}
 use Rattle.log_records.specs.declared.record.Record.TheVariants.{Begin, Update, Comp, Commit, Abort}
-use Rattle.log_records.specs.declared.record.Record.TheVariants.{End}
+use Rattle.log_records.specs.declared.record.Record.TheVariants.{End, BeginChkpt, ChkptPages}
+use Rattle.log_records.specs.declared.record.Record.TheVariants.{ChkptTxns, EndChkpt}
 use Rattle.log_history.specs.Transactions.{is_rolling}
 
 -- a call that a log shows: a begin with the number that it answered, and a Set without the number
@@ -34,7 +35,10 @@ call_of before (Comp lsn txn prev undo_next page slot change) =
 call_of before (Commit lsn txn prev) = Some (CommitCall txn)
 call_of before (Abort lsn txn prev) = Some (AbortCall txn)
 call_of before (End lsn txn prev) = Some (UndoCall txn)
-call_of before of_checkpoint = None
+call_of before (BeginChkpt lsn) = None
+call_of before (ChkptPages lsn begin pages) = None
+call_of before (ChkptTxns lsn begin txn state last undo) = None
+call_of before (EndChkpt lsn begin redo) = None
 
 abbrev pub work_from : List Record → List Record → List Call
 work_from before [] = []

@@ -83,7 +83,12 @@ impl Checkpoints {
             }
             Record::ChkptTxns { begin, txn, .. } => self.may_add_txn(begin, txn),
             Record::EndChkpt { begin, redo, .. } => self.may_close(txns, begin, redo),
-            _ => true,
+            Record::Begin { .. }
+            | Record::Update { .. }
+            | Record::Comp { .. }
+            | Record::Commit { .. }
+            | Record::Abort { .. }
+            | Record::End { .. } => true,
         }
     }
 
@@ -158,7 +163,12 @@ impl Checkpoints {
                 }
             }
             Record::EndChkpt { .. } => self.current = None,
-            _ => {}
+            Record::Begin { .. }
+            | Record::Update { .. }
+            | Record::Comp { .. }
+            | Record::Commit { .. }
+            | Record::Abort { .. }
+            | Record::End { .. } => {}
         }
         Ok(())
     }

@@ -97,7 +97,12 @@ impl History {
             | Record::ChkptPages { .. }
             | Record::ChkptTxns { .. }
             | Record::EndChkpt { .. } => self.follow_checkpoint(next),
-            _ => self.follow_transaction(next),
+            Record::Begin { .. }
+            | Record::Update { .. }
+            | Record::Comp { .. }
+            | Record::Commit { .. }
+            | Record::Abort { .. }
+            | Record::End { .. } => self.follow_transaction(next),
         }
     }
 
@@ -160,6 +165,18 @@ fn names_number_on(pages: &[Page], next: &Record) -> bool
             change: Change::Set { before, .. },
             ..
         } => pages[page.0 as usize].slots[slot.0 as usize] == before,
-        _ => true,
+        Record::Update {
+            change: Change::Add { .. },
+            ..
+        }
+        | Record::Begin { .. }
+        | Record::Comp { .. }
+        | Record::Commit { .. }
+        | Record::Abort { .. }
+        | Record::End { .. }
+        | Record::BeginChkpt { .. }
+        | Record::ChkptPages { .. }
+        | Record::ChkptTxns { .. }
+        | Record::EndChkpt { .. } => true,
     }
 }

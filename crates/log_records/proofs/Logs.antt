@@ -5,12 +5,15 @@ use Rattle.std.specs.Prelude.{slice_range}
 use Rattle.std.specs.Int.{w32, to_le_bytes, from_le_bytes}
 use Rattle.std.specs.List.{flat_map}
 use Rattle.std.proofs.lemmas.List.{take_at, drop_at, take-append-le, drop-append-le, length-drop, take-take, drop-take}
-use Rattle.std.proofs.lemmas.List.{drop-drop, length-append, same_lists}
+use Rattle.std.proofs.lemmas.List.{append_assoc, drop-drop, length-append, length-take, same_lists}
+use Rattle.std.proofs.lemmas.List.{take-append-drop}
+use Rattle.std.proofs.lemmas.List.Concat.{flat_map-append}
 use Rattle.std.proofs.lemmas.Nat.{from_le_bytes-to_le_bytes_4}
 use Rattle.page_core.proofs.Pieces.{length-pieces, take-drop-pieces}
 use Rattle.log_records.specs.declared.record.Record.{Record}
 use Rattle.log_records.specs.Record.{record_bytes}
 use Rattle.log_records.specs.Log.{Log, SpellsLog, header_bytes, lsn_of, pages_in}
+use Rattle.log_records.proofs.PageCounts.{valid_cut}
 use Rattle.log_records.proofs.Records.{record_length, same_record}
 
 -- a part of what was given is a part of the input
@@ -63,6 +66,30 @@ record_of_log log bytes spells i d lt =
     ap (λ k. take k (drop (lsn_of i) bytes)) wide ∙ ap (λ k. take 64 (drop k bytes)) place
     ∙ ap (take 64) (sym (drop-drop (64 * i) 64 bytes) ∙ ap (drop (64 * i)) behind)
     ∙ take-drop-pieces record_bytes 64 record_length log.records i d lt
+
+-- its first records are spelled by the first bytes
+pub spells_cut : (log : Log) (bytes : List ℕ) (i : ℕ) → i ≤ length log.records → SpellsLog log bytes
+    → SpellsLog (record log { records = take i log.records }) (take (lsn_of i) bytes)
+spells_cut log bytes i le spells =
+    let first = take i log.records in
+    let rest = drop i log.records in
+    let front = header_bytes log.pages ++ flat_map record_bytes first in
+    let parts : flat_map record_bytes log.records ≡ flat_map record_bytes first ++ flat_map record_bytes rest =
+    ap (flat_map record_bytes) (sym (take-append-drop i log.records)) ∙ flat_map-append record_bytes first rest in
+    let whole : bytes ≡ front ++ flat_map record_bytes rest =
+    spells.spelled ∙ ap (λ (bs : List ℕ). header_bytes log.pages ++ bs) parts
+    ∙ sym (append_assoc (header_bytes log.pages) (flat_map record_bytes first) (flat_map record_bytes rest)) in
+    let long : length front ≡ lsn_of i = omega (
+      arith,
+      length-append (header_bytes log.pages) (flat_map record_bytes first),
+      length-header_bytes log.pages,
+      length-pieces record_bytes 64 record_length first,
+      length-take i log.records,
+    ) in
+    record {
+      valid = valid_cut log i spells.valid;
+      spelled = ap (take (lsn_of i)) whole ∙ take_at front (flat_map record_bytes rest) (lsn_of i) long;
+    }
 
 -- two logs with the same bytes are one
 pub same_log : (a b : Log) (bytes : List ℕ) → SpellsLog a bytes → SpellsLog b bytes → a ≡ b

@@ -1,9 +1,12 @@
 -- The page count of a volume along its log: it never falls, so a record that names no page past the
 -- count at its place names none past the count at any later one.
-use Rattle.std.proofs.Common.{◌≡◌, ℕ, ◌+◌, ◌-◌, ◌*◌, ◌/◌, ◌<◌, ◌≤◌, ◌++◌, ◌∷◌, [], List, length, get_or, take, drop}
-use Rattle.std.proofs.Common.{refl, sym, ap, subst, ◌∙◌, arith, max, Option, Some, None}
-use Rattle.std.specs.Prelude.{IfSome}
-use Rattle.std.specs.List.{AllByRecursion, fold}
+use Rattle.std.proofs.Common.{◌≡◌, ℕ, suc, ◌+◌, ◌-◌, ◌*◌, ◌/◌, ◌<◌, ◌≤◌, ◌++◌, ◌∷◌, [], List, length, get_or, take}
+use Rattle.std.proofs.Common.{drop, refl, sym, ap, subst, ◌∙◌, arith, max, Option, Some, None, inl, inr, true, false, filter}
+use Rattle.std.specs.Prelude.{IfSome, nat_lt}
+use Rattle.std.specs.List.{AllByRecursion, filter_map, fold}
+use Rattle.std.specs.Option.{option_map_or}
+use Rattle.std.proofs.Math.Seq.{take-nil}
+use Rattle.std.proofs.lemmas.Bool.{cases_lt, le-ltb, lt-ltb}
 use Rattle.std.proofs.Math.Nat.{le-max_left}
 use Rattle.std.proofs.lemmas.List.{get_or-take, length-take, take-append-drop, take-append-le, take-take, take_all}
 use Rattle.std.proofs.lemmas.List.Sums.{fold-append, fold_push}
@@ -12,8 +15,11 @@ use Rattle.log_records.specs.DirtyPage.{entries_of}
 use Rattle.log_records.specs.declared.record.Record.{Record}
 use Rattle.log_records.specs.declared.record.Record.TheVariants.{Begin, Update, Comp, Commit, Abort, End, BeginChkpt}
 use Rattle.log_records.specs.declared.record.Record.TheVariants.{ChkptPages, ChkptTxns, EndChkpt}
-use Rattle.log_records.specs.Log.{AreWithin, IsLog, IsWithin, Log, StandsAt, lsn_of, page_count, page_count_at, with_next}
-use Rattle.log_records.specs.PageCount.{count_after, count_behind, given_count}
+use Rattle.log_records.specs.Log.{AreWithin, IsLog, IsPageCount, IsWithin, Log, StandsAt, counts_of, lsn_of, page_count, page_count_at}
+use Rattle.log_records.specs.Log.{page_count_below, with_next}
+use Rattle.log_records.specs.PageCount.{count_after, count_behind, given_by, given_count}
+use Rattle.log_records.specs.Record.{IsRecord, own_lsn}
+use Rattle.page_core.specs.PageCounts.{count_below, greatest, last_count}
 
 -- ---- along a list of records
 
@@ -83,8 +89,89 @@ pub page_count-append : (log : Log) (more : List Record)
     → page_count (with_next log more) ≡ count_behind (page_count log) more
 page_count-append log more = count_behind-append log.pages log.records more
 
+pub page_count-not_less : (log : Log) (more : List Record) → page_count log ≤ page_count (with_next log more)
+page_count-not_less log more =
+    rw (page_count-append log more) (count_behind-not_less (page_count log) more)
+
 pub page_count-push : (log : Log) (r : Record) → page_count (with_next log (r ∷ [])) ≡ count_after (page_count log) r
 page_count-push log r = count_behind-push log.pages log.records r
+
+-- ---- the counts that it gave
+
+after_given : (count : ℕ) (r : Record) (given : Option ℕ) → given_count r ≡ given
+    → count_after count r ≡ option_map_or (max count) given count
+after_given count r given is = ap (λ g. option_map_or (max count) g count) is
+
+counts_last : (count : ℕ) (rs : List Record) → greatest count (filter_map given_by rs) ≡ fold count_after count rs
+counts_last count [] = refl
+counts_last count (r ∷ rs) = by_given (λ n. counts_last n rs) (given_count r) refl
+  where
+    by_given : ((n : ℕ) → greatest n (filter_map given_by rs) ≡ fold count_after n rs)
+        → (given : Option ℕ) → given_count r ≡ given
+        → greatest count (filter_map given_by (r ∷ rs)) ≡ fold count_after count (r ∷ rs)
+    by_given rest None is = rw is (rest count)
+    by_given rest (Some n) is = rw is (rest (max count n))
+
+pub last_count-counts_of : (log : Log) → last_count (counts_of log) ≡ page_count log
+unfolding count_behind
+last_count-counts_of log = counts_last log.pages log.records
+
+-- the records stand side by side, the first of them behind so many others
+abbrev StandFrom : ℕ → List Record → Type 0
+StandFrom before rs = (i : ℕ) (d : Record) → i < length rs → own_lsn (get_or rs i d) ≡ 64 * (before + i + 1)
+
+abbrev counts_under : ℕ → ℕ → List Record → ℕ
+counts_under lsn count rs = greatest count (filter (λ g. nat_lt g.lsn lsn) (filter_map given_by rs))
+
+-- the counts below an LSN are those of the records before it
+counts_below : (lsn before count : ℕ) (rs : List Record) → StandFrom before rs
+    → counts_under lsn count rs ≡ fold count_after count (take ((lsn - 1) / 64 - before) rs)
+counts_below lsn before count [] stand = rw (take-nil {A = Record} ((lsn - 1) / 64 - before)) refl
+counts_below lsn before count (r ∷ rs) stand =
+    let left = (lsn - 1) / 64 in
+    let own : own_lsn r ≡ 64 * (before + 1) = stand 0 r (omega arith) ∙ omega arith in
+    let rest : (n : ℕ) → counts_under lsn n rs ≡ fold count_after n (take (left - (before + 1)) rs) = λ n.
+    counts_below lsn (before + 1) n rs (λ i d lt. stand (suc i) d (omega (arith, lt)) ∙ omega arith) in
+    elim (cases_lt before left) [
+      | inl lt ↦
+          let one_more : left - before ≡ suc (left - (before + 1)) = omega (arith, lt) in
+          rw one_more (below (lt-ltb (own_lsn r) lsn (omega (arith, lt, own))) rest (given_count r) refl)
+      | inr le ↦
+          let none_left : left - before ≡ 0 = omega (arith, le) in
+          let none_later : left - (before + 1) ≡ 0 = omega (arith, le) in
+          let later : counts_under lsn count rs ≡ count =
+          rest count ∙ ap (λ k. fold count_after count (take k rs)) none_later in
+          rw none_left (past (le-ltb (own_lsn r) lsn (omega (arith, le, own))) later (given_count r) refl)
+    ]
+  where
+    below : nat_lt (own_lsn r) lsn ≡ true
+        → ((n : ℕ) → counts_under lsn n rs ≡ fold count_after n (take ((lsn - 1) / 64 - (before + 1)) rs))
+        → (given : Option ℕ) → given_count r ≡ given
+        → counts_under lsn count (r ∷ rs)
+        ≡ fold count_after count (r ∷ take ((lsn - 1) / 64 - (before + 1)) rs)
+    below lower rest None is =
+        let here : counts_under lsn count (r ∷ rs) ≡ fold count_after count (take ((lsn - 1) / 64 - (before + 1)) rs) =
+        rw is (rest count) in
+        here ∙ ap (λ n. fold count_after n (take ((lsn - 1) / 64 - (before + 1)) rs)) (sym (after_given count r None is))
+    below lower rest (Some n) is =
+        let more = max count n in
+        let here : counts_under lsn count (r ∷ rs) ≡ fold count_after more (take ((lsn - 1) / 64 - (before + 1)) rs) =
+        rw (is, lower) (rest more) in
+        here
+        ∙ ap (λ n. fold count_after n (take ((lsn - 1) / 64 - (before + 1)) rs)) (sym (after_given count r (Some n) is))
+
+    past : nat_lt (own_lsn r) lsn ≡ false → counts_under lsn count rs ≡ count
+        → (given : Option ℕ) → given_count r ≡ given → counts_under lsn count (r ∷ rs) ≡ count
+    past higher rest None is = rw is rest
+    past higher rest (Some n) is = rw (is, higher) rest
+
+pub count_below-counts_of : (log : Log) (lsn : ℕ) → IsLog log
+    → count_below (counts_of log) lsn ≡ page_count_below log lsn
+unfolding count_behind
+count_below-counts_of log lsn valid =
+    let all : (lsn - 1) / 64 - 0 ≡ (lsn - 1) / 64 = omega arith in
+    counts_below lsn 0 log.pages log.records (λ i d lt. (valid.records i d lt).lsn ∙ omega arith)
+    ∙ ap (λ k. fold count_after log.pages (take k log.records)) all
 
 -- ---- what stands within
 
@@ -121,6 +208,41 @@ stands_in log valid i d lt =
 
 pub all_within : (log : Log) → IsLog log → AreWithin (page_count log) log.records
 all_within log valid i d lt = (stands_in log valid i d lt).within
+
+-- ---- a count that a header may have
+
+gives_a_count : (r : Record) → IsRecord r → IfSome (given_count r) IsPageCount
+gives_a_count (Begin lsn txn) valid = tt
+gives_a_count (Update lsn txn prev page slot change) valid = tt
+gives_a_count (Comp lsn txn prev undo_next page slot change) valid = tt
+gives_a_count (Commit lsn txn prev) valid = tt
+gives_a_count (Abort lsn txn prev) valid = tt
+gives_a_count (End lsn txn prev) valid = tt
+gives_a_count (BeginChkpt lsn) valid = tt
+gives_a_count (ChkptPages lsn begin entries) valid = tt
+gives_a_count (ChkptTxns lsn begin txn state last undo_next) valid = tt
+gives_a_count (EndChkpt lsn begin redo) valid = tt
+
+greater_is_count : (count : ℕ) (given : Option ℕ) → IsPageCount count → IfSome given IsPageCount
+    → IsPageCount (option_map_or (max count) given count)
+greater_is_count count None is given_is = is
+greater_is_count count (Some n) is given_is = record {
+  least = omega (arith, is.least, given_is.least);
+  most = omega (arith, is.most, given_is.most);
+}
+
+behind_is_count : (count : ℕ) (rs : List Record) → IsPageCount count
+    → ((i : ℕ) (d : Record) → i < length rs → IsRecord (get_or rs i d)) → IsPageCount (fold count_after count rs)
+behind_is_count count [] is valid = is
+behind_is_count count (r ∷ rs) is valid =
+    behind_is_count (count_after count r) rs
+    (greater_is_count count (given_count r) is (gives_a_count r (valid 0 r (omega arith))))
+    (λ i d lt. valid (suc i) d (omega (arith, lt)))
+
+pub page_count-is_count : (log : Log) → IsLog log → IsPageCount (page_count log)
+unfolding count_behind
+page_count-is_count log valid =
+    behind_is_count log.pages log.records valid.pages (λ i d lt. (valid.records i d lt).valid)
 
 -- ---- a log that is cut, and one that goes on
 

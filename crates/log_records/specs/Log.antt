@@ -1,17 +1,19 @@
 -- A whole log, and its bytes.
 use Rattle.std.specs.Prelude.{ℕ, ◌≡◌, ◌+◌, ◌-◌, ◌*◌, ◌/◌, ◌<◌, ◌≤◌, List, length, ◌++◌, slice_index_or}
-use Rattle.std.specs.Prelude.{take, replicate, codes, slice_range, IfSome}
+use Rattle.std.specs.Prelude.{take, replicate, codes, slice_range}
 use Rattle.std.specs.List.{AllByRecursion, filter_map, flat_map}
 use Rattle.std.specs.Int.{w32, to_le_bytes, from_le_bytes}
 use Rattle.log_records.specs.declared.record.Record.{Record}
-use Rattle.log_records.specs.declared.record.Record.TheVariants.{ChkptPages}
+use Rattle.log_records.specs.declared.record.Record.TheVariants.{Begin, Update, Comp, Commit, Abort}
+use Rattle.log_records.specs.declared.record.Record.TheVariants.{End, BeginChkpt, ChkptPages}
+use Rattle.log_records.specs.declared.record.Record.TheVariants.{ChkptTxns, EndChkpt}
 use Rattle.log_records.specs.DirtyPage.{entries_of}
 use Rattle.page_core.specs.declared.numbers.TheConstants.{LSN_STEP}
 use Rattle.page_core.specs.declared.page.TheConstants.{MAX_PAGES}
 use Rattle.page_core.specs.PageCounts.{PageCounts}
 use Rattle.log_records.specs.declared.limits.TheConstants.{HEADER_BYTES, MAX_RECORDS}
 use Rattle.log_records.specs.PageCount.{count_behind, given_by}
-use Rattle.log_records.specs.Record.{IsRecord, change_of, own_lsn, record_bytes}
+use Rattle.log_records.specs.Record.{IsRecord, own_lsn, record_bytes}
 
 -- the page count that the header gives, and the records, the oldest first
 pub record Log : Type 0 where
@@ -44,9 +46,17 @@ lsn_of i = LSN_STEP * (i + 1)
 
 -- a record names no page past the page count
 abbrev pub IsWithin : ℕ → Record → Type 0
+IsWithin pages (Begin lsn txn) = Unit {0}
+IsWithin pages (Update lsn txn prev page slot change) = page < pages
+IsWithin pages (Comp lsn txn prev undo_next page slot change) = page < pages
+IsWithin pages (Commit lsn txn prev) = Unit {0}
+IsWithin pages (Abort lsn txn prev) = Unit {0}
+IsWithin pages (End lsn txn prev) = Unit {0}
+IsWithin pages (BeginChkpt lsn) = Unit {0}
 IsWithin pages (ChkptPages lsn begin entries) =
     AllByRecursion (λ e. e.page < pages) (entries_of entries)
-IsWithin pages r = IfSome (change_of r) (λ c. c.page < pages)
+IsWithin pages (ChkptTxns lsn begin txn state last undo_next) = Unit {0}
+IsWithin pages (EndChkpt lsn begin redo) = Unit {0}
 
 -- and so do all of these
 abbrev pub AreWithin : ℕ → List Record → Type 0

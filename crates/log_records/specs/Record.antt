@@ -83,15 +83,25 @@ IsOfCheckpoint (BeginChkpt lsn) = Unit {0}
 IsOfCheckpoint (ChkptPages lsn begin pages) = Unit {0}
 IsOfCheckpoint (ChkptTxns lsn begin txn state last undo_next) = Unit {0}
 IsOfCheckpoint (EndChkpt lsn begin redo) = Unit {0}
-IsOfCheckpoint other = ⊥
+IsOfCheckpoint (Begin lsn txn) = ⊥
+IsOfCheckpoint (Update lsn txn prev page slot change) = ⊥
+IsOfCheckpoint (Comp lsn txn prev undo_next page slot change) = ⊥
+IsOfCheckpoint (Commit lsn txn prev) = ⊥
+IsOfCheckpoint (Abort lsn txn prev) = ⊥
+IsOfCheckpoint (End lsn txn prev) = ⊥
 
 -- a record of a transaction
 abbrev pub IsOfTransaction : Record → Type 0
+IsOfTransaction (Begin lsn txn) = Unit {0}
+IsOfTransaction (Update lsn txn prev page slot change) = Unit {0}
+IsOfTransaction (Comp lsn txn prev undo_next page slot change) = Unit {0}
+IsOfTransaction (Commit lsn txn prev) = Unit {0}
+IsOfTransaction (Abort lsn txn prev) = Unit {0}
+IsOfTransaction (End lsn txn prev) = Unit {0}
 IsOfTransaction (BeginChkpt lsn) = ⊥
 IsOfTransaction (ChkptPages lsn begin pages) = ⊥
 IsOfTransaction (ChkptTxns lsn begin txn state last undo_next) = ⊥
 IsOfTransaction (EndChkpt lsn begin redo) = ⊥
-IsOfTransaction other = Unit {0}
 
 -- the change that redo makes of a record, if it makes one
 abbrev pub change_of : Record → Option PageChange
@@ -129,12 +139,19 @@ IsRecord (EndChkpt lsn begin redo) = IsLsn lsn × IsBefore lsn begin × IsBefore
 
 -- the 64 bytes of a record
 abbrev pub record_bytes : Record → List ℕ
+record_bytes (Begin lsn txn) = fields_bytes (fields_of (Begin lsn txn))
+record_bytes (Update lsn txn prev page slot change) =
+    fields_bytes (fields_of (Update lsn txn prev page slot change))
+record_bytes (Comp lsn txn prev undo_next page slot change) =
+    fields_bytes (fields_of (Comp lsn txn prev undo_next page slot change))
+record_bytes (Commit lsn txn prev) = fields_bytes (fields_of (Commit lsn txn prev))
+record_bytes (Abort lsn txn prev) = fields_bytes (fields_of (Abort lsn txn prev))
+record_bytes (End lsn txn prev) = fields_bytes (fields_of (End lsn txn prev))
 record_bytes (BeginChkpt lsn) = ckpt_bytes BEGIN_CHKPT 0 no_body lsn
 record_bytes (ChkptPages lsn begin pages) = ckpt_bytes CHKPT_PAGES begin (pages_body pages) lsn
 record_bytes (ChkptTxns lsn begin txn state last undo_next) =
     ckpt_bytes CHKPT_TXNS begin (txn_body txn (code_of state) last undo_next) lsn
 record_bytes (EndChkpt lsn begin redo) = ckpt_bytes END_CHKPT begin (redo_body redo) lsn
-record_bytes of_transaction = fields_bytes (fields_of of_transaction)
 
 -- the bytes are the one spelling of the record
 pub record SpellsRecord (r : Record) (bytes : List ℕ) : Type 0 where

@@ -38,7 +38,12 @@ pub fn encode(record: &Record) -> [u8; RECORD_BYTES]
             undo_next,
         } => txn_bytes(begin.0, txn.0, code(state), last.0, undo_next.0, lsn.0),
         Record::EndChkpt { lsn, begin, redo } => end_bytes(begin.0, redo.0, lsn.0),
-        _ => Fields::of(record).write(),
+        Record::Begin { .. }
+        | Record::Update { .. }
+        | Record::Comp { .. }
+        | Record::Commit { .. }
+        | Record::Abort { .. }
+        | Record::End { .. } => Fields::of(record).write(),
     }
 }
 

@@ -40,10 +40,14 @@ fn is_within(pages: u32, entry: &Record) -> bool
     ensures { IsTrue result ↔ IsWithin pages entry.now }
 {
     match *entry {
+        Record::Update { page, .. } | Record::Comp { page, .. } => page.0 < pages,
         Record::ChkptPages { pages: entries, .. } => entries.are_within(pages),
-        _ => match entry.change() {
-            Some(change) => change.page.0 < pages,
-            None => true,
-        },
+        Record::Begin { .. }
+        | Record::Commit { .. }
+        | Record::Abort { .. }
+        | Record::End { .. }
+        | Record::BeginChkpt { .. }
+        | Record::ChkptTxns { .. }
+        | Record::EndChkpt { .. } => true,
     }
 }
