@@ -283,3 +283,10 @@ counts_stay count (r ∷ rs) = ap (λ n. count_behind n rs) (count_stays count r
 
 pub count_is_first : (log : Log) → page_count log ≡ log.pages
 count_is_first log = counts_stay log.pages log.records
+
+none_given : (rs : List Record) → filter_map given_by rs ≡ []
+none_given [] = refl
+none_given (r ∷ rs) = rw (gives_none r) (none_given rs)
+
+pub counts_are_first : (log : Log) → counts_of log ≡ (record { first = log.pages; given = [] })
+counts_are_first log = rw (none_given log.records) refl

@@ -2,42 +2,40 @@
 use Rattle.std.proofs.Common.{◌≡◌, ℕ, ◌+◌, ◌<◌, ◌≤◌, List, [], ◌++◌, length, take, sym, ap, subst, ◌∙◌}
 use Rattle.std.proofs.Common.{arith, inl, inr}
 use Rattle.std.proofs.lemmas.Bool.{cases_lt}
-use Rattle.std.specs.Int.{w32, from_le_bytes}
 use Rattle.std.proofs.lemmas.List.{take-append-le, length-append, length-take, append-nil}
 pub use Rattle.page_core.proofs.Inputs.{at_some, of_input}
 use Rattle.log_store.specs.declared.fault.LogReadFault.{LogReadFault}
 use Rattle.log_store.specs.declared.fault.LogReadFault.TheVariants.{OutOfMemory, BadHeader, BadRecord, BadChain, Torn}
 use Rattle.log_store.specs.declared.fault.LogReadFault.TheVariants.{ReadFault, TooLong}
 use Rattle.log_records.specs.declared.limits.TheConstants.{MAX_LOG_BYTES}
-use Rattle.log_records.specs.Log.{Log, SpellsLog, StandsAt, pages_in}
+use Rattle.log_records.specs.Log.{Log, SpellsLog}
 use Rattle.log_history.specs.Linked.{IsLinked}
-use Rattle.log_store.specs.Fault.{BreaksChain, IsPlace, IsHeader, HasRecord, HasFault, IsFirstFault, IsHeld}
+use Rattle.log_store.specs.Fault.{BreaksChain, IsPlace, IsHeader, HasFault, IsFirstFault, IsHeld, LacksRecord}
 use Rattle.log_store.specs.Fault.{HoldsNoFault, Refuses, IsOutside, offset_of}
 use Rattle.log_records.proofs.Logs.{length-header_bytes, range_in}
 use Rattle.log_store.proofs.Faults.{break_at, first_header, none_in_log}
 
--- of a record that lies within what was given
-more_has : (given rest : List ℕ) (at : ℕ) → 12 ≤ length given → at + 64 ≤ length given → HasRecord given at
-    → HasRecord (given ++ rest) at
-more_has given rest at long fits has =
-    let count : pages_in (given ++ rest) ≡ pages_in given =
-    ap (from_le_bytes w32) (range_in given rest 8 12 (omega arith) long) in (
-      has.0,
-      subst (λ n. StandsAt n at has.0) (sym count) has.1,
-      range_in given rest at (at + 64) (omega arith) fits
-          ∙ has.2,
-    )
+-- of a place without a record, within what was given
+more_lacks : (given rest : List ℕ) (at : ℕ) → LacksRecord given at → LacksRecord (given ++ rest) at
+more_lacks given rest at l =
+    let fits = l.whole in
+    record {
+      place = l.place;
+      whole = omega (arith, fits, length-append given rest);
+      before = l.before;
+      spells = subst (SpellsLog l.before) (sym (take-append-le at given rest (omega (arith, fits)))) l.spells;
+      lacks = λ has. l.lacks (has.0, has.1, sym (range_in given rest at (at + 64) (omega arith) fits) ∙ has.2);
+    }
 
-less_has : (given rest : List ℕ) (at : ℕ) → 12 ≤ length given → at + 64 ≤ length given → HasRecord (given ++ rest) at
-    → HasRecord given at
-less_has given rest at long fits has =
-    let count : pages_in (given ++ rest) ≡ pages_in given =
-    ap (from_le_bytes w32) (range_in given rest 8 12 (omega arith) long) in (
-      has.0,
-      subst (λ n. StandsAt n at has.0) count has.1,
-      sym (range_in given rest at (at + 64) (omega arith) fits)
-          ∙ has.2,
-    )
+less_lacks : (given rest : List ℕ) (at : ℕ) → at + 64 ≤ length given → LacksRecord (given ++ rest) at
+    → LacksRecord given at
+less_lacks given rest at fits l = record {
+  place = l.place;
+  whole = fits;
+  before = l.before;
+  spells = subst (SpellsLog l.before) (take-append-le at given rest (omega (arith, fits))) l.spells;
+  lacks = λ has. l.lacks (has.0, has.1, range_in given rest at (at + 64) (omega arith) fits ∙ has.2);
+}
 
 -- of a break of the chain there
 more_breaks : (given rest : List ℕ) (at : ℕ) → BreaksChain given at → BreaksChain (given ++ rest) at
@@ -71,12 +69,6 @@ less_breaks given rest at fits b = record {
 header_fault : (given rest : List ℕ) → 64 ≤ length given → HasFault (given ++ rest) BadHeader → HasFault given BadHeader
 header_fault given rest long h = λ header. h (subst IsHeader (sym (take-append-le 64 given rest long)) header)
 
-record_fault : (given rest : List ℕ) (at : ℕ) → at + 64 ≤ length given → HasFault (given ++ rest) (BadRecord at)
-    → HasFault given (BadRecord at)
-record_fault given rest at fits h =
-    let place = h.0.past_header in
-    (h.0, fits, λ has. h.2 (more_has given rest at (omega arith) fits has))
-
 -- nothing of the input comes before the first fault of what was given, where that does not come of its end
 comes_later : (given rest : List ℕ) (end : ℕ) → 64 ≤ length given → end ≤ length given → end ≤ MAX_LOG_BYTES
     → ((other : LogReadFault) → HasFault given other → end ≤ offset_of other)
@@ -87,7 +79,7 @@ comes_later given rest end long within short first fits ReadFault e = absurd e
 comes_later given rest end long within short first fits BadHeader e = first BadHeader (header_fault given rest long e)
 comes_later given rest end long within short first fits (BadRecord at) e =
     elim (cases_lt at end) [
-      | inl lt ↦ first (BadRecord at) (record_fault given rest at (fits at e.0 lt) e)
+      | inl lt ↦ first (BadRecord at) (less_lacks given rest at (fits at e.place lt) e)
       | inr le ↦ le
     ]
 comes_later given rest end long within short first fits (BadChain at) e =
@@ -112,17 +104,13 @@ goes_on_header given rest long h = record {
 goes_on_record : (given rest : List ℕ) (at : ℕ) → IsFirstFault given (BadRecord at)
     → IsFirstFault (given ++ rest) (BadRecord at)
 goes_on_record given rest at h =
-    let place = h.there.0 in
+    let place = h.there.place in
     let past = place.past_header in
     let aligned = place.aligned in
     let short = place.in_longest in
-    let fits = h.there.1 in
+    let fits = h.there.whole in
     record {
-      there = (
-        place,
-        omega (arith, length-append given rest),
-        λ has. h.there.2 (less_has given rest at (omega arith) fits has),
-      );
+      there = more_lacks given rest at h.there;
       first = comes_later given rest at (omega arith) (omega arith) (omega arith) h.first
           (λ other other_place lt. let a = other_place.aligned in omega arith);
     }
@@ -186,7 +174,7 @@ none_held given OutOfMemory h not_held other held e = not_held tt
 none_held given ReadFault h not_held other held e = h
 none_held given BadHeader h not_held BadHeader held e = not_held held
 none_held given BadHeader h not_held (BadRecord at) held e =
-    let past = e.0.past_header in let fits = e.1 in not_held (omega arith)
+    let past = e.place.past_header in let fits = e.whole in not_held (omega arith)
 none_held given BadHeader h not_held (BadChain at) held e =
     let past = e.place.past_header in let fits = (break_at given at e).0 in not_held (omega arith)
 none_held given BadHeader h not_held TooLong held e = not_held (omega arith)
@@ -198,7 +186,7 @@ none_held given (BadChain at) h not_held other held e = not_held tt
 none_held given (Torn at) h not_held BadHeader held e = let late = h.first BadHeader e in
     let past = h.there.0.past_header in omega arith
 none_held given (Torn at) h not_held (BadRecord other) held e =
-    let late = h.first (BadRecord other) e in let torn = h.there.2 in let fits = e.1 in omega arith
+    let late = h.first (BadRecord other) e in let torn = h.there.2 in let fits = e.whole in omega arith
 none_held given (Torn at) h not_held (BadChain other) held e =
     let late = h.first (BadChain other) e in let torn = h.there.2 in let fits = (break_at given other e).0 in
     omega arith

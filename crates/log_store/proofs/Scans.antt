@@ -1,12 +1,12 @@
 -- A log that is read record by record.
-use Rattle.std.proofs.Common.{◌≡◌, ℕ, ◌+◌, ◌-◌, ◌*◌, ◌<◌, ◌≤◌, List, [], ◌∷◌, ◌++◌, length, take, drop, refl}
+use Rattle.std.proofs.Common.{◌≡◌, ℕ, ◌+◌, ◌-◌, ◌*◌, ◌^◌, ◌<◌, ◌≤◌, List, [], ◌∷◌, ◌++◌, length, take, drop, refl}
 use Rattle.std.proofs.Common.{sym, ap, subst, ◌∙◌, arith, inl, inr}
 use Rattle.std.specs.Prelude.{slice_range}
 use Rattle.std.specs.Prelude.{Option}
 use Rattle.std.specs.Io.KnownBytes.{Consumes}
 pub use Rattle.page_core.proofs.Inputs.{if_err, on_ok, of_rest, of_all}
 use Rattle.std.proofs.lemmas.Bool.{cases_lt}
-use Rattle.std.proofs.lemmas.List.{append_assoc, append-nil, nil_from_length, take-append-le, take_at, drop_at}
+use Rattle.std.proofs.lemmas.List.{append_assoc, append-nil, nil_from_length, take_at, drop_at}
 use Rattle.std.proofs.lemmas.List.{length-append, length_push, flat_map_more}
 use Rattle.std.proofs.KnownBytes.{Consumes-trans}
 use Rattle.log_store.specs.declared.fault.LogReadFault.{LogReadFault}
@@ -14,37 +14,22 @@ use Rattle.log_store.specs.declared.fault.LogReadFault.TheVariants.{OutOfMemory,
 use Rattle.log_store.specs.declared.fault.LogReadFault.TheVariants.{ReadFault, TooLong}
 use Rattle.log_records.specs.declared.record.Record.{Record}
 use Rattle.log_records.specs.Record.{record_bytes}
-use Rattle.log_records.specs.Log.{IsLog, Log, StandsAt, SpellsLog, HasHeader, header_bytes, log_bytes, lsn_of}
+use Rattle.log_records.specs.Log.{IsLog, IsPageCount, Log, StandsAt, SpellsLog, header_bytes, log_bytes, lsn_of, page_count}
 use Rattle.log_records.specs.Log.{with_next}
 use Rattle.log_history.specs.History.{IsMadeOf, Made}
 use Rattle.log_history.specs.Linked.{IsLinked, MayFollow}
 use Rattle.log_store.specs.Fault.{IsFirstFault, Refuses, HoldsNoFault, GaveNoFault}
 use Rattle.log_store.specs.Scan.{HasTaken}
-use Rattle.log_records.proofs.Logs.{range_in, length-log, header_of_log, record_of_log}
-use Rattle.log_store.proofs.Faults.{AreFirst, whole_records, first_chain, first_record, first_too_long, first_torn}
+use Rattle.log_records.proofs.Images.{length-redo_all}
+use Rattle.log_records.proofs.Logs.{length-log}
+use Rattle.log_records.proofs.PageCounts.{page_count-is_count}
+use Rattle.log_store.proofs.Faults.{first_chain, first_record, first_too_long, first_torn, starts_with}
 use Rattle.log_records.proofs.Records.{record_length}
 use Rattle.log_history.proofs.AtEnd.{valid_next}
-use Rattle.log_history.proofs.Histories.{linked_push}
+use Rattle.log_history.proofs.Histories.{linked_none, linked_push}
 use Rattle.log_store.proofs.Inputs.{refuses_all, none_held, none_in_read}
 
--- ---- what a log's bytes have, however they go on
-
-pub header_goes_on : (log : Log) (given more : List ℕ) → SpellsLog log given → HasHeader log.pages (given ++ more)
-header_goes_on log given more spells = record {
-  count = spells.valid.pages;
-  long = omega (arith, length-log log given spells, length-append given more);
-  spelled = take-append-le 64 given more (omega (arith, length-log log given spells)) ∙ header_of_log log given spells;
-}
-
-pub first_goes_on : (log : Log) (given more : List ℕ) → SpellsLog log given → IsLinked log.records
-    → AreFirst (length log.records) log.pages (given ++ more) log.records
-first_goes_on log given more spells linked = record {
-  count = refl;
-  each = spells.valid.records;
-  spelled = λ i d lt. range_in given more (lsn_of i) (lsn_of i + 64) (omega arith)
-      (omega (arith, length-log log given spells)) ∙ record_of_log log given spells i d lt;
-  linked = linked;
-}
+-- ---- which fault comes behind a log's bytes
 
 -- the next 64 bytes
 next_range : (log : Log) (given unit rest : List ℕ) → SpellsLog log given → length unit ≡ 64
@@ -59,37 +44,32 @@ next_range log given unit rest spells wide =
 too_long : (log : Log) (given more : List ℕ) → SpellsLog log given → IsLinked log.records → 1048576 ≤ length log.records
     → 0 < length more → IsFirstFault (given ++ more) TooLong
 too_long log given more spells linked full some =
-    let all : length log.records ≡ whole_records (given ++ more) =
-    let few = spells.valid.count in omega (arith, length-log log given spells, length-append given more) in
-    first_too_long log.pages (given ++ more) log.records (header_goes_on log given more spells)
-    (subst (λ n. AreFirst n log.pages (given ++ more) log.records) all (first_goes_on log given more spells linked))
+    first_too_long log (given ++ more) (starts_with log given more spells linked)
+    (omega (arith, full, spells.valid.count))
     (omega (arith, length-log log given spells, length-append given more))
 
 bad_record : (log : Log) (given unit rest : List ℕ) → SpellsLog log given → IsLinked log.records
     → length log.records < 1048576 → length unit ≡ 64
-    → ((r : Record) → StandsAt log.pages (lsn_of (length log.records)) r → unit ≡ record_bytes r → ⊥)
+    → ((r : Record) → StandsAt (page_count log) (lsn_of (length log.records)) r → unit ≡ record_bytes r → ⊥)
     → IsFirstFault (given ++ (unit ++ rest)) (BadRecord (lsn_of (length log.records)))
 bad_record log given unit rest spells linked few wide none =
-    first_record (length log.records) log.pages (given ++ (unit ++ rest)) log.records
-    (header_goes_on log given (unit ++ rest) spells) (first_goes_on log given (unit ++ rest) spells linked) few
+    first_record log (given ++ (unit ++ rest)) (starts_with log given (unit ++ rest) spells linked) few
     (omega (arith, length-log log given spells, length-append given (unit ++ rest), length-append unit rest))
-    (λ r stands spelled. none r stands (sym (next_range log given unit rest spells wide) ∙ spelled))
+    (λ has. none has.0 has.1 (sym (next_range log given unit rest spells wide) ∙ has.2))
 
 -- the next record is one, and may not follow
 bad_chain : (log : Log) (r : Record) (given unit rest : List ℕ) → SpellsLog log given → IsLinked log.records
     → length log.records < 1048576
-    → StandsAt log.pages (lsn_of (length log.records)) r → unit ≡ record_bytes r → ¬ MayFollow log.records r
+    → StandsAt (page_count log) (lsn_of (length log.records)) r → unit ≡ record_bytes r → ¬ MayFollow log.records r
     → IsFirstFault (given ++ (unit ++ rest)) (BadChain (lsn_of (length log.records)))
 bad_chain log r given unit rest spells linked few stands e breaks =
-    let at = lsn_of (length log.records) in
     let wide : length unit ≡ 64 = ap length e ∙ record_length.each r in
-    let end : length given ≡ at = omega (arith, length-log log given spells) in
-    first_chain (length log.records) log.pages (given ++ (unit ++ rest)) log.records
-    (header_goes_on log given (unit ++ rest) spells) (first_goes_on log given (unit ++ rest) spells linked) few
+    let starts = starts_with log given (unit ++ rest) spells linked in
+    first_chain log (given ++ (unit ++ rest)) starts few
     (record {
       place = record { aligned = omega arith; past_header = omega arith; in_longest = omega arith };
       before = log;
-      spells = subst (SpellsLog log) (sym (take_at given (unit ++ rest) at end)) spells;
+      spells = starts.spells;
       linked = linked;
       there = r;
       stands = stands;
@@ -100,7 +80,7 @@ bad_chain log r given unit rest spells linked few stands e breaks =
 -- ---- one record more
 
 spells_next : (log : Log) (r : Record) (given unit : List ℕ) → SpellsLog log given → length log.records < 1048576
-    → StandsAt log.pages (lsn_of (length log.records)) r → unit ≡ record_bytes r
+    → StandsAt (page_count log) (lsn_of (length log.records)) r → unit ≡ record_bytes r
     → SpellsLog (with_next log (r ∷ [])) (given ++ unit)
 spells_next log r given unit spells few stands e = record {
   valid = valid_next log r spells.valid few stands;
@@ -110,32 +90,54 @@ spells_next log r given unit spells few stands e = record {
 
 -- ---- what the sink took
 
-module _ {S : Type 0} (holds : S → Log → Type 0) (sink : S) (made : Made) (pages count : ℕ) (given : List ℕ)
-    (taken : HasTaken holds sink made pages count given) where
+-- nothing yet
+pub taken_none : {S : Type 0} (holds : S → Log → Type 0) (sink : S) (made : Made) (pages : ℕ) → IsPageCount pages
+    → holds sink (record { pages = pages; records = [] }) → IsMadeOf (record { pages = pages; records = [] }) made
+    → HasTaken holds sink made 0 (header_bytes pages)
+taken_none holds sink made pages count held of = record {
+  log = record { pages = pages; records = [] };
+  held = held;
+  spells = record {
+    valid = record { pages = count; count = omega arith; records = λ i d lt. absurd (omega arith) };
+    spelled = sym (append-nil (header_bytes pages));
+  };
+  linked = linked_none;
+  made_of = of;
+  count_is = refl;
+}
+
+module _ {S : Type 0} (holds : S → Log → Type 0) (sink : S) (made : Made) (count : ℕ) (given : List ℕ)
+    (taken : HasTaken holds sink made count given) where
+  -- how many pages the log has
+  pub pages_are : length made.pages ≡ page_count taken.log
+  pages_are = ap length taken.made_of.pages ∙ length-redo_all taken.log.records (page_count taken.log)
+
+  pub pages_fit : length made.pages < 2 ^ 32
+  pages_fit = omega (arith, pages_are, (page_count-is_count taken.log taken.spells.valid).most)
+
   -- the place of the next record
-  stands_next : (r : Record) → StandsAt pages (64 * (count + 1)) r
-      → StandsAt taken.log.pages (lsn_of (length taken.log.records)) r
+  stands_next : (r : Record) → StandsAt (length made.pages) (64 * (count + 1)) r
+      → StandsAt (page_count taken.log) (lsn_of (length taken.log.records)) r
   stands_next r stands =
       let place : 64 * (count + 1) ≡ lsn_of (length taken.log.records) = omega (arith, taken.count_is) in
-      subst (λ (n : ℕ). StandsAt n (lsn_of (length taken.log.records)) r) (sym taken.pages_are)
-      (subst (λ (n : ℕ). StandsAt pages n r) place stands)
+      subst (λ (n : ℕ). StandsAt n (lsn_of (length taken.log.records)) r) pages_are
+      (subst (λ (n : ℕ). StandsAt (length made.pages) n r) place stands)
 
-  pub valid_with : (r : Record) → count < 1048576 → StandsAt pages (64 * (count + 1)) r
+  pub valid_with : (r : Record) → count < 1048576 → StandsAt (length made.pages) (64 * (count + 1)) r
       → IsLog (with_next taken.log (r ∷ []))
   valid_with r few stands =
       valid_next taken.log r taken.spells.valid (omega (arith, taken.count_is)) (stands_next r stands)
 
   pub taken_next : (after : S) (new : Made) (r : Record) (unit : List ℕ) → count < 1048576
-      → StandsAt pages (64 * (count + 1)) r → unit ≡ record_bytes r → MayFollow taken.log.records r
+      → StandsAt (length made.pages) (64 * (count + 1)) r → unit ≡ record_bytes r → MayFollow taken.log.records r
       → IsMadeOf (with_next taken.log (r ∷ [])) new → holds after (with_next taken.log (r ∷ []))
-      → HasTaken holds after new pages (count + 1) (given ++ unit)
+      → HasTaken holds after new (count + 1) (given ++ unit)
   taken_next after new r unit few stands e may of held = record {
     log = with_next taken.log (r ∷ []);
     held = held;
     spells = spells_next taken.log r given unit taken.spells (omega (arith, taken.count_is)) (stands_next r stands) e;
     linked = linked_push taken.log.records r taken.linked may;
     made_of = of;
-    pages_are = taken.pages_are;
     count_is = omega (arith, length_push taken.log.records r, taken.count_is);
   }
 
@@ -144,16 +146,16 @@ module _ {S : Type 0} (holds : S → Log → Type 0) (sink : S) (made : Made) (p
       too_long taken.log given more taken.spells taken.linked (omega (arith, taken.count_is)) some
 
   pub taken_bad_record : (unit rest : List ℕ) → count < 1048576 → length unit ≡ 64
-      → ((r : Record) → StandsAt pages (64 * (count + 1)) r → unit ≡ record_bytes r → ⊥)
+      → ((r : Record) → StandsAt (length made.pages) (64 * (count + 1)) r → unit ≡ record_bytes r → ⊥)
       → IsFirstFault (given ++ (unit ++ rest)) (BadRecord (64 * (count + 1)))
   taken_bad_record unit rest few wide none =
       let place : lsn_of (length taken.log.records) ≡ 64 * (count + 1) = omega (arith, taken.count_is) in
       subst (λ (n : ℕ). IsFirstFault (given ++ (unit ++ rest)) (BadRecord n)) place
       (bad_record taken.log given unit rest taken.spells taken.linked (omega (arith, taken.count_is)) wide
-      (λ r stands e. none r (subst (λ (n : ℕ). StandsAt n (64 * (count + 1)) r) taken.pages_are
-      (subst (λ (n : ℕ). StandsAt taken.log.pages n r) place stands)) e))
+      (λ r stands e. none r (subst (λ (n : ℕ). StandsAt n (64 * (count + 1)) r) (sym pages_are)
+      (subst (λ (n : ℕ). StandsAt (page_count taken.log) n r) place stands)) e))
 
-  pub taken_bad_chain : (r : Record) (unit rest : List ℕ) → count < 1048576 → StandsAt pages (64 * (count + 1)) r
+  pub taken_bad_chain : (r : Record) (unit rest : List ℕ) → count < 1048576 → StandsAt (length made.pages) (64 * (count + 1)) r
       → unit ≡ record_bytes r → ¬ MayFollow taken.log.records r
       → IsFirstFault (given ++ (unit ++ rest)) (BadChain (64 * (count + 1)))
   taken_bad_chain r unit rest few stands e breaks =
@@ -173,14 +175,9 @@ torn_at : (log : Log) (given pending : List ℕ) → SpellsLog log given → IsL
     → 0 < length pending
     → length log.records < 1048576 → IsFirstFault (given ++ pending) (Torn (lsn_of (length log.records)))
 torn_at log given pending spells linked short some few =
-    let bytes = given ++ pending in
-    let all : length log.records ≡ whole_records bytes =
-    omega (arith, length-log log given spells, length-append given pending) in
-    first_torn log.pages bytes log.records (header_goes_on log given pending spells)
-    (subst (λ (n : ℕ). AreFirst n log.pages bytes log.records) all (first_goes_on log given pending spells linked))
-    (omega (arith, length-log log given spells, length-append given pending)) (lsn_of (length log.records))
+    first_torn log (given ++ pending) (starts_with log given pending spells linked) few
     (omega (arith, length-log log given spells, length-append given pending))
-    (λ whole. omega (arith, length-log log given spells, length-append given pending))
+    (omega (arith, length-log log given spells, length-append given pending))
 
 pub refuses_torn : (header read pending rest : List ℕ) (log : Log) → SpellsLog log (header ++ read)
     → IsLinked log.records

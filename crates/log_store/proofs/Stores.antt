@@ -1,6 +1,6 @@
 -- The calls of a device by which a log is forced, one after another.
-use Rattle.std.proofs.Common.{ℕ, ◌≡◌, ◌+◌, ◌-◌, ◌*◌, ◌/◌, ◌<◌, ◌≤◌, ◌++◌, List, [], ◌∷◌, length, take, drop, slice_range}
-use Rattle.std.proofs.Common.{arith, refl, sym, ap, subst, ◌∙◌, add-one, suc, slice_index_or, slice_get, Some}
+use Rattle.std.proofs.Common.{ℕ, ◌≡◌, ◌+◌, ◌-◌, ◌/◌, ◌≤◌, ◌++◌, List, [], ◌∷◌, take, drop, slice_range}
+use Rattle.std.proofs.Common.{arith, refl, ap, subst, ◌∙◌, suc, slice_index_or, slice_get, Some}
 use Rattle.std.specs.Prelude.{Result, Ok, Err, OnErr}
 use Rattle.log_store.specs.declared.device.DeviceFault.{DeviceFault}
 use Rattle.std.proofs.lemmas.List.{get_or-drop, length-drop}
@@ -11,7 +11,7 @@ use Rattle.log_records.specs.declared.record.Record.{Record}
 use Rattle.log_records.specs.Record.{own_lsn, record_bytes}
 use Rattle.log_records.specs.Log.{lsn_of}
 use Rattle.log_store.specs.Stores.{FailsAtNext, IsNextCall, StoreCall, StoresEach, StoresForced, records_between}
-use Rattle.log_store.specs.WrittenLog.{HasRecordAt, WrittenLog}
+use Rattle.log_store.specs.WrittenLog.{WrittenLog}
 
 -- one call more
 pub stores_push : {D : Type 0} (called : StoreCall D) (a b c : D) (rs : List Record) (r : Record)

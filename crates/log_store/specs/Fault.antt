@@ -14,7 +14,8 @@ use Rattle.log_records.specs.declared.limits.TheConstants.{RECORD_BYTES}
 use Rattle.log_records.specs.declared.record.Record.{Record}
 use Rattle.log_records.specs.Record.{record_bytes}
 use Rattle.log_history.specs.Linked.{IsLinked, MayFollow}
-use Rattle.log_records.specs.Log.{IsPageCount, Log, SpellsLog, StandsAt, header_bytes, pages_in}
+use Rattle.log_records.specs.Log.{IsPageCount, Log, SpellsLog, StandsAt, header_bytes}
+use Rattle.log_records.specs.Log.{page_count}
 
 -- an offset at which a record may stand
 pub record IsPlace (at : ℕ) : Type 0 where
@@ -26,11 +27,19 @@ pub record IsPlace (at : ℕ) : Type 0 where
 abbrev pub IsHeader : List ℕ → Type 0
 IsHeader bytes = (pages : ℕ) × IsPageCount pages × (bytes ≡ header_bytes pages)
 
--- the 64 bytes at this offset are a record that stands there
-abbrev pub HasRecord : List ℕ → ℕ → Type 0
-HasRecord bytes at =
-    (r : Record) × StandsAt (pages_in bytes) at r
-    × (slice_range bytes at (at + RECORD_BYTES) ≡ record_bytes r)
+-- the 64 bytes at this offset are a record that may stand there, in a volume of so many pages
+abbrev pub HasRecord : List ℕ → ℕ → ℕ → Type 0
+HasRecord bytes at pages =
+    (r : Record) × StandsAt pages at r × (slice_range bytes at (at + RECORD_BYTES) ≡ record_bytes r)
+
+-- the bytes before this offset spell a log, and the 64 bytes there are no record that may stand
+-- behind it: none that names only pages of the volume as that log leaves it
+pub record LacksRecord (bytes : List ℕ) (at : ℕ) : Type 0 where
+  pub place : IsPlace at
+  pub whole : at + RECORD_BYTES ≤ length bytes
+  pub before : Log
+  pub spells : SpellsLog before (take at bytes)
+  pub lacks : ¬ HasRecord bytes at (page_count before)
 
 -- the bytes before this offset spell a linked log, which the record there may not follow
 pub record BreaksChain (bytes : List ℕ) (at : ℕ) : Type 0 where
@@ -39,15 +48,14 @@ pub record BreaksChain (bytes : List ℕ) (at : ℕ) : Type 0 where
   pub spells : SpellsLog before (take at bytes)
   pub linked : IsLinked before.records
   pub there : Record
-  pub stands : StandsAt before.pages at there
+  pub stands : StandsAt (page_count before) at there
   pub spelled : slice_range bytes at (at + RECORD_BYTES) ≡ record_bytes there
   pub breaks : ¬ MayFollow before.records there
 
 -- the bytes have this fault
 abbrev pub HasFault : List ℕ → LogReadFault → Type 0
 HasFault bytes BadHeader = ¬ IsHeader (take HEADER_BYTES bytes)
-HasFault bytes (BadRecord at) = IsPlace at × (at + RECORD_BYTES ≤ length bytes)
-    × ¬ HasRecord bytes at
+HasFault bytes (BadRecord at) = LacksRecord bytes at
 HasFault bytes (BadChain at) = BreaksChain bytes at
 HasFault bytes (Torn at) = IsPlace at × (at < length bytes) × (length bytes < at + RECORD_BYTES)
 HasFault bytes TooLong = MAX_LOG_BYTES < length bytes

@@ -6,7 +6,7 @@ ghost use Rattle.std.specs.Prelude.{IfOk, IfErr, IfSome, OnOk, OnErr};
 ghost use Rattle.log_records.specs.declared.record.Record.{Record};
 ghost use Rattle.log_store.specs.Device.{KeepsFirst};
 ghost use Rattle.log_records.specs.Log.{IsLog, IsPageCount, StandsAt, header_bytes, lsn_of};
-ghost use Rattle.log_records.specs.Log.{with_next};
+ghost use Rattle.log_records.specs.Log.{page_count, with_next};
 ghost use Rattle.log_store.specs.Stores.{FailsAtNext, IsNextCall, StoresForced};
 ghost use Rattle.log_store.specs.WrittenLog.{EndsAtRecord, HasRecordAt, IsWritten, end_up_to};
 
@@ -22,6 +22,7 @@ use std::marker::Model;
 /// fault.
 #[derive(Drop)]
 pub struct Log<D: LogDevice> {
+    /// The page count that the header gives.
     pages: u32,
     records: Vec<Record>,
     /// How many records are forced.
@@ -90,7 +91,8 @@ impl<D: LogDevice> Log<D> {
     /// Appends a record in memory; `force_to` and `force` bring it to the device. It takes no
     /// memory, since `make_room` has made its room.
     pub fn append(&mut self, next: Record)
-        requires stands { StandsAt self.old.log.pages (lsn_of (length self.old.log.records)) next }
+        requires stands { StandsAt (page_count self.old.log)
+            (lsn_of (length self.old.log.records)) next }
         requires few { length self.old.log.records < MAX_RECORDS }
         requires room { 0 < self.old.room }
 
@@ -206,9 +208,10 @@ impl<D: LogDevice> Log<D> {
         &self.records
     }
 
-    /// How many pages the volume of this log has.
+    /// How many pages the volume has behind all records. No record gives a count so far, so it is
+    /// that of the header.
     pub fn pages(&self) -> u32
-        ensures { result ≡ self.now.log.pages }
+        ensures { result ≡ page_count self.now.log }
     {
         self.pages
     }

@@ -1,11 +1,11 @@
 //! A whole log that was read, as a value.
 
 ghost use Rattle.std.specs.Prelude.{◌≡◌, length, take};
-ghost use Rattle.log_records.specs.Log.{IsLog, lsn_of};
+ghost use Rattle.log_records.specs.Log.{IsLog, counts_of, lsn_of, page_count};
 
 use crate::sink::RecordSink;
 use log_records::Record;
-use page_core::{LSN_STEP, Lsn};
+use page_core::{LSN_STEP, Lsn, PageCounts};
 use std::alloc::{AllocError, Global};
 use std::marker::Model;
 
@@ -36,12 +36,28 @@ impl LogImage {
         LogImage { pages, records }
     }
 
-    /// How many pages the volume of this log has.
+    /// The page count that its header gives.
     pub fn pages(&self) -> u32
         ensures pages { result ≡ self.now.pages }
         ensures valid { IsLog self.now }
     {
         self.pages
+    }
+
+    /// How many pages the volume has behind all records. No record gives a count so far, so it is
+    /// that of the header.
+    pub fn page_count(&self) -> u32
+        ensures count { result ≡ page_count self.now }
+        ensures valid { IsLog self.now }
+    {
+        self.pages
+    }
+
+    /// The page counts of the volume, as the log goes on.
+    pub fn counts(&self, alloc: Global) -> PageCounts
+        ensures { result ≡ counts_of self.now }
+    {
+        PageCounts::new(alloc, self.pages)
     }
 
     /// The records, the oldest first. The record at index i has LSN 64 * (i + 1).
@@ -66,7 +82,7 @@ impl LogImage {
         self.records.truncate(count);
     }
 
-    /// Its parts: how many pages the volume has, and the records.
+    /// Its parts: the page count that its header gives, and the records.
     pub fn into_parts(self) -> (u32, Vec<Record>)
         ensures parts { (result.0 ≡ self.pages) × (result.1.items ≡ self.records) }
         ensures valid { IsLog self }

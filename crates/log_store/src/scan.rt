@@ -6,7 +6,7 @@ ghost use Rattle.std.specs.Io.KnownBytes.{Consumes, IsAtEnd};
 ghost use Rattle.page_core.specs.Input.{StaysKnown};
 ghost use Rattle.log_history.specs.History.{IsMadeOf};
 ghost use Rattle.log_history.specs.Linked.{IsLinked};
-ghost use Rattle.log_records.specs.Log.{IsLog, Log, SpellsLog, header_bytes};
+ghost use Rattle.log_records.specs.Log.{IsLog, Log, SpellsLog};
 ghost use Rattle.log_store.specs.Fault.{Refuses, GaveNoFault, IsNoReadFault};
 ghost use Rattle.log_store.specs.Scan.{HasAll, HasTaken};
 
@@ -47,17 +47,16 @@ fn look_ahead(history: &History, bytes: &[u8]) -> u64 {
 fn take_record<S: RecordSink>(
     sink: &mut S,
     history: &mut History,
-    pages: u32,
     count: usize,
     bytes: &[u8],
 ) -> Result<(), LogReadFault>
     requires whole { length bytes.now ≡ RECORD_BYTES }
-    requires so_far { (given : List ℕ) × HasTaken S.holds sink.old history.old pages count given }
+    requires so_far { (given : List ℕ) × HasTaken S.holds sink.old history.old count given }
     ensures ok { OnOk result ((given : List ℕ)
-        → HasTaken S.holds sink.old history.old pages count given
-        → HasTaken S.holds sink.new history.new pages (count + 1) (given ++ bytes.now)) }
+        → HasTaken S.holds sink.old history.old count given
+        → HasTaken S.holds sink.new history.new (count + 1) (given ++ bytes.now)) }
     ensures first { IfErr result (λ fault. (given rest : List ℕ)
-        → HasTaken S.holds sink.old history.old pages count given
+        → HasTaken S.holds sink.old history.old count given
         → Refuses (given ++ (bytes.now ++ rest)) fault) }
     ensures of_bytes { IfErr result IsNoReadFault }
 {
@@ -65,6 +64,7 @@ fn take_record<S: RecordSink>(
         return Err(LogReadFault::TooLong);
     }
     let at = Lsn(LSN_STEP * (count as u64 + 1));
+    let pages = history.pages().len() as u32;
     let Some(record) = record_at(bytes, at, pages) else {
         return Err(LogReadFault::BadRecord(at));
     };
@@ -79,17 +79,16 @@ fn take_record<S: RecordSink>(
 fn take_records<S: RecordSink>(
     sink: &mut S,
     history: &mut History,
-    pages: u32,
     count: usize,
     bytes: &[u8],
 ) -> Result<u64, LogReadFault>
-    requires { (given : List ℕ) × HasTaken S.holds sink.old history.old pages count given }
+    requires { (given : List ℕ) × HasTaken S.holds sink.old history.old count given }
     ensures ok { OnOk result ((given : List ℕ)
-        → HasTaken S.holds sink.old history.old pages count given
-        → HasTaken S.holds sink.new history.new pages (count + length bytes.now / RECORD_BYTES)
+        → HasTaken S.holds sink.old history.old count given
+        → HasTaken S.holds sink.new history.new (count + length bytes.now / RECORD_BYTES)
         (given ++ take (RECORD_BYTES * (length bytes.now / RECORD_BYTES)) bytes.now)) }
     ensures first { IfErr result (λ fault. (given rest : List ℕ)
-        → HasTaken S.holds sink.old history.old pages count given
+        → HasTaken S.holds sink.old history.old count given
         → Refuses (given ++ (bytes.now ++ rest)) fault) }
     ensures of_bytes { IfErr result IsNoReadFault }
 {
@@ -101,7 +100,7 @@ fn take_records<S: RecordSink>(
             seen ^= look_ahead(history, &bytes[RECORD_BYTES * i..RECORD_BYTES * end]);
         }
         let record = &bytes[RECORD_BYTES * i..RECORD_BYTES * i + RECORD_BYTES];
-        take_record(sink, history, pages, count + i, record)?;
+        take_record(sink, history, count + i, record)?;
     }
     Ok(seen)
 }
@@ -136,21 +135,23 @@ fn read_header<R: Read>(reader: &mut R, header: &mut [u8]) -> Result<u32, LogRea
 fn read_records<R: Read, S: RecordSink>(
     reader: &mut R,
     scan: &mut Scan<S>,
-    pages: u32,
     turns: u32,
     buffer: &mut [u8],
 ) -> Result<(), LogReadFault>
     requires room { 128 ≤ length buffer.old }
-    requires taken { HasTaken S.holds scan.old.sink scan.old.history pages 0 (header_bytes pages) }
+    requires taken { (given : List ℕ) × HasTaken S.holds scan.old.sink scan.old.history 0 given }
     ensures known { StaysKnown (R.remaining reader.old) (R.remaining reader.new) }
     ensures end { OnOk result (IsAtEnd (R.remaining reader.new)) }
-    ensures found { OnOk result ((read : List ℕ)
-        × (Consumes (R.remaining reader.old) (R.remaining reader.new) read
-        × HasAll S.holds scan.new.sink scan.new.history (header_bytes pages ++ read))) }
-    ensures first { IfErr result (λ fault.
-        IfSome (R.remaining reader.old) (λ rest. Refuses (header_bytes pages ++ rest) fault)) }
-    ensures unread { IfErr result (GaveNoFault (header_bytes pages)
-        (R.remaining reader.old) (R.remaining reader.new)) }
+    ensures found { OnOk result ((given : List ℕ)
+        → HasTaken S.holds scan.old.sink scan.old.history 0 given
+        → (read : List ℕ) × (Consumes (R.remaining reader.old) (R.remaining reader.new) read
+        × HasAll S.holds scan.new.sink scan.new.history (given ++ read))) }
+    ensures first { IfErr result (λ fault. (given : List ℕ)
+        → HasTaken S.holds scan.old.sink scan.old.history 0 given
+        → IfSome (R.remaining reader.old) (λ rest. Refuses (given ++ rest) fault)) }
+    ensures unread { IfErr result (λ fault. (given : List ℕ)
+        → HasTaken S.holds scan.old.sink scan.old.history 0 given
+        → GaveNoFault given (R.remaining reader.old) (R.remaining reader.new) fault) }
 {
     let mut filled = 0;
     let mut count = 0;
@@ -161,7 +162,7 @@ fn read_records<R: Read, S: RecordSink>(
             Turn::Failed => return Err(LogReadFault::ReadFault),
         }
         let bytes = &buffer[..filled];
-        let seen = take_records(&mut scan.sink, &mut scan.history, pages, count, bytes)?;
+        let seen = take_records(&mut scan.sink, &mut scan.history, count, bytes)?;
         count += filled / RECORD_BYTES;
         filled = keep_rest(buffer, filled);
         buffer[filled] = (seen % 256) as u8;
@@ -232,6 +233,6 @@ pub fn scan_log<R: Read, S: RecordSink + Drop>(
         sink: S::start(alloc, pages)?,
         history: History::start(alloc, pages)?,
     };
-    read_records(reader, &mut scan, pages, MAX_TURNS - turns, &mut buffer)?;
+    read_records(reader, &mut scan, MAX_TURNS - turns, &mut buffer)?;
     Ok(scan)
 }

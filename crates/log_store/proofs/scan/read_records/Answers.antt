@@ -7,7 +7,7 @@ use Rattle.std.proofs.lemmas.List.{take-append-drop, take-set}
 use Rattle.std.proofs.lemmas.Bool.{cases_lt}
 use Rattle.std.proofs.lemmas.Result.{err_from_is_err_and}
 use Rattle.log_store.specs.declared.fault.LogReadFault.TheVariants.{Torn, TooLong}
-use Rattle.log_records.specs.Log.{header_bytes, lsn_of}
+use Rattle.log_records.specs.Log.{lsn_of}
 use Rattle.log_store.specs.Fault.{Refuses}
 use Rattle.log_store.specs.Scan.{HasTaken}
 use Rattle.log_store.proofs.Inputs.{of_input}
@@ -18,21 +18,21 @@ use Rattle.log_store.proofs.scan.read_records.Goals.{else-count-ge-MAX_RECORDS-v
 
 pub returns-in-End-clause-first : goal.returns-in-End-clause-first
 returns-in-End-clause-first g c =
-    let header = header_bytes c.args.pages in
     let inv = c.loop.invariant in
-    let read = inv.so_far.0 in
-    let t = inv.so_far.1.0 in
     let pending = take c.loop.filled c.loop.buffer in
     let short = inv.short in
     let room = c.requires.room in
+    if_err c.at_end.result _ _ (λ fault torn given taken.
+    let so_far = inv.so_far given taken in
+    let read = so_far.0 in
+    let t = so_far.1.0 in
     let count = t.count_is in
-    if_err c.at_end.result _ _ (λ fault torn.
     let some = torn.0 in
     let at : lsn_of (length t.log.records) ≡ 64 * (c.loop.count + 1) = omega arith in
     let is : fault ≡ Torn (lsn_of (length t.log.records)) = torn.1 ∙ ap Torn (sym at) in
-    of_input _ _ (read ++ pending) (λ rest. Refuses (header ++ rest) fault) (c.in-End.ensures.1 _ read inv.so_far.1.1)
-    (λ rest end. subst (Refuses (header ++ ((read ++ pending) ++ rest))) (sym is)
-    (refuses_torn header read pending rest t.log t.spells t.linked
+    of_input _ _ (read ++ pending) (λ rest. Refuses (given ++ rest) fault) (c.in-End.ensures.1 _ read so_far.1.1)
+    (λ rest end. subst (Refuses (given ++ ((read ++ pending) ++ rest))) (sym is)
+    (refuses_torn given read pending rest t.log t.spells t.linked
     (omega (arith, length-take c.loop.filled c.loop.buffer))
     (omega (arith, length-take c.loop.filled c.loop.buffer))
     (elim (cases_lt (length t.log.records) 1048576) [
@@ -43,33 +43,33 @@ returns-in-End-clause-first g c =
 
 pub returns-in-End-clause-found : goal.returns-in-End-clause-found
 returns-in-End-clause-found g c =
-    let header = header_bytes c.args.pages in
-    let inv = c.loop.invariant in
-    let read = inv.so_far.0 in
-    let t = inv.so_far.1.0 in
     let pending = take c.loop.filled c.loop.buffer in
-    on_ok c.at_end.result _ _ (λ none.
+    on_ok c.at_end.result _ _ (λ none given taken.
+    let so_far = c.loop.invariant.so_far given taken in
+    let read = so_far.0 in
+    let t = so_far.1.0 in
     let nothing : pending ≡ [] = nil_from_length pending
     (omega (arith, length-take c.loop.filled c.loop.buffer, none)) in
     let all : read ++ pending ≡ read = ap (λ (bs : List ℕ). read ++ bs) nothing ∙ append-nil read in (
       read,
       (
-        subst (Consumes _ _) all (c.in-End.ensures.1 _ read inv.so_far.1.1),
+        subst (Consumes _ _) all (c.in-End.ensures.1 _ read so_far.1.1),
         record { log = t.log; held = t.held; spells = t.spells; linked = t.linked; made_of = t.made_of },
       ),
     )) c.at_end.ensures.ok
 
 pub returns-in-Failed-clause-unread : goal.returns-in-Failed-clause-unread
-returns-in-Failed-clause-unread g c =
+returns-in-Failed-clause-unread g c = λ given taken.
     let inv = c.loop.invariant in
-    let t = inv.so_far.1.0 in
+    let so_far = inv.so_far given taken in
+    let t = so_far.1.0 in
     let pending = take c.loop.filled c.loop.buffer in
     let short = inv.short in
     let count = t.count_is in (
-      inv.so_far.0 ++ pending,
+      so_far.0 ++ pending,
       (
-        c.in-Failed.ensures _ inv.so_far.0 inv.so_far.1.1,
-        none_in_failed (header_bytes c.args.pages) inv.so_far.0 pending t.log t.spells t.linked
+        c.in-Failed.ensures _ so_far.0 so_far.1.1,
+        none_in_failed given so_far.0 pending t.log t.spells t.linked
             (omega (arith, length-take c.loop.filled c.loop.buffer))
             (λ full. let none = inv.few (omega arith) in omega (arith, length-take c.loop.filled c.loop.buffer)),
       ),
@@ -78,35 +78,33 @@ returns-in-Failed-clause-unread g c =
 pub returns-in_err-seen-clause-first : goal.returns-in_err-seen-clause-first
 returns-in_err-seen-clause-first g c =
     let p = err_from_is_err_and c.from_residual.result c.from_residual.ensures.1 in
-    let header = header_bytes c.args.pages in
-    let inv = c.loop.invariant in
-    let read = inv.so_far.0 in
-    let t = inv.so_far.1.0 in
     let bytes = take (c.loop.filled + c.in-More.more) c.read_more.new.buffer in
     let fault = c.in_err-seen.field-0.0 in
-    rw (p.1, p.2)
-    (of_input _ _ (read ++ bytes) (λ rest. Refuses (header ++ rest) fault) (c.in-More.ensures.1 _ read inv.so_far.1.1)
-    (λ rest end. regrouped header read bytes rest (λ input. Refuses input fault)
-    (c.in_err-seen.ensures.first (header ++ read) rest t)))
+    rw (p.1, p.2) (λ given taken.
+    let so_far = c.loop.invariant.so_far given taken in
+    let read = so_far.0 in
+    of_input _ _ (read ++ bytes) (λ rest. Refuses (given ++ rest) fault) (c.in-More.ensures.1 _ read so_far.1.1)
+    (λ rest end. regrouped given read bytes rest (λ input. Refuses input fault)
+    (c.in_err-seen.ensures.first (given ++ read) rest so_far.1.0)))
 
 pub returns-then-filled-gt0-clause-first : goal.returns-then-filled-gt0-clause-first
-returns-then-filled-gt0-clause-first g c =
-    let header = header_bytes c.args.pages in
+returns-then-filled-gt0-clause-first g c = λ given taken.
     let inv = c.loop.invariant in
-    let read = inv.so_far.0 in
+    let so_far = inv.so_far given taken in
+    let read = so_far.0 in
     let filled = c.loop.filled + c.in-More.more in
     let whole = 64 * (filled / 64) in
     let bytes = take filled c.read_more.new.buffer in
     let width : length bytes ≡ filled = omega (arith, length-take filled c.read_more.new.buffer, c.in-More.ensures.0) in
     let further = read ++ take whole bytes in
     let pending = drop whole bytes in
-    let t : HasTaken g.S.RecordSink.holds c.take_records.new.sink c.take_records.new.history c.args.pages
-    (c.loop.count + filled / 64) (header ++ further) =
-    subst (HasTaken g.S.RecordSink.holds c.take_records.new.sink c.take_records.new.history c.args.pages
-    (c.loop.count + filled / 64)) (append_assoc header read (take whole bytes))
-    (subst (λ (k : ℕ). HasTaken g.S.RecordSink.holds c.take_records.new.sink c.take_records.new.history c.args.pages
-    (c.loop.count + k / 64) ((header ++ read) ++ take (64 * (k / 64)) bytes)) width
-    (c.in_ok-seen.ensures.ok (header ++ read) inv.so_far.1.0)) in
+    let t : HasTaken g.S.RecordSink.holds c.take_records.new.sink c.take_records.new.history
+    (c.loop.count + filled / 64) (given ++ further) =
+    subst (HasTaken g.S.RecordSink.holds c.take_records.new.sink c.take_records.new.history
+    (c.loop.count + filled / 64)) (append_assoc given read (take whole bytes))
+    (subst (λ (k : ℕ). HasTaken g.S.RecordSink.holds c.take_records.new.sink c.take_records.new.history
+    (c.loop.count + k / 64) ((given ++ read) ++ take (64 * (k / 64)) bytes)) width
+    (c.in_ok-seen.ensures.ok (given ++ read) so_far.1.0)) in
     let count = t.count_is in
     let full = c.if-count-ge-MAX_RECORDS.true in
     let both : read ++ bytes ≡ further ++ pending =
@@ -121,34 +119,18 @@ returns-then-filled-gt0-clause-first g c =
       c.keep_rest-filled.ensures.count,
       c.in-More.ensures.0,
     ) in
-    of_input _ _ (further ++ pending) (λ rest. Refuses (header ++ rest) TooLong)
-    (subst (Consumes _ _) both (c.in-More.ensures.1 _ read inv.so_far.1.1))
-    (λ rest end. refuses_past_last header further pending rest t.log t.spells t.linked (omega arith) long)
+    of_input _ _ (further ++ pending) (λ rest. Refuses (given ++ rest) TooLong)
+    (subst (Consumes _ _) both (c.in-More.ensures.1 _ read so_far.1.1))
+    (λ rest end. refuses_past_last given further pending rest t.log t.spells t.linked (omega arith) long)
 
 pub loop-preserved : goal.loop-preserved
 loop-preserved g c =
-    let header = header_bytes c.args.pages in
     let inv = c.loop.invariant in
-    let read = inv.so_far.0 in
     let filled = c.loop.filled + c.in-More.more in
     let whole = 64 * (filled / 64) in
     let bytes = take filled c.read_more.new.buffer in
-    let t = c.in_ok-seen.ensures.ok (header ++ read) inv.so_far.1.0 in
-    let n = length bytes in
     let width : length bytes ≡ filled = omega (arith, length-take filled c.read_more.new.buffer, c.in-More.ensures.0) in
-    let taken : HasTaken g.S.RecordSink.holds c.take_records.new.sink c.take_records.new.history c.args.pages
-    (c.loop.count + filled / 64) (header ++ (read ++ take whole bytes)) =
-    subst (HasTaken g.S.RecordSink.holds c.take_records.new.sink c.take_records.new.history c.args.pages
-    (c.loop.count + filled / 64)) (append_assoc header read (take whole bytes))
-    (subst (λ (k : ℕ). HasTaken g.S.RecordSink.holds c.take_records.new.sink c.take_records.new.history c.args.pages
-    (c.loop.count + k / 64) ((header ++ read) ++ take (64 * (k / 64)) bytes)) width t) in
     let kept = c.keep_rest-filled.result in
-    let both : read ++ bytes ≡ (read ++ take whole bytes)
-    ++ take kept (set c.keep_rest-filled.new.buffer kept (c.in_ok-seen.seen % 256)) =
-    ap (λ (bs : List ℕ). read ++ bs) (sym (take-append-drop whole bytes))
-    ∙ sym (append_assoc read (take whole bytes) (drop whole bytes))
-    ∙ ap (λ (bs : List ℕ). (read ++ take whole bytes) ++ bs) (sym (take-set c.keep_rest-filled.new.buffer kept _
-    ∙ c.keep_rest-filled.ensures.rest)) in
     record {
       short = c.keep_rest-filled.ensures.short;
       few = λ full. elim c.else-count-ge-MAX_RECORDS.branch [
@@ -157,26 +139,42 @@ loop-preserved g c =
         | else-count-ge-MAX_RECORDS-via-else-count-ge-MAX_RECORDS w ↦ let room = w.if-count-ge-MAX_RECORDS.false in
             absurd (omega arith)
       ];
-      so_far = (
-        read ++ take whole bytes,
-        (
-          taken,
-          subst (Consumes _ _) both (c.in-More.ensures.1 _ read inv.so_far.1.1),
-        ),
-      );
+      so_far = λ given first.
+          let so_far = inv.so_far given first in
+          let read = so_far.0 in
+          let t = c.in_ok-seen.ensures.ok (given ++ read) so_far.1.0 in
+          let taken : HasTaken g.S.RecordSink.holds c.take_records.new.sink c.take_records.new.history
+          (c.loop.count + filled / 64) (given ++ (read ++ take whole bytes)) =
+          subst (HasTaken g.S.RecordSink.holds c.take_records.new.sink c.take_records.new.history
+          (c.loop.count + filled / 64)) (append_assoc given read (take whole bytes))
+          (subst (λ (k : ℕ). HasTaken g.S.RecordSink.holds c.take_records.new.sink c.take_records.new.history
+          (c.loop.count + k / 64) ((given ++ read) ++ take (64 * (k / 64)) bytes)) width t) in
+          let both : read ++ bytes ≡ (read ++ take whole bytes)
+          ++ take kept (set c.keep_rest-filled.new.buffer kept (c.in_ok-seen.seen % 256)) =
+          ap (λ (bs : List ℕ). read ++ bs) (sym (take-append-drop whole bytes))
+          ∙ sym (append_assoc read (take whole bytes) (drop whole bytes))
+          ∙ ap (λ (bs : List ℕ). (read ++ take whole bytes) ++ bs) (sym (take-set c.keep_rest-filled.new.buffer kept _
+          ∙ c.keep_rest-filled.ensures.rest)) in (
+            read ++ take whole bytes,
+            (
+              taken,
+              subst (Consumes _ _) both (c.in-More.ensures.1 _ read so_far.1.1),
+            ),
+          );
     }
 
 pub returns-clause-unread : goal.returns-clause-unread
-returns-clause-unread g c =
+returns-clause-unread g c = λ given taken.
     let inv = c.loop.invariant in
-    let t = inv.so_far.1.0 in
+    let so_far = inv.so_far given taken in
+    let t = so_far.1.0 in
     let pending = take c.loop.filled c.loop.buffer in
     let short = inv.short in
     let count = t.count_is in (
-      inv.so_far.0 ++ pending,
+      so_far.0 ++ pending,
       (
-        inv.so_far.1.1,
-        none_in_failed (header_bytes c.args.pages) inv.so_far.0 pending t.log t.spells t.linked
+        so_far.1.1,
+        none_in_failed given so_far.0 pending t.log t.spells t.linked
             (omega (arith, length-take c.loop.filled c.loop.buffer))
             (λ full. let none = inv.few (omega arith) in omega (arith, length-take c.loop.filled c.loop.buffer)),
       ),
@@ -184,29 +182,45 @@ returns-clause-unread g c =
 
 pub returns-in-End-clause-known : goal.returns-in-End-clause-known
 returns-in-End-clause-known g c =
-    let read = c.loop.invariant.so_far.0 in
-    (read ++ take c.loop.filled c.loop.buffer, c.in-End.ensures.1 _ read c.loop.invariant.so_far.1.1)
+    let so_far = c.loop.invariant.so_far c.requires.taken.0 c.requires.taken.1 in
+    let read = so_far.0 in
+    (read ++ take c.loop.filled c.loop.buffer, c.in-End.ensures.1 _ read so_far.1.1)
 
 pub returns-in-Failed-clause-known : goal.returns-in-Failed-clause-known
 returns-in-Failed-clause-known g c =
-    let read = c.loop.invariant.so_far.0 in
-    (read ++ take c.loop.filled c.loop.buffer, c.in-Failed.ensures _ read c.loop.invariant.so_far.1.1)
+    let so_far = c.loop.invariant.so_far c.requires.taken.0 c.requires.taken.1 in
+    let read = so_far.0 in
+    (read ++ take c.loop.filled c.loop.buffer, c.in-Failed.ensures _ read so_far.1.1)
 
 pub returns-in_err-seen-clause-known : goal.returns-in_err-seen-clause-known
 returns-in_err-seen-clause-known g c =
-    let read = c.loop.invariant.so_far.0 in (
+    let so_far = c.loop.invariant.so_far c.requires.taken.0 c.requires.taken.1 in
+    let read = so_far.0 in (
       read ++ take (c.loop.filled + c.in-More.more) c.read_more.new.buffer,
-      c.in-More.ensures.1 _ read c.loop.invariant.so_far.1.1,
+      c.in-More.ensures.1 _ read so_far.1.1,
     )
 
 pub returns-then-filled-gt0-clause-known : goal.returns-then-filled-gt0-clause-known
 returns-then-filled-gt0-clause-known g c =
-    let read = c.loop.invariant.so_far.0 in (
+    let so_far = c.loop.invariant.so_far c.requires.taken.0 c.requires.taken.1 in
+    let read = so_far.0 in (
       read ++ take (c.loop.filled + c.in-More.more) c.read_more.new.buffer,
-      c.in-More.ensures.1 _ read c.loop.invariant.so_far.1.1,
+      c.in-More.ensures.1 _ read so_far.1.1,
     )
 
 pub returns-clause-known : goal.returns-clause-known
 returns-clause-known g c =
-    let read = c.loop.invariant.so_far.0 in
-    (read ++ take c.loop.filled c.loop.buffer, c.loop.invariant.so_far.1.1)
+    let so_far = c.loop.invariant.so_far c.requires.taken.0 c.requires.taken.1 in
+    let read = so_far.0 in
+    (read ++ take c.loop.filled c.loop.buffer, so_far.1.1)
+
+pub at_end-requires : goal.at_end-requires
+at_end-requires g c =
+    let so_far = c.loop.invariant.so_far c.requires.taken.0 c.requires.taken.1 in
+    let t = so_far.1.0 in
+    omega (arith, t.count_is, t.spells.valid.count)
+
+pub take_records-requires : goal.take_records-requires
+take_records-requires g c =
+    let so_far = c.loop.invariant.so_far c.requires.taken.0 c.requires.taken.1 in
+    (c.requires.taken.0 ++ so_far.0, so_far.1.0)

@@ -9,7 +9,7 @@ use Rattle.log_store.specs.Fault.{Refuses, IsHeader}
 use Rattle.log_store.proofs.Faults.{first_header}
 use Rattle.page_core.proofs.Inputs.{known_more}
 use Rattle.log_store.proofs.Inputs.{of_input, goes_on_header}
-use Rattle.log_store.proofs.Scans.{of_rest, of_all, gave_more}
+use Rattle.log_store.proofs.Scans.{of_rest, of_all, gave_more, taken_none}
 use Rattle.log_store.proofs.scan.scan_log.Goals as goal
 
 pub returns-in_default-clause-first : goal.returns-in_default-clause-first
@@ -19,6 +19,13 @@ returns-in_default-clause-first g c =
     of_input _ _ header (λ input. Refuses input BadHeader) c.in_ok-turns.ensures.ok
     (λ rest end. goes_on_header header rest (omega arith) (first_header header none))
 
+pub read_records-requires-clause-taken : goal.read_records-requires-clause-taken
+read_records-requires-clause-taken g c = (
+  header_bytes c.in-Some.pages,
+  taken_none g.S.RecordSink.holds c.in_ok-start.field-0 c.in_ok-start-2.field-0 c.in-Some.pages
+      c.in-Some.ensures.found.count c.in_ok-start.ensures c.in_ok-start-2.ensures,
+)
+
 pub returns-in_err-read_records-clause-first : goal.returns-in_err-read_records-clause-first
 returns-in_err-read_records-clause-first g c =
     let p =
@@ -27,7 +34,9 @@ returns-in_err-read_records-clause-first g c =
     let is : c.read_header.new.header ≡ header_bytes c.in-Some.pages =
     sym (take_all 64 c.read_header.new.header (omega arith)) ∙ found.spelled in
     rw (p.1, p.2) (of_rest _ _ (header_bytes c.in-Some.pages) (λ input. Refuses input c.in_err-read_records.field-0.0)
-    (subst (Consumes _ _) is c.in_ok-turns.ensures.ok) c.in_err-read_records.ensures.first)
+    (subst (Consumes _ _) is c.in_ok-turns.ensures.ok)
+    (c.in_err-read_records.ensures.first (header_bytes c.in-Some.pages) (taken_none g.S.RecordSink.holds c.in_ok-start.field-0 c.in_ok-start-2.field-0 c.in-Some.pages
+    c.in-Some.ensures.found.count c.in_ok-start.ensures c.in_ok-start-2.ensures)))
 
 pub returns-in_err-read_records-clause-unread : goal.returns-in_err-read_records-clause-unread
 returns-in_err-read_records-clause-unread g c =
@@ -37,14 +46,17 @@ returns-in_err-read_records-clause-unread g c =
     let is : c.read_header.new.header ≡ header_bytes c.in-Some.pages =
     sym (take_all 64 c.read_header.new.header (omega arith)) ∙ found.spelled in
     rw (p.1, p.2) (gave_more _ _ _ (header_bytes c.in-Some.pages) c.in_err-read_records.field-0.0
-    (subst (Consumes _ _) is c.in_ok-turns.ensures.ok) c.in_err-read_records.ensures.unread)
+    (subst (Consumes _ _) is c.in_ok-turns.ensures.ok)
+    (c.in_err-read_records.ensures.unread (header_bytes c.in-Some.pages) (taken_none g.S.RecordSink.holds c.in_ok-start.field-0 c.in_ok-start-2.field-0 c.in-Some.pages
+    c.in-Some.ensures.found.count c.in_ok-start.ensures c.in_ok-start-2.ensures)))
 
 pub returns-clause-found : goal.returns-clause-found
 returns-clause-found g c =
     let found = c.in-Some.ensures.found in
     let is : c.read_header.new.header ≡ header_bytes c.in-Some.pages =
     sym (take_all 64 c.read_header.new.header (omega arith)) ∙ found.spelled in
-    let all = c.in_ok-read_records.ensures.found in
+    let all = c.in_ok-read_records.ensures.found (header_bytes c.in-Some.pages) (taken_none g.S.RecordSink.holds c.in_ok-start.field-0 c.in_ok-start-2.field-0 c.in-Some.pages
+    c.in-Some.ensures.found.count c.in_ok-start.ensures c.in_ok-start-2.ensures) in
     let log = all.1.1.log in (
       log,
       (

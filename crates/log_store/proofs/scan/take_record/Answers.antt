@@ -1,47 +1,49 @@
-use Rattle.std.proofs.Common.{rules, ◌≡◌, ℕ, List, sym, subst, arith, length, ap, ◌∙◌}
+use Rattle.std.proofs.Common.{rules, ℕ, ◌+◌, ◌*◌, List, sym, ap, subst, arith, length}
 use Rattle.std.proofs.lemmas.List.{length-append}
-use Rattle.log_records.specs.Log.{IsWithin, Log}
-use Rattle.log_history.specs.History.{Made}
-use Rattle.log_store.specs.Scan.{HasTaken}
-use Rattle.log_records.proofs.Images.{length-redo_all}
+use Rattle.page_core.specs.declared.page.Page.{Page}
+use Rattle.log_records.specs.Log.{IsWithin, StandsAt, page_count}
 use Rattle.log_history.proofs.Followed.{made_next, may_come, may_follow}
-use Rattle.log_store.proofs.Scans.{taken_bad_chain, taken_bad_record, taken_next, taken_too_long, valid_with}
+use Rattle.log_store.proofs.Scans.{pages_are, pages_fit, taken_bad_chain, taken_bad_record, taken_next, taken_too_long}
+use Rattle.log_store.proofs.Scans.{valid_with}
 use Rattle.log_store.proofs.scan.take_record.Goals as goal
 
 pub returns-then-count-ge-MAX_RECORDS-clause-first : goal.returns-then-count-ge-MAX_RECORDS-clause-first
 returns-then-count-ge-MAX_RECORDS-clause-first g c = λ given rest taken.
-    taken_too_long g.S.RecordSink.holds c.args.sink.now c.args.history.now c.args.pages c.args.count given
+    taken_too_long g.S.RecordSink.holds c.args.sink.now c.args.history.now c.args.count given
     taken _ (omega arith)
     (omega (arith, length-append c.args.bytes.now rest))
 
--- how many pages the history has
-count : {S : Type 0} (holds : S → Log → Type 0) (sink : S) (made : Made) (pages n : ℕ) (given : List ℕ)
-    → HasTaken holds sink made pages n given → length made.pages ≡ pages
-count holds sink made pages n given taken =
-    ap length taken.made_of.pages ∙ length-redo_all taken.log.records taken.log.pages ∙ taken.pages_are
+pub overflow_cast-pages : goal.overflow_cast-pages
+overflow_cast-pages g c = omega (
+  arith,
+  ap length c.pages.ensures,
+  pages_fit g.S.RecordSink.holds c.args.sink.now c.args.history.now c.args.count c.requires.so_far.0
+      c.requires.so_far.1,
+)
 
 pub follow-requires-clause-within : goal.follow-requires-clause-within
 follow-requires-clause-within g c =
-    subst (λ (n : ℕ). IsWithin n c.in-Some.record)
-    (sym (count g.S.RecordSink.holds c.args.sink.now c.args.history.now c.args.pages c.args.count _
-    c.requires.so_far.1))
+    subst (λ (pages : List Page). IsWithin (length pages) c.in-Some.record) c.pages.ensures
     c.in-Some.ensures.found.0.within
 
 pub returns-in_default-clause-first : goal.returns-in_default-clause-first
 returns-in_default-clause-first g c = λ given rest taken.
-    taken_bad_record g.S.RecordSink.holds c.args.sink.now c.args.history.now c.args.pages c.args.count given taken
-    c.args.bytes.now rest (omega arith) c.requires.whole (λ r stands e. cc (c.in_default.ensures.only r stands e))
+    taken_bad_record g.S.RecordSink.holds c.args.sink.now c.args.history.now c.args.count given taken
+    c.args.bytes.now rest (omega arith) c.requires.whole (λ r stands e. cc (c.in_default.ensures.only r
+    (subst (λ (pages : List Page). StandsAt (length pages) (64 * (c.args.count + 1)) r) (sym c.pages.ensures) stands) e))
 
 pub returns-then-not-branch-clause-first : goal.returns-then-not-branch-clause-first
 returns-then-not-branch-clause-first g c = λ given rest taken.
     let r = c.in-Some.record in
     let made = c.args.history.now in
-    let within : IsWithin taken.log.pages r = subst (λ (n : ℕ). IsWithin n r)
-    (sym taken.pages_are) c.in-Some.ensures.found.0.within in
-    taken_bad_chain g.S.RecordSink.holds c.args.sink.now made c.args.pages c.args.count given taken r
+    let stands : StandsAt (length made.pages) (64 * (c.args.count + 1)) r =
+    subst (λ (pages : List Page). StandsAt (length pages) (64 * (c.args.count + 1)) r) c.pages.ensures c.in-Some.ensures.found.0 in
+    let within : IsWithin (page_count taken.log) r = subst (λ (n : ℕ). IsWithin n r)
+    (pages_are g.S.RecordSink.holds c.args.sink.now made c.args.count given taken) stands.within in
+    taken_bad_chain g.S.RecordSink.holds c.args.sink.now made c.args.count given taken r
     c.args.bytes.now rest
     (omega arith)
-    c.in-Some.ensures.found.0 c.in-Some.ensures.found.1
+    stands c.in-Some.ensures.found.1
     (λ may. let yes = c.in_ok-follow.ensures.refused (may_come taken.log made r taken.made_of
     taken.spells.valid c.in-Some.ensures.found.0.valid within may) in
     absurd (search rules))
@@ -52,8 +54,10 @@ take-requires g c =
       taken.log,
       (
         taken.held,
-        valid_with g.S.RecordSink.holds c.args.sink.now c.args.history.now c.args.pages c.args.count c.requires.so_far.0
-            taken c.in-Some.record (omega arith) c.in-Some.ensures.found.0,
+        valid_with g.S.RecordSink.holds c.args.sink.now c.args.history.now c.args.count c.requires.so_far.0
+            taken c.in-Some.record (omega arith)
+            (subst (λ (pages : List Page). StandsAt (length pages) (64 * (c.args.count + 1)) c.in-Some.record) c.pages.ensures
+            c.in-Some.ensures.found.0),
       ),
     )
 
@@ -62,15 +66,16 @@ returns-clause-ok g c = λ given taken.
     let r = c.in-Some.record in
     let old = c.args.history.now in
     let new = c.follow.new.self in
-    let within : IsWithin taken.log.pages r = subst (λ (n : ℕ). IsWithin n r)
-    (sym taken.pages_are) c.in-Some.ensures.found.0.within in
+    let stands : StandsAt (length old.pages) (64 * (c.args.count + 1)) r =
+    subst (λ (pages : List Page). StandsAt (length pages) (64 * (c.args.count + 1)) r) c.pages.ensures c.in-Some.ensures.found.0 in
+    let within : IsWithin (page_count taken.log) r = subst (λ (n : ℕ). IsWithin n r)
+    (pages_are g.S.RecordSink.holds c.args.sink.now old c.args.count given taken) stands.within in
     let said = c.in_ok-follow.ensures.taken (search rules) in
     let may = may_follow taken.log old r taken.made_of taken.spells.valid
     c.in-Some.ensures.found.0.valid within said.0 in
-    let valid = valid_with g.S.RecordSink.holds c.args.sink.now old c.args.pages c.args.count given
-    taken r (omega arith)
-    c.in-Some.ensures.found.0 in
-    taken_next g.S.RecordSink.holds c.args.sink.now old c.args.pages c.args.count given taken c.take.new.self new r
-    c.args.bytes.now (omega arith) c.in-Some.ensures.found.0 c.in-Some.ensures.found.1 may
+    let valid = valid_with g.S.RecordSink.holds c.args.sink.now old c.args.count given
+    taken r (omega arith) stands in
+    taken_next g.S.RecordSink.holds c.args.sink.now old c.args.count given taken c.take.new.self new r
+    c.args.bytes.now (omega arith) stands c.in-Some.ensures.found.1 may
     (made_next taken.log old new r taken.linked taken.made_of may said.1)
     (c.in_ok-take.ensures taken.log taken.held valid)

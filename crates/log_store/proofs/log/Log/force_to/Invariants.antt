@@ -1,4 +1,4 @@
-use Rattle.std.proofs.Common.{◌≡◌, ◌+◌, ◌*◌, ◌<◌, ◌≤◌, length, max}
+use Rattle.std.proofs.Common.{◌≡◌, ◌<◌, ◌≤◌, length, max}
 use Rattle.log_store.specs.Device.{KeepsFirst}
 use Rattle.log_records.specs.Log.{lsn_of}
 use Rattle.log_store.specs.Stores.{StoresForced}
