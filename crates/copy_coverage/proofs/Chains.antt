@@ -47,22 +47,21 @@ by_decision (taken page) older q rest apart has = (page, refl, refl)
 by_decision kept older q rest apart has = (q, has, refl)
 
 walk : (copies : List CopyState) (p : ℕ) (copy : CopyView) (older : List CopyView) (q : Page) (more : List CopyView)
-    → p < length copy.pages → state_of copies copy.id ≡ complete copy → StandsOn copies copy.kind older
+    → ((c : CopyView) → state_of copies c.id ≡ complete c → p < length c.pages)
+    → state_of copies copy.id ≡ complete copy → StandsOn copies copy.kind older
     → page_in (copy ∷ older) p ≡ Some q → Follow copy more
     → AllByRecursion (λ c. IsComplete c.kind c.pages) more
     → AllByRecursion (λ c. state_of copies c.id ≡ complete c) more
     → Reaches copies p (last copy more) (last_of q (takings more p))
-walk copies p copy older q [] lt state stands has follow whole of_vault = record
+walk copies p copy older q [] wide state stands has follow whole of_vault = record
     { older = older; stands = stands; has = has }
-walk copies p copy older q (next ∷ more) lt state stands has follow whole of_vault =
-    let is = follow.0 in
-    let lt' : p < length next.pages = omega (arith, is.same_count) in
+walk copies p copy older q (next ∷ more) wide state stands has follow whole of_vault =
     let stands' : StandsOn copies next.kind (copy ∷ older) =
-    subst (λ kind. StandsOn copies kind (copy ∷ older)) (sym is.parent) (state, stands) in
+    subst (λ kind. StandsOn copies kind (copy ∷ older)) (sym follow.0) (state, stands) in
     let done = by_decision (decision_at next.pages p) (page_in (copy ∷ older) p) q (takings more p)
-    (whole.0.decided p lt') has in
+    (whole.0.decided p (wide next of_vault.0)) has in
     subst (Reaches copies p (last next more)) (sym done.2)
-    (walk copies p next (copy ∷ older) done.0 more lt' of_vault.0 stands' done.1 follow.1 whole.1 of_vault.1)
+    (walk copies p next (copy ∷ older) done.0 more wide of_vault.0 stands' done.1 follow.1 whole.1 of_vault.1)
 
 full_has : (d : PageDecision) → ¬ (d ≡ undecided) → ¬ (d ≡ kept) → (page : Page) × (d ≡ taken page)
 full_has undecided no_un no_kept = absurd (no_un refl)
@@ -70,16 +69,17 @@ full_has (taken page) no_un no_kept = (page, refl)
 full_has kept no_un no_kept = absurd (no_kept refl)
 
 reaches_content : (copies : List CopyState) (p : ℕ) (first : CopyView) (more : List CopyView)
-    → p < length first.pages → first.kind ≡ Full → Follow first more
+    → ((c : CopyView) → state_of copies c.id ≡ complete c → p < length c.pages) → first.kind ≡ Full
+    → Follow first more
     → AllByRecursion (λ c. IsComplete c.kind c.pages) (first ∷ more)
     → AllByRecursion (λ c. state_of copies c.id ≡ complete c) (first ∷ more)
     → Reaches copies p (last first more) (content (first ∷ more) p)
-reaches_content copies p first more lt full follow whole of_vault =
-    let has = full_has (decision_at first.pages p) (whole.0.decided p lt) (whole.0.keeps full p) in
+reaches_content copies p first more wide full follow whole of_vault =
+    let has = full_has (decision_at first.pages p) (whole.0.decided p (wide first of_vault.0)) (whole.0.keeps full p) in
     subst (λ (d : PageDecision). Reaches copies p (last first more)
     (last_of (formatted p) (page_of d ++ takings more p)))
     (sym has.1)
-    (walk copies p first [] has.0 more lt of_vault.0
+    (walk copies p first [] has.0 more wide of_vault.0
     (subst (λ kind. StandsOn copies kind []) (sym full) refl) (ap (decided_over None) has.1) follow whole.1 of_vault.1)
 
 -- no page of the chain lacks a change below the redo point of its last copy
@@ -91,8 +91,9 @@ covered_of_members log f copies id members p are chain of_id lt =
     let more = chain.more in
     let whole = subst (AllByRecursion (λ c. IsComplete c.kind c.pages)) chain.is chain.complete in
     let of_vault = subst (AllByRecursion (λ c. state_of copies c.id ≡ complete c)) chain.is of_id.of_vault in
-    let count : length first.pages ≡ log.pages = (are.each first.id first of_vault.0).whole in
-    let reach = reaches_content copies p first more (omega arith) chain.full chain.linked whole of_vault in
+    let wide : (c : CopyView) → state_of copies c.id ≡ complete c → p < length c.pages =
+    λ c is. omega (arith, lt, (are.each c.id c is).whole) in
+    let reach = reaches_content copies p first more wide chain.full chain.linked whole of_vault in
     let end : last first more ≡ of_id.last = last_is first more of_id.before of_id.last (sym chain.is ∙ of_id.is) in
     let state : state_of copies id ≡ complete (last first more) = of_id.of_id ∙ ap complete (sym end) in
     let redo : last_redo members ≡ (last first more).redo = ap last_redo chain.is ∙ redo_of_last first more in

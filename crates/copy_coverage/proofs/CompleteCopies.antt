@@ -1,5 +1,5 @@
 -- A complete copy can be restored, by what holds of copies alone.
-use Rattle.std.proofs.Common.{◌≡◌, ℕ, zero, suc, ◌<◌, ◌≤◌, List, [], ◌∷◌, length, refl, sym, ap, subst, ◌∙◌, arith}
+use Rattle.std.proofs.Common.{◌≡◌, ℕ, zero, suc, ◌<◌, ◌≤◌, List, [], ◌∷◌, length, refl, sym, subst, arith}
 use Rattle.std.specs.Prelude.{Option, Some, None, IfSome, IsSomeAnd}
 use Rattle.page_core.specs.declared.page.Page.{Page}
 use Rattle.log_records.specs.Coverage.{resume}
@@ -8,7 +8,7 @@ use Rattle.log_records.specs.Log.{IsLog, Log}
 use Rattle.copy_vault.specs.declared.copy_id.CopyKind.{CopyKind}
 use Rattle.copy_vault.specs.declared.copy_id.CopyKind.TheVariants.{Full, Inc}
 use Rattle.copy_vault.specs.Copy.{CopyView, IsComplete, PageDecision, decision_at, kept, taken, undecided}
-use Rattle.copy_vault.specs.Vault.{CopyState, HasParent, complete, dropped, state_of}
+use Rattle.copy_vault.specs.Vault.{CopyState, HasParent, complete, state_of}
 use Rattle.copy_coverage.specs.Copied.{AreRestorable, IsCovered, Restores, StandsOn, decided_over, page_in}
 use Rattle.copy_coverage.specs.Kept.{IsKeptOf}
 use Rattle.copy_coverage.proofs.Kept.{restored}
@@ -50,7 +50,7 @@ stands_whole (suc bound) log f copies id copy le are is =
     there : (p : ℕ) → p < log.pages → p < length copy.pages
     there p lt = omega (arith, (are.each id copy is).whole)
 
-    by_kind : (kind : CopyKind) → copy.kind ≡ kind → HasParent copies id log.pages kind
+    by_kind : (kind : CopyKind) → copy.kind ≡ kind → HasParent copies id kind
         → ((parent : ℕ) → parent < id → (older : CopyView) → state_of copies parent ≡ complete older
         → StandsWhole copies log.pages older)
         → StandsWhole copies log.pages copy

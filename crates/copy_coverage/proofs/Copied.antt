@@ -138,31 +138,30 @@ pub record MayStand (rs : List Record) (forced_end : ℕ) (stored : List Page) (
       → StandsOn copies copy.kind older
       → (p : ℕ) → IfSome (page_in (copy ∷ older) p) (IsCovered rs forced_end copy.redo p)
 
-parent_on : (old new : List CopyState) (id pages : ℕ) (kind : CopyKind) → GoesOn old new
-    → HasParent old id pages kind → HasParent new id pages kind
-parent_on old new id pages Full on h = tt
-parent_on old new id pages (Inc parent) on h = record {
+parent_on : (old new : List CopyState) (id : ℕ) (kind : CopyKind) → GoesOn old new → HasParent old id kind
+    → HasParent new id kind
+parent_on old new id Full on h = tt
+parent_on old new id (Inc parent) on h = record {
   before = h.before;
   copy = h.copy;
   is_complete = on.stays parent h.copy h.is_complete;
-  same_count = h.same_count;
 }
 
 complete_same : (a b : CopyView) → complete a ≡ complete b → a ≡ b
 complete_same a b e = cc
 
 -- what a copy stands on now, it stood on before
-stood_on : (old new : List CopyState) (pages : ℕ) → GoesOn old new
-    → ((id : ℕ) (copy : CopyView) → copy_in (state_of old id) ≡ Some copy → HasParent old id pages copy.kind)
-    → (id : ℕ) (kind : CopyKind) (older : List CopyView) → HasParent old id pages kind → StandsOn new kind older
+stood_on : (old new : List CopyState) → GoesOn old new
+    → ((id : ℕ) (copy : CopyView) → copy_in (state_of old id) ≡ Some copy → HasParent old id copy.kind)
+    → (id : ℕ) (kind : CopyKind) (older : List CopyView) → HasParent old id kind → StandsOn new kind older
     → StandsOn old kind older
-stood_on old new pages on each id Full older h is = is
-stood_on old new pages on each id (Inc parent) [] h is = is
-stood_on old new pages on each id (Inc parent) (copy ∷ older) h is =
+stood_on old new on each id Full older h is = is
+stood_on old new on each id (Inc parent) [] h is = is
+stood_on old new on each id (Inc parent) (copy ∷ older) h is =
     let same : h.copy ≡ copy = complete_same h.copy copy (sym (on.stays parent h.copy h.is_complete) ∙ is.0) in
     let was : state_of old parent ≡ complete copy = h.is_complete ∙ ap complete same in (
       was,
-      stood_on old new pages on each parent copy.kind older (each parent copy (ap copy_in was)) is.1,
+      stood_on old new on each parent copy.kind older (each parent copy (ap copy_in was)) is.1,
     )
 
 pub copied_changed : (rs : List Record) (f : ℕ) (stored : List Page) (old new : List CopyState) (id : ℕ)
@@ -179,8 +178,8 @@ copied_changed rs f stored old new id state changed few are stands = record {
           noted = here.noted;
           whole = here.whole;
           early = here.early;
-          parent = subst (λ (k : ℕ). HasParent new k (length stored) copy.kind) (sym same)
-              (parent_on old new id (length stored) copy.kind changed.on here.parent);
+          parent = subst (λ (k : ℕ). HasParent new k copy.kind) (sym same)
+              (parent_on old new id copy.kind changed.on here.parent);
           in_place = here.in_place;
           keeps = here.keeps;
         }
@@ -191,8 +190,7 @@ copied_changed rs f stored old new id state changed few are stands = record {
           noted = here.noted;
           whole = here.whole;
           early = here.early;
-          parent = parent_on old new j (length stored) copy.kind
-              changed.on here.parent;
+          parent = parent_on old new j copy.kind changed.on here.parent;
           in_place = here.in_place;
           keeps = here.keeps;
         }
@@ -209,12 +207,12 @@ copied_changed rs f stored old new id state changed few are stands = record {
     | inl same ↦
         let now : copy_in state ≡ Some copy = ap copy_in (sym changed.here ∙ ap (state_of new) (sym same)) ∙ is in
         stands.covered copy older now
-        (stood_on old new (length stored) changed.on (λ i c h. (are.each i c h).parent) id copy.kind older
+        (stood_on old new changed.on (λ i c h. (are.each i c h).parent) id copy.kind older
         (stands.each copy now).parent on) p
     | inr other ↦
         let was : copy_in (state_of old j) ≡ Some copy = ap copy_in (sym (changed.others j other)) ∙ is in
         are.covered j copy older was
-        (stood_on old new (length stored) changed.on (λ i c h. (are.each i c h).parent) j copy.kind older
+        (stood_on old new changed.on (λ i c h. (are.each i c h).parent) j copy.kind older
         (are.each j copy was).parent on) p
   ];
 }
@@ -264,7 +262,7 @@ some_same a b e = cc
 
 pub copied_opened : (rs : List Record) (f : ℕ) (stored : List Page) (copies : List CopyState) (kind : CopyKind)
     (begin redo : ℕ) → AreCopied rs f stored copies → length copies < MAX_COPIES → IsPoint begin redo
-    → HasParent copies (length copies + 1) (length stored) kind → redo < f
+    → HasParent copies (length copies + 1) kind → redo < f
     → ((p : ℕ) (d : Page) → p < length stored → Covers rs p (get_or stored p d) redo)
     → AreCopied rs f stored (opened copies kind (length stored) begin redo)
 copied_opened rs f stored copies kind begin redo are few noted parent early covers =

@@ -1,7 +1,7 @@
 -- What a page lacks of a log that a crash left.
 use Rattle.std.proofs.Common.{◌≡◌, ℕ, ◌+◌, ◌*◌, ◌/◌, ◌<◌, ◌≤◌, List, length, take, sym, ap, subst, ◌∙◌, arith}
 use Rattle.std.specs.Prelude.{true}
-use Rattle.std.proofs.lemmas.List.{get_or-take, length-take, take-take}
+use Rattle.std.proofs.lemmas.List.{length-take, take-take}
 use Rattle.std.proofs.lemmas.List.Elements.{All-take}
 use Rattle.page_core.specs.declared.page.Page.{Page}
 use Rattle.log_records.specs.declared.record.Record.{Record}
@@ -9,6 +9,7 @@ use Rattle.log_records.specs.Coverage.{Covers, changes, resume}
 use Rattle.log_records.specs.Image.{image}
 use Rattle.log_records.specs.Log.{IsLog, Log, lsn_of}
 use Rattle.log_records.specs.Record.{own_lsn}
+use Rattle.log_records.proofs.PageCounts.{valid_cut}
 use Rattle.log_records.proofs.Coverage.{at_each, of_each, past_is_named, resume_covering}
 use Rattle.copy_coverage.specs.Copied.{IsCovered}
 use Rattle.copy_coverage.specs.Kept.{IsKeptOf}
@@ -16,13 +17,7 @@ use Rattle.copy_coverage.specs.Kept.{IsKeptOf}
 -- a part of a log is one too
 pub prefix_is_log : (log : Log) (n : ℕ) → IsLog log → n ≤ length log.records
     → IsLog (record log { records = take n log.records })
-prefix_is_log log n valid le = record {
-  pages = valid.pages;
-  count = omega (arith, valid.count, length-take n log.records);
-  records = λ i d lt.
-      let below : i < n = omega (arith, length-take n log.records) in
-      rw (get_or-take n log.records i d below) (valid.records i d (omega arith));
-}
+prefix_is_log log n valid le = valid_cut log n valid
 
 steps_below : (lsn k : ℕ) → lsn < 64 * (k + 1) → lsn / 64 ≤ k
 steps_below lsn k lt = omega arith

@@ -4,7 +4,7 @@ use Rattle.std.specs.List.{Contains}
 use Rattle.std.proofs.lemmas.List.{get_or_at, length-append}
 use Rattle.log_records.specs.declared.record.Record.{Record}
 use Rattle.log_records.specs.declared.record.Record.TheVariants.{EndChkpt}
-use Rattle.log_records.specs.Log.{IsLog, Log, StandsAt, lsn_of}
+use Rattle.log_records.specs.Log.{IsLog, Log}
 use Rattle.log_records.specs.Record.{IsRecord}
 use Rattle.log_history.specs.Checkpoint.{IsCompleteCheckpoint}
 use Rattle.log_history.specs.Linked.{IsLinked}
@@ -28,7 +28,7 @@ pub end_is_record : (log : Log) (begin end : ℕ) (is : IsCompleteCheckpoint log
 end_is_record log begin end is valid =
     let r = EndChkpt end begin is.redo in
     let there = ended_in log begin end is in
-    (subst (StandsAt log.pages (lsn_of there.0)) there.2 (valid.records there.0 r there.1)).valid
+    subst IsRecord there.2 (valid.records there.0 r there.1).valid
 
 -- the redo point of a complete checkpoint lies before its end
 pub redo_before_end : (log : Log) (begin end : ℕ) (is : IsCompleteCheckpoint log.records begin end) → IsLog log

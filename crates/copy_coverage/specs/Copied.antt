@@ -57,7 +57,7 @@ pub record IsCopyOf (pages forced_end : ℕ) (copies : List CopyState) (id : ℕ
   pub noted : IsPoint copy.begin copy.redo
   pub whole : length copy.pages ≡ pages
   pub early : copy.redo < forced_end
-  pub parent : HasParent copies id pages copy.kind
+  pub parent : HasParent copies id copy.kind
   pub in_place : AreInPlace copy.pages
   pub keeps : KeepsOfParent copy.kind copy.pages
 

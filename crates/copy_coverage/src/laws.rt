@@ -44,7 +44,7 @@ pub fn a_copy_begins()
     ensures { (rs : List Record) (forced_end : ℕ) (stored : List Page) (copies : List CopyState)
         (kind : CopyKind) (begin redo : ℕ) → AreCopied rs forced_end stored copies
         → length copies < MAX_COPIES → IsPoint begin redo
-        → HasParent copies (length copies + 1) (length stored) kind
+        → HasParent copies (length copies + 1) kind
         → redo < forced_end
         → ((p : ℕ) (d : Page) → p < length stored → Covers rs p (slice_index_or stored p d) redo)
         → AreCopied rs forced_end stored (opened copies kind (length stored) begin redo) }

@@ -6,6 +6,7 @@ use Rattle.std.specs.List.{AllByRecursion}
 use Rattle.std.proofs.lemmas.List.{append_assoc, append-nil, get_or-map, length-append, length-map}
 use Rattle.page_core.specs.declared.page.Page.{Page}
 use Rattle.page_core.specs.Page.{IsPage, page_bytes, volume_bytes}
+use Rattle.page_core.specs.PageCounts.{PageCounts}
 use Rattle.page_core.proofs.PageBytes.{length-page_bytes}
 use Rattle.copy_vault.specs.declared.archive_cursor.ArchiveCursor.{ArchiveCursor}
 use Rattle.copy_vault.specs.declared.archive_fault.ArchiveFault.TheVariants as archive
@@ -118,19 +119,19 @@ none_met end heads copies fault all below first =
     (all_at (λ (c : CopyView). AreBelow end (taken_pages c.pages)) copies first.at no_copy below lt) h met.pages met.rest
     met.begins fault met.wrong
 
-pub not_stopped : (pages end : ℕ) (lefts : List (Option (List ℕ))) (copies : List CopyView) (fault : ChainReadFault)
-    → IsRightChain pages end copies → IsStopped pages end (archives_of copies) lefts fault → IsFromOutside fault
-not_stopped pages end lefts copies OutOfMemory right stopped = tt
-not_stopped pages end lefts copies ReadFault right stopped = tt
-not_stopped pages end lefts copies (BadArchive n) right stopped =
+pub not_stopped : (counts : PageCounts) (end : ℕ) (lefts : List (Option (List ℕ))) (copies : List CopyView) (fault : ChainReadFault)
+    → IsRightChain counts end copies → IsStopped counts end (archives_of copies) lefts fault → IsFromOutside fault
+not_stopped counts end lefts copies OutOfMemory right stopped = tt
+not_stopped counts end lefts copies ReadFault right stopped = tt
+not_stopped counts end lefts copies (BadArchive n) right stopped =
     none_met end stopped.heads copies (BadArchive n) right.archived right.within.below stopped.refused
-not_stopped pages end lefts copies (ChainBroken id) right stopped =
+not_stopped counts end lefts copies (ChainBroken id) right stopped =
     none_met end stopped.heads copies (ChainBroken id) right.archived right.within.below stopped.refused
-not_stopped pages end lefts copies CountDiffers right stopped =
+not_stopped counts end lefts copies CountDiffers right stopped =
     none_met end stopped.heads copies CountDiffers right.archived right.within.below stopped.refused
-not_stopped pages end lefts copies RedoBeyondLog right stopped =
+not_stopped counts end lefts copies RedoBeyondLog right stopped =
     none_met end stopped.heads copies RedoBeyondLog right.archived right.within.below stopped.refused
-not_stopped pages end lefts copies (PageBeyondLog n) right stopped =
+not_stopped counts end lefts copies (PageBeyondLog n) right stopped =
     none_met end stopped.heads copies (PageBeyondLog n) right.archived right.within.below stopped.refused
 
 -- ---- the headers
@@ -145,51 +146,51 @@ same_head copy (Some bytes) (Some rest) h is at head =
     (same_front h (header_of copy) rest (volume_bytes (taken_pages copy.pages)) head.valid is.header
     (sym head.given ∙ here)).0
 
-head_fits : (pages : ℕ) (kind : CopyKind) (heads : List ArchiveHeader) (copies : List CopyView)
-    → FitFrom pages kind copies → length heads < length copies
+head_fits : (counts : PageCounts) (kind : CopyKind) (heads : List ArchiveHeader) (copies : List CopyView)
+    → FitFrom counts kind copies → length heads < length copies
     → ((k : ℕ) (h : ArchiveHeader) → k < length heads → get_or heads k h ≡ header_of (get_or copies k no_copy))
-    → IsHeadFit pages (kind_behind kind heads) (header_of (get_or copies (length heads) no_copy))
-head_fits pages kind heads [] fit lt same = absurd (omega arith)
-head_fits pages kind [] (c ∷ copies) fit lt same =
-    record { same_kind = fit.0.same_kind; same_count = fit.0.same_count }
-head_fits pages kind (h ∷ heads) (c ∷ copies) fit lt same =
+    → IsHeadFit counts (kind_behind kind heads) (header_of (get_or copies (length heads) no_copy))
+head_fits counts kind heads [] fit lt same = absurd (omega arith)
+head_fits counts kind [] (c ∷ copies) fit lt same =
+    record { same_kind = fit.0.same_kind; whole = fit.0.whole }
+head_fits counts kind (h ∷ heads) (c ∷ copies) fit lt same =
     let id : h.id ≡ c.id = ap (λ (x : ArchiveHeader). x.id) (same 0 h (omega arith)) in
-    subst (λ n. IsHeadFit pages (kind_behind (Inc n) heads) (header_of (get_or copies (length heads) no_copy))) (sym id)
-    (head_fits pages (Inc c.id) heads copies fit.1 (omega arith) (λ k x less. same (suc k) x (omega arith)))
+    subst (λ n. IsHeadFit counts (kind_behind (Inc n) heads) (header_of (get_or copies (length heads) no_copy))) (sym id)
+    (head_fits counts (Inc c.id) heads copies fit.1 (omega arith) (λ k x less. same (suc k) x (omega arith)))
 
 -- no header of a chain is refused
-head_none : (pages : ℕ) (kind : CopyKind) (copy : CopyView) (left : Option (List ℕ)) (fault : ChainReadFault)
-    → IsArchived copy → IsHeadFit pages kind (header_of copy)
-    → IsHeadRefused pages kind (Some (archive_bytes copy)) left fault → IsFromOutside fault
-head_none pages kind copy left (ChainBroken id) is fit refused =
+head_none : (counts : PageCounts) (kind : CopyKind) (copy : CopyView) (left : Option (List ℕ)) (fault : ChainReadFault)
+    → IsArchived copy → IsHeadFit counts kind (header_of copy)
+    → IsHeadRefused counts kind (Some (archive_bytes copy)) left fault → IsFromOutside fault
+head_none counts kind copy left (ChainBroken id) is fit refused =
     let same = same_head copy (Some (archive_bytes copy)) left refused.0 is refl refused.1.0 in
-    refused.1.2 (subst (IsHeadFit pages kind) (sym same) fit)
-head_none pages kind copy left (BadArchive at) is fit refused =
+    refused.1.2 (subst (IsHeadFit counts kind) (sym same) fit)
+head_none counts kind copy left (BadArchive at) is fit refused =
     no_fault copy (archive_bytes copy) (record { valid = is; spelled = refl }) (archive.BadArchive 0) refused.1
-head_none pages kind copy left OutOfMemory is fit refused = tt
-head_none pages kind copy left ReadFault is fit refused = tt
-head_none pages kind copy left CountDiffers is fit refused = refused
-head_none pages kind copy left RedoBeyondLog is fit refused = refused
-head_none pages kind copy left (PageBeyondLog n) is fit refused = refused
+head_none counts kind copy left OutOfMemory is fit refused = tt
+head_none counts kind copy left ReadFault is fit refused = tt
+head_none counts kind copy left CountDiffers is fit refused = refused
+head_none counts kind copy left RedoBeyondLog is fit refused = refused
+head_none counts kind copy left (PageBeyondLog n) is fit refused = refused
 
-first_none : (pages end : ℕ) (lefts : List (Option (List ℕ))) (copies : List CopyView) (fault : ChainReadFault)
-    → IsRightChain pages end copies → IsFirstHeadRefused pages (archives_of copies) lefts fault → IsFromOutside fault
-first_none pages end lefts copies fault right first =
+first_none : (counts : PageCounts) (end : ℕ) (lefts : List (Option (List ℕ))) (copies : List CopyView) (fault : ChainReadFault)
+    → IsRightChain counts end copies → IsFirstHeadRefused counts (archives_of copies) lefts fault → IsFromOutside fault
+first_none counts end lefts copies fault right first =
     let at = length first.heads in
     let lt : at < length copies = omega (arith, first.there, count_of copies) in
     let copy = get_or copies at no_copy in
-    head_none pages (kind_behind Full first.heads) copy (get_or lefts at None) fault
+    head_none counts (kind_behind Full first.heads) copy (get_or lefts at None) fault
     (all_at IsArchived copies at no_copy right.archived lt)
-    (head_fits pages Full first.heads copies right.fit lt (λ k h less.
+    (head_fits counts Full first.heads copies right.fit lt (λ k h less.
     same_head (get_or copies k no_copy) (get_or (archives_of copies) k None) (get_or lefts k None) (get_or first.heads k h)
     (all_at IsArchived copies k no_copy right.archived (omega arith)) (at_place copies k None (omega arith))
     (first.before k None None h less)))
-    (subst (λ (o : Option (List ℕ)). IsHeadRefused pages (kind_behind Full first.heads) o (get_or lefts at None) fault)
+    (subst (λ (o : Option (List ℕ)). IsHeadRefused counts (kind_behind Full first.heads) o (get_or lefts at None) fault)
     (at_place copies at None lt) (first.here None None))
 
-past_none : (pages end : ℕ) (lefts : List (Option (List ℕ))) (copies : List CopyView) → IsRightChain pages end copies
-    → ¬ IsPastLog pages end (archives_of copies) lefts
-past_none pages end lefts copies right past =
+past_none : (counts : PageCounts) (end : ℕ) (lefts : List (Option (List ℕ))) (copies : List CopyView) → IsRightChain counts end copies
+    → ¬ IsPastLog counts end (archives_of copies) lefts
+past_none counts end lefts copies right past =
     let at = past.at in
     let blank : ArchiveCursor = record { header = header_of no_copy; read = 0; from = 0; page = None; turns = 0 } in
     let lt : at < length copies = omega (arith, past.all, past.there, count_of copies) in
@@ -207,18 +208,18 @@ past_none pages end lefts copies right past =
           (get_or-map (λ (c : ArchiveCursor). c.header) past.its at blank (header_of no_copy) past.there ∙ same),
     )
 
-pub not_unmade : (pages end : ℕ) (lefts : List (Option (List ℕ))) (copies : List CopyView) (fault : ChainReadFault)
-    → IsRightChain pages end copies → IsNotMade pages end (archives_of copies) lefts fault → IsFromOutside fault
-not_unmade pages end lefts copies OutOfMemory right refused = tt
-not_unmade pages end lefts copies ReadFault right refused = tt
-not_unmade pages end lefts copies (ChainBroken id) right (inl none) =
+pub not_unmade : (counts : PageCounts) (end : ℕ) (lefts : List (Option (List ℕ))) (copies : List CopyView) (fault : ChainReadFault)
+    → IsRightChain counts end copies → IsNotMade counts end (archives_of copies) lefts fault → IsFromOutside fault
+not_unmade counts end lefts copies OutOfMemory right refused = tt
+not_unmade counts end lefts copies ReadFault right refused = tt
+not_unmade counts end lefts copies (ChainBroken id) right (inl none) =
     omega (arith, right.some, count_of copies, ap length none.0)
-not_unmade pages end lefts copies (ChainBroken id) right (inr first) =
-    first_none pages end lefts copies (ChainBroken id) right first
-not_unmade pages end lefts copies RedoBeyondLog right refused = past_none pages end lefts copies right refused
-not_unmade pages end lefts copies (BadArchive n) right refused =
-    first_none pages end lefts copies (BadArchive n) right refused
-not_unmade pages end lefts copies CountDiffers right refused =
-    first_none pages end lefts copies CountDiffers right refused
-not_unmade pages end lefts copies (PageBeyondLog n) right refused =
-    first_none pages end lefts copies (PageBeyondLog n) right refused
+not_unmade counts end lefts copies (ChainBroken id) right (inr first) =
+    first_none counts end lefts copies (ChainBroken id) right first
+not_unmade counts end lefts copies RedoBeyondLog right refused = past_none counts end lefts copies right refused
+not_unmade counts end lefts copies (BadArchive n) right refused =
+    first_none counts end lefts copies (BadArchive n) right refused
+not_unmade counts end lefts copies CountDiffers right refused =
+    first_none counts end lefts copies CountDiffers right refused
+not_unmade counts end lefts copies (PageBeyondLog n) right refused =
+    first_none counts end lefts copies (PageBeyondLog n) right refused

@@ -7,6 +7,7 @@ use Rattle.std.specs.Io.KnownBytes.{Consumes}
 use Rattle.std.proofs.lemmas.Bool.{cases_lt}
 use Rattle.std.proofs.lemmas.List.{append-nil, get_or-map, get_or-set_other, get_or-set_same, get_or_append_left}
 use Rattle.std.proofs.lemmas.List.{get_or_push, length-map, length-set, length_push, map-append}
+use Rattle.page_core.specs.PageCounts.{PageCounts, last_count}
 use Rattle.copy_vault.specs.declared.archive_cursor.ArchiveCursor.{ArchiveCursor}
 use Rattle.copy_vault.specs.declared.chain_read_fault.ChainReadFault.{ChainReadFault}
 use Rattle.copy_vault.specs.declared.chain_read_fault.ChainReadFault.TheVariants.{BadArchive, OutOfMemory}
@@ -30,10 +31,10 @@ use Rattle.copy_vault.proofs.Parts.{read_none}
 
 -- ---- headers in order
 
-fit_push : (pages : ℕ) (kind : CopyKind) (hs : List ArchiveHeader) (h : ArchiveHeader) → HeadsFit pages kind hs
-    → IsHeadFit pages (kind_behind kind hs) h → HeadsFit pages kind (hs ++ h ∷ [])
-fit_push pages kind [] h fit here = (here, tt)
-fit_push pages kind (x ∷ hs) h fit here = (fit.0, fit_push pages (Inc x.id) hs h fit.1 here)
+fit_push : (counts : PageCounts) (kind : CopyKind) (hs : List ArchiveHeader) (h : ArchiveHeader) → HeadsFit counts kind hs
+    → IsHeadFit counts (kind_behind kind hs) h → HeadsFit counts kind (hs ++ h ∷ [])
+fit_push counts kind [] h fit here = (here, tt)
+fit_push counts kind (x ∷ hs) h fit here = (fit.0, fit_push counts (Inc x.id) hs h fit.1 here)
 
 behind_push : (kind : CopyKind) (hs : List ArchiveHeader) (h : ArchiveHeader)
     → kind_behind kind (hs ++ h ∷ []) ≡ Inc h.id
@@ -49,9 +50,9 @@ kind_more its new it is =
     sym (ap (λ (cs : List ArchiveCursor). kind_behind Full (heads_of cs)) is
     ∙ ap (kind_behind Full) (heads_push its it) ∙ behind_push Full (heads_of its) it.header)
 
-pub opened_none : (pages : ℕ) (inputs : List (Option (List ℕ))) (its : List ArchiveCursor) → its ≡ []
-    → AreOpened pages inputs inputs its
-opened_none pages inputs its none = subst (AreOpened pages inputs inputs) (sym none) (record {
+pub opened_none : (counts : PageCounts) (inputs : List (Option (List ℕ))) (its : List ArchiveCursor) → its ≡ []
+    → AreOpened counts inputs inputs its
+opened_none counts inputs its none = subst (AreOpened counts inputs inputs) (sym none) (record {
   fit = tt;
   within = omega arith;
   count = refl;
@@ -59,15 +60,15 @@ opened_none pages inputs its none = subst (AreOpened pages inputs inputs) (sym n
   unread = λ k i past lt. refl;
 })
 
-pub opened_more : (pages at : ℕ) (kind : CopyKind) (inputs lefts : List (Option (List ℕ)))
-    (its new : List ArchiveCursor) (this left : Option (List ℕ)) (it : ArchiveCursor) → AreOpened pages inputs lefts its
+pub opened_more : (counts : PageCounts) (at : ℕ) (kind : CopyKind) (inputs lefts : List (Option (List ℕ)))
+    (its new : List ArchiveCursor) (this left : Option (List ℕ)) (it : ArchiveCursor) → AreOpened counts inputs lefts its
     → length its ≡ at → kind ≡ kind_behind Full (heads_of its) → at < length inputs → get_or lefts at this ≡ this
-    → IsNew this left it → IsHeadFit pages kind it.header → new ≡ its ++ it ∷ []
-    → AreOpened pages inputs (set lefts at left) new
-opened_more pages at kind inputs lefts its new this left it opened count kind_is lt of_left fresh fit is =
-    subst (AreOpened pages inputs (set lefts at left)) (sym is) (record {
-      fit = subst (HeadsFit pages Full) (sym (heads_push its it)) (fit_push pages Full (heads_of its) it.header opened.fit
-          (subst (λ (k : CopyKind). IsHeadFit pages k it.header) kind_is fit));
+    → IsNew this left it → IsHeadFit counts kind it.header → new ≡ its ++ it ∷ []
+    → AreOpened counts inputs (set lefts at left) new
+opened_more counts at kind inputs lefts its new this left it opened count kind_is lt of_left fresh fit is =
+    subst (AreOpened counts inputs (set lefts at left)) (sym is) (record {
+      fit = subst (HeadsFit counts Full) (sym (heads_push its it)) (fit_push counts Full (heads_of its) it.header opened.fit
+          (subst (λ (k : CopyKind). IsHeadFit counts k it.header) kind_is fit));
       within = omega (arith, length_push its it, count);
       count = length-set lefts at left ∙ opened.count;
       each = λ k i l jt below. elim (cases_lt k at) [
@@ -102,12 +103,12 @@ opened_more pages at kind inputs lefts its new this left it opened count kind_is
 head_of : (input left : Option (List ℕ)) (it : ArchiveCursor) → IsNew input left it → IsHeadOf input left it.header
 head_of input left it new = record { valid = new.valid; given = new.given }
 
-pub head_refused : (pages at : ℕ) (kind : CopyKind) (inputs lefts : List (Option (List ℕ)))
+pub head_refused : (counts : PageCounts) (at : ℕ) (kind : CopyKind) (inputs lefts : List (Option (List ℕ)))
     (its : List ArchiveCursor) (this left : Option (List ℕ)) (fault : ChainReadFault)
-    → AreOpened pages inputs lefts its → length its ≡ at → kind ≡ kind_behind Full (heads_of its)
-    → at < length inputs → get_or lefts at this ≡ this → IsHeadRefused pages kind this left fault
-    → IsFirstHeadRefused pages inputs (set lefts at left) fault
-head_refused pages at kind inputs lefts its this left fault opened count kind_is lt of_left why =
+    → AreOpened counts inputs lefts its → length its ≡ at → kind ≡ kind_behind Full (heads_of its)
+    → at < length inputs → get_or lefts at this ≡ this → IsHeadRefused counts kind this left fault
+    → IsFirstHeadRefused counts inputs (set lefts at left) fault
+head_refused counts at kind inputs lefts its this left fault opened count kind_is lt of_left why =
     let long : length (heads_of its) ≡ at = length-map its (λ (c : ArchiveCursor). c.header) ∙ count in
     record {
       heads = heads_of its;
@@ -123,13 +124,13 @@ head_refused pages at kind inputs lefts its this left fault opened count kind_is
           (sym (get_or-set_other lefts at k left l ne))
           (head_of (get_or inputs k i) (get_or lefts k l) (get_or its k (blank h)) new));
       here = λ i l.
-          subst (λ n. IsHeadRefused pages (kind_behind Full (heads_of its)) (get_or inputs n i)
+          subst (λ n. IsHeadRefused counts (kind_behind Full (heads_of its)) (get_or inputs n i)
           (get_or (set lefts at left) n l) fault) (sym long)
-          (subst (λ (x : Option (List ℕ)). IsHeadRefused pages (kind_behind Full (heads_of its)) (get_or inputs at i) x
+          (subst (λ (x : Option (List ℕ)). IsHeadRefused counts (kind_behind Full (heads_of its)) (get_or inputs at i) x
           fault) (sym (get_or-set_same lefts at left l (omega (arith, opened.count))))
-          (subst (λ (x : Option (List ℕ)). IsHeadRefused pages (kind_behind Full (heads_of its)) x left fault)
+          (subst (λ (x : Option (List ℕ)). IsHeadRefused counts (kind_behind Full (heads_of its)) x left fault)
           (sym of_left ∙ opened.unread at this (omega (arith, count)) lt ∙ any_default inputs at this i lt)
-          (subst (λ (k : CopyKind). IsHeadRefused pages k this left fault) kind_is why)));
+          (subst (λ (k : CopyKind). IsHeadRefused counts k this left fault) kind_is why)));
       behind = λ k i past below.
           let ne : k ≢ at = omega (arith, long) in
           get_or-set_other lefts at k left i ne ∙ opened.unread k i (omega (arith, long, count)) below;
@@ -138,29 +139,29 @@ head_refused pages at kind inputs lefts its this left fault opened count kind_is
     blank : ArchiveHeader → ArchiveCursor
     blank h = record { header = h; read = 0; from = 0; page = None; turns = 0 }
 
-pub not_opened : (pages : ℕ) (inputs lefts : List (Option (List ℕ))) (fault : ChainReadFault)
-    → IsFirstHeadRefused pages inputs lefts fault → IsNotOpened pages inputs lefts fault
-not_opened pages inputs lefts OutOfMemory why = tt
-not_opened pages inputs lefts (BadArchive at) why = why
-not_opened pages inputs lefts (ChainBroken id) why = why
-not_opened pages inputs lefts CountDiffers why = why
-not_opened pages inputs lefts ReadFault why = why
-not_opened pages inputs lefts RedoBeyondLog why = why
-not_opened pages inputs lefts (PageBeyondLog n) why = why
+pub not_opened : (counts : PageCounts) (inputs lefts : List (Option (List ℕ))) (fault : ChainReadFault)
+    → IsFirstHeadRefused counts inputs lefts fault → IsNotOpened counts inputs lefts fault
+not_opened counts inputs lefts OutOfMemory why = tt
+not_opened counts inputs lefts (BadArchive at) why = why
+not_opened counts inputs lefts (ChainBroken id) why = why
+not_opened counts inputs lefts CountDiffers why = why
+not_opened counts inputs lefts ReadFault why = why
+not_opened counts inputs lefts RedoBeyondLog why = why
+not_opened counts inputs lefts (PageBeyondLog n) why = why
 
-no_redo_fault : (pages : ℕ) (kind : CopyKind) (input left : Option (List ℕ))
-    → ¬ IsHeadRefused pages kind input left RedoBeyondLog
-no_redo_fault pages kind input left why = why
+no_redo_fault : (counts : PageCounts) (kind : CopyKind) (input left : Option (List ℕ))
+    → ¬ IsHeadRefused counts kind input left RedoBeyondLog
+no_redo_fault counts kind input left why = why
 
-pub not_made : (pages end : ℕ) (inputs lefts : List (Option (List ℕ))) (fault : ChainReadFault)
-    → IsNotOpened pages inputs lefts fault → IsNotMade pages end inputs lefts fault
-not_made pages end inputs lefts OutOfMemory why = tt
-not_made pages end inputs lefts (BadArchive at) why = why
-not_made pages end inputs lefts (ChainBroken id) why = inr why
-not_made pages end inputs lefts CountDiffers why = why
-not_made pages end inputs lefts ReadFault why = why
-not_made pages end inputs lefts RedoBeyondLog why = absurd (why.here None None)
-not_made pages end inputs lefts (PageBeyondLog n) why = why
+pub not_made : (counts : PageCounts) (end : ℕ) (inputs lefts : List (Option (List ℕ))) (fault : ChainReadFault)
+    → IsNotOpened counts inputs lefts fault → IsNotMade counts end inputs lefts fault
+not_made counts end inputs lefts OutOfMemory why = tt
+not_made counts end inputs lefts (BadArchive at) why = why
+not_made counts end inputs lefts (ChainBroken id) why = inr why
+not_made counts end inputs lefts CountDiffers why = why
+not_made counts end inputs lefts ReadFault why = why
+not_made counts end inputs lefts RedoBeyondLog why = absurd (why.here None None)
+not_made counts end inputs lefts (PageBeyondLog n) why = why
 
 -- ---- a reader that begins
 
@@ -182,11 +183,11 @@ fresh_read end input left it new = record {
 pub copies_of : List ArchiveCursor → List CopyView
 copies_of its = map (λ it. copy_of it.header []) its
 
-pub fresh_all : (pages end : ℕ) (inputs lefts : List (Option (List ℕ))) (its : List ArchiveCursor)
-    → AreOpened pages inputs lefts its → length its ≡ length inputs
+pub fresh_all : (counts : PageCounts) (end : ℕ) (inputs lefts : List (Option (List ℕ))) (its : List ArchiveCursor)
+    → AreOpened counts inputs lefts its → length its ≡ length inputs
     → AreRead end 0 0 (heads_of its) inputs lefts its (copies_of its)
 unfolding copies_of
-fresh_all pages end inputs lefts its opened all = record {
+fresh_all counts end inputs lefts its opened all = record {
   heads_count = length-map its (λ (c : ArchiveCursor). c.header);
   inputs_count = sym all;
   lefts_count = opened.count ∙ sym all;
@@ -200,12 +201,13 @@ fresh_all pages end inputs lefts its opened all = record {
       (fresh_read end (get_or inputs k i) (get_or lefts k l) (get_or its k it) (opened.each k i l it lt)));
 }
 
-pub reading_none : (inputs lefts : List (Option (List ℕ))) (it : ChainReader) → it.given ≡ 0 → it.failed ≡ None
-    → AreOpened it.pages inputs lefts it.cursors.items → length it.cursors.items ≡ length inputs → 0 < length inputs
+pub reading_none : (counts : PageCounts) (inputs lefts : List (Option (List ℕ))) (it : ChainReader)
+    → it.pages ≡ last_count counts → it.given ≡ 0 → it.failed ≡ None
+    → AreOpened counts inputs lefts it.cursors.items → length it.cursors.items ≡ length inputs → 0 < length inputs
     → ((k : ℕ) (c : ArchiveCursor) → k < length it.cursors.items
     → (get_or it.cursors.items k c).header.redo < it.end)
-    → it.redo ≡ last_point (heads_of it.cursors.items) → IsReading inputs lefts it []
-reading_none inputs lefts it none still opened all some below last =
+    → it.redo ≡ last_point (heads_of it.cursors.items) → IsReading counts inputs lefts it []
+reading_none counts inputs lefts it wide none still opened all some below last =
     let its = it.cursors.items in
     record {
       heads = heads_of its;
@@ -222,16 +224,17 @@ reading_none inputs lefts it none still opened all some below last =
           );
       last = last;
       read = subst (λ n. AreRead it.end (moment_of n) 0 (heads_of its) inputs lefts its (copies_of its)) (sym none)
-          (fresh_all it.pages it.end inputs lefts its opened all);
+          (fresh_all counts it.end inputs lefts its opened all);
       made = sym (ap (λ n. map (content (copies_of its)) (range_with_len 0 n)) none);
+      all = wide;
       within = omega (arith, none);
       open_still = still;
     }
 
-pub past_log : (pages end : ℕ) (inputs lefts : List (Option (List ℕ))) (its : List ArchiveCursor) (at : ℕ)
-    → AreOpened pages inputs lefts its → length its ≡ length inputs → at < length its
-    → ((it : ArchiveCursor) → end ≤ (get_or its at it).header.redo) → IsPastLog pages end inputs lefts
-past_log pages end inputs lefts its at opened all there past = record {
+pub past_log : (counts : PageCounts) (end : ℕ) (inputs lefts : List (Option (List ℕ))) (its : List ArchiveCursor) (at : ℕ)
+    → AreOpened counts inputs lefts its → length its ≡ length inputs → at < length its
+    → ((it : ArchiveCursor) → end ≤ (get_or its at it).header.redo) → IsPastLog counts end inputs lefts
+past_log counts end inputs lefts its at opened all there past = record {
   its = its;
   opened = opened;
   all = all;

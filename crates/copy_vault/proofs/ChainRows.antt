@@ -4,6 +4,7 @@ use Rattle.std.proofs.Common.{refl, sym, ap, ◌∙◌, arith}
 use Rattle.std.specs.Prelude.{Option, None, Result, Ok, Err, OnOk}
 use Rattle.std.proofs.lemmas.List.{get_or-map, length-map, length_push}
 use Rattle.std.proofs.lemmas.List.FromFn.{length-map-range_with_len, map-range_with_len_more}
+use Rattle.page_core.specs.PageCounts.{PageCounts, last_count}
 use Rattle.page_core.specs.declared.page.Page.{Page}
 use Rattle.copy_vault.specs.declared.archive_cursor.ArchiveCursor.{ArchiveCursor}
 use Rattle.copy_vault.specs.declared.chain_reader.ChainReader.{ChainReader}
@@ -23,9 +24,9 @@ found_ok (Ok x) P right h = h
 found_ok (Err e) P right h = absurd (right e refl)
 
 -- a reader that begins has given no rows
-pub each_none : (inputs lefts : List (Option (List ℕ))) (it : ChainReader) → IsReading inputs lefts it []
-    → it.given ≡ 0 → IsReadingEach inputs lefts it []
-each_none inputs lefts it read none = record {
+pub each_none : (counts : PageCounts) (inputs lefts : List (Option (List ℕ))) (it : ChainReader)
+    → IsReading counts inputs lefts it [] → it.given ≡ 0 → IsReadingEach counts inputs lefts it []
+each_none counts inputs lefts it read none = record {
   pages = [];
   reading = read;
   rows_made = sym (ap (λ n. rows read.copies n) none);
@@ -43,22 +44,22 @@ rows_more end n heads inputs lefts its old pages given on made =
     ∙ ap (λ (r : List (List Page)). rows on.copies n ++ r ∷ []) on.is
     ∙ sym (map-range_with_len_more (row on.copies) 0 n n (omega arith))
 
-pub each_more : (inputs lefts more : List (Option (List ℕ))) (it new : ChainReader)
+pub each_more : (counts : PageCounts) (inputs lefts more : List (Option (List ℕ))) (it new : ChainReader)
     (given : List (List (List Page))) (pages : List (List Page))
-    → IsReadingEach inputs lefts it given → it.given < it.pages
+    → IsReadingEach counts inputs lefts it given → it.given < it.pages
     → ((heads : List ArchiveHeader) (copies : List CopyView)
     → AreRead it.end (moment_of it.given) 0 heads inputs lefts it.cursors.items copies
     → IsRowGiven it.end it.given heads inputs more new.cursors.items copies pages)
     → new.pages ≡ it.pages → new.end ≡ it.end → new.redo ≡ it.redo → new.given ≡ it.given + 1 → new.failed ≡ None
-    → IsReadingEach inputs more new (given ++ pages ∷ [])
+    → IsReadingEach counts inputs more new (given ++ pages ∷ [])
 unfolding reading_on
-each_more inputs lefts more it new given pages each left step same_pages end redo count failed =
+each_more counts inputs lefts more it new given pages each left step same_pages end redo count failed =
     let read = each.reading in
     let on = step read.heads read.copies read.read in
     let page = content on.copies it.given in
     record {
       pages = each.pages ++ page ∷ [];
-      reading = reading_on inputs lefts more it new each.pages page read left
+      reading = reading_on counts inputs lefts more it new each.pages page read left
           (record { copies = on.copies; read = on.read; same = on.same; is = refl }) same_pages end redo count failed;
       rows_made = rows_more it.end it.given read.heads inputs more new.cursors.items read.copies pages given on
           each.rows_made
@@ -86,55 +87,54 @@ headed end next heads inputs lefts its copies k h read lt =
     (sym one.header ∙ sym (get_or-map (λ (c : ArchiveCursor). c.header) its k (blank h) h lt))
 
 -- what both a header and its copy have
-same_heads : {X : Type 0} (f : ArchiveHeader → X) (g : CopyView → X) (end next n : ℕ) (heads : List ArchiveHeader)
-    (inputs lefts : List (Option (List ℕ))) (its : List ArchiveCursor) (copies : List CopyView)
+same_heads : {X : Type 0} (f : ArchiveHeader → X) (g : CopyView → X) (counts : PageCounts) (end next : ℕ)
+    (heads : List ArchiveHeader) (inputs lefts : List (Option (List ℕ))) (its : List ArchiveCursor) (copies : List CopyView)
     → AreRead end next 0 heads inputs lefts its copies
-    → ((h : ArchiveHeader) (copy : CopyView) → copy ≡ copy_of h copy.pages → f h ≡ g (completed n copy))
-    → map f (heads_of its) ≡ map g (map (completed n) copies)
-same_heads f g end next n heads inputs lefts its copies read of_one =
+    → ((h : ArchiveHeader) (copy : CopyView) → copy ≡ copy_of h copy.pages → f h ≡ g (completed counts copy))
+    → map f (heads_of its) ≡ map g (map (completed counts) copies)
+same_heads f g counts end next heads inputs lefts its copies read of_one =
     let long : length (heads_of its) ≡ length its = length-map its (λ (c : ArchiveCursor). c.header) in
-    let wide : length (map (completed n) copies) ≡ length copies = length-map copies (completed n) in
-    same_each f g (heads_of its) (map (completed n) copies) (omega (arith, long, wide, read.copies_count))
+    let wide : length (map (completed counts) copies) ≡ length copies = length-map copies (completed counts) in
+    same_each f g (heads_of its) (map (completed counts) copies) (omega (arith, long, wide, read.copies_count))
     (λ k h copy lt.
     of_one (get_or (heads_of its) k h) (get_or copies k no_copy)
     (headed end next heads inputs lefts its copies k h read (omega (arith, long)))
-    ∙ ap g (sym (get_or-map (completed n) copies k no_copy copy (omega (arith, long, read.copies_count, lt)))))
+    ∙ ap g (sym (get_or-map (completed counts) copies k no_copy copy (omega (arith, long, read.copies_count, lt)))))
 
-same_id : (n : ℕ) (h : ArchiveHeader) (copy : CopyView) → copy ≡ copy_of h copy.pages → h.id ≡ (completed n copy).id
+same_id : (counts : PageCounts) (h : ArchiveHeader) (copy : CopyView) → copy ≡ copy_of h copy.pages → h.id ≡ (completed counts copy).id
 unfolding completed
-same_id n h copy is = sym (ap (λ (c : CopyView). c.id) is)
+same_id counts h copy is = sym (ap (λ (c : CopyView). c.id) is)
 
-same_redo : (n : ℕ) (h : ArchiveHeader) (copy : CopyView) → copy ≡ copy_of h copy.pages
-    → h.redo ≡ (completed n copy).redo
+same_redo : (counts : PageCounts) (h : ArchiveHeader) (copy : CopyView) → copy ≡ copy_of h copy.pages
+    → h.redo ≡ (completed counts copy).redo
 unfolding completed
-same_redo n h copy is = sym (ap (λ (c : CopyView). c.redo) is)
+same_redo counts h copy is = sym (ap (λ (c : CopyView). c.redo) is)
 
 -- once all rows were given the archives spell a chain
-pub each_whole : (inputs lefts : List (Option (List ℕ))) (it : ChainReader) (given : List (List (List Page)))
-    → IsReadingEach inputs lefts it given → it.pages ≤ it.given
-    → IsEachRead it.pages it.end inputs (ids_of it) (points_of it) given
-each_whole inputs lefts it given each past =
-    let n = it.pages in
+pub each_whole : (counts : PageCounts) (inputs lefts : List (Option (List ℕ))) (it : ChainReader)
+    (given : List (List (List Page))) → IsReadingEach counts inputs lefts it given → it.pages ≤ it.given
+    → IsEachRead counts it.end inputs (ids_of it) (points_of it) given
+each_whole counts inputs lefts it given each past =
     let read = each.reading in
-    let copies = map (completed n) read.copies in
-    let whole = read_whole inputs lefts it each.pages read past in
-    let same : whole.copies ≡ copies = whole_copies inputs lefts it each.pages read past in
-    let all : it.given ≡ n = omega (arith, read.within) in
+    let copies = map (completed counts) read.copies in
+    let whole = read_whole counts inputs lefts it each.pages read past in
+    let same : whole.copies ≡ copies = whole_copies counts inputs lefts it each.pages read past in
+    let all : it.given ≡ last_count counts = omega (arith, read.within, read.all) in
     record {
       copies = whole.copies;
       spelled = whole.spelled;
       fit = whole.fit;
       chain = whole.chain;
       within = whole.within;
-      id_each = same_heads (λ (h : ArchiveHeader). h.id) (λ (c : CopyView). c.id) it.end (moment_of it.given) n read.heads
-          inputs lefts it.cursors.items read.copies read.read (same_id n)
+      id_each = same_heads (λ (h : ArchiveHeader). h.id) (λ (c : CopyView). c.id) counts it.end (moment_of it.given)
+          read.heads inputs lefts it.cursors.items read.copies read.read (same_id counts)
           ∙ ap (λ (cs : List CopyView). map (λ (c : CopyView). c.id) cs) (sym same);
-      point_each = same_heads (λ (h : ArchiveHeader). h.redo) (λ (c : CopyView). c.redo) it.end (moment_of it.given) n
-          read.heads inputs lefts it.cursors.items read.copies read.read (same_redo n)
+      point_each = same_heads (λ (h : ArchiveHeader). h.redo) (λ (c : CopyView). c.redo) counts it.end
+          (moment_of it.given) read.heads inputs lefts it.cursors.items read.copies read.read (same_redo counts)
           ∙ ap (λ (cs : List CopyView). map (λ (c : CopyView). c.redo) cs) (sym same);
       made = each.rows_made
-          ∙ same_maps (row read.copies) (row copies) it.given (λ p lt. sym (row_completed n p read.copies))
-          ∙ ap (λ m. rows copies m) all ∙ ap (λ (cs : List CopyView). rows cs n) (sym same);
+          ∙ same_maps (row read.copies) (row copies) it.given (λ p lt. sym (row_completed counts p read.copies))
+          ∙ ap (λ m. rows copies m) all ∙ ap (λ (cs : List CopyView). rows cs (last_count counts)) (sym same);
     }
 
 -- ---- what the headers have

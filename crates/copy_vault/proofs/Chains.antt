@@ -1,7 +1,7 @@
 -- Chains of copies, and the pages that they have.
 use Rattle.std.proofs.Common.{◌≡◌, ℕ, ◌+◌, ◌-◌, ◌<◌, ◌≤◌, List, [], ◌∷◌, ◌++◌, length, get_or, take, drop}
 use Rattle.std.proofs.Common.{reverse, refl, sym, ap}
-use Rattle.std.proofs.Common.{◌∙◌, subst, arith, suc, zero, false}
+use Rattle.std.proofs.Common.{◌∙◌, subst, arith, suc, false}
 use Rattle.std.specs.Prelude.{Some, None}
 use Rattle.std.specs.Bool.{◌==◌}
 use Rattle.std.specs.Borrow.{Bor}
@@ -13,6 +13,7 @@ use Rattle.std.proofs.lemmas.List.Concat.{flat_map-append}
 use Rattle.page_core.specs.declared.page.Page.{Page}
 use Rattle.std.proofs.lemmas.List.FromFn.{get_or-map-range_with_len, length-map-range_with_len}
 use Rattle.page_core.specs.Page.{formatted}
+use Rattle.page_core.specs.PageCounts.{PageCounts}
 use Rattle.page_core.specs.Volume.{AreNumbered}
 use Rattle.copy_vault.specs.declared.fault.CopyFault.{CopyFault}
 use Rattle.copy_vault.specs.declared.copy_id.CopyKind.{CopyKind}
@@ -21,8 +22,8 @@ use Rattle.copy_vault.specs.Copy.{CopyView, IsComplete, PageDecision, undecided,
 use Rattle.copy_vault.specs.Vault.{CopyState, HasParent, IsOfId, IsParent, complete, complete_refusal, state_of}
 use Rattle.copy_vault.proofs.Fronts.{all_push}
 use Rattle.copy_vault.specs.Chain.{FitFrom, Fits, IsBrokenAt, kind_after}
-use Rattle.copy_vault.specs.Chain.{Follow, IsChain, IsChainOf, IsNext, content, contents, last_of, last_redo, lent}
-use Rattle.copy_vault.specs.Chain.{page_count, takings}
+use Rattle.copy_vault.specs.Chain.{Follow, IsChain, IsChainOf, content, contents, last_of, last_one, last_redo, lent}
+use Rattle.copy_vault.specs.Chain.{newest, takings}
 
 all_append : {X : Type 0} (P : X → Type 0) (xs ys : List X) → AllByRecursion P xs → AllByRecursion P ys
     → AllByRecursion P (xs ++ ys)
@@ -66,26 +67,6 @@ last_redo_at (copy ∷ next ∷ more) d some =
 
 -- ---- members of a chain
 
-follow_count : (copy : CopyView) (more : List CopyView) (k : ℕ) (d : CopyView) → Follow copy more → k < length more
-    → length (get_or more k d).pages ≡ length copy.pages
-follow_count copy [] k d linked lt = absurd (omega arith)
-follow_count copy (next ∷ more) zero d linked lt = linked.0.same_count
-follow_count copy (next ∷ more) (suc k) d linked lt =
-    follow_count next more k d linked.1 (omega arith) ∙ linked.0.same_count
-
-count_in : (first : CopyView) (more : List CopyView) (k : ℕ) (d : CopyView) → Follow first more
-    → k < length (first ∷ more) → length (get_or (first ∷ more) k d).pages ≡ length first.pages
-count_in first more zero d linked lt = refl
-count_in first more (suc k) d linked lt = follow_count first more k d linked (omega arith)
-
--- each is of the same volume
-pub count_at : (members : List CopyView) (k : ℕ) (d : CopyView) → IsChain members → k < length members
-    → length (get_or members k d).pages ≡ page_count members
-count_at members k d chain lt =
-    ap (λ (ms : List CopyView). length (get_or ms k d).pages) chain.is
-    ∙ count_in chain.first chain.more k d chain.linked (omega (arith, ap length chain.is))
-    ∙ sym (ap page_count chain.is)
-
 pub some_members : (members : List CopyView) → IsChain members → 0 < length members
 some_members members chain = omega (arith, ap length chain.is)
 
@@ -107,36 +88,41 @@ last_of_push page last [] = refl
 last_of_push page last (next ∷ pages) = last_of_push next last pages
 
 -- the last copy that took the page has it
-pub content_at : (members : List CopyView) (k p : ℕ) (d : CopyView) (page : Page) → k < length members
+takings_at : (members : List CopyView) (k p : ℕ) (d : CopyView) (page : Page) → k < length members
     → takings (drop (k + 1) members) p ≡ [] → page_of (decision_at (get_or members k d).pages p) ≡ page ∷ []
-    → content members p ≡ page
-content_at members k p d page lt later here =
+    → takings members p ≡ takings (take k members) p ++ page ∷ []
+takings_at members k p d page lt later here =
     let piece : CopyView → List Page = λ copy. page_of (decision_at copy.pages p) in
-    let is : takings members p ≡ takings (take k members) p ++ page ∷ [] =
     ap (λ (ms : List CopyView). takings ms p) (sym (take-append-drop k members))
     ∙ flat_map-append piece (take k members) (drop k members)
     ∙ ap (λ (ps : List Page). takings (take k members) p ++ ps)
     (takings_more members k p d lt ∙ ap (λ (ps : List Page). ps ++ takings (drop (k + 1) members) p) here
-    ∙ ap (λ (ps : List Page). page ∷ ps) later) in
-    ap (last_of (formatted p)) is ∙ last_of_push (formatted p) page (takings (take k members) p)
+    ∙ ap (λ (ps : List Page). page ∷ ps) later)
 
--- a full copy took the page
-has_page : (d : PageDecision) → (¬ (d ≡ undecided)) → (¬ (d ≡ kept)) → (more : List Page)
-    → ¬ (page_of d ++ more ≡ [])
-has_page undecided some here more e = some refl
-has_page (taken page) some here more e = cc
-has_page kept some here more e = here refl
+pub content_at : (members : List CopyView) (k p : ℕ) (d : CopyView) (page : Page) → k < length members
+    → takings (drop (k + 1) members) p ≡ [] → page_of (decision_at (get_or members k d).pages p) ≡ page ∷ []
+    → content members p ≡ page
+content_at members k p d page lt later here =
+    ap (last_of (formatted p)) (takings_at members k p d page lt later here)
+    ∙ last_of_push (formatted p) page (takings (take k members) p)
 
--- some copy of a chain took it
-pub some_took : (members : List CopyView) (p : ℕ) → IsChain members → p < page_count members
-    → ¬ (takings members p ≡ [])
-some_took members p chain lt none =
-    let first = chain.first in
-    let all = subst (AllByRecursion (λ (copy : CopyView). IsComplete copy.kind copy.pages)) chain.is chain.complete in
-    let here = all.0 in
-    let below : p < length first.pages = omega (arith, ap page_count chain.is) in
-    has_page (decision_at first.pages p) (here.decided p below) (here.keeps chain.full p) (takings chain.more p)
-    (ap (λ (ms : List CopyView). takings ms p) (sym chain.is) ∙ none)
+pub last_one_push : (pages : List Page) (last : Page) → last_one (pages ++ last ∷ []) ≡ last ∷ []
+last_one_push [] last = refl
+last_one_push (page ∷ more) last = ap (λ (p : Page). p ∷ []) (last_of_push page last more)
+
+pub newest_at : (members : List CopyView) (k p : ℕ) (d : CopyView) (page : Page) → k < length members
+    → takings (drop (k + 1) members) p ≡ [] → page_of (decision_at (get_or members k d).pages p) ≡ page ∷ []
+    → newest members p ≡ page ∷ []
+newest_at members k p d page lt later here =
+    ap last_one (takings_at members k p d page lt later here) ∙ last_one_push (takings (take k members) p) page
+
+-- the content of a page is the newest one, and the formatted one where none took it
+last_of_one : (page : Page) (pages : List Page) → last_of page (last_one pages) ≡ last_of page pages
+last_of_one page [] = refl
+last_of_one page (next ∷ more) = refl
+
+pub content_newest : (members : List CopyView) (p : ℕ) → last_of (formatted p) (newest members p) ≡ content members p
+content_newest members p = last_of_one (formatted p) (takings members p)
 
 -- ---- the numbers of the pages
 
@@ -162,16 +148,15 @@ formatted_number : (p : ℕ) → (formatted p).number ≡ p
 unfolding formatted
 formatted_number p = refl
 
-content_number : (members : List CopyView) (p : ℕ) → AllByRecursion (λ copy. IsComplete copy.kind copy.pages) members
+pub content_number : (members : List CopyView) (p : ℕ) → AllByRecursion (λ copy. IsComplete copy.kind copy.pages) members
     → (content members p).number ≡ p
 content_number members p all =
     last_number (formatted p) (takings members p) p (formatted_number p) (numbers_of members p all)
 
-pub contents_numbered : (members : List CopyView) → IsChain members → AreNumbered (contents members)
-contents_numbered members chain k d lt =
-    let count = page_count members in
-    let below : k < count = omega (arith, length-map-range_with_len (content members) 0 count) in
-    ap (λ (page : Page). page.number) (get_or-map-range_with_len (content members) 0 count k k d below (omega arith))
+pub contents_numbered : (members : List CopyView) (n : ℕ) → IsChain members → AreNumbered (contents members n)
+contents_numbered members n chain k d lt =
+    let below : k < n = omega (arith, length-map-range_with_len (content members) 0 n) in
+    ap (λ (page : Page). page.number) (get_or-map-range_with_len (content members) 0 n k k d below (omega arith))
     ∙ content_number members k chain.complete
 
 -- ---- a chain that is gone back
@@ -197,7 +182,7 @@ tail_start copies id copy is same = record {
 }
 
 pub tail_more : (copies : List CopyState) (id : ℕ) (parent copy : CopyView) (later : List CopyView)
-    → IsTail copies id copy later → IsComplete copy.kind copy.pages → IsNext parent copy
+    → IsTail copies id copy later → IsComplete copy.kind copy.pages → copy.kind ≡ Inc parent.id
     → state_of copies parent.id ≡ complete parent → IsTail copies id parent (copy ∷ later)
 tail_more copies id parent copy later tail whole next is =
     let all = tail.of_chain in
@@ -232,26 +217,13 @@ pub known_here : (copies : List CopyState) (id : ℕ) (copy : CopyView) → IsOf
 known_here copies id copy known = subst (λ n. IsOfId copies n copy) (sym known.id_is) known
 
 pub parent_of : (copies : List CopyState) (copy : CopyView) (parent : ℕ) → IsOfId copies copy.id copy
-    → copy.kind ≡ Inc parent → IsParent copies parent copy.id (length copy.pages)
-parent_of copies copy parent known is = subst (HasParent copies copy.id (length copy.pages)) is known.parent
+    → copy.kind ≡ Inc parent → IsParent copies parent copy.id
+parent_of copies copy parent known is = subst (HasParent copies copy.id) is known.parent
 
-pub is_there : (copies : List CopyState) (parent id pages : ℕ) (fault : CopyFault) → IsParent copies parent id pages
+pub is_there : (copies : List CopyState) (parent id : ℕ) (fault : CopyFault) → IsParent copies parent id
     → ¬ (complete_refusal (state_of copies parent) ≡ Some fault)
-is_there copies parent id pages fault is refused =
+is_there copies parent id fault is refused =
     let none : None ≡ Some fault = ap complete_refusal (sym is.is_complete) ∙ refused in cc
-
-pub next_of_parent : (copies : List CopyState) (parent id : ℕ) (other copy : CopyView)
-    → IsParent copies parent id (length copy.pages) → state_of copies parent ≡ complete other → other.id ≡ parent
-    → copy.kind ≡ Inc parent → IsNext other copy
-next_of_parent copies parent id other copy is there same kind =
-    let one : is.copy ≡ other = same_complete (sym is.is_complete ∙ there) in
-    record {
-      parent = kind ∙ ap Inc (sym same);
-      same_count = sym is.same_count ∙ ap (λ (k : CopyView). length k.pages) one;
-    }
-  where
-    same_complete : {a b : CopyView} → complete a ≡ complete b → a ≡ b
-    same_complete e = cc
 
 pub is_full : (kind : CopyKind) → ((parent : ℕ) → ¬ (kind ≡ Inc parent)) → kind ≡ Full
 is_full Full none = refl
@@ -259,32 +231,29 @@ is_full (Inc parent) none = absurd (none parent refl)
 
 -- ---- copies that are given
 
-pub fit_push : (pages : ℕ) (kind : CopyKind) (xs : List CopyView) (x : CopyView) → FitFrom pages kind xs
-    → Fits pages (kind_after kind xs) x → FitFrom pages kind (xs ++ x ∷ [])
-fit_push pages kind [] x fit here = (here, tt)
-fit_push pages kind (y ∷ ys) x fit here = (fit.0, fit_push pages (Inc y.id) ys x fit.1 here)
+pub fit_push : (counts : PageCounts) (kind : CopyKind) (xs : List CopyView) (x : CopyView) → FitFrom counts kind xs
+    → Fits counts (kind_after kind xs) x → FitFrom counts kind (xs ++ x ∷ [])
+fit_push counts kind [] x fit here = (here, tt)
+fit_push counts kind (y ∷ ys) x fit here = (fit.0, fit_push counts (Inc y.id) ys x fit.1 here)
 
 pub after_push : (kind : CopyKind) (xs : List CopyView) (x : CopyView) → kind_after kind (xs ++ x ∷ []) ≡ Inc x.id
 after_push kind [] x = refl
 after_push kind (y ∷ ys) x = after_push (Inc y.id) ys x
 
-fit_follow : (pages : ℕ) (copy : CopyView) (more : List CopyView) → length copy.pages ≡ pages
-    → FitFrom pages (Inc copy.id) more → Follow copy more
-fit_follow pages copy [] count fit = tt
-fit_follow pages copy (next ∷ more) count fit = (
-  record { parent = fit.0.same_kind; same_count = fit.0.same_count ∙ sym count },
-  fit_follow pages next more fit.0.same_count fit.1,
-)
+fit_follow : (counts : PageCounts) (copy : CopyView) (more : List CopyView) → FitFrom counts (Inc copy.id) more
+    → Follow copy more
+fit_follow counts copy [] fit = tt
+fit_follow counts copy (next ∷ more) fit = (fit.0.same_kind, fit_follow counts next more fit.1)
 
-pub fit_chain : (pages : ℕ) (copies : List CopyView) → FitFrom pages Full copies → 0 < length copies
+pub fit_chain : (counts : PageCounts) (copies : List CopyView) → FitFrom counts Full copies → 0 < length copies
     → AllByRecursion (λ copy. IsComplete copy.kind copy.pages) copies → IsChain copies
-fit_chain pages [] fit some all = absurd (omega arith)
-fit_chain pages (first ∷ more) fit some all = record {
+fit_chain counts [] fit some all = absurd (omega arith)
+fit_chain counts (first ∷ more) fit some all = record {
   first = first;
   more = more;
   is = refl;
   full = fit.0.same_kind;
-  linked = fit_follow pages first more fit.0.same_count fit.1;
+  linked = fit_follow counts first more fit.1;
   complete = all;
 }
 
@@ -293,40 +262,40 @@ not_empty [] e = cc
 not_empty (x ∷ xs) e = omega arith
 
 -- the copies up to here, and the next one
-pub record FitUpTo (pages : ℕ) (copies : List CopyView) (k : ℕ) (kind : CopyKind) : Type 0 where
-  pub fit : FitFrom pages Full (take k copies)
+pub record FitUpTo (counts : PageCounts) (copies : List CopyView) (k : ℕ) (kind : CopyKind) : Type 0 where
+  pub fit : FitFrom counts Full (take k copies)
   pub next : kind ≡ kind_after Full (take k copies)
   pub all : AllByRecursion (λ copy. IsComplete copy.kind copy.pages) (take k copies)
 
-pub fit_more : (pages : ℕ) (copies : List CopyView) (k : ℕ) (kind : CopyKind) (copy : CopyView)
-    → FitUpTo pages copies k kind → k < length copies → copy ≡ get_or copies k copy → Fits pages kind copy
-    → IsComplete copy.kind copy.pages → FitUpTo pages copies (k + 1) (Inc copy.id)
-fit_more pages copies k kind copy up lt is here whole =
+pub fit_more : (counts : PageCounts) (copies : List CopyView) (k : ℕ) (kind : CopyKind) (copy : CopyView)
+    → FitUpTo counts copies k kind → k < length copies → copy ≡ get_or copies k copy → Fits counts kind copy
+    → IsComplete copy.kind copy.pages → FitUpTo counts copies (k + 1) (Inc copy.id)
+fit_more counts copies k kind copy up lt is here whole =
     let more : take (k + 1) copies ≡ take k copies ++ copy ∷ [] =
     take_more copies k copy lt ∙ ap (λ (c : CopyView). take k copies ++ c ∷ []) (sym is) in
     let all : CopyView → Type 0 = λ copy. IsComplete copy.kind copy.pages in
     record {
-      fit = subst (FitFrom pages Full) (sym more) (fit_push pages Full (take k copies) copy up.fit
-          (record { same_kind = here.same_kind ∙ up.next; same_count = here.same_count }));
+      fit = subst (FitFrom counts Full) (sym more) (fit_push counts Full (take k copies) copy up.fit
+          (record { same_kind = here.same_kind ∙ up.next; whole = here.whole }));
       next = sym (ap (kind_after Full) more ∙ after_push Full (take k copies) copy);
       all = subst (AllByRecursion all) (sym more) (all_push all (take k copies) copy up.all whole);
     }
 
-pub fit_all : (pages : ℕ) (copies : List CopyView) (k : ℕ) (kind : CopyKind) → FitUpTo pages copies k kind
-    → length copies ≤ k → FitUpTo pages copies (length copies) kind
-fit_all pages copies k kind up past =
+pub fit_all : (counts : PageCounts) (copies : List CopyView) (k : ℕ) (kind : CopyKind) → FitUpTo counts copies k kind
+    → length copies ≤ k → FitUpTo counts copies (length copies) kind
+fit_all counts copies k kind up past =
     let same : take k copies ≡ take (length copies) copies = take_all k copies past
     ∙ sym (take_all (length copies) copies (omega arith)) in
     record {
-      fit = subst (FitFrom pages Full) same up.fit;
+      fit = subst (FitFrom counts Full) same up.fit;
       next = up.next ∙ ap (kind_after Full) same;
       all = subst (AllByRecursion (λ copy. IsComplete copy.kind copy.pages)) same up.all;
     }
 
-pub broken_at : (pages : ℕ) (copies : List CopyView) (k : ℕ) (kind : CopyKind) (copy : CopyView) (id : ℕ)
-    → FitUpTo pages copies k kind → k < length copies → copy ≡ get_or copies k copy → id ≡ copy.id
-    → (¬ Fits pages kind copy) → IsBrokenAt pages copies id
-broken_at pages copies k kind copy id up lt is same misfit = record {
+pub broken_at : (counts : PageCounts) (copies : List CopyView) (k : ℕ) (kind : CopyKind) (copy : CopyView) (id : ℕ)
+    → FitUpTo counts copies k kind → k < length copies → copy ≡ get_or copies k copy → id ≡ copy.id
+    → (¬ Fits counts kind copy) → IsBrokenAt counts copies id
+broken_at counts copies k kind copy id up lt is same misfit = record {
   before = take k copies;
   copy = copy;
   after = drop (k + 1) copies;
@@ -334,6 +303,6 @@ broken_at pages copies k kind copy id up lt is same misfit = record {
       ∙ ap (λ (cs : List CopyView). take k copies ++ cs)
       (drop_more copies k copy lt ∙ ap (λ (c : CopyView). c ∷ drop (k + 1) copies) (sym is));
   fit = up.fit;
-  misfit = λ here. misfit (record { same_kind = here.same_kind ∙ sym up.next; same_count = here.same_count });
+  misfit = λ here. misfit (record { same_kind = here.same_kind ∙ sym up.next; whole = here.whole });
   id_is = same;
 }

@@ -6,6 +6,7 @@ pub mod ChainOpens
 pub mod ChainRows
 pub mod ChainSteps
 pub mod Chains
+pub mod Counts
 pub mod Decisions
 pub mod Fronts
 pub mod Headers

@@ -56,33 +56,32 @@ stays_in_push copies s (suc j) copy is =
 pub goes_on_push : (copies : List CopyState) (s : CopyState) → GoesOn copies (copies ++ s ∷ [])
 goes_on_push copies s = record { stays = stays_in_push copies s }
 
-parent_stays : (old new : List CopyState) (id pages : ℕ) (kind : CopyKind) → GoesOn old new
-    → HasParent old id pages kind → HasParent new id pages kind
-parent_stays old new id pages Full on h = tt
-parent_stays old new id pages (Inc parent) on h = record {
+parent_stays : (old new : List CopyState) (id : ℕ) (kind : CopyKind) → GoesOn old new → HasParent old id kind
+    → HasParent new id kind
+parent_stays old new id Full on h = tt
+parent_stays old new id (Inc parent) on h = record {
   before = h.before;
   copy = h.copy;
   is_complete = on.stays parent h.copy h.is_complete;
-  same_count = h.same_count;
 }
 
-since_stays : (old new : List CopyState) (id pages : ℕ) (kind : CopyKind) → GoesOn old new
-    → HasParent old id pages kind → since_of old kind ≡ since_of new kind
-since_stays old new id pages Full on h = refl
-since_stays old new id pages (Inc parent) on h =
+since_stays : (old new : List CopyState) (id : ℕ) (kind : CopyKind) → GoesOn old new → HasParent old id kind
+    → since_of old kind ≡ since_of new kind
+since_stays old new id Full on h = refl
+since_stays old new id (Inc parent) on h =
     ap redo_of (h.is_complete ∙ sym (on.stays parent h.copy h.is_complete))
 
 of_id_stays : (old new : List CopyState) (id : ℕ) (copy : CopyView) → GoesOn old new → IsOfId old id copy
     → IsOfId new id copy
 of_id_stays old new id copy on h = record {
   id_is = h.id_is;
-  parent = parent_stays old new id (length copy.pages) copy.kind on h.parent;
+  parent = parent_stays old new id copy.kind on h.parent;
 }
 
 pub kept_stays : (old new : List CopyState) (id : ℕ) (e : Entry) → GoesOn old new → IsKept old id e → IsKept new id e
 kept_stays old new id (entry.Reading it) on h = (
   of_id_stays old new id it.copy on h.0,
-  h.1 ∙ since_stays old new id (length it.copy.pages) it.copy.kind on h.0.parent,
+  h.1 ∙ since_stays old new id it.copy.kind on h.0.parent,
 )
 kept_stays old new id (entry.Complete copy) on h = of_id_stays old new id copy on h
 kept_stays old new id entry.Dropped on h = tt
@@ -196,17 +195,15 @@ not_complete s it copy is e = let same : reading it ≡ complete copy = sym is �
 
 pub vault_read : (entries : List Entry) (k : ℕ) (it new : ReadingView) → IsVault entries → k < length entries
     → get_or entries k entry.Dropped ≡ entry.Reading it → new.copy.id ≡ it.copy.id → new.copy.kind ≡ it.copy.kind
-    → length new.copy.pages ≡ length it.copy.pages → new.since ≡ it.since
-    → IsVault (slice_set entries k (entry.Reading new))
-vault_read entries k it new vault lt is id_is kind_is count since_is =
+    → new.since ≡ it.since → IsVault (slice_set entries k (entry.Reading new))
+vault_read entries k it new vault lt is id_is kind_is since_is =
     let copies = map state_in entries in
     let here : IsKept copies (k + 1) (entry.Reading it) = subst (IsKept copies (k + 1)) is (vault.each k) in
     vault_set entries k (entry.Reading new) vault lt
     (λ copy. not_complete (slice_index_or copies k dropped) it.copy copy (state_at entries k ∙ ap state_in is)) (
       record {
         id_is = id_is ∙ here.0.id_is;
-        parent = subst (HasParent copies (k + 1) (length new.copy.pages)) (sym kind_is)
-            (subst (λ (n : ℕ). HasParent copies (k + 1) n it.copy.kind) (sym count) here.0.parent);
+        parent = subst (HasParent copies (k + 1)) (sym kind_is) here.0.parent;
       },
       since_is ∙ here.1 ∙ ap (since_of copies) (sym kind_is),
     )
@@ -292,7 +289,7 @@ drop_keeps entries k old new (Err fault) vault lt is fine gone same =
 -- ---- a new copy
 
 pub kept_new : (entries : List Entry) (id : ℕ) (it : ReadingView) → it.copy.id ≡ id
-    → HasParent (map state_in entries) id (length it.copy.pages) it.copy.kind
+    → HasParent (map state_in entries) id it.copy.kind
     → it.since ≡ since_of (map state_in entries) it.copy.kind
     → IsKept (map state_in entries) id (entry.Reading it)
 kept_new entries id it id_is parent since_is = (record { id_is = id_is; parent = parent }, since_is)

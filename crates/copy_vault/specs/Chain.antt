@@ -3,6 +3,7 @@ use Rattle.std.specs.Prelude.{ℕ, ◌≡◌, ◌<◌, ◌⊎◌, List, [], ◌�
 use Rattle.std.specs.List.{AllByRecursion, flat_map, range_with_len}
 use Rattle.page_core.specs.declared.page.Page.{Page}
 use Rattle.page_core.specs.Page.{formatted}
+use Rattle.page_core.specs.PageCounts.{PageCounts, count_below}
 use Rattle.copy_vault.specs.declared.chain_fault.ChainFault.{ChainFault}
 use Rattle.copy_vault.specs.declared.chain_fault.ChainFault.TheVariants.{ChainBroken, OutOfMemory}
 use Rattle.copy_vault.specs.declared.copy_id.CopyKind.{CopyKind}
@@ -11,17 +12,12 @@ use Rattle.copy_vault.specs.Copy.{CopyView, IsComplete, decision_at, page_of}
 use Rattle.copy_vault.specs.Vault.{CopyState, complete, state_of}
 pub use Rattle.copy_vault.specs.Lent.{lent}
 
--- the next copy is of the same volume, and this one is its parent
-pub record IsNext (copy next : CopyView) : Type 0 where
-  pub parent : next.kind ≡ Inc copy.id
-  pub same_count : length next.pages ≡ length copy.pages
-
--- each copy is the next one of that before it
+-- each copy is the parent of the one behind it
 abbrev pub Follow : CopyView → List CopyView → Type 0
 Follow copy [] = Unit {0}
-Follow copy (next ∷ more) = IsNext copy next × Follow next more
+Follow copy (next ∷ more) = (next.kind ≡ Inc copy.id) × Follow next more
 
--- the first copy is full, each other one is the next one of that before it, and all are complete
+-- the first copy is full, each other one has the one before it as its parent, and all are complete
 pub record IsChain (members : List CopyView) : Type 0 where
   pub first : CopyView
   pub more : List CopyView
@@ -40,16 +36,16 @@ pub record IsChainOf (copies : List CopyState) (id : ℕ) (members : List CopyVi
 
 -- ---- copies that are given
 
--- a copy is of this kind, and of so many pages
-pub record Fits (pages : ℕ) (kind : CopyKind) (copy : CopyView) : Type 0 where
+-- a copy is of this kind, and of each page that the volume had when it began
+pub record Fits (counts : PageCounts) (kind : CopyKind) (copy : CopyView) : Type 0 where
   pub same_kind : copy.kind ≡ kind
-  pub same_count : length copy.pages ≡ pages
+  pub whole : length copy.pages ≡ count_below counts copy.begin
 
--- the copies are a chain for so many pages, as far as they go: the first one is of this kind, and
--- each other one has the one before it as its parent
-abbrev pub FitFrom : ℕ → CopyKind → List CopyView → Type 0
-FitFrom pages kind [] = Unit {0}
-FitFrom pages kind (copy ∷ more) = Fits pages kind copy × FitFrom pages (Inc copy.id) more
+-- the copies are a chain of a volume of these page counts, as far as they go: the first one is of
+-- this kind, and each other one has the one before it as its parent
+abbrev pub FitFrom : PageCounts → CopyKind → List CopyView → Type 0
+FitFrom counts kind [] = Unit {0}
+FitFrom counts kind (copy ∷ more) = Fits counts kind copy × FitFrom counts (Inc copy.id) more
 
 -- the kind of the copy that may come behind these
 abbrev pub kind_after : CopyKind → List CopyView → CopyKind
@@ -57,27 +53,22 @@ kind_after kind [] = kind
 kind_after kind (copy ∷ more) = kind_after (Inc copy.id) more
 
 -- the copy of this id does not fit behind those before it, which fit
-pub record IsBrokenAt (pages : ℕ) (copies : List CopyView) (id : ℕ) : Type 0 where
+pub record IsBrokenAt (counts : PageCounts) (copies : List CopyView) (id : ℕ) : Type 0 where
   pub before : List CopyView
   pub copy : CopyView
   pub after : List CopyView
   pub is : copies ≡ before ++ copy ∷ after
-  pub fit : FitFrom pages Full before
-  pub misfit : ¬ Fits pages (kind_after Full before) copy
+  pub fit : FitFrom counts Full before
+  pub misfit : ¬ Fits counts (kind_after Full before) copy
   pub id_is : id ≡ copy.id
 
 -- why the copies are refused; there is no copy 0
-abbrev pub IsRefused : ℕ → List CopyView → ChainFault → Type 0
-IsRefused pages copies (ChainBroken id) =
-    ((copies ≡ []) × (id ≡ 0)) ⊎ IsBrokenAt pages copies id
-IsRefused pages copies OutOfMemory = FitFrom pages Full copies × (0 < length copies)
+abbrev pub IsRefused : PageCounts → List CopyView → ChainFault → Type 0
+IsRefused counts copies (ChainBroken id) =
+    ((copies ≡ []) × (id ≡ 0)) ⊎ IsBrokenAt counts copies id
+IsRefused counts copies OutOfMemory = FitFrom counts Full copies × (0 < length copies)
 
 -- ---- the pages of a chain
-
--- how many pages the volume of these copies has
-abbrev pub page_count : List CopyView → ℕ
-page_count [] = 0
-page_count (first ∷ more) = length first.pages
 
 -- the redo point of the last one
 abbrev pub last_redo : List CopyView → ℕ
@@ -103,10 +94,19 @@ abbrev pub last_of : Page → List Page → Page
 last_of page [] = page
 last_of page (next ∷ more) = last_of next more
 
--- a page of a chain: as the last copy that took it has it
+-- a page of a chain: as the last copy that took it has it, and formatted where none took it
 abbrev pub content : List CopyView → ℕ → Page
 content members p = last_of (formatted p) (takings members p)
 
--- all of them, in order of their numbers
-abbrev pub contents : List CopyView → List Page
-contents members = map (content members) (range_with_len 0 (page_count members))
+-- so many of them, the first ones, in order of their numbers
+abbrev pub contents : List CopyView → ℕ → List Page
+contents members n = map (content members) (range_with_len 0 n)
+
+-- the last one of some pages, if there is one
+abbrev pub last_one : List Page → List Page
+last_one [] = []
+last_one (page ∷ more) = last_of page more ∷ []
+
+-- a page, as the last copy that took it has it: a list of one page, and of none where none took it
+abbrev pub newest : List CopyView → ℕ → List Page
+newest members p = last_one (takings members p)

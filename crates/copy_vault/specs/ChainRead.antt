@@ -7,6 +7,7 @@ use Rattle.std.specs.Io.KnownBytes.{Consumes, IsAtEnd}
 use Rattle.page_core.specs.declared.page.Page.{Page}
 use Rattle.page_core.specs.declared.page.TheConstants.{PAGE_BYTES}
 use Rattle.page_core.specs.Page.{SpellsPage, page_bytes}
+use Rattle.page_core.specs.PageCounts.{PageCounts, count_below}
 use Rattle.copy_vault.specs.declared.archive_cursor.ArchiveCursor.{ArchiveCursor}
 use Rattle.copy_vault.specs.declared.chain_read_fault.ChainReadFault.{ChainReadFault}
 use Rattle.copy_vault.specs.declared.chain_read_fault.ChainReadFault.TheVariants.{BadArchive}
@@ -163,17 +164,17 @@ pub record HasReadOn (end next : ℕ) (h : ArchiveHeader) (input left : Option (
 
 -- ---- the archives of a chain
 
--- the header is that of a copy of this kind, and of so many pages
-pub record IsHeadFit (pages : ℕ) (kind : CopyKind) (h : ArchiveHeader) : Type 0 where
+-- the header is that of a copy of this kind, and of each page that the volume had when it began
+pub record IsHeadFit (counts : PageCounts) (kind : CopyKind) (h : ArchiveHeader) : Type 0 where
   pub same_kind : h.kind ≡ kind
-  pub same_count : h.pages ≡ pages
+  pub whole : h.pages ≡ count_below counts h.begin
 
--- the headers are those of a chain for so many pages: the first one is of this kind, and each other
--- one has the copy before it as its parent
-abbrev pub HeadsFit : ℕ → CopyKind → List ArchiveHeader → Type 0
-HeadsFit pages kind [] = Unit {0}
-HeadsFit pages kind (h ∷ more) =
-    IsHeadFit pages kind h × HeadsFit pages (Inc h.id) more
+-- the headers are those of a chain of a volume of these page counts: the first one is of this kind,
+-- and each other one has the copy before it as its parent
+abbrev pub HeadsFit : PageCounts → CopyKind → List ArchiveHeader → Type 0
+HeadsFit counts kind [] = Unit {0}
+HeadsFit counts kind (h ∷ more) =
+    IsHeadFit counts kind h × HeadsFit counts (Inc h.id) more
 
 -- the kind of the copy that may come behind these
 abbrev pub kind_behind : CopyKind → List ArchiveHeader → CopyKind

@@ -84,19 +84,19 @@ abbrev pub page_list : Option (Bor Page) → List Page
 page_list None = []
 page_list (Some page) = page.now ∷ []
 
--- the pages, each in the place of the one that has its number
-abbrev pub laid : List Page → List Page → List Page
+-- each page in the place of its number, if there is one
+abbrev pub laid : List Page → List (List Page) → List (List Page)
 laid [] old = old
-laid (page ∷ pages) old = laid pages (slice_set old page.number page)
+laid (page ∷ pages) old = laid pages (slice_set old page.number (page ∷ []))
 
--- a page as it was taken, and where it was not, this one
-abbrev pub taken_over : PageDecision → Page → Page
+-- a page as it was taken, and where it was not, what is there
+abbrev pub taken_over : PageDecision → List Page → List Page
 taken_over undecided old = old
-taken_over (taken page) old = page
+taken_over (taken page) old = page ∷ []
 taken_over kept old = old
 
--- the pages that a copy took stand in the place of the old ones
-pub record AreLaidOver (decisions : List PageDecision) (old new : List Page) : Type 0 where
+-- the pages that a copy took stand in their places, and in the others what was there
+pub record AreLaidOver (decisions : List PageDecision) (old new : List (List Page)) : Type 0 where
   pub same_count : length new ≡ length old
-  pub each : (p : ℕ) (d : Page) → p < length old
+  pub each : (p : ℕ) (d : List Page) → p < length old
       → slice_index_or new p d ≡ taken_over (decision_at decisions p) (slice_index_or old p d)

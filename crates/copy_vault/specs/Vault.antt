@@ -121,12 +121,6 @@ taken_in (reading copy) = taken_count copy.pages
 taken_in (complete copy) = taken_count copy.pages
 taken_in dropped = 0
 
--- how many pages the volume of the copy has
-abbrev pub pages_in : CopyState → ℕ
-pages_in (reading copy) = length copy.pages
-pages_in (complete copy) = length copy.pages
-pages_in dropped = 0
-
 -- the copy, where it is being read
 abbrev pub reading_of : CopyState → Option CopyView
 reading_of (reading copy) = Some copy
@@ -174,22 +168,21 @@ room_in entry.Dropped = false
 abbrev pub vault_view : List Entry → VaultView
 vault_view entries = record { copies = map state_in entries; rooms = map room_in entries }
 
--- the copy of this id is complete, was there before the other one, and is of as many pages
-pub record IsParent (copies : List CopyState) (parent id pages : ℕ) : Type 0 where
+-- the copy of this id is complete, and was there before the other one
+pub record IsParent (copies : List CopyState) (parent id : ℕ) : Type 0 where
   pub before : parent < id
   pub copy : CopyView
   pub is_complete : state_of copies parent ≡ complete copy
-  pub same_count : length copy.pages ≡ pages
 
--- an incremental copy of so many pages has a parent
-abbrev pub HasParent : List CopyState → ℕ → ℕ → CopyKind → Type 0
-HasParent copies id pages Full = Unit {0}
-HasParent copies id pages (Inc parent) = IsParent copies parent id pages
+-- an incremental copy has a parent
+abbrev pub HasParent : List CopyState → ℕ → CopyKind → Type 0
+HasParent copies id Full = Unit {0}
+HasParent copies id (Inc parent) = IsParent copies parent id
 
 -- a copy has this id, and its parent
 pub record IsOfId (copies : List CopyState) (id : ℕ) (copy : CopyView) : Type 0 where
   pub id_is : copy.id ≡ id
-  pub parent : HasParent copies id (length copy.pages) copy.kind
+  pub parent : HasParent copies id copy.kind
 
 -- what is kept of the copy of this id: it knows from where on it takes pages
 abbrev pub IsKept : List CopyState → ℕ → Entry → Type 0

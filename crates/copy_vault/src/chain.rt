@@ -1,23 +1,24 @@
 //! A chain of image copies.
 
-ghost use Rattle.std.specs.Prelude.{◌≡◌, ◌<◌, ◌↔◌, ◌∷◌, [], IfOk, IfErr, IfSome, IsTrue, OnOk};
-ghost use Rattle.std.specs.Prelude.{None};
-ghost use Rattle.std.specs.List.{AllByRecursion};
+ghost use Rattle.std.specs.Prelude.{◌≡◌, ◌↔◌, [], map, IfOk, IfErr, IfSome, IsTrue, OnOk, None};
+ghost use Rattle.std.specs.List.{AllByRecursion, range_with_len};
+ghost use Rattle.page_core.specs.Page.{formatted};
 ghost use Rattle.page_core.specs.Volume.{AreNumbered};
 ghost use Rattle.copy_vault.specs.Copy.{IsComplete};
 ghost use Rattle.copy_vault.specs.Chain.{FitFrom, Fits, IsBrokenAt, IsChain, IsRefused, content};
-ghost use Rattle.copy_vault.specs.Chain.{contents, last_redo, lent, page_count};
+ghost use Rattle.copy_vault.specs.Chain.{contents, last_of, last_redo, lent, newest};
+ghost use Rattle.copy_vault.specs.Slots.{page_list};
 ghost use Rattle.copy_vault.specs.declared.copy_id.CopyKind.TheVariants.{Full};
 
 use crate::chain_fault::ChainFault;
 use crate::complete::CompleteCopy;
 use crate::copy_id::{CopyId, CopyKind};
-use page_core::{Lsn, Page, PageNo};
+use page_core::{Lsn, Page, PageCounts, PageNo};
 use std::alloc::{AllocError, Global};
 use std::marker::Model;
 
 /// A full copy and incremental ones, each the parent of the next, all of them complete. A chain has
-/// each page of the volume, from the newest copy that took it.
+/// each page of its volume, from the newest copy that took it.
 #[derive(Drop)]
 pub struct Chain<'a> {
     /// The full one first.
@@ -45,21 +46,21 @@ impl<'a> Chain<'a> {
         Chain { members }
     }
 
-    /// The chain of copies that are given in order, as those of archives are, where their volume
-    /// has so many pages. Refusals in order: `ChainBroken`, `OutOfMemory`.
+    /// The chain of copies that are given in order, as those of archives are, of a volume of these
+    /// page counts. Refusals in order: `ChainBroken`, `OutOfMemory`.
     pub fn link(
         alloc: Global,
         copies: &'a [CompleteCopy],
-        pages: u32,
+        counts: &PageCounts,
     ) -> Result<Chain<'a>, ChainFault>
         ensures ok { IfOk result (λ chain. chain ≡ copies.now) }
-        ensures fit { OnOk result (FitFrom pages Full copies.now) }
-        ensures err { IfErr result (IsRefused pages copies.now) }
+        ensures fit { OnOk result (FitFrom counts.now Full copies.now) }
+        ensures err { IfErr result (IsRefused counts.now copies.now) }
     {
         if copies.is_empty() {
             return Err(ChainFault::ChainBroken(CopyId(0)));
         }
-        if let Some(id) = first_misfit(copies, pages) {
+        if let Some(id) = first_misfit(copies, counts) {
             return Err(ChainFault::ChainBroken(id));
         }
         let mut members = Vec::with_capacity(alloc, copies.len())?;
@@ -69,77 +70,98 @@ impl<'a> Chain<'a> {
         Ok(Chain::new(members))
     }
 
-    /// How many pages the volume has.
-    pub fn pages(&self) -> u32
-        ensures count { result ≡ page_count self.now }
-        ensures chain { IsChain self.now }
-    {
-        self.members[0].pages()
-    }
-
     /// The LSN from which on the log is redone over the pages: that of the last copy.
     pub fn redo(&self) -> Lsn
-        ensures { result ≡ last_redo self.now }
+        ensures redo { result ≡ last_redo self.now }
+        ensures chain { IsChain self.now }
     {
         self.members[self.members.len() - 1].redo()
     }
 
-    /// A page, from the newest copy that took it.
-    pub fn content(&self, number: PageNo) -> &Page
-        requires { number < page_count self.now }
-        ensures content { result.now ≡ content self.now number }
-        ensures numbered { result.now.number ≡ number }
+    /// A page, from the newest copy that took it, and formatted where none did.
+    pub fn content(&self, number: PageNo) -> Page
+        ensures content { result ≡ content self.now number }
+        ensures numbered { result.number ≡ number }
+    {
+        page_or_formatted(&self.newest(number), number)
+    }
+
+    /// Pages 0 to `count` - 1, in order of their numbers. It looks once at each page that a copy
+    /// has.
+    pub fn contents(&self, alloc: Global, count: u32) -> Result<Vec<Page>, AllocError>
+        ensures contents { IfOk result (λ pages. pages.items ≡ contents self.now count) }
+        ensures numbered { OnOk result (AreNumbered (contents self.now count)) }
+    {
+        let newest = self.newest_each(alloc, count)?;
+        let mut pages = Vec::with_capacity(alloc, count as usize)?;
+        for number in 0..count {
+            pages.push(page_or_formatted(&newest[number as usize], PageNo(number)))?;
+        }
+        Ok(pages)
+    }
+
+    /// A page, from the newest copy that took it, if one did.
+    fn newest(&self, number: PageNo) -> Option<&Page>
+        ensures newest { page_list result ≡ newest self.now number }
+        ensures chain { IsChain self.now }
     {
         let mut later = self.members.len();
         while later > 0 {
             if let Some(page) = self.members[later - 1].page(number) {
-                return page;
+                return Some(page);
             }
             later -= 1;
         }
-        unreachable!()
+        None
     }
 
-    /// All pages, in order of their numbers. It looks once at each page that a copy has.
-    pub fn contents(&self, alloc: Global) -> Result<Vec<&Page>, AllocError>
-        ensures contents { IfOk result (λ pages. lent pages.items ≡ contents self.now) }
-        ensures numbered { OnOk result (AreNumbered (contents self.now)) }
+    /// Each of the pages 0 to `count` - 1, from the newest copy that took it, if one did.
+    fn newest_each(&self, alloc: Global, count: u32) -> Result<Vec<Option<&Page>>, AllocError>
+        ensures newest { IfOk result (λ pages.
+            map page_list pages.items ≡ map (newest self.now) (range_with_len 0 count)) }
+        ensures chain { OnOk result (IsChain self.now) }
     {
-        let mut pages = full_pages(alloc, self.members[0])?;
-        for i in 1..self.members.len() {
+        let mut pages = no_pages(alloc, count)?;
+        for i in 0..self.members.len() {
             self.members[i].lay_over(&mut pages);
         }
         Ok(pages)
     }
 }
 
-/// The pages of a full copy, in order of their numbers.
-fn full_pages(alloc: Global, copy: &CompleteCopy) -> Result<Vec<&Page>, AllocError>
-    requires { copy.now.kind ≡ Full }
-    ensures { IfOk result (λ pages. lent pages.items ≡ contents (copy.now ∷ [])) }
+/// So many places without a page.
+fn no_pages<'a>(alloc: Global, count: u32) -> Result<Vec<Option<&'a Page>>, AllocError>
+    ensures { IfOk result (λ pages. map page_list pages.items
+        ≡ map (newest []) (range_with_len 0 count)) }
 {
-    let count = copy.pages();
     let mut pages = Vec::with_capacity(alloc, count as usize)?;
-    for number in 0..count {
-        let Some(page) = copy.page(PageNo(number)) else {
-            unreachable!()
-        };
-        pages.push(page)?;
+    for _ in 0..count {
+        pages.push(None)?;
     }
     Ok(pages)
 }
 
+/// A copy of the page, and the formatted one of this number where there is none.
+fn page_or_formatted(page: &Option<&Page>, number: PageNo) -> Page
+    ensures { result ≡ last_of (formatted number) (page_list page.now) }
+{
+    match page {
+        Some(page) => page.copy(),
+        None => Page::formatted(number),
+    }
+}
+
 /// The first copy that does not fit behind those before it.
-fn first_misfit(copies: &[CompleteCopy], pages: u32) -> Option<CopyId>
-    ensures found { IfSome result (IsBrokenAt pages copies.now) }
-    ensures none { result ≡ None → FitFrom pages Full copies.now }
+fn first_misfit(copies: &[CompleteCopy], counts: &PageCounts) -> Option<CopyId>
+    ensures found { IfSome result (IsBrokenAt counts.now copies.now) }
+    ensures none { result ≡ None → FitFrom counts.now Full copies.now }
     ensures complete { result ≡ None
         → AllByRecursion (λ copy. IsComplete copy.kind copy.pages) copies.now }
 {
     let mut kind = CopyKind::Full;
     for i in 0..copies.len() {
         let copy = &copies[i];
-        if !fits(copy, pages, kind) {
+        if !fits(copy, counts, kind) {
             return Some(copy.id());
         }
         kind = CopyKind::Inc(copy.id());
@@ -147,10 +169,10 @@ fn first_misfit(copies: &[CompleteCopy], pages: u32) -> Option<CopyId>
     None
 }
 
-/// Whether a copy is of this kind, and of so many pages.
-fn fits(copy: &CompleteCopy, pages: u32, kind: CopyKind) -> bool
-    ensures fits { IsTrue result ↔ Fits pages kind copy.now }
+/// Whether a copy is of this kind, and of each page that the volume had when it began.
+fn fits(copy: &CompleteCopy, counts: &PageCounts, kind: CopyKind) -> bool
+    ensures fits { IsTrue result ↔ Fits counts.now kind copy.now }
     ensures complete { IsComplete copy.now.kind copy.now.pages }
 {
-    copy.kind() == kind && copy.pages() == pages
+    copy.kind() == kind && copy.pages() == counts.below(copy.begin())
 }

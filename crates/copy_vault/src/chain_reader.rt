@@ -1,8 +1,9 @@
 //! Gives the pages of a chain from the readers of its archives.
 
-ghost use Rattle.std.specs.Prelude.{ℕ, ◌≡◌, ◌<◌, ◌≤◌, [], List, length, map, slice_index_or};
+ghost use Rattle.std.specs.Prelude.{ℕ, ◌≡◌, ◌<◌, ◌≤◌, ◌↔◌, [], IsTrue, List, length, map, slice_index_or};
 ghost use Rattle.std.specs.Prelude.{Option, Ok, Err, Some, None, IfOk, IfErr, slice_index, true};
 ghost use Rattle.std.specs.Prelude.{false};
+ghost use Rattle.page_core.specs.PageCounts.{PageCounts, last_count};
 ghost use Rattle.page_core.specs.declared.page.Page.{Page};
 ghost use Rattle.copy_vault.specs.declared.archive_cursor.ArchiveCursor.{ArchiveCursor};
 ghost use Rattle.copy_vault.specs.declared.chain_read_fault.ChainReadFault.{ChainReadFault};
@@ -17,7 +18,8 @@ use crate::archive_cursor::ArchiveCursor;
 use crate::chain_read_fault::ChainReadFault;
 use crate::copy_id::{CopyId, CopyKind};
 use crate::cursors::{give_each, give_page};
-use page_core::{Lsn, Page};
+use crate::header::ArchiveHeader;
+use page_core::{Lsn, Page, PageCounts};
 use std::alloc::Global;
 use std::io::Read;
 
@@ -26,7 +28,7 @@ use std::io::Read;
 /// call, always the same ones in the same order.
 #[derive(Drop)]
 pub struct ChainReader {
-    /// How many pages the volume has.
+    /// How many pages the volume has in the end.
     pages: u32,
     /// The log's end.
     end: Lsn,
@@ -40,8 +42,8 @@ pub struct ChainReader {
 }
 
 impl ChainReader {
-    /// Reads the headers of the archives of a chain, the full one first, for a volume of so many
-    /// pages and a log that ends there. All memory is taken here.
+    /// Reads the headers of the archives of a chain, the full one first, for a volume of these page
+    /// counts and a log that ends there. All memory is taken here.
     ///
     /// Refusals in order: `ChainBroken` with 0 where no archive is given; `OutOfMemory`; archive by
     /// archive `ReadFault`, `BadArchive` with 0, and `ChainBroken` where it does not fit behind
@@ -49,29 +51,29 @@ impl ChainReader {
     pub fn new<R: Read>(
         alloc: Global,
         readers: &mut [R],
-        pages: u32,
+        counts: &PageCounts,
         end: Lsn,
     ) -> Result<ChainReader, ChainReadFault>
-        ensures ok { IfOk result (λ it. IsReading (map (λ r. R.remaining r) readers.old)
+        ensures ok { IfOk result (λ it. IsReading counts.now (map (λ r. R.remaining r) readers.old)
             (map (λ r. R.remaining r) readers.new) it []) }
-        ensures pages { IfOk result (λ it. it.pages ≡ pages) }
+        ensures pages { IfOk result (λ it. it.pages ≡ last_count counts.now) }
         ensures end { IfOk result (λ it. it.end ≡ end) }
-        ensures err { IfErr result (IsNotMade pages end (map (λ r. R.remaining r) readers.old)
-            (map (λ r. R.remaining r) readers.new)) }
-        ensures each { IfOk result (λ it. IsReadingEach (map (λ r. R.remaining r) readers.old)
-            (map (λ r. R.remaining r) readers.new) it []) }
+        ensures err { IfErr result (IsNotMade counts.now end
+            (map (λ r. R.remaining r) readers.old) (map (λ r. R.remaining r) readers.new)) }
+        ensures each { IfOk result (λ it. IsReadingEach counts.now
+            (map (λ r. R.remaining r) readers.old) (map (λ r. R.remaining r) readers.new) it []) }
         ensures count { IfOk result (λ it. length (ids_of it) ≡ length readers.old) }
         ensures points { IfOk result (λ it. length (points_of it) ≡ length readers.old) }
     {
         if readers.is_empty() {
             return Err(ChainReadFault::ChainBroken(CopyId(0)));
         }
-        let cursors = open_all(alloc, readers, pages)?;
+        let cursors = open_all(alloc, readers, counts)?;
         if is_past(&cursors, end) {
             return Err(ChainReadFault::RedoBeyondLog);
         }
         Ok(ChainReader {
-            pages,
+            pages: counts.last(),
             end,
             redo: redo_of_last(&cursors),
             cursors,
@@ -103,8 +105,9 @@ impl ChainReader {
         self.cursors[index].header.redo
     }
 
-    /// Gives the next page of the chain, from the last archive that has it, and `None` once all
-    /// were given, from then on. The first call reads the first page of each archive, in order.
+    /// Gives the next page of the chain, from the last archive that has it and formatted where none
+    /// has, and `None` once all were given, from then on. They are as many as the volume has in the
+    /// end. The first call reads the first page of each archive, in order.
     /// Each archive that had the page then reads its next one, in order. Nothing may follow its
     /// last page, which is looked at as soon as that was read, or in the first call where it has
     /// none.
@@ -114,18 +117,19 @@ impl ChainReader {
     /// refusal is answered from then on. This takes no memory.
     pub fn next<R: Read>(&mut self, readers: &mut [R]) -> Result<Option<Page>, ChainReadFault>
         // The pages are those of the chain that the archives spell.
-        ensures ok { IfOk result (λ page. (inputs : List (Option (List ℕ))) (given : List Page)
-            → IsReading inputs (map (λ r. R.remaining r) readers.old) self.old given
-            → GoesOn inputs (map (λ r. R.remaining r) readers.new) self.new given page) }
+        ensures ok { IfOk result (λ page.
+            (counts : PageCounts) (inputs : List (Option (List ℕ))) (given : List Page)
+            → IsReading counts inputs (map (λ r. R.remaining r) readers.old) self.old given
+            → GoesOn counts inputs (map (λ r. R.remaining r) readers.new) self.new given page) }
         // Behind the last page there is none, from then on, and nothing is read.
         ensures ended { IfOk result (λ page. page ≡ None → HasEnded self.new) }
         ensures over { HasEnded self.old → result ≡ Ok None }
         ensures idle { HasEnded self.old → readers.new ≡ readers.old }
         // The fault is the first one that is met.
-        ensures err { IfErr result (λ fault. (inputs : List (Option (List ℕ))) (given : List Page)
-            → IsReading inputs (map (λ r. R.remaining r) readers.old) self.old given
-            → IsStopped self.old.pages self.old.end inputs (map (λ r. R.remaining r) readers.new)
-            fault) }
+        ensures err { IfErr result (λ fault.
+            (counts : PageCounts) (inputs : List (Option (List ℕ))) (given : List Page)
+            → IsReading counts inputs (map (λ r. R.remaining r) readers.old) self.old given
+            → IsStopped counts self.old.end inputs (map (λ r. R.remaining r) readers.new) fault) }
         ensures failed { IfErr result (λ fault. self.new.failed ≡ Some fault) }
         // It is answered again, and nothing is read.
         ensures again { (fault : ChainReadFault) → self.old.failed ≡ Some fault
@@ -166,21 +170,20 @@ impl ChainReader {
     ) -> Result<bool, ChainReadFault>
         requires { length row.old ≡ length readers.old }
         // The rows are those of the chain that the archives spell.
-        ensures ok { IfOk result (λ more.
+        ensures ok { IfOk result (λ more. (counts : PageCounts)
             (inputs : List (Option (List ℕ))) (given : List (List (List Page)))
-            → IsReadingEach inputs (map (λ r. R.remaining r) readers.old) self.old given
-            → GoesOnEach inputs (map (λ r. R.remaining r) readers.new) self.new given more
+            → IsReadingEach counts inputs (map (λ r. R.remaining r) readers.old) self.old given
+            → GoesOnEach counts inputs (map (λ r. R.remaining r) readers.new) self.new given more
             (map place_list row.new)) }
         // Behind the last row there is none, from then on, and nothing is read.
         ensures ended { IfOk result (λ more. more ≡ false → HasEnded self.new) }
         ensures over { HasEnded self.old → result ≡ Ok false }
         ensures idle { HasEnded self.old → readers.new ≡ readers.old }
         // The fault is the first one that is met.
-        ensures err { IfErr result (λ fault.
+        ensures err { IfErr result (λ fault. (counts : PageCounts)
             (inputs : List (Option (List ℕ))) (given : List (List (List Page)))
-            → IsReadingEach inputs (map (λ r. R.remaining r) readers.old) self.old given
-            → IsStopped self.old.pages self.old.end inputs (map (λ r. R.remaining r) readers.new)
-            fault) }
+            → IsReadingEach counts inputs (map (λ r. R.remaining r) readers.old) self.old given
+            → IsStopped counts self.old.end inputs (map (λ r. R.remaining r) readers.new) fault) }
         ensures failed { IfErr result (λ fault. self.new.failed ≡ Some fault) }
         // It is answered again, and nothing is read.
         ensures again { (fault : ChainReadFault) → self.old.failed ≡ Some fault
@@ -210,40 +213,49 @@ impl ChainReader {
     }
 }
 
-/// Reads the header of an archive, which has to be of a copy of this kind and of so many pages.
+/// Reads the header of an archive, which has to be of a copy of this kind, and of each page that the
+/// volume had when it began.
 fn open_fitting<R: Read>(
     reader: &mut R,
-    pages: u32,
+    counts: &PageCounts,
     kind: CopyKind,
 ) -> Result<ArchiveCursor, ChainReadFault>
     ensures new { IfOk result (IsNew (R.remaining reader.old) (R.remaining reader.new)) }
-    ensures fit { IfOk result (λ it. IsHeadFit pages kind it.header) }
-    ensures err { IfErr result (IsHeadRefused pages kind (R.remaining reader.old)
+    ensures fit { IfOk result (λ it. IsHeadFit counts.now kind it.header) }
+    ensures err { IfErr result (IsHeadRefused counts.now kind (R.remaining reader.old)
         (R.remaining reader.new)) }
 {
     let cursor = ArchiveCursor::open(reader)?;
-    if cursor.header.kind != kind || cursor.header.pages != pages {
+    if !is_fit(&cursor.header, counts, kind) {
         return Err(ChainReadFault::ChainBroken(cursor.header.id));
     }
     Ok(cursor)
+}
+
+/// Whether a header is that of a copy of this kind, and of each page that the volume had when it
+/// began.
+fn is_fit(header: &ArchiveHeader, counts: &PageCounts, kind: CopyKind) -> bool
+    ensures { IsTrue result ↔ IsHeadFit counts.now kind header.now }
+{
+    header.kind == kind && header.pages == counts.below(header.begin)
 }
 
 /// Reads the headers of a chain's archives, in order.
 fn open_all<R: Read>(
     alloc: Global,
     readers: &mut [R],
-    pages: u32,
+    counts: &PageCounts,
 ) -> Result<Vec<ArchiveCursor>, ChainReadFault>
-    ensures opened { IfOk result (λ its. AreOpened pages (map (λ r. R.remaining r) readers.old)
-        (map (λ r. R.remaining r) readers.new) its.items) }
+    ensures opened { IfOk result (λ its. AreOpened counts.now
+        (map (λ r. R.remaining r) readers.old) (map (λ r. R.remaining r) readers.new) its.items) }
     ensures all { IfOk result (λ its. length its.items ≡ length readers.old) }
-    ensures err { IfErr result (IsNotOpened pages (map (λ r. R.remaining r) readers.old)
+    ensures err { IfErr result (IsNotOpened counts.now (map (λ r. R.remaining r) readers.old)
         (map (λ r. R.remaining r) readers.new)) }
 {
     let mut cursors = Vec::with_capacity(alloc, readers.len())?;
     let mut kind = CopyKind::Full;
     for i in 0..readers.len() {
-        let cursor = open_fitting(&mut readers[i], pages, kind)?;
+        let cursor = open_fitting(&mut readers[i], counts, kind)?;
         kind = cursor.kind_behind();
         cursors.push(cursor)?;
     }

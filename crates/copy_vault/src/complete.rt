@@ -1,9 +1,8 @@
 //! A complete image copy.
 
-ghost use Rattle.std.specs.Prelude.{◌≡◌, ◌<◌, length, IfSome};
+ghost use Rattle.std.specs.Prelude.{◌≡◌, length, map, IfSome};
 ghost use Rattle.copy_vault.specs.Archive.{header_of};
 ghost use Rattle.copy_vault.specs.Copy.{IsComplete, decision_at, page_of, taken_count};
-ghost use Rattle.copy_vault.specs.Lent.{lent};
 ghost use Rattle.copy_vault.specs.Slots.{AreLaidOver, page_list};
 
 use crate::copy_id::{CopyId, CopyKind};
@@ -94,7 +93,7 @@ impl CompleteCopy {
         self.redo
     }
 
-    /// How many pages the volume has. Of each of them it is decided whether the copy has it.
+    /// How many pages the volume had when the copy began. Of each of them it is decided whether the copy has it.
     pub fn pages(&self) -> u32
         ensures count { result ≡ length self.now.pages }
         ensures complete { IsComplete self.now.kind self.now.pages }
@@ -111,7 +110,6 @@ impl CompleteCopy {
 
     /// The page of this number, if the copy has it.
     pub fn page(&self, number: PageNo) -> Option<&Page>
-        requires { number < length self.now.pages }
         ensures found { page_list result ≡ page_of (decision_at self.now.pages number) }
         ensures numbered { IfSome result (λ page. page.now.number ≡ number) }
     {
@@ -139,20 +137,10 @@ impl CompleteCopy {
         &self.slots
     }
 
-    /// Puts each page that the copy has in the place of the one that has its number.
-    pub(crate) fn lay_over<'a>(&'a self, pages: &mut [&'a Page])
-        requires { length self.now.pages ≡ length pages.old }
-        ensures { AreLaidOver self.now.pages (lent pages.old) (lent pages.new) }
+    /// Puts each page that the copy has in the place of its number, if there is one.
+    pub(crate) fn lay_over<'a>(&'a self, pages: &mut [Option<&'a Page>])
+        ensures { AreLaidOver self.now.pages (map page_list pages.old) (map page_list pages.new) }
     {
         self.slots.lay_over(pages);
-    }
-
-    /// Puts a copy of each page that the copy has in the place of the one that has its number, and
-    /// leaves each other one. It looks at the pages that the copy has, and at no others.
-    pub fn put_over(&self, pages: &mut [Page])
-        requires { length self.now.pages ≡ length pages.old }
-        ensures { AreLaidOver self.now.pages pages.old pages.new }
-    {
-        self.slots.put_over(pages);
     }
 }

@@ -1,7 +1,6 @@
 //! What a complete copy decided for each page: taken or kept.
 
-ghost use Rattle.std.specs.Prelude.{◌≡◌, ◌<◌, length};
-ghost use Rattle.copy_vault.specs.Lent.{lent};
+ghost use Rattle.std.specs.Prelude.{◌≡◌, length, map};
 ghost use Rattle.copy_vault.specs.Copy.{decision_at, page_of, taken_count};
 ghost use Rattle.copy_vault.specs.Slots.{AreLaidOver, page_list};
 
@@ -56,9 +55,11 @@ impl CopyPages {
 
     /// The page, if it was taken.
     pub fn page(&self, number: PageNo) -> Option<&Page>
-        requires { number < length self.now }
         ensures { page_list result ≡ page_of (decision_at self.now number) }
     {
+        if number.0 >= self.count() {
+            return None;
+        }
         match &self.held {
             Held::Marked(slots) => slots.page(number),
             Held::Rising(pages) => pages.page(number),
@@ -85,25 +86,13 @@ impl CopyPages {
         }
     }
 
-    /// Puts each page that was taken in the place of the one that has its number.
-    pub fn lay_over<'a>(&'a self, pages: &mut [&'a Page])
-        requires { length self.now ≡ length pages.old }
-        ensures { AreLaidOver self.now (lent pages.old) (lent pages.new) }
+    /// Puts each page that was taken in the place of its number, if there is one.
+    pub fn lay_over<'a>(&'a self, pages: &mut [Option<&'a Page>])
+        ensures { AreLaidOver self.now (map page_list pages.old) (map page_list pages.new) }
     {
         match &self.held {
             Held::Marked(slots) => slots.lay_over(pages),
             Held::Rising(rising) => rising.lay_over(pages),
-        }
-    }
-
-    /// Puts a copy of each page that was taken in the place of the one that has its number.
-    pub fn put_over(&self, pages: &mut [Page])
-        requires { length self.now ≡ length pages.old }
-        ensures { AreLaidOver self.now pages.old pages.new }
-    {
-        match &self.held {
-            Held::Marked(slots) => slots.put_over(pages),
-            Held::Rising(rising) => rising.put_over(pages),
         }
     }
 }

@@ -1,33 +1,21 @@
 //! The pages that a copy took, each in its own place.
 
-ghost use Rattle.std.specs.Prelude.{ℕ, ◌≡◌, ◌<◌, ◌≤◌, length, slice_index_or};
+ghost use Rattle.std.specs.Prelude.{ℕ, ◌≡◌, ◌<◌, ◌≤◌, length, map, slice_index_or};
 ghost use Rattle.page_core.specs.declared.page.Page.{Page};
-ghost use Rattle.copy_vault.specs.Lent.{lent};
-ghost use Rattle.copy_vault.specs.Slots.{NumbersRise, laid, values};
+ghost use Rattle.copy_vault.specs.Slots.{NumbersRise, laid, page_list, values};
 
 use page_core::{Page, PageNo};
 
-/// Puts each page in the place of the one that has its number.
-pub fn lay_over<'a>(places: &'a [Box<Page>], pages: &mut [&'a Page])
-    requires { (k : ℕ) (d : Page) → k < length (values places.now)
-        → (slice_index_or (values places.now) k d).number < length pages.old }
-    ensures { lent pages.new ≡ laid (values places.now) (lent pages.old) }
+/// Puts each page in the place of its number, if there is one.
+pub fn lay_over<'a>(places: &'a [Box<Page>], pages: &mut [Option<&'a Page>])
+    ensures { map page_list pages.new ≡ laid (values places.now) (map page_list pages.old) }
 {
     for i in 0..places.len() {
         let place = &places[i];
-        pages[place.number.0 as usize] = place;
-    }
-}
-
-/// Puts a copy of each page in the place of the one that has its number.
-pub fn put_over(places: &[Box<Page>], pages: &mut [Page])
-    requires { (k : ℕ) (d : Page) → k < length (values places.now)
-        → (slice_index_or (values places.now) k d).number < length pages.old }
-    ensures { pages.new ≡ laid (values places.now) pages.old }
-{
-    for i in 0..places.len() {
-        let place = &places[i];
-        pages[place.number.0 as usize] = place.copy();
+        let number = place.number.0 as usize;
+        if number < pages.len() {
+            pages[number] = Some(place);
+        }
     }
 }
 

@@ -1,12 +1,11 @@
 //! What a copy decided for each page, when it is read back from its archive.
 
 ghost use Rattle.std.specs.Prelude.{◌≡◌, ◌+◌, ◌-◌, ◌^◌, ◌<◌, ◌≤◌, ◌++◌, ◌∷◌, [], length};
-ghost use Rattle.std.specs.Prelude.{replicate, OnOk};
-ghost use Rattle.copy_vault.specs.Lent.{lent};
+ghost use Rattle.std.specs.Prelude.{map, replicate, OnOk};
 ghost use Rattle.copy_vault.specs.Copy.{taken, kept, decision_at, page_of, taken_count};
 ghost use Rattle.copy_vault.specs.Slots.{AreLaidOver, page_list};
 
-use crate::places::{first_from, lay_over, put_over};
+use crate::places::{first_from, lay_over};
 use page_core::{Page, PageNo};
 use std::alloc::{AllocError, Global};
 use std::marker::Model;
@@ -88,19 +87,10 @@ impl RisingPages {
         self.places.len() as u32
     }
 
-    /// Puts each page that was taken in the place of the one that has its number.
-    pub fn lay_over<'a>(&'a self, pages: &mut [&'a Page])
-        requires { length self.now ≡ length pages.old }
-        ensures { AreLaidOver self.now (lent pages.old) (lent pages.new) }
+    /// Puts each page that was taken in the place of its number, if there is one.
+    pub fn lay_over<'a>(&'a self, pages: &mut [Option<&'a Page>])
+        ensures { AreLaidOver self.now (map page_list pages.old) (map page_list pages.new) }
     {
         lay_over(&self.places, pages);
-    }
-
-    /// Puts a copy of each page that was taken in the place of the one that has its number.
-    pub fn put_over(&self, pages: &mut [Page])
-        requires { length self.now ≡ length pages.old }
-        ensures { AreLaidOver self.now pages.old pages.new }
-    {
-        put_over(&self.places, pages);
     }
 }

@@ -1,12 +1,11 @@
 //! What an open copy has decided for each page so far.
 
-ghost use Rattle.std.specs.Prelude.{◌≡◌, ◌<◌, ◌↔◌, length, replicate, slice_set, IfOk, IsTrue};
-ghost use Rattle.copy_vault.specs.Lent.{lent};
+ghost use Rattle.std.specs.Prelude.{◌≡◌, ◌<◌, ◌↔◌, length, map, replicate, slice_set, IfOk, IsTrue};
 ghost use Rattle.copy_vault.specs.Copy.{PageDecision, undecided, taken, kept, decision_at};
 ghost use Rattle.copy_vault.specs.Copy.{page_of, taken_count, undecided_count};
 ghost use Rattle.copy_vault.specs.Slots.{AreLaidOver, page_list};
 
-use crate::places::{lay_over, put_over};
+use crate::places::lay_over;
 use page_core::{Page, PageNo};
 use std::alloc::{AllocError, Global};
 use std::marker::Model;
@@ -123,19 +122,10 @@ impl Slots {
         self.left -= 1;
     }
 
-    /// Puts each page that was taken in the place of the one that has its number.
-    pub fn lay_over<'a>(&'a self, pages: &mut [&'a Page])
-        requires { length self.now ≡ length pages.old }
-        ensures { AreLaidOver self.now (lent pages.old) (lent pages.new) }
+    /// Puts each page that was taken in the place of its number, if there is one.
+    pub fn lay_over<'a>(&'a self, pages: &mut [Option<&'a Page>])
+        ensures { AreLaidOver self.now (map page_list pages.old) (map page_list pages.new) }
     {
         lay_over(&self.places, pages);
-    }
-
-    /// Puts a copy of each page that was taken in the place of the one that has its number.
-    pub fn put_over(&self, pages: &mut [Page])
-        requires { length self.now ≡ length pages.old }
-        ensures { AreLaidOver self.now pages.old pages.new }
-    {
-        put_over(&self.places, pages);
     }
 }

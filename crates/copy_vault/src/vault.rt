@@ -6,7 +6,7 @@ ghost use Rattle.std.specs.Option.{option_map, option_map_or};
 ghost use Rattle.copy_vault.specs.Chain.{IsChain, IsChainOf};
 ghost use Rattle.copy_vault.specs.Reading.{ReadingView};
 ghost use Rattle.copy_vault.specs.Vault.{CopyState, HasRoom, OpenRefuses, answer_in, complete};
-ghost use Rattle.copy_vault.specs.Vault.{complete_of, complete_refusal, inc_refusal, pages_in};
+ghost use Rattle.copy_vault.specs.Vault.{complete_of, complete_refusal, inc_refusal};
 ghost use Rattle.copy_vault.specs.Vault.{decided, drop_refusal, dropped, open_refusal, opened};
 ghost use Rattle.copy_vault.specs.Vault.{pages_read, reading, reading_of, seal_refusal, sealed};
 ghost use Rattle.copy_vault.specs.Vault.{HasParent, IsKept, IsOfId, since_of, state_in, state_of};
@@ -128,27 +128,27 @@ impl Vault {
         self.open(alloc, CopyKind::Full, Lsn(0), pages, begin, redo)
     }
 
-    /// Begins an incremental copy of the volume that the copy of this id is of, its parent, and
-    /// answers its id: one more than the last one. It notes a checkpoint by its begin LSN and redo
-    /// point. Refusals in order: `NoCopy` and `CopyNotComplete` of the parent,
-    /// `TooManyCopies`, `OutOfMemory`.
+    /// Begins an incremental copy of so many pages, whose parent is the copy of this id, and answers
+    /// its id: one more than the last one. It notes a checkpoint by its begin LSN and redo point.
+    /// Refusals in order: `NoCopy` and `CopyNotComplete` of the parent, `TooManyCopies`,
+    /// `OutOfMemory`.
     pub fn open_inc(
         &mut self,
         alloc: Global,
         parent: CopyId,
+        pages: u32,
         begin: Lsn,
         redo: Lsn,
     ) -> Result<CopyId, CopyFault>
         ensures id { IfOk result (λ id. id ≡ length self.old.copies + 1) }
-        ensures opened { OnOk result (self.new.copies ≡ opened self.old.copies (Inc parent)
-            (pages_in (state_of self.old.copies parent)) begin redo) }
+        ensures opened { OnOk result
+            (self.new.copies ≡ opened self.old.copies (Inc parent) pages begin redo) }
         ensures ok { OnOk result (inc_refusal self.old.copies parent ≡ None) }
         ensures err { IfErr result (OpenRefuses (inc_refusal self.old.copies parent)) }
         ensures same { OnErr result (self.new ≡ self.old) }
     {
         let copy = self.complete_copy(parent)?;
         let since = copy.redo();
-        let pages = copy.pages();
         self.open(alloc, CopyKind::Inc(parent), since, pages, begin, redo)
     }
 
@@ -162,7 +162,7 @@ impl Vault {
         begin: Lsn,
         redo: Lsn,
     ) -> Result<CopyId, CopyFault>
-        requires parent { HasParent self.old.copies (length self.old.copies + 1) pages kind }
+        requires parent { HasParent self.old.copies (length self.old.copies + 1) kind }
         requires since { since ≡ since_of self.old.copies kind }
         ensures id { IfOk result (λ id. id ≡ length self.old.copies + 1) }
         ensures opened { OnOk result

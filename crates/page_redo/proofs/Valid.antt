@@ -10,10 +10,11 @@ use Rattle.page_core.specs.Page.{formatted, put, IsPage}
 use Rattle.log_records.specs.declared.page_change.PageChange.{PageChange}
 use Rattle.log_records.specs.declared.record.Record.{Record}
 use Rattle.log_records.specs.Record.{IsChange, IsLsn, IsPageChange, IsRecord, own_lsn}
-use Rattle.log_records.specs.Log.{Log, IsLog}
+use Rattle.log_records.specs.Log.{Log, IsLog, page_count}
 use Rattle.log_records.specs.Image.{with_record, image_from, image, redo_all}
 use Rattle.log_records.proofs.Changes.{changed_fits, valid_change}
 use Rattle.log_records.proofs.Images.{with_record-has}
+use Rattle.log_records.proofs.PageCounts.{page_count-is_count}
 
 all_replicate : {X : Type 0} (P : X → Type 0) (n : ℕ) (x : X) → P x → AllByRecursion P (replicate n x)
 all_replicate P zero x here = tt
@@ -58,13 +59,13 @@ valid-image_from page (r ∷ rs) page_valid each =
     valid-image_from (with_record page r) rs (valid-with_record page r page_valid (each 0 r (omega arith)))
     (λ i d lt. each (suc i) d (omega arith))
 
-pub valid-image : (log : Log) (p : ℕ) → IsLog log → p < log.pages → IsPage (image log.records p)
+pub valid-image : (log : Log) (p : ℕ) → IsLog log → p < page_count log → IsPage (image log.records p)
 valid-image log p valid lt =
-    valid-image_from (formatted p) log.records (valid_formatted p (let few = valid.pages.most in omega arith))
+    valid-image_from (formatted p) log.records (valid_formatted p (let few = (page_count-is_count log valid).most in omega arith))
     (λ i d lt. (valid.records i d lt).valid)
 
-pub valid-redo_all : (log : Log) → IsLog log → AllByRecursion IsPage (redo_all log.records log.pages)
-valid-redo_all log valid = over 0 log.pages (let few = valid.pages.most in omega arith)
+pub valid-redo_all : (log : Log) → IsLog log → AllByRecursion IsPage (redo_all log.records (page_count log))
+valid-redo_all log valid = over 0 (page_count log) (let few = (page_count-is_count log valid).most in omega arith)
   where
     over : (first n : ℕ) → first + n ≤ 65536 → AllByRecursion IsPage (map (image log.records) (range_with_len first n))
     over first zero few = tt

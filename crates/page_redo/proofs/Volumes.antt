@@ -1,6 +1,6 @@
 -- Redo of a log on the pages of a volume, record by record, and what it comes to on each page.
 use Rattle.std.proofs.Common.{◌≡◌, ◌≢◌, ℕ, zero, suc, ◌+◌, ◌-◌, ◌*◌, ◌<◌, ◌≤◌, Bool, true, false, cond, List, [], ◌∷◌}
-use Rattle.std.proofs.Common.{◌++◌, subst₂}
+use Rattle.std.proofs.Common.{◌++◌}
 use Rattle.std.proofs.Common.{length, get_or, set, map, take, drop, refl, sym, ap, subst, ◌∙◌, arith, inl, inr, min}
 use Rattle.std.specs.Prelude.{Some, None, ◌&&◌}
 use Rattle.std.specs.List.{All, filter}
@@ -16,8 +16,9 @@ use Rattle.log_records.specs.declared.page_change.PageChange.{PageChange}
 use Rattle.log_records.specs.declared.record.Record.{Record}
 use Rattle.log_records.specs.Coverage.{is_resumed, resume}
 use Rattle.log_records.specs.Image.{image_from, with_record}
-use Rattle.log_records.specs.Log.{AreWithin, IsLog, Log, lsn_of}
+use Rattle.log_records.specs.Log.{AreWithin, IsLog, Log, lsn_of, page_count}
 use Rattle.log_records.specs.Record.{change_of, own_lsn}
+use Rattle.log_records.proofs.PageCounts.{stands_in}
 use Rattle.log_records.proofs.Images.{changes_or_not, no_change, number-with_record, other_page}
 use Rattle.page_redo.specs.Redo.{is_above, redone, redone_all, redone_by}
 
@@ -236,14 +237,14 @@ none_resumed log from (page ∷ pages) valid low =
     rw (none_below rs from page.lsn before, ← none_resumed log from pages valid low) refl
 
 pub within_part : (log : Log) (k : ℕ) → IsLog log
-    → AreWithin log.pages (take (length log.records - k) (drop k log.records))
+    → AreWithin (page_count log) (take (length log.records - k) (drop k log.records))
 within_part log k valid = λ i d lt.
     let rs = log.records in
     let n = length rs - k in
     let long : length (take n (drop k rs)) ≡ min n (length rs - k) = length-take n (drop k rs)
     ∙ ap (min n) (length-drop k rs) in
     let below : i < n = omega arith in
-    rw (get_or-take n (drop k rs) i d below, get_or-drop k rs i d) (valid.records (k + i) d (omega arith)).within
+    rw (get_or-take n (drop k rs) i d below, get_or-drop k rs i d) (stands_in log valid (k + i) d (omega arith)).within
 
 -- the records below the redo point may be left out
 pub resumed_behind : (log : Log) (from k : ℕ) (pages : List Page) → IsLog log → 64 * k ≤ from - 1
@@ -266,10 +267,10 @@ resumed_behind log from k (page ∷ pages) valid low le =
     ap (λ (xs : List Record). image_from page xs ∷ map (λ page. resume page (drop k rs) from) pages) same
     ∙ ap (λ (ps : List Page). resume page rs from ∷ ps) (resumed_behind log from k pages valid low le)
 
--- ---- a log over a volume
+-- ---- a log whose records were handed out
 
--- a log is valid over a volume of as many pages as it says
-pub valid_over : (log : Log) (count : ℕ) (rs : List Record) → count ≡ log.pages → rs ≡ log.records → IsLog log
-    → IsLog (record { pages = count; records = rs })
-valid_over log count rs pages records valid =
-    subst₂ (λ (n : ℕ) (xs : List Record). IsLog (record { pages = n; records = xs })) (sym pages) (sym records) valid
+pub valid_of : (log : Log) (rs : List Record) → rs ≡ log.records → IsLog log → IsLog (record log { records = rs })
+valid_of log rs records valid = subst (λ (xs : List Record). IsLog (record log { records = xs })) (sym records) valid
+
+pub count_of : (log : Log) (rs : List Record) → rs ≡ log.records → page_count (record log { records = rs }) ≡ page_count log
+count_of log rs records = ap (λ (xs : List Record). page_count (record log { records = xs })) records

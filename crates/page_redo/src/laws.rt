@@ -3,13 +3,14 @@
 ghost use Rattle.std.specs.Prelude.{ℕ, ◌≡◌, ◌≤◌, length, take};
 ghost use Rattle.std.specs.List.{AllByRecursion};
 ghost use Rattle.page_core.specs.Page.{IsPage};
-ghost use Rattle.log_records.specs.Log.{Log, IsLog};
+ghost use Rattle.log_records.specs.Log.{Log, IsLog, page_count};
 ghost use Rattle.log_records.specs.Image.{image, redo_all};
 ghost use Rattle.page_redo.specs.Redo.{redone};
 
 /// The pages that a log makes are pages that a volume may have, so they have a spelling.
 pub fn pages_of_logs_are_valid()
-    ensures { (log : Log) → IsLog log → AllByRecursion IsPage (redo_all log.records log.pages) }
+    ensures { (log : Log) → IsLog log → AllByRecursion IsPage
+        (redo_all log.records (page_count log)) }
 {}
 
 /// Redo turns a page that was stored with the changes of the log's first records, however many,

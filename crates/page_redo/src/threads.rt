@@ -4,6 +4,7 @@ ghost use Rattle.std.specs.Prelude.{ℕ, ◌≡◌, ◌<◌, ◌≤◌, [], leng
 ghost use Rattle.std.specs.List.{range_with_len};
 ghost use Rattle.log_records.specs.Coverage.{resume};
 ghost use Rattle.log_records.specs.Image.{AreNumbered};
+ghost use Rattle.log_records.specs.Log.{page_count};
 ghost use Rattle.page_redo.specs.PageRecords.{numbers_on, records_at};
 ghost use Rattle.page_redo.specs.Redo.{redone};
 
@@ -34,7 +35,7 @@ pub fn redo_pages(
     log: &LogImage,
     from: Lsn,
 )
-    requires count { length pages.old ≡ log.now.pages }
+    requires count { length pages.old ≡ page_count log.now }
     requires numbered { AreNumbered pages.old }
     ensures { pages.new ≡ map (λ page. resume page log.now.records from) pages.old }
 {

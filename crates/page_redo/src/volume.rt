@@ -3,7 +3,7 @@
 ghost use Rattle.std.specs.Prelude.{◌≡◌, length, map};
 ghost use Rattle.log_records.specs.Coverage.{resume};
 ghost use Rattle.log_records.specs.Image.{AreNumbered};
-ghost use Rattle.log_records.specs.Log.{AreWithin, IsWithin};
+ghost use Rattle.log_records.specs.Log.{AreWithin, IsWithin, page_count};
 ghost use Rattle.page_redo.specs.Redo.{redone_all, redone_by};
 
 use crate::redo::is_above;
@@ -15,7 +15,7 @@ use page_core::{LSN_STEP, Lsn, Page};
 /// records at or above that point that are above the page's LSN, in their order. This takes no
 /// memory, and one pass over the records from the redo point on.
 pub fn redo_pages_alone(pages: &mut [Page], log: &LogImage, from: Lsn)
-    requires count { length pages.old ≡ log.now.pages }
+    requires count { length pages.old ≡ page_count log.now }
     requires numbered { AreNumbered pages.old }
     ensures { pages.new ≡ map (λ page. resume page log.now.records from) pages.old }
 {

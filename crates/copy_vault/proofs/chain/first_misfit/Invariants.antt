@@ -3,5 +3,5 @@ use Rattle.copy_vault.proofs.chain.first_misfit.Given as goal
 
 abbrev pub invariant-loop-i : goal.invariant-loop-i
 invariant-loop-i l = record {
-  up : FitUpTo l.pages l.copies l.i l.kind;
+  up : FitUpTo l.counts l.copies l.i l.kind;
 }

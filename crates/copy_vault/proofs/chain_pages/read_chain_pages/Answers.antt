@@ -13,11 +13,11 @@ returns-in_err-page-clause-err g c =
     let lefts = map left c.next.new.readers in
     let inv = c.pages.invariant in
     let fault = c.in_err-page.field-0.0 in
-    let stopped = c.in_err-page.ensures.err inputs c.pages.given.items inv.reading in
+    let counts = c.args.counts.now in
+    let stopped = c.in_err-page.ensures.err counts inputs c.pages.given.items inv.reading in
     let p = err_from_is_err_and c.from_residual-in_err-page.result c.from_residual-in_err-page.ensures.1 in
     rw (p.1, p.2)
-    (inr (inl (subst (λ n. IsStopped n c.args.end inputs lefts fault) inv.pages
-    (subst (λ n. IsStopped c.pages.chain.pages n inputs lefts fault) inv.end stopped))))
+    (inr (inl (subst (λ n. IsStopped counts n inputs lefts fault) inv.end stopped)))
 
 pub pages-smaller : goal.pages-smaller
 pages-smaller g c =
@@ -25,10 +25,10 @@ pages-smaller g c =
     let inputs = map left c.args.readers.now in
     let lefts = map left c.next.new.readers in
     let inv = c.pages.invariant in
-    let going = rw c.in-Some.is at (c.in_ok-page.ensures.ok inputs c.pages.given.items inv.reading) in
+    let going = rw c.in-Some.is at (c.in_ok-page.ensures.ok c.args.counts.now inputs c.pages.given.items inv.reading) in
     omega (
       arith,
-      count_given inputs lefts c.next.new.self (c.pages.given.items ++ c.in-Some.page ∷ []) going,
+      count_given c.args.counts.now inputs lefts c.next.new.self (c.pages.given.items ++ c.in-Some.page ∷ []) going,
       length_push c.pages.given.items c.in-Some.page,
       ap length c.in_ok-push-in-Some.ensures.items,
       c.in_ok-page.ensures.pages,
@@ -41,9 +41,9 @@ pages-preserved g c =
     let inputs = map left c.args.readers.now in
     let lefts = map left c.next.new.readers in
     let inv = c.pages.invariant in
-    let going = rw c.in-Some.is at (c.in_ok-page.ensures.ok inputs c.pages.given.items inv.reading) in
+    let going = rw c.in-Some.is at (c.in_ok-page.ensures.ok c.args.counts.now inputs c.pages.given.items inv.reading) in
     record {
-      reading = subst (λ (ps : List Page). IsReading inputs lefts c.next.new.self ps)
+      reading = subst (λ (ps : List Page). IsReading c.args.counts.now inputs lefts c.next.new.self ps)
           (sym c.in_ok-push-in-Some.ensures.items) going;
       pages = c.in_ok-page.ensures.pages ∙ inv.pages;
       end = c.in_ok-page.ensures.end ∙ inv.end;
@@ -55,14 +55,12 @@ returns-in-None-clause-ok g c =
     let inputs = map left c.args.readers.now in
     let inv = c.pages.invariant in
     let given = c.pages.given.items in
-    let whole = (rw c.in-None.is at (c.in_ok-page.ensures.ok inputs given inv.reading)).0 in
-    subst (λ n. IsChainRead c.args.pages c.args.end inputs given n) (sym c.redo.ensures)
-    (subst (λ n. IsChainRead n c.args.end inputs given c.next.new.self.redo)
-    (c.in_ok-page.ensures.pages ∙ inv.pages)
-    (subst (λ n. IsChainRead c.next.new.self.pages n inputs given c.next.new.self.redo)
-    (c.in_ok-page.ensures.end ∙ inv.end) whole))
+    let whole = (rw c.in-None.is at (c.in_ok-page.ensures.ok c.args.counts.now inputs given inv.reading)).0 in
+    subst (λ n. IsChainRead c.args.counts.now c.args.end inputs given n) (sym c.redo.ensures)
+    (subst (λ n. IsChainRead c.args.counts.now n inputs given c.next.new.self.redo)
+    (c.in_ok-page.ensures.end ∙ inv.end) whole)
 
 pub returns-in-None-clause-end : goal.returns-in-None-clause-end
 returns-in-None-clause-end g c =
     let inputs = map g.R.Read.remaining c.args.readers.now in
-    (rw c.in-None.is at (c.in_ok-page.ensures.ok inputs c.pages.given.items c.pages.invariant.reading)).1
+    (rw c.in-None.is at (c.in_ok-page.ensures.ok c.args.counts.now inputs c.pages.given.items c.pages.invariant.reading)).1

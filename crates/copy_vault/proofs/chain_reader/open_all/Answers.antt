@@ -15,7 +15,7 @@ loop-i-init g c =
     record {
       count = ap length none;
       kind = sym (ap (λ (its : List ArchiveCursor). kind_behind Full (heads_of its)) none);
-      opened = opened_none c.args.pages (map g.R.Read.remaining c.args.readers.now) c.in_ok-cursors.cursors.items none;
+      opened = opened_none c.args.counts.now (map g.R.Read.remaining c.args.readers.now) c.in_ok-cursors.cursors.items none;
     }
 
 pub returns-in_err-cursor-clause-err : goal.returns-in_err-cursor-clause-err
@@ -29,10 +29,10 @@ returns-in_err-cursor-clause-err g c =
     let fault = c.in_err-cursor.field-0.0 in
     let p = err_from_is_err_and c.from_residual-in_err-cursor.result c.from_residual-in_err-cursor.ensures.1 in
     rw (p.1, p.2)
-    (subst (λ (ls : List (Option (List ℕ))). IsNotOpened c.args.pages inputs ls fault)
+    (subst (λ (ls : List (Option (List ℕ))). IsNotOpened c.args.counts.now inputs ls fault)
     (sym (map-set left readers i c.open_fitting.new.reader))
-    (not_opened c.args.pages inputs (set (map left readers) i (left c.open_fitting.new.reader)) fault
-    (head_refused c.args.pages i c.loop-i.kind inputs (map left readers) c.loop-i.cursors.items (left reader)
+    (not_opened c.args.counts.now inputs (set (map left readers) i (left c.open_fitting.new.reader)) fault
+    (head_refused c.args.counts.now i c.loop-i.kind inputs (map left readers) c.loop-i.cursors.items (left reader)
     (left c.open_fitting.new.reader) fault inv.opened inv.count inv.kind
     (omega (arith, length-map c.args.readers.now left))
     (get_or-map left readers i c.index-readers-i.result (left reader) (omega arith)) c.in_err-cursor.ensures.err)))
@@ -50,9 +50,9 @@ loop-i-preserved g c =
     record {
       count = ap length is ∙ length_push c.loop-i.cursors.items it ∙ omega (arith, inv.count);
       kind = c.kind_behind-kind.ensures ∙ kind_more c.loop-i.cursors.items c.push.new.self.items it is;
-      opened = subst (λ (ls : List (Option (List ℕ))). AreOpened c.args.pages inputs ls c.push.new.self.items)
+      opened = subst (λ (ls : List (Option (List ℕ))). AreOpened c.args.counts.now inputs ls c.push.new.self.items)
           (sym (map-set left readers i c.open_fitting.new.reader))
-          (opened_more c.args.pages i c.loop-i.kind inputs (map left readers) c.loop-i.cursors.items
+          (opened_more c.args.counts.now i c.loop-i.kind inputs (map left readers) c.loop-i.cursors.items
           c.push.new.self.items (left reader) (left c.open_fitting.new.reader) it inv.opened inv.count inv.kind
           (omega (arith, length-map c.args.readers.now left))
           (get_or-map left readers i c.index-readers-i.result (left reader) (omega arith)) c.in_ok-cursor.ensures.new

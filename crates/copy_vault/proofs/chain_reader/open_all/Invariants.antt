@@ -8,5 +8,5 @@ abbrev pub invariant-loop-i : goal.invariant-loop-i
 invariant-loop-i g l = record {
   count : length l.cursors.items ≡ l.i;
   kind : l.kind ≡ kind_behind Full (heads_of l.cursors.items);
-  opened : AreOpened l.pages (map g.R.Read.remaining l.fn.readers) (map g.R.Read.remaining l.readers) l.cursors.items;
+  opened : AreOpened l.counts (map g.R.Read.remaining l.fn.readers) (map g.R.Read.remaining l.readers) l.cursors.items;
 }

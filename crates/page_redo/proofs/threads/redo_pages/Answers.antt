@@ -5,9 +5,14 @@ use Rattle.std.proofs.lemmas.List.FromFn.{length-map-range_with_len}
 use Rattle.log_records.specs.declared.record.Record.{Record}
 use Rattle.log_records.specs.Coverage.{resume}
 use Rattle.log_records.specs.Log.{Log}
+use Rattle.log_records.proofs.PageCounts.{page_count-is_count}
 use Rattle.page_redo.specs.PageRecords.{numbers_on}
-use Rattle.page_redo.proofs.Volumes.{resumed_behind, valid_over}
+use Rattle.page_redo.proofs.Volumes.{resumed_behind, valid_of}
 use Rattle.page_redo.proofs.threads.redo_pages.Goals as goal
+
+pub overflow_cast-pages : goal.overflow_cast-pages
+overflow_cast-pages g c =
+    omega (arith, c.requires.count, (page_count-is_count c.args.log.now c.records-records.ensures.valid).most)
 
 pub redo_by_page-requires-clause-many : goal.redo_by_page-requires-clause-many
 redo_by_page-requires-clause-many g c =
@@ -23,9 +28,8 @@ pub returns-in-Ok : goal.returns-in-Ok
 returns-in-Ok g c =
     let rs = c.records-records.result.now in
     let pages = c.args.pages.now in
-    let log : Log = record { pages = length pages; records = rs } in
-    let valid = valid_over c.args.log.now (length pages) rs c.requires.count c.records-records.ensures.records
-    c.records-records.ensures.valid in
+    let log : Log = record { pages = c.args.log.now.pages; records = rs } in
+    let valid = valid_of c.args.log.now rs c.records-records.ensures.records c.records-records.ensures.valid in
     let k = c.saturating_sub.result / 64 in
     let behind = take (length rs - k) (drop k rs) in
     let n = length pages in

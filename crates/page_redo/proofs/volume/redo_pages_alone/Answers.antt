@@ -1,27 +1,27 @@
-use Rattle.std.proofs.Common.{◌≡◌, ◌∙◌, ◌-◌, ◌/◌, ◌<◌, ◌≤◌, List, length, map, drop, ap, arith}
+use Rattle.std.proofs.Common.{◌≡◌, ◌∙◌, ◌-◌, ◌/◌, ◌<◌, ◌≤◌, ℕ, List, length, map, take, drop, ap, sym, subst, arith}
 use Rattle.std.proofs.lemmas.List.{length-drop, take_all}
 use Rattle.log_records.specs.declared.record.Record.{Record}
 use Rattle.log_records.specs.Coverage.{resume}
-use Rattle.log_records.specs.Log.{Log}
+use Rattle.log_records.specs.Log.{AreWithin, Log}
 use Rattle.page_redo.specs.Redo.{redone_all}
-use Rattle.page_redo.proofs.Volumes.{all_resumed, none_resumed, valid_over, within_part}
+use Rattle.page_redo.proofs.Volumes.{all_resumed, count_of, none_resumed, valid_of, within_part}
 use Rattle.page_redo.proofs.volume.redo_pages_alone.Goals as goal
 
 pub redo_records-requires-clause-within : goal.redo_records-requires-clause-within
 redo_records-requires-clause-within c =
     let rs = c.records-records.result.now in
-    let log : Log = record { pages = length c.args.pages.now; records = rs } in
-    within_part log (c.saturating_sub.result / 64)
-    (valid_over c.args.log.now (length c.args.pages.now) rs c.requires.count c.records-records.ensures.records
-    c.records-records.ensures.valid)
+    let of = c.args.log.now in
+    let k = c.saturating_sub.result / 64 in
+    let same = c.records-records.ensures.records in
+    subst (λ (n : ℕ). AreWithin n (take (length rs - k) (drop k rs))) (count_of of rs same ∙ sym c.requires.count)
+    (within_part (record of { records = rs }) k (valid_of of rs same c.records-records.ensures.valid))
 
 pub returns-then-first-records : goal.returns-then-first-records
 returns-then-first-records c =
     let rs = c.records-records.result.now in
     let pages = c.args.pages.now in
-    let log : Log = record { pages = length pages; records = rs } in
-    let valid = valid_over c.args.log.now (length pages) rs c.requires.count c.records-records.ensures.records
-    c.records-records.ensures.valid in
+    let log : Log = record { pages = c.args.log.now.pages; records = rs } in
+    let valid = valid_of c.args.log.now rs c.records-records.ensures.records c.records-records.ensures.valid in
     let k = c.saturating_sub.result / 64 in
     let back = c.saturating_sub.ensures in
     let from : c.from.inside.0 ≡ c.args.from = c.from.view_is in
@@ -36,9 +36,8 @@ pub returns-else-first-records : goal.returns-else-first-records
 returns-else-first-records c =
     let rs = c.records-records.result.now in
     let pages = c.args.pages.now in
-    let log : Log = record { pages = length pages; records = rs } in
-    let valid = valid_over c.args.log.now (length pages) rs c.requires.count c.records-records.ensures.records
-    c.records-records.ensures.valid in
+    let log : Log = record { pages = c.args.log.now.pages; records = rs } in
+    let valid = valid_of c.args.log.now rs c.records-records.ensures.records c.records-records.ensures.valid in
     let k = c.saturating_sub.result / 64 in
     let back = c.saturating_sub.ensures in
     let from : c.from.inside.0 ≡ c.args.from = c.from.view_is in

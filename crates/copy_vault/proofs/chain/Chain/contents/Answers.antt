@@ -1,60 +1,50 @@
-use Rattle.std.proofs.Common.{◌≡◌, ◌+◌, ◌<◌, ◌≤◌, List, length, take, drop, sym, ap, subst, ◌∙◌, arith}
-use Rattle.std.specs.Borrow.{Bor}
-use Rattle.std.proofs.lemmas.List.{length-map, take_at}
+use Rattle.std.proofs.Common.{◌≡◌, ◌<◌, List, [], ◌∷◌, ◌++◌, length, get_or, sym, ap, ◌∙◌, arith}
+use Rattle.std.proofs.lemmas.List.{get_or-map, length-map}
+use Rattle.std.proofs.lemmas.List.FromFn.{get_or-map-range_with_len, length-map-range_with_len, map-range_with_len_more}
 use Rattle.page_core.specs.declared.page.Page.{Page}
-use Rattle.copy_vault.specs.Copy.{CopyView}
-use Rattle.copy_vault.specs.Chain.{IsChain, contents, lent}
-use Rattle.copy_vault.specs.Slots.{AreLaidOver}
-use Rattle.copy_vault.proofs.Chains.{at_ref, contents_numbered}
-use Rattle.copy_vault.proofs.Overlaid.{contents_next, count_over}
+use Rattle.page_core.specs.Page.{formatted}
+use Rattle.copy_vault.specs.Chain.{content, contents, last_of, newest}
+use Rattle.copy_vault.specs.Slots.{page_list}
+use Rattle.copy_vault.proofs.Chains.{content_newest, contents_numbered}
 use Rattle.copy_vault.proofs.chain.Chain.contents.Goals as goal
 
-pub lay_over-requires : goal.lay_over-requires
-lay_over-requires c =
-    let refs = c.self.inside.members.items in
-    let members = lent refs in
-    let copy = c.index-in-loop-i.result.now in
-    let i = c.loop-i.i in
-    let items = c.loop-i.pages.items in
-    let here = at_ref refs i copy c.index-in-loop-i.ensures in
-    let wide : length members ≡ c.len-i-end.result = length-map refs (λ r. r.now)
-    ∙ omega (arith, c.len-i-end.ensures) in
-    let lt : i < length members = omega arith in
-    let some : 1 ≤ i = omega arith in
-    let so_far = c.loop-i.invariant.so_far ∙ ap (λ (ms : List CopyView). contents (take i ms)) (sym c.self.view_is) in
+pub index-requires : goal.index-requires
+index-requires c =
+    let members = c.args.self.now in
+    let newest_ones = c.in_ok-newest.newest in
     omega (
       arith,
-      count_over members i copy.now (lent items) c.self.invariant some lt here so_far,
-      length-map items (λ (r : Bor Page). r.now),
-      ap length c.deref_mut.ensures.value,
+      ap length c.in_ok-newest.ensures.newest,
+      length-map newest_ones.items page_list,
+      length-map-range_with_len (newest members) 0 c.args.count,
+      newest_ones.ok.0,
     )
 
-pub loop-i-preserved : goal.loop-i-preserved
-loop-i-preserved c =
-    let refs = c.self.inside.members.items in
-    let members = lent refs in
-    let copy = c.index-in-loop-i.result.now in
-    let i = c.loop-i.i in
-    let items = c.loop-i.pages.items in
-    let new = c.lay_over.new.pages in
-    let here = at_ref refs i copy c.index-in-loop-i.ensures in
-    let wide : length members ≡ c.len-i-end.result = length-map refs (λ r. r.now)
-    ∙ omega (arith, c.len-i-end.ensures) in
-    let lt : i < length members = omega arith in
-    let some : 1 ≤ i = omega arith in
-    let so_far = c.loop-i.invariant.so_far ∙ ap (λ (ms : List CopyView). contents (take i ms)) (sym c.self.view_is) in
-    let count : length new ≡ c.loop-i.pages.len =
-    omega (arith, c.lay_over.auto.pages, ap length c.deref_mut.ensures.value, c.loop-i.pages.ok.0) in
-    let back = take_at new (drop (length new) items) c.loop-i.pages.len count in
-    let over = subst (λ (xs : List (Bor Page)). AreLaidOver copy.now.pages (lent xs) (lent new))
-    c.deref_mut.ensures.value
-    c.lay_over.ensures in
+pub loop-number-preserved : goal.loop-number-preserved
+loop-number-preserved c =
+    let members = c.args.self.now in
+    let items = c.in_ok-newest.newest.items in
+    let n = c.loop-number.number in
+    let lt = c.loop-number-test.true in
+    let place = c.index.result.now in
+    let made = c.in_ok-newest.ensures.newest in
+    let there : n < length items = omega (
+      arith,
+      ap length made,
+      length-map items page_list,
+      length-map-range_with_len (newest members) 0 c.args.count,
+    ) in
+    let here : page_list place ≡ newest members n =
+    ap page_list c.index.ensures ∙ sym (get_or-map page_list items n place [] there)
+    ∙ ap (λ (ps : List (List Page)). get_or ps n []) made
+    ∙ get_or-map-range_with_len (newest members) 0 c.args.count n n [] lt (omega arith) in
     record {
-      so_far = ap lent back
-          ∙ contents_next members i copy.now (lent items) (lent new) some lt here so_far over
-          ∙ ap (λ (ms : List CopyView). contents (take (i + 1) ms)) c.self.view_is;
+      so_far = c.in_ok-push.ensures.items
+          ∙ ap (λ (ps : List Page). ps ++ c.page_or_formatted.result ∷ []) c.loop-number.invariant.so_far
+          ∙ ap (λ (p : Page). contents members n ++ p ∷ []) (c.page_or_formatted.ensures
+          ∙ ap (last_of (formatted n)) here ∙ content_newest members n)
+          ∙ sym (map-range_with_len_more (content members) 0 n n (omega arith));
     }
 
 pub returns-clause-numbered : goal.returns-clause-numbered
-returns-clause-numbered c =
-    contents_numbered c.args.self.now (subst IsChain c.self.view_is c.self.invariant)
+returns-clause-numbered c = contents_numbered c.args.self.now c.args.count c.in_ok-newest.ensures.chain

@@ -9,5 +9,5 @@ new-requires c =
     let copies = c.args.copies.now in
     let past = c.loop-i-test.false in
     let same = c.loop-i.invariant.so_far ∙ take_all c.loop-i.i copies (omega arith) in
-    subst IsChain (sym same) (fit_chain c.args.pages copies (c.in_default.ensures.none refl)
+    subst IsChain (sym same) (fit_chain c.args.counts.now copies (c.in_default.ensures.none refl)
     (not_empty copies c.if-is_empty.ensures) (c.in_default.ensures.complete refl))

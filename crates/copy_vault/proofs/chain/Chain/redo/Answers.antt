@@ -5,8 +5,8 @@ use Rattle.copy_vault.specs.Chain.{last_redo, lent}
 use Rattle.copy_vault.proofs.Chains.{at_ref, last_redo_at, some_members}
 use Rattle.copy_vault.proofs.chain.Chain.redo.Goals as goal
 
-pub returns : goal.returns
-returns c =
+pub returns-clause-redo : goal.returns-clause-redo
+returns-clause-redo c =
     let refs = c.self.inside.members.items in
     let members = lent refs in
     let copy = c.index.result.now in

@@ -8,13 +8,13 @@ use Rattle.copy_vault.proofs.ChainEnds.{given_whole, read_whole, reading_more}
 use Rattle.copy_vault.proofs.chain_reader.ChainReader.next.Goals as goal
 
 pub returns-then-self-clause-ok : goal.returns-then-self-clause-ok
-returns-then-self-clause-ok g c = λ inputs given read. (
-  read_whole inputs _ c.args.self.now given read c.if-self.true,
-  given_whole inputs _ c.args.self.now given read c.if-self.true,
+returns-then-self-clause-ok g c = λ counts inputs given read. (
+  read_whole counts inputs _ c.args.self.now given read c.if-self.true,
+  given_whole counts inputs _ c.args.self.now given read c.if-self.true,
 )
 
 pub returns-clause-ok : goal.returns-clause-ok
-returns-clause-ok g c = λ inputs given read.
+returns-clause-ok g c = λ counts inputs given read.
     let left = g.R.Read.remaining in
     let it = c.args.self.now in
     let room = c.if-self.false in
@@ -31,7 +31,7 @@ returns-clause-ok g c = λ inputs given read.
       given = it.given + 1;
       failed = it.failed;
     } in
-    reading_more inputs (map left c.args.readers.now) (map left c.give_page-step.new.readers) it new given c.in_ok-page.page
+    reading_more counts inputs (map left c.args.readers.now) (map left c.give_page-step.new.readers) it new given c.in_ok-page.page
     read (omega arith)
     (λ heads copies ready. subst (λ (its : List ArchiveCursor).
     IsGiven it.end it.given heads inputs (map left c.give_page-step.new.readers) its copies c.in_ok-page.page)

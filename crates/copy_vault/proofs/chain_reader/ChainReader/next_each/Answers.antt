@@ -9,13 +9,13 @@ use Rattle.copy_vault.proofs.ChainRows.{each_more, each_whole, found_ok}
 use Rattle.copy_vault.proofs.chain_reader.ChainReader.next_each.Goals as goal
 
 pub returns-then-self-clause-ok : goal.returns-then-self-clause-ok
-returns-then-self-clause-ok g c = λ inputs given each. (
-  each_whole inputs _ c.args.self.now given each c.if-self.true,
-  given_whole inputs _ c.args.self.now each.pages each.reading c.if-self.true,
+returns-then-self-clause-ok g c = λ counts inputs given each. (
+  each_whole counts inputs _ c.args.self.now given each c.if-self.true,
+  given_whole counts inputs _ c.args.self.now each.pages each.reading c.if-self.true,
 )
 
 pub returns-clause-ok : goal.returns-clause-ok
-returns-clause-ok g c = λ inputs given each.
+returns-clause-ok g c = λ counts inputs given each.
     let left = g.R.Read.remaining in
     let it = c.args.self.now in
     let room = c.if-self.false in
@@ -33,7 +33,7 @@ returns-clause-ok g c = λ inputs given each.
       given = it.given + 1;
       failed = it.failed;
     } in
-    each_more inputs (map left c.args.readers.now) (map left c.give_each-step.new.readers) it new given row each
+    each_more counts inputs (map left c.args.readers.now) (map left c.give_each-step.new.readers) it new given row each
     (omega arith)
     (λ heads copies ready. subst (λ (its : List ArchiveCursor).
     IsRowGiven it.end it.given heads inputs (map left c.give_each-step.new.readers) its copies row)

@@ -1,7 +1,8 @@
-use Rattle.std.proofs.Common.{◌<◌, reverse, length, sym, ap, subst, ◌∙◌, arith}
+use Rattle.std.proofs.Common.{◌<◌, reverse, sym, ap, subst, ◌∙◌, arith}
+use Rattle.copy_vault.specs.declared.copy_id.CopyKind.TheVariants.{Inc}
 use Rattle.copy_vault.specs.Vault.{state_of}
 use Rattle.copy_vault.specs.Chain.{IsChain, IsChainOf, lent}
-use Rattle.copy_vault.proofs.Chains.{IsTail, is_full, is_there, known_here, lent_back, next_of_parent, parent_of}
+use Rattle.copy_vault.proofs.Chains.{IsTail, is_full, is_there, known_here, lent_back, parent_of}
 use Rattle.copy_vault.proofs.Chains.{reversed}
 use Rattle.copy_vault.proofs.Chains.{tail_more, tail_start, tail_whole}
 use Rattle.copy_vault.proofs.vault.Vault.chain.Goals as goal
@@ -22,7 +23,7 @@ returns-in_err-copy-2-clause-err c =
     let copies = c.args.self.now.copies in
     let copy = c.loop-parent.copy.now in
     let parent = parent_of copies copy c.in-Inc.parent c.loop-parent.invariant.known (sym c.in-Inc.ensures.kind) in
-    absurd (is_there copies c.in-Inc.parent copy.id (length copy.pages) _ parent c.in_err-copy-2.ensures.err)
+    absurd (is_there copies c.in-Inc.parent copy.id _ parent c.in_err-copy-2.ensures.err)
 
 pub loop-parent-smaller : goal.loop-parent-smaller
 loop-parent-smaller c =
@@ -39,8 +40,7 @@ loop-parent-preserved c =
     let other = c.in_ok-copy-2.copy.now in
     let there = c.in_ok-copy-2.ensures in
     let kind = sym c.in-Inc.ensures.kind in
-    let parent = parent_of copies copy c.in-Inc.parent c.loop-parent.invariant.known kind in
-    let next = next_of_parent copies c.in-Inc.parent copy.id other copy parent there.ok there.kept.id_is kind in
+    let next = kind ∙ ap Inc (sym there.kept.id_is) in
     record {
       known = known_here copies c.in-Inc.parent other there.kept;
       tail = subst (IsTail copies c.args.id other)

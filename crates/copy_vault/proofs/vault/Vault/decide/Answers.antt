@@ -1,5 +1,4 @@
 use Rattle.std.proofs.Common.{◌≡◌, ◌<◌, ◌-◌, List, length, map, ap, sym, subst, ◌∙◌}
-use Rattle.std.proofs.lemmas.List.{length-set}
 use Rattle.copy_vault.specs.Copy.{CopyView, decision_at, undecided}
 use Rattle.copy_vault.specs.Vault.{CopyState, VaultView, answer_in, decided, state_in, state_of, reading}
 use Rattle.copy_vault.proofs.Vaults.{entry_read, vault_read, answer_here, decided_here, same_copy, was_undecided}
@@ -39,7 +38,6 @@ invariant_of-self c =
     vault_read entries (c.id.inside.0 - 1) c.in-Reading.copy c.decide.new.self c.self.invariant there.0.there
     (there.1 ∙ c.in-Reading.is) (ap (λ (copy : CopyView). copy.id) made.copy)
     (ap (λ (copy : CopyView). copy.kind) made.copy)
-    (ap (λ (copy : CopyView). length copy.pages) made.copy ∙ length-set c.in-Reading.copy.copy.pages c.args.number _)
     made.since
 
 pub returns-clause-answer : goal.returns-clause-answer

@@ -1,4 +1,4 @@
-use Rattle.std.proofs.Common.{◌≡◌, ◌-◌, length, map, ap, sym, true, get_or, false, ◌∙◌}
+use Rattle.std.proofs.Common.{◌≡◌, ◌-◌, map, ap, sym, true, get_or, false, ◌∙◌}
 use Rattle.std.specs.Prelude.{slice_set}
 use Rattle.copy_vault.specs.Copy.{CopyView}
 use Rattle.copy_vault.specs.Vault.{VaultView, state_in, state_of, room_in}
@@ -28,7 +28,7 @@ invariant_of-self c =
     vault_read entries (c.id.inside.0 - 1) c.in-Reading.copy c.make_room.new.self c.self.invariant there.0.there
     (there.1 ∙ c.in-Reading.is) (ap (λ (copy : CopyView). copy.id) made.copy)
     (ap (λ (copy : CopyView). copy.kind) made.copy)
-    (ap (λ (copy : CopyView). length copy.pages) made.copy) made.since
+    made.since
 
 pub returns-clause-room : goal.returns-clause-room
 returns-clause-room c =

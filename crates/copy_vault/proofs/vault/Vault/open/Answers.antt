@@ -1,6 +1,5 @@
 use Rattle.std.proofs.Common.{◌≡◌, ◌<◌, ◌+◌, ℕ, List, length, map, ap, sym, subst, arith, ◌∙◌}
-use Rattle.std.proofs.lemmas.List.{length-map, length-replicate}
-use Rattle.copy_vault.specs.Copy.{undecided}
+use Rattle.std.proofs.lemmas.List.{length-map}
 use Rattle.copy_vault.specs.Reading.{ReadingView}
 use Rattle.copy_vault.specs.declared.vault.Entry.TheVariants as entry
 use Rattle.copy_vault.specs.Vault.{CopyState, VaultView, HasParent, since_of, state_in}
@@ -19,13 +18,10 @@ invariant_of-self-2 c =
     let count : c.len-count.result ≡ length entries = omega arith in
     let id_is : it.copy.id ≡ length entries + 1 = ap (λ (r : ReadingView). r.copy.id) made
     ∙ ap (λ (n : ℕ). n + 1) count in
-    let pages : length it.copy.pages ≡ c.args.pages =
-    ap (λ (r : ReadingView). length r.copy.pages) made ∙ length-replicate c.args.pages undecided in
-    let parent : HasParent (map state_in entries) (length entries + 1) (length it.copy.pages) it.copy.kind =
-    subst (HasParent (map state_in entries) (length entries + 1) (length it.copy.pages)) (sym kind_is)
-    (subst (λ (n : ℕ). HasParent (map state_in entries) (length entries + 1) n kind) (sym pages)
-    (subst (λ (cs : List CopyState). HasParent cs (length entries + 1) c.args.pages kind) (sym same)
-    (subst (λ (n : ℕ). HasParent c.args.self.now.copies (n + 1) c.args.pages kind) long c.requires.parent))) in
+    let parent : HasParent (map state_in entries) (length entries + 1) it.copy.kind =
+    subst (HasParent (map state_in entries) (length entries + 1)) (sym kind_is)
+    (subst (λ (cs : List CopyState). HasParent cs (length entries + 1) kind) (sym same)
+    (subst (λ (n : ℕ). HasParent c.args.self.now.copies (n + 1) kind) long c.requires.parent)) in
     let since : it.since ≡ since_of (map state_in entries) it.copy.kind =
     ap (λ (r : ReadingView). r.since) made ∙ c.requires.since
     ∙ ap (λ (cs : List CopyState). since_of cs kind) (sym same)

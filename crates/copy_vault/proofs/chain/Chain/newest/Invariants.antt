@@ -1,6 +1,6 @@
 use Rattle.std.proofs.Common.{◌≡◌, ◌≤◌, [], length, drop}
 use Rattle.copy_vault.specs.Chain.{lent, takings}
-use Rattle.copy_vault.proofs.chain.Chain.content.Given as goal
+use Rattle.copy_vault.proofs.chain.Chain.newest.Given as goal
 
 abbrev pub invariant-loop-later : goal.invariant-loop-later
 invariant-loop-later l = record {
