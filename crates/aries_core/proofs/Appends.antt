@@ -17,7 +17,7 @@ use Rattle.txn_table.specs.declared.returns.Return.{Return}
 use Rattle.txn_table.specs.Returns.{returns_of}
 use Rattle.aries_core.specs.EngineState.{EngineState, IsFit, IsKept, MediaView, appended, engine_view, log_of}
 use Rattle.aries_core.specs.EngineState.{with_page}
-use Rattle.aries_core.specs.EngineState.{pages_of}
+use Rattle.aries_core.specs.EngineState.{volume_pages}
 use Rattle.log_records.specs.declared.page_change.PageChange.{PageChange}
 use Rattle.aries_core.specs.Gather.{session_of}
 use Rattle.aries_core.proofs.Fit.{Comes, comes_few, comes_with, fit_appended}
@@ -69,7 +69,7 @@ appended_is stored old mid new pool after ckpts r same same_end next next_end st
 pub after_fetch : {S : Type 0} (stored : S → List Page) (s came new : EngineState) (p : ℕ) (old table : Table)
     (pool fetched after : PoolView S) (ckpts : MediaView) (returns : List Return) (r : Record)
     → IsKept stored s old pool ckpts → Comes s r
-    → p < pages_of s → IfSome (change_of r) (λ c. c.page ≡ p) → came ≡ with_page s p → IsPoolOf stored (log_of s) fetched
+    → p < volume_pages s → IfSome (change_of r) (λ c. c.page ≡ p) → came ≡ with_page s p → IsPoolOf stored (log_of s) fetched
     → table ≡ table_of (s.log ++ r ∷ []) → IsPoolOf stored (with_next (log_of s) (r ∷ [])) after
     → returns ≡ returns_of (s.log ++ r ∷ [])
     → new ≡ appended came r → IsKept stored new table after (record ckpts { returns = returns })

@@ -30,6 +30,8 @@ use Rattle.aries_core.specs.Step.{Fails, Step}
 use Rattle.aries_core.proofs.Gathers.{ckpt_end_has, closed_part, gather_has}
 use Rattle.aries_core.proofs.Steps.{stays_or_grows, stored_or_not}
 use Rattle.aries_core.proofs.StepsBack.{back_has}
+use Rattle.aries_core.specs.EngineState.{log_of}
+use Rattle.log_records.proofs.PageCounts.{count_below_is_first}
 
 -- ---- copies and their entries
 
@@ -136,8 +138,10 @@ answered old event.CkptGather answer new given is =
 answered old event.CkptEnd answer new given is =
     same_copies old new _ is (ckpt_end_has (λ s. s.copies ≡ old.copies) old refl (λ c. refl))
 answered old (event.Repair copy page) answer new given is = same_copies old new _ is refl
-answered old event.CopyFull answer new given is = made new _ is ∙ opens old.copies Full old.pages _ _
-answered old (event.CopyInc parent) answer new given is = made new _ is ∙ opens old.copies (Inc parent) old.pages _ _
+answered old event.CopyFull answer new given is = made new _ is ∙ opens old.copies Full _ _ _
+    ∙ ap (with_next_copy (entries old.copies) Full) (count_below_is_first (log_of old) _)
+answered old (event.CopyInc parent) answer new given is = made new _ is ∙ opens old.copies (Inc parent) _ _ _
+    ∙ ap (with_next_copy (entries old.copies) (Inc parent)) (count_below_is_first (log_of old) _)
 answered old (event.Take copy page) answer new given is = took old copy page answer new given is
 answered old (event.Seal copy) answer new given is =
     made new _ is

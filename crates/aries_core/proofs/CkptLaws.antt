@@ -18,7 +18,7 @@ use Rattle.aries_core.specs.declared.refusal.Refusal.TheVariants.{CkptOpen, Gath
 use Rattle.aries_core.specs.declared.refusal.Refusal.TheVariants.{OutOfMemory, StoreFault}
 use Rattle.aries_core.specs.CkptReplies.{gather_from, point_from, with_gather, with_point}
 use Rattle.aries_core.specs.EngineState.{EngineState, IsFit, IsMasterOf, effect, end, end_ckpt_record}
-use Rattle.aries_core.specs.EngineState.{pages_of}
+use Rattle.aries_core.specs.EngineState.{volume_pages}
 use Rattle.aries_core.specs.Gather.{is_done}
 use Rattle.aries_core.specs.Refusal.{has_no_room, or_else, refused_if, refusal}
 use Rattle.aries_core.specs.Run.{Run}
@@ -40,7 +40,7 @@ pub master_is_complete : (s : EngineState) (point : Point) → IsFit s → s.mas
     → IsCompleteCheckpoint s.log point.begin point.end × (point.end < s.forced_end)
 master_is_complete s point fit is = let has = of_master s point fit is in (has.complete, has.forced)
 
-pub redo_is_covered : (s : EngineState) (point : Point) (page : ℕ) (d : Page) → IsFit s → page < pages_of s
+pub redo_is_covered : (s : EngineState) (point : Point) (page : ℕ) (d : Page) → IsFit s → page < volume_pages s
     → s.master ≡ Some point → Covers s.log page (get_or s.stored page d) point.redo
 redo_is_covered s point page d fit within is =
     let count = fit.counted.stored in

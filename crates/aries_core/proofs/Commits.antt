@@ -88,10 +88,10 @@ stays_kept s kept commit is (stands, below) =
     let past : stands.place < is.count = omega (arith, stands.at_lsn, below, is.forced) in
     subst (λ (l : Log). StandsIn l.records commit) (sym is.made) (record {
       place = stands.place;
-      within = omega (arith, past, length-take is.pages_of s.log, is.within);
+      within = omega (arith, past, length-take is.count s.log, is.within);
       at_lsn = stands.at_lsn;
       prev = stands.prev;
-      is = λ d. get_or-take is.pages_of s.log stands.place d past ∙ stands.is d;
+      is = λ d. get_or-take is.count s.log stands.place d past ∙ stands.is d;
     })
 
 pub commits_are_kept : (pages frames : ℕ) (events : List Event) (replies : List (Result Answer Refusal))

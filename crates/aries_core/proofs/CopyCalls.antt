@@ -16,7 +16,7 @@ use Rattle.copy_vault.specs.declared.fault.CopyFault.{CopyFault}
 use Rattle.copy_vault.specs.Copy.{CopyView}
 use Rattle.copy_vault.specs.Vault.{CopyState, answer_in, complete, decided, drop_refusal, dropped, inc_refusal}
 use Rattle.copy_vault.specs.Vault.{open_refusal}
-use Rattle.copy_vault.specs.Vault.{opened, pages_in, pages_read, reading, reading_of, seal_refusal, sealed, state_of}
+use Rattle.copy_vault.specs.Vault.{opened, pages_read, reading, reading_of, seal_refusal, sealed, state_of}
 use Rattle.copy_vault.specs.Vault.{taken_in, without}
 use Rattle.copy_coverage.specs.Copied.{copy_in}
 use Rattle.aries_core.specs.declared.event.Answer.{Answer}
@@ -25,7 +25,8 @@ use Rattle.aries_core.specs.declared.event.Event.{Event}
 use Rattle.aries_core.specs.declared.event.Event.TheVariants as event
 use Rattle.aries_core.specs.declared.refusal.Refusal.{Refusal}
 use Rattle.aries_core.specs.EngineState.{EngineState, IsFit, IsKept, MediaView, engine_view, stored_page}
-use Rattle.aries_core.specs.EngineState.{take_answer, with_copies}
+use Rattle.aries_core.specs.EngineState.{log_of, volume_pages, take_answer, with_copies}
+use Rattle.log_records.specs.Log.{page_count_below}
 use Rattle.aries_core.specs.EventFits.{EventFits}
 use Rattle.aries_core.specs.Refusal.{of_vault, refusal}
 use Rattle.aries_core.specs.Step.{Step}
@@ -56,38 +57,31 @@ no_fault o is = ap (option_map of_vault) is
 -- ---- each of them is a step
 
 pub full_step : (s : EngineState) (copies : List CopyState) (pages id : ℕ) (point : Point) → s.master ≡ Some point
-    → open_refusal s.copies ≡ None → pages ≡ s.pages → id ≡ length s.copies + 1
+    → open_refusal s.copies ≡ None → pages ≡ page_count_below (log_of s) point.begin → id ≡ length s.copies + 1
     → copies ≡ opened s.copies Full pages point.begin point.redo
     → Step s event.CopyFull (Ok (answer.Copied id)) (with_copies s copies)
 full_step s copies pages id point master fine same given made = (
   rw master (no_fault (open_refusal s.copies) fine),
   ap answer.Copied given,
   ap (with_copies s) (made ∙ ap (λ (n : ℕ). opened s.copies Full n point.begin point.redo) same
-      ∙ ap (λ (o : Option Point). opened s.copies Full s.pages (option_map_or (λ p. p.begin) o 0)
-      (option_map_or (λ p. p.redo) o 0))
+      ∙ ap (λ (o : Option Point). let begin = option_map_or (λ p. p.begin) o 0 in
+      opened s.copies Full (page_count_below (log_of s) begin) begin (option_map_or (λ p. p.redo) o 0))
       (sym master)),
 )
 
-pages_of_parent : (s : EngineState) (parent : ℕ) → IsFit s → refusal s (event.CopyInc parent) ≡ None
-    → pages_in (state_of s.copies parent) ≡ s.pages
-pages_of_parent s parent fit none =
-    let there = inc_passes s parent none in
-    ap pages_in there.1 ∙ (fit.copied.each parent there.0 (ap copy_in there.1)).whole ∙ fit.counted.stored
-
-pub inc_step : (s : EngineState) (copies : List CopyState) (parent begin redo id : ℕ) → IsFit s
-    → inc_refusal s.copies parent ≡ None → begin ≡ option_map_or (λ p. p.begin) s.master 0
-    → redo ≡ option_map_or (λ p. p.redo) s.master 0 → id ≡ length s.copies + 1
-    → copies ≡ opened s.copies (Inc parent) (pages_in (state_of s.copies parent)) begin redo
+pub inc_step : (s : EngineState) (copies : List CopyState) (parent pages begin redo id : ℕ)
+    → inc_refusal s.copies parent ≡ None → pages ≡ page_count_below (log_of s) begin
+    → begin ≡ option_map_or (λ p. p.begin) s.master 0 → redo ≡ option_map_or (λ p. p.redo) s.master 0
+    → id ≡ length s.copies + 1 → copies ≡ opened s.copies (Inc parent) pages begin redo
     → Step s (event.CopyInc parent) (Ok (answer.Copied id)) (with_copies s copies)
-inc_step s copies parent begin redo id fit fine begin_is redo_is given made =
-    let none = no_fault (inc_refusal s.copies parent) fine in
-    let pages = pages_of_parent s parent fit none in (
-      none,
-      ap answer.Copied given,
-      ap (with_copies s) (made ∙ ap (λ (n : ℕ). opened s.copies (Inc parent) n begin redo) pages
-          ∙ ap (λ (n : ℕ). opened s.copies (Inc parent) s.pages n redo) begin_is
-          ∙ ap (opened s.copies (Inc parent) s.pages (option_map_or (λ p. p.begin) s.master 0)) redo_is),
-    )
+inc_step s copies parent pages begin redo id fine same begin_is redo_is given made = (
+  no_fault (inc_refusal s.copies parent) fine,
+  ap answer.Copied given,
+  ap (with_copies s) (made ∙ ap (λ (n : ℕ). opened s.copies (Inc parent) n begin redo) same
+      ∙ ap (λ (n : ℕ). opened s.copies (Inc parent) (page_count_below (log_of s) n) n redo) begin_is
+      ∙ ap (opened s.copies (Inc parent) (page_count_below (log_of s) (option_map_or (λ p. p.begin) s.master 0))
+      (option_map_or (λ p. p.begin) s.master 0)) redo_is),
+)
 
 pub seal_step : (s : EngineState) (copies : List CopyState) (copy taken : ℕ)
     → seal_refusal (state_of s.copies copy) ≡ None → taken ≡ taken_in (state_of s.copies copy)
@@ -122,21 +116,12 @@ some_reading (reading other) copy is = ap reading (same_view other copy is)
 some_reading (complete other) copy is = cc
 some_reading dropped copy is = cc
 
-pub pages_of_reading : (s : EngineState) (id : ℕ) (copy : CopyView) → IsFit s
-    → Some copy ≡ reading_of (state_of s.copies id) → length copy.pages ≡ s.pages
-pages_of_reading s id copy fit is =
-    (fit.copied.each id copy
-    (ap copy_in (some_reading (state_of s.copies id) copy (sym is)))).whole ∙ fit.counted.stored
-
 -- a page that is to be taken is one of the copy's
-pub take_room : (s : EngineState) (copies : List CopyState) (copy p : ℕ) → IsFit s
+pub take_room : (s : EngineState) (copies : List CopyState) (copy p : ℕ)
     → refusal s (event.Take copy p) ≡ None → copies ≡ s.copies → p < length (pages_read (state_of copies copy))
-take_room s copies copy p fit none same =
+take_room s copies copy p none same =
     let passes = take_passes s copy p none in
-    let whole = (fit.copied.each copy passes.view (ap copy_in passes.is_read)).whole in
-    let count = fit.counted.stored in
-    let within = passes.within in
-    rw (same, passes.is_read) (omega arith)
+    rw (same, passes.is_read) passes.within
 
 -- the pool has asked its store, and has left it as it was
 pub asked_is : {S D : Type 0} (stored : S → List Page) (it : WrittenLog D) (pool after : PoolView S) (media : MediaView)

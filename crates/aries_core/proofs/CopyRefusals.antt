@@ -22,9 +22,10 @@ use Rattle.aries_core.specs.Catalogue.{Entry, catalogue_refusal, count_refusal, 
 use Rattle.aries_core.specs.Catalogue.{mark_of}
 use Rattle.aries_core.specs.Catalogue.{marks_of, not_decided, parent_refusal, reading_refusal}
 use Rattle.aries_core.specs.EngineState.{EngineState, image_of}
-use Rattle.aries_core.specs.EngineState.{pages_of}
+use Rattle.aries_core.specs.EngineState.{volume_pages}
 use Rattle.aries_core.specs.Refusal.{has_decided, of_vault, or_else, refusal, refused_if}
 use Rattle.aries_core.proofs.Catalogues.{entries, entry_is}
+use Rattle.aries_core.specs.Refusal.{pages_in}
 
 -- ---- how many copies
 
@@ -63,15 +64,19 @@ mark_at : (pages : List PageDecision) (p : ℕ)
 mark_at pages p =
     ap not (sym (ap has_no_mark (get_or-map mark_of pages p undecided) ∙ no_mark_is (get_or pages p undecided)))
 
-take_is : (state : CopyState) (pages p : ℕ)
+take_is : (state : CopyState) (p : ℕ)
     → or_else (option_map of_vault (drop_refusal state))
-    (or_else (refused_if (nat_le pages p) PageOut) (refused_if (has_decided state p) PageDecided))
+    (or_else (refused_if (nat_le (pages_in state) p) PageOut) (refused_if (has_decided state p) PageDecided))
     ≡ or_else (reading_refusal (entry_of state))
-    (or_else (refused_if (nat_le pages p) PageOut) (refused_if (has_mark (entry_of state) p) PageDecided))
-take_is (reading copy) pages p =
-    ap (λ (b : Bool). or_else (refused_if (nat_le pages p) PageOut) (refused_if b PageDecided)) (mark_at copy.pages p)
-take_is (complete copy) pages p = refl
-take_is dropped pages p = refl
+    (or_else (refused_if (nat_le (length (marks_of (entry_of state))) p) PageOut)
+    (refused_if (has_mark (entry_of state) p) PageDecided))
+take_is (reading copy) p =
+    ap (λ (b : Bool). or_else (refused_if (nat_le (length copy.pages) p) PageOut) (refused_if b PageDecided))
+    (mark_at copy.pages p)
+    ∙ ap (λ (n : ℕ). or_else (refused_if (nat_le n p) PageOut) (refused_if (has_mark (entry_of (reading copy)) p)
+    PageDecided)) (sym (length-map copy.pages mark_of))
+take_is (complete copy) p = refl
+take_is dropped p = refl
 
 -- ---- the least page that is left
 
@@ -104,7 +109,7 @@ master_is None = refl
 master_is (Some point) = refl
 
 abbrev pub by_catalogue : EngineState → Event → Option Refusal
-by_catalogue s event = catalogue_refusal (is_some s.master) (pages_of s) (entries s.copies) event
+by_catalogue s event = catalogue_refusal (is_some s.master) (volume_pages s) (entries s.copies) event
 
 pub full_by_catalogue : (s : EngineState) → refusal s event.CopyFull ≡ by_catalogue s event.CopyFull
 full_by_catalogue s =
@@ -122,9 +127,9 @@ inc_by_catalogue s parent =
 pub take_by_catalogue : (s : EngineState) (copy page : ℕ)
     → refusal s (event.Take copy page) ≡ by_catalogue s (event.Take copy page)
 take_by_catalogue s copy page =
-    take_is (state_of s.copies copy) s.pages page
+    take_is (state_of s.copies copy) page
     ∙ ap (λ (e : Entry). or_else (reading_refusal e)
-    (or_else (refused_if (nat_le (pages_of s) page) PageOut) (refused_if (has_mark e page) PageDecided)))
+    (or_else (refused_if (nat_le (length (marks_of e)) page) PageOut) (refused_if (has_mark e page) PageDecided)))
     (sym (entry_is s.copies copy))
 
 pub seal_by_catalogue : (s : EngineState) (copy : ℕ) → refusal s (event.Seal copy) ≡ by_catalogue s (event.Seal copy)
@@ -150,7 +155,7 @@ or_else_assoc (Some why) b c = refl
 pub repair_by_catalogue : (s : EngineState) (copy page : ℕ) → refusal s (event.Repair copy page)
     ≡ or_else (by_catalogue s (event.Repair copy page)) (refused_if (is_some (image_of s page)) WriteBegun)
 repair_by_catalogue s copy page =
-    let out = refused_if (nat_le (pages_of s) page) PageOut in
+    let out = refused_if (nat_le (volume_pages s) page) PageOut in
     let begun = refused_if (is_some (image_of s page)) WriteBegun in
     ap (λ (o : Option Refusal). or_else o (or_else out begun)) (complete_is (state_of s.copies copy)
     ∙ ap parent_refusal (sym (entry_is s.copies copy)))

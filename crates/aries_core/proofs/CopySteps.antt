@@ -43,6 +43,10 @@ use Rattle.aries_core.proofs.Stands.{stands}
 use Rattle.aries_core.proofs.Steps.{Grows, Stays, stored_or_not}
 use Rattle.aries_core.proofs.Writes.{PageStep}
 use Rattle.aries_core.proofs.StepsBack.{back_has}
+use Rattle.aries_core.specs.EngineState.{opened_copy}
+use Rattle.log_records.specs.Log.{page_count_below}
+use Rattle.log_records.proofs.PageCounts.{count_below_is_first, count_is_first}
+use Rattle.aries_core.specs.EngineState.{volume_pages}
 
 -- a step leaves the copies, or changes nothing else
 pub data CopyStep (old new : EngineState) : Type 0 where
@@ -79,19 +83,21 @@ noted_by s fit (Some point) is some =
     subst (IsPoint point.begin) (sym named.same_redo)
     (point_of (log_of s) point.begin point.end named.complete fit.valid fit.linked)
 
+-- no record gives a page count so far, so a copy has as many pages as the volume
+pub count_of_copy : (s : EngineState) (begin : ℕ) → volume_pages s ≡ page_count_below (log_of s) begin
+count_of_copy s begin = count_is_first (log_of s) ∙ sym (count_below_is_first (log_of s) begin)
+
 opens : (s : EngineState) (kind : CopyKind) → IsFit s → length s.copies < MAX_COPIES → IsSome s.master
-    → HasParent s.copies (length s.copies + 1) s.pages kind
-    → AreCopied s.log s.forced_end s.stored
-    (opened s.copies kind s.pages (option_map_or (λ p. p.begin) s.master 0) (option_map_or (λ p. p.redo) s.master 0))
+    → HasParent s.copies (length s.copies + 1) kind
+    → AreCopied s.log s.forced_end s.stored (opened_copy s kind).state.copies
 opens s kind fit few some parent =
     let begin = option_map_or (λ p. p.begin) s.master 0 in
     let redo = option_map_or (λ p. p.redo) s.master 0 in
-    subst (λ (n : ℕ). HasParent s.copies (length s.copies + 1) n kind
-    → AreCopied s.log s.forced_end s.stored (opened s.copies kind n begin redo)) fit.counted.stored
-    (λ has. copied_opened s.log s.forced_end s.stored s.copies kind begin redo fit.copied few
-    (noted_by s fit s.master refl some) has (early_redo s fit s.master refl some)
+    subst (λ (n : ℕ). AreCopied s.log s.forced_end s.stored (opened s.copies kind n begin redo))
+    (fit.counted.stored ∙ count_of_copy s begin)
+    (copied_opened s.log s.forced_end s.stored s.copies kind begin redo fit.copied few
+    (noted_by s fit s.master refl some) parent (early_redo s fit s.master refl some)
     (λ p d lt. covered_by s fit s.master refl p d lt))
-    parent
 
 within_ids : (copies : List CopyState) (id : ℕ) (copy : CopyView) → state_of copies id ≡ complete copy
     → id < length copies + 1
@@ -102,14 +108,13 @@ within_ids copies (suc k) copy is = elim (cases_lt k (length copies)) [
 ]
 
 has_parent : (s : EngineState) (parent : ℕ) → IsFit s → refusal s (event.CopyInc parent) ≡ None
-    → HasParent s.copies (length s.copies + 1) s.pages (Inc parent)
+    → HasParent s.copies (length s.copies + 1) (Inc parent)
 has_parent s parent fit none =
     let there = inc_passes s parent none in
     record {
       before = within_ids s.copies parent there.0 there.1;
       copy = there.0;
       is_complete = there.1;
-      same_count = (fit.copied.each parent there.0 (ap copy_in there.1)).whole ∙ fit.counted.stored;
     }
 
 -- ---- a copy goes on
@@ -118,7 +123,8 @@ takes : (s : EngineState) (copy page : ℕ) → IsFit s → refusal s (event.Tak
     → AreCopied s.log s.forced_end s.stored (decided s.copies copy page (stored_page s page))
 takes s copy page fit none =
     let passes = take_passes s copy page none in
-    let there : page < length s.stored = omega (arith, passes.within, fit.counted.stored) in
+    let there : page < length s.stored =
+    omega (arith, passes.within, (fit.copied.each copy passes.view (ap copy_in passes.is_read)).whole) in
     let taken = stored_page s page in
     let same : taken ≡ get_or s.stored page taken = get_or_default s.stored page (formatted page) taken there in
     copied_decided s.log s.forced_end s.stored s.copies copy page passes.view taken fit.copied passes.is_read there same

@@ -32,7 +32,7 @@ use Rattle.aries_core.specs.declared.event.Event.{Event}
 use Rattle.aries_core.specs.declared.refusal.Refusal.{Refusal}
 use Rattle.aries_core.specs.Call.{Calls}
 use Rattle.aries_core.specs.EngineState.{EngineState, HaveMaster, IsFit, appended, end, log_of, new_state, with_page}
-use Rattle.aries_core.specs.EngineState.{pages_of}
+use Rattle.aries_core.specs.EngineState.{volume_pages}
 use Rattle.aries_core.specs.EventFits.{EventFits}
 use Rattle.aries_core.specs.Run.{Run}
 use Rattle.aries_core.specs.Step.{Step}
@@ -46,6 +46,7 @@ use Rattle.aries_core.proofs.Stands.{stands}
 use Rattle.aries_core.proofs.Steps.{Grows, Stays, grows_count, start, stays_count, stays_or_grows}
 use Rattle.aries_core.proofs.PageComes.{dirty_after, dirty_before, start_dirty, start_fit, start_held, start_images}
 use Rattle.aries_core.proofs.Writes.{GoesOn, PageStep, PagesFit, page_step, pages_fit}
+use Rattle.log_records.proofs.PageCounts.{count_behind-nil, count_stays, page_count-push}
 
 -- ---- after a step
 
@@ -79,7 +80,7 @@ fit_stays old event reply new fit from step forced pages ckpts copied noted stay
   counted = pages.counted;
   resident = rw (stays.log, stays.resident) (start_images old event reply from);
   held = λ q lt dirty.
-      let within : q < pages_of old = omega (arith, lt, stays_count old event reply new stays) in
+      let within : q < volume_pages old = omega (arith, lt, stays_count old event reply new stays) in
       rw stays.resident (start_held old event reply from q within
       (ap (λ (rs : List Record). is_clean rs old.written q) (sym stays.log)
       ∙ dirty_before old new q fit step within dirty));
@@ -111,7 +112,7 @@ pub record Comes (s : EngineState) (r : Record) : Type 0 where
   pub of_transaction : IsOfTransaction r
   pub may_follow : MayFollow s.log r
   pub room : length (s.log ++ r ∷ []) + owed (s.log ++ r ∷ []) ≤ MAX_RECORDS
-  pub stands_at : StandsAt (pages_of s) (end s) r
+  pub stands_at : StandsAt (volume_pages s) (end s) r
 
 pub comes : (s : EngineState) (r : Record) → IsFit s → Calls s r → Comes s r
 comes s r fit calls = record {
@@ -138,19 +139,21 @@ pub fit_appended : (s : EngineState) (r : Record) → IsFit s → Comes s r
     → IfSome (change_of r) (λ c. IsResident s.resident c.page) → IsFit (appended s r)
 fit_appended s r fit come there =
     let at = come.stands_at in
+    let count : volume_pages (appended s r) ≡ volume_pages s =
+    page_count-push (log_of s) r ∙ count_stays (volume_pages s) r in
     record {
       valid = valid_next (log_of s) r fit.valid (comes_few s r come) at;
       linked = linked_push s.log r fit.linked come.may_follow;
       room = room_push s.log r fit.room come.room;
       forced = (fit.forced.0, omega (arith, fit.forced.1, length_push s.log r), fit.forced.2);
       counted = record {
-        stored = fit.counted.stored;
-        written = fit.counted.written;
-        writing = fit.counted.writing;
+        stored = fit.counted.stored ∙ sym count;
+        written = fit.counted.written ∙ sym count;
+        writing = fit.counted.writing ∙ sym count;
       };
       resident = images_later s.log r s.resident fit.resident;
       held = λ q lt dirty.
-          resident_later s.resident r q ∙ dirty_after s r q fit lt at.lsn there dirty;
+          resident_later s.resident r q ∙ dirty_after s r q fit (omega (arith, lt, count)) at.lsn there dirty;
       stored = stored_later s.log (r ∷ []) s.stored s.written s.writing fit.stored;
       stable = record { pages = fit.stable.pages; images = fit.stable.images };
       gathered = gathered_later
@@ -180,7 +183,7 @@ fit_grows old event reply new fit from step numbers forced pages ckpts copied no
       resident = rw (grows.log, grows.resident)
           (images_later old.log r (start old event reply).resident (start_images old event reply from));
       held = λ q lt dirty.
-          let within : q < pages_of old = omega (arith, lt, grows_count old event reply new grows) in
+          let within : q < volume_pages old = omega (arith, lt, grows_count old event reply new grows) in
           rw grows.resident (resident_later (start old event reply).resident r q
           ∙ start_dirty old event reply from r q fit within at grows.needs
           (ap (λ (rs : List Record). is_clean rs old.written q) (sym grows.log)
@@ -264,9 +267,9 @@ new_is_fit pages frames count = record {
   room = room_of_none;
   forced = (0, omega arith, refl);
   counted = record {
-    stored = length-map-range_with_len formatted 0 pages;
-    written = length-replicate pages 0;
-    writing = length-replicate pages None;
+    stored = length-map-range_with_len formatted 0 pages ∙ sym (count_behind-nil pages);
+    written = length-replicate pages 0 ∙ sym (count_behind-nil pages);
+    writing = length-replicate pages None ∙ sym (count_behind-nil pages);
   };
   resident = All-nil (λ page. page ≡ image [] page.number);
   held = λ q lt dirty. absurd (true≢false dirty);

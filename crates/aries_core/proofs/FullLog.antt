@@ -23,7 +23,7 @@ use Rattle.aries_core.specs.declared.refusal.Refusal.TheVariants.{LogFull, NoTxn
 use Rattle.aries_core.specs.declared.refusal.Refusal.TheVariants.{TxnRolling}
 use Rattle.aries_core.specs.EngineState.{EngineState, IsFit, commit_record, effect, end, new_state, update_record}
 use Rattle.aries_core.specs.EngineState.{with_page}
-use Rattle.aries_core.specs.EngineState.{pages_of}
+use Rattle.aries_core.specs.EngineState.{volume_pages}
 use Rattle.buffer_pool.specs.Frames.{is_resident}
 use Rattle.buffer_pool.proofs.Pools.{resident_later}
 use Rattle.aries_core.proofs.PageComes.{page_comes}
@@ -76,7 +76,7 @@ add_now : (n : ℕ) (s : EngineState) → Filled n s → refusal s an_add ≡ re
 add_now n s is =
     let room = refused_if (has_no_room s 2) LogFull in
     let one_page = is.one_page in
-    let within : nat_le (pages_of s) 0 ≡ false = lt-leb (pages_of s) 0 (omega arith) in
+    let within : nat_le (volume_pages s) 0 ≡ false = lt-leb (volume_pages s) 0 (omega arith) in
     let place : page_refusal s 0 0 ≡ None = then _ _ None (passes _ PageOut within) refl in
     let other = λ (o : ℕ). not (eqb o 1) && list_any (keeps_out 0 0 kind.Add) (pending s.log o) in
     let free : holder s.log 0 0 kind.Add 1 ≡ None = ap (λ (ts : List ℕ). least (filter other ts)) is.alone in

@@ -25,7 +25,7 @@ use Rattle.fuzzy_ckpt.proofs.Opens.{open_push}
 use Rattle.fuzzy_ckpt.proofs.PagesSteps.{MorePages, more_pages, none_covered, none_kept}
 use Rattle.fuzzy_ckpt.proofs.TxnsSteps.{MoreTxns, all_passed, more_txns, txns_cover}
 use Rattle.aries_core.specs.EngineState.{EngineState, IsFit, IsGathering, end, end_ckpt_record, log_of}
-use Rattle.aries_core.specs.EngineState.{pages_of}
+use Rattle.aries_core.specs.EngineState.{volume_pages}
 use Rattle.aries_core.specs.Gather.{Left, behind_pages, behind_txns, none_left, pages_left, session_of, txns_left}
 use Rattle.aries_core.proofs.Gathers.{AreGathered, FindsPages, FindsTxn, pages_record, txn_entry}
 
@@ -80,7 +80,7 @@ pub pages_follow : (s : EngineState) (c : Checkpoint) (pages : DirtyPages) → I
 pages_follow s c pages fit is finds = (more s c pages fit is finds).follows
 
 pub pages_stand : (s : EngineState) (c : Checkpoint) (pages : DirtyPages) → IsFit s → open_checkpoint s.log ≡ Some c
-    → FindsPages s c (Some pages) → length s.log < MAX_RECORDS → StandsAt (pages_of s) (end s) (pages_record s c pages)
+    → FindsPages s c (Some pages) → length s.log < MAX_RECORDS → StandsAt (volume_pages s) (end s) (pages_record s c pages)
 pages_stand s c pages fit is finds few = (more s c pages fit is finds).stands few
 
 -- the cursor is behind the last page
@@ -159,7 +159,7 @@ pub txn_follows : (s : EngineState) (c : Checkpoint) (t : ℕ) → IsFit s → o
 txn_follows s c t fit is finds = (one_more s c t fit is finds).follows
 
 pub txn_stand : (s : EngineState) (c : Checkpoint) (t : ℕ) → IsFit s → open_checkpoint s.log ≡ Some c
-    → FindsTxn s c (Some t) → length s.log < MAX_RECORDS → StandsAt (pages_of s) (end s) (txn_entry s c t)
+    → FindsTxn s c (Some t) → length s.log < MAX_RECORDS → StandsAt (volume_pages s) (end s) (txn_entry s c t)
 txn_stand s c t fit is finds few = (one_more s c t fit is finds).stands few
 
 -- the cursor is behind the last transaction
@@ -201,6 +201,6 @@ end_ckpt_follows s c fit is done =
     (record { same = refl; least = refl }, subst (HasOldTxns s.log) same now.ckpt.behind)
 
 pub end_ckpt_stands : (s : EngineState) (c : Checkpoint) → IsFit s → open_checkpoint s.log ≡ Some c
-    → s.left ≡ none_left → length s.log < MAX_RECORDS → StandsAt (pages_of s) (end s) (end_ckpt_record s c)
+    → s.left ≡ none_left → length s.log < MAX_RECORDS → StandsAt (volume_pages s) (end s) (end_ckpt_record s c)
 end_ckpt_stands s c fit is done few =
     end_stands (log_of s) (session_of none_left c) fit.valid (gathering_of s c none_left fit is done).ckpt few

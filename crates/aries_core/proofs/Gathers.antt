@@ -16,7 +16,6 @@ use Rattle.aries_core.specs.declared.event.Event.TheVariants as event
 use Rattle.aries_core.specs.declared.refusal.Refusal.TheVariants.{LogFault}
 use Rattle.aries_core.specs.EngineState.{EngineState, IsGathering, Outcome, appended, ckpt_end_effect, closed, effect}
 use Rattle.aries_core.specs.EngineState.{end, gather_effect, gathered_record, gathering, next_step}
-use Rattle.aries_core.specs.EngineState.{pages_of}
 use Rattle.aries_core.specs.Step.{Fails, ForcedPart}
 use Rattle.aries_core.specs.Gather.{Left, behind_pages, behind_txns, left_of, none_left, pages_left, session_of}
 use Rattle.aries_core.specs.Gather.{txns_left}

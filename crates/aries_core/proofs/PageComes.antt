@@ -30,7 +30,7 @@ use Rattle.aries_core.specs.declared.refusal.Refusal.{Refusal}
 use Rattle.page_core.specs.declared.change.ChangeKind.TheVariants as kind
 use Rattle.aries_core.specs.EngineState.{AreImages, EngineState, IsFit, comp_record, end, image_of, log_of}
 use Rattle.aries_core.specs.EngineState.{page_needed, page_now, rec_lsn_of, stored_page, taken_back, with_page}
-use Rattle.aries_core.specs.EngineState.{pages_of}
+use Rattle.aries_core.specs.EngineState.{volume_pages}
 use Rattle.aries_core.specs.Refusal.{refusal}
 use Rattle.aries_core.specs.Step.{Step}
 use Rattle.aries_core.proofs.PageLaws.{clean_is_stored}
@@ -42,7 +42,7 @@ use Rattle.aries_core.proofs.Writes.{Begins, Ends, Leaves, PageStep, Repairs, Re
 -- ---- the page that comes in
 
 -- a page that is not in memory is not dirty
-absent_is_clean : (s : EngineState) (p : ℕ) → IsFit s → p < pages_of s → is_resident s.resident p ≡ false
+absent_is_clean : (s : EngineState) (p : ℕ) → IsFit s → p < volume_pages s → is_resident s.resident p ≡ false
     → rec_lsn_of s p ≡ None
 absent_is_clean s p fit within absent = by_test (rec_lsn_of s p) refl
   where
@@ -52,18 +52,18 @@ absent_is_clean s p fit within absent = by_test (rec_lsn_of s p) refl
         absurd (true≢false (sym (fit.held p within (ap (λ (o : Option ℕ). is_none o) e)) ∙ absent))
 
 -- so it is stored as it is now
-pub stored_is_now : (s : EngineState) (p : ℕ) → IsFit s → p < pages_of s → is_resident s.resident p ≡ false
+pub stored_is_now : (s : EngineState) (p : ℕ) → IsFit s → p < volume_pages s → is_resident s.resident p ≡ false
     → stored_page s p ≡ image s.log p
 stored_is_now s p fit within absent =
     clean_is_stored s p (formatted p) fit within (absent_is_clean s p fit within absent)
 
-pub number_is : (s : EngineState) (p : ℕ) → IsFit s → p < pages_of s → is_resident s.resident p ≡ false
+pub number_is : (s : EngineState) (p : ℕ) → IsFit s → p < volume_pages s → is_resident s.resident p ≡ false
     → (stored_page s p).number ≡ p
 number_is s p fit within absent =
     ap (λ (q : Page). q.number) (stored_is_now s p fit within absent) ∙ number-image s.log p
 
 -- the page is in memory then
-pub page_comes : (s : EngineState) (p : ℕ) → IsFit s → p < pages_of s → IsResident (with_page s p).resident p
+pub page_comes : (s : EngineState) (p : ℕ) → IsFit s → p < volume_pages s → IsResident (with_page s p).resident p
 page_comes s p fit within = by_test (is_resident s.resident p) refl
   where
     clean : ℕ → Bool
@@ -75,7 +75,7 @@ page_comes s p fit within = by_test (is_resident s.resident p) refl
     by_test false e =
         resident_last (with_room s.frames clean s.resident) (stored_page s p) p (number_is s p fit within e)
 
-pub fetched_fit : (s : EngineState) (p : ℕ) → IsFit s → p < pages_of s → IsFit (with_page s p)
+pub fetched_fit : (s : EngineState) (p : ℕ) → IsFit s → p < volume_pages s → IsFit (with_page s p)
 fetched_fit s p fit within = record {
   valid = fit.valid;
   linked = fit.linked;
@@ -107,7 +107,7 @@ fetched_fit s p fit within = record {
         (all_stay (λ x. x ≡ image s.log x.number) s.frames clean s.resident fit.resident)
         (stored_is_now s p fit within e ∙ ap (image s.log) (sym (number_is s p fit within e)))
 
-    held : (q : ℕ) → q < pages_of s → clean q ≡ false → (b : Bool)
+    held : (q : ℕ) → q < volume_pages s → clean q ≡ false → (b : Bool)
         → IsResident (cond b s.resident (fetched s.frames clean s.resident (stored_page s p))) q
     held q lt dirty true = fit.held q lt dirty
     held q lt dirty false = dirty_kept s.frames clean s.resident (stored_page s p) q dirty (fit.held q lt dirty)
@@ -116,26 +116,26 @@ fetched_fit s p fit within = record {
 
 -- it is one of the volume
 pub needed_within : (s : EngineState) (event : Event) → IsFit s → refusal s event ≡ None
-    → IfSome (page_needed s event) (λ p. p < pages_of s)
+    → IfSome (page_needed s event) (λ p. p < volume_pages s)
 needed_within s (event.Set txn page slot number) fit none = (change_passes s txn page slot kind.Set none).place.within
 needed_within s (event.Add txn page slot amount) fit none = (change_passes s txn page slot kind.Add none).place.within
 needed_within s (event.Read page slot) fit none = (read_passes s page slot none).within
 needed_within s (event.UndoStep txn) fit none = by_last (last_of (pending s.log txn)) refl
   where
     by_last : (o : Option PendingChange) → last_of (pending s.log txn) ≡ o
-        → IfSome (option_map (λ p. p.page) o) (λ p. p < pages_of s)
+        → IfSome (option_map (λ p. p.page) o) (λ p. p < volume_pages s)
     by_last None e = tt
     by_last (Some p) e =
         let r = comp_record s txn p in
-        change_within (pages_of s) r (stands s (event.UndoStep txn) r fit tt none (rw e refl)).within
+        change_within (volume_pages s) r (stands s (event.UndoStep txn) r fit tt none (rw e refl)).within
 needed_within s (event.UndoTo txn at) fit none = by_taken (taken_back s txn at) refl
   where
     by_taken : (o : Option PendingChange) → taken_back s txn at ≡ o
-        → IfSome (option_map (λ p. p.page) o) (λ p. p < pages_of s)
+        → IfSome (option_map (λ p. p.page) o) (λ p. p < volume_pages s)
     by_taken None e = tt
     by_taken (Some p) e =
         let r = comp_record s txn p in
-        change_within (pages_of s) r (stands s (event.UndoTo txn at) r fit tt none (rw e refl)).within
+        change_within (volume_pages s) r (stands s (event.UndoTo txn at) r fit tt none (rw e refl)).within
 needed_within s other fit none = tt
 
 -- the engine with it is fit
@@ -144,7 +144,7 @@ pub start_fit : (old : EngineState) (event : Event) (reply : Result Answer Refus
 start_fit old event (Ok answer) new fit step =
     by_need (page_needed old event) (needed_within old event fit step.0)
   where
-    by_need : (o : Option ℕ) → IfSome o (λ p. p < pages_of old) → IsFit (option_map_or (with_page old) o old)
+    by_need : (o : Option ℕ) → IfSome o (λ p. p < volume_pages old) → IsFit (option_map_or (with_page old) o old)
     by_need None within = fit
     by_need (Some p) within = fetched_fit old p fit within
 start_fit old event (Err why) new fit step = fit
@@ -169,7 +169,7 @@ none_above (lsn ∷ lsns) low high le none =
 
 -- it was dirty by the last writes before the step: of one page another LSN counts as the last write,
 -- which is no lesser one
-dirty_unless : (old new : EngineState) (q p lsn : ℕ) → IsFit old → q < pages_of old
+dirty_unless : (old new : EngineState) (q p lsn : ℕ) → IsFit old → q < volume_pages old
     → new.written ≡ set old.written p lsn → (q ≡ p → get_or old.written q 0 ≤ lsn)
     → is_clean new.log new.written q ≡ false → is_clean new.log old.written q ≡ false
 dirty_unless old new q p lsn fit within written no_later dirty = elim (cases_eq q p) [
@@ -200,7 +200,7 @@ dirty_unless old new q p lsn fit within written no_later dirty = elim (cases_eq 
       | inr other ↦ of_another other
     ]
 
-pub dirty_before : (old new : EngineState) (q : ℕ) → IsFit old → PageStep old new → q < pages_of old
+pub dirty_before : (old new : EngineState) (q : ℕ) → IsFit old → PageStep old new → q < volume_pages old
     → is_clean new.log new.written q ≡ false → is_clean new.log old.written q ≡ false
 dirty_before old new q fit (Leaves left) within dirty = rw left.written at dirty
 dirty_before old new q fit (Begins p begins) within dirty = rw begins.written at dirty
@@ -237,7 +237,7 @@ dirty_before old new q fit (Repairs p repairs) within dirty = elim repairs.writt
         omega arith
 
 -- the last write of a page is no change to come
-written_low : (s : EngineState) (r : Record) (q : ℕ) → IsFit s → q < pages_of s → own_lsn r ≡ end s
+written_low : (s : EngineState) (r : Record) (q : ℕ) → IsFit s → q < volume_pages s → own_lsn r ≡ end s
     → get_or s.written q 0 < own_lsn r
 written_low s r q fit within own =
     let there : q < length s.stored = let count = fit.counted.stored in omega arith in
@@ -249,7 +249,7 @@ written_low s r q fit within own =
     omega arith
 
 -- a record more makes dirty the page that it changes alone
-pub dirty_after : (s : EngineState) (r : Record) (q : ℕ) → IsFit s → q < pages_of s → own_lsn r ≡ end s
+pub dirty_after : (s : EngineState) (r : Record) (q : ℕ) → IsFit s → q < volume_pages s → own_lsn r ≡ end s
     → IfSome (change_of r) (λ c. IsResident s.resident c.page)
     → is_clean (s.log ++ r ∷ []) s.written q ≡ false → IsResident s.resident q
 dirty_after s r q fit within own here dirty = by_test (changes q r) refl
@@ -289,23 +289,23 @@ module _ (old : EngineState) (event : Event) (reply : Result Answer Refusal) (fr
       start_is (λ s. IsFit s → AreImages old.log s.resident) old event reply (λ fit. fit.resident)
       (λ p fit. fit.resident) from
 
-  pub start_held : (q : ℕ) → q < pages_of old → is_clean old.log old.written q ≡ false
+  pub start_held : (q : ℕ) → q < volume_pages old → is_clean old.log old.written q ≡ false
       → IsResident (start old event reply).resident q
   start_held q within dirty =
       start_is (λ s. IsFit s → IsResident s.resident q) old event reply (λ fit. fit.held q within dirty)
       (λ p fit. fit.held q within dirty) from
 
   -- and with a record that changes the page which the call needs
-  pub start_dirty : (r : Record) (q : ℕ) → IsFit old → q < pages_of old → StandsAt (pages_of old) (end old) r
+  pub start_dirty : (r : Record) (q : ℕ) → IsFit old → q < volume_pages old → StandsAt (volume_pages old) (end old) r
       → IfSome (change_of r) (λ c. start old event reply ≡ with_page old c.page)
       → is_clean (old.log ++ r ∷ []) old.written q ≡ false → IsResident (start old event reply).resident q
   start_dirty r q fit within at needs dirty =
       start_is (λ s. IsFit s → IfSome (change_of r) (λ c. IsResident s.resident c.page) → IsResident s.resident q)
       old event reply (λ fit there. dirty_after old r q fit within at.lsn there dirty)
       (λ p fit there. dirty_after (with_page old p) r q fit within at.lsn there dirty) from
-      (there (change_of r) (change_within (pages_of old) r at.within) needs)
+      (there (change_of r) (change_within (volume_pages old) r at.within) needs)
     where
-      there : (o : Option PageChange) → IfSome o (λ c. c.page < pages_of old)
+      there : (o : Option PageChange) → IfSome o (λ c. c.page < volume_pages old)
           → IfSome o (λ c. start old event reply ≡ with_page old c.page)
           → IfSome o (λ c. IsResident (start old event reply).resident c.page)
       there None inside is = tt

@@ -13,7 +13,7 @@ use Rattle.aries_core.specs.declared.event.Event.TheVariants as event
 use Rattle.aries_core.specs.declared.refusal.Refusal.{Refusal}
 use Rattle.aries_core.specs.declared.refusal.Refusal.TheVariants.{CommitUnsure, LogFault, OutOfMemory, StoreFault}
 use Rattle.aries_core.specs.EngineState.{EngineState, IsFit, effect, ended_write, log_of, page_now, rec_lsn_of}
-use Rattle.aries_core.specs.EngineState.{pages_of}
+use Rattle.aries_core.specs.EngineState.{volume_pages}
 use Rattle.aries_core.specs.Refusal.{refusal}
 use Rattle.aries_core.specs.Run.{Run}
 use Rattle.aries_core.specs.Step.{Fails, Step}
@@ -25,16 +25,16 @@ use Rattle.aries_core.proofs.StepsBack.{back_has}
 
 -- ---- the pages of a fit engine
 
-there : (s : EngineState) (p : ℕ) → IsFit s → p < pages_of s → p < length s.stored
+there : (s : EngineState) (p : ℕ) → IsFit s → p < volume_pages s → p < length s.stored
 there s p fit within = let count = fit.counted.stored in omega arith
 
-pub rec_lsn_is_covered : (s : EngineState) (p rec : ℕ) (d : Page) → IsFit s → p < pages_of s
+pub rec_lsn_is_covered : (s : EngineState) (p rec : ℕ) (d : Page) → IsFit s → p < volume_pages s
     → rec_lsn_of s p ≡ Some rec → Covers s.log p (get_or s.stored p d) rec
 rec_lsn_is_covered s p rec d fit within e =
     let is = fit.stored.pages p d (there s p fit within) in
     dirty_covers s.log p (get_or s.stored p d) (get_or s.written p 0) rec is.past is.reached e
 
-pub clean_is_stored : (s : EngineState) (p : ℕ) (d : Page) → IsFit s → p < pages_of s → rec_lsn_of s p ≡ None
+pub clean_is_stored : (s : EngineState) (p : ℕ) (d : Page) → IsFit s → p < volume_pages s → rec_lsn_of s p ≡ None
     → get_or s.stored p d ≡ page_now s p
 clean_is_stored s p d fit within e =
     let is = fit.stored.pages p d (there s p fit within) in

@@ -17,7 +17,7 @@ use Rattle.aries_core.specs.declared.refusal.Refusal.TheVariants.{NoWrite, NotDi
 use Rattle.aries_core.specs.EngineState.{MediaView, EngineState, begun_write, ended_write, engine_view, forced_through}
 use Rattle.aries_core.specs.EngineState.{image_of}
 use Rattle.aries_core.specs.EngineState.{new_state, rec_lsn_of, stored_page, with_page, with_stored}
-use Rattle.aries_core.specs.EngineState.{pages_of}
+use Rattle.aries_core.specs.EngineState.{volume_pages}
 use Rattle.buffer_pool.specs.Frames.{fetched, is_resident}
 use Rattle.page_core.specs.Volume.{formatted_pages}
 use Rattle.aries_core.specs.Refusal.{refusal}
@@ -25,36 +25,36 @@ use Rattle.txn_table.specs.declared.returns.Return.{Return}
 
 -- ---- refusals
 
-pub begin_out : (s : EngineState) (p : ℕ) → pages_of s ≤ p → refusal s (event.WriteBegin p) ≡ Some PageOut
-begin_out s p past = rw (le-leb (pages_of s) p past) refl
+pub begin_out : (s : EngineState) (p : ℕ) → volume_pages s ≤ p → refusal s (event.WriteBegin p) ≡ Some PageOut
+begin_out s p past = rw (le-leb (volume_pages s) p past) refl
 
-pub begin_begun : (s : EngineState) (p : ℕ) → p < pages_of s → is_some (image_of s p) ≡ true
+pub begin_begun : (s : EngineState) (p : ℕ) → p < volume_pages s → is_some (image_of s p) ≡ true
     → refusal s (event.WriteBegin p) ≡ Some WriteBegun
-begin_begun s p within begun = rw (lt-leb (pages_of s) p within, begun) refl
+begin_begun s p within begun = rw (lt-leb (volume_pages s) p within, begun) refl
 
-pub begin_clean : (s : EngineState) (p : ℕ) → p < pages_of s → is_some (image_of s p) ≡ false
+pub begin_clean : (s : EngineState) (p : ℕ) → p < volume_pages s → is_some (image_of s p) ≡ false
     → is_none (rec_lsn_of s p) ≡ true → refusal s (event.WriteBegin p) ≡ Some NotDirty
-begin_clean s p within idle clean = rw (lt-leb (pages_of s) p within, idle, clean) refl
+begin_clean s p within idle clean = rw (lt-leb (volume_pages s) p within, idle, clean) refl
 
-pub begin_may : (s : EngineState) (p : ℕ) → p < pages_of s → is_some (image_of s p) ≡ false
+pub begin_may : (s : EngineState) (p : ℕ) → p < volume_pages s → is_some (image_of s p) ≡ false
     → is_none (rec_lsn_of s p) ≡ false → refusal s (event.WriteBegin p) ≡ None
-begin_may s p within idle dirty = rw (lt-leb (pages_of s) p within, idle, dirty) refl
+begin_may s p within idle dirty = rw (lt-leb (volume_pages s) p within, idle, dirty) refl
 
 none_by_some : {X : Type 0} (o : Option X) (b : Bool) → is_some o ≡ b
     → is_none o ≡ (elim b as (λ (b : Bool). Bool) [ true ↦ false | false ↦ true ])
 none_by_some None b e = ap (λ (b : Bool). elim b as (λ (b : Bool). Bool) [ true ↦ false | false ↦ true ]) e
 none_by_some (Some x) b e = ap (λ (b : Bool). elim b as (λ (b : Bool). Bool) [ true ↦ false | false ↦ true ]) e
 
-pub end_out : (s : EngineState) (p : ℕ) → pages_of s ≤ p → refusal s (event.WriteEnd p) ≡ Some PageOut
-end_out s p past = rw (le-leb (pages_of s) p past) refl
+pub end_out : (s : EngineState) (p : ℕ) → volume_pages s ≤ p → refusal s (event.WriteEnd p) ≡ Some PageOut
+end_out s p past = rw (le-leb (volume_pages s) p past) refl
 
-pub end_idle : (s : EngineState) (p : ℕ) → p < pages_of s → is_some (image_of s p) ≡ false
+pub end_idle : (s : EngineState) (p : ℕ) → p < volume_pages s → is_some (image_of s p) ≡ false
     → refusal s (event.WriteEnd p) ≡ Some NoWrite
-end_idle s p within idle = rw (lt-leb (pages_of s) p within, none_by_some (image_of s p) false idle) refl
+end_idle s p within idle = rw (lt-leb (volume_pages s) p within, none_by_some (image_of s p) false idle) refl
 
-pub end_may : (s : EngineState) (p : ℕ) → p < pages_of s → is_some (image_of s p) ≡ true
+pub end_may : (s : EngineState) (p : ℕ) → p < volume_pages s → is_some (image_of s p) ≡ true
     → refusal s (event.WriteEnd p) ≡ None
-end_may s p within begun = rw (lt-leb (pages_of s) p within, none_by_some (image_of s p) true begun) refl
+end_may s p within begun = rw (lt-leb (volume_pages s) p within, none_by_some (image_of s p) true begun) refl
 
 -- ---- a page
 

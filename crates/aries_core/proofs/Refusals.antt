@@ -1,6 +1,6 @@
 -- What an event that is not refused has passed.
 use Rattle.std.proofs.Common.{◌≡◌, ℕ, ◌+◌, ◌<◌, ◌≤◌, ◌⊎◌, Bool, true, false, ◌&&◌, not, length, refl, sym, ap, ◌∙◌, inl}
-use Rattle.std.proofs.Common.{inr}
+use Rattle.std.proofs.Common.{inr, subst}
 use Rattle.std.specs.Prelude.{IfSome, Option, Some, None, IsSome, is_none, is_some, nat_le, nat_lt, List, if◌then◌else◌}
 use Rattle.std.specs.Option.{option_map, option_map_or, option_or}
 use Rattle.std.proofs.lemmas.Option.{cond_some, same_Some}
@@ -33,10 +33,11 @@ use Rattle.aries_core.specs.declared.refusal.Refusal.TheVariants.{NoMaster, NoTx
 use Rattle.aries_core.specs.declared.refusal.Refusal.TheVariants.{NotRolling, PageOut, SlotBusy, SlotOut, TooManyTxns}
 use Rattle.aries_core.specs.declared.refusal.Refusal.TheVariants.{NoSavepoint, PoolFull, TxnRolling, WriteBegun}
 use Rattle.aries_core.specs.EngineState.{EngineState, gathered_record, image_of, page_needed, rec_lsn_of, taken_back}
-use Rattle.aries_core.specs.EngineState.{pages_of}
+use Rattle.aries_core.specs.EngineState.{volume_pages}
 use Rattle.aries_core.specs.Gather.{Left, is_done, none_left, pages_left, txns_left}
 use Rattle.aries_core.specs.Refusal.{active_refusal, change_refusal, ckpt_refusal, copy_refusal, of_vault, has_no_room}
 use Rattle.aries_core.specs.Refusal.{frame_refusal, or_else, page_refusal, refused_if, refusal, rolling_refusal}
+use Rattle.aries_core.specs.Refusal.{pages_in}
 
 -- ---- one test, and two
 
@@ -61,7 +62,7 @@ pub record ActiveIn (s : EngineState) (txn : ℕ) : Type 0 where
 
 -- the slot is one of the volume
 pub record SlotIn (s : EngineState) (page slot : ℕ) : Type 0 where
-  pub within : page < pages_of s
+  pub within : page < volume_pages s
   pub fits : slot < SLOTS
 
 -- so many records more, owed ones among them, still fit
@@ -279,13 +280,13 @@ write_end_not_full s page full = not_of_both _ _ PageOut NoWrite LogFull (λ sam
 
 -- a page may be written: it is one of the volume, none of its writes is in progress, and it is dirty
 pub record WriteBegins (s : EngineState) (page : ℕ) : Type 0 where
-  pub within : page < pages_of s
+  pub within : page < volume_pages s
   pub free : image_of s page ≡ None
   pub dirty : is_none (rec_lsn_of s page) ≡ false
 
 -- a write of the page is in progress
 pub record WriteEnds (s : EngineState) (page : ℕ) : Type 0 where
-  pub within : page < pages_of s
+  pub within : page < volume_pages s
   pub image : Page
   pub there : image_of s page ≡ Some image
 
@@ -534,17 +535,17 @@ inc_is_few s parent none =
 pub record TakePasses (s : EngineState) (copy page : ℕ) : Type 0 where
   pub view : CopyView
   pub is_read : state_of s.copies copy ≡ reading view
-  pub within : page < pages_of s
+  pub within : page < length view.pages
 
 pub take_passes : (s : EngineState) (copy page : ℕ) → refusal s (event.Take copy page) ≡ None → TakePasses s copy page
 take_passes s copy page none =
     let both = none_of_both (copy_refusal s copy) _ none in
     let there = drop_passes s copy both.0 in
-    let rest = none_of_both (refused_if (nat_le (pages_of s) page) PageOut) _ both.1 in
+    let rest = none_of_both (refused_if (nat_le (pages_in (state_of s.copies copy)) page) PageOut) _ both.1 in
     record {
       view = there.0;
       is_read = there.1;
-      within = leb-false _ _ (not_refused _ _ rest.0);
+      within = subst (λ (state : CopyState). page < pages_in state) there.1 (leb-false _ _ (not_refused _ _ rest.0));
     }
 
 master_if : (o : Option Point) → is_none o ≡ false → IsSome o
@@ -563,7 +564,7 @@ full_is_few s none =
 pub record RepairPasses (s : EngineState) (copy page : ℕ) : Type 0 where
   pub view : CopyView
   pub is_complete : state_of s.copies copy ≡ complete view
-  pub within : page < pages_of s
+  pub within : page < volume_pages s
   pub idle : image_of s page ≡ None
 
 pub repair_passes : (s : EngineState) (copy page : ℕ) → refusal s (event.Repair copy page) ≡ None
@@ -571,7 +572,7 @@ pub repair_passes : (s : EngineState) (copy page : ℕ) → refusal s (event.Rep
 repair_passes s copy page none =
     let both = none_of_both (option_map of_vault (complete_refusal (state_of s.copies copy))) _ none in
     let there = complete_if (state_of s.copies copy) (vault_passes _ both.0) in
-    let rest = none_of_both (refused_if (nat_le (pages_of s) page) PageOut) _ both.1 in
+    let rest = none_of_both (refused_if (nat_le (volume_pages s) page) PageOut) _ both.1 in
     record {
       view = there.0;
       is_complete = there.1;

@@ -1,6 +1,6 @@
 -- The repair of a page: what it makes of an engine that is in step with its pool.
 use Rattle.std.proofs.Common.{◌≡◌, ℕ, ◌<◌, List, length, set, refl, sym, ap, subst, ◌∙◌, max, inl}
-use Rattle.std.proofs.Common.{inr}
+use Rattle.std.proofs.Common.{arith, inr}
 use Rattle.std.specs.Prelude.{None, ◌∷◌, Ok, Err}
 use Rattle.std.specs.List.{AllByRecursion}
 use Rattle.std.proofs.lemmas.List.{get_or-map, map-set, set-get_or}
@@ -10,7 +10,7 @@ use Rattle.log_records.specs.Coverage.{Covers}
 use Rattle.log_records.specs.Image.{image}
 use Rattle.log_history.specs.Table.{Table}
 use Rattle.log_store.specs.WrittenLog.{WrittenLog, end_up_to}
-use Rattle.copy_vault.specs.Chain.{IsChain, IsChainOf, content, last_redo, page_count}
+use Rattle.copy_vault.specs.Chain.{IsChain, IsChainOf, content, last_redo}
 use Rattle.copy_vault.specs.Copy.{CopyView}
 use Rattle.copy_vault.specs.Vault.{complete, state_of}
 use Rattle.copy_coverage.specs.Copied.{copy_in}
@@ -22,36 +22,24 @@ use Rattle.aries_core.specs.declared.event.Event.TheVariants as event
 use Rattle.aries_core.specs.declared.refusal.Refusal.TheVariants.{StoreFault}
 use Rattle.aries_core.specs.EngineState.{EngineState, IsFit, IsKept, MediaView, effect, engine_view, forced_through}
 use Rattle.aries_core.specs.EngineState.{log_of, with_stored}
-use Rattle.aries_core.specs.EngineState.{pages_of}
+use Rattle.aries_core.specs.EngineState.{volume_pages}
 use Rattle.aries_core.specs.EngineState as engine
 use Rattle.aries_core.specs.Refusal.{refusal}
 use Rattle.aries_core.specs.Repair.{MayBeRepaired}
 use Rattle.aries_core.proofs.PoolStates.{image_at}
 use Rattle.aries_core.proofs.Refusals.{repair_passes}
 use Rattle.aries_core.proofs.WriteCalls.{Called, called}
+use Rattle.log_records.proofs.PageCounts.{count_is_first}
 
 -- ---- what a chain has
 
 -- the pages of a complete copy's chain lack nothing below its redo point
 pub chain_covers : (s : EngineState) (copy p : ℕ) (members : List CopyView) → IsFit s → IsChain members
-    → IsChainOf s.copies copy members → p < pages_of s → Covers s.log p (content members p) (last_redo members)
+    → IsChainOf s.copies copy members → p < volume_pages s → Covers s.log p (content members p) (last_redo members)
 chain_covers s copy p members fit chain of_id within =
     (covered_of_members (log_of s) s.forced_end s.copies copy members p
-    (restorable (log_of s) s.forced_end s.stored s.copies fit.counted.stored fit.copied) chain of_id within).covers
-
--- they are as many as the volume has
-pub chain_count : (s : EngineState) (copy : ℕ) (members : List CopyView) → IsFit s → IsChain members
-    → IsChainOf s.copies copy members → page_count members ≡ s.pages
-chain_count s copy members fit chain of_id =
-    let first = chain.first in
-    let here : state_of s.copies first.id ≡ complete first = of_first members chain.more chain.is of_id.of_vault in
-    ap page_count chain.is ∙ (fit.copied.each first.id first (ap copy_in here)).whole ∙ fit.counted.stored
-  where
-    of_first : (all more : List CopyView) → all ≡ chain.first ∷ more
-        → AllByRecursion (λ copy. state_of s.copies copy.id ≡ complete copy) all
-        → state_of s.copies chain.first.id ≡ complete chain.first
-    of_first all more is each =
-        (subst (AllByRecursion (λ copy. state_of s.copies copy.id ≡ complete copy)) is each).0
+    (restorable (log_of s) s.forced_end s.stored s.copies (fit.counted.stored ∙ count_is_first (log_of s)) fit.copied)
+    chain of_id (omega (arith, within, count_is_first (log_of s)))).covers
 
 -- ---- the state after it
 

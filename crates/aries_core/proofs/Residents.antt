@@ -21,7 +21,7 @@ use Rattle.aries_core.specs.declared.event.Answer.{Answer}
 use Rattle.aries_core.specs.declared.event.Event.{Event}
 use Rattle.aries_core.specs.declared.refusal.Refusal.{Refusal}
 use Rattle.aries_core.specs.EngineState.{EngineState, IsFit, new_state, page_needed, stored_page, with_page}
-use Rattle.aries_core.specs.EngineState.{pages_of}
+use Rattle.aries_core.specs.EngineState.{volume_pages}
 use Rattle.aries_core.specs.EventFits.{EventFits}
 use Rattle.aries_core.specs.Refusal.{frame_refusal}
 use Rattle.aries_core.specs.Run.{Run}
@@ -106,7 +106,7 @@ framed_push frames pages page few distinct absent = record {
 
 -- ---- the page that a call needs
 
-page_framed : (s : EngineState) (p : ℕ) → IsFit s → p < pages_of s → frame_refusal s p ≡ None
+page_framed : (s : EngineState) (p : ℕ) → IsFit s → p < volume_pages s → frame_refusal s p ≡ None
     → AreFramed s.frames s.resident → AreFramed s.frames (with_page s p).resident
 page_framed s p fit within none framed = by_test (is_resident s.resident p) refl
   where
@@ -151,7 +151,7 @@ start_framed : (old : EngineState) (event : Event) (reply : Result Answer Refusa
 start_framed old event (Ok answer) new fit step framed =
     by_need (page_needed old event) (needed_within old event fit step.0) (needed_passes old event step.0)
   where
-    by_need : (o : Option ℕ) → IfSome o (λ p. p < pages_of old) → IfSome o (λ p. frame_refusal old p ≡ None)
+    by_need : (o : Option ℕ) → IfSome o (λ p. p < volume_pages old) → IfSome o (λ p. frame_refusal old p ≡ None)
         → AreFramed old.frames (option_map_or (with_page old) o old).resident
     by_need None within none = framed
     by_need (Some p) within none = page_framed old p fit within none framed

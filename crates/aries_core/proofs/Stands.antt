@@ -19,7 +19,7 @@ use Rattle.aries_core.specs.declared.event.Event.{Event}
 use Rattle.aries_core.specs.declared.event.Event.TheVariants as event
 use Rattle.aries_core.specs.EngineState.{EngineState, IsFit, abort_record, commit_record, comp_record, end, end_record}
 use Rattle.aries_core.specs.EngineState.{log_of, next_txn, update_record}
-use Rattle.aries_core.specs.EngineState.{pages_of}
+use Rattle.aries_core.specs.EngineState.{volume_pages}
 use Rattle.aries_core.specs.EventFits.{EventFits}
 use Rattle.aries_core.specs.Refusal.{refusal}
 use Rattle.aries_core.proofs.Follows.{end_record_has, gather_record_has, undo_has}
@@ -31,9 +31,10 @@ use Rattle.aries_core.proofs.Refusals.{ChangePasses, active_passes, change_passe
 use Rattle.aries_core.proofs.Refusals.{back_passes, undo_passes}
 use Rattle.aries_core.specs.Call.{record_for}
 use Rattle.aries_core.proofs.StepsBack.{back_record_has}
+use Rattle.log_records.proofs.PageCounts.{page_count-is_count}
 
 abbrev pub StandsAtEnd : EngineState → Record → Type 0
-StandsAtEnd s r = StandsAt (pages_of s) (end s) r
+StandsAtEnd s r = StandsAt (volume_pages s) (end s) r
 
 -- ---- its parts
 
@@ -77,7 +78,7 @@ update_stands s txn page slot change fit passes fits =
         parts.lsn,
         parts.number,
         parts.prev,
-        record { page = let most = fit.valid.pages.most in omega arith; slot = passes.place.fits; change = fits },
+        record { page = let most = (page_count-is_count (log_of s) fit.valid).most in omega arith; slot = passes.place.fits; change = fits },
       );
       within = within;
     }
@@ -86,7 +87,7 @@ set_fits : (s : EngineState) (page slot number : ℕ) → IsFit s → number < 2
     → IsChange (Set (number_in s.log page slot) number)
 set_fits s page slot number fit fits =
     let all = all_stand (log_of s) fit.valid in
-    let before = All-weaker (StandsBefore (pages_of s) (end s)) IsRecord (λ r stands. stands.valid) s.log all in
+    let before = All-weaker (StandsBefore (volume_pages s) (end s)) IsRecord (λ r stands. stands.valid) s.log all in
     (number_fits s.log page slot before, fits)
 
 commit_stands : (s : EngineState) (txn : ℕ) → IsFit s → is_open s.log txn ≡ true

@@ -18,7 +18,7 @@ use Rattle.aries_core.specs.declared.refusal.Refusal.{Refusal}
 use Rattle.aries_core.specs.declared.refusal.Refusal.TheVariants.{OutOfMemory, StoreFault, LogFault, CommitUnsure}
 use Rattle.aries_core.specs.Accepted.{shown_call}
 use Rattle.aries_core.specs.EngineState.{EngineState, appended, comp_record, effect, end_ckpt_record, end_record}
-use Rattle.aries_core.specs.EngineState.{ended_write, image_of, log_of, page_needed, pages_of, taken_back, with_page}
+use Rattle.aries_core.specs.EngineState.{ended_write, image_of, log_of, page_needed, volume_pages, taken_back, with_page}
 use Rattle.aries_core.specs.EngineState.{with_stored}
 use Rattle.log_records.proofs.PageCounts.{count_stays, page_count-push}
 use Rattle.aries_core.specs.Refusal.{refusal}
@@ -53,14 +53,14 @@ pub record Grows (old : EngineState) (event : Event) (reply : Result Answer Refu
 -- ---- how many pages the volume has
 
 pub stays_count : (old : EngineState) (event : Event) (reply : Result Answer Refusal) (new : EngineState)
-    → Stays old event reply new → pages_of new ≡ pages_of old
+    → Stays old event reply new → volume_pages new ≡ volume_pages old
 stays_count old event reply new stays = rw (stays.pages, stays.log) refl
 
 -- no call's record gives a page count
 pub grows_count : (old : EngineState) (event : Event) (reply : Result Answer Refusal) (new : EngineState)
-    → Grows old event reply new → pages_of new ≡ pages_of old
+    → Grows old event reply new → volume_pages new ≡ volume_pages old
 grows_count old event reply new grows =
-    rw (grows.pages, grows.log) (page_count-push (log_of old) grows.r ∙ count_stays (pages_of old) grows.r)
+    rw (grows.pages, grows.log) (page_count-push (log_of old) grows.r ∙ count_stays (volume_pages old) grows.r)
 
 -- ---- each reply
 

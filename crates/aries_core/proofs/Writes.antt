@@ -24,7 +24,7 @@ use Rattle.aries_core.specs.declared.refusal.Refusal.{Refusal}
 use Rattle.aries_core.specs.declared.refusal.Refusal.TheVariants.{CommitUnsure, LogFault, OutOfMemory, StoreFault}
 use Rattle.aries_core.specs.EngineState.{AreCounted, AreStable, EngineState, IsFit, effect, ended_write, image_of}
 use Rattle.aries_core.specs.EngineState.{forced_through, log_of, page_now, with_stored}
-use Rattle.aries_core.specs.EngineState.{pages_of}
+use Rattle.aries_core.specs.EngineState.{volume_pages}
 use Rattle.aries_core.specs.Refusal.{refusal}
 use Rattle.aries_core.specs.Step.{Fails, Step}
 use Rattle.aries_core.proofs.Gathers.{ckpt_end_has, closed_part, gather_has}
@@ -67,7 +67,7 @@ pub record RepeatsWrite (old : EngineState) (page : ℕ) (new : EngineState) : T
 
 -- it stores a page as it is now, while no write of it is in progress; that may count as its last write
 pub record RepairsPage (old : EngineState) (page : ℕ) (new : EngineState) : Type 0 where
-  pub within : page < pages_of old
+  pub within : page < volume_pages old
   pub idle : image_of old page ≡ None
   pub log : new.log ≡ old.log
   pub stored : new.stored ≡ set old.stored page (page_now old page)
@@ -230,7 +230,7 @@ pub record PagesFit (s : EngineState) : Type 0 where
 -- the rest of a step: the log grows, the forced end does not fall, the page count stays
 pub record GoesOn (old new : EngineState) : Type 0 where
   pub pages : new.pages ≡ old.pages
-  pub count : pages_of new ≡ pages_of old
+  pub count : volume_pages new ≡ volume_pages old
   pub rest : List Record
   pub log : new.log ≡ old.log ++ rest
   pub no_less : old.forced_end ≤ new.forced_end

@@ -136,7 +136,7 @@ catalogue_refusal has_master pages entries (event.CopyInc parent) =
     or_else (parent_refusal (entry_at entries parent)) (count_refusal entries)
 catalogue_refusal has_master pages entries (event.Take copy page) =
     or_else (reading_refusal (entry_at entries copy))
-    (or_else (refused_if (nat_le pages page) PageOut)
+    (or_else (refused_if (nat_le (length (marks_of (entry_at entries copy))) page) PageOut)
     (refused_if (has_mark (entry_at entries copy) page) PageDecided))
 catalogue_refusal has_master pages entries (event.Seal copy) =
     or_else (reading_refusal (entry_at entries copy))

@@ -104,8 +104,8 @@ abbrev pub log_of : EngineState → Log
 log_of s = record { pages = s.pages; records = s.log }
 
 -- how many pages the volume has
-abbrev pub pages_of : EngineState → ℕ
-pages_of s = page_count (log_of s)
+abbrev pub volume_pages : EngineState → ℕ
+volume_pages s = page_count (log_of s)
 
 -- forced through the record at an LSN, at least
 abbrev pub forced_through : EngineState → ℕ → EngineState
@@ -374,9 +374,9 @@ master_record point = record { begin = point.begin; end = point.end }
 
 -- each page of the volume has its place in each list
 pub record AreCounted (s : EngineState) : Type 0 where
-  pub stored : length s.stored ≡ pages_of s
-  pub written : length s.written ≡ pages_of s
-  pub writing : length s.writing ≡ pages_of s
+  pub stored : length s.stored ≡ volume_pages s
+  pub written : length s.written ≡ volume_pages s
+  pub writing : length s.writing ≡ volume_pages s
 
 -- each page in memory is as the log makes it
 abbrev pub AreImages : List Record → List Page → Type 0
@@ -384,7 +384,7 @@ AreImages rs resident = All (λ page. page ≡ image rs page.number) resident
 
 -- each dirty page is in memory
 abbrev pub AreHeld : EngineState → Type 0
-AreHeld s = (p : ℕ) → p < pages_of s → is_clean s.log s.written p ≡ false → IsResident s.resident p
+AreHeld s = (p : ℕ) → p < volume_pages s → is_clean s.log s.written p ≡ false → IsResident s.resident p
 
 -- no stored page, and no image that is being written, shows a change whose record is not forced
 pub record AreStable (s : EngineState) : Type 0 where

@@ -41,7 +41,7 @@ use Rattle.aries_core.specs.declared.setup.PlayFault.{PlayFault}
 use Rattle.aries_core.specs.declared.setup.PlayFault.TheVariants as play
 use Rattle.aries_core.specs.EngineState.{EngineState, gathered_record, image_of, rec_lsn_of}
 use Rattle.aries_core.specs.EngineState.{taken_back}
-use Rattle.aries_core.specs.EngineState.{pages_of}
+use Rattle.aries_core.specs.EngineState.{volume_pages}
 use Rattle.aries_core.specs.Gather.{is_done}
 
 -- the first refusal that is there
@@ -59,7 +59,7 @@ has_no_room s more = nat_lt MAX_RECORDS (length s.log + owed s.log + more)
 
 abbrev pub page_refusal : EngineState → ℕ → ℕ → Option Refusal
 page_refusal s page slot =
-    or_else (refused_if (nat_le (pages_of s) page) PageOut) (refused_if (nat_le SLOTS slot) SlotOut)
+    or_else (refused_if (nat_le (volume_pages s) page) PageOut) (refused_if (nat_le SLOTS slot) SlotOut)
 
 -- of a call that only an active transaction may make
 abbrev pub active_refusal : EngineState → ℕ → Option Refusal
@@ -105,6 +105,12 @@ of_vault fault.TooManyCopies = TooManyCopies
 abbrev pub copy_refusal : EngineState → ℕ → Option Refusal
 copy_refusal s copy = option_map of_vault (drop_refusal (state_of s.copies copy))
 
+-- how many pages a copy has, those of the volume when it began
+abbrev pub pages_in : CopyState → ℕ
+pages_in (reading copy) = length copy.pages
+pages_in (complete copy) = length copy.pages
+pages_in dropped = 0
+
 -- the copy of an id has decided of a page
 abbrev pub has_decided : CopyState → ℕ → Bool
 has_decided (reading copy) page = not (is_undecided (decision_at copy.pages page))
@@ -133,11 +139,11 @@ refusal s (event.UndoTo txn at) =
     (option_map_or (λ p. frame_refusal s p.page) (taken_back s txn at) None))
 refusal s event.Force = None
 refusal s (event.WriteBegin page) =
-    or_else (refused_if (nat_le (pages_of s) page) PageOut)
+    or_else (refused_if (nat_le (volume_pages s) page) PageOut)
     (or_else (refused_if (is_some (image_of s page)) WriteBegun)
     (refused_if (is_none (rec_lsn_of s page)) NotDirty))
 refusal s (event.WriteEnd page) =
-    or_else (refused_if (nat_le (pages_of s) page) PageOut)
+    or_else (refused_if (nat_le (volume_pages s) page) PageOut)
     (refused_if (is_none (image_of s page)) NoWrite)
 refusal s event.CkptBegin =
     or_else (refused_if (is_some (open_checkpoint s.log)) CkptOpen)
@@ -154,13 +160,13 @@ refusal s event.CopyFull =
 refusal s (event.CopyInc parent) = option_map of_vault (inc_refusal s.copies parent)
 refusal s (event.Take copy page) =
     or_else (copy_refusal s copy)
-    (or_else (refused_if (nat_le (pages_of s) page) PageOut)
+    (or_else (refused_if (nat_le (pages_in (state_of s.copies copy)) page) PageOut)
     (refused_if (has_decided (state_of s.copies copy) page) PageDecided))
 refusal s (event.Seal copy) = option_map of_vault (seal_refusal (state_of s.copies copy))
 refusal s (event.DropCopy copy) = copy_refusal s copy
 refusal s (event.Repair copy page) =
     or_else (option_map of_vault (complete_refusal (state_of s.copies copy)))
-    (or_else (refused_if (nat_le (pages_of s) page) PageOut)
+    (or_else (refused_if (nat_le (volume_pages s) page) PageOut)
     (refused_if (is_some (image_of s page)) WriteBegun))
 
 -- the name, and a number behind it, if there is one

@@ -10,7 +10,7 @@ ghost use Rattle.log_history.specs.Checkpoint.{IsCompleteCheckpoint, open_checkp
 ghost use Rattle.fuzzy_ckpt.specs.declared.point.Point.{Point};
 ghost use Rattle.aries_core.specs.CkptReplies.{gather_ended, last_point};
 ghost use Rattle.aries_core.specs.EngineState.{EngineState, IsFit, new_state};
-ghost use Rattle.aries_core.specs.EngineState.{pages_of};
+ghost use Rattle.aries_core.specs.EngineState.{volume_pages};
 ghost use Rattle.aries_core.specs.Refusal.{refusal};
 ghost use Rattle.aries_core.specs.Run.{Run};
 ghost use Rattle.aries_core.specs.Step.{Step};
@@ -31,7 +31,7 @@ pub fn the_master_names_a_complete_checkpoint()
 /// Each stored page of a fit engine has each of its changes below the redo point of the master: a
 /// copy of the stored pages that begins now lacks nothing that redo from there does not bring.
 pub fn stored_pages_cover_the_redo_point()
-    ensures { (s : EngineState) (point : Point) (page : ℕ) (d : Page) → IsFit s → page < pages_of s
+    ensures { (s : EngineState) (point : Point) (page : ℕ) (d : Page) → IsFit s → page < volume_pages s
         → s.master ≡ Some point → Covers s.log page (slice_index_or s.stored page d) point.redo }
 {}
 

@@ -47,7 +47,10 @@ impl<S: PageStore, D: LogDevice> Engine<S, D> {
     {
         let begin = self.noted_begin();
         let redo = self.noted_redo();
-        Ok(self.vault.open_inc(self.alloc, parent, begin, redo)?)
+        let pages = self.pool.pages();
+        Ok(self
+            .vault
+            .open_inc(self.alloc, parent, pages, begin, redo)?)
     }
 
     /// Has an open copy decide on a stored page. A full copy takes it. An incremental copy takes it
@@ -124,14 +127,14 @@ impl<S: PageStore, D: LogDevice> Engine<S, D> {
         }
     }
 
-    /// The copy is being read, and has not decided of this page of the volume.
+    /// The copy is being read, and has not decided of this page, which is one of its own.
     fn find_takeable(&self, copy: CopyId, page: PageNo) -> Result<(), Refusal>
         ensures refused { IfErr result (λ why.
             refusal self.now.state (event.Take copy page) ≡ Some why) }
         ensures free { OnOk result (refusal self.now.state (event.Take copy page) ≡ None) }
     {
         let reading = self.vault.reading_copy(copy)?;
-        if page.0 >= self.pool.pages() {
+        if page.0 >= reading.pages() {
             return Err(Refusal::PageOut);
         }
         if !reading.is_undecided(page) {

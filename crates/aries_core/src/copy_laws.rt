@@ -3,7 +3,7 @@
 ghost use Rattle.std.specs.Prelude.{ℕ, ◌≡◌, ◌+◌, List, length, Result, Ok, is_some, map};
 ghost use Rattle.aries_core.specs.Catalogue.{catalogue, catalogue_refusal, entry_of};
 ghost use Rattle.aries_core.specs.EngineState.{EngineState, image_of, new_state};
-ghost use Rattle.aries_core.specs.EngineState.{pages_of};
+ghost use Rattle.aries_core.specs.EngineState.{volume_pages};
 ghost use Rattle.aries_core.specs.Refusal.{or_else, refusal, refused_if};
 ghost use Rattle.aries_core.specs.Run.{Run};
 ghost use Rattle.aries_core.specs.Step.{Step};
@@ -27,19 +27,19 @@ pub fn the_copies_are_those_answered()
 /// repair they say all but that a write of the page is in progress, which comes last.
 pub fn copies_are_refused_by_the_catalogue()
     ensures full { (s : EngineState) → refusal s event.CopyFull
-        ≡ catalogue_refusal (is_some s.master) (pages_of s) (map entry_of s.copies) event.CopyFull }
+        ≡ catalogue_refusal (is_some s.master) (volume_pages s) (map entry_of s.copies) event.CopyFull }
     ensures inc { (s : EngineState) (parent : ℕ) → let call = event.CopyInc parent in refusal s call
-        ≡ catalogue_refusal (is_some s.master) (pages_of s) (map entry_of s.copies) call }
+        ≡ catalogue_refusal (is_some s.master) (volume_pages s) (map entry_of s.copies) call }
     ensures take { (s : EngineState) (copy page : ℕ) → let call = event.Take copy page in
         refusal s call
-        ≡ catalogue_refusal (is_some s.master) (pages_of s) (map entry_of s.copies) call }
+        ≡ catalogue_refusal (is_some s.master) (volume_pages s) (map entry_of s.copies) call }
     ensures seal { (s : EngineState) (copy : ℕ) → let call = event.Seal copy in refusal s call
-        ≡ catalogue_refusal (is_some s.master) (pages_of s) (map entry_of s.copies) call }
+        ≡ catalogue_refusal (is_some s.master) (volume_pages s) (map entry_of s.copies) call }
     ensures drop { (s : EngineState) (copy : ℕ) → let call = event.DropCopy copy in refusal s call
-        ≡ catalogue_refusal (is_some s.master) (pages_of s) (map entry_of s.copies) call }
+        ≡ catalogue_refusal (is_some s.master) (volume_pages s) (map entry_of s.copies) call }
     ensures repair { (s : EngineState) (copy page : ℕ) → let call = event.Repair copy page in
         refusal s call ≡ or_else
-        (catalogue_refusal (is_some s.master) (pages_of s) (map entry_of s.copies) call)
+        (catalogue_refusal (is_some s.master) (volume_pages s) (map entry_of s.copies) call)
         (refused_if (is_some (image_of s page)) WriteBegun) }
 {}
 

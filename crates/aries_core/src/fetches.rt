@@ -12,7 +12,7 @@ ghost use Rattle.buffer_pool.specs.Frames.{IsResident, is_resident};
 ghost use Rattle.aries_core.specs.Asked.{Asks, FailsAsking, page_asked};
 ghost use Rattle.aries_core.specs.Call.{Calls};
 ghost use Rattle.aries_core.specs.EngineState.{appended, end, update_record, with_page};
-ghost use Rattle.aries_core.specs.EngineState.{pages_of};
+ghost use Rattle.aries_core.specs.EngineState.{volume_pages};
 ghost use Rattle.aries_core.specs.Refusal.{frame_refusal, page_refusal};
 ghost use Rattle.aries_core.specs.Step.{FailsFetching, IsByStore};
 
@@ -60,7 +60,7 @@ impl<S: PageStore, D: LogDevice> Engine<S, D> {
 
     /// Brings a page into memory, where it is not. Refusals in order: `OutOfMemory`, `StoreFault`.
     pub(crate) fn bring_in(&mut self, page: PageNo) -> Result<(), Refusal>
-        requires within { page < pages_of self.old.state }
+        requires within { page < volume_pages self.old.state }
         requires frame { frame_refusal self.old.state page ≡ None }
         ensures ok { OnOk result (self.new.state ≡ with_page self.old.state page) }
         ensures there { OnOk result (IsResident self.new.state.resident page) }
@@ -214,7 +214,7 @@ impl<S: PageStore, D: LogDevice> Engine<S, D> {
     pub(crate) fn append_fetching(&mut self, page: PageNo, next: Record) -> Result<(), Refusal>
         requires called { Calls self.old.state next }
         requires page { IfSome (change_of next) (λ c. c.page ≡ page) }
-        requires within { page < pages_of self.old.state }
+        requires within { page < volume_pages self.old.state }
         requires settled { ¬ MayGrow next }
         requires frame { frame_refusal self.old.state page ≡ None }
         ensures ok { OnOk result

@@ -15,7 +15,7 @@ ghost use Rattle.aries_core.specs.Accepted.{accepted};
 ghost use Rattle.aries_core.specs.AnsweredCommits.{StandsIn, answered_commits};
 ghost use Rattle.aries_core.specs.EngineState.{EngineState, IsFit, effect, log_of, new_state};
 ghost use Rattle.aries_core.specs.EngineState.{page_now, rec_lsn_of};
-ghost use Rattle.aries_core.specs.EngineState.{pages_of};
+ghost use Rattle.aries_core.specs.EngineState.{volume_pages};
 ghost use Rattle.aries_core.specs.Written.{written_by};
 ghost use Rattle.log_records.specs.Coverage.{Covers};
 ghost use Rattle.page_core.specs.declared.page.Page.{Page};
@@ -141,10 +141,10 @@ pub fn replies_are_determined()
 /// Each stored page of a fit engine lacks nothing below the page's RecLSN; where the page has none,
 /// it is not dirty, and it is stored as it is now.
 pub fn stored_pages_cover_their_rec_lsn()
-    ensures dirty { (s : EngineState) (page rec_lsn : ℕ) (d : Page) → IsFit s → page < pages_of s
+    ensures dirty { (s : EngineState) (page rec_lsn : ℕ) (d : Page) → IsFit s → page < volume_pages s
         → rec_lsn_of s page ≡ Some rec_lsn
         → Covers s.log page (slice_index_or s.stored page d) rec_lsn }
-    ensures clean { (s : EngineState) (page : ℕ) (d : Page) → IsFit s → page < pages_of s
+    ensures clean { (s : EngineState) (page : ℕ) (d : Page) → IsFit s → page < volume_pages s
         → rec_lsn_of s page ≡ None → slice_index_or s.stored page d ≡ page_now s page }
 {}
 

@@ -5,7 +5,7 @@ ghost use Rattle.log_records.specs.Coverage.{dirty, entries_of, next_dirty};
 ghost use Rattle.log_store.specs.WrittenLog.{IsWritten};
 ghost use Rattle.aries_core.specs.Asked.{Asks, FailsAsking, a_page};
 ghost use Rattle.aries_core.specs.EngineState.{log_of, stored_page};
-ghost use Rattle.aries_core.specs.EngineState.{pages_of};
+ghost use Rattle.aries_core.specs.EngineState.{volume_pages};
 ghost use Rattle.aries_core.specs.Step.{IsByStore, written_log_of};
 
 use crate::engine::Engine;
@@ -50,9 +50,9 @@ impl<S: PageStore, D: LogDevice> Engine<S, D> {
     /// `StoreFault`. Either way the engine stays as it is.
     pub fn stored(&mut self, page: PageNo) -> Result<Page, Refusal>
         ensures found { IfOk result (λ it. it ≡ stored_page self.old.state page) }
-        ensures within { OnOk result (page < pages_of self.old.state) }
+        ensures within { OnOk result (page < volume_pages self.old.state) }
         ensures refused { IfErr result (λ why. ¬ IsByStore why
-            → (why ≡ Refusal.PageOut) × (pages_of self.old.state ≤ page)
+            → (why ≡ Refusal.PageOut) × (volume_pages self.old.state ≤ page)
             × (self.new.store ≡ self.old.store)) }
         ensures state { self.new.state ≡ self.old.state }
         ensures device { self.new.device ≡ self.old.device }

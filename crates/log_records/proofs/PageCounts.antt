@@ -290,3 +290,6 @@ none_given (r ∷ rs) = rw (gives_none r) (none_given rs)
 
 pub counts_are_first : (log : Log) → counts_of log ≡ (record { first = log.pages; given = [] })
 counts_are_first log = rw (none_given log.records) refl
+
+pub count_below_is_first : (log : Log) (lsn : ℕ) → page_count_below log lsn ≡ log.pages
+count_below_is_first log lsn = counts_stay log.pages (take ((lsn - 1) / 64) log.records)

@@ -1,11 +1,11 @@
 //! One page of a volume, rebuilt from image copies and the log.
 
-ghost use Rattle.std.specs.Prelude.{ℕ, ◌≡◌, ◌<◌};
+ghost use Rattle.std.specs.Prelude.{ℕ, ◌≡◌};
 ghost use Rattle.page_core.specs.declared.page.Page.{Page};
 ghost use Rattle.log_records.specs.Coverage.{Covers, resume};
 ghost use Rattle.log_records.specs.Image.{image};
 ghost use Rattle.log_records.specs.Log.{IsLog};
-ghost use Rattle.copy_vault.specs.Chain.{content, last_redo, page_count};
+ghost use Rattle.copy_vault.specs.Chain.{content, last_redo};
 ghost use Rattle.page_redo.specs.Redo.{redone};
 
 use crate::redo::redo_page;
@@ -21,7 +21,6 @@ use page_core::{LSN_STEP, Lsn, Page, PageNo};
 /// It takes no memory. It looks at one page of the chain, and goes once over the records from the
 /// redo point on.
 pub fn rebuild_page(chain: &Chain, log: &[Record], number: PageNo) -> Page
-    requires within { number < page_count chain.now }
     requires log { (pages : ℕ) × IsLog (record { pages = pages; records = log.now }) }
 
     ensures resumed { result ≡ resume (content chain.now number) log.now (last_redo chain.now) }
@@ -29,7 +28,7 @@ pub fn rebuild_page(chain: &Chain, log: &[Record], number: PageNo) -> Page
         → result ≡ image log.now number }
     ensures numbered { result.number ≡ number }
 {
-    let mut page = chain.content(number).copy();
+    let mut page = chain.content(number);
     redo_page(&mut page, records_from(log, chain.redo()));
     page
 }

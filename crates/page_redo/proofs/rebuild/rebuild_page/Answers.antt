@@ -13,9 +13,9 @@ resumed : (c : goal.After-redo_page) → c.redo_page.new.page
     ≡ resume (content c.args.chain.now c.args.number) c.args.log.now (last_redo c.args.chain.now)
 resumed c =
     let log = c.args.log.now in
-    c.redo_page.ensures ∙ c.records_from.ensures c.copy-page.result
-    ∙ ap (λ (q : Page). resume q log c.redo.result) (c.copy-page.ensures ∙ c.content.ensures.content)
-    ∙ ap (resume (content c.args.chain.now c.args.number) log) c.redo.ensures
+    c.redo_page.ensures ∙ c.records_from.ensures c.content-page.result
+    ∙ ap (λ (q : Page). resume q log c.redo.result) c.content-page.ensures.content
+    ∙ ap (resume (content c.args.chain.now c.args.number) log) c.redo.ensures.redo
 
 pub returns-clause-image : goal.returns-clause-image
 returns-clause-image c = λ covers.
@@ -25,7 +25,7 @@ returns-clause-image c = λ covers.
 
 pub returns-clause-numbered : goal.returns-clause-numbered
 returns-clause-numbered c =
-    let copied = c.copy-page.result in
+    let copied = c.content-page.result in
     ap (λ (q : Page). q.number) c.redo_page.ensures
     ∙ number-image_from copied (filter (is_above copied.lsn) c.records_from.result.now)
-    ∙ ap (λ (q : Page). q.number) c.copy-page.ensures ∙ c.content.ensures.numbered
+    ∙ c.content-page.ensures.numbered

@@ -7,7 +7,7 @@ use Rattle.log_records.specs.Log.{Log, StandsAt, lsn_of}
 use Rattle.log_records.specs.Log.{page_count}
 use Rattle.aries_core.specs.Call.{Calls}
 use Rattle.aries_core.specs.EngineState.{EngineState, EngineView, appended, engine_view, log_of, with_page}
-use Rattle.aries_core.specs.EngineState.{pages_of}
+use Rattle.aries_core.specs.EngineState.{volume_pages}
 use Rattle.aries_core.specs.OpenCkpt.{media_view}
 use Rattle.aries_core.proofs.Appends.{after_fetch, appended_is, valid_with}
 use Rattle.aries_core.specs.Asked.{Asks, FailsAsking, page_asked}
@@ -139,8 +139,8 @@ invariant_of-self-2 g c =
     subst (λ (v : EngineView g.row.S.Denot g.row.D.Denot). Calls v.state r) (sym c.self.view_is) c.requires.called in
     let fit = c.self.invariant.fit in
     let come = comes s r fit calls in
-    let within : c.args.page < pages_of s =
-    subst (λ (v : EngineView g.row.S.Denot g.row.D.Denot). c.args.page < pages_of v.state) (sym c.self.view_is)
+    let within : c.args.page < volume_pages s =
+    subst (λ (v : EngineView g.row.S.Denot g.row.D.Denot). c.args.page < volume_pages v.state) (sym c.self.view_is)
     c.requires.within in
     let of_log = c.fetch.ensures.kept (log_of s) (c.make_room-else-is_err-2.ensures.kept (log_of s)
     c.self.invariant.pool_of_log) in

@@ -4,6 +4,7 @@ use Rattle.aries_core.specs.declared.event.Answer.TheVariants as answer
 use Rattle.aries_core.specs.declared.event.Event.TheVariants as event
 use Rattle.aries_core.specs.EngineState.{engine_view}
 use Rattle.aries_core.specs.OpenCkpt.{media_view}
+use Rattle.aries_core.proofs.CopySteps.{count_of_copy}
 use Rattle.aries_core.proofs.CopyCalls.{copies_kept, full_step}
 use Rattle.aries_core.proofs.engine.Engine.copy_full.Goals as goal
 
@@ -18,4 +19,5 @@ invariant_of-self-2 g c =
     (Ok (answer.Copied c.in_ok-open_full.field-0)) c.self.invariant tt c.self.invariant.pool_of_log
     (full_step s c.open_full.new.self.copies c.pages-pages.result c.in_ok-open_full.field-0
     c.in-Some.master c.in-Some.is ok.ok
-    (c.pages-pages.ensures.stored ∙ c.self.invariant.fit.counted.stored) ok.id ok.opened)
+    (c.pages-pages.ensures.stored ∙ c.self.invariant.fit.counted.stored ∙ count_of_copy s c.in-Some.master.begin)
+    ok.id ok.opened)

@@ -1,4 +1,4 @@
-use Rattle.std.proofs.Common.{◌≡◌, ◌∙◌, List, ap, subst, sym, arith}
+use Rattle.std.proofs.Common.{◌≡◌, ◌∙◌, List, ap, subst, sym}
 use Rattle.std.specs.Prelude.{None}
 use Rattle.log_records.specs.declared.record.Record.{Record}
 use Rattle.log_records.specs.Coverage.{Covers}
@@ -9,21 +9,8 @@ use Rattle.aries_core.specs.EngineState.{EngineView, engine_view, page_now}
 use Rattle.aries_core.specs.OpenCkpt.{media_view}
 use Rattle.aries_core.specs.Refusal.{refusal}
 use Rattle.aries_core.proofs.Refusals.{repair_passes}
-use Rattle.aries_core.proofs.Repairs.{chain_count, chain_covers}
+use Rattle.aries_core.proofs.Repairs.{chain_covers}
 use Rattle.aries_core.proofs.engine.Engine.rebuild.Goals as goal
-
-pub rebuild_page-requires-clause-within : goal.rebuild_page-requires-clause-within
-rebuild_page-requires-clause-within g c =
-    let it = c.self.inside in
-    let s = (engine_view g.S.PageStore.stored it.log it.pool
-    (media_view it.master it.session it.vault.copies it.returns.made)).state in
-    let none : refusal s (event.Repair c.args.copy c.args.page) ≡ None =
-    subst (λ (v : EngineView g.row.S.Denot g.row.D.Denot). refusal v.state (event.Repair c.args.copy c.args.page)
-    ≡ None) (sym c.self.view_is) c.requires in
-    let within = (repair_passes s c.args.copy c.args.page none).within in
-    let count = chain_count s c.args.copy c.in_ok-chain.chain c.self.invariant.fit c.in_ok-chain.ensures.chain
-    c.in_ok-chain.ensures.found in
-    omega (arith, within, count)
 
 pub returns-clause-rebuilt : goal.returns-clause-rebuilt
 returns-clause-rebuilt g c =

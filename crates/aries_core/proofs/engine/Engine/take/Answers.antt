@@ -23,7 +23,7 @@ decide-requires-clause-there g c =
     let it = c.self.inside in
     let s = (engine_view g.S.PageStore.stored it.log it.pool
     (media_view it.master it.session it.vault.copies it.returns.made)).state in
-    take_room s c.make_room.new.self.copies c.args.copy c.args.page c.self.invariant.fit
+    take_room s c.make_room.new.self.copies c.args.copy c.args.page
     (subst (λ v. refusal v.state (event.Take c.args.copy c.args.page) ≡ None) (sym c.self.view_is)
     c.in_ok-find_takeable.ensures.free)
     c.make_room.ensures.copies

@@ -6,7 +6,7 @@ use Rattle.log_history.specs.declared.pending_change.PendingChange.{PendingChang
 use Rattle.log_history.specs.Transactions.{is_open, last_of, pending}
 use Rattle.aries_core.specs.declared.event.Event.TheVariants as event
 use Rattle.aries_core.specs.EngineState.{EngineView, IsFit, end}
-use Rattle.aries_core.specs.EngineState.{pages_of}
+use Rattle.aries_core.specs.EngineState.{volume_pages}
 use Rattle.aries_core.specs.Refusal.{refusal}
 use Rattle.aries_core.proofs.PageComes.{needed_within}
 use Rattle.aries_core.proofs.engine.Engine.undo_step.Goals as goal
@@ -45,7 +45,7 @@ append_fetching-requires-clause-within g c =
     let last = of_open _ _ _ found c.in_ok-prev.ensures.still_open ∙ c.in-Some.is in
     let none : refusal s (event.UndoStep c.args.txn) ≡ None =
     rw (c.in_ok-prev.ensures.rolling, last) c.in_ok-find_frame-in-Some.ensures.free in
-    subst (λ (o : Option PendingChange). IfSome (option_map (λ p. p.page) o) (λ p. p < pages_of s)) last
+    subst (λ (o : Option PendingChange). IfSome (option_map (λ p. p.page) o) (λ p. p < volume_pages s)) last
     (needed_within s (event.UndoStep c.args.txn) fit none)
 
 pub append-requires-clause-called : goal.append-requires-clause-called

@@ -5,7 +5,7 @@ use Rattle.log_history.specs.declared.pending_change.PendingChange.{PendingChang
 use Rattle.log_records.specs.Record.{IsOfTransaction}
 use Rattle.aries_core.specs.declared.event.Event.TheVariants as event
 use Rattle.aries_core.specs.EngineState.{EngineView, IsFit, comp_record, taken_back}
-use Rattle.aries_core.specs.EngineState.{pages_of}
+use Rattle.aries_core.specs.EngineState.{volume_pages}
 use Rattle.aries_core.specs.Refusal.{refusal}
 use Rattle.aries_core.proofs.FetchCalls.{back_passes}
 use Rattle.aries_core.proofs.PageComes.{needed_within}
@@ -35,5 +35,5 @@ append_fetching-requires-clause-within g c =
     let none : refusal s (event.UndoTo c.args.txn c.args.savepoint) ≡ None =
     back_passes s c.args.txn c.args.savepoint c.in-Some.last c.in_ok-prev.ensures.active
     c.in_ok-last.ensures.known taken c.in_ok-find_frame-in-Some.ensures.free in
-    subst (λ (o : Option PendingChange). IfSome (option_map (λ p. p.page) o) (λ p. p < pages_of s)) taken
+    subst (λ (o : Option PendingChange). IfSome (option_map (λ p. p.page) o) (λ p. p < volume_pages s)) taken
     (needed_within s (event.UndoTo c.args.txn c.args.savepoint) fit none)

@@ -25,7 +25,7 @@ use Rattle.log_history.specs.Linked.{MayUpdate}
 use Rattle.log_history.specs.Table.{table_of}
 use Rattle.log_records.specs.declared.record.Record.TheVariants.{Update}
 use Rattle.aries_core.specs.EngineState.{update_record}
-use Rattle.aries_core.specs.EngineState.{pages_of}
+use Rattle.aries_core.specs.EngineState.{volume_pages}
 use Rattle.txn_table.specs.TxnTable.{IsAhead}
 use Rattle.aries_core.proofs.engine.Engine.update_fetching.Goals as goal
 use Rattle.aries_core.proofs.Returned.{returns_stay}
@@ -219,7 +219,7 @@ append-requires-clause-stands g c =
     (c.with_number.ensures ∙ ap (with_before c.args.ahead) number_is) in
     subst (λ (l : Log). StandsAt (page_count l) (lsn_of (length l.records)) (Update c.end-lsn.result c.args.txn c.args.prev
     c.args.page c.args.slot c.with_number.result)) (sym c.make_room.ensures.same)
-    (subst (λ (x : Record). StandsAt (pages_of s) (end s) x) (sym next_is) come.stands_at)
+    (subst (λ (x : Record). StandsAt (volume_pages s) (end s) x) (sym next_is) come.stands_at)
 
 pub append-requires-clause-few : goal.append-requires-clause-few
 append-requires-clause-few g c =
@@ -348,8 +348,8 @@ invariant_of-self-2 g c =
     next c.make_room.ensures.same c.make_room.ensures.forced_end c.append.ensures.next c.append.ensures.forced_end
     (ap (λ x. stored x) c.change.ensures.store) c.change.ensures.frames c.change.ensures.pages
     c.change.ensures.written c.change.ensures.writing in
-    let within : p < pages_of s =
-    subst (λ (v : EngineView g.row.S.Denot g.row.D.Denot). p < pages_of v.state) (sym c.self.view_is)
+    let within : p < volume_pages s =
+    subst (λ (v : EngineView g.row.S.Denot g.row.D.Denot). p < volume_pages v.state) (sym c.self.view_is)
     (slot_passes c.args.self.now.state p c.args.slot c.requires.place).within in
     let settled = c.settle.ensures s.log noted ahead (subst (λ n. MayUpdate s.log c.args.txn c.args.prev p c.args.slot
     (with_before c.args.ahead n)) (sym number_is) may)
