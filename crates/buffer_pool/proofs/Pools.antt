@@ -16,10 +16,12 @@ use Rattle.page_core.specs.Volume.{formatted_pages}
 use Rattle.log_records.specs.declared.record.Record.{Record}
 use Rattle.log_records.specs.declared.page_change.PageChange.{PageChange}
 use Rattle.log_records.specs.Image.{image, with_change, with_record}
-use Rattle.log_records.specs.Log.{IsLog, IsPageCount, IsWithin, Log, lsn_of}
+use Rattle.log_records.specs.Log.{IsLog, IsPageCount, IsWithin, Log, lsn_of, page_count, page_count_at}
 use Rattle.log_records.specs.Record.{change_of, own_lsn}
 use Rattle.log_records.specs.Log.{with_next}
 use Rattle.log_records.proofs.Changes.{change_within}
+use Rattle.log_records.proofs.PageCounts.{count_behind-nil, count_stays, page_count-push, page_count_at-all}
+use Rattle.log_records.proofs.PageCounts.{page_count_at-append}
 use Rattle.log_records.proofs.Images.{image_from-append, number-image, number-with_record}
 use Rattle.page_store.specs.Store.{StoresOrKeeps}
 use Rattle.log_records.specs.Coverage.{AreStored, IsPast}
@@ -86,11 +88,16 @@ pub page_is_there : {S : Type 0} (stored_in : S → List Page) (log : Log) (next
 page_is_there stored_in log next pool c some valid is =
     let rs = log.records in
     let there : length rs < length (rs ++ next ∷ []) = omega (arith, length_push rs next) in
-    let within : IsWithin log.pages next =
-    subst (IsWithin log.pages) (get_or_push rs next next (length rs) refl)
-    (valid.records (length rs) next there).within in
-    let below : c.page < log.pages = subst (λ (o : Option PageChange). IfSome o (λ x. x.page < log.pages)) some
-    (change_within log.pages next within) in
+    let count : page_count_at (with_next log (next ∷ [])) (length rs) ≡ page_count log =
+    page_count_at-append log (next ∷ []) (length rs) (omega arith) ∙ page_count_at-all log (length rs) (omega arith) in
+    let within : IsWithin (page_count log) next =
+    subst (λ (n : ℕ). IsWithin n next) count
+    (subst (IsWithin (page_count_at (with_next log (next ∷ [])) (length rs)))
+    (get_or_push rs next next (length rs) refl)
+    (valid.records (length rs) next there).within) in
+    let below : c.page < page_count log =
+    subst (λ (o : Option PageChange). IfSome o (λ x. x.page < page_count log)) some
+    (change_within (page_count log) next within) in
     omega (arith, is.pages)
 
 -- the same pages are resident
@@ -113,7 +120,7 @@ later : {S : Type 0} (stored_in : S → List Page) (log : Log) (next : Record) (
     (record pool { resident = map (λ page. with_record page next) pool.resident; states = states })
 later stored_in log next pool states valid is count written writing each held = record {
   valid = valid;
-  pages = is.pages ∙ sym count;
+  pages = page_count-push log next ∙ count_stays (page_count log) next ∙ is.pages ∙ sym count;
   few = omega (arith, is.few, length-map pool.resident (λ (page : Page). with_record page next));
   within = All-map (λ page. page.number < length states) (λ page. with_record page next) pool.resident
       (All-weaker (λ page. page.number < length pool.states)
@@ -394,7 +401,7 @@ pool_of_none stored_in store n frames resident count holds few within now = reco
     count = omega arith;
     records = λ i d lt. absurd (omega arith);
   };
-  pages = sym (length-replicate n unwritten);
+  pages = count_behind-nil n ∙ sym (length-replicate n unwritten);
   few = few;
   within = subst (λ (k : ℕ). All (λ page. page.number < k) resident) (sym (length-replicate n unwritten)) within;
   resident = now;

@@ -8,7 +8,7 @@ use Rattle.page_core.specs.declared.page.Page.{Page}
 use Rattle.page_core.specs.declared.page.TheConstants.{MAX_PAGES}
 use Rattle.page_core.specs.Volume.{AreNumbered, formatted_pages}
 use Rattle.log_records.specs.Image.{image}
-use Rattle.log_records.specs.Log.{IsLog, Log, lsn_of}
+use Rattle.log_records.specs.Log.{IsLog, Log, lsn_of, page_count}
 use Rattle.log_records.specs.Coverage.{AreStored, dirty, next_dirty, rec_lsn}
 use Rattle.log_records.specs.declared.dirty_page.DirtyPage.{DirtyPage}
 use Rattle.log_records.specs.declared.record.Record.{Record}
@@ -81,7 +81,7 @@ AreHeld resident states = (p : ℕ) → p < length states → is_clean_in states
 pub record IsPoolOf {S : Type 0} (stored_in : S → List Page) (log : Log)
     (pool : PoolView S) : Type 0 where
   pub valid : IsLog log
-  pub pages : log.pages ≡ length pool.states
+  pub pages : page_count log ≡ length pool.states
   pub few : length pool.resident ≤ pool.frames
   pub within : All (λ page. page.number < length pool.states) pool.resident
   pub resident : All (λ page. page ≡ image log.records page.number) pool.resident
