@@ -8,7 +8,7 @@ use Rattle.log_records.specs.declared.dirty_page.DirtyPage.{DirtyPage}
 use Rattle.log_records.specs.declared.limits.TheConstants.{MAX_RECORDS}
 use Rattle.log_records.specs.declared.record.Record.{Record}
 use Rattle.log_records.specs.declared.record.Record.TheVariants.{BeginChkpt}
-use Rattle.log_records.specs.Log.{IsLog, Log, StandsAt, lsn_of}
+use Rattle.log_records.specs.Log.{IsLog, Log, StandsAt, lsn_of, page_count}
 use Rattle.log_records.specs.Record.{IsLsn}
 use Rattle.fuzzy_ckpt.specs.Ckpt.{AllCover, AreCovered, CkptView, IsCkptOf, gathered_ckpt}
 use Rattle.fuzzy_ckpt.specs.Steps.{end_of, end_record, new_ckpt}
@@ -36,7 +36,7 @@ begun_is rs lsn = record {
 -- ---- the end
 
 pub end_stands : {P : Type 0} (log : Log) (c : CkptView P) → IsLog log → IsCkptOf log.records (gathered_ckpt c)
-    → length log.records < MAX_RECORDS → StandsAt log.pages (end_of log.records) (end_record log.records c)
+    → length log.records < MAX_RECORDS → StandsAt (page_count log) (end_of log.records) (end_record log.records c)
 end_stands log c valid is few = record {
   lsn = refl;
   valid = (

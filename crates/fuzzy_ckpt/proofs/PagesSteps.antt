@@ -23,7 +23,8 @@ use Rattle.log_records.specs.declared.record.Record.{Record}
 use Rattle.log_records.specs.declared.record.Record.TheVariants.{ChkptPages}
 use Rattle.log_records.specs.Coverage.{AreStored, Covers, IsPast, changes_on, dirty, next_dirty, rec_lsn}
 use Rattle.log_records.specs.DirtyPage.{entries_of}
-use Rattle.log_records.specs.Log.{IsLog, Log, StandsAt}
+use Rattle.log_records.specs.Log.{IsLog, Log, StandsAt, page_count}
+use Rattle.log_records.proofs.PageCounts.{page_count-is_count, stands_in}
 use Rattle.log_records.specs.Record.{AreDirtyPages, IsBefore, IsDirtyPage, change_of}
 use Rattle.log_records.proofs.Changes.{change_within, valid_change}
 use Rattle.log_records.proofs.Coverage.{clean_is_image, covers_later, covers_lower, dirty_covers, of_each}
@@ -61,16 +62,16 @@ stored_covers log stored written writing p bound d valid are there high = by_lsn
         (dirty_covers log.records p (get_or stored p d) (get_or written p 0) lsn is.past is.reached some)
 
 -- a page that the volume lacks has no changes
-outside_covers : (log : Log) (p bound : ℕ) (page : Page) → IsLog log → log.pages ≤ p → IsPast log.records p page
+outside_covers : (log : Log) (p bound : ℕ) (page : Page) → IsLog log → page_count log ≤ p → IsPast log.records p page
     → Covers log.records p page bound
 outside_covers log p bound page valid past_end past = record {
   past = past;
   reached = of_each (λ lsn. lsn < bound → lsn ≤ page.lsn) p log.records (λ i d lt e low.
       absurd (none (change_of (get_or log.records i d))
-      (change_within log.pages (get_or log.records i d) (valid.records i d lt).within) e));
+      (change_within (page_count log) (get_or log.records i d) (stands_in log valid i d lt).within) e));
 }
   where
-    none : (o : Option PageChange) → IfSome o (λ c. c.page < log.pages)
+    none : (o : Option PageChange) → IfSome o (λ c. c.page < page_count log)
         → option_map_or (λ c. eqb c.page p) o false ≡ true → ⊥
     none None within e = cc
     none (Some c) within e = let same = eqb-true c.page p e in omega arith
@@ -78,7 +79,7 @@ outside_covers log p bound page valid past_end past = record {
 -- ---- the pages that a step has passed
 
 module _ (log : Log) (stored : List Page) (written : List ℕ) (writing : List (Option Page)) (c : CkptView ℕ)
-    (valid : IsLog log) (count : log.pages ≡ length written) (are : AreStored log.records stored written writing)
+    (valid : IsLog log) (count : page_count log ≡ length written) (are : AreStored log.records stored written writing)
     (covered : AreCovered log.records stored (pages_ckpt c)) where
   pub more_covered : (pages : DirtyPages) → entries_of pages ≡ next_dirty (dirty log.records written) c.phase
       → AreCovered log.records stored (past_pages pages (pages_ckpt c))
@@ -210,18 +211,18 @@ change_before log p lsn valid has =
     let own = stands.lsn in
     record { place = (valid_change (get_or log.records i d) stands.valid).0; earlier = omega arith })) has
 
-entry_is : (log : Log) (written : List ℕ) (from : ℕ) (e : DirtyPage) → IsLog log → log.pages ≡ length written
+entry_is : (log : Log) (written : List ℕ) (from : ℕ) (e : DirtyPage) → IsLog log → page_count log ≡ length written
     → IsEntry (lsn_at log.records written) from (length written) e → IsDirtyPage (end_of log.records) e
 entry_is log written from e valid count it =
     let within = it.within in
-    let most = valid.pages.most in
+    let most = (page_count-is_count log valid).most in
     record {
       page = omega arith;
       rec_lsn = change_before log e.page e.rec_lsn valid
           (rec_is_change log.records e.page (get_or written e.page 0) e.rec_lsn it.dirty);
     }
 
-are_pages : (log : Log) (written : List ℕ) (from : ℕ) (pages : DirtyPages) → IsLog log → log.pages ≡ length written
+are_pages : (log : Log) (written : List ℕ) (from : ℕ) (pages : DirtyPages) → IsLog log → page_count log ≡ length written
     → AreNext (lsn_at log.records written) from (length written) (entries_of pages)
     → AreDirtyPages (end_of log.records) pages
 are_pages log written from (One a) valid count next =
@@ -262,14 +263,14 @@ pub record MorePages (log : Log) (stored : List Page) (written : List ℕ) (c : 
   pub fits : last_page pages < MAX_PAGES
   pub follows : MayFollow log.records (ChkptPages (end_of log.records) c.begin pages)
   pub stands : length log.records < MAX_RECORDS
-      → StandsAt log.pages (end_of log.records) (ChkptPages (end_of log.records) c.begin pages)
+      → StandsAt (page_count log) (end_of log.records) (ChkptPages (end_of log.records) c.begin pages)
   pub kept : IsCkptOf (log.records ++ ChkptPages (end_of log.records) c.begin pages ∷ [])
       (past_pages pages (pages_ckpt c))
   pub covered : AreCovered (log.records ++ ChkptPages (end_of log.records) c.begin pages ∷ []) stored
       (past_pages pages (pages_ckpt c))
 
 pub more_pages : (log : Log) (stored : List Page) (written : List ℕ) (writing : List (Option Page)) (c : CkptView ℕ)
-    (pages : DirtyPages) → IsLog log → log.pages ≡ length written → AreStored log.records stored written writing
+    (pages : DirtyPages) → IsLog log → page_count log ≡ length written → AreStored log.records stored written writing
     → IsCkptOf log.records (pages_ckpt c) → AreCovered log.records stored (pages_ckpt c)
     → entries_of pages ≡ next_dirty (dirty log.records written) c.phase → MorePages log stored written c pages
 more_pages log stored written writing c pages valid count are is covered found =
@@ -278,7 +279,7 @@ more_pages log stored written writing c pages valid count are is covered found =
     let next : AreNext (lsn_at rs written) c.phase end (entries_of pages) =
     subst (AreNext (lsn_at rs written) c.phase end) (sym found) (next_dirty_are rs written c.phase) in
     let last = last_is (lsn_at rs written) c.phase end pages next in
-    let most = valid.pages.most in
+    let most = (page_count-is_count log valid).most in
     let before = ckpt_redo_before log (pages_ckpt c) valid is in
     let low = lowered_falls (entries_of pages) c.redo in
     record {
@@ -292,8 +293,8 @@ more_pages log stored written writing c pages valid count are is covered found =
           begin_before log (pages_ckpt c) valid is,
           are_pages log written c.phase pages valid count next,
         );
-        within = recursion_from_All (λ e. e.page < log.pages) (entries_of pages)
-            (All-weaker (IsEntry (lsn_at rs written) c.phase end) (λ e. e.page < log.pages)
+        within = recursion_from_All (λ e. e.page < page_count log) (entries_of pages)
+            (All-weaker (IsEntry (lsn_at rs written) c.phase end) (λ e. e.page < page_count log)
             (λ e it. let lt = it.within in omega arith) (entries_of pages) next.each);
       };
       kept = more_kept rs c (end_of rs) pages is last.0 (upto_last (lsn_at rs written) c.phase end pages next);
@@ -307,7 +308,7 @@ more_pages log stored written writing c pages valid count are is covered found =
 -- ---- of a pool
 
 count_is : {S : Type 0} (stored_in : S → List Page) (log : Log) (pool : PoolView S) → IsPoolOf stored_in log pool
-    → log.pages ≡ length (written_of pool.states)
+    → page_count log ≡ length (written_of pool.states)
 count_is stored_in log pool of = of.pages ∙ sym (length-map pool.states (λ (s : PageState). s.written))
 
 -- what a pool answers of its dirty pages

@@ -16,7 +16,7 @@ use Rattle.log_records.specs.declared.record.Record.{Record}
 use Rattle.log_records.specs.declared.record.Record.TheVariants.{Begin, Update, Comp, Commit, Abort, End, BeginChkpt}
 use Rattle.log_records.specs.declared.record.Record.TheVariants.{ChkptPages, ChkptTxns, EndChkpt}
 use Rattle.log_records.specs.Coverage.{Covers}
-use Rattle.log_records.specs.Log.{IsLog, Log, StandsAt}
+use Rattle.log_records.specs.Log.{IsLog, Log, StandsAt, page_count}
 use Rattle.log_records.specs.Record.{IsBefore, IsTxn, own_lsn}
 use Rattle.log_records.proofs.Changes.{valid_change}
 use Rattle.log_records.proofs.Coverage.{covers_later}
@@ -200,7 +200,7 @@ pub record MoreTxns (log : Log) (c : CkptView ℕ) (t : ℕ) : Type 0 where
   pub fits : t < MAX_RECORDS + 1
   pub follows : MayFollow log.records (txn_record log.records c.begin t)
   pub stands : length log.records < MAX_RECORDS
-      → StandsAt log.pages (end_of log.records) (txn_record log.records c.begin t)
+      → StandsAt (page_count log) (end_of log.records) (txn_record log.records c.begin t)
   pub kept : IsCkptOf (log.records ++ txn_record log.records c.begin t ∷ [])
       (record (txns_ckpt c) { phase = in_txns (t + 1) })
 

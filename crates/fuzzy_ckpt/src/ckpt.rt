@@ -10,7 +10,8 @@ ghost use Rattle.log_records.specs.declared.limits.TheConstants.{MAX_RECORDS};
 ghost use Rattle.log_records.specs.declared.record.Record.{Record};
 ghost use Rattle.log_records.specs.declared.record.Record.TheVariants.{BeginChkpt};
 ghost use Rattle.log_records.specs.DirtyPage.{entries_of};
-ghost use Rattle.log_records.specs.Log.{IsLog, Log as LogValue, StandsAt, with_next};
+ghost use Rattle.log_records.specs.Log.{IsLog, Log as LogValue, StandsAt, page_count};
+ghost use Rattle.log_records.specs.Log.{with_next};
 ghost use Rattle.log_history.specs.Checkpoint.{IsCompleteCheckpoint, open_checkpoint, redo_point};
 ghost use Rattle.log_history.specs.Linked.{MayFollow};
 ghost use Rattle.log_history.specs.Table.{entry_of};
@@ -300,7 +301,7 @@ impl Ckpt<Gathered> {
 
 /// Appends a record of a checkpoint.
 fn append<D: LogDevice>(log: &mut Log<D>, next: Record) -> Result<(), AllocError>
-    requires stands { StandsAt log.old.log.pages (end_of log.old.log.records) next }
+    requires stands { StandsAt (page_count log.old.log) (end_of log.old.log.records) next }
     requires few { length log.old.log.records < MAX_RECORDS }
 
     ensures ok { OnOk result (log.new.log ≡ with_next log.old.log (next ∷ [])) }

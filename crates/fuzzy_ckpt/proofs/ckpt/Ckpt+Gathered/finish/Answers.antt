@@ -1,6 +1,6 @@
 use Rattle.std.proofs.Common.{◌≡◌, ◌∙◌, ℕ, ◌<◌, ◌≤◌, ◌∷◌, [], sym, subst}
 use Rattle.log_records.specs.declared.record.Record.TheVariants.{EndChkpt}
-use Rattle.log_records.specs.Log.{Log, StandsAt, with_next}
+use Rattle.log_records.specs.Log.{Log, StandsAt, page_count, with_next}
 use Rattle.fuzzy_ckpt.specs.Ckpt.{AllCover, CkptView}
 use Rattle.fuzzy_ckpt.specs.Steps.{end_of, end_record}
 use Rattle.fuzzy_ckpt.specs.declared.phase.Gathered.{Gathered}
@@ -10,9 +10,9 @@ use Rattle.fuzzy_ckpt.proofs.ckpt.Ckpt+Gathered.finish.Goals as goal
 pub append-requires-clause-stands : goal.append-requires-clause-stands
 append-requires-clause-stands g c =
     let log = c.args.log.now.log in
-    subst (λ (n : ℕ). StandsAt log.pages (end_of log.records) (EndChkpt n c.self.inside.begin c.self.inside.redo))
+    subst (λ (n : ℕ). StandsAt (page_count log) (end_of log.records) (EndChkpt n c.self.inside.begin c.self.inside.redo))
     (sym c.end_of-lsn.ensures.end)
-    (subst (λ (v : CkptView Gathered). StandsAt log.pages (end_of log.records) (end_record log.records v))
+    (subst (λ (v : CkptView Gathered). StandsAt (page_count log) (end_of log.records) (end_record log.records v))
     (sym c.self.view_is)
     (end_stands log c.args.self c.end_of-lsn.ensures.valid c.requires.ckpt c.requires.few))
 

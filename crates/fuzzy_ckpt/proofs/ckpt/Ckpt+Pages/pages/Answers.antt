@@ -2,7 +2,7 @@ use Rattle.std.proofs.Common.{◌≡◌, ◌∙◌, ℕ, ◌∷◌, [], refl, sy
 use Rattle.std.specs.Prelude.{IfSome, IsSome}
 use Rattle.log_records.specs.declared.record.Record.TheVariants.{ChkptPages}
 use Rattle.log_records.specs.DirtyPage.{entries_of}
-use Rattle.log_records.specs.Log.{Log, StandsAt, with_next}
+use Rattle.log_records.specs.Log.{Log, StandsAt, page_count, with_next}
 use Rattle.log_history.specs.Linked.{MayFollow}
 use Rattle.fuzzy_ckpt.specs.Ckpt.{AreCovered, CkptView, IsCkptOf, in_pages, in_txns, pages_ckpt}
 use Rattle.fuzzy_ckpt.specs.Steps.{Gathering, HasRoom, end_of, past_pages}
@@ -31,9 +31,9 @@ append-requires-clause-stands g c =
     (c.phase.view_is ∙ ap (λ (v : CkptView ℕ). v.phase) c.self.view_is)
     (c.dirty_from.ensures log c.requires.pool) c.in-Some.is in
     let few = subst (λ (x : Gathering). HasRoom log.records x.next) it.step c.requires.room in
-    subst (λ (n : ℕ). StandsAt log.pages (end_of log.records) (ChkptPages n c.self.inside.begin pages))
+    subst (λ (n : ℕ). StandsAt (page_count log) (end_of log.records) (ChkptPages n c.self.inside.begin pages))
     (sym c.end-lsn.ensures)
-    (subst (λ (v : CkptView ℕ). StandsAt log.pages (end_of log.records) (ChkptPages (end_of log.records) v.begin pages))
+    (subst (λ (v : CkptView ℕ). StandsAt (page_count log) (end_of log.records) (ChkptPages (end_of log.records) v.begin pages))
     (sym c.self.view_is) (it.stands few))
 
 pub behind-requires : goal.behind-requires

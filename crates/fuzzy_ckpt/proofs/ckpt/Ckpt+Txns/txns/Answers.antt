@@ -1,7 +1,7 @@
 use Rattle.std.proofs.Common.{◌≡◌, ◌∙◌, ℕ, ◌+◌, ◌∷◌, [], get_or, refl, sym, ap, subst, arith}
 use Rattle.std.specs.Prelude.{IfSome, IsSome}
 use Rattle.log_records.specs.declared.record.Record.{Record}
-use Rattle.log_records.specs.Log.{Log, StandsAt, with_next}
+use Rattle.log_records.specs.Log.{Log, StandsAt, page_count, with_next}
 use Rattle.log_records.specs.Coverage.{Covers}
 use Rattle.log_history.specs.Linked.{MayFollow}
 use Rattle.fuzzy_ckpt.specs.Ckpt.{CkptView, IsCkptOf, Phase, gathered, in_txns, txns_ckpt}
@@ -28,7 +28,7 @@ append-requires-clause-stands g c =
     let few = subst (λ (x : Gathering). HasRoom log.records x.next) it.0.step c.requires.room in
     let made = c.txn_record-next.ensures log.records c.requires.table c.end_of-lsn.ensures.end it.0.still_open it.1
     ∙ ap (λ (v : CkptView ℕ). txn_record log.records v.begin t) c.self.view_is in
-    subst (StandsAt log.pages (end_of log.records)) (sym made) (it.0.stands few)
+    subst (StandsAt (page_count log) (end_of log.records)) (sym made) (it.0.stands few)
 
 pub next_number-requires : goal.next_number-requires
 next_number-requires g c =
