@@ -17,11 +17,11 @@ use Rattle.log_records.specs.declared.record.Record.{Record}
 use Rattle.log_records.specs.declared.page_change.PageChange.{PageChange}
 use Rattle.log_records.specs.Image.{image, with_change, with_record}
 use Rattle.log_records.specs.Log.{IsLog, IsPageCount, IsWithin, Log, lsn_of, page_count, page_count_at}
-use Rattle.log_records.proofs.PageCounts.{count_behind-nil, count_stays, page_count-push, page_count_at-all}
-use Rattle.log_records.proofs.PageCounts.{page_count_at-append}
 use Rattle.log_records.specs.Record.{change_of, own_lsn}
 use Rattle.log_records.specs.Log.{with_next}
 use Rattle.log_records.proofs.Changes.{change_within}
+use Rattle.log_records.proofs.PageCounts.{count_behind-nil, count_stays, page_count-push, page_count_at-all}
+use Rattle.log_records.proofs.PageCounts.{page_count_at-append}
 use Rattle.log_records.proofs.Images.{image_from-append, number-image, number-with_record}
 use Rattle.page_store.specs.Store.{StoresOrKeeps}
 use Rattle.log_records.specs.Coverage.{AreStored, IsPast}
@@ -88,14 +88,16 @@ pub page_is_there : {S : Type 0} (stored_in : S → List Page) (log : Log) (next
 page_is_there stored_in log next pool c some valid is =
     let rs = log.records in
     let there : length rs < length (rs ++ next ∷ []) = omega (arith, length_push rs next) in
-    let n = page_count log in
-    let within : IsWithin n next =
-    subst (λ (count : ℕ). IsWithin count next) (page_count_at-append log (next ∷ []) (length rs) (omega arith)
-    ∙ page_count_at-all log (length rs) (omega arith))
+    let count : page_count_at (with_next log (next ∷ [])) (length rs) ≡ page_count log =
+    page_count_at-append log (next ∷ []) (length rs) (omega arith) ∙ page_count_at-all log (length rs) (omega arith) in
+    let within : IsWithin (page_count log) next =
+    subst (λ (n : ℕ). IsWithin n next) count
     (subst (IsWithin (page_count_at (with_next log (next ∷ [])) (length rs)))
-    (get_or_push rs next next (length rs) refl) (valid.records (length rs) next there).within) in
-    let below : c.page < n = subst (λ (o : Option PageChange). IfSome o (λ x. x.page < n)) some
-    (change_within n next within) in
+    (get_or_push rs next next (length rs) refl)
+    (valid.records (length rs) next there).within) in
+    let below : c.page < page_count log =
+    subst (λ (o : Option PageChange). IfSome o (λ x. x.page < page_count log)) some
+    (change_within (page_count log) next within) in
     omega (arith, is.pages)
 
 -- the same pages are resident

@@ -9,19 +9,20 @@ use Rattle.std.proofs.Common.{map, slice_index_or}
 use Rattle.std.proofs.lemmas.List.{get_or-replicate, get_or-take, get_or_past, length-replicate, length-take, length-take-le, take_min, take_more}
 use Rattle.std.proofs.lemmas.List.Elements.{All-get_or}
 use Rattle.page_core.specs.declared.page.Page.{Page}
-use Rattle.page_core.specs.declared.page.TheConstants.{SLOTS}
+use Rattle.page_core.specs.declared.page.TheConstants.{MAX_PAGES, SLOTS}
 use Rattle.page_core.specs.Page.{formatted}
 use Rattle.log_records.specs.declared.page_change.PageChange.{PageChange}
 use Rattle.log_records.specs.declared.record.Record.{Record}
 use Rattle.log_records.specs.Image.{image, image_from, redo_all, with_record}
-use Rattle.log_records.specs.Log.{IsLog, IsWithin, Log, StandsAt, lsn_of, page_count}
+use Rattle.log_records.specs.Log.{AreWithin, IsLog, IsWithin, Log, lsn_of}
 use Rattle.log_records.specs.Record.{change_of, own_lsn}
 use Rattle.log_records.proofs.Changes.{change_within}
-use Rattle.log_records.proofs.PageCounts.{count_is_first, stands_in, valid_cut}
 use Rattle.log_records.proofs.Images.{length-redo_all, no_change, other_page, redo_all-append}
+use Rattle.log_records.proofs.PageCounts.{all_within, page_count-is_count}
 use Rattle.log_history.specs.Linked.{number_in}
 use Rattle.log_history.proofs.Slots.{slots_of_image}
 use Rattle.settlement.specs.Receipt.{AreInOrder, ComesBehind, below, position}
+use Rattle.settlement.specs.Volume.{AreOfVolume}
 use Rattle.settlement.specs.declared.receipt.Receipt.{Receipt}
 
 -- the records stand one behind the other, from a place on
@@ -53,6 +54,23 @@ below_from (r ∷ rs) s end stand =
 less_none : (n : ℕ) → n - 0 ≡ n
 less_none n = omega arith
 
+-- the first records name no more pages than all of them
+first_within : (n k : ℕ) (rs : List Record) → AreWithin n rs → AreWithin n (take k rs)
+first_within n k rs within = λ i d lt.
+    let l = length-take k rs in
+    subst (IsWithin n) (sym (get_or-take k rs i d (omega arith))) (within i d (omega arith))
+
+-- the records of a log name only pages of its volume
+pub volume_within : (n : ℕ) (rs : List Record) → AreOfVolume n rs → AreWithin n rs
+volume_within n rs of =
+    let log : Log = record { pages = of.first; records = rs } in
+    subst (λ (m : ℕ). AreWithin m rs) of.count (all_within log of.valid)
+
+-- of which a log may have as many
+pub volume_fits : (n : ℕ) (rs : List Record) → AreOfVolume n rs → n ≤ MAX_PAGES
+volume_fits n rs of = let most = (page_count-is_count (record { pages = of.first; records = rs }) of.valid).most in
+    omega (arith, of.count, most)
+
 -- the records below an LSN are the first so many
 pub below_is : (log : Log) (end : ℕ) → IsLog log
     → below log.records end ≡ take (min ((end - 1) / 64) (length log.records)) log.records
@@ -63,21 +81,22 @@ below_is log end valid =
     ∙ sym (take_min ((end - 1) / 64) rs)
 
 -- what the pages show that are redone below an LSN
-pub shown_below : (log : Log) (end page slot count number : ℕ) (pages : List Page) → IsLog log
-    → count ≡ min ((end - 1) / 64) (length log.records)
-    → pages ≡ redo_all (take count log.records) log.pages
-    → ((rs : List Record) → IsLog (record { pages = length pages; records = rs })
+pub shown_below : (n end page slot count number : ℕ) (records : List Record) (pages : List Page)
+    → AreOfVolume n records
+    → count ≡ min ((end - 1) / 64) (length records)
+    → pages ≡ redo_all (take count records) n
+    → ((rs : List Record) → AreWithin (length pages) rs
     → pages ≡ redo_all rs (length pages) → number ≡ number_in rs page slot)
-    → number ≡ number_in (below log.records end) page slot
-shown_below log end page slot count number pages valid is made shows =
-    let rs = take count log.records in
-    let long : length pages ≡ log.pages = ap length made ∙ length-redo_all rs log.pages in
-    let first : IsLog (record { pages = length pages; records = rs }) =
-    subst (λ (n : ℕ). IsLog (record { pages = n; records = rs })) (sym long)
-    (valid_cut log count valid) in
-    shows rs first (subst (λ (n : ℕ). pages ≡ redo_all rs n) (sym long) made)
+    → number ≡ number_in (below records end) page slot
+shown_below n end page slot count number records pages of is made shows =
+    let log : Log = record { pages = of.first; records = records } in
+    let rs = take count records in
+    let long : length pages ≡ n = ap length made ∙ length-redo_all rs n in
+    let within : AreWithin (length pages) rs =
+    subst (λ (m : ℕ). AreWithin m rs) (sym long) (first_within n count records (volume_within n records of)) in
+    shows rs within (subst (λ (m : ℕ). pages ≡ redo_all rs m) (sym long) made)
     ∙ ap (λ (xs : List Record). number_in xs page slot)
-    (ap (λ (n : ℕ). take n log.records) is ∙ sym (below_is log end valid))
+    (ap (λ (m : ℕ). take m records) is ∙ sym (below_is log end of.valid))
 
 -- one record more is redone
 pub redone_more : (rs : List Record) (i n : ℕ) (d : Record) → i < length rs
@@ -131,12 +150,9 @@ zero_in p slot = elim (cases_lt slot SLOTS) [
 ]
 
 -- a page outside the volume has no number but 0
-pub number_outside : (log : Log) (page slot : ℕ) → IsLog log → log.pages ≤ page
-    → number_in log.records page slot ≡ 0
-number_outside log page slot valid out =
-    let same = same_outside (formatted page) log.records (page_count log)
-    (omega (arith, number_formatted page, count_is_first log, out))
-    (λ i d lt. (stands_in log valid i d lt).within) in
+pub number_outside : (rs : List Record) (n page slot : ℕ) → AreWithin n rs → n ≤ page → number_in rs page slot ≡ 0
+number_outside rs n page slot within out =
+    let same = same_outside (formatted page) rs n (let number = number_formatted page in omega arith) within in
     ap (λ (p : Page). slice_index p.slots slot) same ∙ zero_in page slot
 
 -- and a page has none behind its last slot

@@ -4,3 +4,4 @@ pub mod Marks
 pub mod Receipt
 pub mod Session
 pub mod Sessions
+pub mod Volume

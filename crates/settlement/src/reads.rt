@@ -6,9 +6,10 @@ ghost use Rattle.std.specs.Prelude.{List, IfErr, IfOk, OnOk};
 ghost use Rattle.std.specs.List.{All};
 ghost use Rattle.page_core.specs.Volume.{AreNumbered, formatted_pages};
 ghost use Rattle.log_records.specs.Image.{redo_all};
-ghost use Rattle.log_records.specs.Log.{IsLog};
+ghost use Rattle.log_records.specs.Log.{AreWithin};
 ghost use Rattle.log_history.specs.Linked.{number_in};
 ghost use Rattle.settlement.specs.Receipt.{AreInOrder, HoldsAsRead, WasRead, below, position};
+ghost use Rattle.settlement.specs.Volume.{AreOfVolume};
 ghost use Rattle.settlement.specs.declared.receipt.Receipt.{Receipt};
 
 use crate::receipt::Receipt;
@@ -19,7 +20,7 @@ use page_core::{LSN_STEP, Lsn, Page, PageNo, SLOTS, SlotNo};
 /// redoes the log once, on `pages`, which may have any content before and have no meaning after.
 /// An `Err` has the position of a read that does not hold.
 pub fn check_reads(pages: &mut [Page], records: &[Record], receipts: &[Receipt]) -> Result<(), Lsn>
-    requires log { IsLog (record { pages = length pages.old; records = records.now }) }
+    requires log { AreOfVolume (length pages.old) records.now }
     requires order { AreInOrder receipts.now }
     ensures ok { OnOk result (All (HoldsAsRead records.now) receipts.now) }
     ensures err { IfErr result (λ at. (i : ℕ) × (i < length receipts.now)
@@ -43,7 +44,7 @@ fn check_read(
     redone: usize,
     receipt: &Receipt,
 ) -> Result<usize, Lsn>
-    requires log { IsLog (record { pages = length pages.old; records = records.now }) }
+    requires log { AreOfVolume (length pages.old) records.now }
     requires so_far { pages.old ≡ redo_all (take redone records.now) (length pages.old) }
     requires behind { redone ≤ min ((position receipt.now - 1) / 64) (length records.now) }
     ensures ok { OnOk result (HoldsAsRead records.now receipt.now) }
@@ -86,7 +87,7 @@ fn format(pages: &mut [Page])
 
 /// Redoes the records below an LSN that are not redone yet, and answers how many are redone then.
 fn redo_below(pages: &mut [Page], records: &[Record], redone: usize, end: Lsn) -> usize
-    requires log { IsLog (record { pages = length pages.old; records = records.now }) }
+    requires log { AreOfVolume (length pages.old) records.now }
     requires so_far { pages.old ≡ redo_all (take redone records.now) (length pages.old) }
     requires behind { redone ≤ min ((end - 1) / 64) (length records.now) }
     ensures count { result ≡ min ((end - 1) / 64) (length records.now) }
@@ -101,7 +102,7 @@ fn redo_below(pages: &mut [Page], records: &[Record], redone: usize, end: Lsn) -
 
 /// The number in a slot of a volume, and 0 where it has no such slot.
 fn number_on(pages: &[Page], page: PageNo, slot: SlotNo) -> u64
-    ensures { (rs : List Record) → IsLog (record { pages = length pages.now; records = rs })
+    ensures { (rs : List Record) → AreWithin (length pages.now) rs
         → pages.now ≡ redo_all rs (length pages.now) → result ≡ number_in rs page slot }
 {
     match pages.get(page.0 as usize) {

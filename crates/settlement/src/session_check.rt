@@ -2,10 +2,10 @@
 
 ghost use Rattle.std.specs.Prelude.{ℕ, ◌≡◌, ◌<◌, ◌++◌, List, length, take, slice_index_or};
 ghost use Rattle.std.specs.Prelude.{IfErr, OnOk};
-ghost use Rattle.log_records.specs.Log.{IsLog};
 ghost use Rattle.settlement.specs.Marks.{AreMarked};
 ghost use Rattle.settlement.specs.Receipt.{written};
 ghost use Rattle.settlement.specs.Session.{AllStand, IsUnsettled};
+ghost use Rattle.settlement.specs.Volume.{AreOfVolume};
 ghost use Rattle.settlement.specs.declared.receipt.Receipt.{Receipt};
 
 use crate::marks::mark_records;
@@ -25,7 +25,7 @@ pub fn check_session(
     forced_end: Lsn,
     receipts: &[Receipt],
 ) -> Result<(), Lsn>
-    requires log { IsLog (record { pages = length pages.old; records = records.now }) }
+    requires log { AreOfVolume (length pages.old) records.now }
     requires lengths { length marks.old ≡ length records.now }
     ensures ok { OnOk result (AllStand records.now forced_end receipts.now) }
     ensures marked { OnOk result ((lsns : List ℕ) → AreMarked marks.old lsns

@@ -11,8 +11,8 @@ returns-then-number_on-number-clause-err c =
       ap position r.is,
       λ holds.
           let read : WasRead rs r.end r.page r.slot r.number = subst (HoldsAsRead rs) r.is holds in
-          let shown = shown_below (record { pages = n; records = rs }) r.end r.page r.slot c.redo_below-count.result
-          c.number_on.result c.redo_below-count.new.pages c.requires.log c.redo_below-count.ensures.count
+          let shown = shown_below n r.end r.page r.slot c.redo_below-count.result
+          c.number_on.result rs c.redo_below-count.new.pages c.requires.log c.redo_below-count.ensures.count
           c.redo_below-count.ensures.redone c.number_on.ensures in
           c.if-number_on-number.true (shown ∙ sym read.read),
     )
@@ -22,8 +22,8 @@ returns-clause-ok c =
     let rs = c.args.records.now in
     let n = length c.args.pages.now in
     let r = c.in-Read in
-    let shown = shown_below (record { pages = n; records = rs }) r.end r.page r.slot c.redo_below-count.result
-    c.number_on.result c.redo_below-count.new.pages c.requires.log c.redo_below-count.ensures.count
+    let shown = shown_below n r.end r.page r.slot c.redo_below-count.result
+    c.number_on.result rs c.redo_below-count.new.pages c.requires.log c.redo_below-count.ensures.count
     c.redo_below-count.ensures.redone c.number_on.ensures in
     subst (HoldsAsRead rs) (sym r.is) (record {
       within = let v = c.end.view_is in let le = c.if-end-records.false in omega arith;

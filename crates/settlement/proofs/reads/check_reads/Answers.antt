@@ -4,8 +4,11 @@ use Rattle.std.proofs.lemmas.List.{take_all}
 use Rattle.std.proofs.lemmas.List.Elements.{All-more}
 use Rattle.log_records.specs.Image.{redo_all}
 use Rattle.settlement.specs.Receipt.{HoldsAsRead}
-use Rattle.settlement.proofs.Below.{counts_rise}
+use Rattle.settlement.proofs.Below.{counts_rise, volume_fits}
 use Rattle.settlement.proofs.reads.check_reads.Goals as goal
+
+pub format-requires : goal.format-requires
+format-requires c = omega (arith, volume_fits (length c.args.pages.now) c.args.records.now c.requires.log)
 
 pub loop-receipt-preserved : goal.loop-receipt-preserved
 loop-receipt-preserved c =

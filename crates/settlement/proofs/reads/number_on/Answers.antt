@@ -7,7 +7,7 @@ use Rattle.settlement.proofs.Below.{number_outside, number_past}
 use Rattle.settlement.proofs.reads.number_on.Goals as goal
 
 pub returns-in-Some : goal.returns-in-Some
-returns-in-Some c = λ rs valid made.
+returns-in-Some c = λ rs within made.
     let pages = c.args.pages.now in
     let page = c.page.inside.0 in
     let slot = c.slot.inside.0 in
@@ -19,16 +19,16 @@ returns-in-Some c = λ rs valid made.
     ∙ rw (c.page.view_is, c.slot.view_is) refl
 
 pub returns-in_default : goal.returns-in_default
-returns-in_default c = λ rs valid made.
+returns-in_default c = λ rs within made.
     sym (number_past rs c.args.page c.args.slot
     (let v = c.slot.view_is in let past = c.if-slot-lt-SLOTS.false in omega arith))
 
 pub returns-in_default-2 : goal.returns-in_default-2
-returns-in_default-2 c = λ rs valid made.
+returns-in_default-2 c = λ rs within made.
     let n = length c.args.pages.now in
     let here = c.page.inside.0 in
     let past : n ≤ here = ltb-false here n (sym c.get.ensures.lookup.0 ∙ ap is_some c.in_default.is) in
     let page = c.args.page in
     let same : here ≡ page = c.page.view_is in
     let out : n ≤ page = omega arith in
-    sym (number_outside record { pages = n; records = rs } page c.args.slot valid out)
+    sym (number_outside rs n page c.args.slot within out)

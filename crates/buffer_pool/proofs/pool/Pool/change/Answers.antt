@@ -126,6 +126,7 @@ invariant_of-self g c =
 
 pub change-requires-in-Some : goal.change-requires-in-Some
 change-requires-in-Some g c =
+    let n = c.in-Some.change.page in
     let there = page_is_there g.S.PageStore.stored c.requires.next.0 c.args.next.now c.args.self.now c.in-Some.change
     (sym c.in-Some.ensures) c.requires.next.1.1 c.requires.next.1.0 in
-    subst (λ (v : PoolView g.row.S.Denot). c.in-Some.change.page < length v.states) (sym c.self.view_is) there
+    subst (λ (v : PoolView g.row.S.Denot). n < length v.states) (sym c.self.view_is) there
