@@ -4,7 +4,8 @@ use Rattle.std.proofs.Common.{inl, inr}
 use Rattle.std.specs.Prelude.{Option, Some}
 use Rattle.std.specs.List.{AllByRecursion}
 use Rattle.std.proofs.lemmas.List.{length-take-le, take_all}
-use Rattle.log_records.specs.Log.{IsLog, Log, SpellsLog, log_bytes}
+use Rattle.page_core.specs.PageCounts.{PageCounts}
+use Rattle.log_records.specs.Log.{IsLog, Log, SpellsLog, counts_of, log_bytes}
 use Rattle.log_records.proofs.Logs.{same_log}
 use Rattle.log_history.specs.Linked.{IsLinked}
 use Rattle.log_store.specs.declared.fault.LogReadFault.{LogReadFault}
@@ -105,22 +106,24 @@ outside_chain chain.ReadFault is = tt
 outside_chain chain.RedoBeyondLog is = absurd is
 outside_chain (chain.PageBeyondLog page) is = absurd is
 
-pub from_outside : (pages end : ℕ) (lefts : List (Option (List ℕ))) (copies : List CopyView) (why : ChainReadFault)
-    → IsRightChain pages end copies → AreNoChain pages end (archives_of copies) lefts why → IsFromOutside why
-from_outside pages end lefts copies why right (inl made) = not_unmade pages end lefts copies why right made
-from_outside pages end lefts copies why right (inr (inl stopped)) = not_stopped pages end lefts copies why right stopped
-from_outside pages end lefts copies why right (inr (inr memory)) = subst IsFromOutside (sym memory) tt
+pub from_outside : (counts : PageCounts) (end : ℕ) (lefts : List (Option (List ℕ))) (copies : List CopyView)
+    (why : ChainReadFault) → IsRightChain counts end copies
+    → AreNoChain counts end (archives_of copies) lefts why → IsFromOutside why
+from_outside counts end lefts copies why right (inl made) = not_unmade counts end lefts copies why right made
+from_outside counts end lefts copies why right (inr (inl stopped)) =
+    not_stopped counts end lefts copies why right stopped
+from_outside counts end lefts copies why right (inr (inr memory)) = subst IsFromOutside (sym memory) tt
 
 pub refused_outside : (whole : Log) (copies : List CopyView) (why : fault.Unsound) → IsLog whole
-    → IsLinked whole.records → IsRightChain whole.pages (end_of whole) copies → IsAudited whole copies
+    → IsLinked whole.records → IsRightChain (counts_of whole) (end_of whole) copies → IsAudited whole copies
     → AreRefused (Some (log_bytes whole)) (archives_of copies) why → IsOutside why
 refused_outside whole copies why valid linked right audited (of_the_log first same refused) =
     subst IsOutside (sym same)
     (outside_log whole (record { valid = valid; spelled = refl }) linked first refused)
 refused_outside whole copies why valid linked right audited (of_the_archives other is first same lefts refused) =
     let one : other ≡ whole = same_log_of whole other is.spelled valid in
-    subst IsOutside (sym same) (outside_chain first (from_outside whole.pages (end_of whole) lefts copies first right
-    (subst (λ (k : Log). AreNoChain k.pages (end_of k) (archives_of copies) lefts first) one refused)))
+    subst IsOutside (sym same) (outside_chain first (from_outside (counts_of whole) (end_of whole) lefts copies first right
+    (subst (λ (k : Log). AreNoChain (counts_of k) (end_of k) (archives_of copies) lefts first) one refused)))
 refused_outside whole copies why valid linked right audited (of_a_page other members is of chained found) =
     let one : other ≡ whole = same_log_of whole other is.spelled valid in
     let all : members ≡ copies = same_copies copies members of.spelled right.archived in

@@ -12,7 +12,7 @@ use Rattle.page_core.specs.declared.page.Page.{Page}
 use Rattle.page_core.specs.Page.{formatted}
 use Rattle.log_records.specs.declared.record.Record.{Record}
 use Rattle.log_records.specs.Coverage.{Covers}
-use Rattle.log_records.specs.Log.{Log}
+use Rattle.log_records.specs.Log.{Log, page_count}
 use Rattle.copy_vault.specs.ChainEach.{place_list}
 use Rattle.copy_vault.specs.Chain.{content, last_of, last_redo, takings}
 use Rattle.copy_vault.specs.Chain.{row, rows}
@@ -80,32 +80,32 @@ pub count_rows : (copies : List CopyView) (n : ℕ) → length (rows copies n) �
 count_rows copies n = length-map-range_with_len (row copies) 0 n
 
 pub nothing_found : (log : Log) (copies : List CopyView) (points : List ℕ) (given : List (List (List Page)))
-    → points ≡ redo_points copies → given ≡ rows copies log.pages → AreWithinLog (end_of log) copies
+    → points ≡ redo_points copies → given ≡ rows copies (page_count log) → AreWithinLog (end_of log) copies
     → AreFound log.records points (length points) given None → IsAudited log copies
 nothing_found log copies points given of_points of_given within none = record {
   within = within;
   covering = λ k member p page.
       let many : k < length points = omega (arith, ap length of_points, length-map copies (λ (c : CopyView). c.redo), member) in
-      let long : p < length given = omega (arith, ap length of_given, count_rows copies log.pages, page) in
-      to_chain log copies log.pages k p member page
+      let long : p < length given = omega (arith, ap length of_given, count_rows copies (page_count log), page) in
+      to_chain log copies (page_count log) k p member page
       (subst (λ (g : List (List (List Page))). IsSoundIn log.records p (get_or g p []) (redo_points copies) k) of_given
       (subst (λ (ps : List ℕ). IsSoundIn log.records p (get_or given p []) ps k) of_points (none k p many long)));
 }
 
 pub one_found : (log : Log) (copies : List CopyView) (ids points : List ℕ) (given : List (List (List Page))) (found : Found)
-    → ids ≡ map (λ (c : CopyView). c.id) copies → points ≡ redo_points copies → given ≡ rows copies log.pages
+    → ids ≡ map (λ (c : CopyView). c.id) copies → points ≡ redo_points copies → given ≡ rows copies (page_count log)
     → AreFound log.records points (length points) given (Some found)
     → IsFirstUnsound log copies (get_or ids found.member 0) found.page
 one_found log copies ids points given found of_ids of_points of_given some =
     let many : length points ≡ length copies = ap length of_points ∙ length-map copies (λ (c : CopyView). c.redo) in
-    let long : length given ≡ log.pages = ap length of_given ∙ count_rows copies log.pages in
+    let long : length given ≡ page_count log = ap length of_given ∙ count_rows copies (page_count log) in
     let there : found.member < length copies = omega (arith, some.there, many) in
-    let within : found.page < log.pages = omega (arith, some.within, long) in
+    let within : found.page < page_count log = omega (arith, some.within, long) in
     let same : (k p : ℕ) → IsSoundIn log.records p (get_or given p []) points k
-    → IsSoundIn log.records p (get_or (rows copies log.pages) p []) (redo_points copies) k = λ k p sound.
+    → IsSoundIn log.records p (get_or (rows copies (page_count log)) p []) (redo_points copies) k = λ k p sound.
     subst (λ (g : List (List (List Page))). IsSoundIn log.records p (get_or g p []) (redo_points copies) k) of_given
     (subst (λ (ps : List ℕ). IsSoundIn log.records p (get_or given p []) ps k) of_points sound) in
-    let back : (k p : ℕ) → IsSoundIn log.records p (get_or (rows copies log.pages) p []) (redo_points copies) k
+    let back : (k p : ℕ) → IsSoundIn log.records p (get_or (rows copies (page_count log)) p []) (redo_points copies) k
     → IsSoundIn log.records p (get_or given p []) points k = λ k p sound.
     subst (λ (ps : List ℕ). IsSoundIn log.records p (get_or given p []) ps k) (sym of_points)
     (subst (λ (g : List (List (List Page))). IsSoundIn log.records p (get_or g p []) (redo_points copies) k) (sym of_given)
@@ -116,12 +116,12 @@ one_found log copies ids points given found of_ids of_points of_given some =
       named = λ d. ap (λ (ns : List ℕ). get_or ns found.member 0) of_ids
           ∙ get_or-map (λ (c : CopyView). c.id) copies found.member d 0 there;
       within = within;
-      members = λ k p before page. to_chain log copies log.pages k p (omega arith) page
+      members = λ k p before page. to_chain log copies (page_count log) k p (omega arith) page
           (same k p (some.members_before k p before (omega (arith, page, long))));
-      pages = λ p before. to_chain log copies log.pages found.member p there (omega arith)
+      pages = λ p before. to_chain log copies (page_count log) found.member p there (omega arith)
           (same found.member p (some.pages_before p before));
       unsound = λ sound. some.here (back found.member found.page
-          (to_rows log copies log.pages found.member found.page there within sound));
+          (to_rows log copies (page_count log) found.member found.page there within sound));
     }
 
 -- ---- one row more

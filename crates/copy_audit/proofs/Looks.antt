@@ -4,12 +4,12 @@ use Rattle.std.specs.Prelude.{Option, Some, None}
 use Rattle.std.proofs.lemmas.List.{length-append}
 use Rattle.page_core.specs.declared.page.Page.{Page}
 use Rattle.log_records.specs.declared.record.Record.{Record}
-use Rattle.log_records.specs.Log.{Log}
+use Rattle.log_records.specs.Log.{Log, counts_of, page_count}
+use Rattle.log_records.proofs.PageCounts.{last_count-counts_of}
 use Rattle.copy_vault.specs.declared.chain_reader.ChainReader.{ChainReader}
 use Rattle.copy_vault.specs.ChainEach.{IsEachRead, IsReadingEach, ids_of, place_list, points_of}
-use Rattle.copy_vault.specs.Chain.{FitFrom, rows}
+use Rattle.copy_vault.specs.Chain.{rows}
 use Rattle.copy_vault.specs.ChainReading.{AreWithinLog}
-use Rattle.copy_vault.specs.declared.copy_id.CopyKind.TheVariants.{Full}
 use Rattle.copy_vault.specs.Copy.{CopyView}
 use Rattle.copy_audit.specs.declared.found.Found.{Found}
 use Rattle.copy_audit.specs.declared.unsound.Unsound as fault
@@ -22,31 +22,37 @@ use Rattle.copy_audit.proofs.Founds.{nothing_found, one_found}
 pub record HasLooked (inputs lefts : List (Option (List ℕ))) (log : Log) (it : ChainReader) (members number : ℕ)
     (found : Option Found) : Type 0 where
   pub given : List (List (List Page))
-  pub reading : IsReadingEach inputs lefts it given
+  pub reading : IsReadingEach (counts_of log) inputs lefts it given
   pub count : length given ≡ number
   pub found_in : AreFound log.records (points_of it) members given found
   pub point_each : length (points_of it) ≡ members
   pub id_each : length (ids_of it) ≡ members
-  pub pages : it.pages ≡ log.pages
   pub end : it.end ≡ end_of log
 
 -- there is a page of this number
 pub next_below : (inputs lefts now : List (Option (List ℕ))) (log : Log) (old new : ChainReader) (members number : ℕ)
     (found : Option Found) (row : List (List Page)) → (looked : HasLooked inputs lefts log old members number found)
-    → IsReadingEach inputs now new (looked.given ++ row ∷ []) → new.pages ≡ old.pages → number < log.pages
-next_below inputs lefts now log old new members number found row looked going same =
-    omega (arith, going.within, length-append looked.given (row ∷ []), looked.count, looked.pages, same)
+    → IsReadingEach (counts_of log) inputs now new (looked.given ++ row ∷ []) → number < page_count log
+next_below inputs lefts now log old new members number found row looked going =
+    omega (
+      arith,
+      going.within,
+      length-append looked.given (row ∷ []),
+      looked.count,
+      going.reading.all,
+      last_count-counts_of log,
+    )
 
 pub looked_more : (inputs lefts now : List (Option (List ℕ))) (log : Log) (old new : ChainReader) (members number : ℕ)
     (found more : Option Found) (rs : List Record) (row : List (Option Page))
     → (looked : HasLooked inputs lefts log old members number found)
-    → IsReadingEach inputs now new (looked.given ++ map place_list row ∷ []) → rs ≡ log.records
-    → ids_of new ≡ ids_of old → points_of new ≡ points_of old → new.pages ≡ old.pages → new.end ≡ old.end
+    → IsReadingEach (counts_of log) inputs now new (looked.given ++ map place_list row ∷ []) → rs ≡ log.records
+    → ids_of new ≡ ids_of old → points_of new ≡ points_of old → new.end ≡ old.end
     → length row ≡ members
     → ((given : List (List (List Page))) → length given ≡ number → AreFound rs (points_of new) (length row) given found
     → AreFound rs (points_of new) (length row) (given ++ map place_list row ∷ []) more)
     → HasLooked inputs now log new (length row) (number + 1) more
-looked_more inputs lefts now log old new members number found more rs row looked going records ids points pages end wide step =
+looked_more inputs lefts now log old new members number found more rs row looked going records ids points end wide step =
     let before : AreFound rs (points_of new) (length row) looked.given found =
     subst (λ (xs : List Record). AreFound xs (points_of new) (length row) looked.given found) (sym records)
     (subst (λ (ps : List ℕ). AreFound log.records ps (length row) looked.given found) (sym points)
@@ -60,7 +66,6 @@ looked_more inputs lefts now log old new members number found more rs row looked
           (step looked.given looked.count before);
       point_each = ap length points ∙ looked.point_each ∙ sym wide;
       id_each = ap length ids ∙ looked.id_each ∙ sym wide;
-      pages = pages ∙ looked.pages;
       end = end ∙ looked.end;
     }
 
@@ -68,7 +73,7 @@ looked_more inputs lefts now log old new members number found more rs row looked
 
 looked_at : (log : Log) (copies : List CopyView) (ids points : List ℕ) (given : List (List (List Page)))
     (found : Option Found) (named : Option fault.Unsound) → ids ≡ map (λ (c : CopyView). c.id) copies
-    → points ≡ map (λ (c : CopyView). c.redo) copies → given ≡ rows copies log.pages → AreWithinLog (end_of log) copies
+    → points ≡ map (λ (c : CopyView). c.redo) copies → given ≡ rows copies (page_count log) → AreWithinLog (end_of log) copies
     → AreFound log.records points (length points) given found → IsNamed ids found named → IsLookedAt log copies named
 looked_at log copies ids points given None named of_ids of_points of_given within none is =
     subst (IsLookedAt log copies) (sym is) (nothing_found log copies points given of_points of_given within none)
@@ -82,11 +87,11 @@ looked_at log copies ids points given (Some found) named of_ids of_points of_giv
 
 pub all_looked : (inputs lefts : List (Option (List ℕ))) (log : Log) (old new : ChainReader) (members number : ℕ)
     (found : Option Found) (named : Option fault.Unsound) → (looked : HasLooked inputs lefts log old members number found)
-    → IsEachRead new.pages new.end inputs (ids_of new) (points_of new) looked.given
-    → points_of new ≡ points_of old → new.pages ≡ old.pages → new.end ≡ old.end
+    → IsEachRead (counts_of log) new.end inputs (ids_of new) (points_of new) looked.given
+    → points_of new ≡ points_of old → new.end ≡ old.end
     → IsNamed (ids_of new) found named → IsLooked log inputs named
-all_looked inputs lefts log old new members number found named looked read points pages end is =
-    let n : new.pages ≡ log.pages = pages ∙ looked.pages in
+all_looked inputs lefts log old new members number found named looked read points end is =
+    let n = last_count-counts_of log in
     let last : new.end ≡ end_of log = end ∙ looked.end in
     let within = subst (λ (e : ℕ). AreWithinLog e read.copies) last read.within in
     let many : members ≡ length (points_of new) = sym (ap length points ∙ looked.point_each) in
@@ -94,7 +99,7 @@ all_looked inputs lefts log old new members number found named looked read point
       copies = read.copies;
       of_archives = record {
         spelled = read.spelled;
-        fit = subst (λ (m : ℕ). FitFrom m Full read.copies) n read.fit;
+        fit = read.fit;
         within = within;
       };
       chain = read.chain;

@@ -5,7 +5,7 @@ use Rattle.std.proofs.lemmas.Bool.{le-ltb, lt-ltb}
 use Rattle.std.proofs.lemmas.List.{get_or-map, length-append, length-map, length-take, take-append-le, take_all}
 use Rattle.page_core.specs.declared.page.Page.{Page}
 use Rattle.log_records.specs.declared.record.Record.{Record}
-use Rattle.log_records.specs.Log.{Log}
+use Rattle.log_records.specs.Log.{Log, page_count}
 use Rattle.copy_vault.specs.Chain.{rows}
 use Rattle.copy_vault.specs.Copy.{CopyView}
 use Rattle.copy_audit.specs.declared.all_pages.TheConstants.{MOST_PAGES}
@@ -114,16 +114,16 @@ told_unsound rs points ids members n member given next it told now count page na
 
 pub all_told : (log : Log) (copies : List CopyView) (ids points : List ℕ) (given : List (List (List Page)))
     (told : UnsoundPages) → ids ≡ map (λ (c : CopyView). c.id) copies → points ≡ redo_points copies
-    → given ≡ rows copies log.pages → HasTold log.records points ids (length points) given (length given) told
+    → given ≡ rows copies (page_count log) → HasTold log.records points ids (length points) given (length given) told
     → AreTold log copies told
 all_told log copies ids points given told of_ids of_points of_given has =
     let many : length points ≡ length copies = ap length of_points ∙ length-map copies (λ (c : CopyView). c.redo) in
-    let long : length given ≡ log.pages = ap length of_given ∙ count_rows copies log.pages in
+    let long : length given ≡ page_count log = ap length of_given ∙ count_rows copies (page_count log) in
     let same : (k p : ℕ) → IsSoundIn log.records p (get_or given p []) points k
-    → IsSoundIn log.records p (get_or (rows copies log.pages) p []) (redo_points copies) k = λ k p sound.
+    → IsSoundIn log.records p (get_or (rows copies (page_count log)) p []) (redo_points copies) k = λ k p sound.
     subst (λ (g : List (List (List Page))). IsSoundIn log.records p (get_or g p []) (redo_points copies) k) of_given
     (subst (λ (ps : List ℕ). IsSoundIn log.records p (get_or given p []) ps k) of_points sound) in
-    let back : (k p : ℕ) → IsSoundIn log.records p (get_or (rows copies log.pages) p []) (redo_points copies) k
+    let back : (k p : ℕ) → IsSoundIn log.records p (get_or (rows copies (page_count log)) p []) (redo_points copies) k
     → IsSoundIn log.records p (get_or given p []) points k = λ k p sound.
     subst (λ (ps : List ℕ). IsSoundIn log.records p (get_or given p []) ps k) (sym of_points)
     (subst (λ (g : List (List (List Page))). IsSoundIn log.records p (get_or g p []) (redo_points copies) k) (sym of_given)
@@ -132,21 +132,21 @@ all_told log copies ids points given told of_ids of_points of_given has =
     let listed : AreListed (IsSoundPage log copies) (IsUnsoundFrom log copies) n has.all =
     listed_as (IsSoundRow log.records points (length points) given) (IsSoundPage log copies)
     (IsUnsoundRow log.records points ids (length points) given) (IsUnsoundFrom log copies) n has.all
-    (λ p lt sound k member. to_chain log copies log.pages k p member (omega (arith, lt, long))
+    (λ p lt sound k member. to_chain log copies (page_count log) k p member (omega (arith, lt, long))
     (same k p (sound k (omega (arith, many, member)))))
     (λ it lt wrong.
     let first = wrong.first in
     let there : wrong.member < length copies = omega (arith, first.there, many) in
-    let page : it.page < log.pages = omega (arith, lt, long) in
+    let page : it.page < page_count log = omega (arith, lt, long) in
     record {
       at = wrong.member;
       there = there;
       named = λ d. wrong.named ∙ ap (λ (ns : List ℕ). get_or ns wrong.member 0) of_ids
           ∙ get_or-map (λ (c : CopyView). c.id) copies wrong.member d 0 there;
-      before = λ k lt. to_chain log copies log.pages k it.page (omega (arith, lt, there)) page
+      before = λ k lt. to_chain log copies (page_count log) k it.page (omega (arith, lt, there)) page
           (same k it.page (first.before k lt));
       unsound = λ sound. first.here (back wrong.member it.page
-          (to_rows log copies log.pages wrong.member it.page there page sound));
+          (to_rows log copies (page_count log) wrong.member it.page there page sound));
     })
     has.listed in
     record {

@@ -2,7 +2,7 @@
 use Rattle.std.specs.Prelude.{ℕ, ◌≡◌, ◌+◌, ◌<◌, List, length, take, Option, IfSome}
 use Rattle.std.specs.Prelude.{slice_index_or}
 use Rattle.log_records.specs.Coverage.{Covers}
-use Rattle.log_records.specs.Log.{IsLog, Log, SpellsLog, lsn_of}
+use Rattle.log_records.specs.Log.{IsLog, Log, SpellsLog, counts_of, lsn_of, page_count}
 use Rattle.log_history.specs.Linked.{IsLinked}
 use Rattle.copy_vault.specs.declared.copy_id.CopyKind.TheVariants.{Full}
 use Rattle.copy_vault.specs.Chain.{FitFrom, content, last_redo}
@@ -26,7 +26,7 @@ pub record IsOfLog (input : Option (List ℕ)) (log : Log) : Type 0 where
 pub record AreOfArchives (inputs : List (Option (List ℕ))) (log : Log) (copies : List CopyView)
     : Type 0 where
   pub spelled : SpellCopies inputs copies
-  pub fit : FitFrom log.pages Full copies
+  pub fit : FitFrom (counts_of log) Full copies
   pub within : AreWithinLog (end_of log) copies
 
 -- ---- audited chains
@@ -35,7 +35,7 @@ pub record AreOfArchives (inputs : List (Option (List ℕ))) (log : Log) (copies
 -- copy
 abbrev pub AreCovering : Log → List CopyView → Type 0
 AreCovering log copies =
-    (p : ℕ) → p < log.pages → Covers log.records p (content copies p) (last_redo copies)
+    (p : ℕ) → p < page_count log → Covers log.records p (content copies p) (last_redo copies)
 
 -- the chain that ends with the member at an index
 abbrev pub chain_to : List CopyView → ℕ → List CopyView
@@ -58,7 +58,7 @@ pub record IsFirstUnsound (log : Log) (copies : List CopyView) (id page : ℕ) :
   pub at : ℕ
   pub there : at < length copies
   pub named : (d : CopyView) → id ≡ (slice_index_or copies at d).id
-  pub within : page < log.pages
-  pub members : (k : ℕ) (p : ℕ) → k < at → p < log.pages → IsSoundAt log copies k p
+  pub within : page < page_count log
+  pub members : (k : ℕ) (p : ℕ) → k < at → p < page_count log → IsSoundAt log copies k p
   pub pages : (p : ℕ) → p < page → IsSoundAt log copies at p
   pub unsound : ¬ IsSoundAt log copies at page

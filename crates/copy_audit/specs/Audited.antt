@@ -2,7 +2,7 @@
 use Rattle.std.specs.Prelude.{ℕ, ◌≡◌, List, [], Option, None, Some, IfSome, slice_index}
 use Rattle.copy_audit.specs.declared.found.Found.{Found}
 use Rattle.page_core.specs.Input.{HasGivenAll}
-use Rattle.log_records.specs.Log.{Log}
+use Rattle.log_records.specs.Log.{Log, counts_of}
 use Rattle.log_store.specs.declared.fault.LogReadFault.{LogReadFault}
 use Rattle.log_store.specs.Fault.{GaveNoFault, Refuses}
 use Rattle.copy_vault.specs.declared.chain_read_fault.ChainReadFault.{ChainReadFault}
@@ -37,7 +37,7 @@ pub data AreRefused (input : Option (List ℕ)) (archives : List (Option (List �
       → IfSome input (λ bytes. Refuses bytes first) → AreRefused input archives why
   of_the_archives : (log : Log) → IsOfLog input log → (first : ChainReadFault)
       → why ≡ of_chain first → (lefts : List (Option (List ℕ)))
-      → AreNoChain log.pages (end_of log) archives lefts first → AreRefused input archives why
+      → AreNoChain (counts_of log) (end_of log) archives lefts first → AreRefused input archives why
   of_a_page : (log : Log) (copies : List CopyView) → IsOfLog input log
       → AreOfArchives archives log copies → IsChain copies → IsUnsoundFor log copies why
       → AreRefused input archives why
@@ -52,7 +52,7 @@ pub data StopsIn (input left : Option (List ℕ)) (archives lefts : List (Option
       → none_read → StopsIn input left archives lefts none_read why
   the_archives : (log : Log) → IsOfLog input log → HasGivenAll input left
       → (first : ChainReadFault) → why ≡ of_chain first
-      → AreNoChain log.pages (end_of log) archives lefts first
+      → AreNoChain (counts_of log) (end_of log) archives lefts first
       → StopsIn input left archives lefts none_read why
   a_page : (id page : ℕ) → why ≡ Unsound id page → HasGivenAll input left
       → HaveGivenAll archives lefts → StopsIn input left archives lefts none_read why

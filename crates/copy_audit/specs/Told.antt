@@ -4,7 +4,7 @@ use Rattle.std.specs.Prelude.{nat_lt}
 use Rattle.std.specs.Prelude.{Option, slice_index, slice_index_or}
 use Rattle.page_core.specs.declared.page.Page.{Page}
 use Rattle.log_records.specs.declared.record.Record.{Record}
-use Rattle.log_records.specs.Log.{Log}
+use Rattle.log_records.specs.Log.{Log, page_count}
 use Rattle.copy_vault.specs.Chain.{IsChain}
 use Rattle.copy_vault.specs.Copy.{CopyView}
 use Rattle.copy_audit.specs.declared.all_pages.TheConstants.{MOST_PAGES}
@@ -42,7 +42,8 @@ pub record AreFirstOf (all : List UnsoundPage) (told : UnsoundPages) : Type 0 wh
 -- these are told of all unsound pages of the chain
 pub record AreTold (log : Log) (copies : List CopyView) (told : UnsoundPages) : Type 0 where
   pub all : List UnsoundPage
-  pub listed : AreListed (IsSoundPage log copies) (IsUnsoundFrom log copies) log.pages all
+  pub listed : AreListed (IsSoundPage log copies) (IsUnsoundFrom log copies)
+      (page_count log) all
   pub first : AreFirstOf all told
 
 -- the archives spell a chain of copies for the log, of which these are told

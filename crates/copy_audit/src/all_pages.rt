@@ -3,7 +3,7 @@
 ghost use Rattle.std.specs.Prelude.{ℕ, ◌≡◌, ◌+◌, ◌++◌, [], ◌∷◌, List, IfErr, IfOk, OnOk, length};
 ghost use Rattle.std.specs.Prelude.{map};
 ghost use Rattle.page_core.specs.declared.page.Page.{Page};
-ghost use Rattle.log_records.specs.Log.{IsLog};
+ghost use Rattle.log_records.specs.Log.{IsLog, counts_of};
 ghost use Rattle.copy_vault.specs.ChainEach.{ids_of, place_list, points_of};
 ghost use Rattle.copy_vault.specs.ChainReading.{AreNoChain};
 ghost use Rattle.page_redo.specs.PageRecords.{numbers_on};
@@ -80,11 +80,12 @@ fn pages_in<A: Read>(
     archives: &mut [A],
 ) -> Result<UnsoundPages, ChainReadFault>
     ensures ok { IfOk result (IsTold log.now (map (λ a. A.remaining a) archives.old)) }
-    ensures err { IfErr result (AreNoChain log.now.pages (end_of log.now)
+    ensures err { IfErr result (AreNoChain (counts_of log.now) (end_of log.now)
         (map (λ a. A.remaining a) archives.old) (map (λ a. A.remaining a) archives.new)) }
 {
-    let mut chain = ChainReader::new(alloc, archives, log.pages(), log.end())?;
-    let changes = by_page(alloc, log.records(), Lsn(0), log.pages())?;
+    let counts = log.counts(alloc);
+    let mut chain = ChainReader::new(alloc, archives, &counts, log.end())?;
+    let changes = by_page(alloc, log.records(), Lsn(0), log.page_count())?;
     let mut row = places(alloc, archives.len())?;
     let mut found = UnsoundPages {
         pages: Vec::new(alloc),

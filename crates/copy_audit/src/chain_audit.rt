@@ -5,7 +5,7 @@ ghost use Rattle.std.specs.Prelude.{IfSome};
 ghost use Rattle.std.specs.Prelude.{OnOk, length, map};
 ghost use Rattle.page_core.specs.declared.page.Page.{Page};
 ghost use Rattle.page_core.specs.Input.{HasGivenAll};
-ghost use Rattle.log_records.specs.Log.{IsLog};
+ghost use Rattle.log_records.specs.Log.{IsLog, counts_of};
 ghost use Rattle.copy_vault.specs.ChainEach.{ids_of, place_list, points_of};
 ghost use Rattle.copy_vault.specs.ChainReading.{AreNoChain, HaveGivenAll};
 ghost use Rattle.page_redo.specs.PageRecords.{numbers_on};
@@ -77,11 +77,12 @@ fn first_in<A: Read>(
     ensures ok { IfOk result (IsLooked log.now (map (λ a. A.remaining a) archives.old)) }
     ensures end { OnOk result (HaveGivenAll (map (λ a. A.remaining a) archives.old)
         (map (λ a. A.remaining a) archives.new)) }
-    ensures err { IfErr result (AreNoChain log.now.pages (end_of log.now)
+    ensures err { IfErr result (AreNoChain (counts_of log.now) (end_of log.now)
         (map (λ a. A.remaining a) archives.old) (map (λ a. A.remaining a) archives.new)) }
 {
-    let mut chain = ChainReader::new(alloc, archives, log.pages(), log.end())?;
-    let changes = by_page(alloc, log.records(), Lsn(0), log.pages())?;
+    let counts = log.counts(alloc);
+    let mut chain = ChainReader::new(alloc, archives, &counts, log.end())?;
+    let changes = by_page(alloc, log.records(), Lsn(0), log.page_count())?;
     let mut row = places(alloc, archives.len())?;
     let mut found = None;
     let mut number = 0;

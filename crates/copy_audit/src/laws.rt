@@ -1,7 +1,7 @@
 //! Laws of audited chains.
 
 ghost use Rattle.std.specs.Prelude.{ℕ, ◌<◌, List, Some, length};
-ghost use Rattle.log_records.specs.Log.{IsLog, Log, log_bytes};
+ghost use Rattle.log_records.specs.Log.{IsLog, Log, counts_of, log_bytes};
 ghost use Rattle.log_history.specs.Linked.{IsLinked};
 ghost use Rattle.copy_vault.specs.ChainReading.{IsRightChain, archives_of};
 ghost use Rattle.copy_vault.specs.Copy.{CopyView};
@@ -14,7 +14,7 @@ ghost use Rattle.copy_audit.specs.Audited.{AreRefused};
 /// failing reader, and never for what is in them.
 pub fn an_audited_chain_is_called_sound()
     ensures { (log : Log) (copies : List CopyView) (why : fault.Unsound) → IsLog log
-        → IsLinked log.records → IsRightChain log.pages (end_of log) copies
+        → IsLinked log.records → IsRightChain (counts_of log) (end_of log) copies
         → IsAudited log copies → AreRefused (Some (log_bytes log)) (archives_of copies) why
         → IsOutside why }
 {}

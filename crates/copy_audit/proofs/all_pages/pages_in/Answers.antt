@@ -1,4 +1,4 @@
-use Rattle.std.proofs.Common.{◌≡◌, ◌∙◌, ◌+◌, ℕ, List, [], ◌∷◌, ◌++◌, length, get_or, map, sym, ap, subst, arith, inl, inr}
+use Rattle.std.proofs.Common.{◌≡◌, ◌∙◌, ◌+◌, ◌^◌, ◌<◌, rules, ℕ, List, [], ◌∷◌, ◌++◌, length, get_or, map, sym, ap, subst, arith, inl, inr}
 use Rattle.std.specs.Prelude.{Option}
 use Rattle.std.specs.Vec.{with_items}
 use Rattle.std.proofs.lemmas.List.{with_items_is}
@@ -6,10 +6,10 @@ use Rattle.std.proofs.lemmas.List.FromFn.{get_or-map-range_with_len, length-map-
 use Rattle.std.proofs.lemmas.Result.{err_from_is_err_and}
 use Rattle.page_core.specs.declared.page.Page.{Page}
 use Rattle.log_records.specs.declared.record.Record.{Record}
+use Rattle.log_records.specs.Log.{counts_of}
 use Rattle.copy_vault.specs.ChainEach.{IsReadingEach, place_list}
 use Rattle.copy_vault.specs.ChainReading.{IsStopped}
 use Rattle.page_redo.specs.PageRecords.{numbers_on}
-use Rattle.copy_audit.specs.Audit.{end_of}
 use Rattle.copy_audit.proofs.Rowwise.{HasListed, all_listed, listed_below, listed_more}
 use Rattle.copy_audit.proofs.all_pages.pages_in.Goals as goal
 
@@ -20,11 +20,10 @@ returns-in_err-next_each-clause-err g c =
     let lefts = map left c.next_each.new.readers in
     let listed = c.rows.invariant.listed in
     let fault = c.in_err-next_each.field-0.0 in
-    let stopped = c.in_err-next_each.ensures.err inputs listed.given listed.reading in
+    let stopped = c.in_err-next_each.ensures.err (counts_of c.args.log.now) inputs listed.given listed.reading in
     let p = err_from_is_err_and c.from_residual-in_err-next_each.result c.from_residual-in_err-next_each.ensures.1 in
     rw (p.1, p.2)
-    (inr (inl (subst (λ n. IsStopped n (end_of c.args.log.now) inputs lefts fault) listed.pages
-    (subst (λ n. IsStopped c.rows.chain.pages n inputs lefts fault) listed.end stopped))))
+    (inr (inl (subst (λ n. IsStopped (counts_of c.args.log.now) n inputs lefts fault) listed.end stopped)))
 
 pub returns-then-not-branch-clause-ok : goal.returns-then-not-branch-clause-ok
 returns-then-not-branch-clause-ok g c =
@@ -32,9 +31,9 @@ returns-then-not-branch-clause-ok g c =
     let inputs = map left c.args.archives.now in
     let listed = c.rows.invariant.listed in
     let ended = c.in_ok-next_each.ensures in
-    let read = (rw c.if-not-branch.true at (ended.ok inputs listed.given listed.reading)).0 in
+    let read = (rw c.if-not-branch.true at (ended.ok (counts_of c.args.log.now) inputs listed.given listed.reading)).0 in
     all_listed inputs (map left c.rows.archives) c.args.log.now c.rows.chain c.next_each.new.self
-    (length c.rows.row.items) c.rows.number c.rows.found listed read ended.ids ended.points ended.pages ended.end
+    (length c.rows.row.items) c.rows.number c.rows.found listed read ended.ids ended.points ended.end
 
 pub of-requires : goal.of-requires
 of-requires g c =
@@ -42,16 +41,16 @@ of-requires g c =
     let inputs = map left c.args.archives.now in
     let listed = c.rows.invariant.listed in
     let step = c.in_ok-next_each.ensures in
-    let going = rw c.if-not-branch.false at (step.ok inputs listed.given listed.reading) in
+    let going = rw c.if-not-branch.false at (step.ok (counts_of c.args.log.now) inputs listed.given listed.reading) in
     let below = listed_below inputs (map left c.rows.archives) (map left c.next_each.new.readers) c.args.log.now c.rows.chain
     c.next_each.new.self (length c.rows.row.items) c.rows.number c.rows.found (map place_list c.next_each.new.row) listed
-    going step.pages in
+    going in
     omega (
       arith,
       below,
       ap length c.in_ok-changes.ensures.numbers,
-      length-map-range_with_len (numbers_on c.records.result.now 0) 0 c.pages-2.result,
-      c.pages-2.ensures.pages,
+      length-map-range_with_len (numbers_on c.records.result.now 0) 0 c.page_count.result,
+      c.page_count.ensures.count,
     )
 
 pub note_row-requires-clause-numbers : goal.note_row-requires-clause-numbers
@@ -60,15 +59,28 @@ note_row-requires-clause-numbers g c =
     let inputs = map left c.args.archives.now in
     let listed = c.rows.invariant.listed in
     let step = c.in_ok-next_each.ensures in
-    let going = rw c.if-not-branch.false at (step.ok inputs listed.given listed.reading) in
+    let going = rw c.if-not-branch.false at (step.ok (counts_of c.args.log.now) inputs listed.given listed.reading) in
     let below = listed_below inputs (map left c.rows.archives) (map left c.next_each.new.readers) c.args.log.now c.rows.chain
     c.next_each.new.self (length c.rows.row.items) c.rows.number c.rows.found (map place_list c.next_each.new.row) listed
-    going step.pages in
+    going in
     let n = c.rows.number in
     c.of.ensures ∙ ap (λ (ls : List (List ℕ)). get_or ls n []) c.in_ok-changes.ensures.numbers
-    ∙ get_or-map-range_with_len (numbers_on c.records.result.now 0) 0 c.pages-2.result n n []
-    (omega (arith, below, c.pages-2.ensures.pages)) (omega arith)
+    ∙ get_or-map-range_with_len (numbers_on c.records.result.now 0) 0 c.page_count.result n n []
+    (omega (arith, below, c.page_count.ensures.count)) (omega arith)
     ∙ ap (λ (rs : List Record). numbers_on rs 0 n) (c.records.ensures.records ∙ sym c.records-in-rows.ensures.records)
+
+pub overflow_add-number : goal.overflow_add-number
+overflow_add-number g c =
+    let left = g.A.Read.remaining in
+    let inputs = map left c.args.archives.now in
+    let listed = c.rows.invariant.listed in
+    let step = c.in_ok-next_each.ensures in
+    let going = rw c.if-not-branch.false at (step.ok (counts_of c.args.log.now) inputs listed.given listed.reading) in
+    let below = listed_below inputs (map left c.rows.archives) (map left c.next_each.new.readers) c.args.log.now c.rows.chain
+    c.next_each.new.self (length c.rows.row.items) c.rows.number c.rows.found (map place_list c.next_each.new.row) listed
+    going in
+    let fits : c.rows.number + 1 < 2 ^ 32 = omega (arith, below, c.page_count.ensures.count) in
+    search rules
 
 pub rows-smaller : goal.rows-smaller
 rows-smaller g c =
@@ -76,10 +88,10 @@ rows-smaller g c =
     let inputs = map left c.args.archives.now in
     let listed = c.rows.invariant.listed in
     let step = c.in_ok-next_each.ensures in
-    let going = rw c.if-not-branch.false at (step.ok inputs listed.given listed.reading) in
+    let going = rw c.if-not-branch.false at (step.ok (counts_of c.args.log.now) inputs listed.given listed.reading) in
     let below = listed_below inputs (map left c.rows.archives) (map left c.next_each.new.readers) c.args.log.now c.rows.chain
     c.next_each.new.self (length c.rows.row.items) c.rows.number c.rows.found (map place_list c.next_each.new.row) listed
-    going step.pages in
+    going in
     omega (arith, below)
 
 pub rows-preserved : goal.rows-preserved
@@ -89,7 +101,7 @@ rows-preserved g c =
     let now = map left c.next_each.new.readers in
     let listed = c.rows.invariant.listed in
     let step = c.in_ok-next_each.ensures in
-    let going = rw c.if-not-branch.false at (step.ok inputs listed.given listed.reading) in
+    let going = rw c.if-not-branch.false at (step.ok (counts_of c.args.log.now) inputs listed.given listed.reading) in
     let places = with_items c.rows.row c.next_each.new.row in
     let wide : length c.next_each.new.row ≡ length c.rows.row.items =
     step.length ∙ ap length c.deref_mut.ensures.value in
@@ -99,9 +111,9 @@ rows-preserved g c =
     let more = listed_more inputs (map left c.rows.archives) now c.args.log.now c.rows.chain c.next_each.new.self
     (length c.rows.row.items) c.rows.number c.rows.found c.note_row.new.found c.records-in-rows.result.now
     c.deref.result.now listed
-    (subst (λ (r : List (Option Page)). IsReadingEach inputs now c.next_each.new.self (listed.given ++ map place_list r ∷ []))
+    (subst (λ (r : List (Option Page)). IsReadingEach (counts_of c.args.log.now) inputs now c.next_each.new.self (listed.given ++ map place_list r ∷ []))
     (sym (row ∙ same)) going)
-    c.records-in-rows.ensures.records step.ids step.points step.pages step.end (ap length (row ∙ same) ∙ wide)
+    c.records-in-rows.ensures.records step.ids step.points step.end (ap length (row ∙ same) ∙ wide)
     c.in_ok-note_row.ensures in
     record {
       listed = subst (λ n. HasListed inputs now c.args.log.now c.next_each.new.self n (c.rows.number + 1)
