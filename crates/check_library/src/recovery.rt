@@ -7,8 +7,9 @@ ghost use Rattle.log_history.specs.Linked.{IsLinked};
 use aries_core::{Played, Setup, play};
 use copy_coverage::Retired;
 use event_script::{Script, read_script};
+use log_history::Losers;
 use log_store::{LogImage, Master, MemDevice};
-use loser_undo::{Loser, losers};
+use loser_undo::losers;
 use page_core::{Lsn, Page, formatted_pages};
 use page_redo::{by_page, redo_by_page};
 use page_store::MemStore;
@@ -59,16 +60,21 @@ fn put_losers(text: &mut String, alloc: Global, retired: &Retired) -> Result<(),
         return text.push_str("no checkpoint\n");
     };
     let found = losers(alloc, retired.log(), &master)?;
-    for loser in found.as_slice() {
-        put_loser(text, loser)?;
+    for place in 0..found.count() {
+        put_loser(text, &found, place)?;
     }
     Ok(())
 }
 
-fn put_loser(text: &mut String, loser: &Loser) -> Result<(), AllocError> {
-    write!(text, "open {} last {}", loser.txn.0, loser.last.0)?;
-    for change in &loser.pending {
-        write!(text, " {}", change.lsn.0)?;
+fn put_loser(text: &mut String, found: &Losers, place: usize) -> Result<(), AllocError> {
+    let Some(state) = found.state_at(place) else {
+        return Ok(());
+    };
+    write!(text, "open {} last {}", state.txn.0, state.last.0)?;
+    for index in 0..state.pending {
+        if let Some(change) = found.pending_at(place, index) {
+            write!(text, " {}", change.lsn.0)?;
+        }
     }
     text.push_str("\n")
 }

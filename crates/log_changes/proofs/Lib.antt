@@ -1,10 +1,4 @@
-pub mod Appending
 pub mod Completed
-pub mod Ending
 pub mod Keeping
-pub mod Nexts
 pub mod Pieces
 pub mod Rising
-pub mod Selecting
-pub mod Steps
-pub mod Undone

@@ -4,13 +4,13 @@ ghost use Rattle.std.specs.Prelude.{◌≡◌, [], IfOk, IfErr, IfSome, OnOk};
 ghost use Rattle.std.specs.Io.KnownBytes.{IsAtEnd};
 ghost use Rattle.page_core.specs.Input.{StaysKnown};
 ghost use Rattle.log_history.specs.Linked.{IsLinked};
-ghost use Rattle.log_history.specs.Table.{table_of};
 ghost use Rattle.log_records.specs.Log.{IsLog, Log, SpellsLog};
 ghost use Rattle.log_store.specs.Fault.{GaveNoFault, Refuses};
+ghost use Rattle.loser_undo.specs.Losers.{losers_of};
 ghost use Rattle.log_changes.specs.Kept.{kept_of};
 
 use crate::log_changes::LogChanges;
-use log_history::OpenTransactions;
+use log_history::Losers;
 use log_store::{LogReadFault, scan_log};
 use std::alloc::Global;
 use std::io::Read;
@@ -23,10 +23,10 @@ use std::io::Read;
 pub fn read_changes<R: Read>(
     alloc: Global,
     reader: &mut R,
-) -> Result<(LogChanges, OpenTransactions), LogReadFault>
+) -> Result<(LogChanges, Losers), LogReadFault>
     ensures known { StaysKnown (R.remaining reader.old) (R.remaining reader.new) }
     ensures found { IfOk result (λ it. (log : Log)
-        × ((it.0 ≡ kept_of log) × ((it.1 ≡ table_of log.records) × (IsLinked log.records
+        × ((it.0 ≡ kept_of log) × ((it.1 ≡ losers_of log.records) × (IsLinked log.records
         × (IsLog log × IfSome (R.remaining reader.old) (SpellsLog log)))))) }
     ensures end { OnOk result (IsAtEnd (R.remaining reader.new)) }
     // The fault is the first one.
@@ -37,5 +37,5 @@ pub fn read_changes<R: Read>(
         (R.remaining reader.new)) }
 {
     let scan = scan_log::<R, LogChanges>(alloc, reader)?;
-    Ok((scan.sink, scan.history.into_open()))
+    Ok((scan.sink, scan.history.into_open().into_losers()))
 }

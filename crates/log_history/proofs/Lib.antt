@@ -14,6 +14,7 @@ pub mod Followed
 pub mod Fronts
 pub mod Histories
 pub mod Holds
+pub mod Losing
 pub mod Owned
 pub mod Paged
 pub mod Pendings

@@ -4,7 +4,7 @@ use Rattle.std.proofs.Common.{cond, eqb, inl, inr, not, refl, sym, ap, subst, ar
 use Rattle.std.proofs.lemmas.Bool.{cases_lt}
 use Rattle.std.proofs.lemmas.List.{get_or-set_same, length-set, set-get_or}
 use Rattle.std.proofs.lemmas.List.Folds.{find_at}
-use Rattle.std.proofs.lemmas.Option.{get_or_from_slice_get, slice_get-map, slice_get_past, slice_get_within}
+use Rattle.std.proofs.lemmas.Option.{get_or_from_slice_get, slice_get-map, slice_get_past}
 use Rattle.std.specs.List.{filter, find, list_any, position_or_len, remove, slice_get}
 use Rattle.std.specs.Option.{IsSome, IsSomeAnd, option_map}
 use Rattle.log_history.specs.declared.claims.Claims.{Claims}
@@ -47,12 +47,6 @@ one-at xs i x at = slice_get-map entry_view xs i ∙ ap (option_map entry_view) 
 
 pub nobody-at : (xs : List OpenEntry) (i : ℕ) → slice_get xs i ≡ None → slice_get (map entry_view xs) i ≡ None
 nobody-at xs i none = slice_get-map entry_view xs i ∙ ap (option_map entry_view) none
-
--- is the entry of its number
-pub own-at : {begun : ℕ} {claims : Claims} {xs : List OpenEntry} (i : ℕ) (x : OpenEntry) → Tracks begun claims xs
-    → slice_get xs i ≡ Some x → find (λ v. eqb v.txn x.txn) (map entry_view xs) ≡ Some (entry_view x)
-own-at {begun} {claims} {xs} i x tracks at =
-    entry-there i x tracks (slice_get_within xs i x at) (sym (get_or_from_slice_get xs i x x at))
 
 module _ {begun txn seat : ℕ} {claims : Claims} {list : OpenList} {x : OpenEntry}
     (stored : IsStored begun claims list)

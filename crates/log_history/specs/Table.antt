@@ -16,6 +16,7 @@ use Rattle.std.specs.Option.{option_map_or}
 use Rattle.log_history.specs.Linked.{Compensates}
 use Rattle.log_history.specs.Transactions.{begun, first_lsn, is_rolling, keeps_out}
 use Rattle.log_history.specs.Transactions.{last_lsn, last_of, open_in, pending, with_pending}
+use Rattle.log_history.specs.Transactions.{without_last}
 use Rattle.log_records.specs.Least.{least}
 
 -- an open transaction: the LSNs of its Begin and of its last record, whether it is rolling back,
@@ -103,16 +104,17 @@ MayNote table (EndChkpt lsn begin redo) = Unit {0}
 
 -- ---- the table after one more record
 
+-- the entry after a record at this LSN that takes its last pending change back
+abbrev pub compensated : ℕ → Entry → Entry
+compensated lsn e = record e { last = lsn; pending = without_last e.pending }
+
 -- the entry after a record of its transaction
 abbrev pub entry_after : Entry → Record → Entry
 entry_after e (Update lsn txn prev page slot change) = record e {
   last = lsn;
   pending = with_pending e.pending (Update lsn txn prev page slot change);
 }
-entry_after e (Comp lsn txn prev undo_next page slot change) = record e {
-  last = lsn;
-  pending = with_pending e.pending (Comp lsn txn prev undo_next page slot change);
-}
+entry_after e (Comp lsn txn prev undo_next page slot change) = compensated lsn e
 entry_after e (Abort lsn txn prev) = record e { last = lsn; rolling = true }
 entry_after e (Begin lsn txn) = e
 entry_after e (Commit lsn txn prev) = e

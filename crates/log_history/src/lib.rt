@@ -7,6 +7,7 @@ mod checkpoints;
 mod claims;
 mod history;
 mod history_laws;
+mod losers;
 mod mark;
 mod marks;
 mod open_entry;
@@ -30,6 +31,9 @@ pub use history_laws::{
     prefixes_of_linked_logs_are_linked, tables_are_kept_record_by_record, tables_say_what_logs_say,
     tables_say_what_may_follow, work_grows_call_by_call,
 };
+pub use losers::Losers;
+pub use open_entry::OpenEntry;
 pub use open_transactions::OpenTransactions;
+pub use pending::Pending;
 pub use pending_change::PendingChange;
 pub use txn_state::TxnState;

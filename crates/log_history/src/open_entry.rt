@@ -20,14 +20,14 @@ use std::alloc::{AllocError, Global};
 /// An open transaction.
 #[derive(Drop)]
 pub struct OpenEntry {
-    pub txn: TxnNo,
+    pub(crate) txn: TxnNo,
     /// Its place in the sets of seats, as long as it is open.
-    pub seat: u8,
-    pub first: Lsn,
-    pub last: Lsn,
-    pub rolling: bool,
+    pub(crate) seat: u8,
+    pub(crate) first: Lsn,
+    pub(crate) last: Lsn,
+    pub(crate) rolling: bool,
     /// The oldest first.
-    pub pending: Vec<Pending>,
+    pub(crate) pending: Vec<Pending>,
 }
 
 /// Adds a pending change and takes its slot, unless another transaction keeps it out. Answers
@@ -117,8 +117,58 @@ impl OpenEntry {
     ghost use Rattle.std.specs.Prelude.{min, slice_get, true};
     ghost use Rattle.log_history.specs.OpenEntry.{IsBegun, KeepsSeat, Updates, entry_view};
     ghost use Rattle.log_history.specs.TxnState.{state_of};
-    ghost use Rattle.log_history.specs.Table.{IsActiveEntry, IsChained, owed_by_entry};
+    ghost use Rattle.log_history.specs.Table.{IsActiveEntry, IsChained, compensated, owed_by_entry};
     ghost use Rattle.log_history.specs.Transactions.{last_of};
+
+    /// A transaction with these numbers and pending changes, the oldest first. It has no seat yet.
+    pub fn new(txn: TxnNo, first: Lsn, last: Lsn, rolling: bool, pending: Vec<Pending>) -> OpenEntry
+        ensures { entry_view result ≡ record {
+          txn = txn;
+          first = first;
+          last = last;
+          rolling = rolling;
+          pending = changes_of pending.items;
+        } }
+    {
+        OpenEntry {
+            txn,
+            seat: 0,
+            first,
+            last,
+            rolling,
+            pending,
+        }
+    }
+
+    /// Another transaction takes this one's seat.
+    pub(crate) fn replace_by(&mut self, other: OpenEntry)
+        ensures entry { entry_view self.new ≡ entry_view other }
+        ensures seat { self.new.seat ≡ self.old.seat }
+    {
+        let OpenEntry {
+            txn,
+            first,
+            last,
+            rolling,
+            pending,
+            ..
+        } = other;
+        self.txn = txn;
+        self.first = first;
+        self.last = last;
+        self.rolling = rolling;
+        self.pending = pending;
+    }
+
+    /// The transaction takes its last pending change back, by a compensation record of this LSN,
+    /// where nobody asks any more what it keeps out.
+    pub(crate) fn undo_last(&mut self, lsn: Lsn)
+        ensures entry { entry_view self.new ≡ compensated lsn (entry_view self.old) }
+        ensures seat { self.new.seat ≡ self.old.seat }
+    {
+        let _ = self.pending.pop();
+        self.last = lsn;
+    }
 
     /// A transaction begins on this seat, where another one sat.
     pub fn begin(&mut self, txn: TxnNo, seat: u8, lsn: Lsn)
@@ -154,10 +204,7 @@ impl OpenEntry {
     pub fn compensate(&mut self, claims: &mut Claims, lsn: Lsn)
         requires seat { self.old.seat < SEATS }
         requires held { IsHeld claims.old self.old.seat self.old.pending.items }
-        ensures entry { entry_view self.new ≡ record (entry_view self.old) {
-          last = lsn;
-          pending = without_last (entry_view self.old).pending;
-        } }
+        ensures entry { entry_view self.new ≡ compensated lsn (entry_view self.old) }
         ensures kept { KeepsSeat self.old self.new claims.old claims.new }
     {
         pop_pending(&mut self.pending, claims, self.seat);

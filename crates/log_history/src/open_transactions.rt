@@ -17,6 +17,7 @@ ghost use Rattle.log_records.specs.declared.record.Record.TheVariants.{Begin, Up
 ghost use Rattle.log_records.specs.declared.record.Record.TheVariants.{Abort, End};
 
 use crate::claims::Claims;
+use crate::losers::Losers;
 use crate::open_entry::compensates;
 use crate::open_list::OpenList;
 use crate::pending_change::PendingChange;
@@ -62,6 +63,14 @@ impl OpenTransactions {
             list: OpenList::new(alloc),
             claims: Claims::new(alloc),
         }
+    }
+
+    /// The open ones at the end of the log, where no more records come but those of undo.
+    pub fn into_losers(self) -> Losers
+        ensures { result ≡ self.entries }
+    {
+        let OpenTransactions { list, .. } = self;
+        Losers::of(list)
     }
 
     /// How many transactions began. The next one has the number after this.
@@ -144,31 +153,6 @@ impl OpenTransactions {
     {
         match self.list.first_from(from) {
             Some(seat) => Some(self.list.seats[seat as usize].state()),
-            None => None,
-        }
-    }
-
-    /// The open transaction at this place in the order of their numbers, the least at 0; None where
-    /// there is none. It searches nothing.
-    pub fn state_at(&self, place: usize) -> Option<TxnState>
-        ensures state { result ≡ option_map state_of (slice_get self.now.entries place) }
-        ensures entry { IfSome result
-            (λ state. entry_in self.now state.txn ≡ slice_get self.now.entries place) }
-    {
-        match self.list.seat_at(place) {
-            Some(seat) => Some(self.list.seats[seat as usize].state()),
-            None => None,
-        }
-    }
-
-    /// The last pending change of the open transaction at this place; None where it has none or
-    /// there is no transaction. It searches nothing.
-    pub fn last_pending_at(&self, place: usize) -> Option<PendingChange>
-        ensures { result
-            ≡ option_and_then (λ e. last_of e.pending) (slice_get self.now.entries place) }
-    {
-        match self.list.seat_at(place) {
-            Some(seat) => self.list.seats[seat as usize].last_pending(),
             None => None,
         }
     }

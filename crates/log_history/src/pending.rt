@@ -80,9 +80,22 @@ impl Model for Pending {
 }
 
 impl Pending {
+    /// A change, of which nobody asks what was kept out before it.
+    pub fn new(change: PendingChange) -> Pending
+        ensures { result.change ≡ change }
+    {
+        Pending::of(
+            change,
+            Hold {
+                against_sets: false,
+                against_adds: false,
+            },
+        )
+    }
+
     /// A change, and what was kept out before it.
     #[inline(always)]
-    pub fn of(change: PendingChange, before: Hold) -> Pending
+    pub(crate) fn of(change: PendingChange, before: Hold) -> Pending
         ensures change { result.change ≡ change }
         ensures before { result.before ≡ before }
     {
@@ -134,7 +147,7 @@ impl Pending {
 
     /// What the transaction kept out of the slot before it.
     #[inline(always)]
-    pub fn before(&self) -> Hold
+    pub(crate) fn before(&self) -> Hold
         ensures { result ≡ self.now.before }
     {
         self.before.hold()

@@ -40,11 +40,11 @@ pub lost_of_each : (log : Log) (t : ℕ) → IsLog log → is_open log.records t
     → changes_of t (lost_changes log.records) ≡ reverse (pending log.records t)
 lost_of_each log t valid still =
     changes_of_reverse t (filter_map (lost_by log.records) log.records)
-    ∙ ap reverse (sym (pending_is_lost log valid t still))
+    ∙ ap reverse (sym (pending_is_lost log.records (lsns_rise log valid) t still))
 
 -- ---- each is one of an open transaction
 
-all_reverse : (P : LostChange → Type 0) (ls : List LostChange) → All P ls → All P (reverse ls)
+pub all_reverse : (P : LostChange → Type 0) (ls : List LostChange) → All P ls → All P (reverse ls)
 all_reverse P [] all = all
 all_reverse P (l ∷ ls) all =
     let one = All-cons P l [] (All-head P l ls all) (All-nil P) in
@@ -111,11 +111,12 @@ lost_rise rs (Update lsn t prev page slot change ∷ xs) rising =
     first l false above rest = rest
 lost_rise rs (r ∷ xs) rising = lost_rise rs xs rising.1
 
-pub lost_fall : (log : Log) → IsLog log → AllPairs (λ x y. y.change.lsn < x.change.lsn) (lost_changes log.records)
-lost_fall log valid i j d below within =
-    let ls = filter_map (lost_by log.records) log.records in
+pub lost_fall : (rs : List Record) → IsRising (map own_lsn rs)
+    → AllPairs (λ x y. y.change.lsn < x.change.lsn) (lost_changes rs)
+lost_fall rs rising i j d below within =
+    let ls = filter_map (lost_by rs) rs in
     let n = length ls in
     let long = length-reverse ls in
-    let pairs = lost_rise log.records log.records (lsns_rise log valid) in
+    let pairs = lost_rise rs rs rising in
     subst₂ Below (sym (get_or-reverse ls j d (omega (arith, long)))) (sym (get_or-reverse ls i d (omega (arith, long))))
     (pairs (n - 1 - j) (n - 1 - i) d (omega (arith, long)) (omega (arith, long)))

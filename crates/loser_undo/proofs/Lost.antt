@@ -10,13 +10,12 @@ use Rattle.std.proofs.lemmas.List.Folds.{list_any-append}
 use Rattle.std.proofs.Math.Bool.{or-true}
 use Rattle.log_records.specs.declared.record.Record.{Record}
 use Rattle.log_records.specs.declared.record.Record.TheVariants.{Update, Comp}
-use Rattle.log_records.specs.Log.{IsLog, Log}
 use Rattle.log_records.specs.Record.{own_lsn}
 use Rattle.log_history.specs.declared.pending_change.PendingChange.{PendingChange}
 use Rattle.log_history.specs.Transactions.{is_open, pending, pending_from, records_of, txn_of, without_last}
 use Rattle.log_history.proofs.Filters.{filter_push, filter_push_out}
 use Rattle.loser_undo.specs.Undo.{LostChange, is_lost, lost_by}
-use Rattle.loser_undo.proofs.Rising.{IsRising, all_but, lsns_rise, others_differ, rising_but, rising_filter}
+use Rattle.loser_undo.proofs.Rising.{IsRising, all_but, others_differ, rising_but, rising_filter}
 
 -- ---- the changes of one transaction
 
@@ -26,10 +25,10 @@ of_txn t l = eqb l.txn t
 abbrev pub changes_of : ℕ → List LostChange → List PendingChange
 changes_of t ls = map (λ l. l.change) (filter (of_txn t) ls)
 
-abbrev has_lsn : ℕ → PendingChange → Bool
+abbrev pub has_lsn : ℕ → PendingChange → Bool
 has_lsn n p = eqb p.lsn n
 
-abbrev lsns : List PendingChange → List ℕ
+abbrev pub lsns : List PendingChange → List ℕ
 lsns ps = map (λ p. p.lsn) ps
 
 -- the change of an Update, if it is among these
@@ -127,7 +126,7 @@ lsns_from P ps (Comp lsn u prev undo_next page slot change ∷ xs) all =
     lsns_from P (without_last ps) xs (pop (AllByRecursion P) (all_but P) ps (map own_lsn xs) fewer)
 lsns_from P ps (r ∷ xs) all = lsns_from P ps xs (all_but P (lsns ps) (own_lsn r) (map own_lsn xs) all)
 
-none_has : (n : ℕ) (ps : List PendingChange) → AllByRecursion (λ m. m ≢ n) (lsns ps)
+pub none_has : (n : ℕ) (ps : List PendingChange) → AllByRecursion (λ m. m ≢ n) (lsns ps)
     → list_any (has_lsn n) ps ≡ false
 none_has n [] all = refl
 none_has n (p ∷ ps) all = ap₂ (λ a b. a || b) (ne_eqb p.lsn n all.0) (none_has n ps all.1)
@@ -188,9 +187,8 @@ found now ps (Comp lsn u prev undo_next page slot change ∷ xs) is rising =
 found now ps (r ∷ xs) is rising = found now ps xs is (rising_but (lsns ps) (own_lsn r) (map own_lsn xs) rising)
 
 -- what is pending for an open transaction is what undo finds of it
-pub pending_is_lost : (log : Log) → IsLog log → (t : ℕ) → is_open log.records t ≡ true
-    → pending log.records t ≡ changes_of t (filter_map (lost_by log.records) log.records)
-pending_is_lost log valid t still =
-    let rs = log.records in
-    let rising = rising_filter (λ r. eqb (txn_of r) t) rs (lsns_rise log valid) in
+pub pending_is_lost : (rs : List Record) → IsRising (map own_lsn rs) → (t : ℕ) → is_open rs t ≡ true
+    → pending rs t ≡ changes_of t (filter_map (lost_by rs) rs)
+pending_is_lost rs rise t still =
+    let rising = rising_filter (λ r. eqb (txn_of r) t) rs rise in
     found (pending rs t) [] (records_of rs t) refl rising ∙ sym (its_lost rs t still rs)

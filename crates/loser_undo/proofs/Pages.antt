@@ -1,8 +1,10 @@
 -- The pages of a log after undo.
-use Rattle.std.proofs.Common.{◌≡◌, ◌<◌, ◌++◌, List, get_or, length, map, sym, ap, ◌∙◌, arith}
+use Rattle.std.proofs.Common.{◌≡◌, ℕ, ◌<◌, ◌++◌, List, get_or, length, map, sym, ap, ◌∙◌, arith}
 use Rattle.std.specs.Prelude.{slice_index}
 use Rattle.std.proofs.lemmas.List.{take-append-drop}
 use Rattle.page_core.specs.declared.page.Page.{Page}
+use Rattle.log_records.specs.declared.record.Record.{Record}
+use Rattle.log_store.specs.declared.master.Master.{Master}
 use Rattle.log_records.specs.Image.{image_from, redo_all}
 use Rattle.log_records.specs.Log.{IsLog, Log}
 use Rattle.log_records.proofs.Images.{length-redo_all, redo_all-append}
@@ -33,3 +35,17 @@ undone_committed r valid linked whole page slot d below within =
     ap (λ (pages : List Page). slice_index (get_or pages page d).slots slot) is
     ∙ number_of_volume rs r.log.pages page slot d inside
     ∙ undone_number r.log page slot valid linked within
+
+-- part by part
+pub same_parts : (r : Recovery) (count : ℕ) (rs : List Record) (master : Master) (pages : List Page)
+    → count ≡ r.log.pages → rs ≡ r.log.records → master ≡ r.master → pages ≡ r.pages
+    → (let it : Recovery = record {
+      log = record { pages = count; records = rs };
+      master = master;
+      pages = pages;
+    } in it) ≡ r
+same_parts r count rs master pages counts records masters all = λ i. record {
+  log = record { pages = counts i; records = records i };
+  master = masters i;
+  pages = all i;
+}

@@ -1,9 +1,11 @@
 -- Numbers that rise along a list, as the LSNs of a log do.
 use Rattle.std.proofs.Common.{◌≡◌, ◌≢◌, ℕ, suc, ◌+◌, ◌<◌, Bool, true, false, cond, List, [], ◌∷◌, ◌++◌, length, map, ap}
-use Rattle.std.proofs.Common.{◌∙◌, arith}
+use Rattle.std.proofs.Common.{◌∙◌, arith, inl, inr}
 use Rattle.std.specs.Prelude.{slice_index_or}
 use Rattle.std.specs.List.{AllByRecursion, AllPairs, filter}
 use Rattle.std.specs.List.Sorted.{IsStrictlyIncreasing}
+use Rattle.std.proofs.lemmas.Bool.{cases_lt}
+use Rattle.std.proofs.lemmas.List.{get_or_append_left, get_or_push, length_push}
 use Rattle.std.proofs.lemmas.List.Elements.{recursion_from_All}
 use Rattle.std.proofs.lemmas.List.Kept.{AllPairs-from_increasing}
 use Rattle.log_records.specs.declared.record.Record.{Record}
@@ -78,9 +80,27 @@ lsns_rise_from k (r ∷ rs) stand =
     let behind = stand_behind k r rs stand in
     (all_above (own_lsn r) (k + 1) rs (omega (arith, here)) behind, lsns_rise_from (k + 1) rs behind)
 
+-- each record has the LSN of its place
+abbrev pub ArePlaced : List Record → Type 0
+ArePlaced rs = (i : ℕ) (d : Record) → i < length rs → own_lsn (slice_index_or rs i d) ≡ lsn_of i
+
+pub log_placed : (log : Log) → IsLog log → ArePlaced log.records
+log_placed log valid i d within = (valid.records i d within).lsn
+
+pub placed_push : (rs : List Record) (r : Record) → ArePlaced rs → own_lsn r ≡ lsn_of (length rs)
+    → ArePlaced (rs ++ r ∷ [])
+placed_push rs r placed own i d within = elim (cases_lt i (length rs)) [
+  | inl below ↦ ap own_lsn (get_or_append_left rs (r ∷ []) d i below) ∙ placed i d below
+  | inr above ↦
+      let here : length rs ≡ i = omega (arith, within, above, length_push rs r) in
+      ap own_lsn (get_or_push rs r d i here) ∙ own ∙ ap lsn_of here
+]
+
+pub placed_rise : (rs : List Record) → ArePlaced rs → IsRising (map own_lsn rs)
+placed_rise rs placed = lsns_rise_from 0 rs (λ i d within. placed i d within ∙ ap lsn_of (omega arith))
+
 pub lsns_rise : (log : Log) → IsLog log → IsRising (map own_lsn log.records)
-lsns_rise log valid =
-    lsns_rise_from 0 log.records (λ i d within. (valid.records i d within).lsn ∙ ap lsn_of (omega arith))
+lsns_rise log valid = placed_rise log.records (log_placed log valid)
 
 -- those of some of its records
 all_filter : (P : ℕ → Type 0) (p : Record → Bool) (rs : List Record) → AllByRecursion P (map own_lsn rs)

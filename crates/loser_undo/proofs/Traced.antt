@@ -1,14 +1,15 @@
 -- What the records of an open transaction tell of it, from its last one back.
 use Rattle.std.proofs.Common.{◌≡◌, ℕ, ◌-◌, ◌<◌, Bool, true, false, ◌&&◌, ◌||◌, not, List, [], ◌∷◌, ◌++◌}
-use Rattle.std.proofs.Common.{append_assoc, get_or, length, sym, refl, ap, subst, subst₂, ◌∙◌, inl, inr, arith, true≢false}
+use Rattle.std.proofs.Common.{append_assoc, get_or, length, map, sym, refl, ap, subst, subst₂, ◌∙◌, inl, inr, arith, true≢false}
 use Rattle.std.specs.Prelude.{Option, Some, None, IsSomeAnd, reverse}
 use Rattle.std.specs.List.{cons_option, filter_map}
 use Rattle.std.specs.Option.{option_to_list}
 use Rattle.std.proofs.lemmas.Bool.{cases_eq}
-use Rattle.std.proofs.lemmas.List.{append-nil, get_or_append_left, get_or_push, length_push}
+use Rattle.std.proofs.lemmas.List.{append-nil, get_or_append_left, get_or_push, length_push, map_push}
 use Rattle.std.proofs.lemmas.Option.{same_Some, slice_get-get_or}
 use Rattle.std.proofs.Math.Bool.{and-false, or-false, or-true}
 use Rattle.std.proofs.lemmas.List.{reverse-append}
+use mathlib.Core.List.{reverse-cons}
 use Rattle.log_records.specs.declared.record.Record.{Record}
 use Rattle.log_records.specs.declared.record.Record.TheVariants.{Begin, Update, Comp, Commit, Abort, End, BeginChkpt}
 use Rattle.log_records.specs.declared.record.Record.TheVariants.{ChkptPages, ChkptTxns, EndChkpt}
@@ -27,12 +28,9 @@ use Rattle.log_history.proofs.Pushes.{is_rolling_push, last_lsn_push, pending_pu
 use Rattle.log_history.proofs.Steps.{entry_from, entry_of_push_other}
 use Rattle.loser_undo.specs.Losers.{IsTraced, Leads, LeadsToAbort, Stands, before_comp, change_by, way_back}
 use Rattle.loser_undo.proofs.Lost.{last_apart}
+use Rattle.loser_undo.proofs.Rising.{ArePlaced}
 
 -- ---- records that stand
-
--- each record's own LSN is where it stands
-abbrev pub ArePlaced : List Record → Type 0
-ArePlaced rs = (i : ℕ) (d : Record) → i < length rs → own_lsn (get_or rs i d) ≡ lsn_of i
 
 pub still_stands : (rs : List Record) (r x : Record) (at : ℕ) → Stands rs at x → Stands (rs ++ r ∷ []) at x
 still_stands rs r x at stands =
@@ -468,3 +466,11 @@ not_abort (BeginChkpt lsn) other = refl
 not_abort (ChkptPages lsn begin pages) other = refl
 not_abort (ChkptTxns lsn begin u state last undo) other = refl
 not_abort (EndChkpt lsn begin redo) other = refl
+
+-- ---- the oldest first
+
+pub map_reverse : {X Y : Type 0} (f : X → Y) (xs : List X) → map f (reverse xs) ≡ reverse (map f xs)
+map_reverse f [] = refl
+map_reverse f (x ∷ xs) =
+    ap (map f) (reverse-cons x xs) ∙ map_push f (reverse xs) x ∙ ap (λ ys. ys ++ f x ∷ []) (map_reverse f xs)
+    ∙ sym (reverse-cons (f x) (map f xs))

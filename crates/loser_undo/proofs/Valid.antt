@@ -24,7 +24,7 @@ use Rattle.log_history.proofs.Undone.{changes_of_log, number_is_committed, slots
 use Rattle.loser_undo.specs.Undo.{LostChange, after_undo, comp_of, end_of, is_undone, lost_changes, spent, with_comp}
 use Rattle.loser_undo.specs.Undo.{with_end, taken_back}
 use Rattle.loser_undo.proofs.Committed.{committed_stays}
-use Rattle.loser_undo.proofs.Phases.{Undoing, all_undone, none_open}
+use Rattle.loser_undo.proofs.Goes.{Finished, all_undone}
 
 -- ---- all changes stay valid
 
@@ -45,7 +45,7 @@ changes_with_comp rs l linked may last has =
     All-push HasChange rs (comp_of rs l) has (undo_fits l.change.change here)
 
 undone_changes : (log : Log) → IsLog log → IsLinked log.records
-    → Undoing (All HasChange) (after_undo log.records) []
+    → Finished (All HasChange) (after_undo log.records)
 undone_changes log valid linked =
     all_undone (All HasChange) changes_with_end changes_with_comp log valid linked (changes_of_log log valid)
 
@@ -55,8 +55,7 @@ pub undo_is_linked : (log : Log) → IsLog log → IsLinked log.records → IsLi
 undo_is_linked log valid linked = (undone_changes log valid linked).linked
 
 pub undo_closes : (log : Log) → IsLog log → IsLinked log.records → open_in (after_undo log.records) ≡ []
-undo_closes log valid linked =
-    none_open (All HasChange) (after_undo log.records) (undone_changes log valid linked)
+undo_closes log valid linked = (undone_changes log valid linked).closed
 
 pub undone_number : (log : Log) (page slot : ℕ) → IsLog log → IsLinked log.records → slot < SLOTS
     → number_in (after_undo log.records) page slot ≡ committed log.records page slot

@@ -1,7 +1,7 @@
 -- The open transactions of a log with their pending changes, and how its records tell of them.
-use Rattle.std.specs.Prelude.{ℕ, ◌≡◌, ◌<◌, ◌≤◌, ◌==◌, Bool, true, false, List, [], ◌∷◌, map, length}
+use Rattle.std.specs.Prelude.{ℕ, ◌≡◌, ◌<◌, ◌≤◌, Bool, List, [], ◌∷◌, map, length}
 use Rattle.std.specs.Prelude.{reverse}
-use Rattle.std.specs.Prelude.{Option, Some, None, slice_index_or, if◌then◌else◌}
+use Rattle.std.specs.Prelude.{Option, Some, None, slice_index_or}
 use Rattle.std.specs.List.{filter_map}
 use Rattle.log_records.specs.declared.limits.TheConstants.{MAX_RECORDS}
 use Rattle.log_records.specs.declared.record.Record.{Record}
@@ -10,20 +10,9 @@ use Rattle.log_records.specs.Log.{lsn_of}
 use Rattle.log_history.specs.declared.pending_change.PendingChange.{PendingChange}
 use Rattle.log_history.specs.Linked.{IsLinked}
 use Rattle.log_history.specs.Table.{Entry, entry_of}
-use Rattle.log_history.specs.Transactions.{is_abort, open_in, without_last}
-use Rattle.loser_undo.specs.declared.loser_table.Loser.{Loser}
+use Rattle.log_history.specs.Transactions.{is_abort, open_in}
 
 -- ---- what is asked for
-
--- what a table of transactions has of it
-abbrev pub loser_view : Loser → Entry
-loser_view l = record {
-  txn = l.txn;
-  first = l.first;
-  last = l.last;
-  rolling = l.rolling;
-  pending = l.pending.items;
-}
 
 -- of each open transaction, in order of their numbers
 abbrev pub losers_of : List Record → List Entry
@@ -34,13 +23,6 @@ pub record AreLosersOf (rs : List Record) (losers : List Entry) : Type 0 where
   pub linked : IsLinked rs
   pub few : length rs ≤ MAX_RECORDS
   pub made : losers ≡ losers_of rs
-
--- a loser after a record of its own that takes its last pending change back
-abbrev pub compensated : ℕ → ℕ → Entry → Entry
-compensated txn lsn e = if e.txn == txn then record e {
-  last = lsn;
-  pending = without_last e.pending;
-} else e
 
 -- ---- how the records tell it
 

@@ -1,17 +1,17 @@
 //! Undo of the losers: the transactions that are open at the end of a log.
 #![tactic(auto)]
 
+mod analysis;
 mod fault;
-mod loser_table;
 mod redone;
 mod tail;
 mod trace;
 mod undo_laws;
-mod undoing;
+mod undo_records;
 mod undone;
 
+pub use analysis::losers;
 pub use fault::UndoFault;
-pub use loser_table::{Loser, LoserTable, losers};
 pub use redone::Redone;
 pub use tail::{OpenTxn, complete_checkpoints_begin_tails, open_at_end, open_by_tail};
 pub use undo_laws::{
@@ -19,4 +19,5 @@ pub use undo_laws::{
     undo_leaves_none_open, undo_leaves_what_is_committed, undo_only_appends,
     undo_takes_back_what_is_pending,
 };
+pub use undo_records::UndoRecords;
 pub use undone::{Undone, undo_all};

@@ -7,7 +7,8 @@ ghost use Rattle.log_history.specs.Checkpoint.{IsCompleteCheckpoint};
 ghost use Rattle.log_history.specs.Transactions.{owed};
 ghost use Rattle.loser_undo.specs.Recovery.{IsRecovery};
 
-use crate::loser_table::{LoserTable, losers};
+use crate::analysis::losers;
+use log_history::Losers;
 use log_records::{MAX_RECORDS, Record};
 use log_store::{LogImage, Master};
 use page_core::{Lsn, Page};
@@ -22,7 +23,7 @@ use std::thread::Threads;
 pub struct Redone {
     pub(crate) log: LogImage,
     pub(crate) master: Master,
-    pub(crate) losers: LoserTable,
+    pub(crate) losers: Losers,
     pub(crate) pages: Vec<Page>,
 }
 

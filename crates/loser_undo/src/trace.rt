@@ -8,34 +8,27 @@ ghost use Rattle.log_records.specs.Log.{IsLog};
 ghost use Rattle.log_history.specs.Linked.{IsLinked};
 ghost use Rattle.log_history.specs.Table.{entry_of};
 ghost use Rattle.log_history.specs.Transactions.{first_lsn, is_open, is_rolling, last_lsn, pending};
-ghost use Rattle.loser_undo.specs.Losers.{Leads, LeadsToAbort, Stands, change_by, loser_view};
-ghost use Rattle.loser_undo.specs.Losers.{way_back};
+ghost use Rattle.log_history.specs.OpenEntry.{changes_of, entry_view};
+ghost use Rattle.loser_undo.specs.Losers.{Leads, LeadsToAbort, Stands, change_by, way_back};
 
-use crate::loser_table::Loser;
 use crate::tail::{OpenTxn, count_before};
-use log_history::PendingChange;
+use log_history::{OpenEntry, Pending, PendingChange};
 use log_records::Record;
 use log_store::LogImage;
 use page_core::Lsn;
 use std::alloc::{AllocError, Global};
 
 /// What the log has of an open transaction, of which the last record is known.
-pub(crate) fn trace(alloc: Global, log: &LogImage, one: OpenTxn) -> Result<Loser, AllocError>
+pub(crate) fn trace(alloc: Global, log: &LogImage, one: OpenTxn) -> Result<OpenEntry, AllocError>
     requires valid { IsLog log.now }
     requires linked { IsLinked log.now.records }
     requires open { is_open log.now.records one.txn ≡ true }
     requires last { one.last ≡ last_lsn log.now.records one.txn }
-    ensures { IfOk result (λ loser. loser_view loser ≡ entry_of log.now.records one.txn) }
+    ensures { IfOk result (λ loser. entry_view loser ≡ entry_of log.now.records one.txn) }
 {
     let rolling = is_rolling(log, &one);
     let (first, pending) = pending_of(alloc, log, &one)?;
-    Ok(Loser {
-        txn: one.txn,
-        first,
-        last: one.last,
-        rolling,
-        pending,
-    })
+    Ok(OpenEntry::new(one.txn, first, one.last, rolling, pending))
 }
 
 /// The record that stands at an LSN.
@@ -60,9 +53,9 @@ fn way_back(met: &Record) -> Option<Lsn>
 }
 
 /// Keeps the change that an Update made.
-fn keep_change(found: &mut Vec<PendingChange>, met: &Record) -> Result<(), AllocError>
-    ensures { OnOk result (found.new.items
-        ≡ found.old.items ++ option_to_list (change_by met.now)) }
+fn keep_change(found: &mut Vec<Pending>, met: &Record) -> Result<(), AllocError>
+    ensures { OnOk result (changes_of found.new.items
+        ≡ changes_of found.old.items ++ option_to_list (change_by met.now)) }
 {
     if let Record::Update {
         lsn,
@@ -73,13 +66,13 @@ fn keep_change(found: &mut Vec<PendingChange>, met: &Record) -> Result<(), Alloc
         ..
     } = *met
     {
-        found.push(PendingChange {
+        found.push(Pending::new(PendingChange {
             lsn,
             prev,
             page,
             slot,
             change,
-        })?;
+        }))?;
     }
     Ok(())
 }
@@ -90,13 +83,14 @@ fn pending_of(
     alloc: Global,
     log: &LogImage,
     one: &OpenTxn,
-) -> Result<(Lsn, Vec<PendingChange>), AllocError>
+) -> Result<(Lsn, Vec<Pending>), AllocError>
     requires leads { (way : List Record)
         × (Leads log.now.records one.now.txn (first_lsn log.now.records one.now.txn)
         one.now.last way
         × (filter_map change_by way ≡ reverse (pending log.now.records one.now.txn))) }
     ensures first { IfOk result (λ it. it.0 ≡ first_lsn log.now.records one.now.txn) }
-    ensures pending { IfOk result (λ it. it.1.items ≡ pending log.now.records one.now.txn) }
+    ensures pending { IfOk result (λ it.
+        changes_of it.1.items ≡ pending log.now.records one.now.txn) }
 {
     let mut found = Vec::new(alloc);
     let mut at = one.last;

@@ -1,17 +1,20 @@
 //! Undoes a whole log.
 
 ghost use Rattle.std.specs.Prelude.{◌≡◌, ◌↔◌, ◌+◌, ◌<◌, ◌≤◌, drop, length, map, IfOk, IfErr};
-ghost use Rattle.std.specs.Prelude.{IsErrAnd};
+ghost use Rattle.std.specs.Prelude.{IsErrAnd, vec_capacity};
 ghost use Rattle.log_records.specs.declared.limits.TheConstants.{MAX_RECORDS};
 ghost use Rattle.log_records.specs.Image.{AreNumbered, image_from};
-ghost use Rattle.log_records.specs.Log.{AreWithin};
+ghost use Rattle.log_records.specs.Log.{IsLog};
 ghost use Rattle.log_history.specs.Transactions.{owed};
 ghost use Rattle.loser_undo.specs.declared.fault.UndoFault.TheVariants.{LogFull};
-ghost use Rattle.loser_undo.specs.Recovery.{HasCommitted, IsRecovery, IsWhole, undone};
+ghost use Rattle.loser_undo.specs.Losers.{AreLosersOf};
+ghost use Rattle.loser_undo.specs.Recovery.{HasCommitted, IsRecovery, IsToUndo, IsWhole, undone};
+ghost use Rattle.loser_undo.specs.Undo.{after_undo};
 
 use crate::fault::UndoFault;
 use crate::redone::Redone;
-use crate::undoing::Undoing;
+use crate::undo_records::UndoRecords;
+use log_history::Losers;
 use log_records::{Record, redo_on_its_page};
 use log_store::{LogImage, Master};
 use page_core::Page;
@@ -78,10 +81,10 @@ impl Undone {
 }
 
 /// Undoes all transactions that are open at the log's end (ARIES, section 6.3). It appends an End
-/// for each that has nothing pending, and then goes back over the log: it compensates each pending
-/// change, and ends each transaction of which nothing is left. What it appends is redone on the
-/// pages, whatever these have. Where they are those that the log makes, so they are afterwards, and
-/// have what was committed.
+/// for each that has nothing pending, and then compensates each pending change, the last one first,
+/// and ends each transaction of which nothing is left. What it appends is redone on the pages,
+/// whatever these have. Where they are those that the log makes, so they are afterwards, and have
+/// what was committed.
 ///
 /// `LogFull` comes where the records do not fit, and `OutOfMemory` where memory for them is
 /// refused. Both come before the first record, and hand the log and its pages back.
@@ -97,18 +100,19 @@ pub fn undo_all(redone: Redone) -> Result<Undone, (Redone, UndoFault)>
     if redone.is_full() {
         return Err((redone, UndoFault::LogFull));
     }
+    let page_count = redone.page_count();
     let master = redone.master;
     match begin(redone) {
-        Ok((log, pages)) => Ok(finish(log, master, pages)),
+        Ok((records, losers, pages)) => Ok(finish(page_count, records, master, losers, pages)),
         Err(redone) => Err((redone, UndoFault::OutOfMemory)),
     }
 }
 
 /// Makes room for all records that undo may append. An `Err` comes where it is refused.
-fn begin(redone: Redone) -> Result<(Undoing, Vec<Page>), Redone>
+fn begin(redone: Redone) -> Result<(Vec<Record>, Losers, Vec<Page>), Redone>
     requires { length redone.log.records + owed redone.log.records ≤ MAX_RECORDS }
     ensures ok { IfOk result (λ parts.
-        (parts.0 ≡ redone.log) × (parts.1.items ≡ redone.pages)) }
+        IsToUndo redone parts.0.items (vec_capacity parts.0) parts.1 parts.2.items) }
     ensures err { IfErr result (λ it. it ≡ redone) }
 {
     let owed = redone.losers.owed() as usize;
@@ -127,27 +131,32 @@ fn begin(redone: Redone) -> Result<(Undoing, Vec<Page>), Redone>
             pages,
         });
     }
-    let log = Undoing {
-        pages: page_count,
-        records,
-        losers,
-    };
-    Ok((log, pages))
+    Ok((records, losers, pages))
 }
 
-/// Appends all records of undo, and redoes them on the pages.
-fn finish(mut log: Undoing, master: Master, pages: Vec<Page>) -> Undone
-    requires { IsRecovery (record { log = log; master = master; pages = pages.items }) }
-    ensures { result ≡ undone (record { log = log; master = master; pages = pages.items }) }
+/// Undoes a log for which there is room.
+fn finish(
+    page_count: u32,
+    records: Vec<Record>,
+    master: Master,
+    losers: Losers,
+    pages: Vec<Page>,
+) -> Undone
+    requires recovery { IsRecovery (record {
+      log = record { pages = page_count; records = records.items };
+      master = master;
+      pages = pages.items;
+    }) }
+    requires losers { AreLosersOf records.items losers }
+    requires room { length records.items + owed records.items ≤ MAX_RECORDS }
+    requires fits { length records.items + owed records.items ≤ vec_capacity records }
+    ensures { result ≡ undone (record {
+      log = record { pages = page_count; records = records.items };
+      master = master;
+      pages = pages.items;
+    }) }
 {
-    let from = log.records.len();
-    log.undo();
-    let Undoing {
-        pages: page_count,
-        records,
-        losers: _,
-    } = log;
-    let pages = redo_behind(pages, &records, from);
+    let (records, pages) = append_all(records, losers, pages);
     Undone {
         page_count,
         records,
@@ -156,24 +165,25 @@ fn finish(mut log: Undoing, master: Master, pages: Vec<Page>) -> Undone
     }
 }
 
-/// Redoes the records from an index on.
-fn redo_behind(mut pages: Vec<Page>, records: &[Record], from: usize) -> Vec<Page>
-    requires from { from ≤ length records.now }
-    requires within { AreWithin (length pages.items) records.now }
+/// Appends all records of undo, and redoes them on the pages.
+fn append_all(
+    mut records: Vec<Record>,
+    losers: Losers,
+    mut pages: Vec<Page>,
+) -> (Vec<Record>, Vec<Page>)
+    requires valid { IsLog (record { pages = length pages.items; records = records.items }) }
+    requires losers { AreLosersOf records.items losers }
+    requires room { length records.items + owed records.items ≤ MAX_RECORDS }
+    requires fits { length records.items + owed records.items ≤ vec_capacity records }
     requires numbered { AreNumbered pages.items }
-    ensures { result.items ≡ map (λ page. image_from page (drop from records.now)) pages.items }
+    ensures records { result.0.items ≡ after_undo records.items }
+    ensures pages { result.1.items ≡ map (λ page. image_from page
+        (drop (length records.items) (after_undo records.items))) pages.items }
 {
-    redo_records(&mut pages, &records[from..]);
-    pages
-}
-
-/// Redoes records on their pages, in their order.
-fn redo_records(pages: &mut [Page], records: &[Record])
-    requires within { AreWithin (length pages.old) records.now }
-    requires numbered { AreNumbered pages.old }
-    ensures { pages.new ≡ map (λ page. image_from page records.now) pages.old }
-{
-    for record in records {
-        redo_on_its_page(pages, record);
+    let mut undo = UndoRecords::new(losers, records.len());
+    while let Some(next) = undo.next_record() {
+        redo_on_its_page(&mut pages, &next);
+        records.push_reserved(next);
     }
+    (records, pages)
 }

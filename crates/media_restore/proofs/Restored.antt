@@ -15,7 +15,8 @@ use Rattle.log_records.specs.Log.{IsLog, Log}
 use Rattle.log_records.proofs.Coverage.{resume_covering}
 use Rattle.log_records.proofs.Images.{numbered-images}
 use Rattle.log_history.specs.Linked.{IsLinked}
-use Rattle.log_history.specs.Table.{Table, table_of}
+use Rattle.log_history.specs.Table.{Entry}
+use Rattle.loser_undo.specs.Losers.{losers_of}
 use Rattle.log_store.specs.declared.fault.LogReadFault.{LogReadFault}
 use Rattle.log_store.specs.declared.fault.LogReadFault.TheVariants as log
 use Rattle.log_store.specs.declared.master.Master.{Master}
@@ -67,16 +68,16 @@ count_in pages [] fit chain = let some = some_members [] chain in absurd (omega 
 count_in pages (first ∷ more) fit chain = fit.0.same_count
 
 -- what was read of a log, and the pages of a chain for its volume
-pub is_read : (log : Log) (kept : Kept) (table : Table) (inputs : List (Option (List ℕ))) (pages : List Page) (redo : ℕ)
-    → IsLog log → IsLinked log.records → kept ≡ kept_of log → table ≡ table_of log.records
-    → IsChainRead log.pages (end_of log) inputs pages redo → IsRead log kept table pages
-is_read log kept table inputs pages redo valid linked same_kept same_table of_chain =
+pub is_read : (log : Log) (kept : Kept) (losers : List Entry) (inputs : List (Option (List ℕ))) (pages : List Page) (redo : ℕ)
+    → IsLog log → IsLinked log.records → kept ≡ kept_of log → losers ≡ losers_of log.records
+    → IsChainRead log.pages (end_of log) inputs pages redo → IsRead log kept losers pages
+is_read log kept losers inputs pages redo valid linked same_kept same_losers of_chain =
     let copies = of_chain.copies in
     record {
       valid = valid;
       linked = linked;
       kept = same_kept;
-      table = same_table;
+      made = same_losers;
       count = ap length of_chain.made ∙ length-map-range_with_len (content copies) 0 (page_count copies)
           ∙ count_in log.pages copies of_chain.fit of_chain.chain;
       numbered = subst AreNumbered (sym of_chain.made) (contents_numbered copies of_chain.chain);
@@ -140,25 +141,25 @@ restored_spelled files pages it =
 
 -- ---- what is answered
 
-pub all_restored : (r : Result (Vec Page Global) RestoreFault) (files : Files) (log : Log) (kept : Kept) (table : Table)
+pub all_restored : (r : Result (Vec Page Global) RestoreFault) (files : Files) (log : Log) (kept : Kept) (losers : List Entry)
     (master : Master) (pages : List Page) (redo : ℕ) → IsOfLog files.log log
     → IsOfMaster files.master log.records master → IsChainRead log.pages (end_of log) files.archives pages redo
-    → IsRead log kept table pages
-    → IfOk r (λ it. (l : Log) → IsRead l kept table pages
+    → IsRead log kept losers pages
+    → IfOk r (λ it. (l : Log) → IsRead l kept losers pages
     → it.items ≡ map (λ page. image_from page (appended l)) (map (λ page. resume page l.records redo) pages))
-    → OnOk r ((l : Log) → IsRead l kept table pages → most_records l ≤ MAX_RECORDS)
+    → OnOk r ((l : Log) → IsRead l kept losers pages → most_records l ≤ MAX_RECORDS)
     → IfOk r (λ it. IsRestored files it.items)
-all_restored (Ok it) files log kept table master pages redo of_log of_master of_chain read made room =
+all_restored (Ok it) files log kept losers master pages redo of_log of_master of_chain read made room =
     restored_of files log master pages redo it.items of_log of_master of_chain (room log read) (made log read)
-all_restored (Err e) files log kept table master pages redo of_log of_master of_chain read made room = tt
+all_restored (Err e) files log kept losers master pages redo of_log of_master of_chain read made room = tt
 
-pub log_is_full : {X : Type 0} (r : Result X RestoreFault) (files : Files) (log : Log) (kept : Kept) (table : Table)
+pub log_is_full : {X : Type 0} (r : Result X RestoreFault) (files : Files) (log : Log) (kept : Kept) (losers : List Entry)
     (master : Master) (pages : List Page) (copies : List CopyView) → HasParts files log master copies
-    → IsRead log kept table pages
-    → IfErr r (λ fault. (fault ≡ LogFull) × ((l : Log) → IsRead l kept table pages → MAX_RECORDS < most_records l))
+    → IsRead log kept losers pages
+    → IfErr r (λ fault. (fault ≡ LogFull) × ((l : Log) → IsRead l kept losers pages → MAX_RECORDS < most_records l))
     → IfErr r (Refused files)
-log_is_full (Ok it) files log kept table master pages copies parts read why = tt
-log_is_full (Err e) files log kept table master pages copies parts read why =
+log_is_full (Ok it) files log kept losers master pages copies parts read why = tt
+log_is_full (Err e) files log kept losers master pages copies parts read why =
     of_undo log master copies parts why.0 (why.1 log read)
 
 -- the fault of the files is no fault of writing

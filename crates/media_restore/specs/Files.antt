@@ -10,7 +10,7 @@ use Rattle.log_records.specs.Image.{image_from, redo_all}
 use Rattle.log_records.specs.Log.{IsLog, Log}
 use Rattle.log_history.specs.Checkpoint.{IsCompleteCheckpoint}
 use Rattle.log_history.specs.Linked.{IsLinked}
-use Rattle.log_history.specs.Table.{Table, table_of}
+use Rattle.log_history.specs.Table.{Entry}
 use Rattle.log_history.specs.Transactions.{owed}
 use Rattle.log_store.specs.declared.fault.LogReadFault.{LogReadFault}
 use Rattle.log_store.specs.declared.master.Master.{Master}
@@ -19,6 +19,7 @@ use Rattle.log_store.specs.Master.{SpellsMaster}
 use Rattle.log_changes.specs.Kept.{Kept, kept_of}
 use Rattle.copy_vault.specs.Chain.{IsChain, contents, last_redo}
 use Rattle.copy_vault.specs.Copy.{CopyView}
+use Rattle.loser_undo.specs.Losers.{losers_of}
 use Rattle.loser_undo.specs.Recovery.{HasCommitted, appended}
 use Rattle.loser_undo.specs.Undo.{after_undo}
 use Rattle.media_restore.specs.declared.files_fault.RestoreFault.{RestoreFault}
@@ -51,11 +52,11 @@ pub record HasParts (files : Files) (log : Log) (master : Master) (copies : List
   pub chain : IsChain copies
 
 -- this was kept of a log, these transactions are open at its end, and its volume has these pages
-pub record IsRead (log : Log) (k : Kept) (t : Table) (pages : List Page) : Type 0 where
+pub record IsRead (log : Log) (k : Kept) (losers : List Entry) (pages : List Page) : Type 0 where
   pub valid : IsLog log
   pub linked : IsLinked log.records
   pub kept : k ≡ kept_of log
-  pub table : t ≡ table_of log.records
+  pub made : losers ≡ losers_of log.records
   pub count : length pages ≡ log.pages
   pub numbered : AreNumbered pages
 

@@ -16,7 +16,7 @@ use crate::files_master::read_master;
 use crate::volume_output::write_volume;
 use copy_vault::read_chain_pages;
 use log_changes::{LogChanges, read_changes, redo_changes, undo_open};
-use log_history::OpenTransactions;
+use log_history::Losers;
 use log_records::MAX_RECORDS;
 use page_core::{Lsn, PAGE_BYTES, Page, zeros};
 use std::alloc::Global;
@@ -143,10 +143,10 @@ fn restored<L: Read, M: Read, A: Read>(
           archives = map (λ a. A.remaining a) archives.new;
         })) }
 {
-    let (kept, table) = read_changes(alloc, log)?;
+    let (kept, losers) = read_changes(alloc, log)?;
     read_master(master, &kept)?;
     let (pages, redo) = read_chain_pages(alloc, archives, kept.pages(), kept.end())?;
-    recovered(rt, kept, table, pages, redo)
+    recovered(rt, kept, losers, pages, redo)
 }
 
 /// Redoes the changes of a log from a redo point on, and undoes the transactions that are open at
@@ -154,22 +154,22 @@ fn restored<L: Read, M: Read, A: Read>(
 fn recovered(
     rt: &(impl Threads + Sync),
     kept: LogChanges,
-    table: OpenTransactions,
+    losers: Losers,
     mut pages: Vec<Page>,
     redo: Lsn,
 ) -> Result<Vec<Page>, RestoreFault>
-    requires { (log : Log) × IsRead log kept table pages.items }
-    ensures made { IfOk result (λ it. (log : Log) → IsRead log kept table pages.items
+    requires { (log : Log) × IsRead log kept losers pages.items }
+    ensures made { IfOk result (λ it. (log : Log) → IsRead log kept losers pages.items
         → it.items ≡ map (λ page. image_from page (appended log))
         (map (λ page. resume page log.records redo) pages.items)) }
-    ensures room { OnOk result ((log : Log) → IsRead log kept table pages.items
+    ensures room { OnOk result ((log : Log) → IsRead log kept losers pages.items
         → most_records log ≤ MAX_RECORDS) }
     ensures err { IfErr result (λ fault. (fault ≡ LogFull) × ((log : Log)
-        → IsRead log kept table pages.items → MAX_RECORDS < most_records log)) }
+        → IsRead log kept losers pages.items → MAX_RECORDS < most_records log)) }
 {
-    if kept.count() as u64 + table.owed() > MAX_RECORDS as u64 {
+    if kept.count() as u64 + losers.owed() > MAX_RECORDS as u64 {
         return Err(RestoreFault::LogFull);
     }
     redo_changes(rt, &mut pages, kept.changes(), redo);
-    Ok(undo_open(table, kept.count(), pages))
+    Ok(undo_open(losers, kept.count(), pages))
 }

@@ -13,9 +13,10 @@ use crate::engine::{failing_device, failing_store, setup_of};
 use crate::rows;
 use aries_core::{Answer, Engine, Event};
 use copy_coverage::Retired;
+use log_history::Losers;
 use log_records::Record;
 use log_store::{LogImage, Master};
-use loser_undo::{LoserTable, losers};
+use loser_undo::losers;
 use page_core::{Lsn, Page, PageNo, SlotNo, TxnNo, formatted_pages};
 use page_redo::{by_page, redo_by_page};
 use std::process::Abort;
@@ -29,7 +30,7 @@ fn master_of(rt: &impl Abort, retired: &Retired) -> Master
     retired.master().expect(rt, "a checkpoint")
 }
 
-fn losers_of(rt: &(impl Abort + AllocGlobal), retired: &Retired) -> LoserTable {
+fn losers_of(rt: &(impl Abort + AllocGlobal), retired: &Retired) -> Losers {
     let master = master_of(rt, retired);
     losers(rt.alloc(), retired.log(), &master).expect(rt, "memory for losers")
 }
@@ -80,21 +81,20 @@ static LOSERS: [(Row, &[Shown]); 5] = [
 ];
 
 /// Asserts that a loser is as it is to be.
-fn assert_loser(rt: &impl Abort, found: &LoserTable, place: usize, txn: u32, last: u64) {
-    let loser = found.as_slice().get(place);
-    let is = loser.map(|loser| (loser.txn.0, loser.last.0));
+fn assert_loser(rt: &impl Abort, found: &Losers, place: usize, txn: u32, last: u64) {
+    let is = found
+        .state_at(place)
+        .map(|state| (state.txn.0, state.last.0));
     same_at(rt, &is, &Some((txn, last)), &place);
 }
 
 /// Asserts that these are the LSNs of what a loser has pending.
-fn assert_pending(rt: &impl Abort, found: &LoserTable, place: usize, lsns: &[u64]) {
-    let pending = match found.as_slice().get(place) {
-        Some(loser) => loser.pending.as_slice(),
-        None => &[],
-    };
-    same_at(rt, &pending.len(), &lsns.len(), &place);
-    for (change, lsn) in pending.iter().zip(lsns) {
-        same_at(rt, &change.lsn.0, lsn, &place);
+fn assert_pending(rt: &impl Abort, found: &Losers, place: usize, lsns: &[u64]) {
+    let pending = found.state_at(place).map(|state| state.pending);
+    same_at(rt, &pending.unwrap_or(0), &lsns.len(), &place);
+    for (index, lsn) in lsns.iter().enumerate() {
+        let change = found.pending_at(place, index);
+        same_at(rt, &change.map(|change| change.lsn.0), &Some(*lsn), &place);
     }
 }
 
@@ -103,7 +103,7 @@ fn losers_are_found_from_a_checkpoint_on(rt: HostRuntime) {
     for (row, shown) in &LOSERS {
         let retired = retired(&rt, *row, 0);
         let found = losers_of(&rt, &retired);
-        same_at(&rt, &found.as_slice().len(), &shown.len(), &row.parts);
+        same_at(&rt, &found.count(), &shown.len(), &row.parts);
         for (place, (txn, last, pending)) in shown.iter().enumerate() {
             assert_loser(&rt, &found, place, *txn, *last);
             assert_pending(&rt, &found, place, pending);
@@ -224,7 +224,7 @@ fn assert_losers(rt: &(impl Abort + AllocGlobal), retired: &Retired) -> usize {
             }
         }
     }
-    same_at(rt, &found.as_slice().len(), &count, &log.len());
+    same_at(rt, &found.count(), &count, &log.len());
     count
 }
 

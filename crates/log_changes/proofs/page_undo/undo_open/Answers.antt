@@ -1,65 +1,64 @@
-use Rattle.std.proofs.Common.{◌∙◌, ◌++◌, ap, arith, refl}
-use Rattle.log_changes.specs.Undo.{UndoView}
-use Rattle.log_changes.proofs.Ending.{first_log}
-use Rattle.log_changes.proofs.Undone.{all_taken_back, grown, next_final, next_live, next_lost, undoing_first}
-use Rattle.log_changes.proofs.Undone.{undoing_next}
+use Rattle.std.proofs.Common.{◌∙◌, ◌++◌, ◌∷◌, [], ap, arith, length, List, map, subst, sym}
+use Rattle.std.proofs.lemmas.List.{length-map, with_items_is}
+use Rattle.page_core.specs.declared.page.Page.{Page}
+use Rattle.log_records.specs.Image.{AreNumbered, with_record}
+use Rattle.log_records.specs.Log.{IsWithin}
+use Rattle.loser_undo.specs.UndoRecords.{UndoView}
+use Rattle.loser_undo.proofs.Undoing.{IsOnWay, next_counted, next_on_way, next_within, still_numbered, way_begins, way_ends}
 use Rattle.log_changes.proofs.page_undo.undo_open.Goals as goal
 
-pub end_spent-requires : goal.end_spent-requires
-end_spent-requires c = (c.requires.0, (c.args.pages.items, c.requires.1))
-
-pub loop-txn-init : goal.loop-txn-init
-loop-txn-init c = λ log to.
-    let first = first_log log c.args.pages.items _ to in
-    undoing_first log c.args.pages.items c.end_spent.new.self first.0 first.1
-    (c.end_spent.ensures log c.args.pages.items to)
-
-pub take_back-requires : goal.take_back-requires
-take_back-requires c =
-    let log = c.requires.0 in
-    let start = c.args.pages.items in
-    let is = c.loop-txn.invariant log c.requires.1 in
-    let next = next_lost log start c.loop-txn.undo is _ _ c.in-Some.ensures in (
-      log,
-      (
-        start,
-        (
-          is.at.0,
-          (
-            is.at.1.1,
-            (
-              next_live log start c.loop-txn.undo is _ _ next,
-              next_final log start c.loop-txn.undo is _ _ next,
-            ),
-          ),
-        ),
-      ),
+pub loop-next-init : goal.loop-next-init
+loop-next-init c = λ log to.
+    let start = c.args.pages.items in (
+      [],
+      subst (λ (u : UndoView). IsOnWay log start [] u start) (sym c.new-undo.ensures)
+          (way_begins log start c.args.losers c.args.count to.valid to.made to.count_is to.room to.all to.numbered),
     )
 
-pub loop-txn-smaller : goal.loop-txn-smaller
-loop-txn-smaller c =
-    let log = c.requires.0 in
-    let start = c.args.pages.items in
-    let is = c.loop-txn.invariant log c.requires.1 in
-    let next = next_lost log start c.loop-txn.undo is _ _ c.in-Some.ensures in
-    let after = c.take_back.ensures log start is.at.0 is.at.1.1 (next_live log start c.loop-txn.undo is _ _ next)
-    (next_final log start c.loop-txn.undo is _ _ next) in
-    let more = grown log start (log.records ++ is.at.0) _ c.loop-txn.undo c.take_back.new.self
-    (is.at.0, (refl, is.at.1.1)) after in
-    omega (arith, more.0, more.1)
+pub next_record-requires : goal.next_record-requires
+next_record-requires c =
+    let is = c.loop-next.invariant c.requires.0 c.requires.1 in
+    (c.requires.0, (is.0, is.1.has))
 
-pub loop-txn-preserved : goal.loop-txn-preserved
-loop-txn-preserved c = λ log to.
-    let start = c.args.pages.items in
-    let is = c.loop-txn.invariant log to in
-    let next = next_lost log start c.loop-txn.undo is _ _ c.in-Some.ensures in
-    undoing_next log start c.loop-txn.undo is _ _ next c.take_back.new.self
-    (c.take_back.ensures log start is.at.0 is.at.1.1 (next_live log start c.loop-txn.undo is _ _ next)
-    (next_final log start c.loop-txn.undo is _ _ next))
+pub redo_on_its_page-requires-clause-within : goal.redo_on_its_page-requires-clause-within
+redo_on_its_page-requires-clause-within c =
+    let log = c.requires.0 in
+    let is = c.loop-next.invariant log c.requires.1 in
+    let more = c.in-Some.ensures log is.0 is.1.has in
+    subst (λ (ps : List Page). IsWithin (length ps) c.in-Some.next) (sym c.deref_mut.ensures.value)
+    (next_within log c.args.pages.items is.0 c.loop-next.undo c.loop-next.pages.items is.1 c.in-Some.next
+    c.next_record.new.self more)
+
+pub redo_on_its_page-requires-clause-numbered : goal.redo_on_its_page-requires-clause-numbered
+redo_on_its_page-requires-clause-numbered c =
+    let is = c.loop-next.invariant c.requires.0 c.requires.1 in
+    subst AreNumbered (sym c.deref_mut.ensures.value)
+    (still_numbered c.requires.0 c.args.pages.items is.0 c.loop-next.undo c.loop-next.pages.items is.1)
+
+pub loop-next-smaller : goal.loop-next-smaller
+loop-next-smaller c =
+    let log = c.requires.0 in
+    let is = c.loop-next.invariant log c.requires.1 in
+    let counted = next_counted log c.args.pages.items is.0 c.loop-next.undo c.loop-next.pages.items is.1 c.in-Some.next
+    c.next_record.new.self (c.in-Some.ensures log is.0 is.1.has) in
+    omega (arith, counted.0, counted.1)
+
+pub loop-next-preserved : goal.loop-next-preserved
+loop-next-preserved c = λ log to.
+    let is = c.loop-next.invariant log to in
+    let r = c.in-Some.next in
+    let redone = c.redo_on_its_page.ensures
+    ∙ ap (map (λ (page : Page). with_record page r)) c.deref_mut.ensures.value in
+    let long = ap length c.redo_on_its_page.ensures
+    ∙ length-map c.deref_mut.result.now (λ page. with_record page r) ∙ c.deref_mut.ensures.len in (
+      is.0 ++ r ∷ [],
+      next_on_way log c.args.pages.items is.0 c.loop-next.undo c.loop-next.pages.items is.1 r c.next_record.new.self
+          (c.in-Some.ensures log is.0 is.1.has) _
+          (with_items_is c.loop-next.pages c.redo_on_its_page.new.pages long ∙ redone),
+    )
 
 pub returns : goal.returns
 returns c = λ log to.
-    let start = c.args.pages.items in
-    let is = c.loop-txn.invariant log to in
-    ap (λ (v : UndoView). v.pages) c.undo.view_is
-    ∙ all_taken_back log start c.loop-txn.undo is c.in_default.ensures
+    let is = c.loop-next.invariant log to in
+    way_ends log c.args.pages.items is.0 c.loop-next.undo c.loop-next.pages.items is.1
+    (c.in_default.ensures log is.0 is.1.has)

@@ -1,13 +1,14 @@
-use Rattle.std.proofs.Common.{◌-◌}
+use Rattle.std.proofs.Common.{◌-◌, List}
 use Rattle.log_records.specs.declared.limits.TheConstants.{MAX_RECORDS}
+use Rattle.log_records.specs.declared.record.Record.{Record}
 use Rattle.log_records.specs.Log.{Log}
+use Rattle.loser_undo.proofs.Undoing.{IsOnWay}
 use Rattle.log_changes.specs.Undo.{IsToUndo}
-use Rattle.log_changes.proofs.Undone.{IsUndoing}
 use Rattle.log_changes.proofs.page_undo.undo_open.Given as goal
 
-abbrev pub invariant-loop-txn : goal.invariant-loop-txn
-invariant-loop-txn l = (log : Log) → IsToUndo log l.fn.table l.fn.count l.fn.pages.items
-    → IsUndoing log l.fn.pages.items l.undo
+abbrev pub invariant-loop-next : goal.invariant-loop-next
+invariant-loop-next l = (log : Log) → IsToUndo log l.fn.losers l.fn.count l.initial.pages.items
+    → (behind : List Record) × IsOnWay log l.initial.pages.items behind l.undo l.pages.items
 
-abbrev pub decreases-loop-txn : goal.decreases-loop-txn
-decreases-loop-txn l = MAX_RECORDS - l.undo.count
+abbrev pub decreases-loop-next : goal.decreases-loop-next
+decreases-loop-next l = MAX_RECORDS - l.undo.count

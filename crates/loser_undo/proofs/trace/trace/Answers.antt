@@ -1,5 +1,7 @@
-use Rattle.std.proofs.Common.{◌∙◌, ap, sym, subst, reverse}
-use Rattle.log_history.specs.Transactions.{first_lsn, is_rolling, pending}
+use Rattle.std.proofs.Common.{◌≡◌, ◌∙◌, sym, subst}
+use Rattle.log_history.specs.OpenEntry.{changes_of}
+use Rattle.log_history.specs.Table.{Entry, entry_of}
+use Rattle.log_history.specs.Transactions.{first_lsn, is_rolling}
 use Rattle.loser_undo.specs.Losers.{Leads, LeadsToAbort}
 use Rattle.loser_undo.proofs.Traced.{all_traced}
 use Rattle.loser_undo.proofs.trace.trace.Goals as goal
@@ -33,10 +35,17 @@ pending_of-requires c =
 pub returns : goal.returns
 returns c =
     let t = c.args.one.txn in
-    λ i. record {
+    let made : (let e : Entry = record {
+      txn = t;
+      first = c.in_ok-first.first;
+      last = c.args.one.last;
+      rolling = c.is_rolling-rolling.result;
+      pending = changes_of c.in_ok-first.pending.items;
+    } in e) ≡ entry_of c.args.log.now.records t = λ i. record {
       txn = t;
       first = c.in_ok-first.ensures.first i;
       last = c.requires.last i;
       rolling = c.is_rolling-rolling.ensures i;
       pending = c.in_ok-first.ensures.pending i;
-    }
+    } in
+    c.new.ensures ∙ made

@@ -101,7 +101,7 @@ recovered-requires-after_bounds g c = λ _ _.
     let read = subst (λ (n : ℕ). IsChainRead n (end_of log) inputs pages redo) count
     (subst (λ (n : ℕ). IsChainRead c.pages.result n inputs pages redo) end c.in_ok-pages.ensures.ok) in (
       log,
-      is_read log c.in_ok-kept.kept c.in_ok-kept.table inputs pages redo found.1.1.1.1.0 found.1.1.1.0 found.1.0
+      is_read log c.in_ok-kept.kept c.in_ok-kept.losers inputs pages redo found.1.1.1.1.0 found.1.1.1.0 found.1.0
           found.1.1.0 read,
     )
 
@@ -128,9 +128,9 @@ returns-clause-ok g c =
     let end = c.end.ensures ∙ ap (λ (k : Kept). lsn_of k.count) found.1.0 in
     let read = subst (λ (n : ℕ). IsChainRead n (end_of log) inputs pages redo) count
     (subst (λ (n : ℕ). IsChainRead c.pages.result n inputs pages redo) end c.in_ok-pages.ensures.ok) in
-    let is = is_read log c.in_ok-kept.kept c.in_ok-kept.table inputs pages redo found.1.1.1.1.0 found.1.1.1.0
+    let is = is_read log c.in_ok-kept.kept c.in_ok-kept.losers inputs pages redo found.1.1.1.1.0 found.1.1.1.0
     found.1.0 found.1.1.0 read in
-    all_restored c.recovered.result files log c.in_ok-kept.kept c.in_ok-kept.table named pages redo of_log of_master
+    all_restored c.recovered.result files log c.in_ok-kept.kept c.in_ok-kept.losers named pages redo of_log of_master
     read is c.recovered.ensures.made c.recovered.ensures.room
 
 pub returns-clause-err : goal.returns-clause-err
@@ -156,9 +156,9 @@ returns-clause-err g c =
     let end = c.end.ensures ∙ ap (λ (k : Kept). lsn_of k.count) found.1.0 in
     let read = subst (λ (n : ℕ). IsChainRead n (end_of log) inputs pages redo) count
     (subst (λ (n : ℕ). IsChainRead c.pages.result n inputs pages redo) end c.in_ok-pages.ensures.ok) in
-    let is = is_read log c.in_ok-kept.kept c.in_ok-kept.table inputs pages redo found.1.1.1.1.0 found.1.1.1.0
+    let is = is_read log c.in_ok-kept.kept c.in_ok-kept.losers inputs pages redo found.1.1.1.1.0 found.1.1.1.0
     found.1.0 found.1.1.0 read in
-    log_is_full c.recovered.result files log c.in_ok-kept.kept c.in_ok-kept.table named pages read.copies (record {
+    log_is_full c.recovered.result files log c.in_ok-kept.kept c.in_ok-kept.losers named pages read.copies (record {
       of_log = of_log;
       of_master = of_master;
       of_archives = of_read log inputs pages redo read;

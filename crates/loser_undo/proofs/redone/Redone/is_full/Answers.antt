@@ -3,6 +3,7 @@ use Rattle.std.proofs.lemmas.Bool.{lt-ltb, ltb-true}
 use Rattle.log_history.specs.Transactions.{owed}
 use Rattle.loser_undo.specs.Recovery.{Recovery}
 use Rattle.loser_undo.proofs.Appends.{owed_few}
+use Rattle.loser_undo.proofs.Held.{owed_of}
 use Rattle.loser_undo.proofs.redone.Redone.is_full.Goals as goal
 
 pub overflow_add-result : goal.overflow_add-result
@@ -11,7 +12,8 @@ overflow_add-result c =
     let made = c.self.invariant.made in
     let few = made.few in
     let most = owed_few rs made.linked in
-    let is = c.owed.ensures rs made (omega (arith, few, most)) in
+    let is : c.owed.result ≡ owed rs =
+    omega (arith, few, most, c.owed.ensures, owed_of rs c.self.inside.losers made) in
     omega (arith, few, most, is, ap length c.records.ensures.records)
 
 pub returns-clause-full : goal.returns-clause-full
@@ -20,7 +22,8 @@ returns-clause-full c =
     let made = c.self.invariant.made in
     let few = made.few in
     let most = owed_few rs made.linked in
-    let is = c.owed.ensures rs made (omega (arith, few, most)) in
+    let is : c.owed.result ≡ owed rs =
+    omega (arith, few, most, c.owed.ensures, owed_of rs c.self.inside.losers made) in
     let sum : length c.records.result.now + c.owed.result ≡ length rs + owed rs =
     omega (arith, is, ap length c.records.ensures.records) in
     let now = sum ∙ ap (λ (r : Recovery). length r.log.records + owed r.log.records) c.self.view_is in (

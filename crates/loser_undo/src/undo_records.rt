@@ -1,0 +1,133 @@
+//! The records of undo, one after another.
+
+ghost use Rattle.std.specs.Prelude.{ℕ, ◌≡◌, ◌+◌, ◌<◌, [], List, length, MatchOption};
+ghost use Rattle.std.specs.Prelude.{slice_index_or, slice_set};
+ghost use Rattle.std.specs.List.{remove};
+ghost use Rattle.page_core.specs.Change.{undo_of};
+ghost use Rattle.log_records.specs.declared.limits.TheConstants.{MAX_RECORDS};
+ghost use Rattle.log_records.specs.declared.record.Record.{Record};
+ghost use Rattle.log_records.specs.declared.record.Record.TheVariants.{Comp, End};
+ghost use Rattle.log_records.specs.Log.{Log, lsn_of};
+ghost use Rattle.log_history.specs.Table.{Entry, compensated};
+ghost use Rattle.loser_undo.specs.UndoRecords.{HasYielded, IsNext, YieldsNext};
+
+use log_history::{Losers, PendingChange, TxnState};
+use log_records::Record;
+use page_core::{LSN_STEP, Lsn, undo_of};
+use std::marker::Model;
+
+/// The records that undo appends to a log (ARIES, section 6.3), made one after another; none is
+/// kept. First comes an End for each open transaction that has nothing pending, and then each
+/// pending change is compensated, the last one first; where nothing is left of a transaction, its
+/// End comes at once.
+#[derive(Drop)]
+pub struct UndoRecords {
+    losers: Losers,
+    /// How many records the log would have by now.
+    count: usize,
+}
+
+impl Model for UndoRecords {
+    ghost use Rattle.loser_undo.specs.UndoRecords.{UndoView};
+
+    ghost Value = { UndoView };
+
+    ghost view = { λ it. record { losers = it.losers; count = it.count } };
+}
+
+impl UndoRecords {
+    /// Those of a log with so many records, at whose end these transactions are open.
+    pub fn new(losers: Losers, count: usize) -> UndoRecords
+        ensures { result ≡ record { losers = losers; count = count } }
+    {
+        UndoRecords { losers, count }
+    }
+
+    /// The next record; None where no transaction is open any more. It looks at each open
+    /// transaction once, and takes no memory.
+    pub fn next_record(&mut self) -> Option<Record>
+        requires { (log : Log) × ((behind : List Record) × HasYielded log behind self.old) }
+        ensures { (log : Log) (behind : List Record) → HasYielded log behind self.old
+            → YieldsNext log behind self.new result }
+    {
+        let place = self.next_place()?;
+        let state = self.losers.state_at(place)?;
+        match self.losers.last_pending_at(place) {
+            Some(change) => Some(self.take_back(place, &state, &change)),
+            None => Some(self.end(place, &state)),
+        }
+    }
+
+    /// The place of the transaction of which the next record is.
+    fn next_place(&self) -> Option<usize>
+        ensures { MatchOption result (self.now.losers ≡ []) (IsNext self.now.losers) }
+    {
+        let mut best = None;
+        let mut greatest = Lsn(0);
+        for place in 0..self.losers.count() {
+            let Some(change) = self.losers.last_pending_at(place) else {
+                return Some(place);
+            };
+            if change.lsn >= greatest {
+                greatest = change.lsn;
+                best = Some(place);
+            }
+        }
+        best
+    }
+
+    /// Where the next record is to stand. It counts as made.
+    fn next_lsn(&mut self) -> Lsn
+        requires { self.old.count < MAX_RECORDS }
+        ensures lsn { result ≡ lsn_of self.old.count }
+        ensures counted { self.new ≡ record self.old { count = self.old.count + 1 } }
+    {
+        let lsn = Lsn(LSN_STEP * (self.count as u64 + 1));
+        self.count += 1;
+        lsn
+    }
+
+    /// The End of the transaction at this place, which has these numbers.
+    fn end(&mut self, place: usize, state: &TxnState) -> Record
+        requires place { place < length self.old.losers }
+        requires room { self.old.count < MAX_RECORDS }
+        ensures made { result ≡ End (lsn_of self.old.count) state.now.txn state.now.last }
+        ensures left { self.new ≡ record {
+          losers = remove self.old.losers place;
+          count = self.old.count + 1;
+        } }
+    {
+        let lsn = self.next_lsn();
+        self.losers.end(place);
+        Record::End {
+            lsn,
+            txn: state.txn,
+            prev: state.last,
+        }
+    }
+
+    /// The compensation of the last pending change of the transaction at this place.
+    fn take_back(&mut self, place: usize, state: &TxnState, change: &PendingChange) -> Record
+        requires place { place < length self.old.losers }
+        requires room { self.old.count < MAX_RECORDS }
+        ensures made { result ≡ Comp (lsn_of self.old.count) state.now.txn state.now.last
+            change.now.prev change.now.page change.now.slot (undo_of change.now.change) }
+        ensures left { (d : Entry) → self.new ≡ record {
+          losers = slice_set self.old.losers place
+              (compensated (lsn_of self.old.count) (slice_index_or self.old.losers place d));
+          count = self.old.count + 1;
+        } }
+    {
+        let lsn = self.next_lsn();
+        self.losers.compensate(place, lsn);
+        Record::Comp {
+            lsn,
+            txn: state.txn,
+            prev: state.last,
+            undo_next: change.prev,
+            page: change.page,
+            slot: change.slot,
+            change: undo_of(&change.change),
+        }
+    }
+}
