@@ -10,6 +10,8 @@ use Rattle.log_records.specs.Record.{own_lsn}
 use Rattle.log_history.proofs.Filters.{filter_map_push}
 use Rattle.log_changes.specs.Kept.{Kept, completed_by, completed_in, kept_of}
 use Rattle.log_changes.specs.Placed.{placed_by, placed_in}
+use Rattle.std.proofs.Math.Seq.{take-append_seam}
+use Rattle.log_records.proofs.PageCounts.{valid_cut}
 
 -- the last record of a log stands at its place
 pub stands_last : (log : Log) (r : Record) → IsLog (with_next log (r ∷ []))
@@ -58,12 +60,9 @@ next_one log rs k r lt is =
 front : (pages : ℕ) (xs ys : List Record)
     → IsLog (let l : Log = record { pages = pages; records = xs ++ ys } in l)
     → IsLog (let l : Log = record { pages = pages; records = xs } in l)
-front pages xs ys valid = record {
-  pages = valid.pages;
-  count = omega (arith, valid.count, length-append xs ys);
-  records = λ i d lt. subst (StandsAt pages (lsn_of i)) (get_or_append_left xs ys d i lt)
-      (valid.records i d (omega (arith, lt, length-append xs ys)));
-}
+front pages xs ys valid =
+    subst (λ (rs : List Record). IsLog (let l : Log = record { pages = pages; records = rs } in l)) (take-append_seam xs ys)
+    (valid_cut (record { pages = pages; records = xs ++ ys }) (length xs) valid)
 
 -- the first records of a log are a log
 pub first_ones : (log : Log) (rs : List Record) (k : ℕ) → IsLog (with_next log rs) → IsLog (with_next log (take k rs))

@@ -3,7 +3,7 @@ use Rattle.std.specs.Prelude.{ℕ, ◌≡◌, ◌+◌, ◌≤◌, List, length}
 use Rattle.page_core.specs.declared.page.Page.{Page}
 use Rattle.log_records.specs.declared.limits.TheConstants.{MAX_RECORDS}
 use Rattle.log_records.specs.Image.{AreNumbered}
-use Rattle.log_records.specs.Log.{IsLog, Log}
+use Rattle.log_records.specs.Log.{IsLog, Log, page_count}
 use Rattle.log_history.specs.Table.{Entry}
 use Rattle.log_history.specs.Transactions.{owed}
 use Rattle.loser_undo.specs.Losers.{AreLosersOf}
@@ -15,5 +15,5 @@ pub record IsToUndo (log : Log) (losers : List Entry) (count : ℕ) (pages : Lis
   pub made : AreLosersOf log.records losers
   pub count_is : count ≡ length log.records
   pub room : length log.records + owed log.records ≤ MAX_RECORDS
-  pub all : length pages ≡ log.pages
+  pub all : length pages ≡ page_count log
   pub numbered : AreNumbered pages

@@ -6,20 +6,21 @@ ghost use Rattle.log_records.specs.declared.limits.TheConstants.{MAX_RECORDS};
 ghost use Rattle.log_records.specs.Record.{IsRecord, own_lsn};
 ghost use Rattle.log_history.specs.Checkpoint.{IsCompleteCheckpoint};
 ghost use Rattle.log_history.specs.Linked.{IsLinked};
-ghost use Rattle.log_records.specs.Log.{IsLog, Log, lsn_of, with_next};
+ghost use Rattle.log_records.specs.Log.{IsLog, Log, counts_of, lsn_of, with_next};
 ghost use Rattle.log_changes.specs.Kept.{completed_by, kept_of};
 ghost use Rattle.log_changes.specs.Placed.{placed_by};
 
 use crate::placed_change::PlacedChange;
 use log_records::Record;
 use log_store::{Master, RecordSink};
-use page_core::{LSN_STEP, Lsn};
+use page_core::{LSN_STEP, Lsn, PageCounts};
 use std::alloc::{AllocError, Global};
 use std::marker::Model;
 
 /// What a restore keeps of a log: of each change 16 bytes, and the checkpoints that were completed.
 #[derive(Drop)]
 pub struct LogChanges {
+    /// The page count that the log's header gives.
     pages: u32,
     count: u32,
     changes: Vec<PlacedChange>,
@@ -40,11 +41,11 @@ impl Model for LogChanges {
 }
 
 impl LogChanges {
-    /// How many pages the volume of the log has.
-    pub fn pages(&self) -> u32
-        ensures { result ≡ self.now.pages }
+    /// The page counts of the volume, as the log goes on. No record gives a count so far.
+    pub fn counts(&self, alloc: Global) -> PageCounts
+        ensures { (log : Log) → self.now ≡ kept_of log → result ≡ counts_of log }
     {
-        self.pages
+        PageCounts::new(alloc, self.pages)
     }
 
     /// How many records the log has.

@@ -13,6 +13,8 @@ use Rattle.log_history.proofs.Followed.{number_of_volume}
 use Rattle.loser_undo.specs.Recovery.{HasCommitted, IsWhole, Recovery, appended, undone}
 use Rattle.loser_undo.specs.Undo.{after_undo}
 use Rattle.loser_undo.proofs.Valid.{log_comes_first, undone_number}
+use Rattle.log_records.proofs.PageCounts.{count_is_first}
+use Rattle.log_records.specs.Log.{page_count}
 
 -- the log, and then what undo appends
 pub log_and_appended : (log : Log) → log.records ++ appended log ≡ after_undo log.records
@@ -20,20 +22,26 @@ log_and_appended log =
     ap (λ xs. xs ++ appended log) (sym (log_comes_first log.records))
     ∙ take-append-drop (length log.records) (after_undo log.records)
 
+-- undo leaves the page count as it is: no kind of record gives one so far
+pub undone_count : (log : Log) → page_count log ≡ page_count (record log { records = after_undo log.records })
+undone_count log = count_is_first log ∙ sym (count_is_first (record log { records = after_undo log.records }))
+
 pub undone_whole : (r : Recovery) → IsWhole r → IsWhole (undone r)
 undone_whole r whole =
     ap (map (λ page. image_from page (appended r.log))) whole
-    ∙ redo_all-append r.log.records (appended r.log) r.log.pages
-    ∙ ap (λ xs. redo_all xs r.log.pages) (log_and_appended r.log)
+    ∙ redo_all-append r.log.records (appended r.log) (page_count r.log)
+    ∙ ap (λ xs. redo_all xs (page_count r.log)) (log_and_appended r.log)
+    ∙ ap (redo_all (after_undo r.log.records)) (undone_count r.log)
 
 pub undone_committed : (r : Recovery) → IsLog r.log → IsLinked r.log.records → IsWhole r
     → HasCommitted r.log.records (undone r).pages
 undone_committed r valid linked whole page slot d below within =
     let rs = after_undo r.log.records in
     let is = undone_whole r whole in
-    let inside : page < r.log.pages = omega (arith, ap length is, length-redo_all rs r.log.pages) in
+    let n = page_count (undone r).log in
+    let inside : page < n = omega (arith, ap length is, length-redo_all rs n) in
     ap (λ (pages : List Page). slice_index (get_or pages page d).slots slot) is
-    ∙ number_of_volume rs r.log.pages page slot d inside
+    ∙ number_of_volume rs n page slot d inside
     ∙ undone_number r.log page slot valid linked within
 
 -- part by part

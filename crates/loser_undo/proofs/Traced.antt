@@ -29,6 +29,8 @@ use Rattle.log_history.proofs.Steps.{entry_from, entry_of_push_other}
 use Rattle.loser_undo.specs.Losers.{IsTraced, Leads, LeadsToAbort, Stands, before_comp, change_by, way_back}
 use Rattle.loser_undo.proofs.Lost.{last_apart}
 use Rattle.loser_undo.proofs.Rising.{ArePlaced}
+use Rattle.log_records.proofs.PageCounts.{stands_in}
+use Rattle.log_records.specs.Log.{page_count}
 
 -- ---- records that stand
 
@@ -330,9 +332,9 @@ all_traced log t valid linked still =
 
 -- ---- the pending changes, the last one first
 
-pub stands_at : (log : Log) (at : ℕ) (r : Record) → IsLog log → Stands log.records at r → StandsAt log.pages at r
+pub stands_at : (log : Log) (at : ℕ) (r : Record) → IsLog log → Stands log.records at r → StandsAt (page_count log) at r
 stands_at log at r valid stands =
-    subst₂ (StandsAt log.pages) (sym stands.at_is) (stands.is r) (valid.records stands.place r stands.within)
+    subst₂ (StandsAt (page_count log)) (sym stands.at_is) (stands.is r) (stands_in log valid stands.place r stands.within)
 
 -- some record stands where the search goes on
 pub leads_stands : (rs : List Record) (t first at : ℕ) (way : List Record) → Leads rs t first at way
@@ -405,8 +407,8 @@ goes_earlier pages at next (EndChkpt lsn begin redo) stands goes = cc
 pub next_earlier : (log : Log) (at next : ℕ) (x : Record) → IsLog log → (r : Record) × Stands log.records at r
     → ((r : Record) → Stands log.records at r → x ≡ r) → way_back x ≡ Some next → next < at
 next_earlier log at next x valid there is goes =
-    goes_earlier log.pages at next x
-    (subst (StandsAt log.pages at) (sym (is there.0 there.1)) (stands_at log at there.0 valid there.1)) goes
+    goes_earlier (page_count log) at next x
+    (subst (StandsAt (page_count log) at) (sym (is there.0 there.1)) (stands_at log at there.0 valid there.1)) goes
 
 -- ---- the Abort
 
@@ -419,7 +421,7 @@ pub comp_earlier : (log : Log) (at : ℕ) (x : Record) (lsn u prev undo_next pag
     → (r : Record) × Stands log.records at r → ((r : Record) → Stands log.records at r → x ≡ r)
     → x ≡ Comp lsn u prev undo_next page slot change → prev < at
 comp_earlier log at x lsn u prev undo_next page slot change valid there is of =
-    let stands = subst (StandsAt log.pages at) (sym (is there.0 there.1) ∙ of) (stands_at log at there.0 valid there.1) in
+    let stands = subst (StandsAt (page_count log) at) (sym (is there.0 there.1) ∙ of) (stands_at log at there.0 valid there.1) in
     let lt = stands.valid.2.earlier in
     let here = stands.lsn in
     omega arith

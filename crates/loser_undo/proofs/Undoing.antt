@@ -14,12 +14,14 @@ use Rattle.loser_undo.specs.Losers.{AreLosersOf}
 use Rattle.loser_undo.specs.Recovery.{appended}
 use Rattle.loser_undo.specs.Undo.{after_undo}
 use Rattle.loser_undo.specs.UndoRecords.{HasYielded, UndoView}
+use Rattle.log_records.proofs.PageCounts.{count_is_first, stands_in}
+use Rattle.log_records.specs.Log.{page_count}
 
 -- so far it has yielded these records, and these are the pages with their changes
 pub record IsOnWay (log : Log) (start : List Page) (behind : List Record) (undo : UndoView) (pages : List Page)
     : Type 0 where
   pub has : HasYielded log behind undo
-  pub all : length start ≡ log.pages
+  pub all : length start ≡ page_count log
   pub numbered : AreNumbered start
   pub made : pages ≡ map (λ page. image_from page behind) start
 
@@ -41,7 +43,7 @@ nothing_yet log losers count valid are counted room =
 
 pub way_begins : (log : Log) (start : List Page) (losers : List Entry) (count : ℕ) → IsLog log
     → AreLosersOf log.records losers → count ≡ length log.records
-    → length log.records + owed log.records ≤ MAX_RECORDS → length start ≡ log.pages → AreNumbered start
+    → length log.records + owed log.records ≤ MAX_RECORDS → length start ≡ page_count log → AreNumbered start
     → IsOnWay log start [] (record { losers = losers; count = count }) start
 way_begins log start losers count valid are counted room all numbered = record {
   has = nothing_yet log losers count valid are counted room;
@@ -73,13 +75,15 @@ module _ (log : Log) (start : List Page) (behind : List Record) (undo : UndoView
     pub next_within : IsWithin (length pages) r
     next_within =
         let n = length (log.records ++ behind) in
-        let stands = more.valid.records n r (omega (arith, many)) in
+        let whole : Log = record log { records = log.records ++ (behind ++ r ∷ []) } in
+        let stands = stands_in whole more.valid n r (omega (arith, many)) in
         let last = ap (λ (rs : List Record). get_or rs n r)
         (sym (append_assoc log.records behind (r ∷ [])))
         ∙ get_or-append_seam (log.records ++ behind) r [] r in
-        let long : log.pages ≡ length pages =
-        sym is.all ∙ sym (ap length is.made ∙ length-map start (λ page. image_from page behind)) in
-        subst (λ (m : ℕ). IsWithin m r) long (subst (IsWithin log.pages) last stands.within)
+        let long : page_count whole ≡ length pages =
+        count_is_first whole ∙ sym (count_is_first log) ∙ sym is.all
+        ∙ sym (ap length is.made ∙ length-map start (λ page. image_from page behind)) in
+        subst (λ (m : ℕ). IsWithin m r) long (subst (IsWithin (page_count whole)) last stands.within)
 
     pub next_on_way : (after : List Page) → after ≡ map (λ page. with_record page r) pages
         → IsOnWay log start (behind ++ r ∷ []) new after

@@ -25,6 +25,8 @@ use Rattle.loser_undo.specs.Undo.{LostChange, after_undo, comp_of, end_of, is_un
 use Rattle.loser_undo.specs.Undo.{with_end, taken_back}
 use Rattle.loser_undo.proofs.Committed.{committed_stays}
 use Rattle.loser_undo.proofs.Goes.{Finished, all_undone}
+use Rattle.log_records.specs.Log.{page_count}
+use Rattle.log_records.specs.PageCount.{count_behind}
 
 -- ---- all changes stay valid
 
@@ -96,7 +98,7 @@ record HasRoom (pages : ℕ) (rs : List Record) : Type 0 where
   room : claimed rs ≤ MAX_RECORDS
 
 grows : (pages : ℕ) (rs : List Record) (r : Record) → HasRoom pages rs
-    → claimed (rs ++ r ∷ []) ≤ claimed rs → StandsAt pages (lsn_of (length rs)) r → HasRoom pages (rs ++ r ∷ [])
+    → claimed (rs ++ r ∷ []) ≤ claimed rs → StandsAt (count_behind pages rs) (lsn_of (length rs)) r → HasRoom pages (rs ++ r ∷ [])
 grows pages rs r has no_more stands =
     let room = has.room in
     record {
@@ -105,14 +107,14 @@ grows pages rs r has no_more stands =
     }
 
 pub end_stands : (log : Log) (t : ℕ) → IsLog log → IsLinked log.records → is_open log.records t ≡ true
-    → StandsAt log.pages (lsn_of (length log.records)) (end_of log.records t)
+    → StandsAt (page_count log) (lsn_of (length log.records)) (end_of log.records t)
 end_stands log t valid linked still =
     let parts = open_parts log t valid linked still in
     record { lsn = refl; valid = (parts.0, parts.1, parts.2); within = tt }
 
 pub comp_stands : (log : Log) (l : LostChange) → IsLog log → IsLinked log.records → is_open log.records l.txn ≡ true
     → last_of (pending log.records l.txn) ≡ Some l.change
-    → StandsAt log.pages (lsn_of (length log.records)) (comp_of log.records l)
+    → StandsAt (page_count log) (lsn_of (length log.records)) (comp_of log.records l)
 comp_stands log l valid linked still last =
     let parts = open_parts log l.txn valid linked still in
     let change = last_pending log l.txn l.change valid last in

@@ -38,6 +38,7 @@ use Rattle.loser_undo.proofs.Lost.{changes_of, pending_is_lost}
 use Rattle.loser_undo.proofs.Phases.{comp_follows, end_follows, rising_open}
 use Rattle.loser_undo.proofs.Rising.{IsRising, log_placed, lsns_rise}
 use Rattle.loser_undo.proofs.Valid.{comp_stands, end_stands}
+use Rattle.log_records.specs.Log.{page_count}
 
 -- ---- lists
 
@@ -155,7 +156,7 @@ module _ (log : Log) (behind : List Record) (undo : UndoView) (has : HasYielded 
           }
 
   -- a record that may follow, and with which undo goes on to the same log
-  grown : (r : Record) (new : UndoView) → MayFollow rs r → StandsAt log.pages (lsn_of (length rs)) r → needs r ≡ 0
+  grown : (r : Record) (new : UndoView) → MayFollow rs r → StandsAt (page_count whole) (lsn_of (length rs)) r → needs r ≡ 0
       → after_undo (rs ++ r ∷ []) ≡ after_undo rs → new.losers ≡ losers_of (rs ++ r ∷ [])
       → new.count ≡ undo.count + 1 → HasYielded log (behind ++ r ∷ []) new
   grown r new may stands none goes losers count =

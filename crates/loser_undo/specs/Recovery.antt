@@ -6,7 +6,7 @@ use Rattle.page_core.specs.declared.page.TheConstants.{SLOTS}
 use Rattle.page_core.specs.Volume.{AreNumbered}
 use Rattle.log_records.specs.declared.record.Record.{Record}
 use Rattle.log_records.specs.Image.{image_from, redo_all}
-use Rattle.log_records.specs.Log.{IsLog, Log}
+use Rattle.log_records.specs.Log.{IsLog, Log, page_count}
 use Rattle.log_history.specs.Committed.{committed}
 use Rattle.log_history.specs.Linked.{IsLinked}
 use Rattle.log_history.specs.Table.{Entry}
@@ -36,7 +36,7 @@ undone r = record r {
 pub record IsRecovery (r : Recovery) : Type 0 where
   pub valid : IsLog r.log
   pub linked : IsLinked r.log.records
-  pub count : length r.pages ≡ r.log.pages
+  pub count : length r.pages ≡ page_count r.log
   pub numbered : AreNumbered r.pages
 
 -- with its open transactions
@@ -59,7 +59,7 @@ pub record IsUndone (r : Recovery) : Type 0 where
 
 -- the pages are those that the log makes
 abbrev pub IsWhole : Recovery → Type 0
-IsWhole r = r.pages ≡ redo_all r.log.records r.log.pages
+IsWhole r = r.pages ≡ redo_all r.log.records (page_count r.log)
 
 -- each slot of each page has the number that the committed transactions of these records leave
 abbrev pub HasCommitted : List Record → List Page → Type 0

@@ -5,6 +5,7 @@ ghost use Rattle.log_records.specs.Coverage.{resume};
 ghost use Rattle.log_records.specs.declared.limits.TheConstants.{MAX_RECORDS};
 ghost use Rattle.log_history.specs.Checkpoint.{IsCompleteCheckpoint};
 ghost use Rattle.log_history.specs.Transactions.{owed};
+ghost use Rattle.log_records.specs.Log.{page_count};
 ghost use Rattle.loser_undo.specs.Recovery.{IsRecovery};
 
 use crate::analysis::losers;
@@ -82,9 +83,9 @@ impl Redone {
 
     /// How many pages the volume has.
     pub fn page_count(&self) -> u32
-        ensures { result ≡ self.now.log.pages }
+        ensures { result ≡ page_count self.now.log }
     {
-        self.log.pages()
+        self.log.page_count()
     }
 
     /// Where the last complete checkpoint of the log stands.

@@ -23,7 +23,8 @@ use std::marker::Model;
 /// A log, its master record and its pages after undo: no transaction is open.
 #[derive(Drop)]
 pub struct Undone {
-    page_count: u32,
+    /// The page count that the log's header gives.
+    first_count: u32,
     records: Vec<Record>,
     master: Master,
     pages: Vec<Page>,
@@ -35,26 +36,27 @@ impl Model for Undone {
     ghost Value = { Recovery };
 
     ghost view = { λ it. record {
-      log = record { pages = it.page_count; records = it.records.items };
+      log = record { pages = it.first_count; records = it.records.items };
       master = it.master;
       pages = it.pages.items;
     } };
 
     ghost invariant = { λ it. IsUndone (record {
-      log = record { pages = it.page_count; records = it.records.items };
+      log = record { pages = it.first_count; records = it.records.items };
       master = it.master;
       pages = it.pages.items;
     }) };
 }
 
 impl Undone {
+    ghost use Rattle.log_records.specs.Log.{page_count};
     ghost use Rattle.loser_undo.specs.Recovery.{IsUndone};
 
     /// How many pages the volume has.
     pub fn page_count(&self) -> u32
-        ensures { result ≡ self.now.log.pages }
+        ensures { result ≡ page_count self.now.log }
     {
-        self.page_count
+        self.pages.len() as u32
     }
 
     /// Where the last complete checkpoint of the log stands.
@@ -100,10 +102,10 @@ pub fn undo_all(redone: Redone) -> Result<Undone, (Redone, UndoFault)>
     if redone.is_full() {
         return Err((redone, UndoFault::LogFull));
     }
-    let page_count = redone.page_count();
+    let first_count = redone.log.pages();
     let master = redone.master;
     match begin(redone) {
-        Ok((records, losers, pages)) => Ok(finish(page_count, records, master, losers, pages)),
+        Ok((records, losers, pages)) => Ok(finish(first_count, records, master, losers, pages)),
         Err(redone) => Err((redone, UndoFault::OutOfMemory)),
     }
 }
@@ -122,10 +124,10 @@ fn begin(redone: Redone) -> Result<(Vec<Record>, Losers, Vec<Page>), Redone>
         losers,
         pages,
     } = redone;
-    let (page_count, mut records) = log.into_parts();
+    let (first_count, mut records) = log.into_parts();
     if records.reserve(owed).is_err() {
         return Err(Redone {
-            log: LogImage::from_records(page_count, records),
+            log: LogImage::from_records(first_count, records),
             master,
             losers,
             pages,
@@ -134,16 +136,16 @@ fn begin(redone: Redone) -> Result<(Vec<Record>, Losers, Vec<Page>), Redone>
     Ok((records, losers, pages))
 }
 
-/// Undoes a log for which there is room.
+/// Undoes a log for which there is room, and whose header gives this page count.
 fn finish(
-    page_count: u32,
+    first_count: u32,
     records: Vec<Record>,
     master: Master,
     losers: Losers,
     pages: Vec<Page>,
 ) -> Undone
     requires recovery { IsRecovery (record {
-      log = record { pages = page_count; records = records.items };
+      log = record { pages = first_count; records = records.items };
       master = master;
       pages = pages.items;
     }) }
@@ -151,14 +153,14 @@ fn finish(
     requires room { length records.items + owed records.items ≤ MAX_RECORDS }
     requires fits { length records.items + owed records.items ≤ vec_capacity records }
     ensures { result ≡ undone (record {
-      log = record { pages = page_count; records = records.items };
+      log = record { pages = first_count; records = records.items };
       master = master;
       pages = pages.items;
     }) }
 {
     let (records, pages) = append_all(records, losers, pages);
     Undone {
-        page_count,
+        first_count,
         records,
         master,
         pages,

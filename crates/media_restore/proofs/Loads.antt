@@ -14,7 +14,9 @@ use Rattle.log_records.specs.declared.limits.TheConstants.{MAX_RECORDS}
 use Rattle.log_records.specs.declared.record.Record.{Record}
 use Rattle.log_records.specs.Coverage.{is_resumed, resume}
 use Rattle.log_records.specs.Image.{image, redo_all}
-use Rattle.log_records.specs.Log.{IsLog, Log, lsn_of}
+use Rattle.log_records.specs.Log.{IsLog, Log, lsn_of, page_count}
+use Rattle.log_records.proofs.PageCounts.{count_is_first}
+use Rattle.copy_vault.proofs.Chains.{contents_numbered}
 use Rattle.log_records.specs.Record.{own_lsn}
 use Rattle.log_records.specs.declared.record.Record.TheVariants.{EndChkpt}
 use Rattle.log_records.proofs.Images.{number-image, number-image_from}
@@ -22,7 +24,7 @@ use Rattle.log_history.specs.Checkpoint.{IsCompleteCheckpoint}
 use Rattle.log_history.specs.Transactions.{owed}
 use Rattle.log_history.proofs.Histories.{linked-take}
 use Rattle.log_store.specs.declared.master.Master.{Master}
-use Rattle.copy_vault.specs.Chain.{IsChain, IsChainOf, content, contents, last_redo, page_count}
+use Rattle.copy_vault.specs.Chain.{IsChain, IsChainOf, content, contents, last_redo}
 use Rattle.copy_vault.specs.Copy.{CopyView}
 use Rattle.copy_vault.specs.Vault.{CopyState, complete, dropped, reading, state_of}
 use Rattle.copy_coverage.specs.Kept.{IsKeptOf}
@@ -117,11 +119,9 @@ noted_in it id retired fine = by_state (state_of it.copies id) refl fine
 
 -- ---- the pages
 
-pub count_of : (it : RetiredView) (id : ℕ) (members : List CopyView) → IsRetired it → IsChain members
-    → IsChainOf it.copies id members → page_count members ≡ it.log.pages
-count_of it id members retired chain of_id =
-    let of_vault = subst (AllByRecursion (λ c. state_of it.copies c.id ≡ complete c)) chain.is of_id.of_vault in
-    ap page_count chain.is ∙ (retired.copies.each chain.first.id chain.first of_vault.0).whole
+-- a log has as many pages as its beginning: no record gives a page count so far
+pub kept_count : (it : RetiredView) (cut : ℕ) → page_count (kept_log it.log cut) ≡ it.log.pages
+kept_count it cut = count_is_first (kept_log it.log cut)
 
 each_resumed : (it : RetiredView) (cut id : ℕ) (members : List CopyView) (p : ℕ) → IsRetired it → IsChain members
     → IsChainOf it.copies id members → IsKeptOf it.log it.forced_end (kept_log it.log cut) → p < it.log.pages
@@ -131,45 +131,24 @@ each_resumed it cut id members p retired chain of_id kept lt =
     restored_of_members it.log it.forced_end it.copies (kept_log it.log cut) id members p retired.valid retired.copies
     kept chain of_id lt
 
--- the number of a page of the chain
-content_number : (it : RetiredView) (cut id : ℕ) (members : List CopyView) (p : ℕ) → IsRetired it → IsChain members
-    → IsChainOf it.copies id members → IsKeptOf it.log it.forced_end (kept_log it.log cut) → p < it.log.pages
-    → (content members p).number ≡ p
-content_number it cut id members p retired chain of_id kept lt =
-    let rs = (kept_log it.log cut).records in
-    let page = content members p in
-    sym (number-image_from page (filter (is_resumed (last_redo members) page.lsn) rs))
-    ∙ ap (λ (q : Page). q.number) (each_resumed it cut id members p retired chain of_id kept lt) ∙ number-image rs p
-
-pub numbered_contents : (it : RetiredView) (cut id : ℕ) (members : List CopyView) → IsRetired it → IsChain members
-    → IsChainOf it.copies id members → IsKeptOf it.log it.forced_end (kept_log it.log cut)
-    → AreNumbered (contents members)
-numbered_contents it cut id members retired chain of_id kept = λ k d lt.
-    let count = count_of it id members retired chain of_id in
-    let below : k < page_count members =
-    omega (arith, length-map-range_with_len (content members) 0 (page_count members)) in
-    ap (λ (q : Page). q.number)
-    (get_or-map-range_with_len (content members) 0 (page_count members) k k d below (omega arith))
-    ∙ content_number it cut id members k retired chain of_id kept (omega arith)
-
 pub all_restored : (it : RetiredView) (cut id : ℕ) (members : List CopyView) → IsRetired it → IsChain members
     → IsChainOf it.copies id members → IsKeptOf it.log it.forced_end (kept_log it.log cut)
-    → map (λ page. resume page (kept_log it.log cut).records (last_redo members)) (contents members)
-    ≡ redo_all (kept_log it.log cut).records it.log.pages
+    → map (λ page. resume page (kept_log it.log cut).records (last_redo members))
+    (contents members (page_count (kept_log it.log cut)))
+    ≡ redo_all (kept_log it.log cut).records (page_count (kept_log it.log cut))
 all_restored it cut id members retired chain of_id kept =
     let rs = (kept_log it.log cut).records in
-    let n = page_count members in
+    let n = page_count (kept_log it.log cut) in
     let f = λ (page : Page). resume page rs (last_redo members) in
-    let count = count_of it id members retired chain of_id in
     let long = length-map-range_with_len (content members) 0 n in
-    same_lists (map f (contents members)) (redo_all rs it.log.pages)
-    (length-map (contents members) f ∙ long ∙ count ∙ sym (length-map-range_with_len (image rs) 0 it.log.pages))
+    same_lists (map f (contents members n)) (redo_all rs n)
+    (length-map (contents members n) f ∙ long ∙ sym (length-map-range_with_len (image rs) 0 n))
     (λ k d lt.
-    let below : k < n = omega (arith, length-map (contents members) f, long) in
-    get_or-map f (contents members) k d d (omega arith)
+    let below : k < n = omega (arith, length-map (contents members n) f, long) in
+    get_or-map f (contents members n) k d d (omega arith)
     ∙ ap f (get_or-map-range_with_len (content members) 0 n k k d below (omega arith))
-    ∙ each_resumed it cut id members k retired chain of_id kept (omega arith)
-    ∙ sym (get_or-map-range_with_len (image rs) 0 it.log.pages k k d (omega arith) (omega arith)))
+    ∙ each_resumed it cut id members k retired chain of_id kept (omega (arith, below, kept_count it cut))
+    ∙ sym (get_or-map-range_with_len (image rs) 0 n k k d below (omega arith)))
 
 -- ---- all of it
 
@@ -178,7 +157,7 @@ pub loaded : (it : RetiredView) (cut id : ℕ) (master : Master) (members : List
     → IsLoaded (record {
       log = kept_log it.log cut;
       master = master;
-      pages = contents members;
+      pages = contents members (page_count (kept_log it.log cut));
       redo = last_redo members;
     })
 loaded it cut id master members retired is chain of_id fine =
@@ -186,9 +165,8 @@ loaded it cut id master members retired is chain of_id fine =
       is = record {
         valid = subst IsLog (sym kept.made) (prefix_is_log it.log kept.count retired.valid kept.within);
         linked = linked-take it.log.records retired.linked cut;
-        count = length-map-range_with_len (content members) 0 (page_count members)
-            ∙ count_of it id members retired chain of_id;
-        numbered = numbered_contents it cut id members retired chain of_id kept;
+        count = length-map-range_with_len (content members) 0 (page_count (kept_log it.log cut));
+        numbered = contents_numbered members (page_count (kept_log it.log cut)) chain;
       };
       checkpoint = checkpoint_of it cut master retired is kept;
     }

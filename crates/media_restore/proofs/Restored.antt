@@ -11,7 +11,7 @@ use Rattle.page_core.specs.Volume.{AreNumbered, SpellsVolume}
 use Rattle.log_records.specs.declared.limits.TheConstants.{MAX_RECORDS}
 use Rattle.log_records.specs.Coverage.{resume}
 use Rattle.log_records.specs.Image.{image, image_from, redo_all}
-use Rattle.log_records.specs.Log.{IsLog, Log}
+use Rattle.log_records.specs.Log.{IsLog, Log, counts_of, page_count}
 use Rattle.log_records.proofs.Coverage.{resume_covering}
 use Rattle.log_records.proofs.Images.{numbered-images}
 use Rattle.log_history.specs.Linked.{IsLinked}
@@ -23,12 +23,14 @@ use Rattle.log_store.specs.declared.master.Master.{Master}
 use Rattle.copy_vault.specs.declared.chain_read_fault.ChainReadFault.{ChainReadFault}
 use Rattle.copy_vault.specs.declared.chain_read_fault.ChainReadFault.TheVariants as chain
 use Rattle.copy_vault.specs.declared.copy_id.CopyKind.TheVariants.{Full}
-use Rattle.copy_vault.specs.Chain.{FitFrom, IsChain, content, contents, last_redo, page_count}
+use Rattle.copy_vault.specs.Chain.{content, contents, last_redo}
 use Rattle.copy_vault.specs.ChainReading.{IsChainRead}
 use Rattle.copy_vault.specs.Copy.{CopyView}
-use Rattle.copy_vault.proofs.Chains.{contents_numbered, some_members}
+use Rattle.copy_vault.proofs.Chains.{contents_numbered}
 use Rattle.loser_undo.specs.Recovery.{HasCommitted, Recovery, appended}
-use Rattle.loser_undo.proofs.Pages.{undone_committed, undone_whole}
+use Rattle.loser_undo.proofs.Pages.{undone_committed, undone_count, undone_whole}
+use Rattle.log_records.proofs.PageCounts.{last_count-counts_of}
+use Rattle.page_core.specs.PageCounts.{last_count}
 use Rattle.loser_undo.proofs.Resumed.{numbered_resumed}
 use Rattle.log_changes.specs.Kept.{Kept, kept_of}
 use Rattle.media_restore.specs.declared.files_fault.RestoreFault.{RestoreFault}
@@ -46,31 +48,26 @@ use Rattle.media_restore.specs.FilesFault as from
 
 -- ---- redo of the pages of a chain
 
-pub covering_whole : (log : Log) (copies : List CopyView) → IsLog log → page_count copies ≡ log.pages
-    → AreCovering log copies → redone_of log copies ≡ redo_all log.records log.pages
-covering_whole log copies valid count covers =
+pub covering_whole : (log : Log) (copies : List CopyView) → IsLog log → AreCovering log copies
+    → redone_of log copies ≡ redo_all log.records (page_count log)
+covering_whole log copies valid covers =
     let rs = log.records in
-    let n = page_count copies in
+    let n = page_count log in
     let f = λ (page : Page). resume page rs (last_redo copies) in
     let long = length-map-range_with_len (content copies) 0 n in
-    same_lists (map f (contents copies)) (redo_all rs log.pages)
-    (length-map (contents copies) f ∙ long ∙ count ∙ sym (length-map-range_with_len (image rs) 0 log.pages))
+    same_lists (map f (contents copies n)) (redo_all rs n)
+    (length-map (contents copies n) f ∙ long ∙ sym (length-map-range_with_len (image rs) 0 n))
     (λ k d lt.
-    let below : k < n = omega (arith, length-map (contents copies) f, long) in
-    get_or-map f (contents copies) k d d (omega arith)
+    let below : k < n = omega (arith, length-map (contents copies n) f, long) in
+    get_or-map f (contents copies n) k d d (omega arith)
     ∙ ap f (get_or-map-range_with_len (content copies) 0 n k k d below (omega arith))
-    ∙ resume_covering log k (content copies k) (last_redo copies) valid (covers k (omega arith))
-    ∙ sym (get_or-map-range_with_len (image rs) 0 log.pages k k d (omega arith) (omega arith)))
-
-pub count_in : (pages : ℕ) (copies : List CopyView) → FitFrom pages Full copies → IsChain copies
-    → page_count copies ≡ pages
-count_in pages [] fit chain = let some = some_members [] chain in absurd (omega arith)
-count_in pages (first ∷ more) fit chain = fit.0.same_count
+    ∙ resume_covering log k (content copies k) (last_redo copies) valid (covers k below)
+    ∙ sym (get_or-map-range_with_len (image rs) 0 n k k d below (omega arith)))
 
 -- what was read of a log, and the pages of a chain for its volume
 pub is_read : (log : Log) (kept : Kept) (losers : List Entry) (inputs : List (Option (List ℕ))) (pages : List Page) (redo : ℕ)
     → IsLog log → IsLinked log.records → kept ≡ kept_of log → losers ≡ losers_of log.records
-    → IsChainRead log.pages (end_of log) inputs pages redo → IsRead log kept losers pages
+    → IsChainRead (counts_of log) (end_of log) inputs pages redo → IsRead log kept losers pages
 is_read log kept losers inputs pages redo valid linked same_kept same_losers of_chain =
     let copies = of_chain.copies in
     record {
@@ -78,37 +75,40 @@ is_read log kept losers inputs pages redo valid linked same_kept same_losers of_
       linked = linked;
       kept = same_kept;
       made = same_losers;
-      count = ap length of_chain.made ∙ length-map-range_with_len (content copies) 0 (page_count copies)
-          ∙ count_in log.pages copies of_chain.fit of_chain.chain;
-      numbered = subst AreNumbered (sym of_chain.made) (contents_numbered copies of_chain.chain);
+      count = ap length of_chain.made ∙ length-map-range_with_len (content copies) 0 (last_count (counts_of log))
+          ∙ last_count-counts_of log;
+      numbered = subst AreNumbered (sym of_chain.made)
+          (contents_numbered copies (last_count (counts_of log)) of_chain.chain);
     }
 
 -- the copies that the archives spell
 pub of_read : (log : Log) (inputs : List (Option (List ℕ))) (pages : List Page) (redo : ℕ)
-    → (read : IsChainRead log.pages (end_of log) inputs pages redo) → AreOfArchives inputs log read.copies
+    → (read : IsChainRead (counts_of log) (end_of log) inputs pages redo) → AreOfArchives inputs log read.copies
 of_read log inputs pages redo read = record { spelled = read.spelled; fit = read.fit; within = read.within }
 
 -- where redo made the log's volume, undo leaves what was committed
 sound_of : (log : Log) (master : Master) (pages it : List Page) → IsLog log → IsLinked log.records
-    → it ≡ map (λ page. image_from page (appended log)) pages → pages ≡ redo_all log.records log.pages
+    → it ≡ map (λ page. image_from page (appended log)) pages → pages ≡ redo_all log.records (page_count log)
     → AreSound log it
 sound_of log master pages it valid linked made whole =
     let r : Recovery = record { log = log; master = master; pages = pages } in
     record {
-      whole = made ∙ undone_whole r whole;
+      whole = made ∙ undone_whole r whole ∙ ap (redo_all (after_undo log.records)) (sym (undone_count log));
       committed = subst (HasCommitted log.records) (sym made) (undone_committed r valid linked whole);
     }
 
 pub restored_of : (files : Files) (log : Log) (master : Master) (pages : List Page) (redo : ℕ) (it : List Page)
     → IsOfLog files.log log → IsOfMaster files.master log.records master
-    → IsChainRead log.pages (end_of log) files.archives pages redo → most_records log ≤ MAX_RECORDS
+    → IsChainRead (counts_of log) (end_of log) files.archives pages redo → most_records log ≤ MAX_RECORDS
     → it ≡ map (λ page. image_from page (appended log)) (map (λ page. resume page log.records redo) pages)
     → IsRestored files it
 restored_of files log master pages redo it of_log of_master of_chain room made =
     let copies = of_chain.copies in
+    let n = page_count log in
     let same : map (λ page. resume page log.records redo) pages ≡ redone_of log copies =
-    ap (λ (ps : List Page). map (λ page. resume page log.records redo) ps) of_chain.made
-    ∙ ap (λ (n : ℕ). map (λ page. resume page log.records n) (contents copies)) of_chain.last in
+    ap (λ (ps : List Page). map (λ page. resume page log.records redo) ps)
+    (of_chain.made ∙ ap (contents copies) (last_count-counts_of log))
+    ∙ ap (λ (from : ℕ). map (λ page. resume page log.records from) (contents copies n)) of_chain.last in
     record {
       log = log;
       master = master;
@@ -122,20 +122,20 @@ restored_of files log master pages redo it of_log of_master of_chain room made =
       room = room;
       made = made ∙ ap (map (λ page. image_from page (appended log))) same;
       sound = λ covers. sound_of log master (map (λ page. resume page log.records redo) pages) it of_log.valid
-          of_log.linked made (same ∙ covering_whole log copies of_log.valid
-          (count_in log.pages copies of_chain.fit of_chain.chain) covers);
+          of_log.linked made (same ∙ covering_whole log copies of_log.valid covers);
     }
 
 -- restored pages stand in order of their numbers, so their bytes spell a volume
 pub restored_spelled : (files : Files) (pages : List Page) → IsRestored files pages
     → SpellsVolume pages (volume_bytes pages)
 restored_spelled files pages it =
-    let chain = contents it.copies in
+    let n = page_count it.log in
+    let chain = contents it.copies n in
     let redo = last_redo it.copies in
     record {
       numbered = subst AreNumbered (sym it.made)
           (numbered-images (redone_of it.log it.copies) (appended it.log)
-          (numbered_resumed chain it.log.records redo (contents_numbered it.copies it.parts.chain)));
+          (numbered_resumed chain it.log.records redo (contents_numbered it.copies n it.parts.chain)));
       spelled = refl;
     }
 
@@ -143,7 +143,7 @@ restored_spelled files pages it =
 
 pub all_restored : (r : Result (Vec Page Global) RestoreFault) (files : Files) (log : Log) (kept : Kept) (losers : List Entry)
     (master : Master) (pages : List Page) (redo : ℕ) → IsOfLog files.log log
-    → IsOfMaster files.master log.records master → IsChainRead log.pages (end_of log) files.archives pages redo
+    → IsOfMaster files.master log.records master → IsChainRead (counts_of log) (end_of log) files.archives pages redo
     → IsRead log kept losers pages
     → IfOk r (λ it. (l : Log) → IsRead l kept losers pages
     → it.items ≡ map (λ page. image_from page (appended l)) (map (λ page. resume page l.records redo) pages))

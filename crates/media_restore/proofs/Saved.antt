@@ -9,7 +9,10 @@ use Rattle.std.proofs.lemmas.List.{length-take-le}
 use Rattle.page_core.specs.declared.page.Page.{Page}
 use Rattle.page_core.specs.Page.{IsPage}
 use Rattle.log_records.specs.Coverage.{Covers, IsPast}
-use Rattle.log_records.specs.Log.{IsLog, Log, SpellsLog, log_bytes}
+use Rattle.page_core.specs.PageCounts.{count_below}
+use Rattle.log_records.specs.Log.{IsLog, Log, SpellsLog, counts_of, log_bytes}
+use Rattle.log_records.proofs.PageCounts.{count_is_first, counts_are_first}
+use Rattle.copy_coverage.specs.Retired.{IsRetired, RetiredView}
 use Rattle.log_records.proofs.Logs.{same_log}
 use Rattle.log_history.specs.Linked.{IsLinked}
 use Rattle.log_history.proofs.Histories.{linked-take}
@@ -93,7 +96,8 @@ past_is_page : (log : Log) (p : ℕ) (page : Page) → IsLog log → p < log.pag
 past_is_page log p page valid lt past =
     subst IsPage (sym past.made)
     (valid-image (record log { records = take past.count log.records }) p
-    (prefix_is_log log past.count valid past.within) lt)
+    (prefix_is_log log past.count valid past.within)
+    (omega (arith, lt, count_is_first (record log { records = take past.count log.records }))))
 
 record HasId (copies : List CopyState) (id : ℕ) : Type 0 where
   least : 1 ≤ id
@@ -107,7 +111,7 @@ has_id copies (suc k) copy is = elim (cases_lt k (length copies)) [
 ]
 
 kind_of : (copies : List CopyState) (copy : CopyView) (kind : CopyKind) → copy.kind ≡ kind
-    → IsComplete copy.kind copy.pages → HasParent copies copy.id (length copy.pages) kind
+    → IsComplete copy.kind copy.pages → HasParent copies copy.id kind
     → IsKindOf kind (header_of copy)
 kind_of copies copy Full is whole parent = all_are_taken copy.pages whole.decided (whole.keeps is)
 kind_of copies copy (Inc from) is whole parent =
@@ -140,8 +144,7 @@ stable log f copies copy older valid are state stands whole =
           few_pages = let most = valid.pages.most in omega arith;
           least_id = id.least;
           most_id = let most = id.most in omega arith;
-          kind = kind_of copies copy copy.kind refl whole
-              (subst (λ (n : ℕ). HasParent copies copy.id n copy.kind) (sym count) is.parent);
+          kind = kind_of copies copy copy.kind refl whole is.parent;
           begin_fits = is.noted.begun.fits;
           begin_at_record = is.noted.begun.aligned;
           redo_at_record = is.noted.redone.aligned;
@@ -165,7 +168,7 @@ all_stable log f copies copy older [] valid are stands follow whole of_vault =
     (stable log f copies copy older valid are of_vault.0 stands whole.0, tt)
 all_stable log f copies copy older (next ∷ more) valid are stands follow whole of_vault =
     let stands' : StandsOn copies next.kind (copy ∷ older) =
-    subst (λ kind. StandsOn copies kind (copy ∷ older)) (sym follow.0.parent) (of_vault.0, stands) in (
+    subst (λ kind. StandsOn copies kind (copy ∷ older)) (sym follow.0) (of_vault.0, stands) in (
       stable log f copies copy older valid are of_vault.0 stands whole.0,
       all_stable log f copies next (copy ∷ older) more valid are stands' follow.1 whole.1 of_vault.1,
     )
@@ -188,12 +191,26 @@ all_weaker P Q (x ∷ xs) weaker all = (weaker x all.0, all_weaker P Q xs weaker
 
 -- ---- the archives
 
-fit_more : (pages : ℕ) (copy : CopyView) (more : List CopyView) → length copy.pages ≡ pages → Follow copy more
-    → FitFrom pages (Inc copy.id) more
-fit_more pages copy [] count follow = tt
-fit_more pages copy (next ∷ more) count follow =
-    let same = follow.0.same_count ∙ count in
-    (record { same_kind = follow.0.parent; same_count = same }, fit_more pages next more same follow.1)
+-- each copy has as many pages as the volume had when it began
+AreWhole : Log → List CopyView → Type 0
+AreWhole log copies = AllByRecursion (λ copy. length copy.pages ≡ count_below (counts_of log) copy.begin) copies
+
+-- no record gives a page count so far
+count_in_all : (log : Log) (begin : ℕ) → count_below (counts_of log) begin ≡ log.pages
+count_in_all log begin = rw (counts_are_first log) refl
+
+whole_members : (log : Log) (it : RetiredView) (copies : List CopyView) → IsRetired it → log.pages ≡ it.log.pages
+    → AllByRecursion (λ copy. state_of it.copies copy.id ≡ complete copy) copies → AreWhole log copies
+whole_members log it [] retired same of_vault = tt
+whole_members log it (copy ∷ copies) retired same of_vault =
+    ((retired.copies.each copy.id copy of_vault.0).whole ∙ sym same ∙ sym (count_in_all log copy.begin),
+    whole_members log it copies retired same of_vault.1)
+
+fit_more : (log : Log) (copy : CopyView) (more : List CopyView) → Follow copy more → AreWhole log more
+    → FitFrom (counts_of log) (Inc copy.id) more
+fit_more log copy [] follow whole = tt
+fit_more log copy (next ∷ more) follow whole =
+    (record { same_kind = follow.0; whole = whole.0 }, fit_more log next more follow.1 whole.1)
 
 spell_copies : (copies : List CopyView) → AllByRecursion IsArchived copies
     → SpellCopies (map (λ (copy : CopyView). Some (archive_bytes copy)) copies) copies
@@ -243,23 +260,21 @@ of_archives : (log : Log) (master : Master) (copies : List CopyView) → AreLeft
     → AreOfArchives (map (λ (copy : CopyView). Some (archive_bytes copy)) copies) log copies
 of_archives log master copies left =
     let chain = left.chain in
-    let of_vault =
-    subst (AllByRecursion (λ c. state_of left.it.copies c.id ≡ complete c)) chain.is left.of_id.of_vault in
-    let count : length chain.first.pages ≡ log.pages =
-    (left.retired.copies.each chain.first.id chain.first of_vault.0).whole
-    ∙ sym (ap (λ (k : Log). k.pages) left.kept.made) in
+    let same = ap (λ (k : Log). k.pages) left.kept.made in
+    let whole = whole_members log left.it copies left.retired same left.of_id.of_vault in
+    let whole' = subst (AreWhole log) chain.is whole in
     record {
       spelled = spell_copies copies (left_archived log master copies left);
-      fit = subst (FitFrom log.pages Full) (sym chain.is) (
-        record { same_kind = chain.full; same_count = count },
-        fit_more log.pages chain.first chain.more count chain.linked,
+      fit = subst (FitFrom (counts_of log) Full) (sym chain.is) (
+        record { same_kind = chain.full; whole = whole'.0 },
+        fit_more log chain.first chain.more chain.linked whole'.1,
       );
       within = left_within log master copies left;
     }
 
 -- the copies are a chain that is right
 pub right_of : (log : Log) (master : Master) (copies : List CopyView) → AreLeft log master copies
-    → IsRightChain log.pages (end_of log) copies
+    → IsRightChain (counts_of log) (end_of log) copies
 right_of log master copies left =
     let of = of_archives log master copies left in
     record {
@@ -285,7 +300,8 @@ pub covering_of : (log : Log) (master : Master) (copies : List CopyView) → Are
 covering_of log master copies left = λ p lt.
     let it = left.it in
     let made = left.kept.made in
-    let within : p < it.log.pages = subst (λ (n : ℕ). p < n) (ap (λ (k : Log). k.pages) made) lt in
+    let within : p < it.log.pages =
+    omega (arith, lt, count_is_first log, ap (λ (k : Log). k.pages) made) in
     let covered = covered_of_members it.log it.forced_end it.copies left.id copies p left.retired.copies left.chain
     left.of_id within in
     let stable = covered.stable in

@@ -3,7 +3,7 @@ use Rattle.std.proofs.Common.{◌≡◌, ◌≤◌, ◌<◌, ◌⊎◌, inl, inr
 use Rattle.std.specs.Prelude.{Option, Some}
 use Rattle.log_records.specs.declared.limits.TheConstants.{MAX_RECORDS}
 use Rattle.log_records.specs.declared.record.Record.{Record}
-use Rattle.log_records.specs.Log.{Log, SpellsLog, log_bytes}
+use Rattle.log_records.specs.Log.{Log, SpellsLog, counts_of, log_bytes}
 use Rattle.log_history.specs.Checkpoint.{IsCompleteCheckpoint}
 use Rattle.log_history.specs.Linked.{IsLinked}
 use Rattle.log_store.specs.declared.fault.LogReadFault.{LogReadFault}
@@ -95,8 +95,8 @@ refused_outside whole master copies fault left (of_the_master other is refused) 
 refused_outside whole master copies fault left (of_the_archives other named is of refused) =
     let same : other ≡ whole = same_log_of whole other is.spelled (log_is whole master copies left) in
     subst IsOutside (sym refused.same) (outside_chain refused.why
-    (from_outside whole.pages (end_of whole) refused.lefts copies refused.why (right_of whole master copies left)
-    (subst (λ (k : Log). AreNoChain k.pages (end_of k) (archives_of copies) refused.lefts refused.why) same
+    (from_outside (counts_of whole) (end_of whole) refused.lefts copies refused.why (right_of whole master copies left)
+    (subst (λ (k : Log). AreNoChain (counts_of k) (end_of k) (archives_of copies) refused.lefts refused.why) same
     refused.refused)))
 refused_outside whole master copies fault left (of_undo other named members parts is full) =
     let same : other ≡ whole = same_log_of whole other parts.of_log.spelled (log_is whole master copies left) in

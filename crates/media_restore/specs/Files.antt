@@ -7,7 +7,7 @@ use Rattle.log_records.specs.declared.limits.TheConstants.{MAX_RECORDS}
 use Rattle.log_records.specs.declared.record.Record.{Record}
 use Rattle.log_records.specs.Coverage.{resume}
 use Rattle.log_records.specs.Image.{image_from, redo_all}
-use Rattle.log_records.specs.Log.{IsLog, Log}
+use Rattle.log_records.specs.Log.{IsLog, Log, page_count}
 use Rattle.log_history.specs.Checkpoint.{IsCompleteCheckpoint}
 use Rattle.log_history.specs.Linked.{IsLinked}
 use Rattle.log_history.specs.Table.{Entry}
@@ -57,14 +57,15 @@ pub record IsRead (log : Log) (k : Kept) (losers : List Entry) (pages : List Pag
   pub linked : IsLinked log.records
   pub kept : k ≡ kept_of log
   pub made : losers ≡ losers_of log.records
-  pub count : length pages ≡ log.pages
+  pub count : length pages ≡ page_count log
   pub numbered : AreNumbered pages
 
 -- ---- what is made of it
 
 -- the pages of the chain, with redo of the log from the redo point of its last copy on
 abbrev pub redone_of : Log → List CopyView → List Page
-redone_of log copies = map (λ page. resume page log.records (last_redo copies)) (contents copies)
+redone_of log copies = map (λ page. resume page log.records (last_redo copies))
+    (contents copies (page_count log))
 
 -- and with the records on them that undo appends to the log
 abbrev pub restored : Log → List CopyView → List Page
@@ -72,7 +73,7 @@ restored log copies = map (λ page. image_from page (appended log)) (redone_of l
 
 -- the pages are those that the log makes with what undo appends to it, and have what was committed
 pub record AreSound (log : Log) (pages : List Page) : Type 0 where
-  pub whole : pages ≡ redo_all (after_undo log.records) log.pages
+  pub whole : pages ≡ redo_all (after_undo log.records) (page_count log)
   pub committed : HasCommitted log.records pages
 
 -- the log's records, with those that its open transactions may still need

@@ -1,6 +1,6 @@
 -- Archives that are read side by side, to a chain of copies.
 use Rattle.std.specs.Prelude.{ℕ, ◌≡◌, List, Option}
-use Rattle.log_records.specs.Log.{Log}
+use Rattle.log_records.specs.Log.{Log, counts_of}
 use Rattle.copy_vault.specs.declared.chain_read_fault.ChainReadFault.{ChainReadFault}
 use Rattle.copy_vault.specs.ChainReading.{AreNoChain}
 use Rattle.media_restore.specs.declared.files_fault.RestoreFault.{RestoreFault}
@@ -13,4 +13,4 @@ pub record ArchivesRefused (inputs : List (Option (List ℕ))) (log : Log) (faul
   pub why : ChainReadFault
   pub same : fault ≡ of_chain why
   pub lefts : List (Option (List ℕ))
-  pub refused : AreNoChain log.pages (end_of log) inputs lefts why
+  pub refused : AreNoChain (counts_of log) (end_of log) inputs lefts why

@@ -2,7 +2,7 @@
 use Rattle.std.specs.Prelude.{ℕ, ◌≡◌, ◌<◌, ◌⊎◌, List, [], length, Option}
 use Rattle.std.specs.Io.KnownBytes.{Consumes}
 use Rattle.page_core.specs.Input.{HasGivenAll, StaysKnown}
-use Rattle.log_records.specs.Log.{Log}
+use Rattle.log_records.specs.Log.{Log, counts_of}
 use Rattle.log_store.specs.declared.fault.LogReadFault.{LogReadFault}
 use Rattle.log_store.specs.declared.master.Master.{Master}
 use Rattle.log_store.specs.declared.master.TheConstants.{MASTER_BYTES}
@@ -55,7 +55,7 @@ pub data StopsIn (old new : Files) (no_master no_archive : Type 0) (fault : Rest
   the_archives : (log : Log) (master : Master) → IsOfLog old.log log
       → HasGivenAll old.log new.log → IsOfMaster old.master log.records master
       → HasGivenAll old.master new.master → (why : ChainReadFault) → fault ≡ of_chain why
-      → AreNoChain log.pages (end_of log) old.archives new.archives why
+      → AreNoChain (counts_of log) (end_of log) old.archives new.archives why
       → StopsIn old new no_master no_archive fault
   behind_all : IsBehindFiles fault → AreReadWhole old new
       → StopsIn old new no_master no_archive fault

@@ -3,7 +3,7 @@ use Rattle.std.specs.Prelude.{ℕ, ◌≡◌, List, length, Option, Some, None, 
 use Rattle.std.specs.List.{All}
 use Rattle.std.specs.Option.{option_map}
 use Rattle.log_records.specs.Image.{redo_all}
-use Rattle.log_records.specs.Log.{Log}
+use Rattle.log_records.specs.Log.{Log, page_count}
 use Rattle.log_history.specs.Work.{work}
 use Rattle.log_store.specs.declared.master.Master.{Master}
 use Rattle.copy_coverage.specs.Kept.{IsKeptOf}
@@ -34,7 +34,7 @@ abbrev pub redone_whole : Log → Master → Recovery
 redone_whole log master = record {
   log = log;
   master = master;
-  pages = redo_all log.records log.pages;
+  pages = redo_all log.records (page_count log);
 }
 
 -- what is restored of a kept log: undo of it, on the pages that redo of all of it makes. So its log
@@ -43,7 +43,7 @@ redone_whole log master = record {
 pub record IsRestored (kept : Log) (it : Recovery) : Type 0 where
   pub redone : it ≡ undone (redone_whole kept it.master)
   pub log : it.log ≡ record kept { records = after_undo kept.records }
-  pub pages : it.pages ≡ redo_all (after_undo kept.records) kept.pages
+  pub pages : it.pages ≡ redo_all (after_undo kept.records) (page_count kept)
   pub committed : HasCommitted kept.records it.pages
 
 -- memory was wanting, and nothing else

@@ -3,6 +3,7 @@
 ghost use Rattle.std.specs.Prelude.{◌≡◌, List, map, IfOk, IfErr, OnOk, OnErr, None, Some};
 ghost use Rattle.log_records.specs.Coverage.{resume};
 ghost use Rattle.log_records.specs.Image.{redo_all};
+ghost use Rattle.log_records.specs.Log.{page_count};
 ghost use Rattle.copy_vault.specs.Chain.{IsChain, IsChainOf, contents, last_redo};
 ghost use Rattle.copy_vault.specs.Copy.{CopyView};
 ghost use Rattle.copy_coverage.specs.Kept.{IsKeptOf};
@@ -11,7 +12,6 @@ ghost use Rattle.media_restore.specs.Load.{LoadRefuses, copy_refusal, kept_log, 
 ghost use Rattle.copy_vault.specs.Vault.{state_of};
 ghost use Rattle.media_restore.specs.declared.fault.LoadFault.TheVariants.{OutOfMemory};
 
-use crate::copied::copied_pages;
 use crate::fault::LoadFault;
 use crate::loaded::Loaded;
 use copy_coverage::Retired;
@@ -35,12 +35,12 @@ pub fn load(
     ensures room { IfOk result (λ it. HasRoom it.log.records) }
     ensures master { IfOk result (λ it. retired.master ≡ Some it.master) }
     ensures chain { IfOk result (λ it. (members : List CopyView) × IsChain members
-        × IsChainOf retired.copies copy members × (it.pages ≡ contents members)
+        × IsChainOf retired.copies copy members × (it.pages ≡ contents members (page_count it.log))
         × (it.redo ≡ last_redo members)) }
     // Redo from the redo point on makes what redo of the whole kept log makes.
     ensures restores { IfOk result (λ it.
         map (λ page. resume page it.log.records it.redo) it.pages
-        ≡ redo_all it.log.records it.log.pages) }
+        ≡ redo_all it.log.records (page_count it.log)) }
     ensures ok { OnOk result (load_refusal retired copy cut ≡ None) }
     ensures err { IfErr result (λ e. LoadRefuses (load_refusal retired copy cut) e.1) }
     ensures same { IfErr result (λ e. e.0 ≡ retired) }
@@ -48,7 +48,8 @@ pub fn load(
     if let Some(fault) = refusal_of(&retired, copy, cut) {
         return Err((retired, fault));
     }
-    let (pages, redo) = match loaded_pages(alloc, retired.vault(), copy) {
+    let count = retired.log().page_count();
+    let (pages, redo) = match loaded_pages(alloc, retired.vault(), copy, count) {
         Ok(loaded) => loaded,
         Err(_) => return Err((retired, LoadFault::OutOfMemory)),
     };
@@ -100,17 +101,22 @@ fn copy_refusal(vault: &Vault, copy: CopyId) -> Option<LoadFault>
     }
 }
 
-/// The pages of the chain that ends with a complete copy, and the LSN from which on the log is to
-/// be redone over them.
-fn loaded_pages(alloc: Global, vault: &Vault, copy: CopyId) -> Result<(Vec<Page>, Lsn), LoadFault>
+/// So many pages of the chain that ends with a complete copy, and the LSN from which on the log is
+/// to be redone over them.
+fn loaded_pages(
+    alloc: Global,
+    vault: &Vault,
+    copy: CopyId,
+    count: u32,
+) -> Result<(Vec<Page>, Lsn), LoadFault>
     requires { copy_refusal (state_of vault.now.copies copy) ≡ None }
     ensures chain { IfOk result (λ it. (members : List CopyView) × IsChain members
-        × IsChainOf vault.now.copies copy members × (it.0.items ≡ contents members)
+        × IsChainOf vault.now.copies copy members × (it.0.items ≡ contents members count)
         × (it.1 ≡ last_redo members)) }
     ensures err { IfErr result (λ fault. fault ≡ OutOfMemory) }
 {
     let chain = vault
         .chain(alloc, copy)
         .map_err(|_| LoadFault::OutOfMemory)?;
-    Ok((copied_pages(alloc, &chain)?, chain.redo()))
+    Ok((chain.contents(alloc, count)?, chain.redo()))
 }

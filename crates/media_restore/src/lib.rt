@@ -2,7 +2,6 @@
 #![tactic(auto)]
 
 mod audit_laws;
-mod copied;
 mod copy_load;
 mod fault;
 mod files;

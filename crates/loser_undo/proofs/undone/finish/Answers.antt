@@ -17,7 +17,7 @@ append_all-records-requires-clause-valid c =
 
 pub invariant_of-result : goal.invariant_of-result
 invariant_of-result c =
-    let log : Log = record { pages = c.args.page_count; records = c.args.records.items } in
+    let log : Log = record { pages = c.args.first_count; records = c.args.records.items } in
     let is = c.requires.recovery in
     let linked = c.requires.losers.linked in
     let new = drop (length log.records) (after_undo log.records) in

@@ -2,13 +2,14 @@ use Rattle.std.proofs.Common.{◌≡◌, ◌∙◌, ℕ, List, map, sym, ap, sub
 use Rattle.page_core.specs.declared.page.Page.{Page}
 use Rattle.log_records.specs.Coverage.{resume}
 use Rattle.log_records.specs.Image.{redo_all}
-use Rattle.log_records.specs.Log.{Log}
+use Rattle.log_records.specs.Log.{Log, page_count}
+use Rattle.log_records.proofs.PageCounts.{count_is_first}
 use Rattle.copy_vault.specs.Chain.{IsChainOf, contents}
 use Rattle.copy_vault.specs.Vault.{CopyState}
 use Rattle.copy_coverage.specs.Kept.{IsKeptOf}
 use Rattle.copy_coverage.specs.Retired.{HasRoom}
 use Rattle.media_restore.specs.Load.{IsLoaded, LoadedView, kept_log}
-use Rattle.media_restore.proofs.Loads.{all_restored, cut_is_fine, kept_of, loaded, room_of}
+use Rattle.media_restore.proofs.Loads.{all_restored, cut_is_fine, kept_count, kept_of, loaded, room_of}
 use Rattle.media_restore.proofs.copy_load.load.Goals as goal
 
 pub new-requires : goal.new-requires
@@ -25,11 +26,16 @@ new-requires c =
     c.keep_first.ensures ∙ ap (λ (log : Log). kept_log log c.args.cut) c.into_log-log.ensures in
     let pages = c.in-Ok.loaded.0.items in
     let redo = c.in-Ok.loaded.1 in
+    let n = page_count (kept_log it.log c.args.cut) in
+    let count : c.page_count-count.result ≡ n =
+    c.page_count-count.ensures.count ∙ ap page_count c.log.ensures ∙ count_is_first it.log
+    ∙ sym (kept_count it c.args.cut) in
+    let pages_are : pages ≡ contents members n = found.3 ∙ ap (contents members) count in
     let made : Log → List Page → ℕ → Type 0 =
     λ log ps from. IsLoaded (record { log = log; master = master; pages = ps; redo = from }) in
     subst (λ (log : Log). made log pages redo) (sym log)
-    (subst (λ (ps : List Page). made (kept_log it.log c.args.cut) ps redo) (sym found.3)
-    (subst (made (kept_log it.log c.args.cut) (contents members)) (sym found.4)
+    (subst (λ (ps : List Page). made (kept_log it.log c.args.cut) ps redo) (sym pages_are)
+    (subst (made (kept_log it.log c.args.cut) (contents members n)) (sym found.4)
     (loaded it c.args.cut c.args.copy master members retired c.noted_master-master.ensures found.1 of_id fine)))
 
 pub returns-clause-restores : goal.returns-clause-restores
@@ -45,14 +51,19 @@ returns-clause-restores c =
     c.keep_first.ensures ∙ ap (λ (log : Log). kept_log log c.args.cut) c.into_log-log.ensures in
     let pages = c.in-Ok.loaded.0.items in
     let redo = c.in-Ok.loaded.1 in
+    let n = page_count (kept_log it.log c.args.cut) in
+    let count : c.page_count-count.result ≡ n =
+    c.page_count-count.ensures.count ∙ ap page_count c.log.ensures ∙ count_is_first it.log
+    ∙ sym (kept_count it c.args.cut) in
+    let pages_are : pages ≡ contents members n = found.3 ∙ ap (contents members) count in
     subst (λ (it : LoadedView). map (λ page. resume page it.log.records it.redo) it.pages
-    ≡ redo_all it.log.records it.log.pages)
+    ≡ redo_all it.log.records (page_count it.log))
     (sym c.new.ensures)
-    (subst (λ (log : Log). map (λ page. resume page log.records redo) pages ≡ redo_all log.records log.pages) (sym log)
+    (subst (λ (log : Log). map (λ page. resume page log.records redo) pages ≡ redo_all log.records (page_count log)) (sym log)
     (subst (λ (ps : List Page). map (λ page. resume page (kept_log it.log c.args.cut).records redo) ps
-    ≡ redo_all (kept_log it.log c.args.cut).records it.log.pages) (sym found.3)
-    (subst (λ (from : ℕ). map (λ page. resume page (kept_log it.log c.args.cut).records from) (contents members)
-    ≡ redo_all (kept_log it.log c.args.cut).records it.log.pages) (sym found.4)
+    ≡ redo_all (kept_log it.log c.args.cut).records n) (sym pages_are)
+    (subst (λ (from : ℕ). map (λ page. resume page (kept_log it.log c.args.cut).records from)
+    (contents members n) ≡ redo_all (kept_log it.log c.args.cut).records n) (sym found.4)
     (all_restored it c.args.cut c.args.copy members retired found.1 of_id (kept_of it c.args.cut retired fine)))))
 
 pub returns-clause-kept : goal.returns-clause-kept
