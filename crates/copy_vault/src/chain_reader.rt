@@ -1,6 +1,7 @@
 //! Gives the pages of a chain from the readers of its archives.
 
-ghost use Rattle.std.specs.Prelude.{ℕ, ◌≡◌, ◌<◌, ◌≤◌, ◌↔◌, [], IsTrue, List, length, map, slice_index_or};
+ghost use Rattle.std.specs.Prelude.{ℕ, ◌≡◌, ◌<◌, ◌≤◌, ◌↔◌, [], IsTrue, List, length, map};
+ghost use Rattle.std.specs.Prelude.{slice_index_or};
 ghost use Rattle.std.specs.Prelude.{Option, Ok, Err, Some, None, IfOk, IfErr, slice_index, true};
 ghost use Rattle.std.specs.Prelude.{false};
 ghost use Rattle.page_core.specs.PageCounts.{PageCounts, last_count};
@@ -213,8 +214,8 @@ impl ChainReader {
     }
 }
 
-/// Reads the header of an archive, which has to be of a copy of this kind, and of each page that the
-/// volume had when it began.
+/// Reads the header of an archive, which has to be of a copy of this kind, and of each page that
+/// the volume had when it began.
 fn open_fitting<R: Read>(
     reader: &mut R,
     counts: &PageCounts,

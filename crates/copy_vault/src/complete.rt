@@ -93,7 +93,8 @@ impl CompleteCopy {
         self.redo
     }
 
-    /// How many pages the volume had when the copy began. Of each of them it is decided whether the copy has it.
+    /// How many pages the volume had when the copy began. Of each of them it is decided whether the
+    /// copy has it.
     pub fn pages(&self) -> u32
         ensures count { result ≡ length self.now.pages }
         ensures complete { IsComplete self.now.kind self.now.pages }

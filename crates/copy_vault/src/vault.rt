@@ -128,9 +128,9 @@ impl Vault {
         self.open(alloc, CopyKind::Full, Lsn(0), pages, begin, redo)
     }
 
-    /// Begins an incremental copy of so many pages, whose parent is the copy of this id, and answers
-    /// its id: one more than the last one. It notes a checkpoint by its begin LSN and redo point.
-    /// Refusals in order: `NoCopy` and `CopyNotComplete` of the parent, `TooManyCopies`,
+    /// Begins an incremental copy of so many pages, whose parent is the copy of this id, and
+    /// answers its id: one more than the last one. It notes a checkpoint by its begin LSN and redo
+    /// point. Refusals in order: `NoCopy` and `CopyNotComplete` of the parent, `TooManyCopies`,
     /// `OutOfMemory`.
     pub fn open_inc(
         &mut self,

@@ -95,16 +95,9 @@ fn plain_pages(alloc: Global, log: &LogImage) -> Result<Vec<Page>, AllocError> {
 fn redone_sum(alloc: Global, retired: &Retired, id: CopyId) -> Result<u64, Fault> {
     let log = retired.log();
     let chain = retired.vault().chain(alloc, id)?;
-    let contents = chain.contents(alloc)?;
-    let mut pages = Vec::with_capacity(alloc, contents.len())?;
-    for content in &contents {
-        let mut page = Page {
-            number: content.number,
-            lsn: content.lsn,
-            slots: content.slots,
-        };
-        redo_page(&mut page, log.records());
-        pages.push(page)?;
+    let mut pages = chain.contents(alloc, log.page_count())?;
+    for page in pages.iter_mut() {
+        redo_page(page, log.records());
     }
     if pages != plain_pages(alloc, log)? {
         return Err(Fault::Differs(id.0));

@@ -2,7 +2,7 @@
 
 use crate::bytes::{FULL, Head, archive, next};
 use copy_vault::{ChainReadFault, ChainReader, CopyId};
-use page_core::Lsn;
+use page_core::{Lsn, PageCounts};
 use std::test::Fail;
 
 #[test]
@@ -16,7 +16,8 @@ fn each_copy_gives_its_own_page(rt: HostRuntime) -> Result<(), Fail> {
     };
     let last = archive(alloc, taken, 256, 4)?;
     let mut readers = [full.as_slice(), kept.as_slice(), last.as_slice()];
-    let Ok(mut chain) = ChainReader::new(alloc, &mut readers, 1, Lsn(512)) else {
+    let counts = PageCounts::new(alloc, 1);
+    let Ok(mut chain) = ChainReader::new(alloc, &mut readers, &counts, Lsn(512)) else {
         return Err(Fail::new("the chain is refused"));
     };
     assert_eq!(rt; chain.id_at(2), CopyId(3));
@@ -44,7 +45,8 @@ fn a_refusal_of_rows_is_answered_again(rt: HostRuntime) -> Result<(), Fail> {
     let mut cut = archive(alloc, FULL, 64, 3)?;
     cut.truncate(100);
     let mut readers = [cut.as_slice()];
-    let Ok(mut chain) = ChainReader::new(alloc, &mut readers, 1, Lsn(512)) else {
+    let counts = PageCounts::new(alloc, 1);
+    let Ok(mut chain) = ChainReader::new(alloc, &mut readers, &counts, Lsn(512)) else {
         return Err(Fail::new("the chain is refused"));
     };
     let mut row = [None];

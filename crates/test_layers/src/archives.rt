@@ -5,7 +5,7 @@ use copy_vault::{
     ArchiveFault, ArchiveWriteFault, Chain, ChainFault, CompleteCopy, CopyFault, CopyId, CopyKind,
     Decision, Vault, read_archive, write_archive,
 };
-use page_core::{Lsn, PAGE_BYTES, Page, PageNo};
+use page_core::{Lsn, PAGE_BYTES, Page, PageCounts, PageNo};
 use std::alloc::Global;
 use std::io;
 use std::io::{ErrorKind, Read};
@@ -97,7 +97,7 @@ fn copy_two(
 ) -> Result<CopyId, Fail> {
     let [zero, one] = pages;
     let first = vault.open_full(alloc, 2, Lsn(64), Lsn(64))?;
-    let refused = vault.open_inc(alloc, first, Lsn(384), Lsn(384));
+    let refused = vault.open_inc(alloc, first, 2, Lsn(384), Lsn(384));
     same(rt, &refused, &Err(CopyFault::CopyNotComplete));
     take(alloc, vault, first, one)?;
     take(alloc, vault, first, zero)?;
@@ -114,7 +114,7 @@ fn take_one(
     pages: &[Page; 2],
 ) -> Result<CopyId, Fail> {
     let [zero, one] = pages;
-    let next = vault.open_inc(alloc, first, Lsn(384), Lsn(384))?;
+    let next = vault.open_inc(alloc, first, 2, Lsn(384), Lsn(384))?;
     same(rt, &take(alloc, vault, next, one)?, &Decision::Taken);
     same(rt, &take(alloc, vault, next, zero)?, &Decision::Kept);
     let refused = vault.chain(alloc, next).err();
@@ -134,11 +134,15 @@ fn assert_chain(
     wanted: &[Lsn],
 ) -> Result<(), Fail> {
     let chain = vault.chain(alloc, last)?;
-    same(rt, &(chain.pages(), chain.redo()), &(2, Lsn(384)));
+    same(rt, &chain.redo(), &Lsn(384));
+    let none = PageNo(2);
+    same(rt, &chain.content(none), &Page::formatted(none));
+    let pages = chain.contents(alloc, 2)?;
     let mut lsns = Vec::new(alloc);
-    for page in chain.contents(alloc)? {
+    for page in &pages {
         lsns.push(page.lsn)?;
     }
+    drop(pages);
     same(rt, &lsns.as_slice(), &wanted);
     Ok(())
 }
@@ -244,7 +248,7 @@ fn two_copies(alloc: Global) -> Result<Vec<CompleteCopy>, Fail> {
 
 /// Why these copies are no chain, if they are none.
 fn linked(alloc: Global, copies: &[CompleteCopy], pages: u32) -> Option<ChainFault> {
-    Chain::link(alloc, copies, pages).err()
+    Chain::link(alloc, copies, &PageCounts::new(alloc, pages)).err()
 }
 
 #[test]

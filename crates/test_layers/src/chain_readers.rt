@@ -2,7 +2,7 @@
 
 use crate::asserts::same;
 use copy_vault::{ChainReadFault, ChainReader, CopyId, read_chain_pages};
-use page_core::{Lsn, Page, PageNo};
+use page_core::{GivenCount, Lsn, Page, PageCounts, PageNo};
 use std::alloc::Global;
 use std::io;
 use std::io::{ErrorKind, Read};
@@ -66,7 +66,8 @@ fn read_all<R: Read>(
     (pages, end): (u32, u64),
     given: &mut Vec<(u32, u64)>,
 ) -> Result<Option<ChainReadFault>, Fail> {
-    match ChainReader::new(alloc, readers, pages, Lsn(end)) {
+    let counts = PageCounts::new(alloc, pages);
+    match ChainReader::new(alloc, readers, &counts, Lsn(end)) {
         Ok(mut chain) => {
             let fault = take_all(&mut chain, readers, given);
             drop(chain);
@@ -120,7 +121,8 @@ fn all_pages_of_a_chain_are_read(rt: HostRuntime) -> Result<(), Fail> {
     let full = archive(alloc, (1, 0), (2, 64), &[(0, 0), (1, 0)])?;
     let next = archive(alloc, (2, 1), (2, 384), &[(1, 256)])?;
     let mut readers = [full.as_slice(), next.as_slice()];
-    let Ok((pages, redo)) = read_chain_pages(alloc, &mut readers, 2, Lsn(512)) else {
+    let counts = PageCounts::new(alloc, 2);
+    let Ok((pages, redo)) = read_chain_pages(alloc, &mut readers, &counts, Lsn(512)) else {
         return Err(Fail::new("the chain is refused"));
     };
     let mut lsns = Vec::new(alloc);
@@ -131,6 +133,54 @@ fn all_pages_of_a_chain_are_read(rt: HostRuntime) -> Result<(), Fail> {
     let wanted = [Lsn(0), Lsn(256)];
     same(&rt, &lsns.as_slice(), &wanted.as_slice());
     same(&rt, &redo, &Lsn(384));
+    Ok(())
+}
+
+/// The page counts of a volume of two pages that has four behind the record at 128, and five behind
+/// that at 256.
+fn grown(alloc: Global) -> Result<PageCounts, Fail> {
+    let mut counts = PageCounts::new(alloc, 2);
+    for (lsn, pages) in [(128, 4), (256, 5)] {
+        counts.note(GivenCount {
+            lsn: Lsn(lsn),
+            pages,
+        })?;
+    }
+    Ok(counts)
+}
+
+#[test]
+fn all_pages_of_a_volume_that_grew_are_read(rt: HostRuntime) -> Result<(), Fail> {
+    let alloc = rt.alloc();
+    let full = archive(alloc, (1, 0), (2, 64), &[(0, 64), (1, 0)])?;
+    let next = archive(alloc, (2, 1), (4, 192), &[(2, 128)])?;
+    let mut readers = [full.as_slice(), next.as_slice()];
+    let counts = grown(alloc)?;
+    let Ok((pages, redo)) = read_chain_pages(alloc, &mut readers, &counts, Lsn(512)) else {
+        return Err(Fail::new("the chain is refused"));
+    };
+    let mut given = Vec::new(alloc);
+    for page in &pages {
+        given.push((page.number.0, page.lsn.0))?;
+    }
+    drop(pages);
+    let wanted = [(0, 64), (1, 0), (2, 128), (3, 0), (4, 0)];
+    same(&rt, &given.as_slice(), &wanted.as_slice());
+    same(&rt, &redo, &Lsn(192));
+    Ok(())
+}
+
+#[test]
+fn an_archive_has_the_page_count_at_its_begin(rt: HostRuntime) -> Result<(), Fail> {
+    let alloc = rt.alloc();
+    let full = archive(alloc, (1, 0), (2, 64), &[(0, 64), (1, 0)])?;
+    let counts = grown(alloc)?;
+    for count in [2, 5] {
+        let next = archive(alloc, (2, 1), (count, 192), &[])?;
+        let mut readers = [full.as_slice(), next.as_slice()];
+        let fault = read_chain_pages(alloc, &mut readers, &counts, Lsn(512)).err();
+        same(&rt, &fault, &Some(ChainReadFault::ChainBroken(CopyId(2))));
+    }
     Ok(())
 }
 

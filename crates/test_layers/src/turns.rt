@@ -5,7 +5,7 @@ use crate::chain_readers::archive;
 use copy_vault::{ArchiveFault, ChainReadFault, read_archive, read_chain_pages};
 use log_records::{Record, encode, encode_header};
 use log_store::{LogReadFault, read_log};
-use page_core::{Lsn, TxnNo};
+use page_core::{Lsn, PageCounts, TxnNo};
 use std::io;
 use std::io::{ErrorKind, Read};
 use std::process::Abort;
@@ -106,7 +106,8 @@ fn assert_beside(
         Stalls::new(full.as_slice(), 512),
         Stalls::new(next.get(..given).unwrap_or(&[]), 512),
     ];
-    let fault = read_chain_pages(alloc, &mut readers, 3, Lsn(512)).err();
+    let counts = PageCounts::new(alloc, 3);
+    let fault = read_chain_pages(alloc, &mut readers, &counts, Lsn(512)).err();
     same(rt, &fault, &Some(ChainReadFault::ReadFault));
     let calls = if is_first {
         readers[0].calls
