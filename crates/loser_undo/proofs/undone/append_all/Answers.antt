@@ -8,6 +8,7 @@ use Rattle.loser_undo.proofs.Pages.{log_and_appended}
 use Rattle.loser_undo.proofs.Undoing.{IsOnWay, log_of, next_counted, next_fits, next_on_way, next_within}
 use Rattle.loser_undo.proofs.Undoing.{still_numbered, way_begins, way_ends}
 use Rattle.loser_undo.proofs.undone.append_all.Goals as goal
+use Rattle.log_records.proofs.PageCounts.{count_is_first}
 
 pub loop-next-init : goal.loop-next-init
 loop-next-init c =
@@ -17,7 +18,8 @@ loop-next-init c =
       behind = [];
       way = subst (λ (u : UndoView). IsOnWay (log_of start rs) start [] u start) (sym c.new-undo.ensures)
           (way_begins (log_of start rs) start c.args.losers c.len.result c.requires.valid c.requires.losers
-          (omega (arith, c.len.ensures, c.args.records.ok.0)) c.requires.room refl c.requires.numbered);
+          (omega (arith, c.len.ensures, c.args.records.ok.0)) c.requires.room
+          (sym (count_is_first (log_of start rs))) c.requires.numbered);
       appended = sym (append-nil rs);
       capacity_is = refl;
     }

@@ -2,7 +2,9 @@ use Rattle.std.proofs.Common.{drop, length, sym, ap, subst, ◌∙◌}
 use Rattle.std.proofs.lemmas.List.{length-map}
 use Rattle.page_core.specs.Volume.{AreNumbered}
 use Rattle.log_records.specs.Image.{image_from}
-use Rattle.log_records.specs.Log.{IsLog, Log}
+use Rattle.log_records.specs.Log.{IsLog, Log, page_count}
+use Rattle.log_records.proofs.PageCounts.{count_is_first}
+use Rattle.loser_undo.proofs.Pages.{undone_count}
 use Rattle.log_records.proofs.Images.{numbered-images}
 use Rattle.log_history.specs.Linked.{IsLinked}
 use Rattle.log_history.specs.Transactions.{open_in}
@@ -13,7 +15,8 @@ use Rattle.loser_undo.proofs.undone.finish.Goals as goal
 pub append_all-records-requires-clause-valid : goal.append_all-records-requires-clause-valid
 append_all-records-requires-clause-valid c =
     let is = c.requires.recovery in
-    subst (λ n. IsLog (record { pages = n; records = c.args.records.items })) (sym is.count) is.valid
+    subst (λ n. IsLog (record { pages = n; records = c.args.records.items })) 
+    (sym (is.count ∙ count_is_first (record { pages = c.args.first_count; records = c.args.records.items }))) is.valid
 
 pub invariant_of-result : goal.invariant_of-result
 invariant_of-result c =
@@ -27,7 +30,8 @@ invariant_of-result c =
             (undone_fits log is.valid linked c.requires.room);
         linked = subst IsLinked (sym c.append_all-records.ensures.records) (undo_is_linked log is.valid linked);
         count = ap length c.append_all-records.ensures.pages ∙ length-map c.args.pages.items (λ page. image_from page new)
-            ∙ is.count;
+            ∙ is.count ∙ undone_count log
+            ∙ ap (λ rs. page_count (record log { records = rs })) (sym c.append_all-records.ensures.records);
         numbered = subst AreNumbered (sym c.append_all-records.ensures.pages)
             (numbered-images c.args.pages.items new is.numbered);
       };
