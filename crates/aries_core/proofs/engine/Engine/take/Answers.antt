@@ -1,4 +1,4 @@
-use Rattle.std.proofs.Common.{◌≡◌, ◌∙◌, sym, ap, subst, refl}
+use Rattle.std.proofs.Common.{arith, ◌≡◌, ◌∙◌, sym, ap, subst, refl}
 use Rattle.std.specs.Prelude.{None, Ok}
 use Rattle.aries_core.specs.declared.event.Event.TheVariants as event
 use Rattle.aries_core.specs.EngineState.{engine_view}
@@ -17,6 +17,8 @@ use Rattle.buffer_pool.proofs.Fetching.{read_is}
 use Rattle.aries_core.specs.Asked.{Asks, a_page}
 use Rattle.aries_core.specs.EngineState.{EngineView}
 use Rattle.aries_core.proofs.Asks.{always}
+use Rattle.copy_coverage.specs.Copied.{copy_in}
+use Rattle.aries_core.proofs.Refusals.{take_passes}
 
 pub decide-requires-clause-there : goal.decide-requires-clause-there
 decide-requires-clause-there g c =
@@ -90,3 +92,16 @@ returns-clause-asked g c =
     (subst (λ (v : EngineView g.row.S.Denot g.row.D.Denot). Asks gave wrote (a_page p) v new) c.self.view_is
     (subst (λ (x : Page). gave it.pool.store p (Ok x) c.stored.new.self.store)
     (read_is (stored it.pool.store) p c.in-Ok.stored (formatted p) c.in-Ok.ensures.found) c.in-Ok.ensures.gave))
+
+pub stored-requires : goal.stored-requires
+stored-requires g c =
+    let it = c.self.inside in
+    let s = (engine_view g.S.PageStore.stored it.log it.pool
+    (media_view it.master it.session it.vault.copies it.returns.made)).state in
+    let fit = c.self.invariant.fit in
+    let none : refusal s (event.Take c.args.copy c.args.page) ≡ None =
+    subst (λ v. refusal v.state (event.Take c.args.copy c.args.page) ≡ None) (sym c.self.view_is)
+    c.in_ok-find_takeable.ensures.free in
+    let passes = take_passes s c.args.copy c.args.page none in
+    let whole = (fit.copied.each c.args.copy passes.view (ap copy_in passes.is_read)).whole in
+    omega (arith, passes.within, whole, fit.counted.stored, c.self.invariant.pool_of_log.pages)

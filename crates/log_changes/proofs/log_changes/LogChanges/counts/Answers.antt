@@ -1,4 +1,4 @@
-use Rattle.std.proofs.Common.{◌∙◌, ap, sym}
+use Rattle.std.proofs.Common.{[], ◌∙◌, ap, sym}
 use Rattle.page_core.specs.PageCounts.{PageCounts}
 use Rattle.log_changes.specs.Kept.{Kept}
 use Rattle.log_records.proofs.PageCounts.{counts_are_first}
