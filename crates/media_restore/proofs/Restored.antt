@@ -45,6 +45,7 @@ use Rattle.media_restore.specs.Files.{Leaves, Refused, most_records, redone_of}
 use Rattle.media_restore.specs.Files.{of_the_log, of_the_master, of_the_archives, of_undo, of_memory}
 use Rattle.media_restore.specs.FilesArchives.{AreOfArchives, end_of}
 use Rattle.media_restore.specs.FilesFault as from
+use Rattle.loser_undo.specs.Undo.{after_undo}
 
 -- ---- redo of the pages of a chain
 

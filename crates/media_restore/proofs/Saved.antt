@@ -9,7 +9,7 @@ use Rattle.std.proofs.lemmas.List.{length-take-le}
 use Rattle.page_core.specs.declared.page.Page.{Page}
 use Rattle.page_core.specs.Page.{IsPage}
 use Rattle.log_records.specs.Coverage.{Covers, IsPast}
-use Rattle.page_core.specs.PageCounts.{count_below}
+use Rattle.page_core.specs.PageCounts.{PageCounts, count_below}
 use Rattle.log_records.specs.Log.{IsLog, Log, SpellsLog, counts_of, log_bytes}
 use Rattle.log_records.proofs.PageCounts.{count_is_first, counts_are_first}
 use Rattle.copy_coverage.specs.Retired.{IsRetired, RetiredView}
@@ -192,12 +192,12 @@ all_weaker P Q (x ∷ xs) weaker all = (weaker x all.0, all_weaker P Q xs weaker
 -- ---- the archives
 
 -- each copy has as many pages as the volume had when it began
-AreWhole : Log → List CopyView → Type 0
+abbrev AreWhole : Log → List CopyView → Type 0
 AreWhole log copies = AllByRecursion (λ copy. length copy.pages ≡ count_below (counts_of log) copy.begin) copies
 
 -- no record gives a page count so far
 count_in_all : (log : Log) (begin : ℕ) → count_below (counts_of log) begin ≡ log.pages
-count_in_all log begin = rw (counts_are_first log) refl
+count_in_all log begin = ap (λ (counts : PageCounts). count_below counts begin) (counts_are_first log)
 
 whole_members : (log : Log) (it : RetiredView) (copies : List CopyView) → IsRetired it → log.pages ≡ it.log.pages
     → AllByRecursion (λ copy. state_of it.copies copy.id ≡ complete copy) copies → AreWhole log copies

@@ -4,7 +4,8 @@ use Rattle.log_records.specs.Coverage.{resume}
 use Rattle.log_records.specs.Image.{redo_all}
 use Rattle.log_records.specs.Log.{Log, page_count}
 use Rattle.log_records.proofs.PageCounts.{count_is_first}
-use Rattle.copy_vault.specs.Chain.{IsChainOf, contents}
+use Rattle.copy_vault.specs.Chain.{IsChain, IsChainOf, contents, last_redo}
+use Rattle.copy_vault.specs.Copy.{CopyView}
 use Rattle.copy_vault.specs.Vault.{CopyState}
 use Rattle.copy_coverage.specs.Kept.{IsKeptOf}
 use Rattle.copy_coverage.specs.Retired.{HasRoom}
@@ -28,7 +29,7 @@ new-requires c =
     let redo = c.in-Ok.loaded.1 in
     let n = page_count (kept_log it.log c.args.cut) in
     let count : c.page_count-count.result ≡ n =
-    c.page_count-count.ensures.count ∙ ap page_count c.log.ensures ∙ count_is_first it.log
+    c.page_count-count.ensures.count ∙ ap page_count c.log.ensures.log ∙ count_is_first it.log
     ∙ sym (kept_count it c.args.cut) in
     let pages_are : pages ≡ contents members n = found.3 ∙ ap (contents members) count in
     let made : Log → List Page → ℕ → Type 0 =
@@ -53,7 +54,7 @@ returns-clause-restores c =
     let redo = c.in-Ok.loaded.1 in
     let n = page_count (kept_log it.log c.args.cut) in
     let count : c.page_count-count.result ≡ n =
-    c.page_count-count.ensures.count ∙ ap page_count c.log.ensures ∙ count_is_first it.log
+    c.page_count-count.ensures.count ∙ ap page_count c.log.ensures.log ∙ count_is_first it.log
     ∙ sym (kept_count it c.args.cut) in
     let pages_are : pages ≡ contents members n = found.3 ∙ ap (contents members) count in
     subst (λ (it : LoadedView). map (λ page. resume page it.log.records it.redo) it.pages
@@ -82,3 +83,24 @@ returns-clause-room c =
     c.keep_first.ensures ∙ ap (λ (log : Log). kept_log log c.args.cut) c.into_log-log.ensures in
     subst (λ (it' : LoadedView). HasRoom it'.log.records) (sym c.new.ensures)
     (subst (λ (log : Log). HasRoom log.records) (sym log) (room_of it c.args.cut c.refusal_of.ensures.kept))
+
+pub returns-clause-chain : goal.returns-clause-chain
+returns-clause-chain c =
+    let it = c.args.retired in
+    let found = c.in-Ok.ensures.chain in
+    let members = found.0 in
+    let of_id : IsChainOf it.copies c.args.copy members =
+    subst (λ (copies : List CopyState). IsChainOf copies c.args.copy members) c.vault.ensures found.2 in
+    let log : c.keep_first.new.self ≡ kept_log it.log c.args.cut =
+    c.keep_first.ensures ∙ ap (λ (log : Log). kept_log log c.args.cut) c.into_log-log.ensures in
+    let count : c.page_count-count.result ≡ page_count (kept_log it.log c.args.cut) =
+    c.page_count-count.ensures.count ∙ ap page_count c.log.ensures.log ∙ count_is_first it.log
+    ∙ sym (kept_count it c.args.cut) in
+    subst (λ (it' : LoadedView). (ms : List CopyView) × IsChain ms × IsChainOf it.copies c.args.copy ms
+    × (it'.pages ≡ contents ms (page_count it'.log)) × (it'.redo ≡ last_redo ms)) (sym c.new.ensures) (
+      members,
+      found.1,
+      of_id,
+      found.3 ∙ ap (contents members) count ∙ ap (λ (l : Log). contents members (page_count l)) (sym log),
+      found.4,
+    )
