@@ -14,6 +14,7 @@ pub mod Undoing
 pub mod Valid
 pub mod Resumed
 pub mod Seen
+pub mod Stacks
 pub mod Tails
 pub mod Traced
 pub mod Held

@@ -28,7 +28,7 @@ use Rattle.log_history.proofs.Pushes.{is_rolling_push, last_lsn_push, pending_pu
 use Rattle.log_history.proofs.Steps.{entry_from, entry_of_push_other}
 use Rattle.loser_undo.specs.Losers.{IsTraced, Leads, LeadsToAbort, Stands, before_comp, change_by, way_back}
 use Rattle.loser_undo.proofs.Lost.{last_apart}
-use Rattle.loser_undo.proofs.Rising.{ArePlaced}
+use Rattle.loser_undo.proofs.Rising.{ArePlaced, log_placed}
 use Rattle.log_records.proofs.PageCounts.{stands_in}
 use Rattle.log_records.specs.Log.{page_count}
 
@@ -58,7 +58,7 @@ stands_one rs at x y sx sy =
     let same : sx.place ≡ sy.place = omega (arith, sx.at_is, sy.at_is) in
     sym (sx.is x) ∙ ap (λ n. get_or rs n x) same ∙ sy.is x
 
-still_leads : (rs : List Record) (r : Record) (t first at : ℕ) (way : List Record) → Leads rs t first at way
+pub still_leads : (rs : List Record) (r : Record) (t first at : ℕ) (way : List Record) → Leads rs t first at way
     → Leads (rs ++ r ∷ []) t first at way
 still_leads rs r t first at [] leads = (leads.0, still_stands rs r (Begin at t) at leads.1)
 still_leads rs r t first at (x ∷ more) leads =
@@ -260,10 +260,10 @@ begin_traced rs lsn t at none =
 
 -- ---- all of them
 
-abbrev AreTraced : List Record → Type 0
+abbrev pub AreTraced : List Record → Type 0
 AreTraced rs = ArePlaced rs → (t : ℕ) → is_open rs t ≡ true → IsTraced rs (entry_of rs t)
 
-placed_front : (rs : List Record) (r : Record) → ArePlaced (rs ++ r ∷ []) → ArePlaced rs
+pub placed_front : (rs : List Record) (r : Record) → ArePlaced (rs ++ r ∷ []) → ArePlaced rs
 placed_front rs r placed i d lt =
     sym (ap own_lsn (get_or_append_left rs (r ∷ []) d i lt)) ∙ placed i d (omega (arith, length_push rs r))
 
@@ -278,7 +278,7 @@ ended_own rs r none last still =
     true≢false (sym still ∙ is_open_push_own rs r (txn_of r) none refl ∙ ap (λ b. is_open rs (txn_of r) && not b) last
     ∙ and-false (is_open rs (txn_of r)))
 
-aside_own : (rs : List Record) (r : Record) → IsLinked rs → MayFollow rs r → txn_of r ≡ 0
+pub aside_own : (rs : List Record) (r : Record) → IsLinked rs → MayFollow rs r → txn_of r ≡ 0
     → is_open (rs ++ r ∷ []) (txn_of r) ≡ true → ⊥
 aside_own rs r linked may none still =
     true≢false (sym still ∙ ap (is_open (rs ++ r ∷ [])) none ∙ zero_not_open (rs ++ r ∷ []) (linked_push rs r linked may))
@@ -323,12 +323,13 @@ traced_more rs r linked may before placed t still =
           (still_traced rs r (entry_of rs t) (before front t (sym (is_open_push_other rs r t other) ∙ still)))
     ]
 
+pub traced_of : (rs : List Record) → IsLinked rs → AreTraced rs
+traced_of = along_linked AreTraced (λ placed n none. absurd (true≢false (sym none))) traced_more
+
 -- the records of a linked log trace its open transactions
 pub all_traced : (log : Log) (t : ℕ) → IsLog log → IsLinked log.records → is_open log.records t ≡ true
     → IsTraced log.records (entry_of log.records t)
-all_traced log t valid linked still =
-    along_linked AreTraced (λ placed n none. absurd (true≢false (sym none))) traced_more log.records linked
-    (λ i d lt. let stands = valid.records i d lt in stands.lsn) t still
+all_traced log t valid linked still = traced_of log.records linked (log_placed log valid) t still
 
 -- ---- the pending changes, the last one first
 

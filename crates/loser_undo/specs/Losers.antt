@@ -10,7 +10,7 @@ use Rattle.log_records.specs.Log.{lsn_of}
 use Rattle.log_history.specs.declared.pending_change.PendingChange.{PendingChange}
 use Rattle.log_history.specs.Linked.{IsLinked}
 use Rattle.log_history.specs.Table.{Entry, entry_of}
-use Rattle.log_history.specs.Transactions.{is_abort, open_in}
+use Rattle.log_history.specs.Transactions.{first_lsn, is_abort, open_in}
 
 -- ---- what is asked for
 
@@ -74,3 +74,10 @@ pub record IsTraced (rs : List Record) (e : Entry) : Type 0 where
   pub pending : filter_map change_by way ≡ reverse e.pending
   pub comps : List ℕ
   pub rolling : LeadsToAbort rs e.rolling e.last comps
+
+-- from this LSN on the search meets just these changes, the last one first, and then the Begin of
+-- the transaction
+pub record IsStackAt (rs : List Record) (t at : ℕ) (stack : List PendingChange) : Type 0 where
+  pub way : List Record
+  pub leads : Leads rs t (first_lsn rs t) at way
+  pub stack_is : filter_map change_by way ≡ reverse stack

@@ -1,7 +1,7 @@
-//! Laws of the log after undo, for readers of the contracts.
+//! Laws of undo and of the log after it, for readers of the contracts.
 
 ghost use Rattle.std.specs.Prelude.{ℕ, ◌≡◌, ◌+◌, ◌<◌, ◌≤◌, ◌==◌, true, List, [], length, map};
-ghost use Rattle.std.specs.Prelude.{filter, reverse, take};
+ghost use Rattle.std.specs.Prelude.{Some, filter, reverse, take};
 ghost use Rattle.std.specs.List.{All, AllPairs, range_with_len};
 ghost use Rattle.page_core.specs.declared.page.TheConstants.{SLOTS};
 ghost use Rattle.log_records.specs.declared.limits.TheConstants.{MAX_RECORDS};
@@ -9,8 +9,11 @@ ghost use Rattle.log_records.specs.declared.record.Record.{Record};
 ghost use Rattle.log_records.specs.Image.{image};
 ghost use Rattle.log_records.specs.Log.{IsLog, Log};
 ghost use Rattle.log_history.specs.Committed.{committed};
+ghost use Rattle.log_history.specs.declared.pending_change.PendingChange.{PendingChange};
 ghost use Rattle.log_history.specs.Linked.{IsLinked, number_in};
+ghost use Rattle.log_history.specs.Savepoints.{stack_at};
 ghost use Rattle.log_history.specs.Transactions.{is_open, open_in, owed, pending};
+ghost use Rattle.loser_undo.specs.Losers.{IsStackAt};
 ghost use Rattle.loser_undo.specs.Undo.{after_undo, lost_changes};
 
 /// Undo takes back each pending change of each open transaction, and no other change. It goes from
@@ -62,4 +65,12 @@ pub fn undo_fits_where_records_and_owed_ones_do()
     ensures fits { (log : Log) → IsLog log → IsLinked log.records
         → length log.records + owed log.records ≤ MAX_RECORDS
         → IsLog (record log { records = after_undo log.records }) }
+{}
+
+/// From each record of an open transaction the way back meets the changes that were pending as of
+/// that record, the last one first, and no other change. It ends at the transaction's Begin.
+pub fn the_way_back_meets_the_stack()
+    ensures { (log : Log) (t at : ℕ) (stack : List PendingChange) → IsLog log
+        → IsLinked log.records → is_open log.records t ≡ true
+        → stack_at log.records t at ≡ Some stack → IsStackAt log.records t at stack }
 {}
