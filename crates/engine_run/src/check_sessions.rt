@@ -2,7 +2,7 @@
 
 ghost use Rattle.std.specs.Prelude.{◌≡◌, false, true, length, replicate, IfErr, OnOk};
 ghost use Rattle.std.specs.List.{All};
-ghost use Rattle.log_records.specs.Log.{IsLog};
+ghost use Rattle.settlement.specs.Volume.{AreOfVolume};
 ghost use Rattle.settlement.specs.Counts.{updates_in};
 ghost use Rattle.settlement.specs.Marks.{AreMarked};
 ghost use Rattle.settlement.specs.Receipt.{written};
@@ -51,7 +51,7 @@ pub(crate) fn check_sessions<G: Ledger>(
     forced_end: Lsn,
     sessions: &[Session<G>],
 ) -> Result<(), Lsn>
-    requires log { IsLog (record { pages = length pages.old; records = records.now }) }
+    requires log { AreOfVolume (length pages.old) records.now }
     requires fresh { marks.old ≡ replicate (length records.now) false }
     ensures ok { OnOk result (All (AllStand records.now forced_end) sessions.now) }
     ensures marked { OnOk result (AreMarked marks.new (written (all_receipts sessions.now))) }

@@ -5,7 +5,7 @@ ghost use Rattle.page_core.specs.Volume.{formatted_pages};
 ghost use Rattle.log_records.specs.Log.{IsPageCount};
 ghost use Rattle.settlement.specs.Counts.{updates_in};
 ghost use Rattle.aries_core.specs.Asked.{Asks, FailsAsking, asked};
-ghost use Rattle.aries_core.specs.EngineState.{Fetches, end};
+ghost use Rattle.aries_core.specs.EngineState.{Fetches, end, volume_pages};
 ghost use Rattle.aries_core.specs.Step.{FailsForcing, Forces, IsByStore, IsUnsure, Step, reply_of};
 ghost use Rattle.aries_core.specs.Step.{step_back_answer, undo_answer};
 ghost use Rattle.aries_core.specs.declared.event.Answer.TheVariants as answer;
@@ -49,7 +49,7 @@ impl<S: PageStore, D: LogDevice, G: Ledger> Held<S, D, G> {
 
     /// The page count of the volume.
     pub fn pages(&self) -> u32
-        ensures { result ≡ self.now.engine.state.pages }
+        ensures { result ≡ volume_pages self.now.engine.state }
     {
         self.engine.log().pages()
     }

@@ -3,7 +3,7 @@
 ghost use Rattle.std.specs.Prelude.{◌≡◌, ◌≤◌, false, length, replicate, IfErr, IfOk, OnOk};
 ghost use Rattle.std.specs.Option.{option_map};
 ghost use Rattle.aries_core.specs.EngineState.{log_of, master_record};
-ghost use Rattle.log_records.specs.Log.{IsLog};
+ghost use Rattle.settlement.specs.Volume.{AreOfVolume};
 ghost use Rattle.engine_run.specs.Settled.{AddUp, IsFaultOf, IsSettled, IsWrongAt, evidence};
 ghost use Rattle.engine_run.specs.Settled.{evidence_in, evidence_of};
 
@@ -76,7 +76,7 @@ fn check_answers<G: Ledger>(
     sessions: &[Session<G>],
     works: &[Work],
 ) -> Result<(), Lsn>
-    requires log { IsLog (record { pages = length room.pages.items; records = records.now }) }
+    requires log { AreOfVolume (length room.pages.items) records.now }
     requires marks { room.marks.items ≡ replicate (length records.now) false }
     requires ids { room.copies.items ≡ replicate 1025 false }
     requires few { length vault.now.copies ≤ 1024 }
