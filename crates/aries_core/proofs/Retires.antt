@@ -34,7 +34,7 @@ left_by s fit = record {
   room = fit.room;
   forced = fit.forced;
   master = named s.log s.stored s.forced_end s.master fit.master;
-  copies = restorable (log_of s) s.forced_end s.stored s.copies 
+  copies = restorable (log_of s) s.forced_end s.stored s.copies
       (fit.counted.stored ∙ count_is_first (log_of s)) fit.copied;
   noted = λ id copy is. mapped s.master (fit.noted id copy (ap copy_in is));
 }

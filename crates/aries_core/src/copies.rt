@@ -48,9 +48,7 @@ impl<S: PageStore, D: LogDevice> Engine<S, D> {
         let begin = self.noted_begin();
         let redo = self.noted_redo();
         let pages = self.pool.pages();
-        Ok(self
-            .vault
-            .open_inc(self.alloc, parent, pages, begin, redo)?)
+        Ok(self.vault.open_inc(self.alloc, parent, pages, begin, redo)?)
     }
 
     /// Has an open copy decide on a stored page. A full copy takes it. An incremental copy takes it

@@ -86,8 +86,8 @@ fn put_pages(
     alloc: Global,
     log: &LogImage,
 ) -> Result<(), AllocError> {
-    let mut pages = formatted_pages(alloc, log.pages())?;
-    let lists = by_page(alloc, log.records(), Lsn(64), log.pages())?;
+    let mut pages = formatted_pages(alloc, log.page_count())?;
+    let lists = by_page(alloc, log.records(), Lsn(64), log.page_count())?;
     if lists.pages() == pages.len() {
         redo_by_page(rt, &mut pages, log.records(), &lists);
     }

@@ -82,7 +82,7 @@ fn put_copy(text: &mut String, vault: &Vault, id: CopyId) -> Result<(), AllocErr
 
 /// The pages that plain redo of a log makes of formatted ones: each record is redone on its page.
 fn plain_pages(alloc: Global, log: &LogImage) -> Result<Vec<Page>, AllocError> {
-    let mut pages = formatted_pages(alloc, log.pages())?;
+    let mut pages = formatted_pages(alloc, log.page_count())?;
     for record in log.records() {
         for page in pages.iter_mut() {
             record.redo_on(page);

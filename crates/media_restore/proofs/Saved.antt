@@ -202,9 +202,10 @@ count_in_all log begin = ap (λ (counts : PageCounts). count_below counts begin)
 whole_members : (log : Log) (it : RetiredView) (copies : List CopyView) → IsRetired it → log.pages ≡ it.log.pages
     → AllByRecursion (λ copy. state_of it.copies copy.id ≡ complete copy) copies → AreWhole log copies
 whole_members log it [] retired same of_vault = tt
-whole_members log it (copy ∷ copies) retired same of_vault =
-    ((retired.copies.each copy.id copy of_vault.0).whole ∙ sym same ∙ sym (count_in_all log copy.begin),
-    whole_members log it copies retired same of_vault.1)
+whole_members log it (copy ∷ copies) retired same of_vault = (
+  (retired.copies.each copy.id copy of_vault.0).whole ∙ sym same ∙ sym (count_in_all log copy.begin),
+  whole_members log it copies retired same of_vault.1,
+)
 
 fit_more : (log : Log) (copy : CopyView) (more : List CopyView) → Follow copy more → AreWhole log more
     → FitFrom (counts_of log) (Inc copy.id) more

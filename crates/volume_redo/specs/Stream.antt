@@ -7,7 +7,7 @@ use Rattle.page_core.specs.declared.fault_name.FaultName.TheVariants as name
 use Rattle.log_store.specs.declared.fault.LogReadFault.{LogReadFault}
 use Rattle.log_store.specs.declared.fault.LogReadFault.TheVariants as log
 use Rattle.log_history.specs.Linked.{IsLinked}
-use Rattle.log_records.specs.Log.{Log, IsLog, SpellsLog}
+use Rattle.log_records.specs.Log.{Log, IsLog, SpellsLog, page_count}
 use Rattle.log_records.specs.Image.{redo_all}
 use Rattle.log_store.specs.Fault.{Refuses, GaveNoFault}
 use Rattle.volume_redo.specs.declared.fault.Fault.{Fault}
@@ -15,7 +15,7 @@ use Rattle.volume_redo.specs.declared.fault.Fault.TheVariants as fault
 
 -- the bytes spell the volume that a log makes
 abbrev pub SpellsVolumeOf : Log → List ℕ → Type 0
-SpellsVolumeOf l bytes = SpellsVolume (redo_all l.records l.pages) bytes
+SpellsVolumeOf whole bytes = SpellsVolume (redo_all whole.records (page_count whole)) bytes
 
 -- the input spells a linked log, and the volume that it makes was written, and nothing else
 pub record WritesVolume (input old new : Option (List ℕ)) : Type 0 where

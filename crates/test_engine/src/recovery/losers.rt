@@ -231,8 +231,11 @@ fn assert_losers(rt: &(impl Abort + AllocGlobal), retired: &Retired) -> usize {
 /// The pages that a log makes of formatted ones, each redone by its list, in threads.
 fn pages_by_lists(rt: &(impl Abort + AllocGlobal + Threads + Sync), log: &LogImage) -> Vec<Page> {
     let alloc = rt.alloc();
-    let lists = by_page(alloc, log.records(), Lsn(64), log.pages()).expect(rt, "memory for lists");
-    let mut pages = formatted_pages(alloc, log.pages()).expect(rt, "memory for pages");
+    let lists = by_page(alloc, log.records(), Lsn(64), log.page_count()).expect(
+        rt,
+        "memory for lists",
+    );
+    let mut pages = formatted_pages(alloc, log.page_count()).expect(rt, "memory for pages");
     assert!(rt; lists.pages() == pages.len());
     redo_by_page(rt, &mut pages, log.records(), &lists);
     pages

@@ -15,7 +15,7 @@ use Rattle.loser_undo.proofs.undone.finish.Goals as goal
 pub append_all-records-requires-clause-valid : goal.append_all-records-requires-clause-valid
 append_all-records-requires-clause-valid c =
     let is = c.requires.recovery in
-    subst (λ n. IsLog (record { pages = n; records = c.args.records.items })) 
+    subst (λ n. IsLog (record { pages = n; records = c.args.records.items }))
     (sym (is.count ∙ count_is_first (record { pages = c.args.first_count; records = c.args.records.items }))) is.valid
 
 pub invariant_of-result : goal.invariant_of-result
