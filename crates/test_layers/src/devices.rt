@@ -54,6 +54,7 @@ fn records() -> [Record; 3] {
 }
 
 /// Puts these records into a log of one page that has none.
+#[tactic(auto, using(crate::proofs::NextLogs::count_is_of_header))]
 fn append_records<D: LogDevice>(log: &mut Log<D>) -> Result<(), AllocError>
     requires { log.old.log ≡ record { pages = 1; records = [] } }
 {
