@@ -59,7 +59,8 @@ has_no_room s more = nat_lt MAX_RECORDS (length s.log + owed s.log + more)
 
 abbrev pub page_refusal : EngineState → ℕ → ℕ → Option Refusal
 page_refusal s page slot =
-    or_else (refused_if (nat_le (volume_pages s) page) PageOut) (refused_if (nat_le SLOTS slot) SlotOut)
+    or_else (refused_if (nat_le (volume_pages s) page) PageOut)
+    (refused_if (nat_le SLOTS slot) SlotOut)
 
 -- of a call that only an active transaction may make
 abbrev pub active_refusal : EngineState → ℕ → Option Refusal

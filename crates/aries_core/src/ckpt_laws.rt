@@ -31,7 +31,8 @@ pub fn the_master_names_a_complete_checkpoint()
 /// Each stored page of a fit engine has each of its changes below the redo point of the master: a
 /// copy of the stored pages that begins now lacks nothing that redo from there does not bring.
 pub fn stored_pages_cover_the_redo_point()
-    ensures { (s : EngineState) (point : Point) (page : ℕ) (d : Page) → IsFit s → page < volume_pages s
+    ensures { (s : EngineState) (point : Point) (page : ℕ) (d : Page) → IsFit s
+        → page < volume_pages s
         → s.master ≡ Some point → Covers s.log page (slice_index_or s.stored page d) point.redo }
 {}
 

@@ -27,7 +27,8 @@ pub fn the_copies_are_those_answered()
 /// repair they say all but that a write of the page is in progress, which comes last.
 pub fn copies_are_refused_by_the_catalogue()
     ensures full { (s : EngineState) → refusal s event.CopyFull
-        ≡ catalogue_refusal (is_some s.master) (volume_pages s) (map entry_of s.copies) event.CopyFull }
+        ≡ catalogue_refusal (is_some s.master) (volume_pages s) (map entry_of s.copies)
+        event.CopyFull }
     ensures inc { (s : EngineState) (parent : ℕ) → let call = event.CopyInc parent in refusal s call
         ≡ catalogue_refusal (is_some s.master) (volume_pages s) (map entry_of s.copies) call }
     ensures take { (s : EngineState) (copy page : ℕ) → let call = event.Take copy page in

@@ -141,7 +141,8 @@ pub fn replies_are_determined()
 /// Each stored page of a fit engine lacks nothing below the page's RecLSN; where the page has none,
 /// it is not dirty, and it is stored as it is now.
 pub fn stored_pages_cover_their_rec_lsn()
-    ensures dirty { (s : EngineState) (page rec_lsn : ℕ) (d : Page) → IsFit s → page < volume_pages s
+    ensures dirty { (s : EngineState) (page rec_lsn : ℕ) (d : Page) → IsFit s
+        → page < volume_pages s
         → rec_lsn_of s page ≡ Some rec_lsn
         → Covers s.log page (slice_index_or s.stored page d) rec_lsn }
     ensures clean { (s : EngineState) (page : ℕ) (d : Page) → IsFit s → page < volume_pages s

@@ -1,6 +1,6 @@
 -- A whole log, and its bytes.
-use Rattle.std.specs.Prelude.{ℕ, ◌≡◌, ◌+◌, ◌-◌, ◌*◌, ◌/◌, ◌<◌, ◌≤◌, List, length, ◌++◌, slice_index_or}
-use Rattle.std.specs.Prelude.{take, replicate, codes, slice_range}
+use Rattle.std.specs.Prelude.{ℕ, ◌≡◌, ◌+◌, ◌-◌, ◌*◌, ◌/◌, ◌<◌, ◌≤◌, List, length, ◌++◌}
+use Rattle.std.specs.Prelude.{slice_index_or, take, replicate, codes, slice_range}
 use Rattle.std.specs.List.{AllByRecursion, filter_map, flat_map}
 use Rattle.std.specs.Int.{w32, to_le_bytes, from_le_bytes}
 use Rattle.log_records.specs.declared.record.Record.{Record}
