@@ -47,10 +47,10 @@ use Rattle.aries_core.specs.declared.event.Event.{Event}
 use Rattle.aries_core.specs.declared.event.Event.TheVariants as event
 use Rattle.aries_core.specs.Gather.{Left, is_done, left_of, pages_left, session_of}
 
--- the page count in the log's header, the log's records, the LSN below which each of them is on the
--- device, and the last complete checkpoint below it; how many frames there are; the pages in memory,
--- in the order in which they were fetched; the stored pages; of each page the LSN of its last write,
--- and the image that is being written;
+-- the page count in the log's header, the log's records, the LSN below which each of them is on
+-- the device, and the last complete checkpoint below it; how many frames there are; the pages in
+-- memory, in the order in which they were fetched; the stored pages; of each page the LSN of its
+-- last write, and the image that is being written;
 -- what is left for the gather of the open checkpoint (all, where none is open); and the image
 -- copies in order of their ids
 pub record EngineState : Type 0 where
