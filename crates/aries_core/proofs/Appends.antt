@@ -15,7 +15,7 @@ use Rattle.log_store.specs.WrittenLog.{WrittenLog}
 use Rattle.fuzzy_ckpt.proofs.Opens.{open_same}
 use Rattle.txn_table.specs.declared.returns.Return.{Return}
 use Rattle.txn_table.specs.Returns.{returns_of}
-use Rattle.aries_core.specs.EngineState.{EngineState, IsFit, IsKept, MediaView, appended, engine_view, log_of}
+use Rattle.aries_core.specs.EngineState.{EngineState, IsFit, IsConsistent, MediaView, appended, engine_view, log_of}
 use Rattle.aries_core.specs.EngineState.{with_page}
 use Rattle.aries_core.specs.EngineState.{volume_pages}
 use Rattle.log_records.specs.declared.page_change.PageChange.{PageChange}
@@ -29,10 +29,10 @@ valid_with s r fit come = valid_next (log_of s) r fit.valid (comes_few s r come)
 
 -- the engine after it
 pub kept_next : {S : Type 0} (stored : S → List Page) (s : EngineState) (old new : Table) (pool after : PoolView S)
-    (ckpts : MediaView) (returns : List Return) (r : Record) → IsKept stored s old pool ckpts → Comes s r
+    (ckpts : MediaView) (returns : List Return) (r : Record) → IsConsistent stored s old pool ckpts → Comes s r
     → IfSome (change_of r) (λ c. IsResident s.resident c.page) → new ≡ table_of (s.log ++ r ∷ [])
     → IsPoolOf stored (with_next (log_of s) (r ∷ [])) after → returns ≡ returns_of (s.log ++ r ∷ [])
-    → IsKept stored (appended s r) new after (record ckpts { returns = returns })
+    → IsConsistent stored (appended s r) new after (record ckpts { returns = returns })
 kept_next stored s old new pool after ckpts returns r kept come there noted changed back =
     let fit = fit_appended s r kept.fit come there in
     record {
@@ -68,14 +68,14 @@ appended_is stored old mid new pool after ckpts r same same_end next next_end st
 
 pub after_fetch : {S : Type 0} (stored : S → List Page) (s came new : EngineState) (p : ℕ) (old table : Table)
     (pool fetched after : PoolView S) (ckpts : MediaView) (returns : List Return) (r : Record)
-    → IsKept stored s old pool ckpts → Comes s r
+    → IsConsistent stored s old pool ckpts → Comes s r
     → p < volume_pages s → IfSome (change_of r) (λ c. c.page ≡ p) → came ≡ with_page s p → IsPoolOf stored (log_of s) fetched
     → table ≡ table_of (s.log ++ r ∷ []) → IsPoolOf stored (with_next (log_of s) (r ∷ [])) after
     → returns ≡ returns_of (s.log ++ r ∷ [])
-    → new ≡ appended came r → IsKept stored new table after (record ckpts { returns = returns })
+    → new ≡ appended came r → IsConsistent stored new table after (record ckpts { returns = returns })
 after_fetch stored s came new p old table pool fetched after ckpts returns r kept come within changes is of_log noted
     changed back next =
-    subst (λ (t : EngineState). IsKept stored t table after (record ckpts { returns = returns }))
+    subst (λ (t : EngineState). IsConsistent stored t table after (record ckpts { returns = returns }))
     (sym (next ∙ ap (λ (t : EngineState). appended t r) is))
     (kept_next stored (with_page s p) old table fetched after ckpts returns r (record {
       fit = fetched_fit s p kept.fit within;

@@ -21,7 +21,7 @@ use Rattle.aries_core.specs.declared.event.Event.{Event}
 use Rattle.aries_core.specs.declared.event.Event.TheVariants as event
 use Rattle.aries_core.specs.declared.refusal.Refusal.{Refusal}
 use Rattle.aries_core.specs.declared.refusal.Refusal.TheVariants.{CommitUnsure, LogFault, OutOfMemory, StoreFault}
-use Rattle.aries_core.specs.Catalogue.{Entry, PageMark, answered_mark, being_read, catalogue_from, completed, entry_at}
+use Rattle.aries_core.specs.Catalogue.{CatalogueEntry, PageMark, answered_mark, being_read, catalogue_from, completed, entry_at}
 use Rattle.aries_core.specs.Catalogue.{entry_of, mark_of}
 use Rattle.aries_core.specs.Catalogue.{was_dropped, with_copy_event, with_entry, with_mark, with_next_copy}
 use Rattle.aries_core.specs.EngineState.{EngineState, effect, image_of, opened_copy, stored_page, take_answer}
@@ -35,7 +35,7 @@ use Rattle.log_records.proofs.PageCounts.{count_below_is_first}
 
 -- ---- copies and their entries
 
-abbrev pub entries : List CopyState → List Entry
+abbrev pub entries : List CopyState → List CatalogueEntry
 entries copies = map entry_of copies
 
 pub entry_is : (copies : List CopyState) (id : ℕ) → entry_at (entries copies) id ≡ entry_of (state_of copies id)
@@ -49,7 +49,7 @@ opens copies kind pages begin redo =
     ∙ ap (λ (ms : List PageMark). entries copies ++ being_read kind ms ∷ []) (map-replicate mark_of pages undecided)
 
 -- the copy of an id is another one from now on, and so is its entry
-changes : (copies : List CopyState) (id : ℕ) (state : CopyState) (entry : Entry) → entry_of state ≡ entry
+changes : (copies : List CopyState) (id : ℕ) (state : CopyState) (entry : CatalogueEntry) → entry_of state ≡ entry
     → entries (with_state copies id state) ≡ with_entry (entries copies) id entry
 changes copies id state entry is = map-set entry_of copies (id - 1) state ∙ ap (with_entry (entries copies) id) is
 
@@ -75,7 +75,7 @@ completes dropped = refl
 
 -- ---- a step
 
-not_answered : (pages : ℕ) (es : List Entry) (event : Event) (why : Refusal)
+not_answered : (pages : ℕ) (es : List CatalogueEntry) (event : Event) (why : Refusal)
     → with_copy_event pages es event (Err why) ≡ es
 not_answered pages es event.CopyFull why = refl
 not_answered pages es (event.CopyInc parent) why = refl
@@ -114,7 +114,7 @@ took old copy page answer new given is =
     (with_mark (entry_at (entries old.copies) copy) page (answered_mark answer))
     (decides old.copies state page stored
     ∙ ap (λ (a : Answer). with_mark (entry_of state) page (answered_mark a)) (sym given)
-    ∙ ap (λ (e : Entry). with_mark e page (answered_mark answer)) (sym (entry_is old.copies copy)))
+    ∙ ap (λ (e : CatalogueEntry). with_mark e page (answered_mark answer)) (sym (entry_is old.copies copy)))
 
 answered : (old : EngineState) (event : Event) (answer : Answer) (new : EngineState)
     → answer ≡ (effect old event).answer → new ≡ (effect old event).state
@@ -202,6 +202,6 @@ copies_of_run old (event ∷ events) (reply ∷ replies) new run =
     copies_of_run run.0 events replies new run.2
     ∙ ap (λ (n : ℕ). catalogue_from n (entries run.0.copies) events replies)
     (pages_of_step old event reply run.0 run.1)
-    ∙ ap (λ (es : List Entry). catalogue_from old.pages es events replies) (copies_of_step old event reply run.0 run.1)
+    ∙ ap (λ (es : List CatalogueEntry). catalogue_from old.pages es events replies) (copies_of_step old event reply run.0 run.1)
 copies_of_run old [] (reply ∷ replies) new run = absurd run
 copies_of_run old (event ∷ events) [] new run = absurd run

@@ -27,7 +27,7 @@ use Rattle.aries_core.specs.declared.event.Event.{Event}
 use Rattle.aries_core.specs.declared.event.Event.TheVariants as event
 use Rattle.aries_core.specs.declared.refusal.Refusal.{Refusal}
 use Rattle.aries_core.specs.declared.refusal.Refusal.TheVariants.{LogFault, OutOfMemory}
-use Rattle.aries_core.specs.EngineState.{MediaView, EngineState, IsFit, IsKept, closed, effect, end, end_ckpt_record}
+use Rattle.aries_core.specs.EngineState.{MediaView, EngineState, IsFit, IsConsistent, closed, effect, end, end_ckpt_record}
 use Rattle.aries_core.specs.EngineState.{engine_view, forced_to, gather_effect, gathered_record, log_of, next_step}
 use Rattle.aries_core.specs.EngineState.{point_of}
 use Rattle.aries_core.specs.EventFits.{EventFits}
@@ -48,7 +48,7 @@ pub record CkptCalled {S D : Type 0} (stored : S → List Page) (it new : Writte
     (table : Table) (pool : PoolView S)
     (ckpts after : MediaView) (call : Event) (reply : Result Answer Refusal) : Type 0 where
   pub step : Step (engine_view stored it pool ckpts).state call reply (engine_view stored new pool after).state
-  pub kept : IsKept stored (engine_view stored new pool after).state table pool after
+  pub kept : IsConsistent stored (engine_view stored new pool after).state table pool after
 
 -- the open checkpoint has this session
 abbrev HasSession : List Record → Option (CkptView Phase) → Type 0
@@ -58,7 +58,7 @@ HasSession rs session =
 -- one record of a checkpoint more
 with_record : {S D : Type 0} (stored : S → List Page) (it new : WrittenLog D) (table : Table) (pool : PoolView S)
     (ckpts after : MediaView) (call : Event) (reply : Result Answer Refusal) (r : Record)
-    → IsKept stored (engine_view stored it pool ckpts).state table pool ckpts → EventFits call
+    → IsConsistent stored (engine_view stored it pool ckpts).state table pool ckpts → EventFits call
     → Step (engine_view stored it pool ckpts).state call reply (engine_view stored new pool after).state
     → new.log ≡ with_next it.log (r ∷ []) → IsOfCheckpoint r → MayFollow it.log.records r
     → length it.log.records < MAX_RECORDS → HasSession new.log.records after.session → after.returns ≡ ckpts.returns
@@ -82,7 +82,7 @@ with_record stored it new table pool ckpts after call reply r kept fits step log
 -- ---- a checkpoint begins
 
 pub ckpt_begun : {S D : Type 0} (stored : S → List Page) (it new : WrittenLog D) (table : Table) (pool : PoolView S)
-    (ckpts after : MediaView) (lsn : ℕ) → IsKept stored (engine_view stored it pool ckpts).state table pool ckpts
+    (ckpts after : MediaView) (lsn : ℕ) → IsConsistent stored (engine_view stored it pool ckpts).state table pool ckpts
     → refusal (engine_view stored it pool ckpts).state event.CkptBegin ≡ None
     → new.log ≡ with_next it.log (BeginChkpt (end_of it.log.records) ∷ []) → new.forced_end ≡ it.forced_end
     → after ≡ record ckpts { session = Some (new_ckpt (end_of it.log.records)) } → lsn ≡ end_of it.log.records
@@ -154,14 +154,14 @@ gathered_state stored it new pool ckpts after (Some r) v none logged forced is =
 
 -- the open checkpoint is the one of the session
 session_is : {S : Type 0} (stored : S → List Page) (s : EngineState) (table : Table) (pool : PoolView S)
-    (ckpts : MediaView) (c : Checkpoint) (v : CkptView Phase) → IsKept stored s table pool ckpts
+    (ckpts : MediaView) (c : Checkpoint) (v : CkptView Phase) → IsConsistent stored s table pool ckpts
     → open_checkpoint s.log ≡ Some c → ckpts.session ≡ Some v → v ≡ session_of s.left c
 session_is stored s table pool ckpts c v kept is has =
     same_Some _ _ (sym has ∙ kept.session_of_log ∙ ap (option_map (session_of s.left)) is)
 
 -- what the engine knows of its session
 pub session_covered : {S : Type 0} (stored : S → List Page) (s : EngineState) (table : Table) (pool : PoolView S)
-    (ckpts : MediaView) (v : CkptView Phase) → IsKept stored s table pool ckpts → ckpts.session ≡ Some v
+    (ckpts : MediaView) (v : CkptView Phase) → IsConsistent stored s table pool ckpts → ckpts.session ≡ Some v
     → IsCkptOf s.log v × AreCovered s.log s.stored v
 session_covered stored s table pool ckpts v kept has = by_open (open_checkpoint s.log) refl
   where
@@ -175,7 +175,7 @@ session_covered stored s table pool ckpts v kept has = by_open (open_checkpoint 
 
 gathered_kept : {S D : Type 0} (stored : S → List Page) (it new : WrittenLog D) (table : Table) (pool : PoolView S)
     (ckpts after : MediaView) (reply : Result Answer Refusal) (next : Option Record)
-    → IsKept stored (engine_view stored it pool ckpts).state table pool ckpts
+    → IsConsistent stored (engine_view stored it pool ckpts).state table pool ckpts
     → refusal (engine_view stored it pool ckpts).state event.CkptGather ≡ None
     → Step (engine_view stored it pool ckpts).state event.CkptGather reply (engine_view stored new pool after).state
     → gathered_record (engine_view stored it pool ckpts).state ≡ next → new.log ≡ with_step it.log next
@@ -202,7 +202,7 @@ gathered_kept stored it new table pool ckpts after reply (Some r) kept none step
 
 pub ckpt_gathered : {S D : Type 0} (stored : S → List Page) (it new : WrittenLog D) (table : Table) (pool : PoolView S)
     (ckpts after : MediaView) (v w : CkptView Phase) (reply : Answer)
-    → IsKept stored (engine_view stored it pool ckpts).state table pool ckpts
+    → IsConsistent stored (engine_view stored it pool ckpts).state table pool ckpts
     → refusal (engine_view stored it pool ckpts).state event.CkptGather ≡ None → ckpts.session ≡ Some v
     → new.log ≡ with_step it.log (gather_step it.log.records (written_of pool.states) v).next
     → new.forced_end ≡ it.forced_end → after ≡ record ckpts { session = Some w }
@@ -235,7 +235,7 @@ ckpt_gathered stored it new table pool ckpts after v w reply kept none has logge
 
 -- where the session's step appends a record, so does the engine's
 pub gather_takes : {S D : Type 0} (stored : S → List Page) (it : WrittenLog D) (table : Table) (pool : PoolView S)
-    (ckpts : MediaView) (v : CkptView Phase) → IsKept stored (engine_view stored it pool ckpts).state table pool ckpts
+    (ckpts : MediaView) (v : CkptView Phase) → IsConsistent stored (engine_view stored it pool ckpts).state table pool ckpts
     → refusal (engine_view stored it pool ckpts).state event.CkptGather ≡ None → ckpts.session ≡ Some v
     → IsSome (gather_step it.log.records (written_of pool.states) v).next
     → TakesMemory (engine_view stored it pool ckpts).state event.CkptGather
@@ -254,7 +254,7 @@ gather_takes stored it table pool ckpts v kept none has appends =
 
 pub ckpt_ended : {S D : Type 0} (stored : S → List Page) (it new : WrittenLog D) (table : Table) (pool : PoolView S)
     (ckpts after : MediaView) (v : CkptView Phase) (point : Point)
-    → IsKept stored (engine_view stored it pool ckpts).state table pool ckpts
+    → IsConsistent stored (engine_view stored it pool ckpts).state table pool ckpts
     → refusal (engine_view stored it pool ckpts).state event.CkptEnd ≡ None → ckpts.session ≡ Some v
     → new.log ≡ with_next it.log (end_record it.log.records v ∷ []) → new.forced_end ≡ end_of new.log.records
     → after ≡ record ckpts { master = Some point; session = None }
@@ -286,7 +286,7 @@ ckpt_ended stored it new table pool ckpts after v point kept none has logged for
 -- the log's device failed
 pub ckpt_unforced : {S D : Type 0} (stored : S → List Page) (it new : WrittenLog D) (table : Table) (pool : PoolView S)
     (ckpts after : MediaView) (v : CkptView Phase)
-    → IsKept stored (engine_view stored it pool ckpts).state table pool ckpts
+    → IsConsistent stored (engine_view stored it pool ckpts).state table pool ckpts
     → refusal (engine_view stored it pool ckpts).state event.CkptEnd ≡ None → ckpts.session ≡ Some v
     → IsUnforced it new (end_record it.log.records v) → after ≡ record ckpts { session = None }
     → CkptCalled stored it new table pool ckpts after event.CkptEnd (Err LogFault)
@@ -321,7 +321,7 @@ ckpt_unforced stored it new table pool ckpts after v kept none has failed is =
 
 pub ckpt_same : {S D : Type 0} (stored : S → List Page) (it new : WrittenLog D) (table : Table) (pool : PoolView S)
     (ckpts after : MediaView) (call : Event) (why : Refusal)
-    → IsKept stored (engine_view stored it pool ckpts).state table pool ckpts
+    → IsConsistent stored (engine_view stored it pool ckpts).state table pool ckpts
     → refusal (engine_view stored it pool ckpts).state call ≡ None
     → TakesMemory (engine_view stored it pool ckpts).state call → why ≡ OutOfMemory
     → new.log ≡ it.log → new.forced_end ≡ it.forced_end → after ≡ ckpts

@@ -24,7 +24,7 @@ use Rattle.aries_core.specs.declared.event.Answer.TheVariants as answer
 use Rattle.aries_core.specs.declared.event.Event.{Event}
 use Rattle.aries_core.specs.declared.event.Event.TheVariants as event
 use Rattle.aries_core.specs.declared.refusal.Refusal.{Refusal}
-use Rattle.aries_core.specs.EngineState.{EngineState, IsFit, IsKept, MediaView, engine_view, stored_page}
+use Rattle.aries_core.specs.EngineState.{EngineState, IsFit, IsConsistent, MediaView, engine_view, stored_page}
 use Rattle.aries_core.specs.EngineState.{log_of, volume_pages, take_answer, with_copies}
 use Rattle.log_records.specs.Log.{page_count_below}
 use Rattle.aries_core.specs.EventFits.{EventFits}
@@ -36,11 +36,11 @@ use Rattle.aries_core.proofs.Refusals.{inc_passes, take_passes}
 -- the engine is kept, and the pool may have asked its store
 pub copies_kept : {S D : Type 0} (stored : S → List Page) (it : WrittenLog D) (table : Table) (pool after : PoolView S)
     (media : MediaView) (copies : List CopyState) (call : Event) (reply : Result Answer Refusal)
-    → IsKept stored (engine_view stored it pool media).state table pool media → EventFits call
+    → IsConsistent stored (engine_view stored it pool media).state table pool media → EventFits call
     → IsPoolOf stored it.log after
     → Step (engine_view stored it pool media).state call reply
     (engine_view stored it after (record media { copies = copies })).state
-    → IsKept stored (engine_view stored it after (record media { copies = copies })).state table after
+    → IsConsistent stored (engine_view stored it after (record media { copies = copies })).state table after
     (record media { copies = copies })
 copies_kept stored it table pool after media copies call reply kept fits is step = record {
   fit = fit_of_step (engine_view stored it pool media).state call reply

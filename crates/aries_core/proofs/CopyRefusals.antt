@@ -18,7 +18,7 @@ use Rattle.aries_core.specs.declared.event.Event.TheVariants as event
 use Rattle.aries_core.specs.declared.refusal.Refusal.{Refusal}
 use Rattle.aries_core.specs.declared.refusal.Refusal.TheVariants.{NoMaster, PageDecided, PageOut, PagesLeft, WriteBegun}
 use Rattle.aries_core.specs.declared.refusal.Refusal.TheVariants.{TooManyCopies}
-use Rattle.aries_core.specs.Catalogue.{Entry, catalogue_refusal, count_refusal, entry_at, entry_of, has_mark, has_no_mark}
+use Rattle.aries_core.specs.Catalogue.{CatalogueEntry, catalogue_refusal, count_refusal, entry_at, entry_of, has_mark, has_no_mark}
 use Rattle.aries_core.specs.Catalogue.{mark_of}
 use Rattle.aries_core.specs.Catalogue.{marks_of, not_decided, parent_refusal, reading_refusal}
 use Rattle.aries_core.specs.EngineState.{EngineState, image_of}
@@ -122,20 +122,20 @@ pub inc_by_catalogue : (s : EngineState) (parent : ℕ)
 inc_by_catalogue s parent =
     inc_is (state_of s.copies parent) (open_refusal s.copies)
     ∙ ap (or_else (parent_refusal (entry_of (state_of s.copies parent)))) (count_is s.copies)
-    ∙ ap (λ (e : Entry). or_else (parent_refusal e) (count_refusal (entries s.copies))) (sym (entry_is s.copies parent))
+    ∙ ap (λ (e : CatalogueEntry). or_else (parent_refusal e) (count_refusal (entries s.copies))) (sym (entry_is s.copies parent))
 
 pub take_by_catalogue : (s : EngineState) (copy page : ℕ)
     → refusal s (event.Take copy page) ≡ by_catalogue s (event.Take copy page)
 take_by_catalogue s copy page =
     take_is (state_of s.copies copy) page
-    ∙ ap (λ (e : Entry). or_else (reading_refusal e)
+    ∙ ap (λ (e : CatalogueEntry). or_else (reading_refusal e)
     (or_else (refused_if (nat_le (length (marks_of e)) page) PageOut) (refused_if (has_mark e page) PageDecided)))
     (sym (entry_is s.copies copy))
 
 pub seal_by_catalogue : (s : EngineState) (copy : ℕ) → refusal s (event.Seal copy) ≡ by_catalogue s (event.Seal copy)
 seal_by_catalogue s copy =
     seal_is (state_of s.copies copy)
-    ∙ ap (λ (e : Entry). or_else (reading_refusal e) (option_map PagesLeft (position has_no_mark (marks_of e))))
+    ∙ ap (λ (e : CatalogueEntry). or_else (reading_refusal e) (option_map PagesLeft (position has_no_mark (marks_of e))))
     (sym (entry_is s.copies copy))
 
 pub drop_by_catalogue : (s : EngineState) (copy : ℕ)

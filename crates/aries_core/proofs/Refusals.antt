@@ -66,19 +66,19 @@ pub record SlotIn (s : EngineState) (page slot : ℕ) : Type 0 where
   pub fits : slot < SLOTS
 
 -- so many records more, owed ones among them, still fit
-abbrev pub HasRoom : EngineState → ℕ → Type 0
-HasRoom s more = length s.log + owed s.log + more ≤ MAX_RECORDS
+abbrev pub HasRoomFor : EngineState → ℕ → Type 0
+HasRoomFor s more = length s.log + owed s.log + more ≤ MAX_RECORDS
 
 pub record ChangePasses (s : EngineState) (txn page slot : ℕ) (kind : ChangeKind) : Type 0 where
   pub active : ActiveIn s txn
   pub place : SlotIn s page slot
   pub free : holder s.log page slot kind txn ≡ None
-  pub room : HasRoom s 2
+  pub room : HasRoomFor s 2
   pub frame : frame_refusal s page ≡ None
 
 pub record BeginPasses (s : EngineState) : Type 0 where
   pub few : length (open_in s.log) < MAX_OPEN
-  pub room : HasRoom s 3
+  pub room : HasRoomFor s 3
 
 -- the transaction is open, and rolling back
 pub record RollsIn (s : EngineState) (txn : ℕ) : Type 0 where
@@ -95,7 +95,7 @@ slot_passes s page slot none =
     let both = none_of_both _ _ none in
     record { within = leb-false _ _ (not_refused _ _ both.0); fits = leb-false _ _ (not_refused _ _ both.1) }
 
-has_room : (s : EngineState) (more : ℕ) (why : Refusal) → refused_if (has_no_room s more) why ≡ None → HasRoom s more
+has_room : (s : EngineState) (more : ℕ) (why : Refusal) → refused_if (has_no_room s more) why ≡ None → HasRoomFor s more
 has_room s more why none = ltb-false _ _ (not_refused _ why none)
 
 pub change_passes : (s : EngineState) (txn page slot : ℕ) (kind : ChangeKind)
@@ -319,20 +319,20 @@ write_end_passes s page none =
 -- a checkpoint may begin
 pub record CkptBegins (s : EngineState) : Type 0 where
   pub idle : open_checkpoint s.log ≡ None
-  pub room : HasRoom s 1
+  pub room : HasRoomFor s 1
 
 -- the gather of the open checkpoint may go on by a step
 pub record GatherGoesOn (s : EngineState) : Type 0 where
   pub ckpt : Checkpoint
   pub still_open : open_checkpoint s.log ≡ Some ckpt
-  pub room : (r : Record) → gathered_record s ≡ Some r → HasRoom s 1
+  pub room : (r : Record) → gathered_record s ≡ Some r → HasRoomFor s 1
 
 -- the open checkpoint may end
 pub record CkptEnds (s : EngineState) : Type 0 where
   pub ckpt : Checkpoint
   pub still_open : open_checkpoint s.log ≡ Some ckpt
   pub done : s.left ≡ none_left
-  pub room : HasRoom s 1
+  pub room : HasRoomFor s 1
 
 -- a test that some value passes
 some_passes : {X : Type 0} (o : Option X) (x : X) (other : Bool) → o ≡ Some x → (is_some o && other) ≡ other

@@ -16,11 +16,11 @@ use Rattle.copy_vault.specs.Vault.{complete, state_of}
 use Rattle.copy_coverage.specs.Copied.{copy_in}
 use Rattle.copy_coverage.proofs.Chains.{covered_of_members}
 use Rattle.copy_coverage.proofs.Copied.{restorable}
-use Rattle.buffer_pool.specs.Pool.{IsPoolOf, PoolView, repaired, state_at, unwritten, with_state, writing_of, written_of}
+use Rattle.buffer_pool.specs.Pool.{IsPoolOf, PoolView, stored_as_now, state_at, unwritten, with_state, writing_of, written_of}
 use Rattle.aries_core.specs.declared.event.Answer.TheVariants as answer
 use Rattle.aries_core.specs.declared.event.Event.TheVariants as event
 use Rattle.aries_core.specs.declared.refusal.Refusal.TheVariants.{StoreFault}
-use Rattle.aries_core.specs.EngineState.{EngineState, IsFit, IsKept, MediaView, effect, engine_view, forced_through}
+use Rattle.aries_core.specs.EngineState.{EngineState, IsFit, IsConsistent, MediaView, effect, engine_view, forced_through}
 use Rattle.aries_core.specs.EngineState.{log_of, with_stored}
 use Rattle.aries_core.specs.EngineState.{volume_pages}
 use Rattle.aries_core.specs.EngineState as engine
@@ -47,11 +47,11 @@ pub repaired_is : {S D : Type 0} (stored : S → List Page) (it new : WrittenLog
     (ckpts : MediaView) (p : ℕ) (q : Page) → p < length pool.states → (state_at pool p).writing ≡ None
     → new.log ≡ it.log → new.forced_end ≡ max it.forced_end (end_up_to it.log q.lsn)
     → stored after.store ≡ set (stored pool.store) p q → after.frames ≡ pool.frames
-    → after.resident ≡ pool.resident → after.states ≡ set pool.states p (repaired q.lsn)
+    → after.resident ≡ pool.resident → after.states ≡ set pool.states p (stored_as_now q.lsn)
     → (engine_view stored new after ckpts).state
-    ≡ engine.repaired (forced_through (engine_view stored it pool ckpts).state q.lsn) p q
+    ≡ engine.stored_as_now (forced_through (engine_view stored it pool ckpts).state q.lsn) p q
 repaired_is stored it new pool after ckpts p q within idle same forced store frames resident states =
-    let state = repaired q.lsn in
+    let state = stored_as_now q.lsn in
     let written : written_of after.states ≡ set (written_of pool.states) p q.lsn =
     ap written_of states ∙ map-set (λ s. s.written) pool.states p state in
     let writing : writing_of after.states ≡ writing_of pool.states =
@@ -84,12 +84,12 @@ forced_is stored it new pool after ckpts lsn same forced store frames resident s
 
 pub done : {S D : Type 0} (stored : S → List Page) (it new : WrittenLog D) (table : Table)
     (pool after : PoolView S) (ckpts : MediaView) (copy p : ℕ) (q : Page)
-    → IsKept stored (engine_view stored it pool ckpts).state table pool ckpts
+    → IsConsistent stored (engine_view stored it pool ckpts).state table pool ckpts
     → refusal (engine_view stored it pool ckpts).state (event.Repair copy p) ≡ None → p < length pool.states
     → q ≡ image it.log.records p → new.log ≡ it.log
     → new.forced_end ≡ max it.forced_end (end_up_to it.log q.lsn)
     → stored after.store ≡ set (stored pool.store) p q
-    → after ≡ record (with_state pool p (repaired q.lsn)) { store = after.store } → IsPoolOf stored it.log after
+    → after ≡ record (with_state pool p (stored_as_now q.lsn)) { store = after.store } → IsPoolOf stored it.log after
     → Called stored it new table pool after ckpts (event.Repair copy p) (Ok (answer.Repaired q.lsn))
 done stored it new table pool after ckpts copy p q kept none within now same forced store is of_log =
     let s = (engine_view stored it pool ckpts).state in
@@ -97,7 +97,7 @@ done stored it new table pool after ckpts copy p q kept none within now same for
     let state = repaired_is stored it new pool after ckpts p q within idle same forced store
     (ap (λ v. v.frames) is) (ap (λ v. v.resident) is) (ap (λ v. v.states) is) in
     let effected : (engine_view stored new after ckpts).state ≡ (effect s (event.Repair copy p)).state =
-    state ∙ ap (λ (x : Page). engine.repaired (forced_through s x.lsn) p x) now in
+    state ∙ ap (λ (x : Page). engine.stored_as_now (forced_through s x.lsn) p x) now in
     let said : answer.Repaired q.lsn ≡ (effect s (event.Repair copy p)).answer =
     ap (λ (x : Page). answer.Repaired x.lsn) now in
     called stored it new table pool after ckpts (event.Repair copy p) (Ok (answer.Repaired q.lsn)) kept tt same
@@ -105,7 +105,7 @@ done stored it new table pool after ckpts copy p q kept none within now same for
 
 pub half_done : {S D : Type 0} (stored : S → List Page) (it new : WrittenLog D) (table : Table)
     (pool after : PoolView S) (ckpts : MediaView) (copy p : ℕ) (q : Page)
-    → IsKept stored (engine_view stored it pool ckpts).state table pool ckpts
+    → IsConsistent stored (engine_view stored it pool ckpts).state table pool ckpts
     → refusal (engine_view stored it pool ckpts).state (event.Repair copy p) ≡ None
     → q ≡ image it.log.records p → new.log ≡ it.log
     → new.forced_end ≡ max it.forced_end (end_up_to it.log q.lsn)

@@ -6,15 +6,15 @@ use Rattle.page_core.specs.declared.page.Page.{Page}
 use Rattle.log_records.specs.declared.record.Record.{Record}
 use Rattle.fuzzy_ckpt.specs.declared.point.Point.{Point}
 use Rattle.copy_coverage.specs.Copied.{copy_in}
-use Rattle.copy_coverage.specs.Retired.{IsMasterOf, IsRetired}
+use Rattle.copy_coverage.specs.Retired.{NamesCheckpoint, IsRetired}
 use Rattle.copy_coverage.proofs.Copied.{restorable}
 use Rattle.aries_core.specs.EngineState.{EngineState, IsFit, log_of, master_record}
 use Rattle.aries_core.specs.EngineState as engine
 use Rattle.log_records.proofs.PageCounts.{count_is_first}
 
 named : (rs : List Record) (stored : List Page) (forced_end : ℕ) (point : Option Point)
-    → IfSome point (engine.IsMasterOf rs stored forced_end)
-    → IfSome (option_map master_record point) (IsMasterOf rs forced_end)
+    → IfSome point (engine.NamesCheckpoint rs stored forced_end)
+    → IfSome (option_map master_record point) (NamesCheckpoint rs forced_end)
 named rs stored forced_end None has = tt
 named rs stored forced_end (Some point) has = record { complete = has.complete; forced = has.forced }
 

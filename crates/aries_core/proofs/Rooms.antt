@@ -24,7 +24,7 @@ use Rattle.aries_core.proofs.Follows.{set_follows, undo_has}
 use Rattle.aries_core.proofs.Gathers.{PassesPages, PassesTxns, TakesPages, TakesTxn, WasDone, ckpt_end_is, gather_case}
 use Rattle.aries_core.proofs.Gathers.{pages_record, passes_pages, passes_txns, takes_pages, takes_txn, txn_entry}
 use Rattle.aries_core.proofs.Gathers.{was_done}
-use Rattle.aries_core.proofs.Refusals.{GatherIsFull, HasRoom, ckpt_begin_full, ckpt_end_full, gather_full}
+use Rattle.aries_core.proofs.Refusals.{GatherIsFull, HasRoomFor, ckpt_begin_full, ckpt_end_full, gather_full}
 use Rattle.aries_core.proofs.Refusals.{active_not_full, begin_full, begin_passes, change_full, change_passes}
 use Rattle.aries_core.proofs.Refusals.{copy_not_full, ckpt_begin_passes, ckpt_end_passes, gather_passes, read_not_full}
 use Rattle.aries_core.proofs.Refusals.{back_not_full, undo_not_full, write_begin_not_full, write_end_not_full}
@@ -35,7 +35,7 @@ use Rattle.aries_core.proofs.StepsBack.{back_record_has}
 -- ---- an accepted call
 
 -- records plus owed ones, of the whole log
-room_now : (s : EngineState) → IsFit s → HasRoom s 0
+room_now : (s : EngineState) → IsFit s → HasRoomFor s 0
 room_now s fit =
     let whole : length s.log + owed s.log ≤ MAX_RECORDS =
     subst (λ (rs : List Record). length rs + owed rs ≤ MAX_RECORDS) (take_all (length s.log) s.log (omega arith))
@@ -43,14 +43,14 @@ room_now s fit =
     omega arith
 
 grows_within : (s : EngineState) (event : Event) (r : Record) → IsFit s → refusal s event ≡ None
-    → record_for s event ≡ Some r → HasRoom s (needs r)
+    → record_for s event ≡ Some r → HasRoomFor s (needs r)
 grows_within s event.Begin r fit none made =
-    subst (λ (q : Record). HasRoom s (needs q)) (same_Some _ _ made) (begin_passes s none).room
+    subst (λ (q : Record). HasRoomFor s (needs q)) (same_Some _ _ made) (begin_passes s none).room
 grows_within s (event.Set txn page slot number) r fit none made =
-    subst (λ (q : Record). HasRoom s (needs q)) (same_Some _ _ made)
+    subst (λ (q : Record). HasRoomFor s (needs q)) (same_Some _ _ made)
     (change_passes s txn page slot kind.Set none).room
 grows_within s (event.Add txn page slot amount) r fit none made =
-    subst (λ (q : Record). HasRoom s (needs q)) (same_Some _ _ made)
+    subst (λ (q : Record). HasRoomFor s (needs q)) (same_Some _ _ made)
     (change_passes s txn page slot kind.Add none).room
 grows_within s (event.Read page slot) r fit none made = absurd (cc)
 grows_within s event.CopyFull r fit none made = absurd (cc)
@@ -60,25 +60,25 @@ grows_within s (event.Seal copy) r fit none made = absurd (cc)
 grows_within s (event.DropCopy copy) r fit none made = absurd (cc)
 grows_within s (event.Repair copy page) r fit none made = absurd (cc)
 grows_within s (event.Commit txn) r fit none made =
-    subst (λ (q : Record). HasRoom s (needs q)) (same_Some _ _ made) (room_now s fit)
+    subst (λ (q : Record). HasRoomFor s (needs q)) (same_Some _ _ made) (room_now s fit)
 grows_within s (event.Abort txn) r fit none made =
-    subst (λ (q : Record). HasRoom s (needs q)) (same_Some _ _ made) (room_now s fit)
+    subst (λ (q : Record). HasRoomFor s (needs q)) (same_Some _ _ made) (room_now s fit)
 grows_within s (event.UndoStep txn) r fit none made =
-    undo_has (λ (q : Record). HasRoom s (needs q)) s txn r made (λ p last. room_now s fit) (λ last. room_now s fit)
+    undo_has (λ (q : Record). HasRoomFor s (needs q)) s txn r made (λ p last. room_now s fit) (λ last. room_now s fit)
 grows_within s (event.Savepoint txn) r fit none made = absurd (cc)
 grows_within s (event.UndoTo txn at) r fit none made =
-    back_record_has (λ (q : Record). HasRoom s (needs q)) s txn at r made (λ p last. room_now s fit)
+    back_record_has (λ (q : Record). HasRoomFor s (needs q)) s txn at r made (λ p last. room_now s fit)
 grows_within s event.Force r fit none made = absurd (cc)
 grows_within s (event.WriteBegin page) r fit none made = absurd (cc)
 grows_within s (event.WriteEnd page) r fit none made = absurd (cc)
 grows_within s event.CkptBegin r fit none made =
-    subst (λ (q : Record). HasRoom s (needs q)) (same_Some _ _ made) (ckpt_begin_passes s none).room
+    subst (λ (q : Record). HasRoomFor s (needs q)) (same_Some _ _ made) (ckpt_begin_passes s none).room
 grows_within s event.CkptGather r fit none made =
     let room = (gather_passes s none).room r made in
-    gather_record_has (λ (q : Record). HasRoom s (needs q)) s r none made (λ c pages is finds. room)
+    gather_record_has (λ (q : Record). HasRoomFor s (needs q)) s r none made (λ c pages is finds. room)
     (λ c t is finds. room)
 grows_within s event.CkptEnd r fit none made =
-    end_record_has (λ (q : Record). HasRoom s (needs q)) s r none made (λ c is done. (ckpt_end_passes s none).room)
+    end_record_has (λ (q : Record). HasRoomFor s (needs q)) s r none made (λ c is done. (ckpt_end_passes s none).room)
 
 pub room_grows : (s : EngineState) (event : Event) (r : Record) → IsFit s → refusal s event ≡ None
     → record_for s event ≡ Some r → length (s.log ++ r ∷ []) + owed (s.log ++ r ∷ []) ≤ MAX_RECORDS

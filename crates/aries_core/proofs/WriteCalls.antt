@@ -17,7 +17,7 @@ use Rattle.aries_core.specs.declared.event.Event.{Event}
 use Rattle.aries_core.specs.declared.event.Event.TheVariants as event
 use Rattle.aries_core.specs.declared.refusal.Refusal.{Refusal}
 use Rattle.aries_core.specs.declared.refusal.Refusal.TheVariants.{StoreFault}
-use Rattle.aries_core.specs.EngineState.{MediaView, IsKept, begun_write, effect, ended_write, engine_view}
+use Rattle.aries_core.specs.EngineState.{MediaView, IsConsistent, begun_write, effect, ended_write, engine_view}
 use Rattle.aries_core.specs.EngineState.{forced_through}
 use Rattle.aries_core.specs.EventFits.{EventFits}
 use Rattle.copy_coverage.proofs.Copied.{copied_forced}
@@ -32,13 +32,13 @@ use Rattle.aries_core.proofs.Refusals.{write_end_passes}
 pub record Called {S D : Type 0} (stored : S → List Page) (it new : WrittenLog D) (table : Table)
     (pool after : PoolView S) (ckpts : MediaView) (call : Event) (reply : Result Answer Refusal) : Type 0 where
   pub step : Step (engine_view stored it pool ckpts).state call reply (engine_view stored new after ckpts).state
-  pub kept : IsKept stored (engine_view stored new after ckpts).state table after ckpts
+  pub kept : IsConsistent stored (engine_view stored new after ckpts).state table after ckpts
 
 -- a step that leaves the log and the table
 pub called : {S D : Type 0} (stored : S → List Page) (it new : WrittenLog D) (table : Table)
     (pool after : PoolView S) (ckpts : MediaView)
     (call : Event) (reply : Result Answer Refusal)
-    → IsKept stored (engine_view stored it pool ckpts).state table pool ckpts
+    → IsConsistent stored (engine_view stored it pool ckpts).state table pool ckpts
     → EventFits call → new.log ≡ it.log
     → Step (engine_view stored it pool ckpts).state call reply (engine_view stored new after ckpts).state
     → IsPoolOf stored it.log after → Called stored it new table pool after ckpts call reply
@@ -58,9 +58,9 @@ called stored it new table pool after ckpts call reply kept fits same step is = 
 -- ---- the log is forced further, while all else stays
 
 pub force_kept : {S D : Type 0} (stored : S → List Page) (it new : WrittenLog D) (table : Table) (pool : PoolView S)
-    (ckpts : MediaView) → IsKept stored (engine_view stored it pool ckpts).state table pool ckpts → new.log ≡ it.log
+    (ckpts : MediaView) → IsConsistent stored (engine_view stored it pool ckpts).state table pool ckpts → new.log ≡ it.log
     → it.forced_end ≤ new.forced_end → EndsAtRecord new
-    → IsKept stored (engine_view stored new pool ckpts).state table pool ckpts
+    → IsConsistent stored (engine_view stored new pool ckpts).state table pool ckpts
 force_kept stored it new table pool ckpts kept same no_less ends =
     let fit = kept.fit in
     record {
@@ -106,7 +106,7 @@ force_kept stored it new table pool ckpts kept same no_less ends =
 
 pub begun : {S D : Type 0} (stored : S → List Page) (it new : WrittenLog D) (table : Table)
     (pool after : PoolView S) (ckpts : MediaView)
-    (p lsn : ℕ) (q : Page) → IsKept stored (engine_view stored it pool ckpts).state table pool ckpts
+    (p lsn : ℕ) (q : Page) → IsConsistent stored (engine_view stored it pool ckpts).state table pool ckpts
     → refusal (engine_view stored it pool ckpts).state (event.WriteBegin p) ≡ None → p < length pool.states
     → q ≡ image it.log.records p → lsn ≡ q.lsn → new.log ≡ it.log
     → new.forced_end ≡ max it.forced_end (end_up_to it.log q.lsn)
@@ -130,7 +130,7 @@ of_image o P q is h = subst (λ (o : Option Page). IfSome o P) is h
 
 pub ended : {S D : Type 0} (stored : S → List Page) (it : WrittenLog D) (table : Table)
     (pool after : PoolView S) (ckpts : MediaView)
-    (p lsn : ℕ) → IsKept stored (engine_view stored it pool ckpts).state table pool ckpts
+    (p lsn : ℕ) → IsConsistent stored (engine_view stored it pool ckpts).state table pool ckpts
     → refusal (engine_view stored it pool ckpts).state (event.WriteEnd p) ≡ None → p < length pool.states
     → IfSome (state_at pool p).writing (λ q. lsn ≡ q.lsn)
     → IfSome (state_at pool p).writing (λ q. stored after.store ≡ set (stored pool.store) p q)
@@ -162,7 +162,7 @@ ended stored it table pool after ckpts p lsn kept none within at store states of
 
 pub repeated : {S D : Type 0} (stored : S → List Page) (it : WrittenLog D) (table : Table)
     (pool after : PoolView S) (ckpts : MediaView)
-    (p : ℕ) → IsKept stored (engine_view stored it pool ckpts).state table pool ckpts
+    (p : ℕ) → IsConsistent stored (engine_view stored it pool ckpts).state table pool ckpts
     → refusal (engine_view stored it pool ckpts).state (event.WriteEnd p) ≡ None → p < length pool.states
     → IfSome (state_at pool p).writing (λ q. StoresOrKeeps (stored pool.store) p q (stored after.store))
     → after ≡ record pool { store = after.store }

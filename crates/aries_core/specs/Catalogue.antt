@@ -27,10 +27,10 @@ pub data PageMark : Type 0 where
   was_kept : PageMark
 
 -- a copy of this kind is being read, or is complete, with a mark for each page; or it was dropped
-pub data Entry : Type 0 where
-  being_read : (kind : CopyKind) (marks : List PageMark) → Entry
-  is_complete : (kind : CopyKind) (marks : List PageMark) → Entry
-  was_dropped : Entry
+pub data CatalogueEntry : Type 0 where
+  being_read : (kind : CopyKind) (marks : List PageMark) → CatalogueEntry
+  is_complete : (kind : CopyKind) (marks : List PageMark) → CatalogueEntry
+  was_dropped : CatalogueEntry
 
 -- ---- what a copy is as an entry
 
@@ -39,7 +39,7 @@ mark_of undecided = not_decided
 mark_of (taken page) = was_taken page.lsn
 mark_of kept = was_kept
 
-abbrev pub entry_of : CopyState → Entry
+abbrev pub entry_of : CopyState → CatalogueEntry
 entry_of (reading copy) = being_read copy.kind (map mark_of copy.pages)
 entry_of (complete copy) = is_complete copy.kind (map mark_of copy.pages)
 entry_of dropped = was_dropped
@@ -47,17 +47,17 @@ entry_of dropped = was_dropped
 -- ---- the entries by ids, which count from 1
 
 -- the entry of an id; an id that was not given yet is as one whose copy was dropped
-abbrev pub entry_at : List Entry → ℕ → Entry
+abbrev pub entry_at : List CatalogueEntry → ℕ → CatalogueEntry
 entry_at entries zero = was_dropped
 entry_at entries (suc k) = slice_index_or entries k was_dropped
 
-abbrev pub with_entry : List Entry → ℕ → Entry → List Entry
+abbrev pub with_entry : List CatalogueEntry → ℕ → CatalogueEntry → List CatalogueEntry
 with_entry entries id entry = slice_set entries (id - 1) entry
 
 -- ---- what an accepted call makes of the entries
 
 -- a copy more, with the next id
-abbrev pub with_next_copy : List Entry → CopyKind → ℕ → List Entry
+abbrev pub with_next_copy : List CatalogueEntry → CopyKind → ℕ → List CatalogueEntry
 with_next_copy entries kind pages =
     entries ++ being_read kind (replicate pages not_decided) ∷ []
 
@@ -66,16 +66,16 @@ answered_mark (answer.Taken lsn) = was_taken lsn
 answered_mark answer.Kept = was_kept
 answered_mark other = not_decided
 
-abbrev pub with_mark : Entry → ℕ → PageMark → Entry
+abbrev pub with_mark : CatalogueEntry → ℕ → PageMark → CatalogueEntry
 with_mark (being_read kind marks) page mark = being_read kind (slice_set marks page mark)
 with_mark entry page mark = entry
 
-abbrev pub completed : Entry → Entry
+abbrev pub completed : CatalogueEntry → CatalogueEntry
 completed (being_read kind marks) = is_complete kind marks
 completed entry = entry
 
 -- an accepted call on copies gives one an id, decides of a page, completes a copy, or drops it
-abbrev pub with_copy_event : ℕ → List Entry → Event → Result Answer Refusal → List Entry
+abbrev pub with_copy_event : ℕ → List CatalogueEntry → Event → Result Answer Refusal → List CatalogueEntry
 with_copy_event pages entries event.CopyFull (Ok answer) = with_next_copy entries Full pages
 with_copy_event pages entries (event.CopyInc parent) (Ok answer) =
     with_next_copy entries (Inc parent) pages
@@ -87,14 +87,14 @@ with_copy_event pages entries (event.DropCopy copy) (Ok answer) =
     with_entry entries copy was_dropped
 with_copy_event pages entries event reply = entries
 
-abbrev pub catalogue_from : ℕ → List Entry → List Event → List (Result Answer Refusal) → List Entry
+abbrev pub catalogue_from : ℕ → List CatalogueEntry → List Event → List (Result Answer Refusal) → List CatalogueEntry
 catalogue_from pages entries [] replies = entries
 catalogue_from pages entries (event ∷ events) [] = entries
 catalogue_from pages entries (event ∷ events) (reply ∷ replies) =
     catalogue_from pages (with_copy_event pages entries event reply) events replies
 
 -- the copies of a volume of so many pages, in order of their ids
-abbrev pub catalogue : ℕ → List Event → List (Result Answer Refusal) → List Entry
+abbrev pub catalogue : ℕ → List Event → List (Result Answer Refusal) → List CatalogueEntry
 catalogue pages events replies = catalogue_from pages [] events replies
 
 -- ---- when a call on copies is refused
@@ -104,32 +104,32 @@ has_no_mark not_decided = true
 has_no_mark mark = false
 
 -- a copy that is to be read on, or to be dropped
-abbrev pub reading_refusal : Entry → Option Refusal
+abbrev pub reading_refusal : CatalogueEntry → Option Refusal
 reading_refusal (being_read kind marks) = None
 reading_refusal (is_complete kind marks) = Some CopyNotOpen
 reading_refusal was_dropped = Some NoCopy
 
 -- a copy that is to be a parent, or to repair a page
-abbrev pub parent_refusal : Entry → Option Refusal
+abbrev pub parent_refusal : CatalogueEntry → Option Refusal
 parent_refusal (being_read kind marks) = Some CopyNotComplete
 parent_refusal (is_complete kind marks) = None
 parent_refusal was_dropped = Some NoCopy
 
 -- the marks of a copy
-abbrev pub marks_of : Entry → List PageMark
+abbrev pub marks_of : CatalogueEntry → List PageMark
 marks_of (being_read kind marks) = marks
 marks_of (is_complete kind marks) = marks
 marks_of was_dropped = []
 
-abbrev pub has_mark : Entry → ℕ → Bool
+abbrev pub has_mark : CatalogueEntry → ℕ → Bool
 has_mark entry page = not (has_no_mark (slice_index_or (marks_of entry) page not_decided))
 
 -- a copy more is refused once each id was given
-abbrev pub count_refusal : List Entry → Option Refusal
+abbrev pub count_refusal : List CatalogueEntry → Option Refusal
 count_refusal entries = refused_if (nat_le MAX_COPIES (length entries)) TooManyCopies
 
 -- the refusal of a call on copies, in the order of the checks, where a master is there or not
-abbrev pub catalogue_refusal : Bool → ℕ → List Entry → Event → Option Refusal
+abbrev pub catalogue_refusal : Bool → ℕ → List CatalogueEntry → Event → Option Refusal
 catalogue_refusal has_master pages entries event.CopyFull =
     or_else (refused_if (not has_master) NoMaster) (count_refusal entries)
 catalogue_refusal has_master pages entries (event.CopyInc parent) =

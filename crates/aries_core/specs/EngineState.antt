@@ -40,7 +40,7 @@ use Rattle.copy_vault.specs.Copy.{CopyView}
 use Rattle.copy_vault.specs.Vault.{CopyState, answer_in, decided, opened, sealed, state_of}
 use Rattle.copy_vault.specs.Vault.{taken_in, without}
 use Rattle.copy_coverage.specs.Copied.{AreCopied, copy_in}
-use Rattle.copy_coverage.specs.Retired.{HasRoom}
+use Rattle.copy_coverage.specs.Retired.{HasRoomForUndo}
 use Rattle.aries_core.specs.declared.event.Answer.{Answer}
 use Rattle.aries_core.specs.declared.event.Answer.TheVariants as answer
 use Rattle.aries_core.specs.declared.event.Event.{Event}
@@ -417,7 +417,7 @@ HaveMaster master copies = (id : ℕ) (copy : CopyView) → copy_in (state_of co
 pub record IsFit (s : EngineState) : Type 0 where
   pub valid : IsLog (log_of s)
   pub linked : IsLinked s.log
-  pub room : HasRoom s.log
+  pub room : HasRoomForUndo s.log
   pub forced : (k : ℕ) × (k ≤ length s.log) × (s.forced_end ≡ lsn_of k)
   pub counted : AreCounted s
   pub resident : AreImages s.log s.resident
@@ -467,7 +467,7 @@ engine_view stored it pool ckpts = record {
 
 -- the engine is fit, and its transaction table, its pool, the session of its checkpoint and its
 -- Comps that go back to savepoints are those of its log
-pub record IsKept {S : Type 0} (stored : S → List Page) (s : EngineState) (table : Table)
+pub record IsConsistent {S : Type 0} (stored : S → List Page) (s : EngineState) (table : Table)
     (pool : PoolView S) (ckpts : MediaView) : Type 0 where
   pub fit : IsFit s
   pub table_of_log : IsTableOf s.log table

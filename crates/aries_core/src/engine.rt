@@ -59,7 +59,7 @@ pub struct Engine<S: PageStore, D: LogDevice> {
 }
 
 impl<S: PageStore, D: LogDevice> Model for Engine<S, D> {
-    ghost use Rattle.aries_core.specs.EngineState.{EngineView, IsKept, engine_view};
+    ghost use Rattle.aries_core.specs.EngineState.{EngineView, IsConsistent, engine_view};
     ghost use Rattle.aries_core.specs.OpenCkpt.{media_view};
 
     ghost Value = { EngineView S D };
@@ -68,7 +68,7 @@ impl<S: PageStore, D: LogDevice> Model for Engine<S, D> {
         (media_view it.master it.session it.vault.copies it.returns.made) };
 
     ghost invariant = { λ it.
-        IsKept S.stored
+        IsConsistent S.stored
         (engine_view S.stored it.log it.pool
         (media_view it.master it.session it.vault.copies it.returns.made)).state
         it.txns it.pool (media_view it.master it.session it.vault.copies it.returns.made) };

@@ -195,7 +195,7 @@ impl<S: PageStore, D: LogDevice> Engine<S, D> {
             return Err(Refusal::StoreFault);
         }
         let before = self.pool.current(page).slots[slot.0 as usize];
-        self.txns.settle(txn, before);
+        self.txns.set_before(txn, before);
         let next = Record::Update {
             lsn,
             txn,

@@ -6,7 +6,7 @@ ghost use Rattle.log_records.specs.Log.{Log as LogValue};
 ghost use Rattle.buffer_pool.specs.Pool.{IsPoolOf, written_of};
 ghost use Rattle.txn_table.specs.TxnTable.{IsTableOf};
 ghost use Rattle.fuzzy_ckpt.specs.Ckpt.{AreCovered, IsCkptOf, gathered_ckpt};
-ghost use Rattle.fuzzy_ckpt.specs.Steps.{HasRoom, gather_step, with_step};
+ghost use Rattle.fuzzy_ckpt.specs.Steps.{HasRoomForStep, gather_step, with_step};
 ghost use Rattle.aries_core.specs.Gather.{is_done, left_of};
 ghost use Rattle.aries_core.specs.OpenCkpt.{view_of};
 
@@ -69,7 +69,7 @@ impl OpenCkpt {
         requires pool { IsPoolOf S.stored log.old.log pool.now }
         requires table { IsTableOf log.old.log.records txns.now }
         requires covered { AreCovered log.old.log.records (S.stored pool.now.store) (view_of self) }
-        requires room { HasRoom log.old.log.records (gather_step log.old.log.records
+        requires room { HasRoomForStep log.old.log.records (gather_step log.old.log.records
             (written_of pool.now.states) (view_of self)).next }
 
         ensures gathered { IfOk result (λ c. view_of c ≡ (gather_step log.old.log.records

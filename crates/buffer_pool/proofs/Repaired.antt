@@ -14,7 +14,7 @@ use Rattle.log_records.specs.Log.{IsLog, Log}
 use Rattle.log_records.proofs.Coverage.{image_is_clean}
 use Rattle.log_records.proofs.Stored.{past_is_older, past_now}
 use Rattle.page_store.specs.Store.{StoresOrKeeps}
-use Rattle.buffer_pool.specs.Pool.{IsPoolOf, IsStateOf, IsWhole, PageState, PoolView, repaired, state_at}
+use Rattle.buffer_pool.specs.Pool.{IsPoolOf, IsStateOf, IsWhole, PageState, PoolView, stored_as_now, state_at}
 use Rattle.buffer_pool.specs.Pool.{with_state, write_ended, writing_of, written_of}
 use Rattle.buffer_pool.proofs.Pools.{at_column, column_same, held_set, pool_kept, states_set, within_set}
 use Rattle.buffer_pool.proofs.States.{image_below}
@@ -125,12 +125,12 @@ is_idle (Some q) none = cc
 
 -- where no write of a page is in progress, no change since an image is noted
 pub state_idle : (log : Log) (p : ℕ) (s : PageState) (lsn : ℕ) → IsStateOf log p s → s.writing ≡ None
-    → write_ended s lsn ≡ repaired lsn
+    → write_ended s lsn ≡ stored_as_now lsn
 state_idle log p s lsn is idle =
     let none : s.since ≡ None = is.since ∙ ap (option_and_then (λ x. rec_lsn log.records p x.lsn)) idle in
     ap (λ (o : Option ℕ). record { written = lsn; rec_lsn = o; writing = None; since = None }) none
 
-state_repaired : (log : Log) (p : ℕ) → IsLog log → IsStateOf log p (repaired (image log.records p).lsn)
+state_repaired : (log : Log) (p : ℕ) → IsLog log → IsStateOf log p (stored_as_now (image log.records p).lsn)
 state_repaired log p valid = record {
   written = image_below log p valid;
   image = tt;
@@ -145,11 +145,11 @@ pub pool_repaired : {S : Type 0} (stored_in : S → List Page) (log : Log) (pool
     (q : Page) → n < length pool.states → (state_at pool n).writing ≡ None → q ≡ image log.records n
     → length (stored_in pool.store) ≡ length pool.states → stored_in store ≡ set (stored_in pool.store) n q
     → IsPoolOf stored_in log pool
-    → IsPoolOf stored_in log (record (with_state pool n (repaired q.lsn)) { store = store })
+    → IsPoolOf stored_in log (record (with_state pool n (stored_as_now q.lsn)) { store = store })
 pool_repaired stored_in log pool store n q there idle now count stores is =
     let states = pool.states in
     let old = state_at pool n in
-    let new : PageState = repaired q.lsn in
+    let new : PageState = stored_as_now q.lsn in
     let past : IsPast log.records n q = subst (IsPast log.records n) (sym now) (past_now log.records n) in
     let known : n < length (written_of states) = omega (arith, length-map states (λ (s : PageState). s.written)) in
     let stored : n < length (stored_in pool.store) = omega arith in
@@ -163,7 +163,7 @@ pool_repaired stored_in log pool store n q there idle now count stores is =
       resident = is.resident;
       held = held_set pool.resident states n new there (λ dirty. (cc)) is.held;
       states = states_set (IsStateOf log) states n new
-          (subst (λ (x : Page). IsStateOf log n (repaired x.lsn)) (sym now) (state_repaired log n is.valid))
+          (subst (λ (x : Page). IsStateOf log n (stored_as_now x.lsn)) (sym now) (state_repaired log n is.valid))
           (λ p d lt other. is.states p d lt) there;
       stored = rw (
         stores,

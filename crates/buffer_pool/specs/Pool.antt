@@ -125,8 +125,8 @@ write_ended state lsn = record {
 }
 
 -- the page is stored as it is now, with this LSN: it is not dirty, and not being written
-abbrev pub repaired : ℕ → PageState
-repaired lsn = record unwritten { written = lsn }
+abbrev pub stored_as_now : ℕ → PageState
+stored_as_now lsn = record unwritten { written = lsn }
 
 -- ---- calls of a pool
 
@@ -157,7 +157,7 @@ pub record IsWhole (stored : List Page) (states : List PageState) : Type 0 where
   pub stored_numbers : AreNumbered stored
 
 -- and the search for a clean page among the frames passes over none
-pub record IsKept (stored : List Page) (states : List PageState) (frames : FramesView)
+pub record IsPool (stored : List Page) (states : List PageState) (frames : FramesView)
     : Type 0 where
   pub whole : IsWhole stored states
   pub sought : IsSought (is_clean_in states) frames

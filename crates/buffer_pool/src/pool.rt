@@ -12,7 +12,7 @@ ghost use Rattle.log_records.specs.Coverage.{dirty, entries_of, next_dirty};
 ghost use Rattle.log_records.specs.Record.{change_of};
 ghost use Rattle.page_store.specs.Store.{StoresOrKeeps};
 ghost use Rattle.buffer_pool.specs.Frames.{IsResident, fetched, is_full, is_resident};
-ghost use Rattle.buffer_pool.specs.Pool.{IsPoolOf, is_clean, new_pool, repaired, state_at};
+ghost use Rattle.buffer_pool.specs.Pool.{IsPoolOf, is_clean, new_pool, stored_as_now, state_at};
 ghost use Rattle.buffer_pool.specs.Pool.{whole_pool};
 ghost use Rattle.buffer_pool.specs.Pool.{with_state, write_begun, write_ended, writing_of};
 ghost use Rattle.buffer_pool.specs.Pool.{written_of};
@@ -39,7 +39,7 @@ pub struct Pool<S: PageStore> {
 
 impl<S: PageStore> Model for Pool<S> {
     ghost use Rattle.std.specs.Prelude.{◌-◌};
-    ghost use Rattle.buffer_pool.specs.Pool.{IsKept, PoolView};
+    ghost use Rattle.buffer_pool.specs.Pool.{IsPool, PoolView};
 
     ghost Value = { PoolView S };
 
@@ -51,7 +51,7 @@ impl<S: PageStore> Model for Pool<S> {
       states = it.states;
     } };
 
-    ghost invariant = { λ it. IsKept (S.stored it.store) it.states it.frames };
+    ghost invariant = { λ it. IsPool (S.stored it.store) it.states it.frames };
 }
 
 impl<S: PageStore + Drop> Pool<S> {
@@ -349,7 +349,7 @@ impl<S: PageStore> Pool<S> {
         ensures stored { OnOk result
             (S.stored self.new.store ≡ slice_set (S.stored self.old.store) number rebuilt.now) }
         ensures clean { OnOk result (self.new ≡ record (with_state self.old number
-            (repaired rebuilt.now.lsn)) { store = self.new.store }) }
+            (stored_as_now rebuilt.now.lsn)) { store = self.new.store }) }
 
         ensures either { OnErr result
             (StoresOrKeeps (S.stored self.old.store) number rebuilt.now (S.stored self.new.store)) }

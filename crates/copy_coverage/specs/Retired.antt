@@ -20,11 +20,11 @@ pub record RetiredView : Type 0 where
   pub copies : List CopyState
 
 -- there is room in a log to take back what is open at any place of it
-abbrev pub HasRoom : List Record → Type 0
-HasRoom rs = (n : ℕ) → n ≤ length rs → length (take n rs) + owed (take n rs) ≤ MAX_RECORDS
+abbrev pub HasRoomForUndo : List Record → Type 0
+HasRoomForUndo rs = (n : ℕ) → n ≤ length rs → length (take n rs) + owed (take n rs) ≤ MAX_RECORDS
 
 -- the master record names a complete checkpoint of the log whose end is forced
-pub record IsMasterOf (rs : List Record) (forced_end : ℕ) (master : Master) : Type 0 where
+pub record NamesCheckpoint (rs : List Record) (forced_end : ℕ) (master : Master) : Type 0 where
   pub complete : IsCompleteCheckpoint rs master.begin master.end
   pub forced : master.end < forced_end
 
@@ -32,9 +32,9 @@ pub record IsMasterOf (rs : List Record) (forced_end : ℕ) (master : Master) : 
 pub record IsRetired (it : RetiredView) : Type 0 where
   pub valid : IsLog it.log
   pub linked : IsLinked it.log.records
-  pub room : HasRoom it.log.records
+  pub room : HasRoomForUndo it.log.records
   pub forced : (k : ℕ) × (k ≤ length it.log.records) × (it.forced_end ≡ lsn_of k)
-  pub master : IfSome it.master (IsMasterOf it.log.records it.forced_end)
+  pub master : IfSome it.master (NamesCheckpoint it.log.records it.forced_end)
   pub copies : AreRestorable it.log it.forced_end it.copies
   -- a copy begins where a checkpoint did, and is complete only once that one is
   pub noted : (id : ℕ) (copy : CopyView) → state_of it.copies id ≡ complete copy → IsSome it.master

@@ -9,8 +9,8 @@ use Rattle.std.proofs.lemmas.List.{get_or-set_other, get_or_append_left, get_or_
 use Rattle.std.proofs.lemmas.List.{length-map, length-replicate, length-set, length_push, map-set}
 use Rattle.page_core.specs.declared.page.Page.{Page}
 use Rattle.page_core.specs.Page.{formatted}
-use Rattle.copy_vault.specs.declared.slots.Mark.{Mark}
-use Rattle.copy_vault.specs.declared.slots.Mark.TheVariants.{Undecided, Taken, Kept}
+use Rattle.copy_vault.specs.declared.slots.PlacedDecision.{PlacedDecision}
+use Rattle.copy_vault.specs.declared.slots.PlacedDecision.TheVariants.{Undecided, Taken, Kept}
 use Rattle.copy_vault.specs.Copy.{PageDecision, undecided, taken, kept, decision_at, page_of, taken_count}
 use Rattle.copy_vault.specs.Copy.{undecided_count}
 use Rattle.copy_vault.specs.Slots.{AreInPlaceBy, AreTaken, AreWithin, IsMarked, decision_by, decisions_by}
@@ -21,13 +21,13 @@ not_taken page e = cc
 
 -- ---- pages that come behind change no mark's meaning
 
-head_same : (pages more : List Page) (m : Mark) → ((k : ℕ) → m ≡ Taken k → k < length pages)
+head_same : (pages more : List Page) (m : PlacedDecision) → ((k : ℕ) → m ≡ Taken k → k < length pages)
     → decision_by (pages ++ more) m ≡ decision_by pages m
 head_same pages more Undecided within = refl
 head_same pages more (Taken k) within = ap taken (get_or_append_left pages more (formatted 0) k (within k refl))
 head_same pages more Kept within = refl
 
-same_more : (pages more : List Page) (marks : List Mark) → AreWithin (length pages) marks
+same_more : (pages more : List Page) (marks : List PlacedDecision) → AreWithin (length pages) marks
     → decisions_by (pages ++ more) marks ≡ decisions_by pages marks
 same_more pages more [] within = refl
 same_more pages more (m ∷ ms) within =
@@ -37,7 +37,7 @@ same_more pages more (m ∷ ms) within =
 
 -- ---- a mark that is set
 
-within_set : (marks : List Mark) (p : ℕ) (m : Mark) (old end : ℕ) → AreWithin old marks → old ≤ end
+within_set : (marks : List PlacedDecision) (p : ℕ) (m : PlacedDecision) (old end : ℕ) → AreWithin old marks → old ≤ end
     → p < length marks → ((k : ℕ) → m ≡ Taken k → k < end) → AreWithin end (slice_set marks p m)
 within_set marks p m old end within le lt here q k e = elim (cases_lt q p) [
   | inl below ↦ other (omega arith)
@@ -50,7 +50,7 @@ within_set marks p m old end within le lt here q k e = elim (cases_lt q p) [
     other : q ≢ p → k < end
     other ne = let lower = within q k (sym (get_or-set_other marks p q m Undecided ne) ∙ e) in omega arith
 
-placed_set : (pages more : List Page) (marks : List Mark) (p : ℕ) (m : Mark) → AreWithin (length pages) marks
+placed_set : (pages more : List Page) (marks : List PlacedDecision) (p : ℕ) (m : PlacedDecision) → AreWithin (length pages) marks
     → AreInPlaceBy pages marks → p < length marks
     → ((k : ℕ) (d : Page) → m ≡ Taken k → (get_or (pages ++ more) k d).number ≡ p)
     → AreInPlaceBy (pages ++ more) (slice_set marks p m)
@@ -87,7 +87,7 @@ stands_take pages ds p x stands lt none place k d below = elim (cases_lt k (leng
       (get_or-set_at ds p x.number (taken x) undecided place lt)
 ]
 
-pub decisions_take : (pages : List Page) (marks : List Mark) (p : ℕ) (x : Page) → AreWithin (length pages) marks
+pub decisions_take : (pages : List Page) (marks : List PlacedDecision) (p : ℕ) (x : Page) → AreWithin (length pages) marks
     → decisions_by (pages ++ x ∷ []) (slice_set marks p (Taken (length pages)))
     ≡ slice_set (decisions_by pages marks) p (taken x)
 decisions_take pages marks p x within =
@@ -97,7 +97,7 @@ decisions_take pages marks p x within =
     ∙ ap (λ (y : Page). slice_set (decisions_by pages marks) p (taken y))
     (get_or_push pages x (formatted 0) (length pages) refl)
 
-pub marked_take : (marks : List Mark) (pages : List Page) (left room p : ℕ) (x : Page) → IsMarked marks pages left room
+pub marked_take : (marks : List PlacedDecision) (pages : List Page) (left room p : ℕ) (x : Page) → IsMarked marks pages left room
     → p < length (decisions_by pages marks) → decision_at (decisions_by pages marks) p ≡ undecided → x.number ≡ p
     → IsMarked (slice_set marks p (Taken (length pages))) (pages ++ x ∷ []) (left - 1) room
 marked_take marks pages left room p x old lt none place =
@@ -127,11 +127,11 @@ marked_take marks pages left room p x old lt none place =
 not_kept : (k : ℕ) → ¬ (Kept ≡ Taken k)
 not_kept k e = cc
 
-pub decisions_keep : (pages : List Page) (marks : List Mark) (p : ℕ)
+pub decisions_keep : (pages : List Page) (marks : List PlacedDecision) (p : ℕ)
     → decisions_by pages (slice_set marks p Kept) ≡ slice_set (decisions_by pages marks) p kept
 decisions_keep pages marks p = map-set (decision_by pages) marks p Kept
 
-pub marked_keep : (marks : List Mark) (pages : List Page) (left room p : ℕ) → IsMarked marks pages left room
+pub marked_keep : (marks : List PlacedDecision) (pages : List Page) (left room p : ℕ) → IsMarked marks pages left room
     → p < length (decisions_by pages marks) → decision_at (decisions_by pages marks) p ≡ undecided
     → IsMarked (slice_set marks p Kept) pages (left - 1) room
 marked_keep marks pages left room p old lt none =
@@ -164,7 +164,7 @@ marked_keep marks pages left room p old lt none =
         other ne = old.placed q k d (sym (get_or-set_other marks p q Kept Undecided ne) ∙ e)
 
 -- there is room for a page more, and its number fits
-pub place_left : (marks : List Mark) (pages : List Page) (left room p : ℕ) → IsMarked marks pages left room
+pub place_left : (marks : List PlacedDecision) (pages : List Page) (left room p : ℕ) → IsMarked marks pages left room
     → p < length (decisions_by pages marks) → decision_at (decisions_by pages marks) p ≡ undecided
     → length pages < length marks
 place_left marks pages left room p old lt none =
@@ -179,7 +179,7 @@ place_left marks pages left room p old lt none =
       length-map marks (decision_by pages),
     )
 
-pub some_left : (marks : List Mark) (pages : List Page) (left room p : ℕ) → IsMarked marks pages left room
+pub some_left : (marks : List PlacedDecision) (pages : List Page) (left room p : ℕ) → IsMarked marks pages left room
     → p < length (decisions_by pages marks) → decision_at (decisions_by pages marks) p ≡ undecided → 1 ≤ left
 some_left marks pages left room p old lt none =
     omega (arith, old.left_is, left_set (decisions_by pages marks) p kept lt none refl)
@@ -212,7 +212,7 @@ marked_none n room few fits = record {
 
 -- ---- a page that was taken stands in the list
 
-pub mark_read : (pages : List Page) (marks : List Mark) (p : ℕ)
+pub mark_read : (pages : List Page) (marks : List PlacedDecision) (p : ℕ)
     → decision_at (decisions_by pages marks) p ≡ decision_by pages (get_or marks p Undecided)
 mark_read pages marks p = get_or-map (decision_by pages) marks p Undecided
 
@@ -222,26 +222,26 @@ same_default (x ∷ xs) zero a b lt = refl
 same_default (x ∷ xs) (suc n) a b lt = same_default xs n a b (omega arith)
 
 -- the mark that stands there
-pub mark_is : (pages : List Page) (marks : List Mark) (n k : ℕ) (m : Mark) → n < length (decisions_by pages marks)
+pub mark_is : (pages : List Page) (marks : List PlacedDecision) (n k : ℕ) (m : PlacedDecision) → n < length (decisions_by pages marks)
     → m ≡ get_or marks n m → m ≡ Taken k → get_or marks n Undecided ≡ Taken k
 mark_is pages marks n k m lt at is =
     same_default marks n Undecided m (omega (arith, length-map marks (decision_by pages))) ∙ sym at ∙ is
 
-pub page_read : (pages : List Page) (marks : List Mark) (n k : ℕ) (page d : Page) → k < length pages
+pub page_read : (pages : List Page) (marks : List PlacedDecision) (n k : ℕ) (page d : Page) → k < length pages
     → get_or marks n Undecided ≡ Taken k → page ≡ get_or pages k d
     → page ∷ [] ≡ page_of (decision_at (decisions_by pages marks) n)
 page_read pages marks n k page d lt at is =
     ap (λ (x : Page). x ∷ []) (is ∙ same_default pages k d (formatted 0) lt)
     ∙ sym (ap page_of (mark_read pages marks n ∙ ap (decision_by pages) at))
 
-pub marked_all : (marks : List Mark) (pages : List Page) (left room p : ℕ) (page : Page)
+pub marked_all : (marks : List PlacedDecision) (pages : List Page) (left room p : ℕ) (page : Page)
     → IsMarked marks pages left room
     → decision_at (decisions_by pages marks) p ≡ taken page
     → (k : ℕ) × (k < length pages) × ((d : Page) → (get_or pages k d).number ≡ p)
 marked_all marks pages left room p page old e = named (get_or marks p Undecided) refl
     (sym (mark_read pages marks p) ∙ e)
   where
-    named : (m : Mark) → get_or marks p Undecided ≡ m → decision_by pages m ≡ taken page
+    named : (m : PlacedDecision) → get_or marks p Undecided ≡ m → decision_by pages m ≡ taken page
         → (k : ℕ) × (k < length pages) × ((d : Page) → (get_or pages k d).number ≡ p)
     named Undecided is e = absurd (not_taken page e)
     named (Taken k) is e = (k, old.within p k is, λ d. old.placed p k d is)

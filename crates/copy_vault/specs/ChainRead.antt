@@ -47,7 +47,7 @@ pub record IsRightTo (end next : ℕ) (h : ArchiveHeader) (bytes : List ℕ) : T
   pub whole : 0 < next + h.taken → length pages ≡ h.taken → rest ≡ []
 
 -- a page stands here that may follow these, and then more
-pub record Stands (h : ArchiveHeader) (pages : List Page) (rest : List ℕ) (page : Page)
+pub record StandsNext (h : ArchiveHeader) (pages : List Page) (rest : List ℕ) (page : Page)
     (more : List ℕ) : Type 0 where
   pub front : IsFront h (pages ++ page ∷ [])
   pub spelled : rest ≡ page_bytes page ++ more
@@ -57,7 +57,7 @@ pub record HasMoreBehind (end : ℕ) (h : ArchiveHeader) (pages : List Page) (re
     : Type 0 where
   pub page : Page
   pub more : List ℕ
-  pub stands : Stands h pages rest page more
+  pub stands : StandsNext h pages rest page more
   pub below : page.lsn < end
   pub last : length pages + 1 ≡ h.taken
   pub some : 0 < length more
@@ -67,7 +67,7 @@ pub record IsPastEnd (end : ℕ) (h : ArchiveHeader) (pages : List Page) (rest :
     (number : ℕ) : Type 0 where
   pub page : Page
   pub more : List ℕ
-  pub stands : Stands h pages rest page more
+  pub stands : StandsNext h pages rest page more
   pub number_is : number ≡ page.number
   pub past : end ≤ page.lsn
 

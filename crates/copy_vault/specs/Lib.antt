@@ -8,7 +8,7 @@ pub mod ChainRead
 pub mod ChainReading
 pub mod Copy
 pub mod FaultText
-pub mod Held
+pub mod HeldDecisions
 pub mod Lent
 pub mod Reading
 pub mod Slots

@@ -7,8 +7,8 @@ use Rattle.std.specs.declared.alloc.Global.{Global}
 use Rattle.std.specs.declared.boxed.Box.{Box}
 use Rattle.page_core.specs.declared.page.Page.{Page}
 use Rattle.page_core.specs.Page.{formatted}
-use Rattle.copy_vault.specs.declared.slots.Mark.{Mark}
-use Rattle.copy_vault.specs.declared.slots.Mark.TheVariants.{Undecided, Taken, Kept}
+use Rattle.copy_vault.specs.declared.slots.PlacedDecision.{PlacedDecision}
+use Rattle.copy_vault.specs.declared.slots.PlacedDecision.TheVariants.{Undecided, Taken, Kept}
 use Rattle.copy_vault.specs.Copy.{PageDecision, undecided, taken, kept, decision_at, taken_count}
 use Rattle.copy_vault.specs.Copy.{undecided_count}
 
@@ -19,21 +19,21 @@ values places = map (λ place. place.value) places
 -- ---- a mark a page
 
 -- what a mark says of its page, where these pages were taken
-abbrev pub decision_by : List Page → Mark → PageDecision
+abbrev pub decision_by : List Page → PlacedDecision → PageDecision
 decision_by pages Undecided = undecided
 decision_by pages (Taken k) = taken (slice_index_or pages k (formatted 0))
 decision_by pages Kept = kept
 
 -- what the marks say of each page
-abbrev pub decisions_by : List Page → List Mark → List PageDecision
+abbrev pub decisions_by : List Page → List PlacedDecision → List PageDecision
 decisions_by pages marks = map (decision_by pages) marks
 
 -- the marks name pages below this one only
-abbrev pub AreWithin : ℕ → List Mark → Type 0
+abbrev pub AreWithin : ℕ → List PlacedDecision → Type 0
 AreWithin end marks = (p k : ℕ) → slice_index_or marks p Undecided ≡ Taken k → k < end
 
 -- each mark names a page of its own number
-abbrev pub AreInPlaceBy : List Page → List Mark → Type 0
+abbrev pub AreInPlaceBy : List Page → List PlacedDecision → Type 0
 AreInPlaceBy pages marks = (p k : ℕ) (d : Page) → slice_index_or marks p Undecided ≡ Taken k
     → (slice_index_or pages k d).number ≡ p
 
@@ -44,7 +44,7 @@ AreTaken pages decisions = (k : ℕ) (d : Page) → k < length pages
 
 -- there are no more pages than page numbers fit; those that were taken stand in a list, which has
 -- room for all, and of so many nothing is decided
-pub record IsMarked (marks : List Mark) (pages : List Page) (left room : ℕ) : Type 0 where
+pub record IsMarked (marks : List PlacedDecision) (pages : List Page) (left room : ℕ) : Type 0 where
   pub few : length marks < 2 ^ 32
   pub left_is : left ≡ undecided_count (decisions_by pages marks)
   pub counted : length pages ≡ taken_count (decisions_by pages marks)

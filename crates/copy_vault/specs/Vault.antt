@@ -13,8 +13,8 @@ use Rattle.copy_vault.specs.declared.fault.CopyFault.{CopyFault}
 use Rattle.copy_vault.specs.declared.fault.CopyFault.TheVariants.{OutOfMemory, NoCopy, CopyNotOpen}
 use Rattle.copy_vault.specs.declared.fault.CopyFault.TheVariants.{CopyNotComplete}
 use Rattle.copy_vault.specs.declared.fault.CopyFault.TheVariants.{PagesLeft, TooManyCopies}
-use Rattle.copy_vault.specs.declared.vault.Entry.{Entry}
-use Rattle.copy_vault.specs.declared.vault.Entry.TheVariants as entry
+use Rattle.copy_vault.specs.declared.vault.VaultEntry.{VaultEntry}
+use Rattle.copy_vault.specs.declared.vault.VaultEntry.TheVariants as entry
 use Rattle.copy_vault.specs.Copy.{CopyView, PageDecision, new_copy, with_decision, decided_by}
 use Rattle.copy_vault.specs.Copy.{answer_of, decision_at, least_undecided, taken_count, undecided}
 
@@ -151,21 +151,21 @@ pub record VaultView : Type 0 where
   pub rooms : List Bool
 
 -- there is room for a page that the copy of this id takes
-abbrev pub HasRoom : VaultView → ℕ → Type 0
-HasRoom vault id = slice_index_or vault.rooms (id - 1) false ≡ true
+abbrev pub HasRoomForPage : VaultView → ℕ → Type 0
+HasRoomForPage vault id = slice_index_or vault.rooms (id - 1) false ≡ true
 
 -- what a vault keeps of a copy
-abbrev pub state_in : Entry → CopyState
+abbrev pub state_in : VaultEntry → CopyState
 state_in (entry.Reading it) = reading it.copy
 state_in (entry.Complete copy) = complete copy
 state_in entry.Dropped = dropped
 
-abbrev pub room_in : Entry → Bool
+abbrev pub room_in : VaultEntry → Bool
 room_in (entry.Reading it) = it.has_room
 room_in (entry.Complete copy) = false
 room_in entry.Dropped = false
 
-abbrev pub vault_view : List Entry → VaultView
+abbrev pub vault_view : List VaultEntry → VaultView
 vault_view entries = record { copies = map state_in entries; rooms = map room_in entries }
 
 -- the copy of this id is complete, and was there before the other one
@@ -185,14 +185,14 @@ pub record IsOfId (copies : List CopyState) (id : ℕ) (copy : CopyView) : Type 
   pub parent : HasParent copies id copy.kind
 
 -- what is kept of the copy of this id: it knows from where on it takes pages
-abbrev pub IsKept : List CopyState → ℕ → Entry → Type 0
-IsKept copies id (entry.Reading it) =
+abbrev pub IsOfVault : List CopyState → ℕ → VaultEntry → Type 0
+IsOfVault copies id (entry.Reading it) =
     IsOfId copies id it.copy × (it.since ≡ since_of copies it.copy.kind)
-IsKept copies id (entry.Complete copy) = IsOfId copies id copy
-IsKept copies id entry.Dropped = Unit {0}
+IsOfVault copies id (entry.Complete copy) = IsOfId copies id copy
+IsOfVault copies id entry.Dropped = Unit {0}
 
 -- what is kept of each copy, and there are no more than ids
-pub record IsVault (entries : List Entry) : Type 0 where
+pub record IsVault (entries : List VaultEntry) : Type 0 where
   pub few : length entries ≤ MAX_COPIES
   pub each : (k : ℕ)
-      → IsKept (map state_in entries) (k + 1) (slice_index_or entries k entry.Dropped)
+      → IsOfVault (map state_in entries) (k + 1) (slice_index_or entries k entry.Dropped)

@@ -11,7 +11,7 @@ use std::marker::Model;
 
 /// How the decisions of a complete copy are held.
 #[derive(Drop)]
-pub enum Held {
+pub enum HeldDecisions {
     /// As they were made while the volume was read.
     Marked(Slots),
     /// As they were read from an archive.
@@ -21,13 +21,13 @@ pub enum Held {
 /// What a complete copy has decided of each of its pages.
 #[derive(Drop)]
 pub struct CopyPages {
-    held: Held,
+    held: HeldDecisions,
 }
 
 impl Model for CopyPages {
     ghost use Rattle.std.specs.Prelude.{List};
     ghost use Rattle.copy_vault.specs.Copy.{PageDecision};
-    ghost use Rattle.copy_vault.specs.Held.{decisions_in};
+    ghost use Rattle.copy_vault.specs.HeldDecisions.{decisions_in};
 
     ghost Value = { List PageDecision };
 
@@ -40,7 +40,7 @@ impl CopyPages {
         ensures { result ≡ slots }
     {
         CopyPages {
-            held: Held::Marked(slots),
+            held: HeldDecisions::Marked(slots),
         }
     }
 
@@ -49,7 +49,7 @@ impl CopyPages {
         ensures { result ≡ pages }
     {
         CopyPages {
-            held: Held::Rising(pages),
+            held: HeldDecisions::Rising(pages),
         }
     }
 
@@ -61,8 +61,8 @@ impl CopyPages {
             return None;
         }
         match &self.held {
-            Held::Marked(slots) => slots.page(number),
-            Held::Rising(pages) => pages.page(number),
+            HeldDecisions::Marked(slots) => slots.page(number),
+            HeldDecisions::Rising(pages) => pages.page(number),
         }
     }
 
@@ -71,8 +71,8 @@ impl CopyPages {
         ensures { result ≡ length self.now }
     {
         match &self.held {
-            Held::Marked(slots) => slots.count(),
-            Held::Rising(pages) => pages.count(),
+            HeldDecisions::Marked(slots) => slots.count(),
+            HeldDecisions::Rising(pages) => pages.count(),
         }
     }
 
@@ -81,8 +81,8 @@ impl CopyPages {
         ensures { result ≡ taken_count self.now }
     {
         match &self.held {
-            Held::Marked(slots) => slots.taken(),
-            Held::Rising(pages) => pages.taken(),
+            HeldDecisions::Marked(slots) => slots.taken(),
+            HeldDecisions::Rising(pages) => pages.taken(),
         }
     }
 
@@ -91,8 +91,8 @@ impl CopyPages {
         ensures { AreLaidOver self.now (map page_list pages.old) (map page_list pages.new) }
     {
         match &self.held {
-            Held::Marked(slots) => slots.lay_over(pages),
-            Held::Rising(rising) => rising.lay_over(pages),
+            HeldDecisions::Marked(slots) => slots.lay_over(pages),
+            HeldDecisions::Rising(rising) => rising.lay_over(pages),
         }
     }
 }

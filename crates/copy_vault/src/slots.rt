@@ -12,7 +12,7 @@ use std::marker::Model;
 
 /// What is decided of a page, and where it stands among those that were taken.
 #[derive(Clone, Copy)]
-pub enum Mark {
+pub enum PlacedDecision {
     Undecided,
     Taken(u32),
     Kept,
@@ -21,8 +21,8 @@ pub enum Mark {
 /// What is decided of each page of a copy that is read in any order.
 #[derive(Drop)]
 pub struct Slots {
-    /// Mark `p` is that of page `p`.
-    marks: Vec<Mark>,
+    /// PlacedDecision `p` is that of page `p`.
+    marks: Vec<PlacedDecision>,
     /// The pages that were taken, in the order in which they were. There is room for all.
     places: Vec<Box<Page>>,
     /// Of how many pages nothing is decided.
@@ -51,7 +51,7 @@ impl Slots {
         let places = Vec::with_capacity(alloc, count as usize)?;
         let mut marks = Vec::with_capacity(alloc, count as usize)?;
         for _ in 0..count {
-            marks.push(Mark::Undecided)?;
+            marks.push(PlacedDecision::Undecided)?;
         }
         Ok(Slots {
             marks,
@@ -66,7 +66,7 @@ impl Slots {
         ensures { page_list result ≡ page_of (decision_at self.now number) }
     {
         match self.marks[number.0 as usize] {
-            Mark::Taken(place) => Some(&self.places[place as usize]),
+            PlacedDecision::Taken(place) => Some(&self.places[place as usize]),
             _ => None,
         }
     }
@@ -97,7 +97,7 @@ impl Slots {
         requires { number < length self.now }
         ensures { IsTrue result ↔ (decision_at self.now number ≡ undecided) }
     {
-        matches!(self.marks[number.0 as usize], Mark::Undecided)
+        matches!(self.marks[number.0 as usize], PlacedDecision::Undecided)
     }
 
     /// Takes a page. This takes no memory.
@@ -107,7 +107,7 @@ impl Slots {
         requires numbered { place.value.number ≡ number }
         ensures { self.new ≡ slice_set self.old number (taken place.value) }
     {
-        self.marks[number.0 as usize] = Mark::Taken(self.places.len() as u32);
+        self.marks[number.0 as usize] = PlacedDecision::Taken(self.places.len() as u32);
         self.places.push_reserved(place);
         self.left -= 1;
     }
@@ -118,7 +118,7 @@ impl Slots {
         requires undecided { decision_at self.old number ≡ undecided }
         ensures { self.new ≡ slice_set self.old number kept }
     {
-        self.marks[number.0 as usize] = Mark::Kept;
+        self.marks[number.0 as usize] = PlacedDecision::Kept;
         self.left -= 1;
     }
 

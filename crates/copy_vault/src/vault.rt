@@ -5,14 +5,14 @@ ghost use Rattle.std.specs.Prelude.{IfSome, IsSome, Some, None};
 ghost use Rattle.std.specs.Option.{option_map, option_map_or};
 ghost use Rattle.copy_vault.specs.Chain.{IsChain, IsChainOf};
 ghost use Rattle.copy_vault.specs.Reading.{ReadingView};
-ghost use Rattle.copy_vault.specs.Vault.{CopyState, HasRoom, OpenRefuses, answer_in, complete};
+ghost use Rattle.copy_vault.specs.Vault.{CopyState, HasRoomForPage, OpenRefuses, answer_in, complete};
 ghost use Rattle.copy_vault.specs.Vault.{complete_of, complete_refusal, inc_refusal};
 ghost use Rattle.copy_vault.specs.Vault.{decided, drop_refusal, dropped, open_refusal, opened};
 ghost use Rattle.copy_vault.specs.Vault.{pages_read, reading, reading_of, seal_refusal, sealed};
-ghost use Rattle.copy_vault.specs.Vault.{HasParent, IsKept, IsOfId, since_of, state_in, state_of};
+ghost use Rattle.copy_vault.specs.Vault.{HasParent, IsOfVault, IsOfId, since_of, state_in, state_of};
 ghost use Rattle.copy_vault.specs.Vault.{WaitsFor, sealed_in, taken_in, without};
 ghost use Rattle.copy_vault.specs.declared.copy_id.CopyKind.TheVariants.{Full, Inc};
-ghost use Rattle.copy_vault.specs.declared.vault.Entry.TheVariants as entry;
+ghost use Rattle.copy_vault.specs.declared.vault.VaultEntry.TheVariants as entry;
 
 use crate::chain::Chain;
 use crate::complete::CompleteCopy;
@@ -26,13 +26,13 @@ use std::mem;
 
 /// What a vault keeps of a copy.
 #[derive(Drop)]
-pub enum Entry {
+pub enum VaultEntry {
     Reading(ReadingCopy),
     Complete(CompleteCopy),
     Dropped,
 }
 
-impl Entry {
+impl VaultEntry {
     /// Makes the copy complete, and answers how many pages it has.
     fn seal(&mut self) -> Result<u32, CopyFault>
         ensures ok { OnOk result (seal_refusal (state_in self.old) ≡ None) }
@@ -41,23 +41,23 @@ impl Entry {
         ensures err { IfErr result (λ fault. seal_refusal (state_in self.old) ≡ Some fault) }
         ensures same { OnErr result (self.new ≡ self.old) }
     {
-        match mem::replace(self, Entry::Dropped) {
-            Entry::Dropped => Err(CopyFault::NoCopy),
-            Entry::Complete(copy) => {
-                *self = Entry::Complete(copy);
+        match mem::replace(self, VaultEntry::Dropped) {
+            VaultEntry::Dropped => Err(CopyFault::NoCopy),
+            VaultEntry::Complete(copy) => {
+                *self = VaultEntry::Complete(copy);
                 Err(CopyFault::CopyNotOpen)
             }
-            Entry::Reading(copy) => match copy.seal() {
+            VaultEntry::Reading(copy) => match copy.seal() {
                 Ok(copy) => {
                     let taken = copy.taken();
-                    *self = Entry::Complete(copy);
+                    *self = VaultEntry::Complete(copy);
                     Ok(taken)
                 }
                 Err(mut copy) => {
                     let Some(page) = copy.find_undecided() else {
                         unreachable!()
                     };
-                    *self = Entry::Reading(copy);
+                    *self = VaultEntry::Reading(copy);
                     Err(CopyFault::PagesLeft(page))
                 }
             },
@@ -72,10 +72,10 @@ impl Entry {
         ensures same { OnErr result (self.new ≡ self.old) }
     {
         match self {
-            Entry::Dropped => Err(CopyFault::NoCopy),
-            Entry::Complete(_) => Err(CopyFault::CopyNotOpen),
-            Entry::Reading(_) => {
-                *self = Entry::Dropped;
+            VaultEntry::Dropped => Err(CopyFault::NoCopy),
+            VaultEntry::Complete(_) => Err(CopyFault::CopyNotOpen),
+            VaultEntry::Reading(_) => {
+                *self = VaultEntry::Dropped;
                 Ok(())
             }
         }
@@ -85,7 +85,7 @@ impl Entry {
 /// The image copies of a volume, by their ids.
 #[derive(Drop)]
 pub struct Vault {
-    entries: Vec<Entry>,
+    entries: Vec<VaultEntry>,
 }
 
 impl Model for Vault {
@@ -184,7 +184,7 @@ impl Vault {
             redo,
         };
         self.entries
-            .push(Entry::Reading(ReadingCopy::new(alloc, start, pages)?))?;
+            .push(VaultEntry::Reading(ReadingCopy::new(alloc, start, pages)?))?;
         Ok(id)
     }
 
@@ -193,7 +193,7 @@ impl Vault {
         ensures { option_map (λ it. it.now.copy) result ≡ reading_of (state_of self.now.copies id) }
     {
         match self.entry(id) {
-            Some(Entry::Reading(copy)) => Some(copy),
+            Some(VaultEntry::Reading(copy)) => Some(copy),
             _ => None,
         }
     }
@@ -203,7 +203,7 @@ impl Vault {
         ensures { option_map (λ copy. copy.now) result ≡ complete_of (state_of self.now.copies id) }
     {
         match self.entry(id) {
-            Some(Entry::Complete(copy)) => Some(copy),
+            Some(VaultEntry::Complete(copy)) => Some(copy),
             _ => None,
         }
     }
@@ -235,8 +235,8 @@ impl Vault {
             drop_refusal (state_of self.now.copies id) ≡ Some fault) }
     {
         match self.entry(id) {
-            Some(Entry::Reading(copy)) => Ok(copy),
-            Some(Entry::Complete(_)) => Err(CopyFault::CopyNotOpen),
+            Some(VaultEntry::Reading(copy)) => Ok(copy),
+            Some(VaultEntry::Complete(_)) => Err(CopyFault::CopyNotOpen),
             _ => Err(CopyFault::NoCopy),
         }
     }
@@ -250,17 +250,17 @@ impl Vault {
             complete_refusal (state_of self.now.copies id) ≡ Some fault) }
     {
         match self.entry(id) {
-            Some(Entry::Complete(copy)) => Ok(copy),
-            Some(Entry::Reading(_)) => Err(CopyFault::CopyNotComplete),
+            Some(VaultEntry::Complete(copy)) => Ok(copy),
+            Some(VaultEntry::Reading(_)) => Err(CopyFault::CopyNotComplete),
             _ => Err(CopyFault::NoCopy),
         }
     }
 
     /// What is kept of the copy of this id.
-    fn entry(&self, id: CopyId) -> Option<&Entry>
+    fn entry(&self, id: CopyId) -> Option<&VaultEntry>
         ensures state { option_map_or (λ it. state_in it.now) result dropped
             ≡ state_of self.now.copies id }
-        ensures kept { IfSome result (λ it. IsKept self.now.copies id it.now) }
+        ensures kept { IfSome result (λ it. IsOfVault self.now.copies id it.now) }
     {
         let index = self.index_of(id)?;
         Some(&self.entries[index])
@@ -270,10 +270,10 @@ impl Vault {
     /// the vault.
     pub fn make_room(&mut self, alloc: Global, id: CopyId) -> Result<(), AllocError>
         requires { IsSome (reading_of (state_of self.old.copies id)) }
-        ensures room { OnOk result (HasRoom self.new id) }
+        ensures room { OnOk result (HasRoomForPage self.new id) }
         ensures copies { self.new.copies ≡ self.old.copies }
     {
-        let Entry::Reading(copy) = &mut self.entries[id.0 as usize - 1] else {
+        let VaultEntry::Reading(copy) = &mut self.entries[id.0 as usize - 1] else {
             unreachable!()
         };
         copy.make_room(alloc)
@@ -285,12 +285,12 @@ impl Vault {
         requires there { number < length (pages_read (state_of self.old.copies id)) }
         requires undecided { WaitsFor (state_of self.old.copies id) number }
         requires numbered { page.now.number ≡ number }
-        requires room { HasRoom self.old id }
+        requires room { HasRoomForPage self.old id }
         ensures answer { result
             ≡ answer_in self.old.copies (state_of self.old.copies id) page.now }
         ensures decided { self.new.copies ≡ decided self.old.copies id number page.now }
     {
-        let Entry::Reading(copy) = &mut self.entries[id.0 as usize - 1] else {
+        let VaultEntry::Reading(copy) = &mut self.entries[id.0 as usize - 1] else {
             unreachable!()
         };
         copy.decide(number, page)

@@ -8,7 +8,7 @@ use Rattle.std.proofs.lemmas.List.{append_assoc, append-nil, take-append-drop, t
 use Rattle.event_script.specs.declared.fault.ScriptFault.{ScriptFault}
 use Rattle.event_script.specs.declared.fault.ScriptFault.TheVariants.{OutOfMemory, Input, ReadFault, BadLine}
 use Rattle.event_script.specs.Read.{IsOfInput, Refuses}
-use Rattle.event_script.specs.Script.{IsFirstBad, Said, line_of, said_in}
+use Rattle.event_script.specs.Script.{IsFirstBad, Said, parsed_line, said_in}
 use Rattle.event_script.specs.Words.{lines_of}
 use Rattle.event_script.proofs.Scripts.{followed, one_more}
 
@@ -18,7 +18,7 @@ still_bad lines [] bad = ap said_in (append-nil lines) ∙ bad
 still_bad lines (line ∷ more) bad =
     ap said_in (sym (append_assoc lines (line ∷ []) more))
     ∙ still_bad (lines ++ line ∷ []) more
-    (one_more lines line ∙ ap (λ (said : Option Said). followed said (line_of line)) bad)
+    (one_more lines line ∙ ap (λ (said : Option Said). followed said (parsed_line line)) bad)
 
 not_some : (said : Option Said) → said ≡ None → ¬ IsSome said
 not_some None bad some = cc

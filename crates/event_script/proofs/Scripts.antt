@@ -13,7 +13,7 @@ use denote.Ref.{Bor}
 use Rattle.event_script.specs.declared.line.Line.{Line}
 use Rattle.event_script.specs.declared.line.Line.TheVariants.{Skipped, Call, Restore}
 use Rattle.event_script.specs.Words.{lines_of}
-use Rattle.event_script.specs.Script.{IsFirstBad, Said, joined, line_of, said_in}
+use Rattle.event_script.specs.Script.{IsFirstBad, Said, joined, parsed_line, said_in}
 
 -- the lines that are left, and how many bytes they may have
 abbrev pub lines_left : Option (Bor (List ℕ)) → List (List ℕ)
@@ -74,26 +74,26 @@ alone (Some (Call event)) = refl
 alone (Some (Restore restore)) = refl
 
 pub one_more : (lines : List (List ℕ)) (line : List ℕ)
-    → said_in (lines ++ (line ∷ [])) ≡ followed (said_in lines) (line_of line)
-one_more [] line = alone (line_of line)
+    → said_in (lines ++ (line ∷ [])) ≡ followed (said_in lines) (parsed_line line)
+one_more [] line = alone (parsed_line line)
 one_more (first ∷ lines) line =
-    ap (joined (line_of first)) (one_more lines line) ∙ behind (line_of first) (said_in lines) (line_of line)
+    ap (joined (parsed_line first)) (one_more lines line) ∙ behind (parsed_line first) (said_in lines) (parsed_line line)
 
-took : (lines : List (List ℕ)) (line : List ℕ) (before : Said) (said : Option Line) → line_of line ≡ said
+took : (lines : List (List ℕ)) (line : List ℕ) (before : Said) (said : Option Line) → parsed_line line ≡ said
     → said_in lines ≡ Some before → said_in (lines ++ (line ∷ [])) ≡ followed (Some before) said
 took lines line before said e h =
-    one_more lines line ∙ ap (λ s. followed s (line_of line)) h ∙ ap (followed (Some before)) e
+    one_more lines line ∙ ap (λ s. followed s (parsed_line line)) h ∙ ap (followed (Some before)) e
 
-pub bad_line : (lines : List (List ℕ)) (line : List ℕ) (before : Said) → line_of line ≡ None
+pub bad_line : (lines : List (List ℕ)) (line : List ℕ) (before : Said) → parsed_line line ≡ None
     → said_in lines ≡ Some before → said_in (lines ++ (line ∷ [])) ≡ None
 bad_line lines line before e h = took lines line before None e h
 
-pub skipped_line : (lines : List (List ℕ)) (line : List ℕ) (before : Said) → line_of line ≡ Some Skipped
+pub skipped_line : (lines : List (List ℕ)) (line : List ℕ) (before : Said) → parsed_line line ≡ Some Skipped
     → said_in lines ≡ Some before → said_in (lines ++ (line ∷ [])) ≡ Some before
 skipped_line lines line before e h = took lines line before (Some Skipped) e h
 
 pub a_call : (lines : List (List ℕ)) (line : List ℕ) (events longer : List Event) (restore : Option LastRestore)
-    (event : Event) → longer ≡ events ++ (event ∷ []) → line_of line ≡ Some (Call event) → is_some restore ≡ false
+    (event : Event) → longer ≡ events ++ (event ∷ []) → parsed_line line ≡ Some (Call event) → is_some restore ≡ false
     → said_in lines ≡ Some (events, restore) → said_in (lines ++ (line ∷ [])) ≡ Some (longer, restore)
 a_call lines line events longer None event more e none h =
     took lines line (events, None) (Some (Call event)) e h
@@ -101,7 +101,7 @@ a_call lines line events longer None event more e none h =
 a_call lines line events longer (Some restore) event more e none h = cc
 
 pub a_restore : (lines : List (List ℕ)) (line : List ℕ) (events : List Event) (before : Option LastRestore)
-    (restore : LastRestore) → line_of line ≡ Some (Restore restore) → is_some before ≡ false
+    (restore : LastRestore) → parsed_line line ≡ Some (Restore restore) → is_some before ≡ false
     → said_in lines ≡ Some (events, before) → said_in (lines ++ (line ∷ [])) ≡ Some (events, Some restore)
 a_restore lines line events None restore e none h = took lines line (events, None) (Some (Restore restore)) e h
 a_restore lines line events (Some before) restore e none h = cc
@@ -113,7 +113,7 @@ blocked events restore (Call event) other = refl
 blocked events restore (Restore next) other = refl
 
 pub late : (lines : List (List ℕ)) (line : List ℕ) (events : List Event) (restore : Option LastRestore) (said : Line)
-    → line_of line ≡ Some said → said ≢ Skipped → is_some restore ≡ true
+    → parsed_line line ≡ Some said → said ≢ Skipped → is_some restore ≡ true
     → said_in lines ≡ Some (events, restore) → said_in (lines ++ (line ∷ [])) ≡ None
 late lines line events None said e other some h = cc
 late lines line events (Some restore) said e other some h =

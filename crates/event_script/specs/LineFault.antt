@@ -10,7 +10,7 @@ use Rattle.event_script.specs.declared.line_fault.LineFault.{LineFault}
 use Rattle.event_script.specs.declared.line_fault.LineFault.TheVariants.{NoCall, UnknownCall}
 use Rattle.event_script.specs.declared.line_fault.LineFault.TheVariants.{WordCount, BadNumber}
 use Rattle.event_script.specs.declared.line_fault.LineFault.TheVariants.{BehindRestore}
-use Rattle.event_script.specs.Script.{call_of, line_of}
+use Rattle.event_script.specs.Script.{call_of, parsed_line}
 use Rattle.event_script.specs.Words.{without_return, words_of}
 
 -- how many words follow the name of a call: with so many zeros it is one
@@ -36,7 +36,7 @@ fault_in (name ∷ words) = fault_behind (words_behind name) words
 -- why a line may not stand where it stands: a line that says something follows a restore
 abbrev pub why_bad : List ℕ → LineFault
 why_bad line =
-    if is_some (line_of line) then BehindRestore else fault_in (words_of (without_return line))
+    if is_some (parsed_line line) then BehindRestore else fault_in (words_of (without_return line))
 
 abbrev pub text_of_fault : LineFault → List ℕ
 text_of_fault NoCall = codes "it has spaces alone"

@@ -167,8 +167,8 @@ text_of (byte ∷ bytes) =
     if nat_eq byte 35 then Some Skipped else said_by (words_of (byte ∷ bytes))
 
 -- what a line says, and nothing where it is bad
-abbrev pub line_of : List ℕ → Option Line
-line_of line = text_of (without_return line)
+abbrev pub parsed_line : List ℕ → Option Line
+parsed_line line = text_of (without_return line)
 
 -- events, and a restore behind them
 abbrev pub Said : Type 0
@@ -186,7 +186,7 @@ joined (Some (Restore restore)) (Some rest) = None
 -- what these lines say, and nothing where they are no script
 abbrev pub said_in : List (List ℕ) → Option Said
 said_in [] = Some ([], None)
-said_in (line ∷ lines) = joined (line_of line) (said_in lines)
+said_in (line ∷ lines) = joined (parsed_line line) (said_in lines)
 
 -- the lines up to this one are no script, and those before it are one
 pub record IsFirstBad (lines : List (List ℕ)) (number : ℕ) : Type 0 where

@@ -1,7 +1,7 @@
 //! What a line says.
 
 ghost use Rattle.std.specs.Prelude.{◌≡◌};
-ghost use Rattle.event_script.specs.Script.{cut_of, line_of, restore_of};
+ghost use Rattle.event_script.specs.Script.{cut_of, parsed_line, restore_of};
 ghost use Rattle.event_script.specs.Words.{words_of};
 
 use crate::call::{args_of, call_of};
@@ -46,8 +46,8 @@ fn restore_of(bytes: &[u8]) -> Option<LastRestore>
 }
 
 /// What a line says, and nothing where it is bad.
-pub(crate) fn line_of(line: &[u8]) -> Option<Line>
-    ensures { result ≡ line_of line.now }
+pub(crate) fn parsed_line(line: &[u8]) -> Option<Line>
+    ensures { result ≡ parsed_line line.now }
 {
     let text = before_return(line);
     if text.is_empty() || text[0] == b'#' {

@@ -5,7 +5,7 @@ ghost use Rattle.event_script.specs.LineFault.{fault_in, why_bad, words_behind};
 ghost use Rattle.event_script.specs.Words.{words_of};
 
 use crate::call::{Args, call_of};
-use crate::line::line_of;
+use crate::line::parsed_line;
 use crate::words::{before_return, next_word};
 use std::fmt;
 
@@ -93,7 +93,7 @@ fn fault_in(text: &[u8]) -> LineFault
 pub(crate) fn why_bad(line: &[u8]) -> LineFault
     ensures { result ≡ why_bad line.now }
 {
-    if line_of(line).is_some() {
+    if parsed_line(line).is_some() {
         LineFault::BehindRestore
     } else {
         fault_in(before_return(line))

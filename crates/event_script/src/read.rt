@@ -9,7 +9,7 @@ ghost use Rattle.event_script.specs.Words.{lines_of};
 
 use crate::fault::ScriptFault;
 use crate::input::read_input;
-use crate::line::{Line, line_of};
+use crate::line::{Line, parsed_line};
 use crate::line_fault::why_bad;
 use crate::script::Script;
 use crate::words::next_line;
@@ -23,7 +23,7 @@ fn take_line(script: &mut Script, line: &[u8]) -> Result<bool, AllocError>
         → said_in (lines ++ (line.now ∷ []))
         ≡ (if fits then Some (script.new.events.items, script.new.restore) else None)) }
 {
-    let Some(said) = line_of(line) else {
+    let Some(said) = parsed_line(line) else {
         return Ok(false);
     };
     match said {

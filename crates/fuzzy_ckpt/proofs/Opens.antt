@@ -21,7 +21,7 @@ use Rattle.log_records.specs.Log.{IsLog, Log, lsn_of}
 use Rattle.log_records.specs.Record.{AreDirtyPages, IsBefore, IsOfTransaction, IsRecord, own_lsn}
 use Rattle.log_history.specs.Checkpoint.{Checkpoint, checkpoint_after, open_checkpoint, redo_point}
 use Rattle.log_history.specs.Linked.{IsLinked, MayFollow}
-use Rattle.log_history.specs.Table.{Entry, Table, entry_after, entry_of, noted, table_of}
+use Rattle.log_history.specs.Table.{TxnEntry, Table, entry_after, entry_of, noted, table_of}
 use Rattle.log_history.specs.Transactions.{first_lsn, open_in}
 use Rattle.log_history.proofs.Steps.{table_of_push}
 use Rattle.fuzzy_ckpt.specs.Ckpt.{CkptView, HasBehind, IsCkptOf, Phase, gathered, in_pages, in_txns}
@@ -167,19 +167,19 @@ redo_before at c are = lowered_has (IsBefore at) c.pages c.begin are.begin are.p
 -- ---- the open transactions that began before a place
 
 -- what holds of an entry, if it began before a place
-abbrev Old : ℕ → (ℕ → Type 0) → Entry → Type 0
+abbrev Old : ℕ → (ℕ → Type 0) → TxnEntry → Type 0
 Old begin P e = e.first < begin → P e.txn
 
-changed_old : (begin : ℕ) (P : ℕ → Type 0) (t : ℕ) (r : Record) → ((e : Entry) → Old begin P e
+changed_old : (begin : ℕ) (P : ℕ → Type 0) (t : ℕ) (r : Record) → ((e : TxnEntry) → Old begin P e
     → Old begin P (entry_after e r))
-    → (es : List Entry) → All (Old begin P) es
+    → (es : List TxnEntry) → All (Old begin P) es
     → All (Old begin P) (map (λ e. cond (eqb e.txn t) (entry_after e r) e) es)
 changed_old begin P t r after es all =
     All-map (Old begin P) (λ e. cond (eqb e.txn t) (entry_after e r) e) es
     (All-weaker (Old begin P) (λ e. Old begin P (cond (eqb e.txn t) (entry_after e r) e))
     (λ e is. by_txn e is (eqb e.txn t)) es all)
   where
-    by_txn : (e : Entry) → Old begin P e → (b : Bool) → Old begin P (cond b (entry_after e r) e)
+    by_txn : (e : TxnEntry) → Old begin P e → (b : Bool) → Old begin P (cond b (entry_after e r) e)
     by_txn e is true = after e is
     by_txn e is false = is
 

@@ -35,8 +35,8 @@ abbrev pub with_step : Log → Option Record → Log
 with_step log next = option_map_or (λ r. with_next log (r ∷ [])) next log
 
 -- a step that appends a record has room for it
-abbrev pub HasRoom : List Record → Option Record → Type 0
-HasRoom rs next = IfSome next (λ r. length rs < MAX_RECORDS)
+abbrev pub HasRoomForStep : List Record → Option Record → Type 0
+HasRoomForStep rs next = IfSome next (λ r. length rs < MAX_RECORDS)
 
 -- ---- dirty pages
 

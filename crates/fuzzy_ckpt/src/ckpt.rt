@@ -22,7 +22,7 @@ ghost use Rattle.buffer_pool.specs.Pool.{IsPoolOf, written_of};
 ghost use Rattle.txn_table.specs.TxnTable.{IsTableOf};
 ghost use Rattle.fuzzy_ckpt.specs.Ckpt.{AllCover, AreCovered, IsCkptOf, gathered_ckpt, pages_ckpt};
 ghost use Rattle.fuzzy_ckpt.specs.Ckpt.{txns_ckpt};
-ghost use Rattle.fuzzy_ckpt.specs.Steps.{HasRoom, end_of, end_record, last_page, new_ckpt};
+ghost use Rattle.fuzzy_ckpt.specs.Steps.{HasRoomForStep, end_of, end_record, last_page, new_ckpt};
 ghost use Rattle.fuzzy_ckpt.specs.Steps.{pages_step, txn_record, txns_step, with_step};
 ghost use Rattle.fuzzy_ckpt.specs.Answers.{FailsAs, IsLogFault, after_pages, after_txns};
 
@@ -113,7 +113,7 @@ impl Ckpt<Pages> {
         requires pool { IsPoolOf S.stored log.old.log pool.now }
         requires covered { AreCovered log.old.log.records (S.stored pool.now.store)
             (pages_ckpt self) }
-        requires room { HasRoom log.old.log.records (pages_step log.old.log.records
+        requires room { HasRoomForStep log.old.log.records (pages_step log.old.log.records
             (written_of pool.now.states) self.phase (pages_ckpt self)).next }
 
         ensures gathered { IfOk result (λ step. after_pages step ≡ (pages_step log.old.log.records
@@ -187,7 +187,7 @@ impl Ckpt<Txns> {
     ) -> Result<TxnsStep, Ckpt<Txns>>
         requires ckpt { IsCkptOf log.old.log.records (txns_ckpt self) }
         requires table { IsTableOf log.old.log.records table.now }
-        requires room { HasRoom log.old.log.records
+        requires room { HasRoomForStep log.old.log.records
             (txns_step log.old.log.records self.phase (txns_ckpt self)).next }
 
         ensures gathered { IfOk result (λ step. after_txns step

@@ -4,13 +4,13 @@ use Rattle.page_core.specs.declared.page.Page.{Page}
 use Rattle.log_records.specs.declared.limits.TheConstants.{MAX_RECORDS}
 use Rattle.log_records.specs.Image.{AreNumbered}
 use Rattle.log_records.specs.Log.{IsLog, Log, page_count}
-use Rattle.log_history.specs.Table.{Entry}
+use Rattle.log_history.specs.Table.{TxnEntry}
 use Rattle.log_history.specs.Transactions.{owed}
 use Rattle.loser_undo.specs.Losers.{AreLosersOf}
 
 -- the log at whose end these transactions are open has so many records, and these pages; and there
 -- is room for all records that undo may append
-pub record IsToUndo (log : Log) (losers : List Entry) (count : ℕ) (pages : List Page) : Type 0 where
+pub record IsToUndo (log : Log) (losers : List TxnEntry) (count : ℕ) (pages : List Page) : Type 0 where
   pub valid : IsLog log
   pub made : AreLosersOf log.records losers
   pub count_is : count ≡ length log.records

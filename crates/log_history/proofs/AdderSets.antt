@@ -1,19 +1,19 @@
--- The seats of the slots of a page.
+-- The rows of the slots of a page.
 use Rattle.std.proofs.Common.{◌≡◌, ℕ, Bool, true, false, List}
 use Rattle.std.proofs.Common.{cond, eqb, refl}
 use Rattle.log_history.specs.declared.adders.PageAdders.{PageAdders}
-use Rattle.log_history.specs.declared.seat_set.SeatSet.{SeatSet}
-use Rattle.log_history.specs.Adders.{no_adders, seats_in}
-use Rattle.log_history.specs.SeatSet.{no_seats}
+use Rattle.log_history.specs.declared.row_set.RowSet.{RowSet}
+use Rattle.log_history.specs.Adders.{no_adders, rows_in}
+use Rattle.log_history.specs.RowSet.{no_rows}
 use Rattle.log_history.proofs.Paged.{at}
 
-both_none : (b : Bool) → cond b no_seats no_seats ≡ no_seats
+both_none : (b : Bool) → cond b no_rows no_rows ≡ no_rows
 both_none true = refl
 both_none false = refl
 
--- no slot of a page without sets has seats
-pub none_in : (s : ℕ) → seats_in no_adders s ≡ no_seats
+-- no slot of a page without sets has rows
+pub none_in : (s : ℕ) → rows_in no_adders s ≡ no_rows
 none_in s = both_none (eqb 0 s)
 
-abbrev pub adders_at : List PageAdders → ℕ → ℕ → SeatSet
-adders_at = at no_adders seats_in no_seats
+abbrev pub adders_at : List PageAdders → ℕ → ℕ → RowSet
+adders_at = at no_adders rows_in no_rows

@@ -89,9 +89,9 @@ module _ (ps : List Pending) (p q : Pending) (number : ℕ)
       ∙ sym (hold_by-push (changes_of ps) q.change page slot)
       ∙ ap (λ cs. hold_by cs page slot) (sym (map-append (λ (x : Pending). x.change) ps (q ∷ [])))
 
-  pub held_last : (claims : Claims) (seat : ℕ) → q.before ≡ p.before → IsHeld claims seat (ps ++ p ∷ [])
-      → IsHeld claims seat (ps ++ q ∷ [])
-  held_last claims seat same held =
+  pub held_last : (claims : Claims) (row : ℕ) → q.before ≡ p.before → IsHeld claims row (ps ++ p ∷ [])
+      → IsHeld claims row (ps ++ q ∷ [])
+  held_last claims row same held =
       let below = stacked-pop [] ps p held.stacked in
       record {
         stacked = stacked-push [] ps q below.0

@@ -32,7 +32,7 @@ use Rattle.log_history.specs.CheckpointTable.{AreChanges, Current, MayAddPages, 
 use Rattle.log_history.specs.CheckpointTable.{NamesChange, add_pages, checkpoint_table_of, current_after, current_of, last_page_of}
 use Rattle.log_history.specs.CheckpointTable.{noted_checkpoint, page_of}
 use Rattle.log_history.specs.Linked.{ArePagesNow, HasOldTxns, MayEnd, MayRecordPages, MayRecordTxn}
-use Rattle.log_history.specs.Table.{Entry, entry_of, table_of}
+use Rattle.log_history.specs.Table.{TxnEntry, entry_of, table_of}
 use Rattle.log_history.specs.Transactions.{last_of, open_in}
 
 -- ---- one record more
@@ -202,7 +202,7 @@ txn_as_recorded begin txn c =
     (λ h. record { same = h.same; above = h.above }, λ h. record { same = h.same; above = h.above })
 
 -- what is asked of each open transaction is asked of its entry
-of_entries : (rs : List Record) (P : Entry → Type 0)
+of_entries : (rs : List Record) (P : TxnEntry → Type 0)
     → All (λ t. P (entry_of rs t)) (open_in rs) ↔ All P (table_of rs).entries
 of_entries rs P = (
   λ all k d lt.
@@ -245,7 +245,7 @@ goes_as_noted log (End lsn txn prev) valid is = (λ h. h, λ h. h)
 
 -- ---- the entries as the table stores them
 
-pub all-viewed : (P : Entry → Type 0) (es : List OpenEntry) → All (λ e. P (entry_view e)) es ↔ All P (map entry_view es)
+pub all-viewed : (P : TxnEntry → Type 0) (es : List OpenEntry) → All (λ e. P (entry_view e)) es ↔ All P (map entry_view es)
 all-viewed P es = (All-map P entry_view es, from_map es)
   where
     from_map : (es : List OpenEntry) → All P (map entry_view es) → All (λ e. P (entry_view e)) es

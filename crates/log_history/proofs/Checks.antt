@@ -17,7 +17,7 @@ use Rattle.log_records.specs.declared.record.Record.TheVariants.{ChkptPages, Chk
 use Rattle.log_history.specs.Transactions.{begun, holder, is_open, keeps_out, last_of, open_in, owed}
 use Rattle.log_records.specs.Least.{least}
 use Rattle.log_history.specs.Linked.{Compensates, IsActive, MayFollow}
-use Rattle.log_history.specs.Table.{Entry, IsActiveEntry, IsChained, IsEntryNow, MayNote, entry_in, entry_of, holder_in}
+use Rattle.log_history.specs.Table.{TxnEntry, IsActiveEntry, IsChained, IsEntryNow, MayNote, entry_in, entry_of, holder_in}
 use Rattle.log_history.specs.Table.{owed_by_entry, owed_in, table_of}
 use Rattle.log_history.specs.Checked.{GoesWithCheckpoint, NamesNumber}
 use Rattle.log_history.proofs.Filters.{filter-map, find-filter, find-map}
@@ -40,25 +40,25 @@ entry_in-table_of rs t =
 pub holder_in-table_of : (rs : List Record) (page slot : ℕ) (kind : ChangeKind) (t : ℕ)
     → holder_in (table_of rs) page slot kind t ≡ holder rs page slot kind t
 holder_in-table_of rs page slot kind t =
-    let holds = λ (e : Entry). not (eqb e.txn t) && list_any (keeps_out page slot kind) e.pending in
+    let holds = λ (e : TxnEntry). not (eqb e.txn t) && list_any (keeps_out page slot kind) e.pending in
     let holders = filter (λ o. holds (entry_of rs o)) (open_in rs) in
     ap least
-    (ap (map (λ (e : Entry). e.txn)) (filter-map (entry_of rs) holds (open_in rs))
-    ∙ map-map (λ (e : Entry). e.txn) (entry_of rs) holders ∙ map-id holders)
+    (ap (map (λ (e : TxnEntry). e.txn)) (filter-map (entry_of rs) holds (open_in rs))
+    ∙ map-map (λ (e : TxnEntry). e.txn) (entry_of rs) holders ∙ map-id holders)
 
 pub owed_in-table_of : (rs : List Record) → owed_in (table_of rs) ≡ owed rs
-owed_in-table_of rs = fold-map (λ a (e : Entry). a + owed_by_entry e) (entry_of rs) 0 (open_in rs)
+owed_in-table_of rs = fold-map (λ a (e : TxnEntry). a + owed_by_entry e) (entry_of rs) 0 (open_in rs)
 
 -- ---- its entry of an open transaction
 
-has_entry : (rs : List Record) (t : ℕ) (P : Entry → Type 0) → is_open rs t ≡ true → P (entry_of rs t)
+has_entry : (rs : List Record) (t : ℕ) (P : TxnEntry → Type 0) → is_open rs t ≡ true → P (entry_of rs t)
     → IsSomeAnd (entry_in (table_of rs) t) P
 has_entry rs t P still holds =
     let found : entry_in (table_of rs) t ≡ Some (entry_of rs t) =
     entry_in-table_of rs t ∙ ap (λ b. cond b (Some (entry_of rs t)) None) still in
     subst (λ o. IsSomeAnd o P) (sym found) holds
 
-from_entry : (rs : List Record) (t : ℕ) (P : Entry → Type 0) → IsSomeAnd (entry_in (table_of rs) t) P
+from_entry : (rs : List Record) (t : ℕ) (P : TxnEntry → Type 0) → IsSomeAnd (entry_in (table_of rs) t) P
     → (is_open rs t ≡ true) × P (entry_of rs t)
 from_entry rs t P holds = at (is_open rs t) refl (subst (λ o. IsSomeAnd o P) (entry_in-table_of rs t) holds)
   where
@@ -81,11 +81,11 @@ from_active rs t prev holds =
 
 -- ---- which record may come next
 
-abbrev Undoes : ℕ → ℕ → ℕ → ℕ → Change → Entry → Type 0
+abbrev Undoes : ℕ → ℕ → ℕ → ℕ → Change → TxnEntry → Type 0
 Undoes prev undo_next page slot change e =
     IsChained prev e × IsSomeAnd (last_of e.pending) (Compensates undo_next page slot change)
 
-abbrev IsUndone : ℕ → Entry → Type 0
+abbrev IsUndone : ℕ → TxnEntry → Type 0
 IsUndone prev e = IsChained prev e × (e.pending ≡ [])
 
 pub may_note : (rs : List Record) (r : Record) → MayFollow rs r → MayNote (table_of rs) r

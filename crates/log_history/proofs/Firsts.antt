@@ -7,7 +7,7 @@ use Rattle.std.specs.Option.{IfSome, option_map, option_map_or}
 use Rattle.log_history.specs.declared.open_entry.OpenEntry.{OpenEntry}
 use Rattle.log_history.specs.OpenEntry.{entry_view}
 use Rattle.log_history.specs.OpenTransactions.{AreRanked, key_of}
-use Rattle.log_history.specs.Table.{Entry}
+use Rattle.log_history.specs.Table.{TxnEntry}
 use Rattle.log_records.specs.Least.{least}
 
 pub find-none : (q : OpenEntry → Bool) → ((e : OpenEntry) → q e ≡ false) → (xs : List OpenEntry) → find q xs ≡ None
@@ -36,12 +36,12 @@ chosen : (b : Bool) (x : OpenEntry) (ns : List ℕ) (o : Option OpenEntry) → l
 chosen true x ns o e h = ap (λ m. Some (option_map_or (min x.txn) m x.txn)) e ∙ ap Some (least-of x.txn o h)
 chosen false x ns o e h = e
 
-pub cond_map : (b : Bool) (v : Entry) (vs : List Entry)
+pub cond_map : (b : Bool) (v : TxnEntry) (vs : List TxnEntry)
     → map (λ e. e.txn) (cond b (v ∷ vs) vs) ≡ cond b (v.txn ∷ map (λ e. e.txn) vs) (map (λ e. e.txn) vs)
 cond_map true v vs = refl
 cond_map false v vs = refl
 
-pub least-first : (p : Entry → Bool) (q : OpenEntry → Bool) (xs : List OpenEntry) → AreRanked (map key_of xs)
+pub least-first : (p : TxnEntry → Bool) (q : OpenEntry → Bool) (xs : List OpenEntry) → AreRanked (map key_of xs)
     → All (λ e. p (entry_view e) ≡ q e) xs
     → least (map (λ e. e.txn) (filter p (map entry_view xs))) ≡ option_map (λ e. e.txn) (find q xs)
 least-first p q [] r a = refl
@@ -51,7 +51,7 @@ least-first p q (x ∷ xs) r a =
     ∙ ap (λ b. least (cond b (x.txn ∷ map (λ e. e.txn) vs) (map (λ e. e.txn) vs)))
     (All-head (λ e. p (entry_view e) ≡ q e) x xs a)
     ∙ chosen (q x) x (map (λ e. e.txn) vs) (find q xs)
-    (least-first p q xs r.1 (All-tail (λ e. p (entry_view e) ≡ q e) x xs a)) (above x.txn x.seat q xs r.0)
+    (least-first p q xs r.1 (All-tail (λ e. p (entry_view e) ≡ q e) x xs a)) (above x.txn x.row q xs r.0)
 
 -- ---- the first that passes, in a loop
 

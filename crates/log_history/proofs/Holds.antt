@@ -1,4 +1,4 @@
--- Claims, seat by seat and slot by slot.
+-- Claims, row by row and slot by slot.
 use Rattle.std.proofs.Common.{◌≡◌, ◌∙◌, ◌*◌, ◌%◌, ◌^◌, ◌<◌, ℕ, true, false, Result, Ok, Err, cond, eqb, sym, ap, ⊎_elim}
 use Rattle.std.proofs.lemmas.Bool.{cases_eq, eq-eqb, ne_eqb}
 use Rattle.std.proofs.lemmas.Nat.Bits.{bit_at_clear_other, bit_at_clear_same, bit_at_set_other, bit_at_set_same}
@@ -9,7 +9,7 @@ use Rattle.std.specs.Result.{OnErr, OnOk}
 use lib.Bits.{bit_and}
 use mir.Syntax.{w64}
 use Rattle.log_history.specs.Claims.{hold_in, no_claim, no_hold}
-use Rattle.log_history.specs.SeatSet.{has_seat, no_seats}
+use Rattle.log_history.specs.RowSet.{has_row, no_rows}
 
 -- ---- bits
 
@@ -35,10 +35,10 @@ without_bit n k i within below = ⊎_elim
 
 -- ---- claims
 
-pub hold_in-no_claim : (seat : ℕ) → hold_in no_claim seat ≡ no_hold
-unfolding has_seat
-hold_in-no_claim seat =
-    ap (λ b. record { against_sets = eqb b 1; against_adds = eqb b 1 }) (bit_at-zero seat)
+pub hold_in-no_claim : (row : ℕ) → hold_in no_claim row ≡ no_hold
+unfolding has_row
+hold_in-no_claim row =
+    ap (λ b. record { against_sets = eqb b 1; against_adds = eqb b 1 }) (bit_at-zero row)
 
 -- ---- results
 
@@ -50,6 +50,6 @@ pub sure_ok : {T E P Q : Type 0} (r : Result T E) → OnOk r P → OnErr r Q →
 sure_ok (Ok x) p q never = p
 sure_ok (Err e) p q never = absurd (never q)
 
-pub has_seat-no_seats : (seat : ℕ) → has_seat no_seats seat ≡ false
-unfolding has_seat
-has_seat-no_seats seat = ap (λ b. eqb b 1) (bit_at-zero seat)
+pub has_row-no_rows : (row : ℕ) → has_row no_rows row ≡ false
+unfolding has_row
+has_row-no_rows row = ap (λ b. eqb b 1) (bit_at-zero row)

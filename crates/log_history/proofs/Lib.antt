@@ -22,7 +22,7 @@ pub mod Pushes
 pub mod Ranks
 pub mod Room
 pub mod Rows
-pub mod Seatings
+pub mod RowPlaces
 pub mod Settled
 pub mod SlotMarks
 pub mod Slots

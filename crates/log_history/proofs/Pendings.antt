@@ -11,7 +11,7 @@ use Rattle.page_core.specs.Change.{kind_of}
 use Rattle.log_history.specs.declared.claims.Claims.{Claims}
 use Rattle.log_history.specs.declared.claims.Hold.{Hold}
 use Rattle.log_history.specs.declared.pending_change.PendingChange.{PendingChange}
-use Rattle.log_history.specs.declared.seat_set.TheConstants.{SEATS}
+use Rattle.log_history.specs.declared.row_set.TheConstants.{ROWS}
 use Rattle.log_history.specs.Claims.{IsWeaker, SetsHold, hold_at, hold_with}
 use Rattle.log_history.specs.Pending.{Pending}
 use Rattle.log_history.specs.OpenEntry.{AreStacked, IsHeld, changes_of, hold_by}
@@ -74,15 +74,15 @@ stacked-pop below (p ∷ ps) q s =
 
 -- ---- the claims with it
 
--- of one seat
-own : (before after : Claims) (page slot seat : ℕ) (hold : Hold) → seat < SEATS
-    → SetsHold before after page slot seat hold
-    → (p s : ℕ) → hold_at after p s seat ≡ cond (eqb page p && eqb slot s) hold (hold_at before p s seat)
-own before after page slot seat hold within set p s =
-    set p s seat within
-    ∙ ap (λ b. cond ((eqb page p && eqb slot s) && b) hold (hold_at before p s seat)) (eq-eqb seat seat refl)
-    ∙ (let both : (b : Bool) → cond (b && true) hold (hold_at before p s seat) ≡ cond b hold (hold_at before p s seat)
-    = λ b. elim b as (λ v. cond (v && true) hold (hold_at before p s seat) ≡ cond v hold (hold_at before p s seat))
+-- of one row
+own : (before after : Claims) (page slot row : ℕ) (hold : Hold) → row < ROWS
+    → SetsHold before after page slot row hold
+    → (p s : ℕ) → hold_at after p s row ≡ cond (eqb page p && eqb slot s) hold (hold_at before p s row)
+own before after page slot row hold within set p s =
+    set p s row within
+    ∙ ap (λ b. cond ((eqb page p && eqb slot s) && b) hold (hold_at before p s row)) (eq-eqb row row refl)
+    ∙ (let both : (b : Bool) → cond (b && true) hold (hold_at before p s row) ≡ cond b hold (hold_at before p s row)
+    = λ b. elim b as (λ v. cond (v && true) hold (hold_at before p s row) ≡ cond v hold (hold_at before p s row))
     [ true ↦ refl | false ↦ refl ] in
     both (eqb page p && eqb slot s))
 
@@ -97,19 +97,19 @@ cond_congr : (b : Bool) (x y z : Hold) → (b ≡ true → x ≡ y) → cond b x
 cond_congr true x y z h = h refl
 cond_congr false x y z h = refl
 
-pub held-push : (before after : Claims) (seat : ℕ) (ps : List Pending) (c : PendingChange) (h : Hold) → seat < SEATS
-    → IsHeld before seat ps → h ≡ hold_at before c.page c.slot seat
-    → SetsHold before after c.page c.slot seat (hold_with h (kind_of c.change))
-    → IsHeld after seat (ps ++ record { change = c; before = h } ∷ [])
-held-push before after seat ps c h within held e set =
+pub held-push : (before after : Claims) (row : ℕ) (ps : List Pending) (c : PendingChange) (h : Hold) → row < ROWS
+    → IsHeld before row ps → h ≡ hold_at before c.page c.slot row
+    → SetsHold before after c.page c.slot row (hold_with h (kind_of c.change))
+    → IsHeld after row (ps ++ record { change = c; before = h } ∷ [])
+held-push before after row ps c h within held e set =
     let q : Pending = record { change = c; before = h } in
     let here : h ≡ hold_by (changes_of ps) c.page c.slot = e ∙ held.held c.page c.slot in
     record {
       stacked = stacked-push [] ps q held.stacked here;
       held = λ page slot.
-          own before after c.page c.slot seat (hold_with h (kind_of c.change)) within set page slot
+          own before after c.page c.slot row (hold_with h (kind_of c.change)) within set page slot
           ∙ cond_congr (eqb c.page page && eqb c.slot slot) (hold_with h (kind_of c.change))
-          (hold_with (hold_by (changes_of ps) page slot) (kind_of c.change)) (hold_at before page slot seat)
+          (hold_with (hold_by (changes_of ps) page slot) (kind_of c.change)) (hold_at before page slot row)
           (λ t. ap (λ x. hold_with x (kind_of c.change)) (here ∙ same_place (changes_of ps) c.page c.slot page slot t))
           ∙ ap (λ x. cond (eqb c.page page && eqb c.slot slot)
           (hold_with (hold_by (changes_of ps) page slot) (kind_of c.change)) x)
@@ -119,12 +119,12 @@ held-push before after seat ps c h within held e set =
     }
 
 -- what the pending changes kept out with one more
-before-push : (before : Claims) (seat : ℕ) (ps : List Pending) (q : Pending) → IsHeld before seat (ps ++ q ∷ [])
-    → (page slot : ℕ) → hold_at before page slot seat
+before-push : (before : Claims) (row : ℕ) (ps : List Pending) (q : Pending) → IsHeld before row (ps ++ q ∷ [])
+    → (page slot : ℕ) → hold_at before page slot row
     ≡ cond (eqb q.change.page page && eqb q.change.slot slot)
     (hold_with (hold_by (changes_of ps) page slot) (kind_of q.change.change))
     (hold_by (changes_of ps) page slot)
-before-push before seat ps q held page slot =
+before-push before row ps q held page slot =
     held.held page slot ∙ ap (λ cs. hold_by cs page slot) (map-append (λ (p : Pending). p.change) ps (q ∷ []))
     ∙ hold_by-push (changes_of ps) q.change page slot
 
@@ -132,19 +132,19 @@ back : (b : Bool) (x y z w : Hold) → (b ≡ true → x ≡ z) → y ≡ cond b
 back true x y z w h e = h refl
 back false x y z w h e = e
 
-pub held-pop : (before after : Claims) (seat : ℕ) (ps : List Pending) (q : Pending) → seat < SEATS
-    → IsHeld before seat (ps ++ q ∷ []) → SetsHold before after q.change.page q.change.slot seat q.before
-    → IsHeld after seat ps
-held-pop before after seat ps q within held set =
+pub held-pop : (before after : Claims) (row : ℕ) (ps : List Pending) (q : Pending) → row < ROWS
+    → IsHeld before row (ps ++ q ∷ []) → SetsHold before after q.change.page q.change.slot row q.before
+    → IsHeld after row ps
+held-pop before after row ps q within held set =
     let below = stacked-pop [] ps q held.stacked in
     record {
       stacked = below.0;
       held = λ page slot.
-          own before after q.change.page q.change.slot seat q.before within set page slot
-          ∙ back (eqb q.change.page page && eqb q.change.slot slot) q.before (hold_at before page slot seat)
+          own before after q.change.page q.change.slot row q.before within set page slot
+          ∙ back (eqb q.change.page page && eqb q.change.slot slot) q.before (hold_at before page slot row)
           (hold_by (changes_of ps) page slot) (hold_with (hold_by (changes_of ps) page slot) (kind_of q.change.change))
           (λ t. below.1 ∙ same_place (changes_of ps) q.change.page q.change.slot page slot t)
-          (before-push before seat ps q held page slot);
+          (before-push before row ps q held page slot);
     }
 
 -- ---- what a transaction may fall back to
@@ -175,16 +175,16 @@ weaker-with h kind.Set sets = record { than_some = refl; than_adds = λ adds. re
 weaker-with h kind.Add sets = record { than_some = refl; than_adds = λ adds. adds; sets = sets }
 
 -- what a transaction kept out of a slot before its last change there
-pub held-weaker : (before : Claims) (seat : ℕ) (ps : List Pending) (q : Pending) → IsHeld before seat (ps ++ q ∷ [])
-    → IsWeaker q.before (hold_at before q.change.page q.change.slot seat)
-held-weaker before seat ps q held =
+pub held-weaker : (before : Claims) (row : ℕ) (ps : List Pending) (q : Pending) → IsHeld before row (ps ++ q ∷ [])
+    → IsWeaker q.before (hold_at before q.change.page q.change.slot row)
+held-weaker before row ps q held =
     let page = q.change.page in
     let slot = q.change.slot in
     let h = hold_by (changes_of ps) page slot in
     let was : q.before ≡ h = (stacked-pop [] ps q held.stacked).1 in
-    let now : hold_with h (kind_of q.change.change) ≡ hold_at before page slot seat =
-    sym (before-push before seat ps q held page slot
+    let now : hold_with h (kind_of q.change.change) ≡ hold_at before page slot row =
+    sym (before-push before row ps q held page slot
     ∙ ap (λ b. cond b (hold_with h (kind_of q.change.change)) h)
     (and_from (eqb page page) (eqb slot slot) (eq-eqb page page refl) (eq-eqb slot slot refl))) in
-    subst (λ x. IsWeaker x (hold_at before page slot seat)) (sym was)
+    subst (λ x. IsWeaker x (hold_at before page slot row)) (sym was)
     (subst (IsWeaker h) now (weaker-with h (kind_of q.change.change) (sets_of (changes_of ps) page slot)))

@@ -7,12 +7,12 @@ use Rattle.std.proofs.lemmas.Bool.{lt-ltb}
 use Rattle.std.proofs.lemmas.List.{get_or-append_right, get_or-replicate, get_or-set_other, get_or-set_same}
 use Rattle.std.proofs.lemmas.List.{get_or_append_left, get_or_default, get_or_past, length-replicate, take_all}
 use lib.Dec.{ltb}
-use Rattle.log_history.specs.declared.mark.Holder.{Holder}
-use Rattle.log_history.specs.declared.mark.Holder.TheVariants.{Nobody}
-use Rattle.log_history.specs.declared.mark.Mark.{Mark}
-use Rattle.log_history.specs.Mark.{holder_of}
+use Rattle.log_history.specs.declared.holder_byte.Holder.{Holder}
+use Rattle.log_history.specs.declared.holder_byte.Holder.TheVariants.{Nobody}
+use Rattle.log_history.specs.declared.holder_byte.HolderByte.{HolderByte}
+use Rattle.log_history.specs.HolderByte.{holder_of}
 
-abbrev pub no_mark : Mark
+abbrev pub no_mark : HolderByte
 no_mark = record { byte = 0 }
 
 pub nobody : holder_of no_mark ≡ Nobody
@@ -20,14 +20,14 @@ unfolding holder_of
 nobody = refl
 
 -- the holder at a place of the list
-abbrev pub holder_in : List Mark → ℕ → Holder
+abbrev pub holder_in : List HolderByte → ℕ → Holder
 holder_in ms n = holder_of (get_or ms n no_mark)
 
-pub holder_in-past : (ms : List Mark) (n : ℕ) → length ms ≤ n → holder_in ms n ≡ Nobody
+pub holder_in-past : (ms : List HolderByte) (n : ℕ) → length ms ≤ n → holder_in ms n ≡ Nobody
 holder_in-past ms n past = ap holder_of (get_or_past ms n no_mark past) ∙ nobody
 
 -- a list that was made longer, with nobody at its end, or was not
-pub holder_in-longer : {T E : Type 0} (r : Result T E) (ms more : List Mark) (none : Mark) (n len : ℕ)
+pub holder_in-longer : {T E : Type 0} (r : Result T E) (ms more : List HolderByte) (none : HolderByte) (n len : ℕ)
     → holder_of none ≡ Nobody → len ≡ length ms → length ms ≤ n
     → more ≡ cond (is_ok r) (take n ms ++ replicate (n - len) none) ms → (k : ℕ) → holder_in more k ≡ holder_in ms k
 holder_in-longer (Err e) ms more none n len is_none long longer items k = ap (λ xs. holder_in xs k) items
@@ -48,10 +48,10 @@ holder_in-longer (Ok x) ms more none n len is_none long longer items k =
         holder_in-past (replicate (n - len) none) (k - length ms) (omega (arith, length-replicate (n - len) none))
 
 -- the holder of a slot, if pages have it
-abbrev pub slot_holder : List Mark → ℕ → ℕ → Holder
+abbrev pub slot_holder : List HolderByte → ℕ → ℕ → Holder
 slot_holder ms page slot = cond (ltb slot 62) (holder_in ms (62 * page + slot)) Nobody
 
-pub holder-put : (ms : List Mark) (page slot : ℕ) (mark : Mark) (holder : Holder) → holder_of mark ≡ holder → slot < 62
+pub holder-put : (ms : List HolderByte) (page slot : ℕ) (mark : HolderByte) (holder : Holder) → holder_of mark ≡ holder → slot < 62
     → 62 * page + slot < length ms → (p s : ℕ)
     → slot_holder (set ms (62 * page + slot) mark) p s
     ≡ cond (eqb page p && eqb slot s) holder (slot_holder ms p s)
@@ -94,21 +94,21 @@ no_slot page slot = elim (ltb slot 62) as (λ b. cond b (holder_in [] (62 * page
 ]
 
 -- a slot that no page has, and one behind the list
-pub slot_past : (ms : List Mark) (page slot : ℕ) → 62 ≤ slot → slot_holder ms page slot ≡ Nobody
+pub slot_past : (ms : List HolderByte) (page slot : ℕ) → 62 ≤ slot → slot_holder ms page slot ≡ Nobody
 slot_past ms page slot past = ap (λ b. cond b (holder_in ms (62 * page + slot)) Nobody) (le-ltb slot 62 past)
 
-pub slot_behind : (ms : List Mark) (page slot : ℕ) → length ms ≤ 62 * page + slot → slot_holder ms page slot ≡ Nobody
+pub slot_behind : (ms : List HolderByte) (page slot : ℕ) → length ms ≤ 62 * page + slot → slot_holder ms page slot ≡ Nobody
 slot_behind ms page slot behind =
     ap (λ h. cond (ltb slot 62) h Nobody) (holder_in-past ms (62 * page + slot) behind)
     ∙ (elim (ltb slot 62) as (λ b. cond b Nobody Nobody ≡ Nobody) [ true ↦ refl | false ↦ refl ])
 
 -- one that the list has
-pub slot_there : (ms : List Mark) (page slot n : ℕ) (m : Mark) → slot < 62 → n ≡ 62 * page + slot → n < length ms
+pub slot_there : (ms : List HolderByte) (page slot n : ℕ) (m : HolderByte) → slot < 62 → n ≡ 62 * page + slot → n < length ms
     → m ≡ get_or ms n m → holder_of m ≡ slot_holder ms page slot
 slot_there ms page slot n m below is within there =
     ap holder_of (there ∙ get_or_default ms n m no_mark within) ∙ ap (holder_in ms) is
     ∙ sym (ap (λ b. cond b (holder_in ms (62 * page + slot)) Nobody) (lt-ltb slot 62 below))
 
-pub slot_same : (more ms : List Mark) → ((k : ℕ) → holder_in more k ≡ holder_in ms k) → (p s : ℕ)
+pub slot_same : (more ms : List HolderByte) → ((k : ℕ) → holder_in more k ≡ holder_in ms k) → (p s : ℕ)
     → slot_holder more p s ≡ slot_holder ms p s
 slot_same more ms same p s = ap (λ h. cond (ltb s 62) h Nobody) (same (62 * p + s))

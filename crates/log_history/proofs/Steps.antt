@@ -19,7 +19,7 @@ use Rattle.log_history.specs.Transactions.{begun, begun_by, first_lsn, is_abort,
 use Rattle.log_history.specs.Transactions.{is_rolling, last_or, open_in, pending, pending_from, records_of}
 use Rattle.log_history.specs.Transactions.{txn_of, with_pending}
 use Rattle.log_history.specs.Linked.{IsLinked, MayFollow}
-use Rattle.log_history.specs.Table.{Entry, entry_after, entry_of, noted, table_of, with_entry, without_entry}
+use Rattle.log_history.specs.Table.{TxnEntry, entry_after, entry_of, noted, table_of, with_entry, without_entry}
 use Rattle.log_history.proofs.Filters.{filter-map, map_agree_but}
 use Rattle.log_history.proofs.Pushes.{begun_push, begun_push_none, first_lsn_push, has_begun}
 use Rattle.log_history.proofs.Pushes.{is_rolling_push, last_lsn_push, open_in_push_begin, open_in_push_last}
@@ -29,7 +29,7 @@ use Rattle.log_history.proofs.Begun.{next_is_new, none_before_begin, open_has_be
 -- ---- one entry
 
 -- the entry of a transaction with these records
-abbrev pub entry_from : ℕ → List Record → Entry
+abbrev pub entry_from : ℕ → List Record → TxnEntry
 entry_from t xs = record {
   txn = t;
   first = option_map_or own_lsn (slice_get xs 0) 0;
@@ -43,7 +43,7 @@ pub entry_of_push_other : (rs : List Record) (r : Record) (t : ℕ) → txn_of r
 entry_of_push_other rs r t other = ap (entry_from t) (records_of_push_other rs r t other)
 
 -- the entry of an open transaction with one record more
-abbrev grown : List Record → Record → ℕ → Entry
+abbrev grown : List Record → Record → ℕ → TxnEntry
 grown rs r t = record {
   txn = t;
   first = first_lsn rs t;

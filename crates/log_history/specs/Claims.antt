@@ -1,4 +1,4 @@
--- Which open transactions keep others from a slot, by their seats.
+-- Which open transactions keep others from a slot, by their rows.
 use Rattle.std.specs.Prelude.{ℕ, ◌≡◌, ◌≢◌, ◌<◌, ◌==◌, ◌&&◌, true, false, Option, Some, None}
 use Rattle.std.specs.Prelude.{if◌then◌else◌}
 use Rattle.page_core.specs.declared.change.ChangeKind.{ChangeKind}
@@ -6,13 +6,13 @@ use Rattle.page_core.specs.declared.change.ChangeKind.TheVariants as kind
 use Rattle.log_history.specs.declared.claims.Claim.{Claim}
 use Rattle.log_history.specs.declared.claims.Claims.{Claims}
 use Rattle.log_history.specs.declared.claims.Hold.{Hold}
-use Rattle.log_history.specs.declared.mark.Holder.{Holder}
-use Rattle.log_history.specs.declared.mark.Holder.TheVariants.{Nobody, One, Adders}
-use Rattle.log_history.specs.declared.seat_set.SeatSet.{SeatSet}
-use Rattle.log_history.specs.declared.seat_set.TheConstants.{SEATS}
-use Rattle.log_history.specs.Adders.{seats_at}
+use Rattle.log_history.specs.declared.holder_byte.Holder.{Holder}
+use Rattle.log_history.specs.declared.holder_byte.Holder.TheVariants.{Nobody, One, Adders}
+use Rattle.log_history.specs.declared.row_set.RowSet.{RowSet}
+use Rattle.log_history.specs.declared.row_set.TheConstants.{ROWS}
+use Rattle.log_history.specs.Adders.{rows_at}
 use Rattle.log_history.specs.Marks.{holder_at}
-use Rattle.log_history.specs.SeatSet.{has_seat, no_seats, only}
+use Rattle.log_history.specs.RowSet.{has_row, no_rows, only}
 
 -- ---- what one transaction keeps out of a slot
 
@@ -33,71 +33,71 @@ pub record IsWeaker (hold than : Hold) : Type 0 where
 -- ---- what all transactions keep out of a slot
 
 abbrev pub no_claim : Claim
-no_claim = record { against_sets = no_seats; against_adds = no_seats }
+no_claim = record { against_sets = no_rows; against_adds = no_rows }
 
-abbrev pub seats_against : Claim → ChangeKind → SeatSet
-seats_against claim kind.Set = claim.against_sets
-seats_against claim kind.Add = claim.against_adds
+abbrev pub rows_against : Claim → ChangeKind → RowSet
+rows_against claim kind.Set = claim.against_sets
+rows_against claim kind.Add = claim.against_adds
 
 abbrev pub hold_in : Claim → ℕ → Hold
-hold_in claim seat = record {
-  against_sets = has_seat claim.against_sets seat;
-  against_adds = has_seat claim.against_adds seat;
+hold_in claim row = record {
+  against_sets = has_row claim.against_sets row;
+  against_adds = has_row claim.against_adds row;
 }
 
--- no other transaction than that of this seat keeps such a change out
+-- no other transaction than that of this row keeps such a change out
 abbrev pub IsFreeFor : Claim → ChangeKind → ℕ → Type 0
-IsFreeFor claim kind seat =
-    (other : ℕ) → other < SEATS → other ≢ seat → has_seat (seats_against claim kind) other ≡ false
+IsFreeFor claim kind row =
+    (other : ℕ) → other < ROWS → other ≢ row → has_row (rows_against claim kind) other ≡ false
 
 -- another one does
-pub record IsHeldByOther (claim : Claim) (kind : ChangeKind) (seat : ℕ) : Type 0 where
+pub record IsHeldByOther (claim : Claim) (kind : ChangeKind) (row : ℕ) : Type 0 where
   pub other : ℕ
-  pub within : other < SEATS
-  pub is_other : other ≢ seat
-  pub held : has_seat (seats_against claim kind) other ≡ true
+  pub within : other < ROWS
+  pub is_other : other ≢ row
+  pub held : has_row (rows_against claim kind) other ≡ true
 
 -- ---- all slots
 
--- what a holder keeps out, where these are the seats of the slot's adders
-abbrev pub claim_of : Holder → SeatSet → Claim
-claim_of Nobody seats = no_claim
-claim_of (One seat kind.Add) seats = record { against_sets = only seat; against_adds = no_seats }
-claim_of (One seat kind.Set) seats = record { against_sets = only seat; against_adds = only seat }
-claim_of Adders seats = record { against_sets = seats; against_adds = no_seats }
+-- what a holder keeps out, where these are the rows of the slot's adders
+abbrev pub claim_of : Holder → RowSet → Claim
+claim_of Nobody rows = no_claim
+claim_of (One row kind.Add) rows = record { against_sets = only row; against_adds = no_rows }
+claim_of (One row kind.Set) rows = record { against_sets = only row; against_adds = only row }
+claim_of Adders rows = record { against_sets = rows; against_adds = no_rows }
 
 abbrev pub claim_at : Claims → ℕ → ℕ → Claim
 claim_at claims page slot =
-    claim_of (holder_at claims.marks page slot) (seats_at claims.adders page slot)
+    claim_of (holder_at claims.marks page slot) (rows_at claims.adders page slot)
 
 abbrev pub hold_at : Claims → ℕ → ℕ → ℕ → Hold
-hold_at claims page slot seat = hold_in (claim_at claims page slot) seat
+hold_at claims page slot row = hold_in (claim_at claims page slot) row
 
 -- ---- a change of the claims
 
--- the transaction of this seat keeps this out of a slot, and all else stays
+-- the transaction of this row keeps this out of a slot, and all else stays
 abbrev pub SetsHold : Claims → Claims → ℕ → ℕ → ℕ → Hold → Type 0
-SetsHold before after page slot seat hold =
-    (p s other : ℕ) → other < SEATS
+SetsHold before after page slot row hold =
+    (p s other : ℕ) → other < ROWS
     → hold_at after p s other
-    ≡ (if (page == p && slot == s) && other == seat then hold else hold_at before p s other)
+    ≡ (if (page == p && slot == s) && other == row then hold else hold_at before p s other)
 
 abbrev pub KeepsHolds : Claims → Claims → Type 0
 KeepsHolds before after = (p s other : ℕ) → hold_at after p s other ≡ hold_at before p s other
 
--- a slot is taken for a change of the seat's transaction, which kept this out before
-pub record Taken (before after : Claims) (page slot seat : ℕ) (kind : ChangeKind)
+-- a slot is taken for a change of the row's transaction, which kept this out before
+pub record Taken (before after : Claims) (page slot row : ℕ) (kind : ChangeKind)
     (hold : Hold) : Type 0 where
-  pub free : IsFreeFor (claim_at before page slot) kind seat
-  pub was : hold ≡ hold_at before page slot seat
-  pub sets : SetsHold before after page slot seat (hold_with hold kind)
+  pub free : IsFreeFor (claim_at before page slot) kind row
+  pub was : hold ≡ hold_at before page slot row
+  pub sets : SetsHold before after page slot row (hold_with hold kind)
 
 -- or another one keeps the change out
-pub record Refused (before after : Claims) (page slot seat : ℕ)
+pub record Refused (before after : Claims) (page slot row : ℕ)
     (kind : ChangeKind) : Type 0 where
-  pub held : IsHeldByOther (claim_at before page slot) kind seat
+  pub held : IsHeldByOther (claim_at before page slot) kind row
   pub same : KeepsHolds before after
 
 abbrev pub Takes : Claims → Claims → ℕ → ℕ → ℕ → ChangeKind → Option Hold → Type 0
-Takes before after page slot seat kind (Some hold) = Taken before after page slot seat kind hold
-Takes before after page slot seat kind None = Refused before after page slot seat kind
+Takes before after page slot row kind (Some hold) = Taken before after page slot row kind hold
+Takes before after page slot row kind None = Refused before after page slot row kind

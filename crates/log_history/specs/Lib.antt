@@ -9,14 +9,14 @@ pub mod CountUpTo
 pub mod Growth
 pub mod History
 pub mod Linked
-pub mod Mark
+pub mod HolderByte
 pub mod Marks
 pub mod OpenEntry
 pub mod OpenList
 pub mod OpenTransactions
 pub mod Pending
 pub mod Savepoints
-pub mod SeatSet
+pub mod RowSet
 pub mod Table
 pub mod Transactions
 pub mod TxnState

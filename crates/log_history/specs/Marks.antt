@@ -1,10 +1,10 @@
 -- The holders of all slots.
 use Rattle.std.specs.Prelude.{ℕ, ◌+◌, ◌*◌, nat_lt, slice_index_or, if◌then◌else◌}
 use Rattle.page_core.specs.declared.page.TheConstants.{SLOTS}
-use Rattle.log_history.specs.declared.mark.Holder.{Holder}
-use Rattle.log_history.specs.declared.mark.Holder.TheVariants.{Nobody}
+use Rattle.log_history.specs.declared.holder_byte.Holder.{Holder}
+use Rattle.log_history.specs.declared.holder_byte.Holder.TheVariants.{Nobody}
 use Rattle.log_history.specs.declared.marks.Marks.{Marks}
-use Rattle.log_history.specs.Mark.{holder_of}
+use Rattle.log_history.specs.HolderByte.{holder_of}
 
 -- who holds a slot; nobody holds one that no page has
 unfoldable pub holder_at : Marks → ℕ → ℕ → Holder

@@ -21,7 +21,7 @@ use Rattle.log_records.specs.Least.{least}
 
 -- an open transaction: the LSNs of its Begin and of its last record, whether it is rolling back,
 -- and its pending changes
-pub record Entry : Type 0 where
+pub record TxnEntry : Type 0 where
   pub txn : ℕ
   pub first : ℕ
   pub last : ℕ
@@ -31,11 +31,11 @@ pub record Entry : Type 0 where
 -- how many transactions began, and the open ones, the first that began first
 pub record Table : Type 0 where
   pub begun : ℕ
-  pub entries : List Entry
+  pub entries : List TxnEntry
 
 -- ---- the table of a log
 
-abbrev pub entry_of : List Record → ℕ → Entry
+abbrev pub entry_of : List Record → ℕ → TxnEntry
 entry_of rs t = record {
   txn = t;
   first = first_lsn rs t;
@@ -50,7 +50,7 @@ table_of rs = record { begun = length (begun rs); entries = map (entry_of rs) (o
 -- ---- what a table says
 
 -- the entry of a transaction, if it is open
-abbrev pub entry_in : Table → ℕ → Option Entry
+abbrev pub entry_in : Table → ℕ → Option TxnEntry
 entry_in table t = find (λ e. e.txn == t) table.entries
 
 -- the least other transaction that holds a slot against a change of this kind by transaction t
@@ -59,7 +59,7 @@ holder_in table page slot kind t =
     least (map (λ e. e.txn) (filter
     (λ e. not (e.txn == t) && list_any (keeps_out page slot kind) e.pending) table.entries))
 
-abbrev pub owed_by_entry : Entry → ℕ
+abbrev pub owed_by_entry : TxnEntry → ℕ
 owed_by_entry e = length e.pending + (if e.rolling then 1 else 2)
 
 abbrev pub owed_in : Table → ℕ
@@ -68,16 +68,16 @@ owed_in table = sum_by owed_by_entry table.entries
 -- ---- which record may come next
 
 -- a PrevLSN names the last record of the entry's transaction
-abbrev pub IsChained : ℕ → Entry → Type 0
+abbrev pub IsChained : ℕ → TxnEntry → Type 0
 IsChained prev e = prev ≡ e.last
 
 -- and the transaction is not rolling back
-pub record IsActiveEntry (prev : ℕ) (e : Entry) : Type 0 where
+pub record IsActiveEntry (prev : ℕ) (e : TxnEntry) : Type 0 where
   pub chained : prev ≡ e.last
   pub active : e.rolling ≡ false
 
 -- the entry's transaction has this state, last record and UndoNxt
-pub record IsEntryNow (state : TxnPhase) (last undo : ℕ) (e : Entry) : Type 0 where
+pub record IsEntryNow (state : TxnPhase) (last undo : ℕ) (e : TxnEntry) : Type 0 where
   pub same_state : state ≡ (if e.rolling then Rolling else Active)
   pub same_last : last ≡ e.last
   pub same_undo : undo ≡ option_map_or (λ p. p.lsn) (last_of e.pending) e.first
@@ -105,11 +105,11 @@ MayNote table (EndChkpt lsn begin redo) = Unit {0}
 -- ---- the table after one more record
 
 -- the entry after a record at this LSN that takes its last pending change back
-abbrev pub compensated : ℕ → Entry → Entry
+abbrev pub compensated : ℕ → TxnEntry → TxnEntry
 compensated lsn e = record e { last = lsn; pending = without_last e.pending }
 
 -- the entry after a record of its transaction
-abbrev pub entry_after : Entry → Record → Entry
+abbrev pub entry_after : TxnEntry → Record → TxnEntry
 entry_after e (Update lsn txn prev page slot change) = record e {
   last = lsn;
   pending = with_pending e.pending (Update lsn txn prev page slot change);

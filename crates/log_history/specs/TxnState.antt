@@ -1,11 +1,11 @@
 -- What a caller reads of the table of open transactions.
 use Rattle.std.specs.Prelude.{ℕ, length, map, filter, nat_le, Option}
 use Rattle.log_history.specs.declared.txn_state.TxnState.{TxnState}
-use Rattle.log_history.specs.Table.{Entry, Table}
+use Rattle.log_history.specs.Table.{TxnEntry, Table}
 use Rattle.log_records.specs.Least.{least}
 
 -- the numbers of an entry
-abbrev pub state_of : Entry → TxnState
+abbrev pub state_of : TxnEntry → TxnState
 state_of e = record {
   txn = e.txn;
   first = e.first;

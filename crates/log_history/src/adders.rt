@@ -1,187 +1,187 @@
-//! The seats of the transactions that have added to one slot.
+//! The rows of the transactions that have added to one slot.
 
 ghost use Rattle.std.specs.Prelude.{ℕ, ◌≡◌, ◌<◌, ◌≤◌, ◌==◌, ◌&&◌, OnOk, OnErr, IfOk};
 ghost use Rattle.std.specs.Prelude.{if◌then◌else◌, vec_len};
-ghost use Rattle.log_history.specs.Adders.{seats_among, seats_at, seats_in};
-ghost use Rattle.log_history.specs.SeatSet.{IsWith, no_seats};
+ghost use Rattle.log_history.specs.Adders.{rows_among, rows_at, rows_in};
+ghost use Rattle.log_history.specs.RowSet.{IsWith, no_rows};
 
-use crate::seat_set::{SEATS, SeatSet};
+use crate::row_set::{ROWS, RowSet};
 use crate::slot_sets::SlotSets;
 use page_core::{PageNo, SLOTS, SlotNo};
 use std::alloc::{AllocError, Global};
 
-/// The seats of those who add to the slots of a page.
+/// The rows of those who add to the slots of a page.
 #[derive(Drop)]
 enum PageAdders {
-    /// No other slot than this one has seats.
-    One { slot: u16, seats: SeatSet },
+    /// No other slot than this one has rows.
+    One { slot: u16, rows: RowSet },
     Several(Box<SlotSets>),
 }
 
 impl PageAdders {
-    /// No slot of the page has a seat.
+    /// No slot of the page has a row.
     fn new() -> PageAdders
-        ensures { (slot : ℕ) → seats_in result slot ≡ no_seats }
+        ensures { (slot : ℕ) → rows_in result slot ≡ no_rows }
     {
         PageAdders::One {
             slot: 0,
-            seats: SeatSet::new(),
+            rows: RowSet::new(),
         }
     }
 
-    /// The seats of a slot.
+    /// The rows of a slot.
     #[inline(always)]
-    fn seats(&self, slot: u16) -> SeatSet
+    fn rows(&self, slot: u16) -> RowSet
         requires { slot < SLOTS }
-        ensures { result ≡ seats_in self.now slot }
+        ensures { result ≡ rows_in self.now slot }
     {
         match self {
-            PageAdders::One { slot: held, seats } => {
+            PageAdders::One { slot: held, rows } => {
                 if *held == slot {
-                    *seats
+                    *rows
                 } else {
-                    SeatSet::new()
+                    RowSet::new()
                 }
             }
-            PageAdders::Several(sets) => sets.seats(slot),
+            PageAdders::Several(sets) => sets.rows(slot),
         }
     }
 
-    /// Puts these seats on a slot. Where it had none, this may need memory.
+    /// Puts these rows on a slot. Where it had none, this may need memory.
     #[inline(always)]
-    fn put(&mut self, alloc: Global, slot: u16, seats: SeatSet) -> Result<(), AllocError>
+    fn put(&mut self, alloc: Global, slot: u16, rows: RowSet) -> Result<(), AllocError>
         requires { slot < SLOTS }
-        ensures put { OnOk result ((s : ℕ) → s < SLOTS → seats_in self.new s
-            ≡ (if slot == s then seats else seats_in self.old s)) }
-        ensures new_slot { OnErr result (seats_in self.old slot ≡ no_seats) }
-        ensures err { OnErr result ((s : ℕ) → seats_in self.new s ≡ seats_in self.old s) }
+        ensures put { OnOk result ((s : ℕ) → s < SLOTS → rows_in self.new s
+            ≡ (if slot == s then rows else rows_in self.old s)) }
+        ensures new_slot { OnErr result (rows_in self.old slot ≡ no_rows) }
+        ensures err { OnErr result ((s : ℕ) → rows_in self.new s ≡ rows_in self.old s) }
     {
         match self {
             PageAdders::One {
                 slot: held,
-                seats: there,
+                rows: there,
             } => {
                 if *held == slot || there.is_empty() {
                     *held = slot;
-                    *there = seats;
+                    *there = rows;
                 } else {
-                    let both = sets_with(alloc, *held, *there, slot, seats)?;
+                    let both = sets_with(alloc, *held, *there, slot, rows)?;
                     *self = PageAdders::Several(both);
                 }
                 Ok(())
             }
-            PageAdders::Several(sets) => sets.put(slot, seats),
+            PageAdders::Several(sets) => sets.put(slot, rows),
         }
     }
 
-    /// Puts a seat into the set of a slot, or takes it out of it, and answers the set as it was.
-    /// Where it had no seats, this may need memory.
+    /// Puts a row into the set of a slot, or takes it out of it, and answers the set as it was.
+    /// Where it had no rows, this may need memory.
     #[inline(always)]
-    fn put_seat(
+    fn put_row(
         &mut self,
         alloc: Global,
         slot: u16,
-        seat: u8,
+        row: u8,
         present: bool,
-    ) -> Result<SeatSet, AllocError>
+    ) -> Result<RowSet, AllocError>
         requires slot { slot < SLOTS }
-        requires seat { seat < SEATS }
-        ensures was { IfOk result (λ was. was ≡ seats_in self.old slot) }
-        ensures now { OnOk result (IsWith (seats_in self.new slot) (seats_in self.old slot)
-            seat present) }
-        ensures put { OnOk result ((s : ℕ) → s < SLOTS → seats_in self.new s
-            ≡ (if slot == s then seats_in self.new slot else seats_in self.old s)) }
-        ensures new_slot { OnErr result (seats_in self.old slot ≡ no_seats) }
-        ensures err { OnErr result ((s : ℕ) → seats_in self.new s ≡ seats_in self.old s) }
+        requires row { row < ROWS }
+        ensures was { IfOk result (λ was. was ≡ rows_in self.old slot) }
+        ensures now { OnOk result (IsWith (rows_in self.new slot) (rows_in self.old slot)
+            row present) }
+        ensures put { OnOk result ((s : ℕ) → s < SLOTS → rows_in self.new s
+            ≡ (if slot == s then rows_in self.new slot else rows_in self.old s)) }
+        ensures new_slot { OnErr result (rows_in self.old slot ≡ no_rows) }
+        ensures err { OnErr result ((s : ℕ) → rows_in self.new s ≡ rows_in self.old s) }
     {
         match self {
             PageAdders::One {
                 slot: held,
-                seats: there,
+                rows: there,
             } => {
                 if *held == slot {
                     let was = *there;
-                    *there = was.with(seat, present);
+                    *there = was.with(row, present);
                     return Ok(was);
                 }
             }
-            PageAdders::Several(sets) => return sets.put_seat(slot, seat, present),
+            PageAdders::Several(sets) => return sets.put_row(slot, row, present),
         }
-        self.put(alloc, slot, SeatSet::new().with(seat, present))?;
-        Ok(SeatSet::new())
+        self.put(alloc, slot, RowSet::new().with(row, present))?;
+        Ok(RowSet::new())
     }
 }
 
-/// The seats of those who add to one slot together. A look-up or a change reaches for one set,
+/// The rows of those who add to one slot together. A look-up or a change reaches for one set,
 /// whatever the log.
 #[derive(Drop)]
 pub struct Adders {
-    /// Those of each page, in order, up to the last page that has had seats.
+    /// Those of each page, in order, up to the last page that has had rows.
     pages: Vec<PageAdders>,
 }
 
 impl Adders {
     /// Nobody adds to a slot.
     pub fn new(alloc: Global) -> Adders
-        ensures { (page slot : ℕ) → seats_at result page slot ≡ no_seats }
+        ensures { (page slot : ℕ) → rows_at result page slot ≡ no_rows }
     {
         Adders {
             pages: Vec::new(alloc),
         }
     }
 
-    /// The seats of a slot.
-    pub fn seats(&self, page: PageNo, slot: SlotNo) -> SeatSet
-        ensures { result ≡ seats_at self.now page slot }
+    /// The rows of a slot.
+    pub fn rows(&self, page: PageNo, slot: SlotNo) -> RowSet
+        ensures { result ≡ rows_at self.now page slot }
     {
         if slot.0 as usize >= SLOTS || page.0 as usize >= self.pages.len() {
-            return SeatSet::new();
+            return RowSet::new();
         }
-        self.pages[page.0 as usize].seats(slot.0)
+        self.pages[page.0 as usize].rows(slot.0)
     }
 
-    /// Puts these seats on a slot. Where it had none, this may need memory, and is refused on a
+    /// Puts these rows on a slot. Where it had none, this may need memory, and is refused on a
     /// slot that no page has.
-    pub fn put(&mut self, page: PageNo, slot: SlotNo, seats: SeatSet) -> Result<(), AllocError>
-        ensures put { OnOk result ((p s : ℕ) → seats_at self.new p s
-            ≡ (if page == p && slot == s then seats else seats_at self.old p s)) }
-        ensures new_slot { OnErr result (seats_at self.old page slot ≡ no_seats) }
-        ensures err { OnErr result ((p s : ℕ) → seats_at self.new p s ≡ seats_at self.old p s) }
+    pub fn put(&mut self, page: PageNo, slot: SlotNo, rows: RowSet) -> Result<(), AllocError>
+        ensures put { OnOk result ((p s : ℕ) → rows_at self.new p s
+            ≡ (if page == p && slot == s then rows else rows_at self.old p s)) }
+        ensures new_slot { OnErr result (rows_at self.old page slot ≡ no_rows) }
+        ensures err { OnErr result ((p s : ℕ) → rows_at self.new p s ≡ rows_at self.old p s) }
     {
         if slot.0 as usize >= SLOTS {
             return Err(AllocError);
         }
         self.make_page(page.0 as usize)?;
         let alloc = *self.pages.allocator();
-        self.pages[page.0 as usize].put(alloc, slot.0, seats)
+        self.pages[page.0 as usize].put(alloc, slot.0, rows)
     }
 
-    /// Puts a seat into the set of a slot, or takes it out of it, and answers the set as it was.
+    /// Puts a row into the set of a slot, or takes it out of it, and answers the set as it was.
     /// Memory and refusals are as for `put`.
     #[inline(always)]
-    pub fn put_seat(
+    pub fn put_row(
         &mut self,
         page: PageNo,
         slot: SlotNo,
-        seat: u8,
+        row: u8,
         present: bool,
-    ) -> Result<SeatSet, AllocError>
-        requires { seat < SEATS }
-        ensures was { IfOk result (λ was. was ≡ seats_at self.old page slot) }
-        ensures now { OnOk result (IsWith (seats_at self.new page slot)
-            (seats_at self.old page slot) seat present) }
-        ensures put { OnOk result ((p s : ℕ) → seats_at self.new p s
-            ≡ (if page == p && slot == s then seats_at self.new page slot
-            else seats_at self.old p s)) }
-        ensures new_slot { OnErr result (seats_at self.old page slot ≡ no_seats) }
-        ensures err { OnErr result ((p s : ℕ) → seats_at self.new p s ≡ seats_at self.old p s) }
+    ) -> Result<RowSet, AllocError>
+        requires { row < ROWS }
+        ensures was { IfOk result (λ was. was ≡ rows_at self.old page slot) }
+        ensures now { OnOk result (IsWith (rows_at self.new page slot)
+            (rows_at self.old page slot) row present) }
+        ensures put { OnOk result ((p s : ℕ) → rows_at self.new p s
+            ≡ (if page == p && slot == s then rows_at self.new page slot
+            else rows_at self.old p s)) }
+        ensures new_slot { OnErr result (rows_at self.old page slot ≡ no_rows) }
+        ensures err { OnErr result ((p s : ℕ) → rows_at self.new p s ≡ rows_at self.old p s) }
     {
         if slot.0 as usize >= SLOTS {
             return Err(AllocError);
         }
         self.make_page(page.0 as usize)?;
         let alloc = *self.pages.allocator();
-        self.pages[page.0 as usize].put_seat(alloc, slot.0, seat, present)
+        self.pages[page.0 as usize].put_row(alloc, slot.0, row, present)
     }
 
     /// Makes room for a page, where it is behind those with room.
@@ -189,7 +189,7 @@ impl Adders {
     fn make_page(&mut self, page: usize) -> Result<(), AllocError>
         ensures ok { OnOk result (page < vec_len self.new.pages) }
         ensures err { OnErr result (vec_len self.new.pages ≤ page) }
-        ensures same { (p s : ℕ) → seats_at self.new p s ≡ seats_at self.old p s }
+        ensures same { (p s : ℕ) → rows_at self.new p s ≡ rows_at self.old p s }
     {
         if page < self.pages.len() {
             return Ok(());
@@ -203,7 +203,7 @@ impl Adders {
     fn make_pages(&mut self, page: usize) -> Result<(), AllocError>
         ensures ok { OnOk result (page < vec_len self.new.pages) }
         ensures err { OnErr result (vec_len self.new.pages ≤ page) }
-        ensures same { (p s : ℕ) → seats_at self.new p s ≡ seats_at self.old p s }
+        ensures same { (p s : ℕ) → rows_at self.new p s ≡ rows_at self.old p s }
     {
         while self.pages.len() <= page {
             self.pages.push(PageAdders::new())?;
@@ -212,24 +212,24 @@ impl Adders {
     }
 }
 
-/// The sets of a page of which two slots have seats.
+/// The sets of a page of which two slots have rows.
 #[cold]
 #[inline(never)]
 fn sets_with(
     alloc: Global,
     held: u16,
-    there: SeatSet,
+    there: RowSet,
     slot: u16,
-    seats: SeatSet,
+    rows: RowSet,
 ) -> Result<Box<SlotSets>, AllocError>
     requires { slot < SLOTS }
-    ensures { IfOk result (λ sets. (s : ℕ) → s < SLOTS → seats_among sets.value s
-        ≡ (if slot == s then seats else (if held == s then there else no_seats))) }
+    ensures { IfOk result (λ sets. (s : ℕ) → s < SLOTS → rows_among sets.value s
+        ≡ (if slot == s then rows else (if held == s then there else no_rows))) }
 {
     let mut sets = SlotSets::new(alloc);
     if (held as usize) < SLOTS {
         sets.put(held, there)?;
     }
-    sets.put(slot, seats)?;
+    sets.put(slot, rows)?;
     Ok(Box::new(alloc, sets)?)
 }

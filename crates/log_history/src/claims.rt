@@ -1,20 +1,20 @@
-//! Which open transactions have claims on a slot, by their seats.
+//! Which open transactions have claims on a slot, by their rows.
 
 ghost use Rattle.std.specs.Prelude.{ℕ, ◌≡◌, ◌≢◌, ◌<◌, ◌==◌, IfOk, IsTrue, OnErr};
 ghost use Rattle.std.specs.Prelude.{if◌then◌else◌, false};
-ghost use Rattle.log_history.specs.declared.seat_set.SeatSet.{SeatSet};
+ghost use Rattle.log_history.specs.declared.row_set.RowSet.{RowSet};
 ghost use Rattle.log_history.specs.Claims.{IsWeaker, KeepsHolds, SetsHold, Takes, claim_at};
 ghost use Rattle.log_history.specs.Claims.{claim_of};
 ghost use Rattle.log_history.specs.Claims.{hold_at, hold_in, hold_with, no_claim, no_hold};
-ghost use Rattle.log_history.specs.Claims.{seats_against};
-ghost use Rattle.log_history.specs.Mark.{HasSeat};
+ghost use Rattle.log_history.specs.Claims.{rows_against};
+ghost use Rattle.log_history.specs.HolderByte.{HasRow};
 ghost use Rattle.log_history.specs.Marks.{holder_at};
-ghost use Rattle.log_history.specs.SeatSet.{has_seat};
+ghost use Rattle.log_history.specs.RowSet.{has_row};
 
 use crate::adders::Adders;
-use crate::mark::Holder;
+use crate::holder_byte::Holder;
 use crate::marks::Marks;
-use crate::seat_set::{SEATS, SeatSet};
+use crate::row_set::{ROWS, RowSet};
 use page_core::{ChangeKind, PageNo, SlotNo};
 use std::alloc::{AllocError, Global};
 
@@ -47,42 +47,42 @@ impl Hold {
         }
     }
 
-    /// The transaction of a seat, which is among those who add to the slot, or is not.
-    fn among(adders: SeatSet, seat: u8) -> Hold
-        requires { seat < SEATS }
+    /// The transaction of a row, which is among those who add to the slot, or is not.
+    fn among(adders: RowSet, row: u8) -> Hold
+        requires { row < ROWS }
         ensures { result ≡ record {
-          against_sets = has_seat adders seat;
+          against_sets = has_row adders row;
           against_adds = false;
         } }
     {
         Hold {
-            against_sets: adders.contains(seat),
+            against_sets: adders.contains(row),
             against_adds: false,
         }
     }
 }
 
-/// The seats of the transactions that keep others from a slot.
+/// The rows of the transactions that keep others from a slot.
 #[derive(Clone, Copy)]
 pub struct Claim {
-    against_sets: SeatSet,
-    against_adds: SeatSet,
+    against_sets: RowSet,
+    against_adds: RowSet,
 }
 
 impl Claim {
-    /// What a holder keeps out, where these are the seats of the slot's adders.
-    fn of(holder: Holder, adders: SeatSet) -> Claim
-        requires { HasSeat holder }
+    /// What a holder keeps out, where these are the rows of the slot's adders.
+    fn of(holder: Holder, adders: RowSet) -> Claim
+        requires { HasRow holder }
         ensures { result ≡ claim_of holder adders }
     {
-        let nobody = SeatSet::new();
+        let nobody = RowSet::new();
         match holder {
             Holder::Nobody => Claim {
                 against_sets: nobody,
                 against_adds: nobody,
             },
-            Holder::One { seat, kind } => {
-                let one = SeatSet::only(seat);
+            Holder::One { row, kind } => {
+                let one = RowSet::only(row);
                 let against_adds = match kind {
                     ChangeKind::Add => nobody,
                     ChangeKind::Set => one,
@@ -99,9 +99,9 @@ impl Claim {
         }
     }
 
-    /// The seats that keep changes of this kind out.
-    pub fn against(self, kind: ChangeKind) -> SeatSet
-        ensures { result ≡ seats_against self kind }
+    /// The rows that keep changes of this kind out.
+    pub fn against(self, kind: ChangeKind) -> RowSet
+        ensures { result ≡ rows_against self kind }
     {
         match kind {
             ChangeKind::Set => self.against_sets,
@@ -111,7 +111,7 @@ impl Claim {
 }
 
 /// The claims on all slots. Nearly always the mark of a slot says all: nobody holds it, or one
-/// transaction. Only where several add to a slot, their seats are kept beside it. Either way it is
+/// transaction. Only where several add to a slot, their rows are kept beside it. Either way it is
 /// found by its place, so no log makes a look-up longer.
 #[derive(Drop)]
 pub struct Claims {
@@ -134,7 +134,7 @@ impl Claims {
     pub fn claim(&self, page: PageNo, slot: SlotNo) -> Claim
         ensures { result ≡ claim_at self.now page slot }
     {
-        Claim::of(self.marks.holder(page, slot), self.adders.seats(page, slot))
+        Claim::of(self.marks.holder(page, slot), self.adders.rows(page, slot))
     }
 
     /// Prefetches what a change of a slot will look at first.
@@ -142,7 +142,7 @@ impl Claims {
         self.marks.look(page, slot)
     }
 
-    /// Takes a slot for one more pending change of the transaction of this seat, and answers what
+    /// Takes a slot for one more pending change of the transaction of this row, and answers what
     /// the transaction kept out before; None where another one keeps the change out. Where there is
     /// no memory for it, nothing changes; so it is on a slot that no page has.
     #[inline(always)]
@@ -150,29 +150,29 @@ impl Claims {
         &mut self,
         page: PageNo,
         slot: SlotNo,
-        seat: u8,
+        row: u8,
         kind: ChangeKind,
     ) -> Result<Option<Hold>, AllocError>
-        requires { seat < SEATS }
-        ensures ok { IfOk result (Takes self.old self.new page slot seat kind) }
+        requires { row < ROWS }
+        ensures ok { IfOk result (Takes self.old self.new page slot row kind) }
         ensures err { OnErr result (KeepsHolds self.old self.new) }
     {
         match self.marks.holder(page, slot) {
             Holder::Nobody => {
-                self.marks.put(page, slot, Holder::One { seat, kind })?;
+                self.marks.put(page, slot, Holder::One { row, kind })?;
                 Ok(Some(Hold::new()))
             }
             Holder::One {
-                seat: holder,
+                row: holder,
                 kind: held,
             } => {
-                if holder == seat {
-                    self.keep(page, slot, seat, held, kind)
+                if holder == row {
+                    self.keep(page, slot, row, held, kind)
                 } else {
-                    self.share(page, slot, seat, holder, held, kind)
+                    self.share(page, slot, row, holder, held, kind)
                 }
             }
-            Holder::Adders => self.join(page, slot, seat, kind),
+            Holder::Adders => self.join(page, slot, row, kind),
         }
     }
 
@@ -181,17 +181,17 @@ impl Claims {
         &mut self,
         page: PageNo,
         slot: SlotNo,
-        seat: u8,
+        row: u8,
         held: ChangeKind,
         kind: ChangeKind,
     ) -> Result<Option<Hold>, AllocError>
-        requires seat { seat < SEATS }
-        requires held { holder_at self.old.marks page slot ≡ Holder.One seat held }
-        ensures ok { IfOk result (Takes self.old self.new page slot seat kind) }
+        requires row { row < ROWS }
+        requires held { holder_at self.old.marks page slot ≡ Holder.One row held }
+        ensures ok { IfOk result (Takes self.old self.new page slot row kind) }
         ensures err { OnErr result (KeepsHolds self.old self.new) }
     {
         let kind = stronger(held, kind);
-        self.marks.put(page, slot, Holder::One { seat, kind })?;
+        self.marks.put(page, slot, Holder::One { row, kind })?;
         Ok(Some(Hold::by(held)))
     }
 
@@ -200,21 +200,21 @@ impl Claims {
         &mut self,
         page: PageNo,
         slot: SlotNo,
-        seat: u8,
+        row: u8,
         holder: u8,
         held: ChangeKind,
         kind: ChangeKind,
     ) -> Result<Option<Hold>, AllocError>
-        requires seat { seat < SEATS }
-        requires holder { holder < SEATS }
-        requires other { holder ≢ seat }
+        requires row { row < ROWS }
+        requires holder { holder < ROWS }
+        requires other { holder ≢ row }
         requires held { holder_at self.old.marks page slot ≡ Holder.One holder held }
-        ensures ok { IfOk result (Takes self.old self.new page slot seat kind) }
+        ensures ok { IfOk result (Takes self.old self.new page slot row kind) }
         ensures err { OnErr result (KeepsHolds self.old self.new) }
     {
         match (held, kind) {
             (ChangeKind::Add, ChangeKind::Add) => {
-                let both = SeatSet::only(holder).with(seat, true);
+                let both = RowSet::only(holder).with(row, true);
                 self.adders.put(page, slot, both)?;
                 self.marks.put(page, slot, Holder::Adders)?;
                 Ok(Some(Hold::new()))
@@ -229,56 +229,56 @@ impl Claims {
         &mut self,
         page: PageNo,
         slot: SlotNo,
-        seat: u8,
+        row: u8,
         kind: ChangeKind,
     ) -> Result<Option<Hold>, AllocError>
-        requires seat { seat < SEATS }
+        requires row { row < ROWS }
         requires held { holder_at self.old.marks page slot ≡ Holder.Adders }
-        ensures ok { IfOk result (Takes self.old self.new page slot seat kind) }
+        ensures ok { IfOk result (Takes self.old self.new page slot row kind) }
         ensures err { OnErr result (KeepsHolds self.old self.new) }
     {
         match kind {
             ChangeKind::Add => {
-                let adders = self.adders.put_seat(page, slot, seat, true)?;
-                Ok(Some(Hold::among(adders, seat)))
+                let adders = self.adders.put_row(page, slot, row, true)?;
+                Ok(Some(Hold::among(adders, row)))
             }
             ChangeKind::Set => {
-                let adders = self.adders.seats(page, slot);
-                if !adders.with(seat, false).is_empty() {
+                let adders = self.adders.rows(page, slot);
+                if !adders.with(row, false).is_empty() {
                     return Ok(None);
                 }
-                self.marks.put(page, slot, Holder::One { seat, kind })?;
-                Ok(Some(Hold::among(adders, seat)))
+                self.marks.put(page, slot, Holder::One { row, kind })?;
+                Ok(Some(Hold::among(adders, row)))
             }
         }
     }
 
-    /// The transaction of this seat has one pending change less on a slot, and keeps out again what
+    /// The transaction of this row has one pending change less on a slot, and keeps out again what
     /// it kept out before that change.
     #[inline(always)]
-    pub fn release(&mut self, page: PageNo, slot: SlotNo, seat: u8, before: Hold)
-        requires seat { seat < SEATS }
-        requires weaker { IsWeaker before (hold_at self.old page slot seat) }
-        ensures { SetsHold self.old self.new page slot seat before }
+    pub fn release(&mut self, page: PageNo, slot: SlotNo, row: u8, before: Hold)
+        requires row { row < ROWS }
+        requires weaker { IsWeaker before (hold_at self.old page slot row) }
+        ensures { SetsHold self.old self.new page slot row before }
     {
         match self.marks.holder(page, slot) {
-            Holder::Adders => self.leave(page, slot, seat, before),
+            Holder::Adders => self.leave(page, slot, row, before),
             _ => {
-                let _ = self.marks.put(page, slot, holder_by(seat, before));
+                let _ = self.marks.put(page, slot, holder_by(row, before));
             }
         }
     }
 
     /// The same of a slot that others may add to.
     #[inline(always)]
-    fn leave(&mut self, page: PageNo, slot: SlotNo, seat: u8, before: Hold)
-        requires seat { seat < SEATS }
+    fn leave(&mut self, page: PageNo, slot: SlotNo, row: u8, before: Hold)
+        requires row { row < ROWS }
         requires held { holder_at self.old.marks page slot ≡ Holder.Adders }
-        requires weaker { IsWeaker before (hold_at self.old page slot seat) }
-        ensures { SetsHold self.old self.new page slot seat before }
+        requires weaker { IsWeaker before (hold_at self.old page slot row) }
+        ensures { SetsHold self.old self.new page slot row before }
     {
         if !before.against_sets {
-            let _ = self.adders.put_seat(page, slot, seat, false);
+            let _ = self.adders.put_row(page, slot, row, false);
         }
     }
 }
@@ -294,21 +294,21 @@ fn stronger(held: ChangeKind, kind: ChangeKind) -> ChangeKind
 }
 
 /// Who holds a slot of which this transaction alone keeps something out, namely this.
-fn holder_by(seat: u8, hold: Hold) -> Holder
-    requires seat { seat < SEATS }
+fn holder_by(row: u8, hold: Hold) -> Holder
+    requires row { row < ROWS }
     requires sets { IsTrue hold.against_adds → IsTrue hold.against_sets }
-    ensures seat { HasSeat result }
-    ensures hold { (seats : SeatSet) (other : ℕ) → other < SEATS
-        → hold_in (claim_of result seats) other ≡ (if other == seat then hold else no_hold) }
+    ensures row { HasRow result }
+    ensures hold { (rows : RowSet) (other : ℕ) → other < ROWS
+        → hold_in (claim_of result rows) other ≡ (if other == row then hold else no_hold) }
 {
     if hold.against_adds {
         Holder::One {
-            seat,
+            row,
             kind: ChangeKind::Set,
         }
     } else if hold.against_sets {
         Holder::One {
-            seat,
+            row,
             kind: ChangeKind::Add,
         }
     } else {

@@ -8,14 +8,14 @@ mod claims;
 mod history;
 mod history_laws;
 mod losers;
-mod mark;
+mod holder_byte;
 mod marks;
 mod open_entry;
 mod open_list;
 mod open_transactions;
 mod pending;
 mod pending_change;
-mod seat_set;
+mod row_set;
 mod slot_sets;
 mod txn_state;
 

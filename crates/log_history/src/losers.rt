@@ -6,7 +6,7 @@ ghost use Rattle.std.specs.List.{remove, sum_by};
 ghost use Rattle.std.specs.Option.{option_and_then, option_map};
 ghost use Rattle.log_history.specs.OpenEntry.{entry_view};
 ghost use Rattle.log_history.specs.OpenList.{IsSound};
-ghost use Rattle.log_history.specs.Table.{Entry, compensated, owed_by_entry};
+ghost use Rattle.log_history.specs.Table.{TxnEntry, compensated, owed_by_entry};
 ghost use Rattle.log_history.specs.Transactions.{last_of};
 ghost use Rattle.log_history.specs.TxnState.{state_of};
 ghost use Rattle.log_records.specs.declared.limits.TheConstants.{MAX_OPEN};
@@ -31,9 +31,9 @@ impl Model for Losers {
     ghost use Rattle.std.specs.Prelude.{List, map};
     ghost use Rattle.log_history.specs.OpenEntry.{entry_view};
     ghost use Rattle.log_history.specs.OpenList.{IsSound, entries_in};
-    ghost use Rattle.log_history.specs.Table.{Entry};
+    ghost use Rattle.log_history.specs.Table.{TxnEntry};
 
-    ghost Value = { List Entry };
+    ghost Value = { List TxnEntry };
 
     ghost view = { λ it. map entry_view (entries_in it.list) };
 
@@ -69,8 +69,8 @@ impl Losers {
     {
         let place = self.list.len();
         self.list.add(loser.txn, loser.first)?;
-        let seat = self.list.order[place] as usize;
-        let entry = &mut self.list.seats[seat];
+        let row = self.list.order[place] as usize;
+        let entry = &mut self.list.rows[row];
         entry.replace_by(loser);
         Ok(())
     }
@@ -86,8 +86,8 @@ impl Losers {
     pub fn state_at(&self, place: usize) -> Option<TxnState>
         ensures { result ≡ option_map state_of (slice_get self.now place) }
     {
-        match self.list.seat_at(place) {
-            Some(seat) => Some(self.list.seats[seat as usize].state()),
+        match self.list.row_at(place) {
+            Some(row) => Some(self.list.rows[row as usize].state()),
             None => None,
         }
     }
@@ -96,8 +96,8 @@ impl Losers {
     pub fn last_pending_at(&self, place: usize) -> Option<PendingChange>
         ensures { result ≡ option_and_then (λ e. last_of e.pending) (slice_get self.now place) }
     {
-        match self.list.seat_at(place) {
-            Some(seat) => self.list.seats[seat as usize].last_pending(),
+        match self.list.row_at(place) {
+            Some(row) => self.list.rows[row as usize].last_pending(),
             None => None,
         }
     }
@@ -107,8 +107,8 @@ impl Losers {
         ensures { result
             ≡ option_and_then (λ e. slice_get e.pending index) (slice_get self.now place) }
     {
-        match self.list.seat_at(place) {
-            Some(seat) => self.list.seats[seat as usize].pending_at(index),
+        match self.list.row_at(place) {
+            Some(row) => self.list.rows[row as usize].pending_at(index),
             None => None,
         }
     }
@@ -124,11 +124,11 @@ impl Losers {
     /// The last pending change of the one at this place is taken back, by a record of this LSN.
     pub fn compensate(&mut self, place: usize, lsn: Lsn)
         requires { place < length self.old }
-        ensures { (d : Entry) → self.new
+        ensures { (d : TxnEntry) → self.new
             ≡ slice_set self.old place (compensated lsn (slice_index_or self.old place d)) }
     {
-        let seat = self.list.order[place] as usize;
-        let entry = &mut self.list.seats[seat];
+        let row = self.list.order[place] as usize;
+        let entry = &mut self.list.rows[row];
         entry.undo_last(lsn);
     }
 
@@ -137,7 +137,7 @@ impl Losers {
         requires { place < length self.old }
         ensures { self.new ≡ remove self.old place }
     {
-        let seat = self.list.order[place];
-        self.list.remove(seat);
+        let row = self.list.order[place];
+        self.list.remove(row);
     }
 }

@@ -2,10 +2,10 @@
 
 ghost use Rattle.std.specs.Prelude.{ℕ, ◌≡◌, ◌+◌, ◌*◌, ◌<◌, ◌≤◌, ◌==◌, ◌&&◌, OnOk, OnErr, vec_len};
 ghost use Rattle.std.specs.Prelude.{if◌then◌else◌};
-ghost use Rattle.log_history.specs.Mark.{HasSeat};
+ghost use Rattle.log_history.specs.HolderByte.{HasRow};
 ghost use Rattle.log_history.specs.Marks.{holder_at};
 
-use crate::mark::{Holder, Mark};
+use crate::holder_byte::{Holder, HolderByte};
 use page_core::{PageNo, SLOTS, SlotNo};
 use std::alloc::{AllocError, Global};
 
@@ -13,7 +13,7 @@ use std::alloc::{AllocError, Global};
 #[derive(Drop)]
 pub struct Marks {
     /// One for each slot, in order, up to the last page that has had a holder.
-    marks: Vec<Mark>,
+    marks: Vec<HolderByte>,
 }
 
 /// Where a slot stands among all slots of a volume.
@@ -36,7 +36,7 @@ impl Marks {
     /// The holder of a slot.
     pub fn holder(&self, page: PageNo, slot: SlotNo) -> Holder
         ensures holder { result ≡ holder_at self.now page slot }
-        ensures seat { HasSeat result }
+        ensures row { HasRow result }
     {
         let place = place_of(page, slot);
         if (slot.0 as usize) < SLOTS && place < self.marks.len() {
@@ -57,7 +57,7 @@ impl Marks {
     /// Puts this holder on a slot. Where nobody holds it, this may need memory, and is refused on a
     /// slot that no page has.
     pub fn put(&mut self, page: PageNo, slot: SlotNo, holder: Holder) -> Result<(), AllocError>
-        requires { HasSeat holder }
+        requires { HasRow holder }
         ensures put { OnOk result ((p s : ℕ) → holder_at self.new p s
             ≡ (if page == p && slot == s then holder else holder_at self.old p s)) }
         ensures new_slot { OnErr result (holder_at self.old page slot ≡ Holder.Nobody) }
@@ -70,7 +70,7 @@ impl Marks {
         if place >= self.marks.len() {
             self.make_page(page)?;
         }
-        self.marks[place] = Mark::of(holder);
+        self.marks[place] = HolderByte::of(holder);
         Ok(())
     }
 
@@ -82,7 +82,7 @@ impl Marks {
         ensures ok { OnOk result (vec_len self.new.marks ≡ SLOTS * (page + 1)) }
         ensures same { (p s : ℕ) → holder_at self.new p s ≡ holder_at self.old p s }
     {
-        let nobody = Mark::of(Holder::Nobody);
+        let nobody = HolderByte::of(Holder::Nobody);
         self.marks.resize(SLOTS * (page.0 as usize + 1), nobody)
     }
 }

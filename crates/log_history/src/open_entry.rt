@@ -5,14 +5,14 @@ ghost use Rattle.log_history.specs.declared.claims.Claims.{Claims};
 ghost use Rattle.log_history.specs.CountUpTo.{IsCountUpTo};
 ghost use Rattle.log_history.specs.Ahead.{entry_back, entry_with_before, last_with_before};
 ghost use Rattle.log_history.specs.Linked.{Compensates};
-ghost use Rattle.log_history.specs.OpenEntry.{IsBegun, IsHeld, KeepsOtherSeats, Pushes};
+ghost use Rattle.log_history.specs.OpenEntry.{IsBegun, IsHeld, KeepsOtherRows, Pushes};
 ghost use Rattle.log_history.specs.OpenEntry.{changes_of};
 ghost use Rattle.log_history.specs.Transactions.{without_last};
 
 use crate::claims::Claims;
 use crate::pending::Pending;
 use crate::pending_change::PendingChange;
-use crate::seat_set::SEATS;
+use crate::row_set::ROWS;
 use crate::txn_state::TxnState;
 use page_core::{Change, Lsn, PageNo, SlotNo, TxnNo, undo_of};
 use std::alloc::{AllocError, Global};
@@ -21,8 +21,8 @@ use std::alloc::{AllocError, Global};
 #[derive(Drop)]
 pub struct OpenEntry {
     pub(crate) txn: TxnNo,
-    /// Its place in the sets of seats, as long as it is open.
-    pub(crate) seat: u8,
+    /// Its place in the sets of rows, as long as it is open.
+    pub(crate) row: u8,
     pub(crate) first: Lsn,
     pub(crate) last: Lsn,
     pub(crate) rolling: bool,
@@ -36,20 +36,20 @@ pub struct OpenEntry {
 fn push_pending(
     pending: &mut Vec<Pending>,
     claims: &mut Claims,
-    seat: u8,
+    row: u8,
     change: PendingChange,
 ) -> Result<bool, AllocError>
-    requires seat { seat < SEATS }
-    requires held { IsHeld claims.old seat pending.old.items }
-    ensures ok { IfOk result (Pushes claims.old pending.old.items pending.new.items seat change) }
+    requires row { row < ROWS }
+    requires held { IsHeld claims.old row pending.old.items }
+    ensures ok { IfOk result (Pushes claims.old pending.old.items pending.new.items row change) }
     ensures err { OnErr result (pending.new.items ≡ pending.old.items) }
-    ensures held { IsHeld claims.new seat pending.new.items }
-    ensures others { KeepsOtherSeats seat claims.old claims.new }
+    ensures held { IsHeld claims.new row pending.new.items }
+    ensures others { KeepsOtherRows row claims.old claims.new }
 {
     // With room for it, the push cannot fail.
     pending.reserve(1)?;
     let kind = change.change.kind();
-    let Some(before) = claims.take(change.page, change.slot, seat, kind)? else {
+    let Some(before) = claims.take(change.page, change.slot, row, kind)? else {
         return Ok(false);
     };
     let _ = pending.push(Pending::of(change, before));
@@ -58,29 +58,29 @@ fn push_pending(
 
 /// Takes the last pending change away, and what it kept out.
 #[inline(always)]
-fn pop_pending(pending: &mut Vec<Pending>, claims: &mut Claims, seat: u8)
-    requires seat { seat < SEATS }
-    requires held { IsHeld claims.old seat pending.old.items }
+fn pop_pending(pending: &mut Vec<Pending>, claims: &mut Claims, row: u8)
+    requires row { row < ROWS }
+    requires held { IsHeld claims.old row pending.old.items }
     ensures changes { changes_of pending.new.items ≡ without_last (changes_of pending.old.items) }
-    ensures held { IsHeld claims.new seat pending.new.items }
-    ensures others { KeepsOtherSeats seat claims.old claims.new }
+    ensures held { IsHeld claims.new row pending.new.items }
+    ensures others { KeepsOtherRows row claims.old claims.new }
 {
     if let Some(last) = pending.pop() {
         let change = last.change();
-        claims.release(change.page, change.slot, seat, last.before());
+        claims.release(change.page, change.slot, row, last.before());
     }
 }
 
 /// Takes all pending changes away, and what they kept out.
-fn drain_pending(pending: &mut Vec<Pending>, claims: &mut Claims, seat: u8)
-    requires seat { seat < SEATS }
-    requires held { IsHeld claims.old seat pending.old.items }
+fn drain_pending(pending: &mut Vec<Pending>, claims: &mut Claims, row: u8)
+    requires row { row < ROWS }
+    requires held { IsHeld claims.old row pending.old.items }
     ensures changes { pending.new.items ≡ [] }
-    ensures held { IsHeld claims.new seat pending.new.items }
-    ensures others { KeepsOtherSeats seat claims.old claims.new }
+    ensures held { IsHeld claims.new row pending.new.items }
+    ensures others { KeepsOtherRows row claims.old claims.new }
 {
     while !pending.is_empty() {
-        pop_pending(pending, claims, seat);
+        pop_pending(pending, claims, row);
     }
 }
 
@@ -88,8 +88,8 @@ fn drain_pending(pending: &mut Vec<Pending>, claims: &mut Claims, seat: u8)
 fn set_last_before(pending: &mut Vec<Pending>, before: u64)
     ensures changes { changes_of pending.new.items
         ≡ last_with_before (changes_of pending.old.items) before }
-    ensures held { (claims : Claims) (seat : ℕ) → IsHeld claims seat pending.old.items
-        → IsHeld claims seat pending.new.items }
+    ensures held { (claims : Claims) (row : ℕ) → IsHeld claims row pending.old.items
+        → IsHeld claims row pending.new.items }
 {
     if let Some(last) = pending.last_mut() {
         last.set_before(before);
@@ -115,12 +115,12 @@ fn count_up_to(pending: &[Pending], lsn: Lsn) -> usize
 
 impl OpenEntry {
     ghost use Rattle.std.specs.Prelude.{min, slice_get, true};
-    ghost use Rattle.log_history.specs.OpenEntry.{IsBegun, KeepsSeat, Updates, entry_view};
+    ghost use Rattle.log_history.specs.OpenEntry.{IsBegun, KeepsRow, Updates, entry_view};
     ghost use Rattle.log_history.specs.TxnState.{state_of};
     ghost use Rattle.log_history.specs.Table.{IsActiveEntry, IsChained, compensated, owed_by_entry};
     ghost use Rattle.log_history.specs.Transactions.{last_of};
 
-    /// A transaction with these numbers and pending changes, the oldest first. It has no seat yet.
+    /// A transaction with these numbers and pending changes, the oldest first. It has no row yet.
     pub fn new(txn: TxnNo, first: Lsn, last: Lsn, rolling: bool, pending: Vec<Pending>) -> OpenEntry
         ensures { entry_view result ≡ record {
           txn = txn;
@@ -132,7 +132,7 @@ impl OpenEntry {
     {
         OpenEntry {
             txn,
-            seat: 0,
+            row: 0,
             first,
             last,
             rolling,
@@ -140,10 +140,10 @@ impl OpenEntry {
         }
     }
 
-    /// Another transaction takes this one's seat.
+    /// Another transaction takes this one's row.
     pub(crate) fn replace_by(&mut self, other: OpenEntry)
         ensures entry { entry_view self.new ≡ entry_view other }
-        ensures seat { self.new.seat ≡ self.old.seat }
+        ensures row { self.new.row ≡ self.old.row }
     {
         let OpenEntry {
             txn,
@@ -164,18 +164,18 @@ impl OpenEntry {
     /// where nobody asks any more what it keeps out.
     pub(crate) fn undo_last(&mut self, lsn: Lsn)
         ensures entry { entry_view self.new ≡ compensated lsn (entry_view self.old) }
-        ensures seat { self.new.seat ≡ self.old.seat }
+        ensures row { self.new.row ≡ self.old.row }
     {
         let _ = self.pending.pop();
         self.last = lsn;
     }
 
-    /// A transaction begins on this seat, where another one sat.
-    pub fn begin(&mut self, txn: TxnNo, seat: u8, lsn: Lsn)
-        ensures { IsBegun self.new txn seat lsn }
+    /// A transaction begins on this row, where another one sat.
+    pub fn begin(&mut self, txn: TxnNo, row: u8, lsn: Lsn)
+        ensures { IsBegun self.new txn row lsn }
     {
         self.txn = txn;
-        self.seat = seat;
+        self.row = row;
         self.first = lsn;
         self.last = lsn;
         self.rolling = false;
@@ -186,14 +186,14 @@ impl OpenEntry {
     /// change's LSN. Answers whether it did. An `Err` changes nothing.
     #[inline(always)]
     pub fn update(&mut self, claims: &mut Claims, change: PendingChange) -> Result<bool, AllocError>
-        requires seat { self.old.seat < SEATS }
-        requires held { IsHeld claims.old self.old.seat self.old.pending.items }
+        requires row { self.old.row < ROWS }
+        requires held { IsHeld claims.old self.old.row self.old.pending.items }
         ensures ok { IfOk result (Updates claims.old self.old self.new change) }
         ensures err { OnErr result (entry_view self.new ≡ entry_view self.old) }
-        ensures kept { KeepsSeat self.old self.new claims.old claims.new }
+        ensures kept { KeepsRow self.old self.new claims.old claims.new }
     {
         let lsn = change.lsn;
-        let may = push_pending(&mut self.pending, claims, self.seat, change)?;
+        let may = push_pending(&mut self.pending, claims, self.row, change)?;
         if may {
             self.last = lsn;
         }
@@ -202,32 +202,32 @@ impl OpenEntry {
 
     /// The transaction takes its last pending change back, by a compensation record of this LSN.
     pub fn compensate(&mut self, claims: &mut Claims, lsn: Lsn)
-        requires seat { self.old.seat < SEATS }
-        requires held { IsHeld claims.old self.old.seat self.old.pending.items }
+        requires row { self.old.row < ROWS }
+        requires held { IsHeld claims.old self.old.row self.old.pending.items }
         ensures entry { entry_view self.new ≡ compensated lsn (entry_view self.old) }
-        ensures kept { KeepsSeat self.old self.new claims.old claims.new }
+        ensures kept { KeepsRow self.old self.new claims.old claims.new }
     {
-        pop_pending(&mut self.pending, claims, self.seat);
+        pop_pending(&mut self.pending, claims, self.row);
         self.last = lsn;
     }
 
     /// Takes the last change back, as if it had not come: the record before it has this LSN.
     pub fn take_back(&mut self, claims: &mut Claims, prev: Lsn)
-        requires seat { self.old.seat < SEATS }
-        requires held { IsHeld claims.old self.old.seat self.old.pending.items }
+        requires row { self.old.row < ROWS }
+        requires held { IsHeld claims.old self.old.row self.old.pending.items }
         ensures entry { entry_view self.new ≡ entry_back prev (entry_view self.old) }
-        ensures kept { KeepsSeat self.old self.new claims.old claims.new }
+        ensures kept { KeepsRow self.old self.new claims.old claims.new }
     {
-        pop_pending(&mut self.pending, claims, self.seat);
+        pop_pending(&mut self.pending, claims, self.row);
         self.last = prev;
     }
 
     /// The last change had this number before it, where it is a Set.
     pub fn set_before(&mut self, before: u64)
         ensures entry { entry_view self.new ≡ entry_with_before before (entry_view self.old) }
-        ensures same { (self.new.txn ≡ self.old.txn) × (self.new.seat ≡ self.old.seat) }
-        ensures held { (claims : Claims) (seat : ℕ) → IsHeld claims seat self.old.pending.items
-            → IsHeld claims seat self.new.pending.items }
+        ensures same { (self.new.txn ≡ self.old.txn) × (self.new.row ≡ self.old.row) }
+        ensures held { (claims : Claims) (row : ℕ) → IsHeld claims row self.old.pending.items
+            → IsHeld claims row self.new.pending.items }
     {
         set_last_before(&mut self.pending, before);
     }
@@ -238,7 +238,7 @@ impl OpenEntry {
           last = lsn;
           rolling = true;
         } }
-        ensures same { (self.new.seat ≡ self.old.seat)
+        ensures same { (self.new.row ≡ self.old.row)
             × (self.new.pending.items ≡ self.old.pending.items) }
     {
         self.last = lsn;
@@ -324,22 +324,22 @@ impl OpenEntry {
 
     /// The transaction keeps nothing out any more.
     pub fn release(&mut self, claims: &mut Claims)
-        requires seat { self.old.seat < SEATS }
-        requires held { IsHeld claims.old self.old.seat self.old.pending.items }
+        requires row { self.old.row < ROWS }
+        requires held { IsHeld claims.old self.old.row self.old.pending.items }
         ensures changes { self.new.pending.items ≡ [] }
-        ensures kept { KeepsSeat self.old self.new claims.old claims.new }
+        ensures kept { KeepsRow self.old self.new claims.old claims.new }
     {
-        drain_pending(&mut self.pending, claims, self.seat);
+        drain_pending(&mut self.pending, claims, self.row);
     }
 }
 
 /// An open transaction with only its Begin.
-pub fn begun_entry(alloc: Global, txn: TxnNo, seat: u8, lsn: Lsn) -> OpenEntry
-    ensures { IsBegun result txn seat lsn }
+pub fn begun_entry(alloc: Global, txn: TxnNo, row: u8, lsn: Lsn) -> OpenEntry
+    ensures { IsBegun result txn row lsn }
 {
     OpenEntry {
         txn,
-        seat,
+        row,
         first: lsn,
         last: lsn,
         rolling: false,

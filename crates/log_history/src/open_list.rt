@@ -9,53 +9,53 @@ ghost use Rattle.std.specs.List.{All, find, position, remove, sum_by};
 ghost use Rattle.std.specs.Option.{option_map};
 ghost use Rattle.log_history.specs.declared.open_entry.OpenEntry.{OpenEntry};
 ghost use Rattle.log_history.specs.OpenEntry.{entry_view};
-ghost use Rattle.log_history.specs.OpenList.{Adds, IsSound, Sits, TakesSeat, entries_in};
-ghost use Rattle.log_history.specs.SeatSet.{has_seat};
+ghost use Rattle.log_history.specs.OpenList.{Adds, IsSound, Sits, TakesRow, entries_in};
+ghost use Rattle.log_history.specs.RowSet.{has_row};
 ghost use Rattle.log_history.specs.Table.{owed_by_entry};
 ghost use Rattle.log_records.specs.declared.limits.TheConstants.{MAX_OPEN};
 
 use crate::open_entry::{OpenEntry, begun_entry};
-use crate::seat_set::SeatSet;
+use crate::row_set::RowSet;
 use page_core::{Lsn, TxnNo};
 use std::alloc::{AllocError, Global};
 
 /// How many guesses there are.
 const GUESSES: usize = 256;
 
-/// The open transactions in the order of their numbers. Each has a seat of its own as long as it is
-/// open, and its entry stays there; what was last on a seat leaves its memory to the next.
+/// The open transactions in the order of their numbers. Each has a row of its own as long as it is
+/// open, and its entry stays there; what was last on a row leaves its memory to the next.
 #[derive(Drop)]
 pub struct OpenList {
-    /// The seats that are taken, in the order of the transactions.
+    /// The rows that are taken, in the order of the transactions.
     pub order: Vec<u8>,
-    /// The entries by seat, also of seats that nobody has any more.
-    pub seats: Vec<OpenEntry>,
-    taken: SeatSet,
-    /// For numbers modulo `GUESSES` the seat that was taken last for one of them. Nearly always it
+    /// The entries by row, also of rows that nobody has any more.
+    pub rows: Vec<OpenEntry>,
+    taken: RowSet,
+    /// For numbers modulo `GUESSES` the row that was taken last for one of them. Nearly always it
     /// is that of the transaction that is looked for; else the list is searched.
     guesses: [u8; GUESSES],
 }
 
-/// Where a seat stands in the order.
+/// Where a row stands in the order.
 #[inline(never)]
-fn place_of(order: &[u8], seat: u8) -> Option<usize>
-    ensures { result ≡ position (λ s. s == seat) order.now }
+fn place_of(order: &[u8], row: u8) -> Option<usize>
+    ensures { result ≡ position (λ s. s == row) order.now }
 {
-    order.iter().position(|other| *other == seat)
+    order.iter().position(|other| *other == row)
 }
 
-/// Gives a seat that nobody has to a transaction that begins. An `Err` changes nothing.
-fn take_seat(seats: &mut Vec<OpenEntry>, txn: TxnNo, seat: u8, lsn: Lsn) -> Result<(), AllocError>
-    ensures ok { OnOk result (TakesSeat seats.old.items seats.new.items txn seat lsn) }
-    ensures err { OnErr result (seats.new.items ≡ seats.old.items) }
+/// Gives a row that nobody has to a transaction that begins. An `Err` changes nothing.
+fn take_row(rows: &mut Vec<OpenEntry>, txn: TxnNo, row: u8, lsn: Lsn) -> Result<(), AllocError>
+    ensures ok { OnOk result (TakesRow rows.old.items rows.new.items txn row lsn) }
+    ensures err { OnErr result (rows.new.items ≡ rows.old.items) }
 {
-    if (seat as usize) < seats.len() {
-        let entry = &mut seats[seat as usize];
-        entry.begin(txn, seat, lsn);
+    if (row as usize) < rows.len() {
+        let entry = &mut rows[row as usize];
+        entry.begin(txn, row, lsn);
         return Ok(());
     }
-    let alloc = *seats.allocator();
-    seats.push(begun_entry(alloc, txn, seat, lsn))?;
+    let alloc = *rows.allocator();
+    rows.push(begun_entry(alloc, txn, row, lsn))?;
     Ok(())
 }
 
@@ -67,8 +67,8 @@ impl OpenList {
     {
         OpenList {
             order: Vec::new(alloc),
-            seats: Vec::new(alloc),
-            taken: SeatSet::new(),
+            rows: Vec::new(alloc),
+            taken: RowSet::new(),
             guesses: [0; GUESSES],
         }
     }
@@ -81,16 +81,16 @@ impl OpenList {
         self.order.len()
     }
 
-    /// The seat of a transaction; None where it is not open.
-    pub fn seat_of(&self, txn: TxnNo) -> Option<u8>
+    /// The row of a transaction; None where it is not open.
+    pub fn row_of(&self, txn: TxnNo) -> Option<u8>
         requires { IsSound self.now }
-        ensures found { IfSome result (Sits self.now.order.items self.now.seats.items txn) }
+        ensures found { IfSome result (Sits self.now.order.items self.now.rows.items txn) }
         ensures none { result ≡ None → find (λ e. e.txn == txn) (entries_in self.now) ≡ None }
     {
         let guess = self.guesses[txn.0 as usize % GUESSES];
-        if (guess as usize) < self.seats.len()
+        if (guess as usize) < self.rows.len()
             && self.taken.contains(guess)
-            && self.seats[guess as usize].txn == txn
+            && self.rows[guess as usize].txn == txn
         {
             return Some(guess);
         }
@@ -100,59 +100,59 @@ impl OpenList {
     /// The same, by looking at each.
     fn search(&self, txn: TxnNo) -> Option<u8>
         requires { IsSound self.now }
-        ensures found { IfSome result (Sits self.now.order.items self.now.seats.items txn) }
+        ensures found { IfSome result (Sits self.now.order.items self.now.rows.items txn) }
         ensures none { result ≡ None → find (λ e. e.txn == txn) (entries_in self.now) ≡ None }
     {
-        for seat in &self.order {
-            if self.seats[*seat as usize].txn == txn {
-                return Some(*seat);
+        for row in &self.order {
+            if self.rows[*row as usize].txn == txn {
+                return Some(*row);
             }
         }
         None
     }
 
-    /// The seat of the transaction at this place.
-    pub fn seat_at(&self, place: usize) -> Option<u8>
+    /// The row of the transaction at this place.
+    pub fn row_at(&self, place: usize) -> Option<u8>
         requires { IsSound self.now }
-        ensures found { IfSome result (λ seat. seat < length self.now.seats.items) }
-        ensures there { IfSome result (λ seat. (d : OpenEntry)
+        ensures found { IfSome result (λ row. row < length self.now.rows.items) }
+        ensures there { IfSome result (λ row. (d : OpenEntry)
             → slice_get (entries_in self.now) place
-            ≡ Some (slice_index_or self.now.seats.items seat d)) }
+            ≡ Some (slice_index_or self.now.rows.items row d)) }
         ensures none { result ≡ None → slice_get (entries_in self.now) place ≡ None }
     {
         self.order.get(place).copied()
     }
 
-    /// The seat of the first transaction that has this number or one above it.
+    /// The row of the first transaction that has this number or one above it.
     pub fn first_from(&self, from: TxnNo) -> Option<u8>
         requires { IsSound self.now }
-        ensures found { IfSome result (λ seat. seat < length self.now.seats.items) }
-        ensures first { IfSome result (λ seat. (d : OpenEntry)
+        ensures found { IfSome result (λ row. row < length self.now.rows.items) }
+        ensures first { IfSome result (λ row. (d : OpenEntry)
             → find (λ e. nat_le from e.txn) (entries_in self.now)
-            ≡ Some (slice_index_or self.now.seats.items seat d)) }
+            ≡ Some (slice_index_or self.now.rows.items row d)) }
         ensures none { result ≡ None
             → find (λ e. nat_le from e.txn) (entries_in self.now) ≡ None }
     {
-        for seat in &self.order {
-            if self.seats[*seat as usize].txn >= from {
-                return Some(*seat);
+        for row in &self.order {
+            if self.rows[*row as usize].txn >= from {
+                return Some(*row);
             }
         }
         None
     }
 
-    /// The first transaction but this one that has its seat in the set.
-    pub fn first_other(&self, seats: SeatSet, txn: TxnNo) -> Option<TxnNo>
+    /// The first transaction but this one that has its row in the set.
+    pub fn first_other(&self, rows: RowSet, txn: TxnNo) -> Option<TxnNo>
         requires { IsSound self.now }
         ensures { result ≡ option_map (λ e. e.txn)
-            (find (λ e. not (e.txn == txn) && has_seat seats e.seat) (entries_in self.now)) }
+            (find (λ e. not (e.txn == txn) && has_row rows e.row) (entries_in self.now)) }
     {
-        if seats.is_empty() {
+        if rows.is_empty() {
             return None;
         }
-        for seat in &self.order {
-            let other = self.seats[*seat as usize].txn;
-            if other != txn && seats.contains(*seat) {
+        for row in &self.order {
+            let other = self.rows[*row as usize].txn;
+            if other != txn && rows.contains(*row) {
                 return Some(other);
             }
         }
@@ -166,8 +166,8 @@ impl OpenList {
             u64.MAX }
     {
         let mut owed = 0u64;
-        for seat in &self.order {
-            owed = owed.saturating_add(self.seats[*seat as usize].owed());
+        for row in &self.order {
+            owed = owed.saturating_add(self.rows[*row as usize].owed());
         }
         owed
     }
@@ -178,8 +178,8 @@ impl OpenList {
         ensures { IsTrue result
             ↔ All (λ e. e.first < lsn → Contains txns.now e.txn) (entries_in self.now) }
     {
-        for seat in &self.order {
-            if !is_listed(&self.seats[*seat as usize], lsn, txns) {
+        for row in &self.order {
+            if !is_listed(&self.rows[*row as usize], lsn, txns) {
                 return false;
             }
         }
@@ -194,28 +194,28 @@ impl OpenList {
         ensures ok { OnOk result (Adds (entries_in self.old) (entries_in self.new) txn lsn) }
         ensures err { OnErr result (entries_in self.new ≡ entries_in self.old) }
     {
-        let seat = self.taken.first_absent();
+        let row = self.taken.first_absent();
         // With room for it, the push cannot fail.
         self.order.reserve(1)?;
-        take_seat(&mut self.seats, txn, seat, lsn)?;
-        let _ = self.order.push(seat);
-        self.taken = self.taken.with(seat, true);
-        self.guesses[txn.0 as usize % GUESSES] = seat;
+        take_row(&mut self.rows, txn, row, lsn)?;
+        let _ = self.order.push(row);
+        self.taken = self.taken.with(row, true);
+        self.guesses[txn.0 as usize % GUESSES] = row;
         Ok(())
     }
 
-    /// The transaction of this seat is open no more.
-    pub fn remove(&mut self, seat: u8)
+    /// The transaction of this row is open no more.
+    pub fn remove(&mut self, row: u8)
         requires sound { IsSound self.old }
-        requires sits { (txn : ℕ) × Sits self.old.order.items self.old.seats.items txn seat }
+        requires sits { (txn : ℕ) × Sits self.old.order.items self.old.rows.items txn row }
         ensures sound { IsSound self.new }
-        ensures seats { self.new.seats ≡ self.old.seats }
+        ensures rows { self.new.rows ≡ self.old.rows }
         ensures order { (place : ℕ) → place < length self.old.order.items
-            → slice_index self.old.order.items place ≡ seat
+            → slice_index self.old.order.items place ≡ row
             → self.new.order.items ≡ remove self.old.order.items place }
     {
-        self.taken = self.taken.with(seat, false);
-        match place_of(&self.order, seat) {
+        self.taken = self.taken.with(row, false);
+        match place_of(&self.order, row) {
             Some(place) => {
                 let _ = self.order.remove(place);
             }

@@ -92,8 +92,8 @@ impl OpenTransactions {
     pub fn holder(&self, page: PageNo, slot: SlotNo, kind: ChangeKind, txn: TxnNo) -> Option<TxnNo>
         ensures { result ≡ holder_in self.now page slot kind txn }
     {
-        let seats = self.claims.claim(page, slot).against(kind);
-        self.list.first_other(seats, txn)
+        let rows = self.claims.claim(page, slot).against(kind);
+        self.list.first_other(rows, txn)
     }
 
     /// Prefetches what a change of a slot will look at first. What it answers says nothing, but a
@@ -106,8 +106,8 @@ impl OpenTransactions {
     pub fn state(&self, txn: TxnNo) -> Option<TxnState>
         ensures { result ≡ option_map state_of (entry_in self.now txn) }
     {
-        match self.list.seat_of(txn) {
-            Some(seat) => Some(self.list.seats[seat as usize].state()),
+        match self.list.row_of(txn) {
+            Some(row) => Some(self.list.rows[row as usize].state()),
             None => None,
         }
     }
@@ -117,8 +117,8 @@ impl OpenTransactions {
         ensures { MatchOption (entry_in self.now txn) (result ≡ None)
             (λ e. result ≡ last_of e.pending) }
     {
-        match self.list.seat_of(txn) {
-            Some(seat) => self.list.seats[seat as usize].last_pending(),
+        match self.list.row_of(txn) {
+            Some(row) => self.list.rows[row as usize].last_pending(),
             None => None,
         }
     }
@@ -129,8 +129,8 @@ impl OpenTransactions {
         ensures { MatchOption (entry_in self.now txn) (result ≡ None)
             (λ e. result ≡ slice_get e.pending place) }
     {
-        match self.list.seat_of(txn) {
-            Some(seat) => self.list.seats[seat as usize].pending_at(place),
+        match self.list.row_of(txn) {
+            Some(row) => self.list.rows[row as usize].pending_at(place),
             None => None,
         }
     }
@@ -140,8 +140,8 @@ impl OpenTransactions {
     pub fn pending_up_to(&self, txn: TxnNo, lsn: Lsn) -> usize
         ensures { IfSome (entry_in self.now txn) (λ e. IsCountUpTo e.pending lsn result) }
     {
-        match self.list.seat_of(txn) {
-            Some(seat) => self.list.seats[seat as usize].pending_up_to(lsn),
+        match self.list.row_of(txn) {
+            Some(row) => self.list.rows[row as usize].pending_up_to(lsn),
             None => 0,
         }
     }
@@ -152,7 +152,7 @@ impl OpenTransactions {
             (option_and_then (entry_in self.now) (next_in self.now from)) }
     {
         match self.list.first_from(from) {
-            Some(seat) => Some(self.list.seats[seat as usize].state()),
+            Some(row) => Some(self.list.rows[row as usize].state()),
             None => None,
         }
     }
@@ -342,8 +342,8 @@ impl OpenTransactions {
         ensures { IsSome (entry_in self.old txn)
             → self.new ≡ with_changed self.old txn (entry_back prev) }
     {
-        if let Some(seat) = self.list.seat_of(txn) {
-            let entry = &mut self.list.seats[seat as usize];
+        if let Some(row) = self.list.row_of(txn) {
+            let entry = &mut self.list.rows[row as usize];
             entry.take_back(&mut self.claims, prev);
         }
     }
@@ -354,8 +354,8 @@ impl OpenTransactions {
         ensures { IsSome (entry_in self.old txn)
             → self.new ≡ with_changed self.old txn (entry_with_before before) }
     {
-        if let Some(seat) = self.list.seat_of(txn) {
-            let entry = &mut self.list.seats[seat as usize];
+        if let Some(row) = self.list.row_of(txn) {
+            let entry = &mut self.list.rows[row as usize];
             entry.set_before(before);
         }
     }
@@ -381,10 +381,10 @@ impl OpenTransactions {
             (Update change.lsn txn change.prev change.page change.slot change.change)) }
         ensures err { OnErr result (self.new ≡ self.old) }
     {
-        let Some(seat) = self.list.seat_of(txn) else {
+        let Some(row) = self.list.row_of(txn) else {
             return Ok(false);
         };
-        let entry = &mut self.list.seats[seat as usize];
+        let entry = &mut self.list.rows[row as usize];
         if !entry.is_active(change.prev) {
             return Ok(false);
         }
@@ -406,10 +406,10 @@ impl OpenTransactions {
         ensures { NotesIfMay self.old self.new (Comp lsn txn prev undo_next page slot change)
             result }
     {
-        let Some(seat) = self.list.seat_of(txn) else {
+        let Some(row) = self.list.row_of(txn) else {
             return false;
         };
-        let entry = &mut self.list.seats[seat as usize];
+        let entry = &mut self.list.rows[row as usize];
         if !entry.may_compensate(prev, undo_next, page, slot, change) {
             return false;
         }
@@ -421,10 +421,10 @@ impl OpenTransactions {
     fn abort(&mut self, lsn: Lsn, txn: TxnNo, prev: Lsn) -> bool
         ensures { NotesIfMay self.old self.new (Abort lsn txn prev) result }
     {
-        let Some(seat) = self.list.seat_of(txn) else {
+        let Some(row) = self.list.row_of(txn) else {
             return false;
         };
-        let entry = &mut self.list.seats[seat as usize];
+        let entry = &mut self.list.rows[row as usize];
         if !entry.is_active(prev) {
             return false;
         }
@@ -437,15 +437,15 @@ impl OpenTransactions {
     fn commit(&mut self, txn: TxnNo, prev: Lsn) -> bool
         ensures { (lsn : ℕ) → NotesIfMay self.old self.new (Commit lsn txn prev) result }
     {
-        let Some(seat) = self.list.seat_of(txn) else {
+        let Some(row) = self.list.row_of(txn) else {
             return false;
         };
-        let entry = &mut self.list.seats[seat as usize];
+        let entry = &mut self.list.rows[row as usize];
         if !entry.is_active(prev) {
             return false;
         }
         entry.release(&mut self.claims);
-        self.list.remove(seat);
+        self.list.remove(row);
         true
     }
 
@@ -453,13 +453,13 @@ impl OpenTransactions {
     fn end(&mut self, txn: TxnNo, prev: Lsn) -> bool
         ensures { (lsn : ℕ) → NotesIfMay self.old self.new (End lsn txn prev) result }
     {
-        let Some(seat) = self.list.seat_of(txn) else {
+        let Some(row) = self.list.row_of(txn) else {
             return false;
         };
-        if !self.list.seats[seat as usize].may_end(prev) {
+        if !self.list.rows[row as usize].may_end(prev) {
             return false;
         }
-        self.list.remove(seat);
+        self.list.remove(row);
         true
     }
 }

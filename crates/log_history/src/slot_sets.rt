@@ -1,35 +1,35 @@
-//! The sets of seats of several slots of one page.
+//! The sets of rows of several slots of one page.
 
 ghost use Rattle.std.specs.Prelude.{ℕ, ◌≡◌, ◌<◌, ◌==◌, OnOk, OnErr, IfOk};
 ghost use Rattle.std.specs.Prelude.{if◌then◌else◌};
-ghost use Rattle.log_history.specs.Adders.{seats_among};
-ghost use Rattle.log_history.specs.SeatSet.{IsWith, no_seats};
+ghost use Rattle.log_history.specs.Adders.{rows_among};
+ghost use Rattle.log_history.specs.RowSet.{IsWith, no_rows};
 
-use crate::seat_set::{SEATS, SeatSet};
+use crate::row_set::{ROWS, RowSet};
 use page_core::SLOTS;
 use std::alloc::{AllocError, Global};
 
-/// A slot, and the seats of those who add to it.
+/// A slot, and the rows of those who add to it.
 #[derive(Clone, Copy)]
-struct SlotSeats {
+struct SlotRows {
     slot: u16,
-    seats: SeatSet,
+    rows: RowSet,
 }
 
-/// The seats of several slots of one page. A set takes memory once a slot has it, and is found by
+/// The rows of several slots of one page. A set takes memory once a slot has it, and is found by
 /// one look.
 #[derive(Drop)]
 pub struct SlotSets {
     /// Where the set of each slot stands, if it has one. What stands there names its slot, so a
     /// place that says nothing may be any.
     places: [u8; SLOTS],
-    sets: Vec<SlotSeats>,
+    sets: Vec<SlotRows>,
 }
 
 impl SlotSets {
-    /// No slot has a seat.
+    /// No slot has a row.
     pub fn new(alloc: Global) -> SlotSets
-        ensures { (slot : ℕ) → seats_among result slot ≡ no_seats }
+        ensures { (slot : ℕ) → rows_among result slot ≡ no_rows }
     {
         SlotSets {
             places: [0; SLOTS],
@@ -37,76 +37,76 @@ impl SlotSets {
         }
     }
 
-    /// The seats of a slot.
+    /// The rows of a slot.
     #[inline(always)]
-    pub fn seats(&self, slot: u16) -> SeatSet
+    pub fn rows(&self, slot: u16) -> RowSet
         requires { slot < SLOTS }
-        ensures { result ≡ seats_among self.now slot }
+        ensures { result ≡ rows_among self.now slot }
     {
         let place = self.places[slot as usize] as usize;
         if place < self.sets.len() && self.sets[place].slot == slot {
-            self.sets[place].seats
+            self.sets[place].rows
         } else {
-            SeatSet::new()
+            RowSet::new()
         }
     }
 
-    /// Puts these seats on a slot. Where it had none, this may need memory.
+    /// Puts these rows on a slot. Where it had none, this may need memory.
     #[inline(always)]
-    pub fn put(&mut self, slot: u16, seats: SeatSet) -> Result<(), AllocError>
+    pub fn put(&mut self, slot: u16, rows: RowSet) -> Result<(), AllocError>
         requires { slot < SLOTS }
-        ensures put { OnOk result ((s : ℕ) → s < SLOTS → seats_among self.new s
-            ≡ (if slot == s then seats else seats_among self.old s)) }
-        ensures new_slot { OnErr result (seats_among self.old slot ≡ no_seats) }
-        ensures err { OnErr result ((s : ℕ) → seats_among self.new s ≡ seats_among self.old s) }
+        ensures put { OnOk result ((s : ℕ) → s < SLOTS → rows_among self.new s
+            ≡ (if slot == s then rows else rows_among self.old s)) }
+        ensures new_slot { OnErr result (rows_among self.old slot ≡ no_rows) }
+        ensures err { OnErr result ((s : ℕ) → rows_among self.new s ≡ rows_among self.old s) }
     {
         let place = self.places[slot as usize] as usize;
         if place < self.sets.len() && self.sets[place].slot == slot {
-            self.sets[place].seats = seats;
+            self.sets[place].rows = rows;
             return Ok(());
         }
-        self.add(slot, seats)
+        self.add(slot, rows)
     }
 
-    /// Puts a seat into the set of a slot, or takes it out of it, and answers the set as it was.
-    /// Where it had no seats, this may need memory.
+    /// Puts a row into the set of a slot, or takes it out of it, and answers the set as it was.
+    /// Where it had no rows, this may need memory.
     #[inline(always)]
-    pub fn put_seat(&mut self, slot: u16, seat: u8, present: bool) -> Result<SeatSet, AllocError>
+    pub fn put_row(&mut self, slot: u16, row: u8, present: bool) -> Result<RowSet, AllocError>
         requires slot { slot < SLOTS }
-        requires seat { seat < SEATS }
-        ensures was { IfOk result (λ was. was ≡ seats_among self.old slot) }
-        ensures now { OnOk result (IsWith (seats_among self.new slot) (seats_among self.old slot)
-            seat present) }
-        ensures put { OnOk result ((s : ℕ) → s < SLOTS → seats_among self.new s
-            ≡ (if slot == s then seats_among self.new slot else seats_among self.old s)) }
-        ensures new_slot { OnErr result (seats_among self.old slot ≡ no_seats) }
-        ensures err { OnErr result ((s : ℕ) → seats_among self.new s ≡ seats_among self.old s) }
+        requires row { row < ROWS }
+        ensures was { IfOk result (λ was. was ≡ rows_among self.old slot) }
+        ensures now { OnOk result (IsWith (rows_among self.new slot) (rows_among self.old slot)
+            row present) }
+        ensures put { OnOk result ((s : ℕ) → s < SLOTS → rows_among self.new s
+            ≡ (if slot == s then rows_among self.new slot else rows_among self.old s)) }
+        ensures new_slot { OnErr result (rows_among self.old slot ≡ no_rows) }
+        ensures err { OnErr result ((s : ℕ) → rows_among self.new s ≡ rows_among self.old s) }
     {
         let place = self.places[slot as usize] as usize;
         if place < self.sets.len() && self.sets[place].slot == slot {
-            let was = self.sets[place].seats;
-            self.sets[place].seats = was.with(seat, present);
+            let was = self.sets[place].rows;
+            self.sets[place].rows = was.with(row, present);
             return Ok(was);
         }
-        self.add(slot, SeatSet::new().with(seat, present))?;
-        Ok(SeatSet::new())
+        self.add(slot, RowSet::new().with(row, present))?;
+        Ok(RowSet::new())
     }
 
-    /// Puts these seats on a slot that has none.
+    /// Puts these rows on a slot that has none.
     #[cold]
     #[inline(never)]
-    fn add(&mut self, slot: u16, seats: SeatSet) -> Result<(), AllocError>
+    fn add(&mut self, slot: u16, rows: RowSet) -> Result<(), AllocError>
         requires { slot < SLOTS }
-        ensures put { OnOk result ((s : ℕ) → s < SLOTS → seats_among self.new s
-            ≡ (if slot == s then seats else seats_among self.old s)) }
-        ensures err { OnErr result ((s : ℕ) → seats_among self.new s ≡ seats_among self.old s) }
+        ensures put { OnOk result ((s : ℕ) → s < SLOTS → rows_among self.new s
+            ≡ (if slot == s then rows else rows_among self.old s)) }
+        ensures err { OnErr result ((s : ℕ) → rows_among self.new s ≡ rows_among self.old s) }
     {
         // Each slot has one set at most, so there are fewer.
         let place = self.sets.len();
         if place > u8::MAX as usize {
             return Err(AllocError);
         }
-        self.sets.push(SlotSeats { slot, seats })?;
+        self.sets.push(SlotRows { slot, rows })?;
         self.places[slot as usize] = place as u8;
         Ok(())
     }

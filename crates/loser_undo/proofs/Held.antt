@@ -13,7 +13,7 @@ use Rattle.log_records.specs.declared.record.Record.{Record}
 use Rattle.log_records.specs.declared.record.Record.TheVariants.{Abort, Begin, BeginChkpt, ChkptPages, ChkptTxns, Commit}
 use Rattle.log_records.specs.declared.record.Record.TheVariants.{Comp, End, EndChkpt, Update}
 use Rattle.log_history.specs.Linked.{IsLinked, MayFollow}
-use Rattle.log_history.specs.Table.{Entry, Table, compensated, entry_after, entry_of, noted, owed_by_entry, table_of}
+use Rattle.log_history.specs.Table.{TxnEntry, Table, compensated, entry_after, entry_of, noted, owed_by_entry, table_of}
 use Rattle.log_history.specs.Transactions.{begun, is_open, last_lsn, open_in, owed}
 use Rattle.log_history.proofs.Checks.{owed_in-table_of}
 use Rattle.log_history.proofs.Histories.{along_linked}
@@ -41,10 +41,10 @@ one_open rs items i x same lt is =
     subst (IsOpenTxn rs) (sym is)
     (All-get_or (IsOpenTxn rs) items i x lt (subst (All (IsOpenTxn rs)) (sym same) (each_open rs)))
 
-abbrev pub entry_at : List Record → OpenTxn → Entry
+abbrev pub entry_at : List Record → OpenTxn → TxnEntry
 entry_at rs o = entry_of rs o.txn
 
-pub listed_more : (rs : List Record) (items : List OpenTxn) (i : ℕ) (x : OpenTxn) (found new : List Entry) (e : Entry)
+pub listed_more : (rs : List Record) (items : List OpenTxn) (i : ℕ) (x : OpenTxn) (found new : List TxnEntry) (e : TxnEntry)
     → i < length items → x ≡ get_or items i x → found ≡ map (entry_at rs) (take i items)
     → e ≡ entry_of rs x.txn → new ≡ found ++ e ∷ [] → new ≡ map (entry_at rs) (take (i + 1) items)
 listed_more rs items i x found new e lt is before one push =
@@ -57,12 +57,12 @@ listed_all rs items same = ap (map (entry_at rs)) same ∙ map-map (entry_at rs)
 
 -- ---- what they are owed
 
-pub owed_of : (rs : List Record) (losers : List Entry) → AreLosersOf rs losers → sum_by owed_by_entry losers ≡ owed rs
+pub owed_of : (rs : List Record) (losers : List TxnEntry) → AreLosersOf rs losers → sum_by owed_by_entry losers ≡ owed rs
 owed_of rs losers are = ap (sum_by owed_by_entry) are.made ∙ owed_in-table_of rs
 
 -- ---- one record more
 
-abbrev entries_of : Table → List Entry
+abbrev entries_of : Table → List TxnEntry
 entries_of table = table.entries
 
 pub comp_of_losers : (rs : List Record) (r : Record) (lsn t prev undo_next page slot : ℕ) (change : Change)
@@ -78,7 +78,7 @@ end_of_losers rs r lsn t prev linked may is =
 
 -- ---- how many they are
 
-le_filter : (p : Entry → Bool) (es : List Entry) → length (filter p es) ≤ length es
+le_filter : (p : TxnEntry → Bool) (es : List TxnEntry) → length (filter p es) ≤ length es
 le_filter p [] = omega arith
 le_filter p (e ∷ es) = by (p e) (le_filter p es)
   where
@@ -129,16 +129,16 @@ few_losers = along_linked (λ rs. length (losers_of rs) ≤ MAX_OPEN) (omega ari
 -- ---- the one at a place
 
 -- of entries whose numbers rise the one at a place is the one of its number
-abbrev pub AreInOrder : List Entry → Type 0
-AreInOrder es = IsRising (map (λ (e : Entry). e.txn) es)
+abbrev pub AreInOrder : List TxnEntry → Type 0
+AreInOrder es = IsRising (map (λ (e : TxnEntry). e.txn) es)
 
-later : (P : ℕ → Type 0) (es : List Entry) (i : ℕ) (e : Entry) → AllByRecursion P (map (λ (x : Entry). x.txn) es)
+later : (P : ℕ → Type 0) (es : List TxnEntry) (i : ℕ) (e : TxnEntry) → AllByRecursion P (map (λ (x : TxnEntry). x.txn) es)
     → slice_get es i ≡ Some e → P e.txn
 later P [] i e all is = absurd (cc)
-later P (x ∷ es) zero e all is = subst (λ (y : Entry). P y.txn) (same_Some x e is) all.0
+later P (x ∷ es) zero e all is = subst (λ (y : TxnEntry). P y.txn) (same_Some x e is) all.0
 later P (x ∷ es) (suc i) e all is = later P es i e all.1 is
 
-without : (t : ℕ) (es : List Entry) → AllByRecursion (λ n. t < n) (map (λ (x : Entry). x.txn) es)
+without : (t : ℕ) (es : List TxnEntry) → AllByRecursion (λ n. t < n) (map (λ (x : TxnEntry). x.txn) es)
     → filter (λ x. not (eqb x.txn t)) es ≡ es
 without t [] above = refl
 without t (x ∷ es) above =
@@ -147,36 +147,36 @@ without t (x ∷ es) above =
     (ne_eqb x.txn t (λ e. absurd (omega (arith, lt, e))))
     ∙ ap (λ ys. x ∷ ys) (without t es above.1)
 
-unchanged : (g : Entry → Entry) (t : ℕ) (es : List Entry) → AllByRecursion (λ n. t < n) (map (λ (x : Entry). x.txn) es)
+unchanged : (g : TxnEntry → TxnEntry) (t : ℕ) (es : List TxnEntry) → AllByRecursion (λ n. t < n) (map (λ (x : TxnEntry). x.txn) es)
     → map (λ x. cond (eqb x.txn t) (g x) x) es ≡ es
 unchanged g t [] above = refl
 unchanged g t (x ∷ es) above =
     let lt = above.0 in
     ap₂ (λ b ys. cond b (g x) x ∷ ys) (ne_eqb x.txn t (λ e. absurd (omega (arith, lt, e)))) (unchanged g t es above.1)
 
-pub removed : (es : List Entry) (i : ℕ) (e : Entry) → AreInOrder es → slice_get es i ≡ Some e
+pub removed : (es : List TxnEntry) (i : ℕ) (e : TxnEntry) → AreInOrder es → slice_get es i ≡ Some e
     → remove es i ≡ filter (λ x. not (eqb x.txn e.txn)) es
 removed [] i e rising is = absurd (cc)
 removed (x ∷ es) zero e rising is =
     let same = same_Some x e is in
     let rest = filter (λ y. not (eqb y.txn e.txn)) es in
-    sym (ap (λ b. cond (not b) (x ∷ rest) rest) (eq-eqb x.txn e.txn (ap (λ (y : Entry). y.txn) same))
+    sym (ap (λ b. cond (not b) (x ∷ rest) rest) (eq-eqb x.txn e.txn (ap (λ (y : TxnEntry). y.txn) same))
     ∙ without e.txn es
-    (subst (λ (y : Entry). AllByRecursion (λ n. y.txn < n) (map (λ (z : Entry). z.txn) es)) same rising.0))
+    (subst (λ (y : TxnEntry). AllByRecursion (λ n. y.txn < n) (map (λ (z : TxnEntry). z.txn) es)) same rising.0))
 removed (x ∷ es) (suc i) e rising is =
     let lt = later (λ n. x.txn < n) es i e rising.0 is in
     let rest = filter (λ y. not (eqb y.txn e.txn)) es in
     ap (λ ys. x ∷ ys) (removed es i e rising.1 is)
     ∙ sym (ap (λ b. cond (not b) (x ∷ rest) rest) (ne_eqb x.txn e.txn (λ s. absurd (omega (arith, lt, s)))))
 
-pub changed : (g : Entry → Entry) (es : List Entry) (i : ℕ) (e d : Entry) → AreInOrder es → slice_get es i ≡ Some e
+pub changed : (g : TxnEntry → TxnEntry) (es : List TxnEntry) (i : ℕ) (e d : TxnEntry) → AreInOrder es → slice_get es i ≡ Some e
     → set es i (g (get_or es i d)) ≡ map (λ x. cond (eqb x.txn e.txn) (g x) x) es
 changed g [] i e d rising is = absurd (cc)
 changed g (x ∷ es) zero e d rising is =
     let same = same_Some x e is in
-    sym (ap₂ (λ b ys. cond b (g x) x ∷ ys) (eq-eqb x.txn e.txn (ap (λ (y : Entry). y.txn) same))
+    sym (ap₂ (λ b ys. cond b (g x) x ∷ ys) (eq-eqb x.txn e.txn (ap (λ (y : TxnEntry). y.txn) same))
     (unchanged g e.txn es
-    (subst (λ (y : Entry). AllByRecursion (λ n. y.txn < n) (map (λ (z : Entry). z.txn) es)) same rising.0)))
+    (subst (λ (y : TxnEntry). AllByRecursion (λ n. y.txn < n) (map (λ (z : TxnEntry). z.txn) es)) same rising.0)))
 changed g (x ∷ es) (suc i) e d rising is =
     let lt = later (λ n. x.txn < n) es i e rising.0 is in
     ap (λ ys. x ∷ ys) (changed g es i e d rising.1 is)

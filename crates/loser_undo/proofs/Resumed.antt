@@ -7,7 +7,7 @@ use Rattle.page_core.specs.Volume.{AreNumbered}
 use Rattle.log_records.specs.declared.record.Record.{Record}
 use Rattle.log_records.specs.Coverage.{is_resumed, resume}
 use Rattle.log_records.proofs.Images.{number-image_from}
-use Rattle.log_history.specs.Table.{Entry}
+use Rattle.log_history.specs.Table.{TxnEntry}
 use Rattle.loser_undo.specs.Recovery.{IsRedone, Recovery}
 
 -- nor does redo change the pages' numbers
@@ -19,7 +19,7 @@ numbered_resumed pages rs from numbers = λ k d lt.
     ap (λ (q : Page). q.number) (get_or-map (λ page. resume page rs from) pages k d d below)
     ∙ number-image_from page (filter (is_resumed from page.lsn) rs) ∙ numbers k d below
 
-pub still_redone : (r : Recovery) (losers : List Entry) (from : ℕ) → IsRedone r losers
+pub still_redone : (r : Recovery) (losers : List TxnEntry) (from : ℕ) → IsRedone r losers
     → IsRedone (record r { pages = map (λ page. resume page r.log.records from) r.pages }) losers
 still_redone r losers from is = record {
   is = record {

@@ -6,26 +6,26 @@ use Rattle.std.specs.Option.{option_and_then}
 use Rattle.std.proofs.lemmas.Bool.{cases_lt}
 use Rattle.std.proofs.lemmas.Option.{same_Some, slice_get-get_or, slice_get_within}
 use Rattle.log_history.specs.declared.pending_change.PendingChange.{PendingChange}
-use Rattle.log_history.specs.Table.{Entry}
+use Rattle.log_history.specs.Table.{TxnEntry}
 use Rattle.log_history.specs.Transactions.{last_of}
 use Rattle.log_history.proofs.Tracked.{match_none, match_some}
 use Rattle.loser_undo.specs.UndoRecords.{AreBusyBefore, IsLastLost, IsNext}
 
 -- the last pending change of the one at this place has this LSN
-pub record HasLast (losers : List Entry) (lsn place : ℕ) : Type 0 where
-  pub entry : Entry
+pub record HasLast (losers : List TxnEntry) (lsn place : ℕ) : Type 0 where
+  pub entry : TxnEntry
   pub change : PendingChange
   pub there : slice_get losers place ≡ Some entry
   pub last : last_of entry.pending ≡ Some change
   pub at : change.lsn ≡ lsn
 
 -- each of the first ones has something pending, and of their last changes the greatest LSN is this
-pub record Seen (losers : List Entry) (n : ℕ) (best : Option ℕ) (greatest : ℕ) : Type 0 where
-  pub most : (i : ℕ) (e : Entry) → i < n → slice_get losers i ≡ Some e
+pub record Seen (losers : List TxnEntry) (n : ℕ) (best : Option ℕ) (greatest : ℕ) : Type 0 where
+  pub most : (i : ℕ) (e : TxnEntry) → i < n → slice_get losers i ≡ Some e
       → IsSomeAnd (last_of e.pending) (λ q. q.lsn ≤ greatest)
   pub at : MatchOption best ((n ≡ 0) × (greatest ≡ 0)) (HasLast losers greatest)
 
-pub none_seen : (losers : List Entry) → Seen losers 0 None 0
+pub none_seen : (losers : List TxnEntry) → Seen losers 0 None 0
 none_seen losers = record { most = λ i e lt is. absurd (omega (arith, lt)); at = (refl, refl) }
 
 is_some_from : (o : Option PendingChange) (P : PendingChange → Type 0) → IsSomeAnd o P → IsSome o
@@ -42,17 +42,17 @@ just : (o : Option PendingChange) (p : PendingChange) (high : ℕ) → o ≡ Som
 just None p high is le = absurd (cc)
 just (Some q) p high is le = subst (λ (x : PendingChange). x.lsn ≤ high) (sym (same_Some q p is)) le
 
-module _ (losers : List Entry) (n : ℕ) (best : Option ℕ) (greatest : ℕ) (seen : Seen losers n best greatest) where
+module _ (losers : List TxnEntry) (n : ℕ) (best : Option ℕ) (greatest : ℕ) (seen : Seen losers n best greatest) where
   -- the first that has nothing pending
   pub idle_here : n < length losers → None ≡ option_and_then (λ e. last_of e.pending) (slice_get losers n)
       → IsNext losers n
   idle_here within found = by (slice_get losers n) refl found
     where
-      by : (o : Option Entry) → slice_get losers n ≡ o → None ≡ option_and_then (λ e. last_of e.pending) o
+      by : (o : Option TxnEntry) → slice_get losers n ≡ o → None ≡ option_and_then (λ e. last_of e.pending) o
           → IsNext losers n
       by None is none = absurd (missing losers n within is)
         where
-          missing : (es : List Entry) (i : ℕ) → i < length es → slice_get es i ≡ None → ⊥
+          missing : (es : List TxnEntry) (i : ℕ) → i < length es → slice_get es i ≡ None → ⊥
           missing [] i lt at = omega (arith, lt)
           missing (e ∷ es) i lt at =
               let no : None ≡ Some (get_or (e ∷ es) i e) = sym at ∙ slice_get-get_or (e ∷ es) i e lt in
@@ -65,14 +65,14 @@ module _ (losers : List Entry) (n : ℕ) (best : Option ℕ) (greatest : ℕ) (s
       }
 
   more : (p : PendingChange) (high : ℕ) → Some p ≡ option_and_then (λ e. last_of e.pending) (slice_get losers n)
-      → p.lsn ≤ high → greatest ≤ high → (i : ℕ) (e : Entry) → i < n + 1 → slice_get losers i ≡ Some e
+      → p.lsn ≤ high → greatest ≤ high → (i : ℕ) (e : TxnEntry) → i < n + 1 → slice_get losers i ≡ Some e
       → IsSomeAnd (last_of e.pending) (λ q. q.lsn ≤ high)
   more p high found le most i e lt at = elim (cases_lt i n) [
     | inl below ↦ at_most (last_of e.pending) greatest high most (seen.most i e below at)
     | inr above ↦
         let here : i ≡ n = omega (arith, lt, above) in
         just (last_of e.pending) p high
-        (sym (found ∙ ap (option_and_then (λ (x : Entry). last_of x.pending)) (ap (slice_get losers) (sym here) ∙ at))) le
+        (sym (found ∙ ap (option_and_then (λ (x : TxnEntry). last_of x.pending)) (ap (slice_get losers) (sym here) ∙ at))) le
   ]
 
   -- one more, which has the last change so far
@@ -81,7 +81,7 @@ module _ (losers : List Entry) (n : ℕ) (best : Option ℕ) (greatest : ℕ) (s
   last_here p found most =
       record { most = more p p.lsn found (omega arith) most; at = by (slice_get losers n) refl found }
     where
-      by : (o : Option Entry) → slice_get losers n ≡ o → Some p ≡ option_and_then (λ e. last_of e.pending) o
+      by : (o : Option TxnEntry) → slice_get losers n ≡ o → Some p ≡ option_and_then (λ e. last_of e.pending) o
           → HasLast losers p.lsn n
       by None is none = absurd (cc)
       by (Some e) is some = record { entry = e; change = p; there = is; last = sym some; at = refl }
@@ -100,7 +100,7 @@ module _ (losers : List Entry) (n : ℕ) (best : Option ℕ) (greatest : ℕ) (s
   pub all_seen : length losers ≤ n → MatchOption best (losers ≡ []) (IsNext losers)
   all_seen long = by best seen.at
     where
-      nobody : (es : List Entry) → length es ≤ 0 → es ≡ []
+      nobody : (es : List TxnEntry) → length es ≤ 0 → es ≡ []
       nobody [] le = refl
       nobody (e ∷ es) le = absurd (omega (arith, le))
 

@@ -18,7 +18,7 @@ use Rattle.log_records.specs.Log.{IsLog, Log, StandsAt, lsn_of}
 use Rattle.log_records.specs.Record.{own_lsn}
 use Rattle.log_history.specs.declared.pending_change.PendingChange.{PendingChange}
 use Rattle.log_history.specs.Linked.{Compensates, GoesOn, IsActive, IsLinked, MayFollow}
-use Rattle.log_history.specs.Table.{Entry, entry_of}
+use Rattle.log_history.specs.Table.{TxnEntry, entry_of}
 use Rattle.log_history.specs.Transactions.{begun_by, first_lsn, is_abort, is_last, is_open, is_rolling}
 use Rattle.log_history.specs.Transactions.{last_lsn, last_of, pending, records_of, txn_of, with_pending, without_last}
 use Rattle.log_history.proofs.Begun.{next_is_new, none_before_begin, open_has_begun, some_from_begin, zero_not_open}
@@ -26,7 +26,7 @@ use Rattle.log_history.proofs.Histories.{along_linked, linked_push}
 use Rattle.log_history.proofs.Pushes.{first_lsn_push, is_open_push_other, is_open_push_own}
 use Rattle.log_history.proofs.Pushes.{is_rolling_push, last_lsn_push, pending_push, records_of_push_own}
 use Rattle.log_history.proofs.Steps.{entry_from, entry_of_push_other}
-use Rattle.loser_undo.specs.Losers.{IsTraced, Leads, LeadsToAbort, Stands, before_comp, change_by, way_back}
+use Rattle.loser_undo.specs.Losers.{IsTraced, Leads, LeadsToAbort, StandsAtLsn, before_comp, change_by, way_back}
 use Rattle.loser_undo.proofs.Lost.{last_apart}
 use Rattle.loser_undo.proofs.Rising.{ArePlaced, log_placed}
 use Rattle.log_records.proofs.PageCounts.{stands_in}
@@ -34,7 +34,7 @@ use Rattle.log_records.specs.Log.{page_count}
 
 -- ---- records that stand
 
-pub still_stands : (rs : List Record) (r x : Record) (at : ℕ) → Stands rs at x → Stands (rs ++ r ∷ []) at x
+pub still_stands : (rs : List Record) (r x : Record) (at : ℕ) → StandsAtLsn rs at x → StandsAtLsn (rs ++ r ∷ []) at x
 still_stands rs r x at stands =
     let lt = stands.within in
     record {
@@ -44,7 +44,7 @@ still_stands rs r x at stands =
       is = λ d. get_or_append_left rs (r ∷ []) d stands.place lt ∙ stands.is d;
     }
 
-pub new_stands : (rs : List Record) (r : Record) (at : ℕ) → at ≡ lsn_of (length rs) → Stands (rs ++ r ∷ []) at r
+pub new_stands : (rs : List Record) (r : Record) (at : ℕ) → at ≡ lsn_of (length rs) → StandsAtLsn (rs ++ r ∷ []) at r
 new_stands rs r at is = record {
   place = length rs;
   within = omega (arith, length_push rs r);
@@ -53,7 +53,7 @@ new_stands rs r at is = record {
 }
 
 -- one record stands at an LSN
-pub stands_one : (rs : List Record) (at : ℕ) (x y : Record) → Stands rs at x → Stands rs at y → x ≡ y
+pub stands_one : (rs : List Record) (at : ℕ) (x y : Record) → StandsAtLsn rs at x → StandsAtLsn rs at y → x ≡ y
 stands_one rs at x y sx sy =
     let same : sx.place ≡ sy.place = omega (arith, sx.at_is, sy.at_is) in
     sym (sx.is x) ∙ ap (λ n. get_or rs n x) same ∙ sy.is x
@@ -70,7 +70,7 @@ still_to_abort rs r b at [] leads = (leads.0, still_stands rs r leads.0 at leads
 still_to_abort rs r b at (next ∷ more) leads =
     (leads.0, still_stands rs r leads.0 at leads.1, leads.2, still_to_abort rs r b next more leads.3)
 
-still_traced : (rs : List Record) (r : Record) (e : Entry) → IsTraced rs e → IsTraced (rs ++ r ∷ []) e
+still_traced : (rs : List Record) (r : Record) (e : TxnEntry) → IsTraced rs e → IsTraced (rs ++ r ∷ []) e
 still_traced rs r e traced = record {
   way = traced.way;
   leads = still_leads rs r e.txn e.first e.last traced.way traced.leads;
@@ -333,13 +333,13 @@ all_traced log t valid linked still = traced_of log.records linked (log_placed l
 
 -- ---- the pending changes, the last one first
 
-pub stands_at : (log : Log) (at : ℕ) (r : Record) → IsLog log → Stands log.records at r → StandsAt (page_count log) at r
+pub stands_at : (log : Log) (at : ℕ) (r : Record) → IsLog log → StandsAtLsn log.records at r → StandsAt (page_count log) at r
 stands_at log at r valid stands =
     subst₂ (StandsAt (page_count log)) (sym stands.at_is) (stands.is r) (stands_in log valid stands.place r stands.within)
 
 -- some record stands where the search goes on
 pub leads_stands : (rs : List Record) (t first at : ℕ) (way : List Record) → Leads rs t first at way
-    → (r : Record) × Stands rs at r
+    → (r : Record) × StandsAtLsn rs at r
 leads_stands rs t first at [] leads = (Begin at t, leads.1)
 leads_stands rs t first at (r ∷ more) leads = (r, leads.0)
 
@@ -354,7 +354,7 @@ cons_is_append None ps = refl
 cons_is_append (Some p) ps = refl
 
 pub found_more : (rs : List Record) (t first at next : ℕ) (found all : List PendingChange) (x : Record)
-    → IsFound rs t first at found all → ((r : Record) → Stands rs at r → x ≡ r) → way_back x ≡ Some next
+    → IsFound rs t first at found all → ((r : Record) → StandsAtLsn rs at r → x ≡ r) → way_back x ≡ Some next
     → IsFound rs t first next (found ++ option_to_list (change_by x)) all
 found_more rs t first at next found all x so_far is goes = by so_far.way so_far.leads so_far.split
   where
@@ -374,7 +374,7 @@ found_more rs t first at next found all x so_far is goes = by so_far.way so_far.
         }
 
 pub found_all : (rs : List Record) (t first at : ℕ) (found all : List PendingChange) (x : Record)
-    → IsFound rs t first at found all → ((r : Record) → Stands rs at r → x ≡ r) → way_back x ≡ None
+    → IsFound rs t first at found all → ((r : Record) → StandsAtLsn rs at r → x ≡ r) → way_back x ≡ None
     → (at ≡ first) × (all ≡ found)
 found_all rs t first at found all x so_far is ends = by so_far.way so_far.leads so_far.split
   where
@@ -405,8 +405,8 @@ goes_earlier pages at next (ChkptPages lsn begin pages_found) stands goes = cc
 goes_earlier pages at next (ChkptTxns lsn begin u state last undo) stands goes = cc
 goes_earlier pages at next (EndChkpt lsn begin redo) stands goes = cc
 
-pub next_earlier : (log : Log) (at next : ℕ) (x : Record) → IsLog log → (r : Record) × Stands log.records at r
-    → ((r : Record) → Stands log.records at r → x ≡ r) → way_back x ≡ Some next → next < at
+pub next_earlier : (log : Log) (at next : ℕ) (x : Record) → IsLog log → (r : Record) × StandsAtLsn log.records at r
+    → ((r : Record) → StandsAtLsn log.records at r → x ≡ r) → way_back x ≡ Some next → next < at
 next_earlier log at next x valid there is goes =
     goes_earlier (page_count log) at next x
     (subst (StandsAt (page_count log) at) (sym (is there.0 there.1)) (stands_at log at there.0 valid there.1)) goes
@@ -414,12 +414,12 @@ next_earlier log at next x valid there is goes =
 -- ---- the Abort
 
 pub to_abort_stands : (rs : List Record) (b : Bool) (at : ℕ) (comps : List ℕ) → LeadsToAbort rs b at comps
-    → (r : Record) × Stands rs at r
+    → (r : Record) × StandsAtLsn rs at r
 to_abort_stands rs b at [] leads = (leads.0, leads.1)
 to_abort_stands rs b at (next ∷ more) leads = (leads.0, leads.1)
 
 pub comp_earlier : (log : Log) (at : ℕ) (x : Record) (lsn u prev undo_next page slot : ℕ) (change : Change) → IsLog log
-    → (r : Record) × Stands log.records at r → ((r : Record) → Stands log.records at r → x ≡ r)
+    → (r : Record) × StandsAtLsn log.records at r → ((r : Record) → StandsAtLsn log.records at r → x ≡ r)
     → x ≡ Comp lsn u prev undo_next page slot change → prev < at
 comp_earlier log at x lsn u prev undo_next page slot change valid there is of =
     let stands = subst (StandsAt (page_count log) at) (sym (is there.0 there.1) ∙ of) (stands_at log at there.0 valid there.1) in
@@ -428,7 +428,7 @@ comp_earlier log at x lsn u prev undo_next page slot change valid there is of =
     omega arith
 
 pub to_abort_more : (rs : List Record) (b : Bool) (at prev : ℕ) (comps : List ℕ) (x : Record) → LeadsToAbort rs b at comps
-    → ((r : Record) → Stands rs at r → x ≡ r) → before_comp x ≡ Some prev
+    → ((r : Record) → StandsAtLsn rs at r → x ≡ r) → before_comp x ≡ Some prev
     → (more : List ℕ) × LeadsToAbort rs b prev more
 to_abort_more rs b at prev [] x leads is comp =
     let same = sym comp ∙ ap before_comp (is leads.0 leads.1) ∙ leads.2 in cc
@@ -437,7 +437,7 @@ to_abort_more rs b at prev (next ∷ more) x leads is comp =
     (more, subst (λ n. LeadsToAbort rs b n more) same leads.3)
 
 pub to_abort_end : (rs : List Record) (b : Bool) (at : ℕ) (comps : List ℕ) (x : Record) → LeadsToAbort rs b at comps
-    → ((r : Record) → Stands rs at r → x ≡ r) → before_comp x ≡ None → is_abort x ≡ b
+    → ((r : Record) → StandsAtLsn rs at r → x ≡ r) → before_comp x ≡ None → is_abort x ≡ b
 to_abort_end rs b at [] x leads is none = ap is_abort (is leads.0 leads.1) ∙ leads.3
 to_abort_end rs b at (next ∷ more) x leads is none =
     let same = sym none ∙ ap before_comp (is leads.0 leads.1) ∙ leads.2 in cc

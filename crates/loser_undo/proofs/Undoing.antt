@@ -8,7 +8,7 @@ use Rattle.log_records.specs.declared.record.Record.{Record}
 use Rattle.log_records.specs.Image.{AreNumbered, image_from, with_record}
 use Rattle.log_records.specs.Log.{IsLog, IsWithin, Log}
 use Rattle.log_records.proofs.Images.{image_from-append, images-none, numbered-images}
-use Rattle.log_history.specs.Table.{Entry}
+use Rattle.log_history.specs.Table.{TxnEntry}
 use Rattle.log_history.specs.Transactions.{owed}
 use Rattle.loser_undo.specs.Losers.{AreLosersOf}
 use Rattle.loser_undo.specs.Recovery.{appended}
@@ -25,7 +25,7 @@ pub record IsOnWay (log : Log) (start : List Page) (behind : List Record) (undo 
   pub numbered : AreNumbered start
   pub made : pages ≡ map (λ page. image_from page behind) start
 
-pub nothing_yet : (log : Log) (losers : List Entry) (count : ℕ) → IsLog log → AreLosersOf log.records losers
+pub nothing_yet : (log : Log) (losers : List TxnEntry) (count : ℕ) → IsLog log → AreLosersOf log.records losers
     → count ≡ length log.records → length log.records + owed log.records ≤ MAX_RECORDS
     → HasYielded log [] (record { losers = losers; count = count })
 nothing_yet log losers count valid are counted room =
@@ -41,7 +41,7 @@ nothing_yet log losers count valid are counted room =
       goes_on = ap after_undo (sym whole);
     }
 
-pub way_begins : (log : Log) (start : List Page) (losers : List Entry) (count : ℕ) → IsLog log
+pub way_begins : (log : Log) (start : List Page) (losers : List TxnEntry) (count : ℕ) → IsLog log
     → AreLosersOf log.records losers → count ≡ length log.records
     → length log.records + owed log.records ≤ MAX_RECORDS → length start ≡ page_count log → AreNumbered start
     → IsOnWay log start [] (record { losers = losers; count = count }) start

@@ -93,12 +93,12 @@ abbrev log_of : ℕ → List Record → Log
 log_of pages rs = record { pages = pages; records = rs }
 
 -- it is valid, and has room for what it owes
-record HasRoom (pages : ℕ) (rs : List Record) : Type 0 where
+record IsLogWithRoom (pages : ℕ) (rs : List Record) : Type 0 where
   valid : IsLog (log_of pages rs)
   room : claimed rs ≤ MAX_RECORDS
 
-grows : (pages : ℕ) (rs : List Record) (r : Record) → HasRoom pages rs
-    → claimed (rs ++ r ∷ []) ≤ claimed rs → StandsAt (count_behind pages rs) (lsn_of (length rs)) r → HasRoom pages (rs ++ r ∷ [])
+grows : (pages : ℕ) (rs : List Record) (r : Record) → IsLogWithRoom pages rs
+    → claimed (rs ++ r ∷ []) ≤ claimed rs → StandsAt (count_behind pages rs) (lsn_of (length rs)) r → IsLogWithRoom pages (rs ++ r ∷ [])
 grows pages rs r has no_more stands =
     let room = has.room in
     record {
@@ -132,14 +132,14 @@ comp_stands log l valid linked still last =
       within = change.within;
     }
 
-room_with_end : (pages : ℕ) (rs : List Record) (t : ℕ) → IsLinked rs → MayFollow rs (end_of rs t) → HasRoom pages rs
-    → HasRoom pages (with_end rs t)
+room_with_end : (pages : ℕ) (rs : List Record) (t : ℕ) → IsLinked rs → MayFollow rs (end_of rs t) → IsLogWithRoom pages rs
+    → IsLogWithRoom pages (with_end rs t)
 room_with_end pages rs t linked may has =
     grows pages rs (end_of rs t) has (omega (arith, claimed_push rs (end_of rs t) linked may))
     (end_stands (log_of pages rs) t has.valid linked may.0.still_open)
 
 room_with_comp : (pages : ℕ) (rs : List Record) (l : LostChange) → IsLinked rs → MayFollow rs (comp_of rs l)
-    → last_of (pending rs l.txn) ≡ Some l.change → HasRoom pages rs → HasRoom pages (with_comp rs l)
+    → last_of (pending rs l.txn) ≡ Some l.change → IsLogWithRoom pages rs → IsLogWithRoom pages (with_comp rs l)
 room_with_comp pages rs l linked may last has =
     grows pages rs (comp_of rs l) has (omega (arith, claimed_push rs (comp_of rs l) linked may))
     (comp_stands (log_of pages rs) l has.valid linked may.0.still_open last)
@@ -147,7 +147,7 @@ room_with_comp pages rs l linked may last has =
 pub undone_fits : (log : Log) → IsLog log → IsLinked log.records → length log.records + owed log.records ≤ MAX_RECORDS
     → IsLog (record log { records = after_undo log.records })
 undone_fits log valid linked room =
-    (all_undone (HasRoom log.pages) (room_with_end log.pages) (room_with_comp log.pages) log valid linked
+    (all_undone (IsLogWithRoom log.pages) (room_with_end log.pages) (room_with_comp log.pages) log valid linked
     (record { valid = valid; room = room })).has.valid
 
 -- ---- how many records undo appends

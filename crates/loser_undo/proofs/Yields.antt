@@ -19,7 +19,7 @@ use Rattle.log_records.specs.Log.{IsLog, Log, StandsAt, lsn_of, with_next}
 use Rattle.log_history.specs.declared.pending_change.PendingChange.{PendingChange}
 use Rattle.log_history.specs.declared.txn_state.TxnState.{TxnState}
 use Rattle.log_history.specs.Linked.{IsLinked, MayFollow}
-use Rattle.log_history.specs.Table.{Entry, compensated, entry_of}
+use Rattle.log_history.specs.Table.{TxnEntry, compensated, entry_of}
 use Rattle.log_history.specs.Transactions.{begun, is_open, last_lsn, last_of, open_in, owed, pending}
 use Rattle.log_history.specs.TxnState.{state_of}
 use Rattle.log_history.proofs.AtEnd.{valid_next}
@@ -77,7 +77,7 @@ any_at t (n ∷ ns) has = by (eqb n t) refl has (any_at t ns)
     by true same has rest = (0, ap Some (eqb-true n t same))
     by false other has rest = let found = rest has in (suc found.0, found.1)
 
-numbers_of : (rs : List Record) (ts : List ℕ) → map (λ (e : Entry). e.txn) (map (entry_of rs) ts) ≡ ts
+numbers_of : (rs : List Record) (ts : List ℕ) → map (λ (e : TxnEntry). e.txn) (map (entry_of rs) ts) ≡ ts
 numbers_of rs [] = refl
 numbers_of rs (t ∷ ts) = ap (λ ns. t ∷ ns) (numbers_of rs ts)
 
@@ -91,19 +91,19 @@ some_from None P some = absurd some
 some_from (Some p) P some = refl
 
 -- what is read of the transaction of which the next record is
-pub record IsTurn (losers : List Entry) (place : ℕ) (e : Entry) (state : TxnState) (o : Option PendingChange)
+pub record IsTurn (losers : List TxnEntry) (place : ℕ) (e : TxnEntry) (state : TxnState) (o : Option PendingChange)
     : Type 0 where
   pub state_is : (f : TxnState → Record) → f state ≡ f (state_of e)
   pub last : last_of e.pending ≡ o
   pub turn : MatchOption o (AreBusyBefore losers place) (IsLastLost losers)
 
-pub turn_is : (losers : List Entry) (place : ℕ) (next : IsNext losers place) (state : TxnState)
+pub turn_is : (losers : List TxnEntry) (place : ℕ) (next : IsNext losers place) (state : TxnState)
     (o : Option PendingChange) → Some state ≡ option_map state_of (slice_get losers place)
     → o ≡ option_and_then (λ e. last_of e.pending) (slice_get losers place)
     → IsTurn losers place next.entry state o
 turn_is losers place next state o found pending =
     let last : last_of next.entry.pending ≡ o =
-    sym (pending ∙ ap (option_and_then (λ (e : Entry). last_of e.pending)) next.there) in
+    sym (pending ∙ ap (option_and_then (λ (e : TxnEntry). last_of e.pending)) next.there) in
     let same : state ≡ state_of next.entry =
     same_Some state (state_of next.entry) (found ∙ ap (option_map state_of) next.there) in
     record {
@@ -113,7 +113,7 @@ turn_is losers place next state o found pending =
           next.turn;
     }
 
-pub record IsEntry (rs : List Record) (place : ℕ) (e : Entry) : Type 0 where
+pub record IsEntry (rs : List Record) (place : ℕ) (e : TxnEntry) : Type 0 where
   pub still : is_open rs e.txn ≡ true
   pub is : e ≡ entry_of rs e.txn
   pub listed : slice_get (open_in rs) place ≡ Some e.txn
@@ -130,10 +130,10 @@ module _ (log : Log) (behind : List Record) (undo : UndoView) (has : HasYielded 
 
   in_order : AreInOrder undo.losers
   in_order =
-      subst IsRising (sym (ap (map (λ (e : Entry). e.txn)) has.losers.made ∙ numbers_of rs (open_in rs)))
+      subst IsRising (sym (ap (map (λ (e : TxnEntry). e.txn)) has.losers.made ∙ numbers_of rs (open_in rs)))
       (rising_open rs linked)
 
-  pub entry_at : (place : ℕ) (e : Entry) → slice_get undo.losers place ≡ Some e → IsEntry rs place e
+  pub entry_at : (place : ℕ) (e : TxnEntry) → slice_get undo.losers place ≡ Some e → IsEntry rs place e
   entry_at place e there =
       by (slice_get (open_in rs) place) refl
       (sym (slice_get-map (entry_of rs) (open_in rs) place)
@@ -144,7 +144,7 @@ module _ (log : Log) (behind : List Record) (undo : UndoView) (has : HasYielded 
       by None at is = absurd (cc)
       by (Some t) at is =
           let same = same_Some (entry_of rs t) e is in
-          let number : t ≡ e.txn = ap (λ (x : Entry). x.txn) same in
+          let number : t ≡ e.txn = ap (λ (x : TxnEntry). x.txn) same in
           let lt = slice_get_within (open_in rs) place t at in
           let all = All-get_or (λ n. is_open rs n ≡ true) (open_in rs) place t lt
           (filter_passes (is_open rs) (begun rs)) in
@@ -180,11 +180,11 @@ module _ (log : Log) (behind : List Record) (undo : UndoView) (has : HasYielded 
         goes_on = ap after_undo (sym more) ∙ goes ∙ has.goes_on;
       }
 
-  abbrev lost_of : Entry → PendingChange → LostChange
+  abbrev lost_of : TxnEntry → PendingChange → LostChange
   lost_of e p = record { txn = e.txn; change = p }
 
   -- there is room for a record of each open transaction
-  pub has_room : (place : ℕ) (e : Entry) → slice_get undo.losers place ≡ Some e → undo.count < MAX_RECORDS
+  pub has_room : (place : ℕ) (e : TxnEntry) → slice_get undo.losers place ≡ Some e → undo.count < MAX_RECORDS
   has_room place e there = by (last_of e.pending) refl
     where
       it : IsEntry rs place e
@@ -199,24 +199,24 @@ module _ (log : Log) (behind : List Record) (undo : UndoView) (has : HasYielded 
       by : (o : Option PendingChange) → last_of e.pending ≡ o → undo.count < MAX_RECORDS
       by None none =
           within (end_of rs e.txn)
-          (end_follows rs e.txn it.still (ap (λ (x : Entry). x.pending) (sym it.is) ∙ last_none e.pending none)) refl
+          (end_follows rs e.txn it.still (ap (λ (x : TxnEntry). x.pending) (sym it.is) ∙ last_none e.pending none)) refl
       by (Some p) final =
           within (comp_of rs (record { txn = e.txn; change = p }))
           (comp_follows rs (record { txn = e.txn; change = p }) it.still
-          (ap (λ (x : Entry). last_of x.pending) (sym it.is) ∙ final)) refl
+          (ap (λ (x : TxnEntry). last_of x.pending) (sym it.is) ∙ final)) refl
 
   -- ---- an End
 
-  pub yields_end : (place : ℕ) (e : Entry) (r : Record) (new : UndoView) → slice_get undo.losers place ≡ Some e
+  pub yields_end : (place : ℕ) (e : TxnEntry) (r : Record) (new : UndoView) → slice_get undo.losers place ≡ Some e
       → last_of e.pending ≡ None → AreBusyBefore undo.losers place → r ≡ End (lsn_of undo.count) e.txn e.last
       → new ≡ record { losers = remove undo.losers place; count = undo.count + 1 }
       → HasYielded log (behind ++ r ∷ []) new
   yields_end place e r new there none first made left =
       let it = entry_at place e there in
       let t = e.txn in
-      let idle : pending rs t ≡ [] = ap (λ (x : Entry). x.pending) (sym it.is) ∙ last_none e.pending none in
+      let idle : pending rs t ≡ [] = ap (λ (x : TxnEntry). x.pending) (sym it.is) ∙ last_none e.pending none in
       let is : r ≡ end_of rs t =
-      made ∙ ap₂ (λ m n. End m t n) (ap lsn_of has.count) (ap (λ (x : Entry). x.last) it.is) in
+      made ∙ ap₂ (λ m n. End m t n) (ap lsn_of has.count) (ap (λ (x : TxnEntry). x.last) it.is) in
       let may = end_follows rs t it.still idle in
       let at = filter_first (is_undone rs) (open_in rs) place t it.listed
       (ap (λ (ps : List PendingChange). eqb (length ps) 0) idle)
@@ -226,7 +226,7 @@ module _ (log : Log) (behind : List Record) (undo : UndoView) (has : HasYielded 
       subst (λ (x : Record). HasYielded log (behind ++ x ∷ []) new) (sym is)
       (grown (end_of rs t) new may (end_stands whole t has.valid linked it.still) refl (goes_end rs t _ linked at)
       (ap (λ (v : UndoView). v.losers) left ∙ removed undo.losers place e in_order there
-      ∙ ap (filter (λ (x : Entry). not (eqb x.txn t))) has.losers.made
+      ∙ ap (filter (λ (x : TxnEntry). not (eqb x.txn t))) has.losers.made
       ∙ sym (end_of_losers rs (end_of rs t) (lsn_of (length rs)) t (last_lsn rs t) linked may refl))
       (ap (λ (v : UndoView). v.count) left))
 
@@ -245,7 +245,7 @@ module _ (log : Log) (behind : List Record) (undo : UndoView) (has : HasYielded 
             ∙ ap (option_map (entry_of rs)) at.1,
       )
 
-  first_lost : (e : Entry) (p : PendingChange) → is_open rs e.txn ≡ true → last_of (pending rs e.txn) ≡ Some p
+  first_lost : (e : TxnEntry) (p : PendingChange) → is_open rs e.txn ≡ true → last_of (pending rs e.txn) ≡ Some p
       → IsLastLost undo.losers p → (ls : List LostChange) → lost_changes rs ≡ ls
       → (more : List LostChange) × (lost_changes rs ≡ lost_of e p ∷ more)
   first_lost e p live final greatest [] lost =
@@ -279,7 +279,7 @@ module _ (log : Log) (behind : List Record) (undo : UndoView) (has : HasYielded 
       by None is some = absurd some
       by (Some q) is some = subst (λ (x : PendingChange). x.lsn ≤ p.lsn) (same_Some q l.change is) some
 
-  pub yields_comp : (place : ℕ) (e : Entry) (p : PendingChange) (r : Record) (new : UndoView)
+  pub yields_comp : (place : ℕ) (e : TxnEntry) (p : PendingChange) (r : Record) (new : UndoView)
       → slice_get undo.losers place ≡ Some e → last_of e.pending ≡ Some p → IsLastLost undo.losers p
       → r ≡ Comp (lsn_of undo.count) e.txn e.last p.prev p.page p.slot (undo_of p.change)
       → new ≡ record {
@@ -290,10 +290,10 @@ module _ (log : Log) (behind : List Record) (undo : UndoView) (has : HasYielded 
       let it = entry_at place e there in
       let t = e.txn in
       let l = lost_of e p in
-      let last_is : last_of (pending rs t) ≡ Some p = ap (λ (x : Entry). last_of x.pending) (sym it.is) ∙ final in
+      let last_is : last_of (pending rs t) ≡ Some p = ap (λ (x : TxnEntry). last_of x.pending) (sym it.is) ∙ final in
       let is : r ≡ comp_of rs l =
       made ∙ ap₂ (λ m n. Comp m t n p.prev p.page p.slot (undo_of p.change)) (ap lsn_of has.count)
-      (ap (λ (x : Entry). x.last) it.is) in
+      (ap (λ (x : TxnEntry). x.last) it.is) in
       let may = comp_follows rs l it.still last_is in
       let lost = first_lost e p it.still last_is greatest (lost_changes rs) refl in
       let none : spent rs ≡ [] =
@@ -307,7 +307,7 @@ module _ (log : Log) (behind : List Record) (undo : UndoView) (has : HasYielded 
       (goes_comp rs l lost.0 linked (log_placed whole has.valid) lost.1 none)
       (ap (λ (v : UndoView). v.losers) left
       ∙ changed (compensated (lsn_of undo.count)) undo.losers place e e in_order there
-      ∙ ap₂ (λ n es. map (λ (x : Entry). cond (eqb x.txn t) (compensated n x) x) es) lsn has.losers.made
+      ∙ ap₂ (λ n es. map (λ (x : TxnEntry). cond (eqb x.txn t) (compensated n x) x) es) lsn has.losers.made
       ∙ sym (comp_of_losers rs (comp_of rs l) (lsn_of (length rs)) t (last_lsn rs t) p.prev p.page p.slot
       (undo_of p.change) linked may refl))
       (ap (λ (v : UndoView). v.count) left))

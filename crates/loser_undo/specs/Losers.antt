@@ -9,17 +9,17 @@ use Rattle.log_records.specs.declared.record.Record.TheVariants.{Begin, Update, 
 use Rattle.log_records.specs.Log.{lsn_of}
 use Rattle.log_history.specs.declared.pending_change.PendingChange.{PendingChange}
 use Rattle.log_history.specs.Linked.{IsLinked}
-use Rattle.log_history.specs.Table.{Entry, entry_of}
+use Rattle.log_history.specs.Table.{TxnEntry, entry_of}
 use Rattle.log_history.specs.Transactions.{first_lsn, is_abort, open_in}
 
 -- ---- what is asked for
 
 -- of each open transaction, in order of their numbers
-abbrev pub losers_of : List Record → List Entry
+abbrev pub losers_of : List Record → List TxnEntry
 losers_of rs = map (entry_of rs) (open_in rs)
 
 -- these are the losers of this linked log
-pub record AreLosersOf (rs : List Record) (losers : List Entry) : Type 0 where
+pub record AreLosersOf (rs : List Record) (losers : List TxnEntry) : Type 0 where
   pub linked : IsLinked rs
   pub few : length rs ≤ MAX_RECORDS
   pub made : losers ≡ losers_of rs
@@ -27,7 +27,7 @@ pub record AreLosersOf (rs : List Record) (losers : List Entry) : Type 0 where
 -- ---- how the records tell it
 
 -- the record stands at this LSN
-pub record Stands (rs : List Record) (at : ℕ) (r : Record) : Type 0 where
+pub record StandsAtLsn (rs : List Record) (at : ℕ) (r : Record) : Type 0 where
   pub place : ℕ
   pub within : place < length rs
   pub at_is : at ≡ lsn_of place
@@ -44,9 +44,9 @@ way_back other = None
 
 -- from this LSN on the search meets these records, and then the Begin
 abbrev pub Leads : List Record → ℕ → ℕ → ℕ → List Record → Type 0
-Leads rs t first at [] = (at ≡ first) × Stands rs at (Begin at t)
+Leads rs t first at [] = (at ≡ first) × StandsAtLsn rs at (Begin at t)
 Leads rs t first at (r ∷ more) =
-    Stands rs at r × ((next : ℕ) × ((way_back r ≡ Some next) × Leads rs t first next more))
+    StandsAtLsn rs at r × ((next : ℕ) × ((way_back r ≡ Some next) × Leads rs t first next more))
 
 -- the change that an Update made
 abbrev pub change_by : Record → Option PendingChange
@@ -63,12 +63,12 @@ before_comp other = None
 -- record that is an Abort or is none
 abbrev pub LeadsToAbort : List Record → Bool → ℕ → List ℕ → Type 0
 LeadsToAbort rs rolling at [] =
-    (r : Record) × Stands rs at r × (before_comp r ≡ None) × (is_abort r ≡ rolling)
+    (r : Record) × StandsAtLsn rs at r × (before_comp r ≡ None) × (is_abort r ≡ rolling)
 LeadsToAbort rs rolling at (next ∷ more) =
-    (r : Record) × Stands rs at r × (before_comp r ≡ Some next) × LeadsToAbort rs rolling next more
+    (r : Record) × StandsAtLsn rs at r × (before_comp r ≡ Some next) × LeadsToAbort rs rolling next more
 
 -- what the records tell of an open transaction, from its last one back
-pub record IsTraced (rs : List Record) (e : Entry) : Type 0 where
+pub record IsTraced (rs : List Record) (e : TxnEntry) : Type 0 where
   pub way : List Record
   pub leads : Leads rs e.txn e.first e.last way
   pub pending : filter_map change_by way ≡ reverse e.pending

@@ -9,7 +9,7 @@ use Rattle.log_records.specs.Image.{image_from, redo_all}
 use Rattle.log_records.specs.Log.{IsLog, Log, page_count}
 use Rattle.log_history.specs.Committed.{committed}
 use Rattle.log_history.specs.Linked.{IsLinked}
-use Rattle.log_history.specs.Table.{Entry}
+use Rattle.log_history.specs.Table.{TxnEntry}
 use Rattle.log_history.specs.Transactions.{open_in, owed}
 use Rattle.log_store.specs.declared.master.Master.{Master}
 use Rattle.loser_undo.specs.Losers.{AreLosersOf}
@@ -40,12 +40,12 @@ pub record IsRecovery (r : Recovery) : Type 0 where
   pub numbered : AreNumbered r.pages
 
 -- with its open transactions
-pub record IsRedone (r : Recovery) (losers : List Entry) : Type 0 where
+pub record IsRedone (r : Recovery) (losers : List TxnEntry) : Type 0 where
   pub is : IsRecovery r
   pub made : AreLosersOf r.log.records losers
 
 -- its records, the losers and the pages, with room for the records that undo may append
-pub record IsToUndo (r : Recovery) (records : List Record) (capacity : ℕ) (losers : List Entry)
+pub record IsToUndo (r : Recovery) (records : List Record) (capacity : ℕ) (losers : List TxnEntry)
     (pages : List Page) : Type 0 where
   pub log_is : records ≡ r.log.records
   pub made : AreLosersOf records losers

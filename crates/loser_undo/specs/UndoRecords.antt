@@ -5,7 +5,7 @@ use Rattle.log_records.specs.declared.limits.TheConstants.{MAX_RECORDS}
 use Rattle.log_records.specs.declared.record.Record.{Record}
 use Rattle.log_records.specs.Log.{IsLog, Log, with_next}
 use Rattle.log_history.specs.declared.pending_change.PendingChange.{PendingChange}
-use Rattle.log_history.specs.Table.{Entry}
+use Rattle.log_history.specs.Table.{TxnEntry}
 use Rattle.log_history.specs.Transactions.{last_of, owed}
 use Rattle.loser_undo.specs.Losers.{AreLosersOf}
 use Rattle.loser_undo.specs.Recovery.{appended}
@@ -13,23 +13,23 @@ use Rattle.loser_undo.specs.Undo.{after_undo}
 
 -- the transactions that are still open, and how many records the log would have by now
 pub record UndoView : Type 0 where
-  pub losers : List Entry
+  pub losers : List TxnEntry
   pub count : ℕ
 
 -- each of those before this place has something pending
-abbrev pub AreBusyBefore : List Entry → ℕ → Type 0
-AreBusyBefore losers place = (i : ℕ) (e : Entry) → i < place → slice_get losers i ≡ Some e
+abbrev pub AreBusyBefore : List TxnEntry → ℕ → Type 0
+AreBusyBefore losers place = (i : ℕ) (e : TxnEntry) → i < place → slice_get losers i ≡ Some e
     → IsSome (last_of e.pending)
 
 -- each of them has something pending, and none of their last changes has a greater LSN
-abbrev pub IsLastLost : List Entry → PendingChange → Type 0
-IsLastLost losers p = (i : ℕ) (e : Entry) → slice_get losers i ≡ Some e
+abbrev pub IsLastLost : List TxnEntry → PendingChange → Type 0
+IsLastLost losers p = (i : ℕ) (e : TxnEntry) → slice_get losers i ≡ Some e
     → IsSomeAnd (last_of e.pending) (λ q. q.lsn ≤ p.lsn)
 
 -- the next record is one of the transaction at this place: of the first with nothing pending, or
 -- else of the one that has the last change of all
-pub record IsNext (losers : List Entry) (place : ℕ) : Type 0 where
-  pub entry : Entry
+pub record IsNext (losers : List TxnEntry) (place : ℕ) : Type 0 where
+  pub entry : TxnEntry
   pub there : slice_get losers place ≡ Some entry
   pub turn : MatchOption (last_of entry.pending) (AreBusyBefore losers place) (IsLastLost losers)
 

@@ -9,7 +9,7 @@ ghost use Rattle.log_history.specs.Linked.{IsLinked};
 ghost use Rattle.log_history.specs.Table.{entry_of};
 ghost use Rattle.log_history.specs.Transactions.{first_lsn, is_open, is_rolling, last_lsn, pending};
 ghost use Rattle.log_history.specs.OpenEntry.{changes_of, entry_view};
-ghost use Rattle.loser_undo.specs.Losers.{Leads, LeadsToAbort, Stands, change_by, way_back};
+ghost use Rattle.loser_undo.specs.Losers.{Leads, LeadsToAbort, StandsAtLsn, change_by, way_back};
 
 use crate::tail::{OpenTxn, count_before};
 use log_history::{OpenEntry, Pending, PendingChange};
@@ -33,8 +33,8 @@ pub(crate) fn trace(alloc: Global, log: &LogImage, one: OpenTxn) -> Result<OpenE
 
 /// The record that stands at an LSN.
 fn record_at(log: &LogImage, at: Lsn) -> &Record
-    requires { (r : Record) × Stands log.now.records at r }
-    ensures is { (r : Record) → Stands log.now.records at r → result.now ≡ r }
+    requires { (r : Record) × StandsAtLsn log.now.records at r }
+    ensures is { (r : Record) → StandsAtLsn log.now.records at r → result.now ≡ r }
     ensures valid { IsLog log.now }
 {
     &log.records()[count_before(at)]

@@ -8,7 +8,7 @@ ghost use Rattle.log_records.specs.declared.limits.TheConstants.{MAX_RECORDS};
 ghost use Rattle.log_records.specs.declared.record.Record.{Record};
 ghost use Rattle.log_records.specs.declared.record.Record.TheVariants.{Comp, End};
 ghost use Rattle.log_records.specs.Log.{Log, lsn_of};
-ghost use Rattle.log_history.specs.Table.{Entry, compensated};
+ghost use Rattle.log_history.specs.Table.{TxnEntry, compensated};
 ghost use Rattle.loser_undo.specs.UndoRecords.{HasYielded, IsNext, YieldsNext};
 
 use log_history::{Losers, PendingChange, TxnState};
@@ -53,7 +53,7 @@ impl UndoRecords {
         let place = self.next_place()?;
         let state = self.losers.state_at(place)?;
         match self.losers.last_pending_at(place) {
-            Some(change) => Some(self.take_back(place, &state, &change)),
+            Some(change) => Some(self.compensation_for(place, &state, &change)),
             None => Some(self.end(place, &state)),
         }
     }
@@ -107,12 +107,12 @@ impl UndoRecords {
     }
 
     /// The compensation of the last pending change of the transaction at this place.
-    fn take_back(&mut self, place: usize, state: &TxnState, change: &PendingChange) -> Record
+    fn compensation_for(&mut self, place: usize, state: &TxnState, change: &PendingChange) -> Record
         requires place { place < length self.old.losers }
         requires room { self.old.count < MAX_RECORDS }
         ensures made { result ≡ Comp (lsn_of self.old.count) state.now.txn state.now.last
             change.now.prev change.now.page change.now.slot (undo_of change.now.change) }
-        ensures left { (d : Entry) → self.new ≡ record {
+        ensures left { (d : TxnEntry) → self.new ≡ record {
           losers = slice_set self.old.losers place
               (compensated (lsn_of self.old.count) (slice_index_or self.old.losers place d));
           count = self.old.count + 1;

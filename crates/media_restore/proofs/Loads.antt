@@ -28,7 +28,7 @@ use Rattle.copy_vault.specs.Chain.{IsChain, IsChainOf, content, contents, last_r
 use Rattle.copy_vault.specs.Copy.{CopyView}
 use Rattle.copy_vault.specs.Vault.{CopyState, complete, dropped, reading, state_of}
 use Rattle.copy_coverage.specs.Kept.{IsKeptOf}
-use Rattle.copy_coverage.specs.Retired.{HasRoom, IsMasterOf, IsRetired, RetiredView}
+use Rattle.copy_coverage.specs.Retired.{HasRoomForUndo, NamesCheckpoint, IsRetired, RetiredView}
 use Rattle.copy_coverage.proofs.Chains.{restored_of_members}
 use Rattle.copy_coverage.proofs.Kept.{prefix_is_log}
 use Rattle.media_restore.specs.declared.fault.LoadFault.{LoadFault}
@@ -63,7 +63,7 @@ kept_of it cut retired fine =
       made = ap (λ (xs : List Record). record it.log { records = xs }) (sym (take_min cut rs));
     }
 
-pub room_of : (it : RetiredView) (cut : ℕ) → IsRetired it → HasRoom (kept_log it.log cut).records
+pub room_of : (it : RetiredView) (cut : ℕ) → IsRetired it → HasRoomForUndo (kept_log it.log cut).records
 room_of it cut retired = λ n le.
     let rs = it.log.records in
     let short = length-take cut rs in
@@ -96,7 +96,7 @@ complete_in log n begin end valid le is lt =
 pub checkpoint_in : (it : RetiredView) (kept : Log) (master : Master) → IsRetired it → it.master ≡ Some master
     → IsKeptOf it.log it.forced_end kept → IsCompleteCheckpoint kept.records master.begin master.end
 checkpoint_in it kept master retired is crash =
-    let named = subst (λ (o : Option Master). IfSome o (IsMasterOf it.log.records it.forced_end)) is retired.master in
+    let named = subst (λ (o : Option Master). IfSome o (NamesCheckpoint it.log.records it.forced_end)) is retired.master in
     let below = named.forced in
     let high = crash.forced in
     subst (λ (log : Log). IsCompleteCheckpoint log.records master.begin master.end) (sym crash.made)

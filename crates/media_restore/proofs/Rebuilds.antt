@@ -11,7 +11,7 @@ use Rattle.log_history.specs.Work.{work}
 use Rattle.log_store.specs.declared.master.Master.{Master}
 use Rattle.copy_vault.specs.Vault.{CopyState, complete, dropped, reading, state_of}
 use Rattle.copy_coverage.specs.Kept.{IsKeptOf}
-use Rattle.copy_coverage.specs.Retired.{HasRoom, RetiredView}
+use Rattle.copy_coverage.specs.Retired.{HasRoomForUndo, RetiredView}
 use Rattle.loser_undo.specs.declared.fault.UndoFault.{UndoFault}
 use Rattle.loser_undo.specs.declared.fault.UndoFault.TheVariants.{LogFull, OutOfMemory}
 use Rattle.loser_undo.specs.Recovery.{Recovery}
@@ -19,7 +19,7 @@ use Rattle.aries_core.specs.declared.event.Answer.{Answer}
 use Rattle.aries_core.specs.declared.event.Event.{Event}
 use Rattle.aries_core.specs.declared.refusal.Refusal.{Refusal}
 use Rattle.aries_core.specs.Accepted.{accepted}
-use Rattle.aries_core.specs.Catalogue.{Entry, catalogue, entry_at, entry_of}
+use Rattle.aries_core.specs.Catalogue.{CatalogueEntry, catalogue, entry_at, entry_of}
 use Rattle.aries_core.specs.EngineState.{EngineState, log_of, master_record, new_state}
 use Rattle.aries_core.specs.Run.{Run}
 use Rattle.aries_core.proofs.Catalogues.{entry_is}
@@ -33,7 +33,7 @@ use Rattle.media_restore.specs.Rebuild.{entry_refusal, restore_refusal}
 
 -- ---- a log that has room is undone, unless memory is wanting
 
-pub has_room_now : (rs : List Record) → HasRoom rs → ¬ (MAX_RECORDS < length rs + owed rs)
+pub has_room_now : (rs : List Record) → HasRoomForUndo rs → ¬ (MAX_RECORDS < length rs + owed rs)
 has_room_now rs room = λ past.
     let whole : length rs + owed rs ≤ MAX_RECORDS =
     subst (λ (xs : List Record). length xs + owed xs ≤ MAX_RECORDS) (take-length rs) (room (length rs) (omega arith)) in
@@ -50,12 +50,12 @@ refused_alike (reading copy) = refl
 refused_alike (complete copy) = refl
 refused_alike dropped = refl
 
-refused_by : (it : RetiredView) (entries : List Entry) (copy cut : ℕ) → map entry_of it.copies ≡ entries
+refused_by : (it : RetiredView) (entries : List CatalogueEntry) (copy cut : ℕ) → map entry_of it.copies ≡ entries
     → load_refusal it copy cut ≡ restore_refusal entries it.forced_end (length it.log.records) copy cut
 refused_by it entries copy cut is =
     ap (λ (o : Option LoadFault). first_of o (cut_refusal it.forced_end (length it.log.records) cut))
     (refused_alike (state_of it.copies copy)
-    ∙ ap entry_refusal (sym (entry_is it.copies copy) ∙ ap (λ (es : List Entry). entry_at es copy) is))
+    ∙ ap entry_refusal (sym (entry_is it.copies copy) ∙ ap (λ (es : List CatalogueEntry). entry_at es copy) is))
 
 -- ---- what a restore makes of what an engine left
 

@@ -15,7 +15,7 @@ use Rattle.log_records.specs.Log.{IsLog, Log, counts_of, page_count}
 use Rattle.log_records.proofs.Coverage.{resume_covering}
 use Rattle.log_records.proofs.Images.{numbered-images}
 use Rattle.log_history.specs.Linked.{IsLinked}
-use Rattle.log_history.specs.Table.{Entry}
+use Rattle.log_history.specs.Table.{TxnEntry}
 use Rattle.loser_undo.specs.Losers.{losers_of}
 use Rattle.log_store.specs.declared.fault.LogReadFault.{LogReadFault}
 use Rattle.log_store.specs.declared.fault.LogReadFault.TheVariants as log
@@ -40,7 +40,7 @@ use Rattle.media_restore.specs.declared.files_fault.RestoreFault.TheVariants.{To
 use Rattle.media_restore.specs.declared.files_fault.RestoreFault.TheVariants.{ChainBroken}
 use Rattle.media_restore.specs.declared.files_fault.RestoreFault.TheVariants.{CountDiffers}
 use Rattle.media_restore.specs.declared.files_fault.RestoreFault.TheVariants.{RedoBeyondLog, PageBeyondLog}
-use Rattle.media_restore.specs.Files.{AreCovering, AreSound, Files, HasParts, IsOfLog, IsOfMaster, IsRead, IsRestored}
+use Rattle.media_restore.specs.Files.{AreCovering, AreSound, Files, HasParts, IsOfLog, IsOfMaster, IsRead, IsRestoredFrom}
 use Rattle.media_restore.specs.Files.{Leaves, Refused, most_records, redone_of}
 use Rattle.media_restore.specs.Files.{of_the_log, of_the_master, of_the_archives, of_undo, of_memory}
 use Rattle.media_restore.specs.FilesArchives.{AreOfArchives, end_of}
@@ -66,7 +66,7 @@ covering_whole log copies valid covers =
     ∙ sym (get_or-map-range_with_len (image rs) 0 n k k d below (omega arith)))
 
 -- what was read of a log, and the pages of a chain for its volume
-pub is_read : (log : Log) (kept : Kept) (losers : List Entry) (inputs : List (Option (List ℕ))) (pages : List Page) (redo : ℕ)
+pub is_read : (log : Log) (kept : Kept) (losers : List TxnEntry) (inputs : List (Option (List ℕ))) (pages : List Page) (redo : ℕ)
     → IsLog log → IsLinked log.records → kept ≡ kept_of log → losers ≡ losers_of log.records
     → IsChainRead (counts_of log) (end_of log) inputs pages redo → IsRead log kept losers pages
 is_read log kept losers inputs pages redo valid linked same_kept same_losers of_chain =
@@ -102,7 +102,7 @@ pub restored_of : (files : Files) (log : Log) (master : Master) (pages : List Pa
     → IsOfLog files.log log → IsOfMaster files.master log.records master
     → IsChainRead (counts_of log) (end_of log) files.archives pages redo → most_records log ≤ MAX_RECORDS
     → it ≡ map (λ page. image_from page (appended log)) (map (λ page. resume page log.records redo) pages)
-    → IsRestored files it
+    → IsRestoredFrom files it
 restored_of files log master pages redo it of_log of_master of_chain room made =
     let copies = of_chain.copies in
     let n = page_count log in
@@ -127,7 +127,7 @@ restored_of files log master pages redo it of_log of_master of_chain room made =
     }
 
 -- restored pages stand in order of their numbers, so their bytes spell a volume
-pub restored_spelled : (files : Files) (pages : List Page) → IsRestored files pages
+pub restored_spelled : (files : Files) (pages : List Page) → IsRestoredFrom files pages
     → SpellsVolume pages (volume_bytes pages)
 restored_spelled files pages it =
     let n = page_count it.log in
@@ -142,19 +142,19 @@ restored_spelled files pages it =
 
 -- ---- what is answered
 
-pub all_restored : (r : Result (Vec Page Global) RestoreFault) (files : Files) (log : Log) (kept : Kept) (losers : List Entry)
+pub all_restored : (r : Result (Vec Page Global) RestoreFault) (files : Files) (log : Log) (kept : Kept) (losers : List TxnEntry)
     (master : Master) (pages : List Page) (redo : ℕ) → IsOfLog files.log log
     → IsOfMaster files.master log.records master → IsChainRead (counts_of log) (end_of log) files.archives pages redo
     → IsRead log kept losers pages
     → IfOk r (λ it. (l : Log) → IsRead l kept losers pages
     → it.items ≡ map (λ page. image_from page (appended l)) (map (λ page. resume page l.records redo) pages))
     → OnOk r ((l : Log) → IsRead l kept losers pages → most_records l ≤ MAX_RECORDS)
-    → IfOk r (λ it. IsRestored files it.items)
+    → IfOk r (λ it. IsRestoredFrom files it.items)
 all_restored (Ok it) files log kept losers master pages redo of_log of_master of_chain read made room =
     restored_of files log master pages redo it.items of_log of_master of_chain (room log read) (made log read)
 all_restored (Err e) files log kept losers master pages redo of_log of_master of_chain read made room = tt
 
-pub log_is_full : {X : Type 0} (r : Result X RestoreFault) (files : Files) (log : Log) (kept : Kept) (losers : List Entry)
+pub log_is_full : {X : Type 0} (r : Result X RestoreFault) (files : Files) (log : Log) (kept : Kept) (losers : List TxnEntry)
     (master : Master) (pages : List Page) (copies : List CopyView) → HasParts files log master copies
     → IsRead log kept losers pages
     → IfErr r (λ fault. (fault ≡ LogFull) × ((l : Log) → IsRead l kept losers pages → MAX_RECORDS < most_records l))

@@ -36,7 +36,7 @@ use Rattle.copy_coverage.proofs.Kept.{covers_kept, prefix_is_log}
 use Rattle.copy_coverage.proofs.Points.{end_is_record}
 use Rattle.page_redo.proofs.Valid.{valid-image}
 use Rattle.copy_audit.proofs.Audits.{same_copies, same_log_of}
-use Rattle.media_restore.specs.Files.{AreCovering, AreSound, HasParts, IsOfLog, IsOfMaster, IsRestored}
+use Rattle.media_restore.specs.Files.{AreCovering, AreSound, HasParts, IsOfLog, IsOfMaster, IsRestoredFrom}
 use Rattle.media_restore.specs.FilesArchives.{AreOfArchives, end_of}
 use Rattle.media_restore.specs.Saved.{AreLeft, files_of}
 use Rattle.media_restore.proofs.Loads.{checkpoint_in}
@@ -314,7 +314,7 @@ covering_of log master copies left = λ p lt.
 -- ---- what is restored of them
 
 pub sound_of : (log : Log) (master : Master) (copies : List CopyView) (pages : List Page)
-    → AreLeft log master copies → IsRestored (files_of log master copies) pages → AreSound log pages
+    → AreLeft log master copies → IsRestoredFrom (files_of log master copies) pages → AreSound log pages
 sound_of log master copies pages left is =
     let log_same : is.log ≡ log = same_log_of log is.log is.parts.of_log.spelled (log_is log master copies left) in
     let copies_same : is.copies ≡ copies =

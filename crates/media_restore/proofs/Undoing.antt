@@ -7,7 +7,7 @@ use Rattle.log_records.specs.Coverage.{resume}
 use Rattle.log_records.specs.Image.{AreNumbered}
 use Rattle.log_records.specs.Log.{Log}
 use Rattle.std.specs.List.{sum_by}
-use Rattle.log_history.specs.Table.{Entry, owed_by_entry}
+use Rattle.log_history.specs.Table.{TxnEntry, owed_by_entry}
 use Rattle.log_history.specs.Transactions.{owed}
 use Rattle.loser_undo.specs.Losers.{AreLosersOf}
 use Rattle.loser_undo.proofs.Appends.{owed_few}
@@ -23,11 +23,11 @@ pub record IsTotal (log : Log) (count owed : ℕ) : Type 0 where
   pub is : count + owed ≡ most_records log
 
 -- whom it found are the losers
-losers_are : (log : Log) (kept : Kept) (losers : List Entry) (pages : List Page) → IsRead log kept losers pages
+losers_are : (log : Log) (kept : Kept) (losers : List TxnEntry) (pages : List Page) → IsRead log kept losers pages
     → AreLosersOf log.records losers
 losers_are log kept losers pages is = record { linked = is.linked; few = is.valid.count; made = is.made }
 
-pub total : (log : Log) (kept : Kept) (losers : List Entry) (pages : List Page) (count sum : ℕ) → IsRead log kept losers pages
+pub total : (log : Log) (kept : Kept) (losers : List TxnEntry) (pages : List Page) (count sum : ℕ) → IsRead log kept losers pages
     → count ≡ kept.count → sum ≡ min (sum_by owed_by_entry losers) 18446744073709551615 → IsTotal log count sum
 total log kept losers pages count sum is same_count same_sum =
     let long : kept.count ≡ length log.records = ap (λ (k : Kept). k.count) is.kept in
@@ -40,7 +40,7 @@ total log kept losers pages count sum is same_count same_sum =
     }
 
 -- what undo begins with
-pub to_undo : (log : Log) (kept : Kept) (losers : List Entry) (pages after : List Page) (redo count : ℕ)
+pub to_undo : (log : Log) (kept : Kept) (losers : List TxnEntry) (pages after : List Page) (redo count : ℕ)
     → IsRead log kept losers pages → most_records log ≤ MAX_RECORDS → count ≡ kept.count
     → after ≡ map (λ page. resume page log.records redo) pages → IsToUndo log losers count after
 to_undo log kept losers pages after redo count is room same_count made = record {

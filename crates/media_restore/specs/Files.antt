@@ -10,7 +10,7 @@ use Rattle.log_records.specs.Image.{image_from, redo_all}
 use Rattle.log_records.specs.Log.{IsLog, Log, page_count}
 use Rattle.log_history.specs.Checkpoint.{IsCompleteCheckpoint}
 use Rattle.log_history.specs.Linked.{IsLinked}
-use Rattle.log_history.specs.Table.{Entry}
+use Rattle.log_history.specs.Table.{TxnEntry}
 use Rattle.log_history.specs.Transactions.{owed}
 use Rattle.log_store.specs.declared.fault.LogReadFault.{LogReadFault}
 use Rattle.log_store.specs.declared.master.Master.{Master}
@@ -52,7 +52,7 @@ pub record HasParts (files : Files) (log : Log) (master : Master) (copies : List
   pub chain : IsChain copies
 
 -- this was kept of a log, these transactions are open at its end, and its volume has these pages
-pub record IsRead (log : Log) (k : Kept) (losers : List Entry) (pages : List Page) : Type 0 where
+pub record IsRead (log : Log) (k : Kept) (losers : List TxnEntry) (pages : List Page) : Type 0 where
   pub valid : IsLog log
   pub linked : IsLinked log.records
   pub kept : k ≡ kept_of log
@@ -82,7 +82,7 @@ most_records log = length log.records + owed log.records
 
 -- these pages come of the files: of the chain by redo and undo. Where the chain covers its redo
 -- point they are sound
-pub record IsRestored (files : Files) (pages : List Page) : Type 0 where
+pub record IsRestoredFrom (files : Files) (pages : List Page) : Type 0 where
   pub log : Log
   pub master : Master
   pub copies : List CopyView
@@ -131,7 +131,7 @@ pub data Refused (files : Files) (fault : RestoreFault) : Type 0 where
 -- the bytes of the volume that is restored from the files, and nothing else
 pub record WritesVolume (files : Files) (old new : Option (List ℕ)) : Type 0 where
   pub pages : List Page
-  pub from : IsRestored files pages
+  pub from : IsRestoredFrom files pages
   pub volume : List ℕ
   pub spells : SpellsVolume pages volume
   pub written : Appends old new volume
@@ -139,7 +139,7 @@ pub record WritesVolume (files : Files) (old new : Option (List ℕ)) : Type 0 w
 -- the first bytes of it, so many but not all, and nothing else
 pub record WritesPart (files : Files) (old new : Option (List ℕ)) (done : ℕ) : Type 0 where
   pub pages : List Page
-  pub from : IsRestored files pages
+  pub from : IsRestoredFrom files pages
   pub volume : List ℕ
   pub spells : SpellsVolume pages volume
   pub within : done < length volume

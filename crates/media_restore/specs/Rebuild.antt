@@ -15,7 +15,7 @@ use Rattle.aries_core.specs.declared.event.Event.{Event}
 use Rattle.aries_core.specs.declared.refusal.Refusal.{Refusal}
 use Rattle.aries_core.specs.Accepted.{accepted}
 use Rattle.aries_core.specs.AnsweredCommits.{StandsIn, answered_commits}
-use Rattle.aries_core.specs.Catalogue.{Entry, being_read, is_complete, was_dropped}
+use Rattle.aries_core.specs.Catalogue.{CatalogueEntry, being_read, is_complete, was_dropped}
 use Rattle.aries_core.specs.Catalogue.{catalogue, entry_at}
 use Rattle.aries_core.specs.EngineState.{EngineState, log_of, master_record, new_state}
 use Rattle.aries_core.specs.Run.{Run}
@@ -62,14 +62,14 @@ RestoreRefuses None why = IsOfMemory why
 -- ---- a list of events, and a restore after it
 
 -- of a copy, as events and replies alone tell of it
-abbrev pub entry_refusal : Entry → Option LoadFault
+abbrev pub entry_refusal : CatalogueEntry → Option LoadFault
 entry_refusal (being_read kind marks) = Some CopyNotComplete
 entry_refusal (is_complete kind marks) = None
 entry_refusal was_dropped = Some NoCopy
 
 -- the refusal that needs no memory, of a copy of this catalogue and of a cut, where the log has so
 -- many records and is forced so far
-abbrev pub restore_refusal : List Entry → ℕ → ℕ → ℕ → ℕ → Option LoadFault
+abbrev pub restore_refusal : List CatalogueEntry → ℕ → ℕ → ℕ → ℕ → Option LoadFault
 restore_refusal entries forced_end count copy cut =
     first_of (entry_refusal (entry_at entries copy)) (cut_refusal forced_end count cut)
 

@@ -7,7 +7,7 @@ ghost use Rattle.log_records.specs.Log.{page_count};
 ghost use Rattle.copy_vault.specs.Chain.{IsChain, IsChainOf, contents, last_redo};
 ghost use Rattle.copy_vault.specs.Copy.{CopyView};
 ghost use Rattle.copy_coverage.specs.Kept.{IsKeptOf};
-ghost use Rattle.copy_coverage.specs.Retired.{HasRoom, IsRetired};
+ghost use Rattle.copy_coverage.specs.Retired.{HasRoomForUndo, IsRetired};
 ghost use Rattle.media_restore.specs.Load.{LoadRefuses, copy_refusal, kept_log, load_refusal};
 ghost use Rattle.copy_vault.specs.Vault.{state_of};
 ghost use Rattle.media_restore.specs.declared.fault.LoadFault.TheVariants.{OutOfMemory};
@@ -32,7 +32,7 @@ pub fn load(
     ensures log { IfOk result (λ it. it.log ≡ kept_log retired.log cut) }
     // The kept log is one that a crash may leave, with room to take back what is open in it.
     ensures kept { IfOk result (λ it. IsKeptOf retired.log retired.forced_end it.log) }
-    ensures room { IfOk result (λ it. HasRoom it.log.records) }
+    ensures room { IfOk result (λ it. HasRoomForUndo it.log.records) }
     ensures master { IfOk result (λ it. retired.master ≡ Some it.master) }
     ensures chain { IfOk result (λ it. (members : List CopyView) × IsChain members
         × IsChainOf retired.copies copy members × (it.pages ≡ contents members (page_count it.log))

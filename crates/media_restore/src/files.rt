@@ -6,7 +6,7 @@ ghost use Rattle.log_records.specs.Image.{image_from};
 ghost use Rattle.log_records.specs.Log.{Log};
 ghost use Rattle.log_records.specs.declared.limits.TheConstants.{MAX_RECORDS};
 ghost use Rattle.loser_undo.specs.Recovery.{appended};
-ghost use Rattle.media_restore.specs.Files.{IsRead, IsRestored, Leaves, Refused, WritesVolume};
+ghost use Rattle.media_restore.specs.Files.{IsRead, IsRestoredFrom, Leaves, Refused, WritesVolume};
 ghost use Rattle.media_restore.specs.Files.{most_records};
 ghost use Rattle.media_restore.specs.FilesStop.{AreReadWhole, StopsIn};
 ghost use Rattle.media_restore.specs.declared.files_fault.RestoreFault.TheVariants.{LogFull};
@@ -107,7 +107,7 @@ fn restored<L: Read, M: Read, A: Read>(
     master: &mut M,
     archives: &mut [A],
 ) -> Result<Vec<Page>, RestoreFault>
-    ensures ok { IfOk result (λ pages. IsRestored
+    ensures ok { IfOk result (λ pages. IsRestoredFrom
         (record {
           log = L.remaining log.old;
           master = M.remaining master.old;

@@ -4,7 +4,7 @@ ghost use Rattle.std.specs.Prelude.{◌≡◌, ◌<◌, ◌≤◌, All, IfErr, I
 ghost use Rattle.std.specs.Prelude.{Some};
 ghost use Rattle.log_records.specs.Log.{IsPageCount, lsn_of};
 ghost use Rattle.copy_coverage.specs.Kept.{IsKeptOf};
-ghost use Rattle.copy_coverage.specs.Retired.{HasRoom};
+ghost use Rattle.copy_coverage.specs.Retired.{HasRoomForUndo};
 ghost use Rattle.loser_undo.specs.Recovery.{IsWhole};
 ghost use Rattle.aries_core.specs.EngineState.{EngineView};
 ghost use Rattle.aries_core.specs.Step.{IsByDevice, IsFaultReply};
@@ -124,7 +124,7 @@ fn redo_copy(
     ensures master { IfOk result (λ it. retired.master ≡ Some it.master) }
     ensures kept { OnOk result
         (IsKeptOf retired.log retired.forced_end (kept_log retired.log cut)) }
-    ensures room { IfOk result (λ it. HasRoom it.log.records) }
+    ensures room { IfOk result (λ it. HasRoomForUndo it.log.records) }
     ensures whole { IfOk result (λ it. IsWhole it) }
     ensures ok { OnOk result (load_refusal retired copy cut ≡ None) }
     ensures err { IfErr result (λ why. RestoreRefuses (load_refusal retired copy cut) why) }
@@ -141,7 +141,7 @@ fn redo_copy(
 
 /// Undoes the transactions that are open at the end of a log that has room for that.
 fn undo(redone: Redone) -> Result<Undone, Refused>
-    requires room { HasRoom redone.log.records }
+    requires room { HasRoomForUndo redone.log.records }
     requires whole { IsWhole redone }
     ensures master { IfOk result (λ it. it.master ≡ redone.master) }
     ensures restored { IfOk result (λ it. IsRestored redone.log it) }

@@ -7,7 +7,7 @@ ghost use Rattle.log_store.specs.declared.master.Master.{Master};
 ghost use Rattle.copy_vault.specs.Copy.{CopyView};
 ghost use Rattle.media_restore.specs.declared.files_fault.RestoreFault.{RestoreFault};
 ghost use Rattle.media_restore.specs.declared.files_fault.RestoreFault.TheVariants as restore_fault;
-ghost use Rattle.media_restore.specs.Files.{AreCovering, AreSound, HasParts, IsRestored, Refused};
+ghost use Rattle.media_restore.specs.Files.{AreCovering, AreSound, HasParts, IsRestoredFrom, Refused};
 ghost use Rattle.media_restore.specs.Saved.{AreLeft, files_of};
 
 /// What an engine leaves has a spelling, each copy of a chain too, and no page of the chain lacks a
@@ -32,6 +32,6 @@ pub fn saved_files_are_right()
 /// are undone, with what was committed.
 pub fn saved_files_restore_what_was_committed()
     ensures { (log : Log) (master : Master) (copies : List CopyView) (pages : List Page)
-        → AreLeft log master copies → IsRestored (files_of log master copies) pages
+        → AreLeft log master copies → IsRestoredFrom (files_of log master copies) pages
         → AreSound log pages }
 {}

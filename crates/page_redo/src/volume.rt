@@ -33,12 +33,12 @@ fn redo_records(pages: &mut [Page], records: &[Record])
     ensures { pages.new ≡ map (λ page. redone_all page records.now) pages.old }
 {
     for record in records {
-        redo_on_its_page(pages, record);
+        redo_if_above(pages, record);
     }
 }
 
 /// Redoes a record on the page that it changes, if it changes one, and is above the page's LSN.
-fn redo_on_its_page(pages: &mut [Page], next: &Record)
+fn redo_if_above(pages: &mut [Page], next: &Record)
     requires within { IsWithin (length pages.old) next.now }
     requires numbered { AreNumbered pages.old }
     ensures { pages.new ≡ map (λ page. redone_by page next.now) pages.old }

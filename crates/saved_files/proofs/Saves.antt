@@ -13,7 +13,7 @@ use Rattle.saved_files.specs.declared.saved_name.SavedName.{SavedName}
 use Rattle.saved_files.specs.declared.saved_name.SavedName.TheVariants.{Log, Master, Copy}
 use Rattle.std.specs.Io.KnownBytes.{Appends}
 use Rattle.saved_files.specs.FileFault.{Leaves}
-use Rattle.saved_files.specs.Folder.{Changes, Entries, Entry, IsSame, KeepsBeside, Puts, absent, stored, unsynced}
+use Rattle.saved_files.specs.Folder.{Changes, Entries, FolderEntry, IsSame, KeepsBeside, Puts, absent, stored, unsynced}
 use Rattle.saved_files.specs.PutFault.{LeavesPut, Writing, bytes_by}
 use Rattle.saved_files.specs.Saved.{AreSaved, AreSavedBefore, IsOfFile, IsOfPart, LeavesFile, LeavesFrom, LeavesSaved}
 use Rattle.saved_files.specs.Saved.{Parts, WentOut, name_of, place_of}
@@ -167,7 +167,7 @@ leaves_from parts at bytes why before_given given_up old mid new few asked befor
       went_out = it.went_out;
     }
   where
-    is_there : Entry → Type 0
+    is_there : FolderEntry → Type 0
     is_there absent = ⊥
     is_there unsynced = Unit {0}
     is_there (stored bytes) = Unit {0}

@@ -4,14 +4,14 @@ use Rattle.std.specs.Prelude.{None}
 
 -- what stands under a name: nothing; a file that was not synced after it was made, so that it is
 -- not known which bytes are stored; or a file of which these bytes are stored
-pub data Entry : Type 0 where
-  absent : Entry
-  unsynced : Entry
-  stored : (bytes : List ℕ) → Entry
+pub data FolderEntry : Type 0 where
+  absent : FolderEntry
+  unsynced : FolderEntry
+  stored : (bytes : List ℕ) → FolderEntry
 
 -- what stands under each name
 abbrev pub Entries : Type 0
-Entries = List ℕ → Entry
+Entries = List ℕ → FolderEntry
 
 -- the entries of a folder, as far as they are known, change like this
 abbrev pub Changes : (Entries → Entries → Type 0) → Option Entries → Option Entries → Type 0

@@ -1,7 +1,7 @@
 //! A folder in which files are made by their names.
 
 ghost use Rattle.std.specs.Prelude.{ℕ, ◌≡◌, List, Option, OnOk, OnErr, IfOk};
-ghost use Rattle.saved_files.specs.Folder.{Changes, Entries, Entry, IsMade, IsRemoved, IsRenamed};
+ghost use Rattle.saved_files.specs.Folder.{Changes, Entries, FolderEntry, IsMade, IsRemoved, IsRenamed};
 ghost use Rattle.saved_files.specs.Folder.{IsSame, IsSynced, KeepsOthers, RenamesOrKeeps};
 
 use std::io;
@@ -13,7 +13,7 @@ pub trait Folder {
     type File: Write + Drop;
 
     /// What stands under each name, as far as it is known.
-    ghost entries: { Self → Option (List ℕ → Entry) };
+    ghost entries: { Self → Option (List ℕ → FolderEntry) };
 
     /// It is this caller's, and no other one's that asks by `claim`.
     ghost is_claimed: { Self → Type 0 };

@@ -86,7 +86,7 @@ fn repair<G: Ledger>(rt: &(impl Wait + Abort), shared: &Volume<G>) {
 }
 
 /// A transaction that is taken back.
-fn take_back<G: Ledger>(rt: &(impl Wait + Abort), shared: &Volume<G>, session: &mut Session<G>) {
+fn roll_back<G: Ledger>(rt: &(impl Wait + Abort), shared: &Volume<G>, session: &mut Session<G>) {
     let (txn, _) = session.begin(rt, shared).expect(rt, "begin");
     session
         .set(rt, shared, txn, PageNo(6), SlotNo(0), 9)
@@ -162,7 +162,7 @@ fn end_the_day<G: Ledger>(
         panic!(rt; "five sessions");
     };
     assert_eq!(rt; fifth.read(rt, shared, PageNo(7), SlotNo(0)), Ok(200));
-    take_back(rt, shared, fifth);
+    roll_back(rt, shared, fifth);
     shared.flush_pass(rt, &OpenGate).expect(rt, "flush");
 }
 

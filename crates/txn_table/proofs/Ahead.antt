@@ -12,7 +12,7 @@ use Rattle.log_records.specs.declared.record.Record.{Record}
 use Rattle.log_history.specs.declared.pending_change.PendingChange.{PendingChange}
 use Rattle.log_history.specs.Ahead.{entry_back, entry_with_before, with_changed}
 use Rattle.log_history.specs.Linked.{MayFollow}
-use Rattle.log_history.specs.Table.{Entry, MayNote, Table, entry_after, entry_in, entry_of, holder_in, noted, owed_by_entry}
+use Rattle.log_history.specs.Table.{TxnEntry, MayNote, Table, entry_after, entry_in, entry_of, holder_in, noted, owed_by_entry}
 use Rattle.log_history.specs.Table.{owed_in, table_of}
 use Rattle.log_history.specs.Transactions.{open_in, owed, pending}
 use Rattle.log_history.proofs.Ahead.{last_before_push, same_kind, without_last_push}
@@ -23,7 +23,7 @@ use Rattle.txn_table.specs.TxnTable.{IsAhead, IsOwed, as_read, update_of}
 use Rattle.txn_table.proofs.Owed.{owed_few, owed_step}
 
 -- the entry after the Update of a change
-abbrev after : ℕ → PendingChange → Entry → Entry
+abbrev after : ℕ → PendingChange → TxnEntry → TxnEntry
 after txn c e = cond (eqb e.txn txn) (entry_after e (update_of txn c)) e
 
 -- it may be noted ahead
@@ -39,12 +39,12 @@ may_ahead rs txn c number may =
 pub owed_alike : (t : Table) (txn : ℕ) (c : PendingChange) (number : ℕ)
     → owed_in (noted t (update_of txn c)) ≡ owed_in (noted t (update_of txn (as_read c number)))
 owed_alike t txn c number =
-    let sum = λ (own : Entry → ℕ). fold (λ a e. a + own e) 0 t.entries in
-    fold-map (λ a (e : Entry). a + owed_by_entry e) (after txn c) 0 t.entries
+    let sum = λ (own : TxnEntry → ℕ). fold (λ a e. a + own e) 0 t.entries in
+    fold-map (λ a (e : TxnEntry). a + owed_by_entry e) (after txn c) 0 t.entries
     ∙ ap sum (fun_ext (λ e. alike e (eqb e.txn txn)))
-    ∙ sym (fold-map (λ a (e : Entry). a + owed_by_entry e) (after txn (as_read c number)) 0 t.entries)
+    ∙ sym (fold-map (λ a (e : TxnEntry). a + owed_by_entry e) (after txn (as_read c number)) 0 t.entries)
   where
-    alike : (e : Entry) (b : Bool)
+    alike : (e : TxnEntry) (b : Bool)
         → owed_by_entry (cond b (entry_after e (update_of txn c)) e)
         ≡ owed_by_entry (cond b (entry_after e (update_of txn (as_read c number))) e)
     alike e true =
@@ -71,11 +71,11 @@ open_ahead rs txn c table ahead =
     let here : entry_in table txn ≡ option_map (after txn c) (entry_in (table_of rs) txn) =
     ap (λ (t : Table). entry_in t txn) ahead.made
     ∙ find-map (after txn c) (λ e. eqb e.txn txn) (table_of rs).entries
-    ∙ ap (λ (q : Entry → Bool). option_map (after txn c) (find q (table_of rs).entries))
+    ∙ ap (λ (q : TxnEntry → Bool). option_map (after txn c) (find q (table_of rs).entries))
     (fun_ext (λ e. same_txn e (eqb e.txn txn))) in
-    subst (λ (o : Option Entry). IsSome o) (sym (here ∙ ap (option_map (after txn c)) found)) refl
+    subst (λ (o : Option TxnEntry). IsSome o) (sym (here ∙ ap (option_map (after txn c)) found)) refl
   where
-    same_txn : (e : Entry) (b : Bool)
+    same_txn : (e : TxnEntry) (b : Bool)
         → eqb (cond b (entry_after e (update_of txn c)) e).txn txn ≡ eqb e.txn txn
     same_txn e true = refl
     same_txn e false = refl
@@ -87,14 +87,14 @@ pub settled : (rs : List Record) (txn : ℕ) (c : PendingChange) (table : Table)
 settled rs txn c table number ahead =
     ap (λ (t : Table). with_changed t txn (entry_with_before number)) ahead.made
     ∙ ap (λ es. let v : Table = record (table_of rs) { entries = es } in v)
-    (map-map (λ (v : Entry). cond (eqb v.txn txn) (entry_with_before number v) v) (after txn c) (table_of rs).entries
-    ∙ ap (λ (g : Entry → Entry). map g (table_of rs).entries) (fun_ext (λ e. at e (eqb e.txn txn) refl)))
+    (map-map (λ (v : TxnEntry). cond (eqb v.txn txn) (entry_with_before number v) v) (after txn c) (table_of rs).entries
+    ∙ ap (λ (g : TxnEntry → TxnEntry). map g (table_of rs).entries) (fun_ext (λ e. at e (eqb e.txn txn) refl)))
   where
-    at : (e : Entry) (b : Bool) → eqb e.txn txn ≡ b
+    at : (e : TxnEntry) (b : Bool) → eqb e.txn txn ≡ b
         → cond (eqb (after txn c e).txn txn) (entry_with_before number (after txn c e)) (after txn c e)
         ≡ after txn (as_read c number) e
     at e true is =
-        rw is (rw is (ap (λ ps. let v : Entry = record e { last = c.lsn; pending = ps } in v)
+        rw is (rw is (ap (λ ps. let v : TxnEntry = record e { last = c.lsn; pending = ps } in v)
         (last_before_push e.pending c number)))
     at e false is = rw is (rw is refl)
 
@@ -103,20 +103,20 @@ pub back : (rs : List Record) (txn : ℕ) (c : PendingChange) (table : Table) �
 back rs txn c table ahead =
     ap (λ (t : Table). with_changed t txn (entry_back c.prev)) ahead.made
     ∙ ap (λ es. let v : Table = record (table_of rs) { entries = es } in v)
-    (ap (map (λ (v : Entry). cond (eqb v.txn txn) (entry_back c.prev v) v))
+    (ap (map (λ (v : TxnEntry). cond (eqb v.txn txn) (entry_back c.prev v) v))
     (map-map (after txn c) (entry_of rs) (open_in rs))
-    ∙ map-map (λ (v : Entry). cond (eqb v.txn txn) (entry_back c.prev v) v)
+    ∙ map-map (λ (v : TxnEntry). cond (eqb v.txn txn) (entry_back c.prev v) v)
     (λ t. after txn c (entry_of rs t)) (open_in rs)
-    ∙ ap (λ (g : ℕ → Entry). map g (open_in rs)) (fun_ext (λ t. at t (eqb t txn) refl)))
+    ∙ ap (λ (g : ℕ → TxnEntry). map g (open_in rs)) (fun_ext (λ t. at t (eqb t txn) refl)))
   where
     at : (t : ℕ) (b : Bool) → eqb t txn ≡ b
         → cond (eqb (after txn c (entry_of rs t)).txn txn) (entry_back c.prev (after txn c (entry_of rs t)))
         (after txn c (entry_of rs t)) ≡ entry_of rs t
     at t true is =
         let same = eqb-true t txn is in
-        rw is (rw is (ap (λ ps. let v : Entry = record (entry_of rs t) { last = c.prev; pending = ps } in v)
+        rw is (rw is (ap (λ ps. let v : TxnEntry = record (entry_of rs t) { last = c.prev; pending = ps } in v)
         (without_last_push (pending rs t) c)
-        ∙ ap (λ n. let v : Entry = record (entry_of rs t) { last = n } in v)
+        ∙ ap (λ n. let v : TxnEntry = record (entry_of rs t) { last = n } in v)
         (ahead.may_follow.active.goes_on.chained ∙ ap (λ n. (entry_of rs n).last) (sym same))))
     at t false is = rw is (rw is refl)
 

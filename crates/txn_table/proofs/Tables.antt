@@ -6,7 +6,7 @@ use Rattle.std.specs.Option.{option_and_then, option_map, option_map_or}
 use Rattle.log_records.specs.declared.record.Record.{Record}
 use Rattle.log_records.specs.declared.record.Record.TheVariants.{Begin, Update, Comp, Commit, Abort, End, BeginChkpt}
 use Rattle.log_records.specs.declared.record.Record.TheVariants.{ChkptPages, ChkptTxns, EndChkpt}
-use Rattle.log_history.specs.Table.{Entry, Table, entry_in, entry_of, table_of}
+use Rattle.log_history.specs.Table.{TxnEntry, Table, entry_in, entry_of, table_of}
 use Rattle.log_history.specs.Transactions.{begun, is_open, last_of, pending, open_in}
 use Rattle.log_history.specs.TxnState.{state_of, next_in}
 use Rattle.log_history.proofs.Checks.{entry_in-table_of}
@@ -52,13 +52,13 @@ state_is rs table t of =
     choose false = refl
 
 pub last_pending_is : (rs : List Record) (table : Table) (t : ℕ) → IsTableOf rs table
-    → option_and_then (λ (e : Entry). last_of e.pending) (entry_in table t)
+    → option_and_then (λ (e : TxnEntry). last_of e.pending) (entry_in table t)
     ≡ (if is_open rs t then last_of (pending rs t) else None)
 last_pending_is rs table t of =
-    ap (λ (x : Table). option_and_then (λ (e : Entry). last_of e.pending) (entry_in x t)) of.made
-    ∙ ap (option_and_then (λ (e : Entry). last_of e.pending)) (entry_in-table_of rs t) ∙ choose (is_open rs t)
+    ap (λ (x : Table). option_and_then (λ (e : TxnEntry). last_of e.pending) (entry_in x t)) of.made
+    ∙ ap (option_and_then (λ (e : TxnEntry). last_of e.pending)) (entry_in-table_of rs t) ∙ choose (is_open rs t)
   where
-    choose : (b : Bool) → option_and_then (λ (e : Entry). last_of e.pending) (cond b (Some (entry_of rs t)) None)
+    choose : (b : Bool) → option_and_then (λ (e : TxnEntry). last_of e.pending) (cond b (Some (entry_of rs t)) None)
         ≡ cond b (last_of (pending rs t)) None
     choose true = refl
     choose false = refl
@@ -84,7 +84,7 @@ of_least P (n ∷ ns) all = at (least ns) (of_least P ns (All-tail P n ns all))
 next_in-table_of : (rs : List Record) (from : ℕ) → next_in (table_of rs) from ≡ next_open rs from
 next_in-table_of rs from =
     ap (λ (ns : List ℕ). least (filter (λ n. nat_le from n) ns))
-    (map-map (λ (e : Entry). e.txn) (entry_of rs) (open_in rs) ∙ map-id (open_in rs))
+    (map-map (λ (e : TxnEntry). e.txn) (entry_of rs) (open_in rs) ∙ map-id (open_in rs))
 
 next_is_open : (rs : List Record) (from : ℕ) → IfSome (next_open rs from) (λ t. is_open rs t ≡ true)
 next_is_open rs from =

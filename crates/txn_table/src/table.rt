@@ -105,7 +105,7 @@ impl TxnTable {
     }
 
     /// Notes the Update of a change whose number before it is not known yet, where it is a Set. It
-    /// is to be followed by `settle`, once the number is known, or by `take_back`. These take no
+    /// is to be followed by `set_before`, once the number is known, or by `take_back`. These take no
     /// memory. An `Err` comes where memory is refused, and changes nothing.
     pub fn note_ahead(&mut self, txn: TxnNo, ahead: PendingChange) -> Result<(), AllocError>
         requires { (rs : List Record) × (number : ℕ) × (IsTableOf rs self.old
@@ -136,7 +136,7 @@ impl TxnTable {
 
     /// The change that was noted ahead has this number before it, where it is a Set. The table is
     /// that of the log with its Update.
-    pub fn settle(&mut self, txn: TxnNo, before: u64)
+    pub fn set_before(&mut self, txn: TxnNo, before: u64)
         requires { (rs : List Record) × (c : PendingChange) × IsAhead rs txn c self.old }
         ensures { (rs : List Record) (c : PendingChange) → IsAhead rs txn c self.old
             → MayFollow rs (update_of txn (as_read c before))

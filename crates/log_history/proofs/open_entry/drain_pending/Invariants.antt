@@ -1,11 +1,11 @@
 use Rattle.std.proofs.Common.{vec_len}
-use Rattle.log_history.specs.OpenEntry.{IsHeld, KeepsOtherSeats}
+use Rattle.log_history.specs.OpenEntry.{IsHeld, KeepsOtherRows}
 use Rattle.log_history.proofs.open_entry.drain_pending.Given as goal
 
 abbrev pub invariant-loop-pending : goal.invariant-loop-pending
 invariant-loop-pending l = record {
-  held : IsHeld l.claims l.seat l.pending.items;
-  others : KeepsOtherSeats l.seat l.initial.claims l.claims;
+  held : IsHeld l.claims l.row l.pending.items;
+  others : KeepsOtherRows l.row l.initial.claims l.claims;
 }
 
 abbrev pub decreases-loop-pending : goal.decreases-loop-pending

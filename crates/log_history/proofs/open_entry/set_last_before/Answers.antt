@@ -19,13 +19,13 @@ returns-in-Some-clause-changes c =
     (sym (by_last items p n last c.in-Some.ensures.value))
 
 pub returns-in-Some-clause-held : goal.returns-in-Some-clause-held
-returns-in-Some-clause-held c claims seat held =
+returns-in-Some-clause-held c claims row held =
     let items = c.args.pending.now.items in
     let p = c.in-Some.last.now in
     let q = c.set_before.new.self in
     let n = vec_len c.args.pending.now - 1 in
     let rest = take n items in
     let last : n + 1 ≡ length items = omega (arith, c.in-Some.ensures.variant.0 refl) in
-    subst (λ (ps : List Pending). IsHeld claims seat ps) (sym (last_set items p q n last c.in-Some.ensures.value))
-    (held_last rest p q c.args.before c.set_before.ensures.change claims seat c.set_before.ensures.before
-    (subst (λ (ps : List Pending). IsHeld claims seat ps) (by_last items p n last c.in-Some.ensures.value) held))
+    subst (λ (ps : List Pending). IsHeld claims row ps) (sym (last_set items p q n last c.in-Some.ensures.value))
+    (held_last rest p q c.args.before c.set_before.ensures.change claims row c.set_before.ensures.before
+    (subst (λ (ps : List Pending). IsHeld claims row ps) (by_last items p n last c.in-Some.ensures.value) held))

@@ -1,6 +1,6 @@
 use Rattle.std.proofs.Common.{◌≡◌, ◌∙◌, sym, subst}
 use Rattle.log_history.specs.OpenEntry.{changes_of}
-use Rattle.log_history.specs.Table.{Entry, entry_of}
+use Rattle.log_history.specs.Table.{TxnEntry, entry_of}
 use Rattle.log_history.specs.Transactions.{first_lsn, is_rolling}
 use Rattle.loser_undo.specs.Losers.{Leads, LeadsToAbort}
 use Rattle.loser_undo.proofs.Traced.{all_traced}
@@ -35,7 +35,7 @@ pending_of-requires c =
 pub returns : goal.returns
 returns c =
     let t = c.args.one.txn in
-    let made : (let e : Entry = record {
+    let made : (let e : TxnEntry = record {
       txn = t;
       first = c.in_ok-first.first;
       last = c.args.one.last;

@@ -8,7 +8,7 @@ use Rattle.copy_vault.specs.Chain.{IsChain, IsChainOf, contents, last_redo}
 use Rattle.copy_vault.specs.Copy.{CopyView}
 use Rattle.copy_vault.specs.Vault.{CopyState}
 use Rattle.copy_coverage.specs.Kept.{IsKeptOf}
-use Rattle.copy_coverage.specs.Retired.{HasRoom}
+use Rattle.copy_coverage.specs.Retired.{HasRoomForUndo}
 use Rattle.media_restore.specs.Load.{IsLoaded, LoadedView, kept_log}
 use Rattle.media_restore.proofs.Loads.{all_restored, cut_is_fine, kept_count, kept_of, loaded, room_of}
 use Rattle.media_restore.proofs.copy_load.load.Goals as goal
@@ -81,8 +81,8 @@ returns-clause-room c =
     let it = c.args.retired in
     let log : c.keep_first.new.self ≡ kept_log it.log c.args.cut =
     c.keep_first.ensures ∙ ap (λ (log : Log). kept_log log c.args.cut) c.into_log-log.ensures in
-    subst (λ (it' : LoadedView). HasRoom it'.log.records) (sym c.new.ensures)
-    (subst (λ (log : Log). HasRoom log.records) (sym log) (room_of it c.args.cut c.refusal_of.ensures.kept))
+    subst (λ (it' : LoadedView). HasRoomForUndo it'.log.records) (sym c.new.ensures)
+    (subst (λ (log : Log). HasRoomForUndo log.records) (sym log) (room_of it c.args.cut c.refusal_of.ensures.kept))
 
 pub returns-clause-chain : goal.returns-clause-chain
 returns-clause-chain c =

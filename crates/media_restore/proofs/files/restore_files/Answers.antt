@@ -1,6 +1,6 @@
 use Rattle.std.proofs.Common.{map, sym, subst}
 use Rattle.std.proofs.lemmas.Result.{err_from_is_err_and}
-use Rattle.media_restore.specs.Files.{Files, IsRestored}
+use Rattle.media_restore.specs.Files.{Files, IsRestoredFrom}
 use Rattle.media_restore.specs.FilesStop.{behind_all}
 use Rattle.page_core.specs.Page.{volume_bytes}
 use Rattle.media_restore.proofs.Restored.{leaves, restored_spelled}
@@ -38,7 +38,7 @@ returns-in-Ok-clause-ok g c =
       archives = map g.A.Read.remaining c.args.archives.now;
     } in
     let pages = c.deref.result.now in
-    let from = subst (IsRestored files) (sym c.deref.ensures.value) c.in_ok-pages.ensures.ok in
+    let from = subst (IsRestoredFrom files) (sym c.deref.ensures.value) c.in_ok-pages.ensures.ok in
     record {
       pages = pages;
       from = from;
@@ -55,7 +55,7 @@ returns-clause-err g c =
       archives = map g.A.Read.remaining c.args.archives.now;
     } in
     let pages = c.deref.result.now in
-    let from = subst (IsRestored files) (sym c.deref.ensures.value) c.in_ok-pages.ensures.ok in
+    let from = subst (IsRestoredFrom files) (sym c.deref.ensures.value) c.in_ok-pages.ensures.ok in
     record {
       pages = pages;
       from = from;

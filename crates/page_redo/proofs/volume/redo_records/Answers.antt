@@ -10,8 +10,8 @@ use Rattle.page_redo.proofs.volume.redo_records.Goals as goal
 pub loop-record-init : goal.loop-record-init
 loop-record-init c = none_yet c.args.pages.now
 
-pub redo_on_its_page-requires-clause-within : goal.redo_on_its_page-requires-clause-within
-redo_on_its_page-requires-clause-within c =
+pub redo_if_above-requires-clause-within : goal.redo_if_above-requires-clause-within
+redo_if_above-requires-clause-within c =
     let pages = c.args.pages.now in
     let rs = c.args.records.now in
     let i = c.loop-record.record-index in
@@ -21,8 +21,8 @@ redo_on_its_page-requires-clause-within c =
     subst (λ (n : ℕ). IsWithin n d) (sym long)
     (subst (IsWithin (length pages)) (sym c.record-item.is) (c.requires.within i d c.loop-record-test.true))
 
-pub redo_on_its_page-requires-clause-numbered : goal.redo_on_its_page-requires-clause-numbered
-redo_on_its_page-requires-clause-numbered c =
+pub redo_if_above-requires-clause-numbered : goal.redo_if_above-requires-clause-numbered
+redo_if_above-requires-clause-numbered c =
     subst AreNumbered (sym c.loop-record.invariant)
     (numbered_more c.args.pages.now (take c.loop-record.record-index c.args.records.now) c.requires.numbered)
 
@@ -32,7 +32,7 @@ loop-record-preserved c =
     let rs = c.args.records.now in
     let i = c.loop-record.record-index in
     let d = c.record-item.result in
-    c.redo_on_its_page.ensures
+    c.redo_if_above.ensures
     ∙ ap (λ (r : Record). map (λ page. redone_by page r) c.loop-record.pages) c.record-item.is
     ∙ ap (map (λ page. redone_by page (get_or rs i d))) c.loop-record.invariant
     ∙ each_more pages rs i d c.loop-record-test.true

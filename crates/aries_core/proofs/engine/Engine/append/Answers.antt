@@ -5,7 +5,7 @@ use Rattle.log_records.specs.Record.{change_of}
 use Rattle.log_records.specs.Log.{Log, StandsAt, lsn_of}
 use Rattle.log_records.specs.Log.{page_count}
 use Rattle.aries_core.specs.Call.{Calls}
-use Rattle.aries_core.specs.EngineState.{EngineState, EngineView, IsKept, appended, engine_view, log_of}
+use Rattle.aries_core.specs.EngineState.{EngineState, EngineView, IsConsistent, appended, engine_view, log_of}
 use Rattle.aries_core.specs.OpenCkpt.{media_view}
 use Rattle.aries_core.proofs.Appends.{appended_is, kept_next, valid_with}
 use Rattle.aries_core.proofs.Fit.{comes, comes_few}
@@ -125,7 +125,7 @@ invariant_of-self-2 g c =
     (valid_with s r c.self.invariant.fit come) in
     let back = c.add.ensures.log s.log r (c.make_room-else-is_err.ensures.same ∙ c.self.invariant.returns_of_log)
     (c.return_of-back.ensures s.log table come.may_follow) in
-    subst (λ (t : EngineState). IsKept stored t c.note.new.self c.change.new.self after) (sym (state_after g c))
+    subst (λ (t : EngineState). IsConsistent stored t c.note.new.self c.change.new.self after) (sym (state_after g c))
     (kept_next stored s it.txns c.note.new.self it.pool c.change.new.self media c.add.new.self.made r c.self.invariant
     come (subst (λ (v : EngineView g.row.S.Denot g.row.D.Denot).
     IfSome (change_of r) (λ x. IsResident v.state.resident x.page)) (sym c.self.view_is) c.requires.there) noted

@@ -11,7 +11,7 @@ use Rattle.log_records.specs.Log.{page_count}
 use Rattle.log_history.specs.Linked.{number_in}
 use Rattle.log_history.specs.Transactions.{last_lsn}
 use Rattle.aries_core.specs.Call.{Calls}
-use Rattle.aries_core.specs.EngineState.{EngineState, EngineView, IsKept, end, engine_view, log_of}
+use Rattle.aries_core.specs.EngineState.{EngineState, EngineView, IsConsistent, end, engine_view, log_of}
 use Rattle.aries_core.specs.OpenCkpt.{media_view}
 use Rattle.aries_core.proofs.Appends.{after_fetch, appended_is, valid_with}
 use Rattle.aries_core.specs.Asked.{Asks, FailsAsking, page_asked}
@@ -133,7 +133,7 @@ invariant_of-self-then-is_err-4 g c =
     (c.fetch.ensures.frames ∙ ap (λ (v : PoolView g.row.S.Denot). v.frames) same)
     (ap (λ (v : PoolView g.row.S.Denot). v.resident) stays ∙ ap (λ (v : PoolView g.row.S.Denot). v.resident) same)
     (c.fetch.ensures.states ∙ ap (λ (v : PoolView g.row.S.Denot). v.states) same) in
-    subst (λ (t : EngineState). IsKept stored t c.take_back.new.self c.fetch.new.self media) (sym state) (record {
+    subst (λ (t : EngineState). IsConsistent stored t c.take_back.new.self c.fetch.new.self media) (sym state) (record {
       fit = fit;
       table_of_log = record {
         linked = table.linked;
@@ -145,8 +145,8 @@ invariant_of-self-then-is_err-4 g c =
       returns_of_log = c.self.invariant.returns_of_log;
     })
 
-pub settle-requires : goal.settle-requires
-settle-requires g c =
+pub set_before-requires : goal.set_before-requires
+set_before-requires g c =
     let it = c.self.inside in
     let stored = g.S.PageStore.stored in
     let media = media_view it.master it.session it.vault.copies it.returns.made in
@@ -351,11 +351,11 @@ invariant_of-self-2 g c =
     let within : p < volume_pages s =
     subst (λ (v : EngineView g.row.S.Denot g.row.D.Denot). p < volume_pages v.state) (sym c.self.view_is)
     (slot_passes c.args.self.now.state p c.args.slot c.requires.place).within in
-    let settled = c.settle.ensures s.log noted ahead (subst (λ n. MayUpdate s.log c.args.txn c.args.prev p c.args.slot
+    let settled = c.set_before.ensures s.log noted ahead (subst (λ n. MayUpdate s.log c.args.txn c.args.prev p c.args.slot
     (with_before c.args.ahead n)) (sym number_is) may)
     ∙ ap (λ x. table_of (s.log ++ Update c.end-lsn.result c.args.txn c.args.prev p c.args.slot x ∷ []))
     (sym c.with_number.ensures) in
-    after_fetch stored s (engine_view stored it.log c.fetch.new.self media).state _ p it.txns c.settle.new.self
+    after_fetch stored s (engine_view stored it.log c.fetch.new.self media).state _ p it.txns c.set_before.new.self
     it.pool c.fetch.new.self c.change.new.self media it.returns.made next c.self.invariant comes_next within refl came
     of_log settled (c.change.ensures.kept (log_of s) of_log (valid_with s next fit comes_next))
     (c.self.invariant.returns_of_log ∙ sym (returns_stay s.log next refl)) grown

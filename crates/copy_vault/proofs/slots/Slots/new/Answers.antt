@@ -1,8 +1,8 @@
 use Rattle.std.proofs.Common.{◌≡◌, ◌<◌, ◌^◌, ◌∙◌, List, [], replicate, sym, subst, ap, arith}
 use Rattle.std.specs.Vec.{vec_capacity}
 use Rattle.page_core.specs.declared.page.Page.{Page}
-use Rattle.copy_vault.specs.declared.slots.Mark.{Mark}
-use Rattle.copy_vault.specs.declared.slots.Mark.TheVariants.{Undecided}
+use Rattle.copy_vault.specs.declared.slots.PlacedDecision.{PlacedDecision}
+use Rattle.copy_vault.specs.declared.slots.PlacedDecision.TheVariants.{Undecided}
 use Rattle.copy_vault.specs.Slots.{IsMarked, decisions_by, values}
 use Rattle.copy_vault.proofs.Marks.{marked_none, none_marked}
 use Rattle.copy_vault.proofs.slots.Slots.new.Goals as goal
@@ -16,7 +16,7 @@ invariant_of-result c =
     let few : n < 2 ^ 32 = omega arith in
     let marks = c.loop.invariant ∙ ap (λ k. replicate k Undecided) end in
     let none = ap values c.in_ok-places.ensures.items in
-    subst (λ (ms : List Mark). IsMarked ms (values places.items) n room) (sym marks)
+    subst (λ (ms : List PlacedDecision). IsMarked ms (values places.items) n room) (sym marks)
     (subst (λ (ps : List Page). IsMarked (replicate n Undecided) ps n room) (sym none)
     (marked_none n room few (omega (arith, c.in_ok-places.ensures.exact))))
 

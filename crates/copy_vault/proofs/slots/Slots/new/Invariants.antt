@@ -1,5 +1,5 @@
 use Rattle.std.proofs.Common.{◌≡◌, replicate}
-use Rattle.copy_vault.specs.declared.slots.Mark.TheVariants.{Undecided}
+use Rattle.copy_vault.specs.declared.slots.PlacedDecision.TheVariants.{Undecided}
 use Rattle.copy_vault.proofs.slots.Slots.new.Given as goal
 
 abbrev pub invariant-loop : goal.invariant-loop

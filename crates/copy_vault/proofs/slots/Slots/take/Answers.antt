@@ -4,7 +4,7 @@ use Rattle.std.specs.Prelude.{slice_set}
 use Rattle.std.specs.Vec.{vec_capacity}
 use Rattle.std.proofs.lemmas.List.{length-map, map-append}
 use Rattle.page_core.specs.declared.page.Page.{Page}
-use Rattle.copy_vault.specs.declared.slots.Mark.TheVariants.{Taken}
+use Rattle.copy_vault.specs.declared.slots.PlacedDecision.TheVariants.{Taken}
 use Rattle.copy_vault.specs.Copy.{undecided, decision_at}
 use Rattle.copy_vault.specs.Slots.{IsMarked, decisions_by, values}
 use Rattle.copy_vault.proofs.Marks.{decisions_take, marked_take, place_left}

@@ -5,7 +5,7 @@ use Rattle.log_records.specs.DirtyPage.{entries_of}
 use Rattle.log_records.specs.Log.{Log, StandsAt, page_count, with_next}
 use Rattle.log_history.specs.Linked.{MayFollow}
 use Rattle.fuzzy_ckpt.specs.Ckpt.{AreCovered, CkptView, IsCkptOf, in_pages, in_txns, pages_ckpt}
-use Rattle.fuzzy_ckpt.specs.Steps.{Gathering, HasRoom, end_of, past_pages}
+use Rattle.fuzzy_ckpt.specs.Steps.{Gathering, HasRoomForStep, end_of, past_pages}
 use Rattle.fuzzy_ckpt.proofs.Opens.{lowered}
 use Rattle.fuzzy_ckpt.proofs.PagesSteps.{pool_more, pool_none}
 use Rattle.fuzzy_ckpt.proofs.ckpt.Ckpt+Pages.pages.Goals as goal
@@ -30,7 +30,7 @@ append-requires-clause-stands g c =
     c.requires.pool c.requires.ckpt c.requires.covered
     (c.phase.view_is ∙ ap (λ (v : CkptView ℕ). v.phase) c.self.view_is)
     (c.dirty_from.ensures log c.requires.pool) c.in-Some.is in
-    let few = subst (λ (x : Gathering). HasRoom log.records x.next) it.step c.requires.room in
+    let few = subst (λ (x : Gathering). HasRoomForStep log.records x.next) it.step c.requires.room in
     subst (λ (n : ℕ). StandsAt (page_count log) (end_of log.records) (ChkptPages n c.self.inside.begin pages))
     (sym c.end-lsn.ensures)
     (subst (λ (v : CkptView ℕ). StandsAt (page_count log) (end_of log.records) (ChkptPages (end_of log.records) v.begin pages))

@@ -5,7 +5,7 @@ use Rattle.log_records.specs.Log.{Log, StandsAt, page_count, with_next}
 use Rattle.log_records.specs.Coverage.{Covers}
 use Rattle.log_history.specs.Linked.{MayFollow}
 use Rattle.fuzzy_ckpt.specs.Ckpt.{CkptView, IsCkptOf, Phase, gathered, in_txns, txns_ckpt}
-use Rattle.fuzzy_ckpt.specs.Steps.{Gathering, HasRoom, end_of, txn_record, with_step}
+use Rattle.fuzzy_ckpt.specs.Steps.{Gathering, HasRoomForStep, end_of, txn_record, with_step}
 use Rattle.fuzzy_ckpt.proofs.TxnsSteps.{table_more, table_passed, txns_cover}
 use Rattle.fuzzy_ckpt.proofs.ckpt.Ckpt+Txns.txns.Goals as goal
 
@@ -25,7 +25,7 @@ append-requires-clause-stands g c =
     c.end_of-lsn.ensures.valid
     c.requires.table.linked c.requires.ckpt (c.phase.view_is ∙ ap (λ (v : CkptView ℕ). v.phase) c.self.view_is)
     (c.next_from.ensures log.records c.requires.table) c.in-Some.is in
-    let few = subst (λ (x : Gathering). HasRoom log.records x.next) it.0.step c.requires.room in
+    let few = subst (λ (x : Gathering). HasRoomForStep log.records x.next) it.0.step c.requires.room in
     let made = c.txn_record-next.ensures log.records c.requires.table c.end_of-lsn.ensures.end it.0.still_open it.1
     ∙ ap (λ (v : CkptView ℕ). txn_record log.records v.begin t) c.self.view_is in
     subst (StandsAt (page_count log) (end_of log.records)) (sym made) (it.0.stands few)

@@ -1,9 +1,9 @@
 use Rattle.std.proofs.Common.{sym}
-use Rattle.log_history.specs.declared.mark.Holder.TheVariants.{Nobody, One}
-use Rattle.log_history.specs.Adders.{seats_at}
+use Rattle.log_history.specs.declared.holder_byte.Holder.TheVariants.{Nobody, One}
+use Rattle.log_history.specs.Adders.{rows_at}
 use Rattle.log_history.specs.Claims.{no_hold}
 use Rattle.log_history.proofs.Holds.{hold_in-no_claim}
-use Rattle.log_history.proofs.Taken.{free-nobody, from_nobody, same_seats, taken}
+use Rattle.log_history.proofs.Taken.{free-nobody, from_nobody, same_rows, taken}
 use Rattle.log_history.proofs.claims.Claims.take.Goals as goal
 
 pub returns-in_ok-put-in-Nobody-clause-ok : goal.returns-in_ok-put-in-Nobody-clause-ok
@@ -11,10 +11,10 @@ returns-in_ok-put-in-Nobody-clause-ok c =
     let before = c.args.self.now in
     let page = c.args.page in
     let slot = c.args.slot in
-    let seat = c.args.seat in
-    let there = seats_at before.adders page slot in
+    let row = c.args.row in
+    let there = rows_at before.adders page slot in
     rw c.new.ensures
-    (taken before (record { marks = c.put.new.self; adders = before.adders }) page slot seat c.args.kind no_hold Nobody
-    (One seat c.args.kind) there (sym c.in-Nobody.ensures.holder) (free-nobody there c.args.kind seat)
-    (sym (hold_in-no_claim seat)) c.in_ok-put-in-Nobody.ensures.put (same_seats before page slot)
-    (λ other within. from_nobody seat c.args.kind there other))
+    (taken before (record { marks = c.put.new.self; adders = before.adders }) page slot row c.args.kind no_hold Nobody
+    (One row c.args.kind) there (sym c.in-Nobody.ensures.holder) (free-nobody there c.args.kind row)
+    (sym (hold_in-no_claim row)) c.in_ok-put-in-Nobody.ensures.put (same_rows before page slot)
+    (λ other within. from_nobody row c.args.kind there other))

@@ -1,6 +1,6 @@
 use Rattle.std.proofs.Common.{◌∙◌, ap, arith, set}
 use Rattle.log_history.specs.Table.{compensated}
-use Rattle.log_history.proofs.Losing.{in-order, in-seats, view-at, view-set}
+use Rattle.log_history.proofs.Losing.{in-order, in-rows, view-at, view-set}
 use Rattle.log_history.proofs.losers.Losers.compensate.Goals as goal
 
 pub index-requires : goal.index-requires
@@ -15,9 +15,9 @@ index-requires c =
 pub index_mut-entry-requires : goal.index_mut-entry-requires
 index_mut-entry-requires c =
     let list = c.self.inside.list in
-    let low = in-seats list c.args.self.now c.self.invariant c.self.view_is c.args.place c.requires c.index.result.now
+    let low = in-rows list c.args.self.now c.self.invariant c.self.view_is c.args.place c.requires c.index.result.now
     c.index.ensures in
-    omega (arith, low, list.seats.ok.0)
+    omega (arith, low, list.rows.ok.0)
 
 pub returns : goal.returns
 returns c = λ d.

@@ -3,7 +3,7 @@ use Rattle.std.proofs.Math.Seq.{set-append_seam}
 use Rattle.std.proofs.lemmas.List.{length-map, length_push, map_push}
 use Rattle.log_history.specs.OpenEntry.{entry_view}
 use Rattle.log_history.specs.OpenList.{entries_in}
-use Rattle.log_history.proofs.Losing.{in-order, in-seats, view-set}
+use Rattle.log_history.proofs.Losing.{in-order, in-rows, view-set}
 use Rattle.log_history.proofs.losers.Losers.push.Goals as goal
 
 pub index-requires : goal.index-requires
@@ -24,9 +24,9 @@ index_mut-entry-requires c =
     let old = entries_in c.self.inside.list in
     let long = length-map (entries_in list) entry_view in
     let more = ap length added.entries ∙ length_push old added.entry in
-    let low = in-seats list (map entry_view (entries_in list)) c.in_ok-add.ensures.sound refl c.len-place.result
+    let low = in-rows list (map entry_view (entries_in list)) c.in_ok-add.ensures.sound refl c.len-place.result
     (omega (arith, long, more, c.len-place.ensures)) c.index.result.now c.index.ensures in
-    omega (arith, low, list.seats.ok.0)
+    omega (arith, low, list.rows.ok.0)
 
 pub returns-clause-ok : goal.returns-clause-ok
 returns-clause-ok c =

@@ -2,17 +2,17 @@ use Rattle.std.proofs.Common.{◌<◌, Contains, All, refl, sym, subst}
 use Rattle.std.proofs.lemmas.List.Elements.{All-more}
 use Rattle.log_history.specs.declared.open_entry.OpenEntry.{OpenEntry}
 use Rattle.log_history.specs.OpenList.{entries_in}
-use Rattle.log_history.proofs.Seatings.{meets, met-all}
+use Rattle.log_history.proofs.RowPlaces.{meets, met-all}
 use Rattle.log_history.proofs.open_list.OpenList.are_among.Goals as goal
 
-pub loop-seat-preserved : goal.loop-seat-preserved
-loop-seat-preserved c =
+pub loop-row-preserved : goal.loop-row-preserved
+loop-row-preserved c =
     let list = c.args.self.now in
     let x = c.index.result.now in
     let P : OpenEntry → Type 0 = λ e. e.first < c.args.lsn → Contains c.args.txns.now e.txn in
-    let here = meets list.order.items c.deref-seat-items.result.now list.seats.items list.taken c.loop-seat.seat-index x
-    c.requires c.deref-seat-items.ensures.value c.loop-seat-test.true c.index.ensures in
-    All-more P (entries_in list) c.loop-seat.seat-index x here.0 c.loop-seat.invariant
+    let here = meets list.order.items c.deref-row-items.result.now list.rows.items list.taken c.loop-row.row-index x
+    c.requires c.deref-row-items.ensures.value c.loop-row-test.true c.index.ensures in
+    All-more P (entries_in list) c.loop-row.row-index x here.0 c.loop-row.invariant
     (subst P (sym here.1) (c.is_listed.ensures.0 c.if-not-is_listed.false))
 
 pub returns : goal.returns
@@ -20,9 +20,9 @@ returns c =
     let list = c.args.self.now in
     let P : OpenEntry → Type 0 = λ e. e.first < c.args.lsn → Contains c.args.txns.now e.txn in (
       λ yes. subst (All P)
-          (met-all list.order.items c.deref-seat-items.result.now list.seats.items list.taken c.loop-seat.seat-index
-          c.requires c.deref-seat-items.ensures.value c.loop-seat-test.false)
-          c.loop-seat.invariant,
+          (met-all list.order.items c.deref-row-items.result.now list.rows.items list.taken c.loop-row.row-index
+          c.requires c.deref-row-items.ensures.value c.loop-row-test.false)
+          c.loop-row.invariant,
       λ all. refl,
     )
 
@@ -31,8 +31,8 @@ returns-then-not-is_listed c =
     let list = c.args.self.now in
     let x = c.index.result.now in
     let P : OpenEntry → Type 0 = λ e. e.first < c.args.lsn → Contains c.args.txns.now e.txn in
-    let here = meets list.order.items c.deref-seat-items.result.now list.seats.items list.taken c.loop-seat.seat-index x
-    c.requires c.deref-seat-items.ensures.value c.loop-seat-test.true c.index.ensures in (
+    let here = meets list.order.items c.deref-row-items.result.now list.rows.items list.taken c.loop-row.row-index x
+    c.requires c.deref-row-items.ensures.value c.loop-row-test.true c.index.ensures in (
       λ yes. cc,
-      λ all. c.if-not-is_listed.ensures.1 (subst P here.1 (all c.loop-seat.seat-index x here.0)),
+      λ all. c.if-not-is_listed.ensures.1 (subst P here.1 (all c.loop-row.row-index x here.0)),
     )

@@ -5,31 +5,31 @@ use Rattle.std.specs.List.{find}
 use Rattle.log_history.specs.declared.open_entry.OpenEntry.{OpenEntry}
 use Rattle.log_history.specs.OpenList.{entries_in}
 use Rattle.log_history.proofs.Firsts.{find-first, find-more}
-use Rattle.log_history.proofs.Seatings.{below-seats, ge-leb, meets, met-all}
+use Rattle.log_history.proofs.RowPlaces.{below-rows, ge-leb, meets, met-all}
 use Rattle.log_history.proofs.open_list.OpenList.first_from.Goals as goal
 
 pub returns-then-ge-clause-first : goal.returns-then-ge-clause-first
 returns-then-ge-clause-first c = λ d.
     let list = c.args.self.now in
     let x = c.index.result.now in
-    let here = meets list.order.items c.deref-seat-items.result.now list.seats.items list.taken c.loop-seat.seat-index x
-    c.requires c.deref-seat-items.ensures.value c.loop-seat-test.true c.index.ensures in
-    let seat = get_or c.deref-seat-items.result.now c.loop-seat.seat-index 0 in
-    let below : seat < length list.seats.items =
-    below-seats list.order.items c.deref-seat-items.result.now list.seats.items list.taken c.loop-seat.seat-index
-    c.requires c.deref-seat-items.ensures.value c.loop-seat-test.true in
-    find-first (λ e. leb c.args.from e.txn) (entries_in list) c.loop-seat.seat-index x here.0 c.loop-seat.invariant
+    let here = meets list.order.items c.deref-row-items.result.now list.rows.items list.taken c.loop-row.row-index x
+    c.requires c.deref-row-items.ensures.value c.loop-row-test.true c.index.ensures in
+    let row = get_or c.deref-row-items.result.now c.loop-row.row-index 0 in
+    let below : row < length list.rows.items =
+    below-rows list.order.items c.deref-row-items.result.now list.rows.items list.taken c.loop-row.row-index
+    c.requires c.deref-row-items.ensures.value c.loop-row-test.true in
+    find-first (λ e. leb c.args.from e.txn) (entries_in list) c.loop-row.row-index x here.0 c.loop-row.invariant
     (ap (λ (e : OpenEntry). leb c.args.from e.txn) here.1 ∙ sym (ge-leb x.txn c.args.from) ∙ sym c.ge.ensures
     ∙ c.if-ge.true)
-    ∙ ap Some (here.1 ∙ c.index.ensures ∙ get_or_default list.seats.items seat x d below)
+    ∙ ap Some (here.1 ∙ c.index.ensures ∙ get_or_default list.rows.items row x d below)
 
-pub loop-seat-preserved : goal.loop-seat-preserved
-loop-seat-preserved c =
+pub loop-row-preserved : goal.loop-row-preserved
+loop-row-preserved c =
     let list = c.args.self.now in
     let x = c.index.result.now in
-    let here = meets list.order.items c.deref-seat-items.result.now list.seats.items list.taken c.loop-seat.seat-index x
-    c.requires c.deref-seat-items.ensures.value c.loop-seat-test.true c.index.ensures in
-    find-more (λ e. leb c.args.from e.txn) (entries_in list) c.loop-seat.seat-index x here.0 c.loop-seat.invariant
+    let here = meets list.order.items c.deref-row-items.result.now list.rows.items list.taken c.loop-row.row-index x
+    c.requires c.deref-row-items.ensures.value c.loop-row-test.true c.index.ensures in
+    find-more (λ e. leb c.args.from e.txn) (entries_in list) c.loop-row.row-index x here.0 c.loop-row.invariant
     (ap (λ (e : OpenEntry). leb c.args.from e.txn) here.1 ∙ sym (ge-leb x.txn c.args.from) ∙ sym c.ge.ensures
     ∙ c.if-ge.false)
 
@@ -37,6 +37,6 @@ pub returns-clause-none : goal.returns-clause-none
 returns-clause-none c = λ none.
     let list = c.args.self.now in
     ap (λ xs. find (λ e. leb c.args.from e.txn) xs)
-    (sym (met-all list.order.items c.deref-seat-items.result.now list.seats.items list.taken c.loop-seat.seat-index
-    c.requires c.deref-seat-items.ensures.value c.loop-seat-test.false))
-    ∙ c.loop-seat.invariant
+    (sym (met-all list.order.items c.deref-row-items.result.now list.rows.items list.taken c.loop-row.row-index
+    c.requires c.deref-row-items.ensures.value c.loop-row-test.false))
+    ∙ c.loop-row.invariant

@@ -3,22 +3,22 @@ use Rattle.std.specs.List.{sum_by}
 use Rattle.log_history.specs.OpenEntry.{entry_view}
 use Rattle.log_history.specs.OpenList.{entries_in}
 use Rattle.log_history.specs.Table.{owed_by_entry}
-use Rattle.log_history.proofs.Seatings.{meets, met-all, owed-more}
+use Rattle.log_history.proofs.RowPlaces.{meets, met-all, owed-more}
 use Rattle.log_history.proofs.open_list.OpenList.owed.Goals as goal
 
-pub loop-seat-preserved : goal.loop-seat-preserved
-loop-seat-preserved c =
+pub loop-row-preserved : goal.loop-row-preserved
+loop-row-preserved c =
     let list = c.args.self.now in
     let x = c.index.result.now in
-    let here = meets list.order.items c.deref-seat-items.result.now list.seats.items list.taken c.loop-seat.seat-index x
-    c.requires c.deref-seat-items.ensures.value c.loop-seat-test.true c.index.ensures in
-    owed-more (entries_in list) c.loop-seat.seat-index x c.loop-seat.owed c.owed.result
-    c.saturating_add-owed.result here.0 here.1 c.loop-seat.invariant c.owed.ensures c.saturating_add-owed.ensures
+    let here = meets list.order.items c.deref-row-items.result.now list.rows.items list.taken c.loop-row.row-index x
+    c.requires c.deref-row-items.ensures.value c.loop-row-test.true c.index.ensures in
+    owed-more (entries_in list) c.loop-row.row-index x c.loop-row.owed c.owed.result
+    c.saturating_add-owed.result here.0 here.1 c.loop-row.invariant c.owed.ensures c.saturating_add-owed.ensures
 
 pub returns : goal.returns
 returns c =
     let list = c.args.self.now in
-    c.loop-seat.invariant
+    c.loop-row.invariant
     ∙ ap (λ xs. min (sum_by (λ e. owed_by_entry (entry_view e)) xs) 18446744073709551615)
-    (met-all list.order.items c.deref-seat-items.result.now list.seats.items list.taken c.loop-seat.seat-index
-    c.requires c.deref-seat-items.ensures.value c.loop-seat-test.false)
+    (met-all list.order.items c.deref-row-items.result.now list.rows.items list.taken c.loop-row.row-index
+    c.requires c.deref-row-items.ensures.value c.loop-row-test.false)

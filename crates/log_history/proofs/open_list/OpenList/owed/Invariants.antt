@@ -5,6 +5,6 @@ use Rattle.log_history.specs.OpenList.{entries_in}
 use Rattle.log_history.specs.Table.{owed_by_entry}
 use Rattle.log_history.proofs.open_list.OpenList.owed.Given as goal
 
-abbrev pub invariant-loop-seat : goal.invariant-loop-seat
-invariant-loop-seat l = l.owed ≡ min (sum_by (λ e. owed_by_entry (entry_view e))
-    (take l.seat-index (entries_in l.self))) 18446744073709551615
+abbrev pub invariant-loop-row : goal.invariant-loop-row
+invariant-loop-row l = l.owed ≡ min (sum_by (λ e. owed_by_entry (entry_view e))
+    (take l.row-index (entries_in l.self))) 18446744073709551615

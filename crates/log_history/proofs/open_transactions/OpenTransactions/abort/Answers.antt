@@ -1,16 +1,16 @@
 use Rattle.std.proofs.Common.{◌∙◌, ap, refl, sym}
 use Rattle.std.proofs.lemmas.Bool.{false≢true}
 use Rattle.log_history.specs.OpenList.{entries_in}
-use Rattle.log_history.specs.Table.{Entry, IsActiveEntry, Table, entry_after, with_entry}
+use Rattle.log_history.specs.Table.{TxnEntry, IsActiveEntry, Table, entry_after, with_entry}
 use Rattle.log_records.specs.declared.record.Record.TheVariants.{Abort}
-use Rattle.log_history.proofs.Stored.{keeps-alone, nobody-here, said-here, says-here, seated-put, tracks-seat}
+use Rattle.log_history.proofs.Stored.{keeps-alone, nobody-here, said-here, says-here, in_rows-put, tracks-row}
 use Rattle.log_history.proofs.Stored.{view-changed, view-stays}
 use Rattle.log_history.proofs.open_transactions.OpenTransactions.abort.Goals as goal
 
 pub returns-in_default : goal.returns-in_default
 returns-in_default c = (
   nobody-here c.self.inside.begun c.args.txn (entries_in c.self.inside.list) c.args.self.now (IsActiveEntry c.args.prev)
-      c.self.view_is (c.seat_of.ensures.none c.in_default.is),
+      c.self.view_is (c.row_of.ensures.none c.in_default.is),
   refl,
 )
 
@@ -29,12 +29,12 @@ pub invariant_of-self-2 : goal.invariant_of-self-2
 invariant_of-self-2 c =
     let is = c.abort.ensures in
     record {
-      seated = seated-put c.self.invariant c.in-Some.ensures.found c.index_mut-entry.ensures.value c.abort.new.self
+      in_rows = in_rows-put c.self.invariant c.in-Some.ensures.found c.index_mut-entry.ensures.value c.abort.new.self
           is.same.0;
-      tracks = tracks-seat c.self.invariant c.in-Some.ensures.found c.index_mut-entry.ensures.value c.abort.new.self
+      tracks = tracks-row c.self.invariant c.in-Some.ensures.found c.index_mut-entry.ensures.value c.abort.new.self
           c.self.inside.claims
           (keeps-alone c.self.invariant c.in-Some.ensures.found c.index_mut-entry.ensures.value c.abort.new.self
-          (ap (λ (v : Entry). v.txn) is.entry) is.same.0 is.same.1);
+          (ap (λ (v : TxnEntry). v.txn) is.entry) is.same.0 is.same.1);
     }
 
 pub returns : goal.returns

@@ -2,7 +2,7 @@ use Rattle.std.proofs.Common.{◌∙◌, ap, refl, sym}
 use Rattle.std.proofs.lemmas.Bool.{false≢true}
 use Rattle.log_history.specs.OpenList.{entries_in}
 use Rattle.log_history.specs.Table.{IsActiveEntry, Table, without_entry}
-use Rattle.log_history.proofs.Stored.{at-seat, nobody-here, said-here, says-here, sits-still, stored-gone, view-gone}
+use Rattle.log_history.proofs.Stored.{at-row, nobody-here, said-here, says-here, sits-still, stored-gone, view-gone}
 use Rattle.log_history.proofs.Stored.{view-stays}
 use Rattle.log_history.proofs.Tracked.{held-at}
 use Rattle.log_history.proofs.open_transactions.OpenTransactions.commit.Goals as goal
@@ -10,7 +10,7 @@ use Rattle.log_history.proofs.open_transactions.OpenTransactions.commit.Goals as
 pub returns-in_default : goal.returns-in_default
 returns-in_default c = λ lsn. (
   nobody-here c.self.inside.begun c.args.txn (entries_in c.self.inside.list) c.args.self.now (IsActiveEntry c.args.prev)
-      c.self.view_is (c.seat_of.ensures.none c.in_default.is),
+      c.self.view_is (c.row_of.ensures.none c.in_default.is),
   refl,
 )
 
@@ -27,7 +27,7 @@ returns-then-not-is_active c = λ lsn. (
 
 pub release-requires-clause-held : goal.release-requires-clause-held
 release-requires-clause-held c =
-    held-at (at-seat c.self.invariant c.in-Some.ensures.found c.index_mut-entry.ensures.value) c.self.invariant.tracks
+    held-at (at-row c.self.invariant c.in-Some.ensures.found c.index_mut-entry.ensures.value) c.self.invariant.tracks
 
 pub remove-requires-clause-sits : goal.remove-requires-clause-sits
 remove-requires-clause-sits c = (
@@ -39,7 +39,7 @@ pub invariant_of-self-2 : goal.invariant_of-self-2
 invariant_of-self-2 c =
     let sits = c.in-Some.ensures.found in
     stored-gone c.self.invariant sits c.index_mut-entry.ensures.value c.release.new.self c.remove.new.self
-    (c.remove.ensures.order sits.place sits.within sits.seat_is) (ap (λ v. v.items) c.remove.ensures.seats)
+    (c.remove.ensures.order sits.place sits.within sits.row_is) (ap (λ v. v.items) c.remove.ensures.rows)
     c.release.new.claims c.release.ensures.kept c.release.ensures.changes c.remove.ensures.sound
 
 pub returns : goal.returns
@@ -50,7 +50,7 @@ returns c = λ lsn.
           (IsActiveEntry c.args.prev) (c.is_active.ensures.0 c.if-not-is_active.false),
       ap (λ es. let v : Table = record { begun = c.self.inside.begun; entries = es } in v)
           (sym (view-gone c.self.invariant sits c.index_mut-entry.ensures.value c.release.new.self c.remove.new.self
-          (c.remove.ensures.order sits.place sits.within sits.seat_is) (ap (λ v. v.items) c.remove.ensures.seats)
-          kept.txn kept.seat))
+          (c.remove.ensures.order sits.place sits.within sits.row_is) (ap (λ v. v.items) c.remove.ensures.rows)
+          kept.txn kept.row))
           ∙ ap (λ (v : Table). without_entry v c.args.txn) c.self.view_is,
     )

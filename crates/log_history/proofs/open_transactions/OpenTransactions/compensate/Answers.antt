@@ -6,7 +6,7 @@ use Rattle.std.specs.Option.{IsSomeAnd}
 use Rattle.log_history.specs.Linked.{Compensates}
 use Rattle.log_history.specs.Transactions.{last_of}
 use Rattle.log_records.specs.declared.record.Record.TheVariants.{Comp}
-use Rattle.log_history.proofs.Stored.{at-seat, nobody-here, said-here, says-here, seated-put, tracks-seat, view-changed}
+use Rattle.log_history.proofs.Stored.{at-row, nobody-here, said-here, says-here, in_rows-put, tracks-row, view-changed}
 use Rattle.log_history.proofs.Stored.{view-stays}
 use Rattle.log_history.proofs.Tracked.{held-at}
 use Rattle.log_history.proofs.open_transactions.OpenTransactions.compensate.Goals as goal
@@ -16,7 +16,7 @@ returns-in_default c = (
   nobody-here c.self.inside.begun c.args.txn (entries_in c.self.inside.list) c.args.self.now
       (λ e. IsChained c.args.prev e
       × IsSomeAnd (last_of e.pending) (Compensates c.args.undo_next c.args.page c.args.slot c.args.change))
-      c.self.view_is (c.seat_of.ensures.none c.in_default.is),
+      c.self.view_is (c.row_of.ensures.none c.in_default.is),
   refl,
 )
 
@@ -34,15 +34,15 @@ returns-then-not-may_compensate c = (
 
 pub compensate-requires-clause-held : goal.compensate-requires-clause-held
 compensate-requires-clause-held c =
-    held-at (at-seat c.self.invariant c.in-Some.ensures.found c.index_mut-entry.ensures.value) c.self.invariant.tracks
+    held-at (at-row c.self.invariant c.in-Some.ensures.found c.index_mut-entry.ensures.value) c.self.invariant.tracks
 
 pub invariant_of-self-2 : goal.invariant_of-self-2
 invariant_of-self-2 c =
     let kept = c.compensate.ensures.kept in
     record {
-      seated = seated-put c.self.invariant c.in-Some.ensures.found c.index_mut-entry.ensures.value
-          c.compensate.new.self kept.seat;
-      tracks = tracks-seat c.self.invariant c.in-Some.ensures.found c.index_mut-entry.ensures.value
+      in_rows = in_rows-put c.self.invariant c.in-Some.ensures.found c.index_mut-entry.ensures.value
+          c.compensate.new.self kept.row;
+      tracks = tracks-row c.self.invariant c.in-Some.ensures.found c.index_mut-entry.ensures.value
           c.compensate.new.self c.compensate.new.claims kept;
     }
 

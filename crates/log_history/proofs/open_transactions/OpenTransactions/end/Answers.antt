@@ -2,14 +2,14 @@ use Rattle.std.proofs.Common.{◌≡◌, ◌∙◌, [], ap, refl, sym}
 use Rattle.std.proofs.lemmas.Bool.{false≢true}
 use Rattle.log_history.specs.OpenList.{entries_in}
 use Rattle.log_history.specs.Table.{IsChained, Table, without_entry}
-use Rattle.log_history.proofs.Stored.{keeps-itself, no-changes, nobody-here, said-here, same-seats, says-here}
+use Rattle.log_history.proofs.Stored.{keeps-itself, no-changes, nobody-here, said-here, same-rows, says-here}
 use Rattle.log_history.proofs.Stored.{stored-gone, view-gone}
 use Rattle.log_history.proofs.open_transactions.OpenTransactions.end.Goals as goal
 
 pub returns-in_default : goal.returns-in_default
 returns-in_default c = λ lsn. (
   nobody-here c.self.inside.begun c.args.txn (entries_in c.self.inside.list) c.args.self.now
-      (λ e. IsChained c.args.prev e × (e.pending ≡ [])) c.self.view_is (c.seat_of.ensures.none c.in_default.is),
+      (λ e. IsChained c.args.prev e × (e.pending ≡ [])) c.self.view_is (c.row_of.ensures.none c.in_default.is),
   refl,
 )
 
@@ -27,8 +27,8 @@ invariant_of-self c =
     let x = c.index.result.now in
     let may = c.may_end.ensures.0 c.if-not-may_end.false in
     stored-gone c.self.invariant sits c.index.ensures x c.remove.new.self
-    (c.remove.ensures.order sits.place sits.within sits.seat_is)
-    (ap (λ v. v.items) c.remove.ensures.seats ∙ same-seats c.self.invariant sits c.index.ensures)
+    (c.remove.ensures.order sits.place sits.within sits.row_is)
+    (ap (λ v. v.items) c.remove.ensures.rows ∙ same-rows c.self.invariant sits c.index.ensures)
     c.self.inside.claims (keeps-itself c.self.invariant sits c.index.ensures) (no-changes x.pending.items may.1)
     c.remove.ensures.sound
 
@@ -40,7 +40,7 @@ returns c = λ lsn.
           (λ e. IsChained c.args.prev e × (e.pending ≡ [])) (c.may_end.ensures.0 c.if-not-may_end.false),
       ap (λ es. let v : Table = record { begun = c.self.inside.begun; entries = es } in v)
           (sym (view-gone c.self.invariant sits c.index.ensures x c.remove.new.self
-          (c.remove.ensures.order sits.place sits.within sits.seat_is)
-          (ap (λ v. v.items) c.remove.ensures.seats ∙ same-seats c.self.invariant sits c.index.ensures) refl refl))
+          (c.remove.ensures.order sits.place sits.within sits.row_is)
+          (ap (λ v. v.items) c.remove.ensures.rows ∙ same-rows c.self.invariant sits c.index.ensures) refl refl))
           ∙ ap (λ (v : Table). without_entry v c.args.txn) c.self.view_is,
     )

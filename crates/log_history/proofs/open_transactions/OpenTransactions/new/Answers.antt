@@ -5,7 +5,7 @@ use Rattle.log_history.proofs.open_transactions.OpenTransactions.new.Goals as go
 
 pub invariant_of-result : goal.invariant_of-result
 invariant_of-result c = record {
-  seated = c.new.ensures.sound;
+  in_rows = c.new.ensures.sound;
   tracks = subst (λ xs. Tracks 0 c.new-2.result xs) (sym c.new.ensures.empty)
       (tracks-nil c.new-2.result c.new-2.ensures);
 }

@@ -1,18 +1,18 @@
 use Rattle.std.proofs.Common.{◌∙◌, ap, sym, subst}
 use Rattle.log_history.specs.OpenList.{entries_in}
-use Rattle.log_history.specs.OpenEntry.{KeepsSeat}
+use Rattle.log_history.specs.OpenEntry.{KeepsRow}
 use Rattle.log_history.specs.Ahead.{entry_with_before, with_changed}
 use Rattle.log_history.specs.Table.{Table}
-use Rattle.log_history.proofs.Stored.{at-seat, keeps-claims, nobody-open, seated-put, tracks-seat, view-changed}
+use Rattle.log_history.proofs.Stored.{at-row, keeps-claims, nobody-open, in_rows-put, tracks-row, view-changed}
 use Rattle.log_history.proofs.open_transactions.OpenTransactions.set_before.Goals as goal
 
 pub invariant_of-self : goal.invariant_of-self
 invariant_of-self c =
     let is = c.set_before.ensures in
     record {
-      seated = seated-put c.self.invariant c.in-Some.ensures.found c.index_mut-entry.ensures.value
+      in_rows = in_rows-put c.self.invariant c.in-Some.ensures.found c.index_mut-entry.ensures.value
           c.set_before.new.self is.same.1;
-      tracks = tracks-seat c.self.invariant c.in-Some.ensures.found c.index_mut-entry.ensures.value
+      tracks = tracks-row c.self.invariant c.in-Some.ensures.found c.index_mut-entry.ensures.value
           c.set_before.new.self c.self.inside.claims
           (keeps-claims c.self.invariant c.in-Some.ensures.found c.index_mut-entry.ensures.value c.set_before.new.self
           is.same.0 is.same.1 (is.held c.self.inside.claims));
@@ -28,4 +28,4 @@ returns-in-Some c here =
 pub returns-in_default : goal.returns-in_default
 returns-in_default c here =
     absurd (nobody-open c.self.inside.begun c.args.txn (entries_in c.self.inside.list) c.args.self.now c.self.view_is
-    (c.seat_of.ensures.none c.in_default.is) here)
+    (c.row_of.ensures.none c.in_default.is) here)

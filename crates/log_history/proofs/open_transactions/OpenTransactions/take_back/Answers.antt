@@ -2,21 +2,21 @@ use Rattle.std.proofs.Common.{◌∙◌, ap, sym}
 use Rattle.log_history.specs.OpenList.{entries_in}
 use Rattle.log_history.specs.Ahead.{entry_back, with_changed}
 use Rattle.log_history.specs.Table.{Table}
-use Rattle.log_history.proofs.Stored.{at-seat, nobody-open, seated-put, tracks-seat, view-changed}
+use Rattle.log_history.proofs.Stored.{at-row, nobody-open, in_rows-put, tracks-row, view-changed}
 use Rattle.log_history.proofs.Tracked.{held-at}
 use Rattle.log_history.proofs.open_transactions.OpenTransactions.take_back.Goals as goal
 
 pub take_back-requires-clause-held : goal.take_back-requires-clause-held
 take_back-requires-clause-held c =
-    held-at (at-seat c.self.invariant c.in-Some.ensures.found c.index_mut-entry.ensures.value) c.self.invariant.tracks
+    held-at (at-row c.self.invariant c.in-Some.ensures.found c.index_mut-entry.ensures.value) c.self.invariant.tracks
 
 pub invariant_of-self : goal.invariant_of-self
 invariant_of-self c =
     let kept = c.take_back.ensures.kept in
     record {
-      seated = seated-put c.self.invariant c.in-Some.ensures.found c.index_mut-entry.ensures.value
-          c.take_back.new.self kept.seat;
-      tracks = tracks-seat c.self.invariant c.in-Some.ensures.found c.index_mut-entry.ensures.value
+      in_rows = in_rows-put c.self.invariant c.in-Some.ensures.found c.index_mut-entry.ensures.value
+          c.take_back.new.self kept.row;
+      tracks = tracks-row c.self.invariant c.in-Some.ensures.found c.index_mut-entry.ensures.value
           c.take_back.new.self c.take_back.new.claims kept;
     }
 
@@ -30,4 +30,4 @@ returns-in-Some c here =
 pub returns-in_default : goal.returns-in_default
 returns-in_default c here =
     absurd (nobody-open c.self.inside.begun c.args.txn (entries_in c.self.inside.list) c.args.self.now c.self.view_is
-    (c.seat_of.ensures.none c.in_default.is) here)
+    (c.row_of.ensures.none c.in_default.is) here)

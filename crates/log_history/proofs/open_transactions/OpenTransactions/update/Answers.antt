@@ -5,14 +5,14 @@ use Rattle.log_history.specs.OpenEntry.{Updates}
 use Rattle.log_history.specs.OpenList.{entries_in}
 use Rattle.log_history.specs.Table.{IsActiveEntry, Table}
 use Rattle.log_history.proofs.Barred.{notes-update}
-use Rattle.log_history.proofs.Stored.{at-seat, nobody-here, said-here, seated-put, tracks-seat, view-stays}
+use Rattle.log_history.proofs.Stored.{at-row, nobody-here, said-here, in_rows-put, tracks-row, view-stays}
 use Rattle.log_history.proofs.Tracked.{held-at}
 use Rattle.log_history.proofs.open_transactions.OpenTransactions.update.Goals as goal
 
 pub returns-in_default-clause-ok : goal.returns-in_default-clause-ok
 returns-in_default-clause-ok c = (
   λ may. nobody-here c.self.inside.begun c.args.txn (entries_in c.self.inside.list) c.args.self.now
-      (IsActiveEntry c.args.change.prev) c.self.view_is (c.seat_of.ensures.none c.in_default.is) may.0,
+      (IsActiveEntry c.args.change.prev) c.self.view_is (c.row_of.ensures.none c.in_default.is) may.0,
   refl,
 )
 
@@ -29,15 +29,15 @@ returns-then-not-is_active-clause-ok c = (
 
 pub update-requires-clause-held : goal.update-requires-clause-held
 update-requires-clause-held c =
-    held-at (at-seat c.self.invariant c.in-Some.ensures.found c.index_mut-entry.ensures.value) c.self.invariant.tracks
+    held-at (at-row c.self.invariant c.in-Some.ensures.found c.index_mut-entry.ensures.value) c.self.invariant.tracks
 
 pub invariant_of-self-2 : goal.invariant_of-self-2
 invariant_of-self-2 c =
     let kept = c.update.ensures.kept in
     record {
-      seated = seated-put c.self.invariant c.in-Some.ensures.found c.index_mut-entry.ensures.value c.update.new.self
-          kept.seat;
-      tracks = tracks-seat c.self.invariant c.in-Some.ensures.found c.index_mut-entry.ensures.value c.update.new.self
+      in_rows = in_rows-put c.self.invariant c.in-Some.ensures.found c.index_mut-entry.ensures.value c.update.new.self
+          kept.row;
+      tracks = tracks-row c.self.invariant c.in-Some.ensures.found c.index_mut-entry.ensures.value c.update.new.self
           c.update.new.claims kept;
     }
 

@@ -2,7 +2,7 @@ use Rattle.std.proofs.Common.{◌≡◌, ◌∙◌, ◌+◌, arith, length, slic
 use Rattle.std.proofs.lemmas.Bool.{leb-false, leb-true}
 use Rattle.std.specs.Option.{option_and_then}
 use Rattle.log_history.specs.Transactions.{last_of}
-use Rattle.log_history.proofs.Seatings.{ge-leb}
+use Rattle.log_history.proofs.RowPlaces.{ge-leb}
 use Rattle.loser_undo.specs.UndoRecords.{UndoView}
 use Rattle.loser_undo.proofs.Seen.{Seen, all_seen, idle_here, last_here, still_last}
 use Rattle.loser_undo.proofs.undo_records.UndoRecords.next_place.Goals as goal

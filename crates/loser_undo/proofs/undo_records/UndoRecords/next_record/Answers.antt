@@ -13,13 +13,13 @@ returns-in_err-place c = λ log behind has.
     subst (YieldsNext log behind c.args.self.now) (sym c.from_residual.ensures)
     (yields_none log behind c.args.self.now has c.in_err-place.ensures)
 
-pub take_back-requires-clause-place : goal.take_back-requires-clause-place
-take_back-requires-clause-place c =
+pub compensation_for-requires-clause-place : goal.compensation_for-requires-clause-place
+compensation_for-requires-clause-place c =
     let next = c.in_ok-place.ensures in
     slice_get_within c.args.self.now.losers c.in_ok-place.place next.entry next.there
 
-pub take_back-requires-clause-room : goal.take_back-requires-clause-room
-take_back-requires-clause-room c =
+pub compensation_for-requires-clause-room : goal.compensation_for-requires-clause-room
+compensation_for-requires-clause-room c =
     let next = c.in_ok-place.ensures in
     has_room c.requires.0 c.requires.1.0 c.args.self.now c.requires.1.1 c.in_ok-place.place next.entry next.there
 
@@ -43,12 +43,12 @@ returns-in-Some c = λ log behind has.
     ≡ option_and_then (λ e. last_of e.pending) (slice_get v.losers place)) c.self.view_is
     (sym c.in-Some.is ∙ c.last_pending_at.ensures) in
     let turn = turn_is c.args.self.now.losers place next c.in_ok-state.state (Some c.in-Some.change) found pending in
-    yields_comp log behind c.args.self.now has place next.entry c.in-Some.change c.take_back.result
-    c.take_back.new.self next.there turn.last turn.turn
-    (c.take_back.ensures.made ∙ turn.state_is (λ s. Comp (Rattle.log_records.specs.Log.lsn_of c.args.self.now.count)
+    yields_comp log behind c.args.self.now has place next.entry c.in-Some.change c.compensation_for.result
+    c.compensation_for.new.self next.there turn.last turn.turn
+    (c.compensation_for.ensures.made ∙ turn.state_is (λ s. Comp (Rattle.log_records.specs.Log.lsn_of c.args.self.now.count)
     s.txn s.last c.in-Some.change.prev c.in-Some.change.page c.in-Some.change.slot
     (Rattle.page_core.specs.Change.undo_of c.in-Some.change.change)))
-    (c.take_back.ensures.left next.entry)
+    (c.compensation_for.ensures.left next.entry)
 
 pub returns-in-None : goal.returns-in-None
 returns-in-None c = λ log behind has.

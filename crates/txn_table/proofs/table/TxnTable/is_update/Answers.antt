@@ -2,7 +2,7 @@ use Rattle.std.proofs.Common.{◌≡◌, ◌-◌, None, ap, sym, subst, ◌∙�
 use Rattle.std.specs.Prelude.{MatchOption, Some, IsSomeAnd, IsTrue}
 use Rattle.std.proofs.lemmas.Grind.{common_steps}
 use Rattle.log_history.specs.declared.pending_change.PendingChange.{PendingChange}
-use Rattle.log_history.specs.Table.{Entry, Table, entry_in}
+use Rattle.log_history.specs.Table.{TxnEntry, Table, entry_in}
 use Rattle.log_history.specs.Transactions.{pending}
 use Rattle.txn_table.proofs.Tables.{entry_is}
 use Rattle.txn_table.proofs.table.TxnTable.is_update.Goals as goal
@@ -11,7 +11,7 @@ pub returns-in-Some : goal.returns-in-Some
 returns-in-Some c = λ rs of still.
     let place = c.args.count - 1 in
     let here = subst (λ o. MatchOption o (c.pending_at.result ≡ None)
-    (λ (e : Entry). c.pending_at.result ≡ slice_get e.pending place))
+    (λ (e : TxnEntry). c.pending_at.result ≡ slice_get e.pending place))
     (ap (λ (t : Table). entry_in t c.args.txn) c.self.view_is ∙ entry_is rs c.args.self.now c.args.txn of still)
     c.pending_at.ensures in
     let found : slice_get (pending rs c.args.txn) place ≡ Some c.in-Some.change = sym here ∙ c.in-Some.is in
@@ -25,7 +25,7 @@ pub returns-in-None : goal.returns-in-None
 returns-in-None c = λ rs of still.
     let place = c.args.count - 1 in
     let here = subst (λ o. MatchOption o (c.pending_at.result ≡ None)
-    (λ (e : Entry). c.pending_at.result ≡ slice_get e.pending place))
+    (λ (e : TxnEntry). c.pending_at.result ≡ slice_get e.pending place))
     (ap (λ (t : Table). entry_in t c.args.txn) c.self.view_is ∙ entry_is rs c.args.self.now c.args.txn of still)
     c.pending_at.ensures in
     let found : slice_get (pending rs c.args.txn) place ≡ None = sym here ∙ c.in-None.is in (

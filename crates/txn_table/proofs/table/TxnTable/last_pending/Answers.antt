@@ -2,18 +2,18 @@ use Rattle.std.proofs.Common.{◌≡◌, ap, ◌∙◌}
 use Rattle.std.specs.Prelude.{Option, Some, None, MatchOption}
 use Rattle.std.specs.Option.{option_and_then}
 use Rattle.log_history.specs.declared.pending_change.PendingChange.{PendingChange}
-use Rattle.log_history.specs.Table.{Entry, Table, entry_in}
+use Rattle.log_history.specs.Table.{TxnEntry, Table, entry_in}
 use Rattle.log_history.specs.Transactions.{last_of}
 use Rattle.txn_table.proofs.Tables.{last_pending_is}
 use Rattle.txn_table.proofs.table.TxnTable.last_pending.Goals as goal
 
-said : (o : Option Entry) (r : Option PendingChange) → MatchOption o (r ≡ None) (λ e. r ≡ last_of e.pending)
-    → r ≡ option_and_then (λ (e : Entry). last_of e.pending) o
+said : (o : Option TxnEntry) (r : Option PendingChange) → MatchOption o (r ≡ None) (λ e. r ≡ last_of e.pending)
+    → r ≡ option_and_then (λ (e : TxnEntry). last_of e.pending) o
 said None r h = h
 said (Some e) r h = h
 
 pub returns : goal.returns
 returns c = λ rs of.
     said (entry_in c.self.inside.open c.args.txn) c.last_pending.result c.last_pending.ensures
-    ∙ ap (λ (t : Table). option_and_then (λ (e : Entry). last_of e.pending) (entry_in t c.args.txn)) c.self.view_is
+    ∙ ap (λ (t : Table). option_and_then (λ (e : TxnEntry). last_of e.pending) (entry_in t c.args.txn)) c.self.view_is
     ∙ last_pending_is rs c.args.self.now c.args.txn of

@@ -1,12 +1,12 @@
 use Rattle.std.proofs.Common.{ap, subst, ◌∙◌}
 use Rattle.std.specs.Prelude.{IfSome}
 use Rattle.log_history.specs.CountUpTo.{IsCountUpTo}
-use Rattle.log_history.specs.Table.{Entry, Table, entry_in}
+use Rattle.log_history.specs.Table.{TxnEntry, Table, entry_in}
 use Rattle.txn_table.proofs.Tables.{entry_is}
 use Rattle.txn_table.proofs.table.TxnTable.pending_up_to.Goals as goal
 
 pub returns : goal.returns
 returns c = λ rs of still.
-    subst (λ o. IfSome o (λ (e : Entry). IsCountUpTo e.pending c.args.lsn c.pending_up_to.result))
+    subst (λ o. IfSome o (λ (e : TxnEntry). IsCountUpTo e.pending c.args.lsn c.pending_up_to.result))
     (ap (λ (t : Table). entry_in t c.args.txn) c.self.view_is ∙ entry_is rs c.args.self.now c.args.txn of still)
     c.pending_up_to.ensures

@@ -1,10 +1,10 @@
 -- What a complete copy has decided, in either form.
 use Rattle.std.specs.Prelude.{List}
-use Rattle.copy_vault.specs.declared.pages.Held.{Held}
-use Rattle.copy_vault.specs.declared.pages.Held.TheVariants.{Marked, Rising}
+use Rattle.copy_vault.specs.declared.pages.HeldDecisions.{HeldDecisions}
+use Rattle.copy_vault.specs.declared.pages.HeldDecisions.TheVariants.{Marked, Rising}
 use Rattle.copy_vault.specs.Copy.{PageDecision}
 
 -- what is decided of each page
-abbrev pub decisions_in : Held → List PageDecision
+abbrev pub decisions_in : HeldDecisions → List PageDecision
 decisions_in (Marked slots) = slots
 decisions_in (Rising pages) = pages

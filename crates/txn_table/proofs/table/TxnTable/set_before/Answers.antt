@@ -5,7 +5,7 @@ use Rattle.log_history.specs.Table.{Table, entry_in, owed_in}
 use Rattle.log_history.proofs.Steps.{table_of_push}
 use Rattle.txn_table.specs.TxnTable.{as_read, update_of}
 use Rattle.txn_table.proofs.Ahead.{open_ahead, settled, settled_owed}
-use Rattle.txn_table.proofs.table.TxnTable.settle.Goals as goal
+use Rattle.txn_table.proofs.table.TxnTable.set_before.Goals as goal
 
 pub invariant_of-self : goal.invariant_of-self
 invariant_of-self c fits =

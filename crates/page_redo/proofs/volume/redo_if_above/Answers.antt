@@ -6,7 +6,7 @@ use Rattle.log_records.specs.Image.{with_record}
 use Rattle.page_redo.specs.Redo.{is_above, redone_by}
 use Rattle.log_records.proofs.Changes.{change_within}
 use Rattle.page_redo.proofs.Volumes.{none_redone, one_redone}
-use Rattle.page_redo.proofs.volume.redo_on_its_page.Goals as goal
+use Rattle.page_redo.proofs.volume.redo_if_above.Goals as goal
 
 pub returns-then-is_above : goal.returns-then-is_above
 returns-then-is_above c =

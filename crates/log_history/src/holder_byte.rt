@@ -1,17 +1,17 @@
 //! The holder of a slot, in one byte.
 
 ghost use Rattle.std.specs.Prelude.{◌≡◌};
-ghost use Rattle.log_history.specs.Mark.{HasSeat, holder_of};
+ghost use Rattle.log_history.specs.HolderByte.{HasRow, holder_of};
 
-use crate::seat_set::SEATS;
+use crate::row_set::ROWS;
 use page_core::ChangeKind;
 
 /// Who keeps others from a slot.
 #[derive(Clone, Copy)]
 pub enum Holder {
     Nobody,
-    /// The transaction of one seat: by Adds alone, or by a Set at least.
-    One { seat: u8, kind: ChangeKind },
+    /// The transaction of one row: by Adds alone, or by a Set at least.
+    One { row: u8, kind: ChangeKind },
     /// Transactions that add to the slot. There were several once; which they are now, the mark
     /// does not say.
     Adders,
@@ -19,31 +19,31 @@ pub enum Holder {
 
 /// A holder in one byte, since each slot of a volume has one.
 #[derive(Clone, Copy)]
-pub struct Mark {
-    /// `SEATS` times the number of what is there, and the seat, or 0.
+pub struct HolderByte {
+    /// `ROWS` times the number of what is there, and the row, or 0.
     byte: u8,
 }
 
-impl Mark {
+impl HolderByte {
     /// The mark of a holder.
-    #[tactic(auto, unfolding(crate::specs::Mark::holder_of))]
-    pub fn of(holder: Holder) -> Mark
-        requires { HasSeat holder }
+    #[tactic(auto, unfolding(crate::specs::HolderByte::holder_of))]
+    pub fn of(holder: Holder) -> HolderByte
+        requires { HasRow holder }
         ensures { holder_of result ≡ holder }
     {
         let byte = match holder {
             Holder::Nobody => 0,
             Holder::One {
-                seat,
+                row,
                 kind: ChangeKind::Add,
-            } => SEATS + seat,
+            } => ROWS + row,
             Holder::One {
-                seat,
+                row,
                 kind: ChangeKind::Set,
-            } => 2 * SEATS + seat,
-            Holder::Adders => 3 * SEATS,
+            } => 2 * ROWS + row,
+            Holder::Adders => 3 * ROWS,
         };
-        Mark { byte }
+        HolderByte { byte }
     }
 
     /// The byte.
@@ -52,19 +52,19 @@ impl Mark {
     }
 
     /// The holder that it says.
-    #[tactic(auto, unfolding(crate::specs::Mark::holder_of))]
+    #[tactic(auto, unfolding(crate::specs::HolderByte::holder_of))]
     pub fn holder(self) -> Holder
         ensures holder { result ≡ holder_of self }
-        ensures seat { HasSeat result }
+        ensures row { HasRow result }
     {
-        let seat = self.byte % SEATS;
-        match self.byte / SEATS {
+        let row = self.byte % ROWS;
+        match self.byte / ROWS {
             1 => Holder::One {
-                seat,
+                row,
                 kind: ChangeKind::Add,
             },
             2 => Holder::One {
-                seat,
+                row,
                 kind: ChangeKind::Set,
             },
             3 => Holder::Adders,
