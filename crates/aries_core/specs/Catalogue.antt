@@ -75,7 +75,8 @@ completed (being_read kind marks) = is_complete kind marks
 completed entry = entry
 
 -- an accepted call on copies gives one an id, decides of a page, completes a copy, or drops it
-abbrev pub with_copy_event : ℕ → List CatalogueEntry → Event → Result Answer Refusal → List CatalogueEntry
+abbrev pub with_copy_event : ℕ → List CatalogueEntry → Event → Result Answer Refusal
+    → List CatalogueEntry
 with_copy_event pages entries event.CopyFull (Ok answer) = with_next_copy entries Full pages
 with_copy_event pages entries (event.CopyInc parent) (Ok answer) =
     with_next_copy entries (Inc parent) pages
@@ -87,7 +88,8 @@ with_copy_event pages entries (event.DropCopy copy) (Ok answer) =
     with_entry entries copy was_dropped
 with_copy_event pages entries event reply = entries
 
-abbrev pub catalogue_from : ℕ → List CatalogueEntry → List Event → List (Result Answer Refusal) → List CatalogueEntry
+abbrev pub catalogue_from : ℕ → List CatalogueEntry → List Event → List (Result Answer Refusal)
+    → List CatalogueEntry
 catalogue_from pages entries [] replies = entries
 catalogue_from pages entries (event ∷ events) [] = entries
 catalogue_from pages entries (event ∷ events) (reply ∷ replies) =

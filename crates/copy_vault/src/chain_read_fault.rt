@@ -1,6 +1,7 @@
 //! Why the archives of a chain could not be read side by side.
 
 ghost use Rattle.std.specs.Prelude.{◌≡◌};
+ghost use Rattle.copy_vault.specs.declared.chain_read_fault.ChainReadFault.TheVariants.{};
 ghost use Rattle.copy_vault.specs.declared.chain_read_fault.ChainReadFault.TheVariants.{OutOfMemory};
 
 use crate::copy_id::CopyId;

@@ -5,11 +5,13 @@ ghost use Rattle.std.specs.Prelude.{IfSome, IsSome, Some, None};
 ghost use Rattle.std.specs.Option.{option_map, option_map_or};
 ghost use Rattle.copy_vault.specs.Chain.{IsChain, IsChainOf};
 ghost use Rattle.copy_vault.specs.Reading.{ReadingView};
-ghost use Rattle.copy_vault.specs.Vault.{CopyState, HasRoomForPage, OpenRefuses, answer_in, complete};
+ghost use Rattle.copy_vault.specs.Vault.{CopyState, HasRoomForPage, OpenRefuses, answer_in};
+ghost use Rattle.copy_vault.specs.Vault.{complete};
 ghost use Rattle.copy_vault.specs.Vault.{complete_of, complete_refusal, inc_refusal};
 ghost use Rattle.copy_vault.specs.Vault.{decided, drop_refusal, dropped, open_refusal, opened};
 ghost use Rattle.copy_vault.specs.Vault.{pages_read, reading, reading_of, seal_refusal, sealed};
-ghost use Rattle.copy_vault.specs.Vault.{HasParent, IsOfVault, IsOfId, since_of, state_in, state_of};
+ghost use Rattle.copy_vault.specs.Vault.{HasParent, IsOfVault, IsOfId, since_of, state_in};
+ghost use Rattle.copy_vault.specs.Vault.{state_of};
 ghost use Rattle.copy_vault.specs.Vault.{WaitsFor, sealed_in, taken_in, without};
 ghost use Rattle.copy_vault.specs.declared.copy_id.CopyKind.TheVariants.{Full, Inc};
 ghost use Rattle.copy_vault.specs.declared.vault.VaultEntry.TheVariants as entry;
@@ -183,8 +185,7 @@ impl Vault {
             begin,
             redo,
         };
-        self.entries
-            .push(VaultEntry::Reading(ReadingCopy::new(alloc, start, pages)?))?;
+        self.entries.push(VaultEntry::Reading(ReadingCopy::new(alloc, start, pages)?))?;
         Ok(id)
     }
 

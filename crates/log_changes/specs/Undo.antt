@@ -10,7 +10,8 @@ use Rattle.loser_undo.specs.Losers.{AreLosersOf}
 
 -- the log at whose end these transactions are open has so many records, and these pages; and there
 -- is room for all records that undo may append
-pub record IsToUndo (log : Log) (losers : List TxnEntry) (count : ℕ) (pages : List Page) : Type 0 where
+pub record IsToUndo (log : Log) (losers : List TxnEntry) (count : ℕ) (pages : List Page)
+    : Type 0 where
   pub valid : IsLog log
   pub made : AreLosersOf log.records losers
   pub count_is : count ≡ length log.records

@@ -37,11 +37,7 @@ impl PageAdders {
     {
         match self {
             PageAdders::One { slot: held, rows } => {
-                if *held == slot {
-                    *rows
-                } else {
-                    RowSet::new()
-                }
+                if *held == slot { *rows } else { RowSet::new() }
             }
             PageAdders::Several(sets) => sets.rows(slot),
         }

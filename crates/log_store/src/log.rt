@@ -13,7 +13,7 @@ ghost use Rattle.log_store.specs.WrittenLog.{EndsAtRecord, HasRecordAt, IsWritte
 use crate::device::{DeviceFault, LogDevice};
 use crate::log_image::LogImage;
 use log_records::{MAX_RECORDS, RECORD_BYTES, Record, encode, encode_header};
-use page_core::Lsn;
+use page_core::{LSN_STEP, Lsn};
 use std::alloc::{AllocError, Global};
 use std::marker::Model;
 
@@ -134,7 +134,7 @@ impl<D: LogDevice> Log<D> {
         ensures past_bound { OnErr result (D.fails_from self.old.device
             ≤ end_up_to self.old.log lsn) }
     {
-        let count = self.records.len().min((lsn.0 / 64) as usize);
+        let count = self.records.len().min((lsn.0 / LSN_STEP) as usize);
         for _ in self.forced..count {
             self.force_next()?;
         }
@@ -178,8 +178,8 @@ impl<D: LogDevice> Log<D> {
         ensures found { IfSome result (HasRecordAt self.now.log lsn) }
         ensures only { (r : Record) → HasRecordAt self.now.log lsn r → result ≡ Some r }
     {
-        let index = (lsn.0 / 64).checked_sub(1)?;
-        if lsn.0 % 64 != 0 {
+        let index = (lsn.0 / LSN_STEP).checked_sub(1)?;
+        if lsn.0 % LSN_STEP != 0 {
             return None;
         }
         self.records.get(index as usize).copied()
@@ -270,5 +270,5 @@ fn offset_of(index: usize) -> u64
     requires { index ≤ MAX_RECORDS }
     ensures { result ≡ lsn_of index }
 {
-    64 * (index as u64 + 1)
+    LSN_STEP * (index as u64 + 1)
 }

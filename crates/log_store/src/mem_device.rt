@@ -1,6 +1,7 @@
 //! A device in memory.
 
 ghost use Rattle.std.specs.Prelude.{◌≡◌, ◌+◌, ◌*◌, ◌≤◌, [], length, IfOk};
+ghost use Rattle.page_core.specs.declared.numbers.TheConstants.{LSN_STEP};
 ghost use Rattle.log_store.specs.MemDevice.{Stores, empty_memory, after_failure};
 
 use crate::device::{DeviceFault, LogDevice};
@@ -39,7 +40,7 @@ impl MemDevice {
     /// An empty device with room for a log's header and so many records, 64 bytes each. It takes
     /// all of its memory here. `AllocError` comes where that is refused.
     pub fn new(alloc: Global, records: usize) -> Result<MemDevice, AllocError>
-        ensures { IfOk result (λ device. device ≡ empty_memory (64 * (records + 1))) }
+        ensures { IfOk result (λ device. device ≡ empty_memory (LSN_STEP * (records + 1))) }
     {
         let room = records
             .checked_mul(RECORD_BYTES)

@@ -65,7 +65,8 @@ abbrev pub LeadsToAbort : List Record → Bool → ℕ → List ℕ → Type 0
 LeadsToAbort rs rolling at [] =
     (r : Record) × StandsAtLsn rs at r × (before_comp r ≡ None) × (is_abort r ≡ rolling)
 LeadsToAbort rs rolling at (next ∷ more) =
-    (r : Record) × StandsAtLsn rs at r × (before_comp r ≡ Some next) × LeadsToAbort rs rolling next more
+    (r : Record) × StandsAtLsn rs at r × (before_comp r ≡ Some next)
+    × LeadsToAbort rs rolling next more
 
 -- what the records tell of an open transaction, from its last one back
 pub record IsTraced (rs : List Record) (e : TxnEntry) : Type 0 where

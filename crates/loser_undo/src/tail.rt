@@ -10,7 +10,7 @@ ghost use Rattle.loser_undo.specs.Tail.{IsTailOf, open_txns, told, with_txn, wit
 
 use log_records::Record;
 use log_store::{LogImage, Master};
-use page_core::{LSN_STEP, Lsn, TxnNo};
+use page_core::{Lsn, TxnNo};
 use std::alloc::{AllocError, Global};
 
 /// An open transaction, and the LSN of its last record.
@@ -65,7 +65,7 @@ fn behind(records: &[Record], first: usize) -> &[Record]
 pub(crate) fn count_before(lsn: Lsn) -> usize
     ensures { (n : ℕ) → lsn ≡ lsn_of n → result ≡ n }
 {
-    (lsn.0.saturating_sub(1) / LSN_STEP) as usize
+    lsn.records_below()
 }
 
 /// Notes what a record says of the open transactions.

@@ -7,7 +7,8 @@ ghost use Rattle.log_store.specs.declared.master.Master.{Master};
 ghost use Rattle.copy_vault.specs.Copy.{CopyView};
 ghost use Rattle.media_restore.specs.declared.files_fault.RestoreFault.{RestoreFault};
 ghost use Rattle.media_restore.specs.declared.files_fault.RestoreFault.TheVariants as restore_fault;
-ghost use Rattle.media_restore.specs.Files.{AreCovering, AreSound, HasParts, IsRestoredFrom, Refused};
+ghost use Rattle.media_restore.specs.Files.{AreCovering, AreSound, HasParts, IsRestoredFrom};
+ghost use Rattle.media_restore.specs.Files.{Refused};
 ghost use Rattle.media_restore.specs.Saved.{AreLeft, files_of};
 
 /// What an engine leaves has a spelling, each copy of a chain too, and no page of the chain lacks a

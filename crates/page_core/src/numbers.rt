@@ -1,5 +1,7 @@
 //! Numbers that name a page, a slot of a page, a place in the log, or a transaction.
 
+ghost use Rattle.std.specs.Prelude.{◌≡◌, ◌-◌, ◌/◌};
+
 use std::marker::Model;
 
 /// The number of a page in its volume, counted from 0.
@@ -46,6 +48,16 @@ impl Model for Lsn {
     ghost view = { λ lsn. lsn.0 };
 
     ghost inverse = { λ n. record { 0 = n } };
+}
+
+impl Lsn {
+    /// How many records stand below this LSN in a log that has so many: those of the LSNs
+    /// `LSN_STEP`, `2 * LSN_STEP` and so on. There are none below `LSN_STEP`.
+    pub fn records_below(self) -> usize
+        ensures { result ≡ (self - 1) / LSN_STEP }
+    {
+        (self.0.saturating_sub(1) / LSN_STEP) as usize
+    }
 }
 
 /// The number of a transaction. The first one is 1.

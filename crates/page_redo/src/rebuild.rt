@@ -11,7 +11,7 @@ ghost use Rattle.page_redo.specs.Redo.{redone};
 use crate::redo::redo_page;
 use copy_vault::Chain;
 use log_records::Record;
-use page_core::{LSN_STEP, Lsn, Page, PageNo};
+use page_core::{Lsn, Page, PageNo};
 
 /// A page as media recovery makes it (ARIES, section 8): the chain's page, on which the changes are
 /// redone that stand in the log at or above the chain's redo point and are above that page's LSN,
@@ -38,6 +38,6 @@ fn records_from(log: &[Record], from: Lsn) -> &[Record]
     requires { (pages : ℕ) × IsLog (record { pages = pages; records = log.now }) }
     ensures { (page : Page) → redone page result.now ≡ resume page log.now from }
 {
-    let first = (from.0.saturating_sub(1) / LSN_STEP) as usize;
+    let first = from.records_below();
     &log[first.min(log.len())..]
 }

@@ -13,7 +13,7 @@ use crate::redo::is_above;
 use crate::volume::redo_pages_alone;
 use log_records::Record;
 use log_store::LogImage;
-use page_core::{LSN_STEP, Lsn, Page};
+use page_core::{Lsn, Page};
 use rayon::prelude::*;
 use std::alloc::Global;
 use std::thread::Threads;
@@ -40,7 +40,7 @@ pub fn redo_pages(
     ensures { pages.new ≡ map (λ page. resume page log.now.records from) pages.old }
 {
     let records = log.records();
-    let first = (from.0.saturating_sub(1) / LSN_STEP) as usize;
+    let first = from.records_below();
     if first < records.len() && records.len() - first >= MANY_RECORDS {
         let behind = &records[first..];
         if let Ok(lists) = by_page(alloc, behind, from, pages.len() as u32) {

@@ -9,7 +9,7 @@ ghost use Rattle.page_redo.specs.Redo.{redone_all, redone_by};
 use crate::redo::is_above;
 use log_records::Record;
 use log_store::LogImage;
-use page_core::{LSN_STEP, Lsn, Page};
+use page_core::{Lsn, Page};
 
 /// Redoes the records of a log from a redo point on, over the pages of its volume: on each page the
 /// records at or above that point that are above the page's LSN, in their order. This takes no
@@ -20,7 +20,7 @@ pub fn redo_pages_alone(pages: &mut [Page], log: &LogImage, from: Lsn)
     ensures { pages.new ≡ map (λ page. resume page log.now.records from) pages.old }
 {
     let records = log.records();
-    let first = (from.0.saturating_sub(1) / LSN_STEP) as usize;
+    let first = from.records_below();
     if first < records.len() {
         redo_records(pages, &records[first..]);
     }

@@ -1,7 +1,8 @@
 //! A folder in which files are made by their names.
 
 ghost use Rattle.std.specs.Prelude.{ℕ, ◌≡◌, List, Option, OnOk, OnErr, IfOk};
-ghost use Rattle.saved_files.specs.Folder.{Changes, Entries, FolderEntry, IsMade, IsRemoved, IsRenamed};
+ghost use Rattle.saved_files.specs.Folder.{Changes, Entries, FolderEntry, IsMade, IsRemoved};
+ghost use Rattle.saved_files.specs.Folder.{IsRenamed};
 ghost use Rattle.saved_files.specs.Folder.{IsSame, IsSynced, KeepsOthers, RenamesOrKeeps};
 
 use std::io;

@@ -1,6 +1,7 @@
 //! The numbers that sessions read.
 
 ghost use Rattle.std.specs.Prelude.{ℕ, ◌≡◌, ◌-◌, ◌<◌, ◌≤◌, ◌/◌, ◌^◌, min, length, take};
+ghost use Rattle.page_core.specs.declared.numbers.TheConstants.{LSN_STEP};
 ghost use Rattle.std.specs.Prelude.{slice_index_or};
 ghost use Rattle.std.specs.Prelude.{List, IfErr, IfOk, OnOk};
 ghost use Rattle.std.specs.List.{All};
@@ -46,12 +47,12 @@ fn check_read(
 ) -> Result<usize, Lsn>
     requires log { AreOfVolume (length pages.old) records.now }
     requires so_far { pages.old ≡ redo_all (take redone records.now) (length pages.old) }
-    requires behind { redone ≤ min ((position receipt.now - 1) / 64) (length records.now) }
+    requires behind { redone ≤ min ((position receipt.now - 1) / LSN_STEP) (length records.now) }
     ensures ok { OnOk result (HoldsAsRead records.now receipt.now) }
     ensures redone { IfOk result (λ count.
         pages.new ≡ redo_all (take count records.now) (length pages.old)) }
     ensures count { IfOk result (λ count.
-        count ≤ min ((position receipt.now - 1) / 64) (length records.now)) }
+        count ≤ min ((position receipt.now - 1) / LSN_STEP) (length records.now)) }
     ensures err { IfErr result (λ at. (position receipt.now ≡ at)
         × (¬ HoldsAsRead records.now receipt.now)) }
     ensures same_length { length pages.new ≡ length pages.old }
@@ -89,11 +90,11 @@ fn format(pages: &mut [Page])
 fn redo_below(pages: &mut [Page], records: &[Record], redone: usize, end: Lsn) -> usize
     requires log { AreOfVolume (length pages.old) records.now }
     requires so_far { pages.old ≡ redo_all (take redone records.now) (length pages.old) }
-    requires behind { redone ≤ min ((end - 1) / 64) (length records.now) }
-    ensures count { result ≡ min ((end - 1) / 64) (length records.now) }
+    requires behind { redone ≤ min ((end - 1) / LSN_STEP) (length records.now) }
+    ensures count { result ≡ min ((end - 1) / LSN_STEP) (length records.now) }
     ensures redone { pages.new ≡ redo_all (take result records.now) (length pages.old) }
 {
-    let count = ((end.0.saturating_sub(1) / LSN_STEP) as usize).min(records.len());
+    let count = end.records_below().min(records.len());
     for i in redone..count {
         redo_on_its_page(pages, &records[i]);
     }

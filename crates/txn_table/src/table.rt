@@ -105,8 +105,8 @@ impl TxnTable {
     }
 
     /// Notes the Update of a change whose number before it is not known yet, where it is a Set. It
-    /// is to be followed by `set_before`, once the number is known, or by `take_back`. These take no
-    /// memory. An `Err` comes where memory is refused, and changes nothing.
+    /// is to be followed by `set_before`, once the number is known, or by `take_back`. These take
+    /// no memory. An `Err` comes where memory is refused, and changes nothing.
     pub fn note_ahead(&mut self, txn: TxnNo, ahead: PendingChange) -> Result<(), AllocError>
         requires { (rs : List Record) × (number : ℕ) × (IsTableOf rs self.old
             × MayFollow rs (update_of txn (as_read ahead number))) }
