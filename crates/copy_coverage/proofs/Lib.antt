@@ -4,4 +4,5 @@ pub mod Contents
 pub mod Copied
 pub mod Kept
 pub mod LaterPages
+pub mod OneCopy
 pub mod Points
