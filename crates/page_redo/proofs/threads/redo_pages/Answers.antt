@@ -1,4 +1,4 @@
-use Rattle.std.proofs.Common.{◌≡◌, ◌∙◌, ◌-◌, ◌/◌, ◌<◌, ℕ, List, length, map, take, drop, ap, sym, arith}
+use Rattle.std.proofs.Common.{◌≡◌, ◌∙◌, ◌-◌, ◌<◌, ℕ, List, length, map, take, drop, ap, sym, arith}
 use Rattle.std.specs.List.{range_with_len}
 use Rattle.std.proofs.lemmas.List.{length-drop, take_all}
 use Rattle.std.proofs.lemmas.List.FromFn.{length-map-range_with_len}
@@ -17,7 +17,7 @@ overflow_cast-pages g c =
 pub redo_by_page-requires-clause-many : goal.redo_by_page-requires-clause-many
 redo_by_page-requires-clause-many g c =
     let rs = c.records-records.result.now in
-    let k = c.records_below.result in
+    let k = c.records_below-first.result in
     let behind = take (length rs - k) (drop k rs) in
     let n = length c.args.pages.now in
     let lists = ap (λ (ls : List (List ℕ)). length ls) c.in-Ok.ensures.numbers in
@@ -30,10 +30,10 @@ returns-in-Ok g c =
     let pages = c.args.pages.now in
     let log : Log = record { pages = c.args.log.now.pages; records = rs } in
     let valid = valid_of c.args.log.now rs c.records-records.ensures.records c.records-records.ensures.valid in
-    let k = c.records_below.result in
+    let k = c.records_below-first.result in
     let behind = take (length rs - k) (drop k rs) in
     let n = length pages in
-    let back = c.records_below.ensures in
+    let back = c.records_below-first.ensures in
     let there : k < length rs = c.if-first-records.true in
     let lists : length c.in-Ok.lists ≡ n = ap (λ (ls : List (List ℕ)). length ls) c.in-Ok.ensures.numbers
     ∙ length-map-range_with_len (numbers_on behind c.args.from) 0 n in

@@ -1,4 +1,4 @@
-use Rattle.std.proofs.Common.{◌≡◌, ◌∙◌, ◌-◌, ◌/◌, ◌<◌, ◌≤◌, ℕ, List, length, map, take, drop, ap, sym, subst, arith}
+use Rattle.std.proofs.Common.{◌∙◌, ◌-◌, ◌<◌, ◌≤◌, ℕ, List, length, map, take, drop, ap, sym, subst, arith}
 use Rattle.std.proofs.lemmas.List.{length-drop, take_all}
 use Rattle.log_records.specs.declared.record.Record.{Record}
 use Rattle.log_records.specs.Coverage.{resume}
@@ -11,7 +11,7 @@ pub redo_records-requires-clause-within : goal.redo_records-requires-clause-with
 redo_records-requires-clause-within c =
     let rs = c.records-records.result.now in
     let of = c.args.log.now in
-    let k = c.records_below.result in
+    let k = c.records_below-first.result in
     let same = c.records-records.ensures.records in
     subst (λ (n : ℕ). AreWithin n (take (length rs - k) (drop k rs))) (count_of of rs same ∙ sym c.requires.count)
     (within_part (record of { records = rs }) k (valid_of of rs same c.records-records.ensures.valid))
@@ -22,8 +22,8 @@ returns-then-first-records c =
     let pages = c.args.pages.now in
     let log : Log = record { pages = c.args.log.now.pages; records = rs } in
     let valid = valid_of c.args.log.now rs c.records-records.ensures.records c.records-records.ensures.valid in
-    let k = c.records_below.result in
-    let back = c.records_below.ensures in
+    let k = c.records_below-first.result in
+    let back = c.records_below-first.ensures in
     let there : k < length rs = c.if-first-records.true in
     c.redo_records.ensures
     ∙ ap (λ (xs : List Record). map (λ page. redone_all page xs) pages)
@@ -37,8 +37,8 @@ returns-else-first-records c =
     let pages = c.args.pages.now in
     let log : Log = record { pages = c.args.log.now.pages; records = rs } in
     let valid = valid_of c.args.log.now rs c.records-records.ensures.records c.records-records.ensures.valid in
-    let k = c.records_below.result in
-    let back = c.records_below.ensures in
+    let k = c.records_below-first.result in
+    let back = c.records_below-first.ensures in
     let past : length rs ≤ k = c.if-first-records.false in
     none_resumed log c.args.from pages valid (omega arith)
     ∙ ap (λ (xs : List Record). map (λ page. resume page xs c.args.from) pages) c.records-records.ensures.records
