@@ -71,7 +71,7 @@ goes_on old event reply new forces (inr grows) = record {
 
 fit_stays : (old : EngineState) (event : Event) (reply : Result Answer Refusal) (new : EngineState) → IsFit old
     → IsFit (start old event reply) → PageStep old new → EndsAtRecord new → PagesFit new → FitsCkpts new
-    → AreCopied new.log new.forced_end new.stored new.copies → HaveMaster new.master new.copies
+    → AreCopied (log_of new) new.forced_end new.stored new.copies → HaveMaster new.master new.copies
     → Stays old event reply new → IsFit new
 fit_stays old event reply new fit from step forced pages ckpts copied noted stays = record {
   valid = rw (stays.pages, stays.log) fit.valid;
@@ -160,14 +160,14 @@ fit_appended s r fit come there =
       gathered = gathered_later
           (log_of s) r s.stored s.left fit.valid fit.linked come.of_transaction come.may_follow at.lsn fit.gathered;
       master = master_now s r fit at.lsn;
-      copied = copied_later s.log r s.forced_end s.stored s.copies (forced_low s r fit at.lsn) fit.copied;
+      copied = copied_later (log_of s) r s.forced_end s.stored s.copies at.lsn (forced_low s r fit at.lsn) fit.copied;
       noted = fit.noted;
     }
 
 fit_grows : (old : EngineState) (event : Event) (reply : Result Answer Refusal) (new : EngineState) → IsFit old
     → IsFit (start old event reply) → PageStep old new
     → EventFits event → EndsAtRecord new → PagesFit new → FitsCkpts new
-    → AreCopied new.log new.forced_end new.stored new.copies → HaveMaster new.master new.copies
+    → AreCopied (log_of new) new.forced_end new.stored new.copies → HaveMaster new.master new.copies
     → Grows old event reply new → IsFit new
 fit_grows old event reply new fit from step numbers forced pages ckpts copied noted grows =
     let r = grows.r in
@@ -240,7 +240,7 @@ not_reading copy e = cc
 not_complete : (copy : CopyView) → ¬ (dropped ≡ complete copy)
 not_complete copy e = cc
 
-no_copies : (s : EngineState) → AreCopied s.log s.forced_end s.stored []
+no_copies : (s : EngineState) → AreCopied (log_of s) s.forced_end s.stored []
 no_copies s = record {
   few = lit≤ tt;
   each = λ id copy is. absurd (none_some copy (ap copy_in (sym (no_copy id)) ∙ is));

@@ -426,7 +426,7 @@ pub record IsFit (s : EngineState) : Type 0 where
   pub stable : AreStable s
   pub gathered : IfSome (open_checkpoint s.log) (IsGathering s.log s.stored s.left)
   pub master : IfSome s.master (IsMasterOf s.log s.stored s.forced_end)
-  pub copied : AreCopied s.log s.forced_end s.stored s.copies
+  pub copied : AreCopied (log_of s) s.forced_end s.stored s.copies
   pub noted : HaveMaster s.master s.copies
 
 -- ---- the engine, its store and its device

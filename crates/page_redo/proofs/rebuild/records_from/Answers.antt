@@ -1,4 +1,4 @@
-use Rattle.std.proofs.Common.{◌≡◌, ◌∙◌, ◌-◌, length, drop, ap, arith}
+use Rattle.std.proofs.Common.{◌∙◌, ◌-◌, length, drop, ap, arith}
 use Rattle.std.proofs.lemmas.List.{length-drop, take_all}
 use Rattle.log_records.specs.Log.{Log}
 use Rattle.page_redo.specs.Redo.{redone}
