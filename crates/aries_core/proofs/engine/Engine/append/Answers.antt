@@ -84,8 +84,7 @@ change-requires-clause-next g c =
     )
 
 pub change-requires-clause-same_count : goal.change-requires-clause-same_count
-change-requires-clause-same_count g c =
-    transaction_gives_none c.args.next c.requires.called.of_transaction
+change-requires-clause-same_count g c = transaction_gives_none c.args.next c.requires.called.of_transaction
 
 pub change-requires-clause-resident : goal.change-requires-clause-resident
 change-requires-clause-resident g c =
