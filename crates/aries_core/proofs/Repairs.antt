@@ -47,7 +47,7 @@ pub repaired_is : {S D : Type 0} (stored : S → List Page) (it new : WrittenLog
     → stored after.store ≡ set (stored pool.store) p q → after.frames ≡ pool.frames
     → after.resident ≡ pool.resident → after.states ≡ set pool.states p (stored_as_now q.lsn)
     → (engine_view stored new after ckpts).state
-    ≡ engine.stored_as_now (forced_through (engine_view stored it pool ckpts).state q.lsn) p q
+    ≡ engine.repaired (forced_through (engine_view stored it pool ckpts).state q.lsn) p q
 repaired_is stored it new pool after ckpts p q within idle same forced store frames resident states =
     let state = stored_as_now q.lsn in
     let written : written_of after.states ≡ set (written_of pool.states) p q.lsn =
@@ -95,7 +95,7 @@ done stored it new table pool after ckpts copy p q kept none within now same for
     let state = repaired_is stored it new pool after ckpts p q within idle same forced store
     (ap (λ v. v.frames) is) (ap (λ v. v.resident) is) (ap (λ v. v.states) is) in
     let effected : (engine_view stored new after ckpts).state ≡ (effect s (event.Repair copy p)).state =
-    state ∙ ap (λ (x : Page). engine.stored_as_now (forced_through s x.lsn) p x) now in
+    state ∙ ap (λ (x : Page). engine.repaired (forced_through s x.lsn) p x) now in
     let said : answer.Repaired q.lsn ≡ (effect s (event.Repair copy p)).answer =
     ap (λ (x : Page). answer.Repaired x.lsn) now in
     called stored it new table pool after ckpts (event.Repair copy p) (Ok (answer.Repaired q.lsn)) kept tt same

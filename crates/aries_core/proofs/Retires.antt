@@ -12,7 +12,7 @@ use Rattle.aries_core.specs.EngineState.{EngineState, IsFit, log_of, master_reco
 use Rattle.aries_core.specs.EngineState as engine
 
 named : (rs : List Record) (stored : List Page) (forced_end : ℕ) (point : Option Point)
-    → IfSome point (engine.NamesCheckpoint rs stored forced_end)
+    → IfSome point (engine.IsMasterOf rs stored forced_end)
     → IfSome (option_map master_record point) (NamesCheckpoint rs forced_end)
 named rs stored forced_end None has = tt
 named rs stored forced_end (Some point) has = record { complete = has.complete; forced = has.forced }

@@ -1,6 +1,6 @@
 -- Pages past the page count at an LSN: no record below it changes them, so whatever was made of such
 -- a page has all of its changes below that LSN.
-use Rattle.std.proofs.Common.{◌≡◌, ℕ, ◌-◌, ◌/◌, ◌<◌, ◌≤◌, List, get_or, true, false, refl, arith, inl, inr}
+use Rattle.std.proofs.Common.{◌≡◌, ℕ, ◌-◌, ◌/◌, ◌<◌, ◌≤◌, List, get_or, take, true, false, refl, arith, inl, inr}
 use Rattle.std.specs.Prelude.{Option, Some, None, IfSome, ◌==◌}
 use Rattle.std.specs.List.{All}
 use Rattle.std.specs.Option.{option_map_or}
@@ -14,12 +14,15 @@ use Rattle.log_records.specs.Log.{IsLog, Log, page_count, page_count_at, page_co
 use Rattle.log_records.specs.Record.{change_of, own_lsn}
 use Rattle.log_records.proofs.Changes.{change_within}
 use Rattle.log_records.proofs.Coverage.{of_each}
-use Rattle.log_records.proofs.PageCounts.{count_behind-rises, page_count_at-not_more}
+use Rattle.log_records.proofs.PageCounts.{count_behind-not_less, count_behind-rises, page_count_at-not_more}
 
 -- the page count along the LSNs
 pub count_below-rises : (log : Log) (low high : ℕ) → low ≤ high → page_count_below log low ≤ page_count_below log high
 count_below-rises log low high le =
     count_behind-rises log.pages log.records ((low - 1) / 64) ((high - 1) / 64) (omega arith)
+
+pub count_below-not_less : (log : Log) (lsn : ℕ) → log.pages ≤ page_count_below log lsn
+count_below-not_less log lsn = count_behind-not_less log.pages (take ((lsn - 1) / 64) log.records)
 
 pub count_below-not_more : (log : Log) (lsn : ℕ) → page_count_below log lsn ≤ page_count log
 count_below-not_more log lsn = page_count_at-not_more log ((lsn - 1) / 64)
