@@ -199,12 +199,12 @@ AreWhole log copies = AllByRecursion (λ copy. length copy.pages ≡ count_below
 whole_members : (log : Log) (it : RetiredView) (copies : List CopyView) → IsLog log → IsRetired it
     → IsKeptOf it.log it.forced_end log → AllByRecursion (λ copy. state_of it.copies copy.id ≡ complete copy) copies
     → AreWhole log copies
-whole_members log it [] valid retired kept of_vault = tt
-whole_members log it (copy ∷ copies) valid retired kept of_vault =
+whole_members log it [] valid retired crash of_vault = tt
+whole_members log it (copy ∷ copies) valid retired crash of_vault =
     let is = retired.copies.each copy.id copy of_vault.0 in (
-      is.whole ∙ sym (kept_count_below it.log log it.forced_end copy.begin kept is.early)
+      is.whole ∙ sym (kept_count_below it.log log it.forced_end copy.begin crash is.early)
           ∙ sym (count_below-counts_of log copy.begin valid),
-      whole_members log it copies valid retired kept of_vault.1,
+      whole_members log it copies valid retired crash of_vault.1,
     )
 
 fit_more : (log : Log) (copy : CopyView) (more : List CopyView) → Follow copy more → AreWhole log more
