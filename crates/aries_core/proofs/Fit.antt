@@ -46,7 +46,8 @@ use Rattle.aries_core.proofs.Stands.{stands}
 use Rattle.aries_core.proofs.Steps.{Grows, Stays, grows_count, start, stays_count, stays_or_grows}
 use Rattle.aries_core.proofs.PageComes.{dirty_after, dirty_before, start_dirty, start_fit, start_held, start_images}
 use Rattle.aries_core.proofs.Writes.{GoesOn, PageStep, PagesFit, page_step, pages_fit}
-use Rattle.log_records.proofs.PageCounts.{count_behind-nil, count_stays, page_count-push}
+use Rattle.log_records.proofs.PageCounts.{count_behind-nil}
+use Rattle.log_records.proofs.GivenNone.{page_count-same, transaction_gives_none}
 
 -- ---- after a step
 
@@ -140,14 +141,14 @@ pub fit_appended : (s : EngineState) (r : Record) → IsFit s → Comes s r
 fit_appended s r fit come there =
     let at = come.stands_at in
     let count : volume_pages (appended s r) ≡ volume_pages s =
-    page_count-push (log_of s) r ∙ count_stays (volume_pages s) r in
+    page_count-same (log_of s) r (transaction_gives_none r come.of_transaction) in
     record {
       valid = valid_next (log_of s) r fit.valid (comes_few s r come) at;
       linked = linked_push s.log r fit.linked come.may_follow;
       room = room_push s.log r fit.room come.room;
       forced = (fit.forced.0, omega (arith, fit.forced.1, length_push s.log r), fit.forced.2);
       counted = record {
-        stored = fit.counted.stored ∙ sym count;
+        stored = omega (arith, fit.counted.stored, count);
         written = fit.counted.written ∙ sym count;
         writing = fit.counted.writing ∙ sym count;
       };
@@ -267,7 +268,7 @@ new_is_fit pages frames count = record {
   room = room_of_none;
   forced = (0, omega arith, refl);
   counted = record {
-    stored = length-map-range_with_len formatted 0 pages ∙ sym (count_behind-nil pages);
+    stored = omega (arith, length-map-range_with_len formatted 0 pages, count_behind-nil pages);
     written = length-replicate pages 0 ∙ sym (count_behind-nil pages);
     writing = length-replicate pages None ∙ sym (count_behind-nil pages);
   };

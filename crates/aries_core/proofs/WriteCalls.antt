@@ -70,7 +70,7 @@ force_kept stored it new table pool ckpts kept same no_less ends =
         room = rw same fit.room;
         forced = ends;
         counted = record {
-          stored = fit.counted.stored ∙ ap page_count (sym same);
+          stored = omega (arith, fit.counted.stored, ap page_count same);
           written = fit.counted.written ∙ ap page_count (sym same);
           writing = fit.counted.writing ∙ ap page_count (sym same);
         };

@@ -372,9 +372,9 @@ master_record point = record { begin = point.begin; end = point.end }
 
 -- ---- the invariant
 
--- each page of the volume has its place in each list
+-- each page of the volume has its place in each list; more pages may be stored
 pub record AreCounted (s : EngineState) : Type 0 where
-  pub stored : length s.stored ≡ volume_pages s
+  pub stored : volume_pages s ≤ length s.stored
   pub written : length s.written ≡ volume_pages s
   pub writing : length s.writing ≡ volume_pages s
 

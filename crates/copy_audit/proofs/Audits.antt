@@ -19,6 +19,7 @@ use Rattle.copy_vault.specs.Chain.{IsChain}
 use Rattle.copy_vault.specs.ChainRead.{AreBelow}
 use Rattle.copy_vault.specs.ChainReading.{AreNoChain, IsFromOutside, IsRightChain, SpellCopies, archives_of}
 use Rattle.copy_vault.specs.Copy.{CopyView, taken_pages}
+use Rattle.page_core.specs.declared.format.Format.TheVariants.{Second}
 use Rattle.copy_vault.proofs.ArchiveReads.{same_copy}
 use Rattle.copy_vault.proofs.ChainOnly.{not_stopped, not_unmade}
 use Rattle.copy_vault.proofs.Chains.{some_members}
@@ -72,13 +73,13 @@ same_copies [] [] spell all = refl
 same_copies [] (y ∷ b) spell all = absurd spell
 same_copies (x ∷ a) [] spell all = absurd spell
 same_copies (x ∷ a) (y ∷ b) spell all =
-    let one : y ≡ x = same_copy y x spell.0.valid all.0 (sym spell.0.spelled) in
+    let one : y ≡ x = same_copy y x (archive_bytes x) spell.0 (record { valid = all.0; format = Second; spelled = refl }) in
     let rest : b ≡ a = same_copies a b spell.1 all.1 in
     cc
 
 pub same_log_of : (log other : Log) → SpellsLog other (log_bytes log) → IsLog log → other ≡ log
 same_log_of log other spells valid =
-    same_log other log (log_bytes log) spells (record { valid = valid; spelled = refl })
+    same_log other log (log_bytes log) spells (record { valid = valid; format = Second; spelled = refl })
 
 -- ---- why they are not refused
 
@@ -119,7 +120,7 @@ pub refused_outside : (whole : Log) (copies : List CopyView) (why : fault.Unsoun
     → AreRefused (Some (log_bytes whole)) (archives_of copies) why → IsOutside why
 refused_outside whole copies why valid linked right audited (of_the_log first same refused) =
     subst IsOutside (sym same)
-    (outside_log whole (record { valid = valid; spelled = refl }) linked first refused)
+    (outside_log whole (record { valid = valid; format = Second; spelled = refl }) linked first refused)
 refused_outside whole copies why valid linked right audited (of_the_archives other is first same lefts refused) =
     let one : other ≡ whole = same_log_of whole other is.spelled valid in
     subst IsOutside (sym same) (outside_chain first (from_outside (counts_of whole) (end_of whole) lefts copies first right

@@ -17,8 +17,11 @@ use Rattle.copy_vault.specs.declared.archive_fault.ArchiveFault.TheVariants.{Cou
 use Rattle.copy_vault.specs.declared.header.ArchiveHeader.{ArchiveHeader}
 use Rattle.copy_vault.specs.Copy.{CopyView, PageDecision, undecided, taken, kept, taken_pages, taken_count, decision_at}
 use Rattle.copy_vault.specs.Copy.{AreDecidedBelow, AreInPlace}
-use Rattle.copy_vault.specs.Archive.{IsArchived, IsFront, IsHeader, RiseFrom, SpellsCopy, archive_bytes, front_bytes}
-use Rattle.copy_vault.specs.Archive.{header_of}
+use Rattle.copy_vault.specs.Archive.{IsArchived, IsFront, IsHeader, RiseFrom, SpellsCopy, bytes_in, front_bytes}
+use Rattle.copy_vault.specs.Archive.{IsKindOf, header_in, header_of}
+use Rattle.page_core.specs.declared.format.Format.{Format}
+use Rattle.copy_vault.specs.declared.copy_id.CopyKind.{CopyKind}
+use Rattle.copy_vault.specs.declared.copy_id.CopyKind.TheVariants.{Full, Inc}
 use Rattle.copy_vault.specs.ArchiveFault.{Begins, EndsEarly, GaveNoFault, HasFault, HoldsFault, IsOutside, Refuses}
 use Rattle.copy_vault.specs.ArchiveFault.{SpellsHeader}
 use Rattle.copy_vault.specs.ArchiveRead.{EndsWrongly, IsPart, given_for}
@@ -104,9 +107,48 @@ from_start : (pages : List PageDecision) → AreInPlace pages → AreInPlaceFrom
 unfolding AreInPlaceFrom
 from_start pages all p page e = all p page e ∙ omega arith
 
-pub front_of : (copy : CopyView) → IsArchived copy → IsFront (header_of copy) (taken_pages copy.pages)
-front_of copy valid = record {
-  header = valid.header;
+-- the format says nothing of the rest of a header
+kind_in : (f : Format) (kind : CopyKind) (copy : CopyView) → IsKindOf kind (header_of copy)
+    → IsKindOf kind (header_in f copy)
+kind_in f Full copy is = is
+kind_in f (Inc parent) copy is = is
+
+pub valid_in : (f : Format) (copy : CopyView) → IsHeader (header_of copy) → IsHeader (header_in f copy)
+valid_in f copy valid = record {
+  some_pages = valid.some_pages;
+  few_pages = valid.few_pages;
+  least_id = valid.least_id;
+  most_id = valid.most_id;
+  kind = kind_in f copy.kind copy valid.kind;
+  begin_fits = valid.begin_fits;
+  begin_at_record = valid.begin_at_record;
+  redo_at_record = valid.redo_at_record;
+  redo_past_header = valid.redo_past_header;
+  redo_first = valid.redo_first;
+}
+
+kind_out : (f : Format) (kind : CopyKind) (copy : CopyView) → IsKindOf kind (header_in f copy)
+    → IsKindOf kind (header_of copy)
+kind_out f Full copy is = is
+kind_out f (Inc parent) copy is = is
+
+valid_out : (f : Format) (copy : CopyView) → IsHeader (header_in f copy) → IsHeader (header_of copy)
+valid_out f copy valid = record {
+  some_pages = valid.some_pages;
+  few_pages = valid.few_pages;
+  least_id = valid.least_id;
+  most_id = valid.most_id;
+  kind = kind_out f copy.kind copy valid.kind;
+  begin_fits = valid.begin_fits;
+  begin_at_record = valid.begin_at_record;
+  redo_at_record = valid.redo_at_record;
+  redo_past_header = valid.redo_past_header;
+  redo_first = valid.redo_first;
+}
+
+pub front_of : (f : Format) (copy : CopyView) → IsArchived copy → IsFront (header_in f copy) (taken_pages copy.pages)
+front_of f copy valid = record {
+  header = valid_in f copy valid.header;
   few = omega arith;
   valid = valid.pages;
   rising = rise_in_place 0 0 copy.pages (from_start copy.pages valid.complete.in_place) (omega arith);
@@ -167,11 +209,14 @@ same_decisions n (taken x ∷ xs) (taken y ∷ ys) count xs_in ys_in xs_all ys_a
     (next_decided (taken x) xs xs_all) (next_decided (taken y) ys ys_all) others)
 
 -- two copies with the same bytes are one
-pub same_copy : (a b : CopyView) → IsArchived a → IsArchived b → archive_bytes a ≡ archive_bytes b → a ≡ b
+pub same_copy : (a b : CopyView) (bytes : List ℕ) → SpellsCopy a bytes → SpellsCopy b bytes → a ≡ b
 unfolding AreDecided
-same_copy a b a_valid b_valid e =
-    let both = same_front (header_of a) (header_of b) (volume_bytes (taken_pages a.pages))
-    (volume_bytes (taken_pages b.pages)) a_valid.header b_valid.header e in
+same_copy a b bytes a_spells b_spells =
+    let a_valid = a_spells.valid in
+    let b_valid = b_spells.valid in
+    let both = same_front (header_in a_spells.format a) (header_in b_spells.format b) (volume_bytes (taken_pages a.pages))
+    (volume_bytes (taken_pages b.pages)) (valid_in a_spells.format a a_valid.header)
+    (valid_in b_spells.format b b_valid.header) (sym a_spells.spelled ∙ b_spells.spelled) in
     let header = both.0 in
     let id : a.id ≡ b.id = ap (λ (h : ArchiveHeader). h.id) header in
     let kind : a.kind ≡ b.kind = ap (λ (h : ArchiveHeader). h.kind) header in
@@ -190,12 +235,14 @@ same_copy a b a_valid b_valid e =
 pub no_fault : (copy : CopyView) (input : List ℕ) → SpellsCopy copy input → (fault : ArchiveFault)
     → ¬ HasFault input fault
 no_fault copy input spells fault (inl bad) =
-    let front = front_of copy spells.valid in
-    let whole : input ≡ archive_bytes copy ++ [] = spells.spelled ∙ sym (append-nil (archive_bytes copy)) in
-    holds_none (header_of copy) (taken_pages copy.pages) [] front (omega arith) (λ all. refl) fault
+    let f = spells.format in
+    let front = front_of f copy spells.valid in
+    let whole : input ≡ bytes_in f copy ++ [] = spells.spelled ∙ sym (append-nil (bytes_in f copy)) in
+    holds_none (header_in f copy) (taken_pages copy.pages) [] front (omega arith) (λ all. refl) fault
     (subst (λ (bs : List ℕ). HoldsFault bs fault) whole bad)
 no_fault copy input spells fault (inr bad) =
-    ends_none (header_of copy) (taken_pages copy.pages) (front_of copy spells.valid) refl fault
+    let f = spells.format in
+    ends_none (header_in f copy) (taken_pages copy.pages) (front_of f copy spells.valid) refl fault
     (subst (λ (bs : List ℕ). EndsEarly bs fault) spells.spelled bad)
 
 pub only_outside : (copy : CopyView) (input : List ℕ) → SpellsCopy copy input → (fault : ArchiveFault)
@@ -269,14 +316,15 @@ pub spells_read : (h : ArchiveHeader) (pages : List PageDecision) → IsPart h p
     → SpellsCopy (record { id = h.id; kind = h.kind; begin = h.begin; redo = h.redo; pages = pages })
     (given_for h pages)
 spells_read h pages part count all =
-    let same : header_of (record { id = h.id; kind = h.kind; begin = h.begin; redo = h.redo; pages = pages }) ≡ h =
-    rw (count, all) refl in
+    let copy : CopyView = record { id = h.id; kind = h.kind; begin = h.begin; redo = h.redo; pages = pages } in
+    let same : header_in h.format copy ≡ h = rw (count, all) refl in
     record {
       valid = record {
-        header = subst IsHeader (sym same) part.front.header;
+        header = valid_out h.format copy (subst IsHeader (sym same) part.front.header);
         complete = part_complete h pages part count all;
         pages = part.front.valid;
       };
+      format = h.format;
       spelled = ap (λ (k : ArchiveHeader). front_bytes k (taken_pages pages)) (sym same);
     }
 
@@ -286,6 +334,6 @@ pub only_read : (r : Result CopyView ArchiveFault) (old : Option (List ℕ)) (co
     → IfErr r (λ fault. IfSome old (λ bs. Refuses bs fault)) → MatchResult r (λ read. read ≡ copy) IsOutside
 only_read (Ok read) old copy input e spells found first =
     let same = at_some old input (SpellsCopy read) e found in
-    same_copy read copy same.valid spells.valid (sym same.spelled ∙ spells.spelled)
+    same_copy read copy input same spells
 only_read (Err fault) old copy input e spells found first =
     only_outside copy input spells fault (at_some old input (λ bs. Refuses bs fault) e first)

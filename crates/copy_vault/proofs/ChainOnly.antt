@@ -26,6 +26,7 @@ use Rattle.copy_vault.specs.ChainReading.{IsFirstHeadRefused, IsFromOutside, IsH
 use Rattle.copy_vault.specs.ChainReading.{IsNotMade, IsPastLog, IsRightChain}
 use Rattle.copy_vault.specs.ChainReading.{IsStopped, archives_of}
 use Rattle.copy_vault.specs.Copy.{CopyView, taken_pages}
+use Rattle.page_core.specs.declared.format.Format.TheVariants.{Second}
 use Rattle.copy_vault.proofs.ArchiveReads.{front_of, no_fault}
 use Rattle.copy_vault.proofs.ChainSteps.{no_copy}
 use Rattle.copy_vault.proofs.Fronts.{Agree, agree, all_last, all_left, next_of, pages_before, volume_push}
@@ -43,7 +44,7 @@ all_at P (x ∷ xs) (suc k) d all lt = all_at P xs k d all.1 (omega arith)
 begins_copy : (copy : CopyView) → IsArchived copy → (h : ArchiveHeader) (pages : List Page) (rest : List ℕ)
     → Begins (archive_bytes copy) h pages rest → Agree (header_of copy) (taken_pages copy.pages) [] h pages rest
 begins_copy copy is h pages rest begins =
-    agree (header_of copy) (taken_pages copy.pages) [] h pages rest (front_of copy is)
+    agree (header_of copy) (taken_pages copy.pages) [] h pages rest (front_of Second copy is)
     (subst (λ (bs : List ℕ). Begins bs h pages rest) (sym (append-nil (archive_bytes copy))) begins)
 
 wrong_none : (end : ℕ) (copy : CopyView) → IsArchived copy → AreBelow end (taken_pages copy.pages)
@@ -55,7 +56,7 @@ wrong_none end copy is below h pages rest begins (BadArchive at) wrong =
     let all : h.taken ≡ length taken = sym (ap (λ (k : ArchiveHeader). k.taken) a.header) in
     let few : length pages < length taken = omega (arith, all, wrong.1) in
     let split = pages_before taken pages [] rest is.pages begins.front.valid a.bytes (omega arith) in
-    wrong.3 (next_of (header_of copy) h taken pages [] rest (front_of copy is) a.header split.0 split.1 split.2
+    wrong.3 (next_of (header_of copy) h taken pages [] rest (front_of Second copy is) a.header split.0 split.1 split.2
     (omega (arith, few, ap length split.1, length-append pages split.0)))
 wrong_none end copy is below h pages rest begins CountDiffers (inl wrong) =
     let a = begins_copy copy is h pages rest begins in
@@ -166,7 +167,7 @@ head_none counts kind copy left (ChainBroken id) is fit refused =
     let same = same_head copy (Some (archive_bytes copy)) left refused.0 is refl refused.1.0 in
     refused.1.2 (subst (IsHeadFit counts kind) (sym same) fit)
 head_none counts kind copy left (BadArchive at) is fit refused =
-    no_fault copy (archive_bytes copy) (record { valid = is; spelled = refl }) (archive.BadArchive 0) refused.1
+    no_fault copy (archive_bytes copy) (record { valid = is; format = Second; spelled = refl }) (archive.BadArchive 0) refused.1
 head_none counts kind copy left OutOfMemory is fit refused = tt
 head_none counts kind copy left ReadFault is fit refused = tt
 head_none counts kind copy left CountDiffers is fit refused = refused

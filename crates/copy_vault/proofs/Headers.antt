@@ -1,10 +1,13 @@
 -- The bytes of an archive's header, field by field.
 use Rattle.std.proofs.Common.{◌≡◌, ℕ, ◌<◌, ◌≤◌, List, ◌++◌, length, take, drop, refl, sym, ap, ◌∙◌, arith}
-use Rattle.std.proofs.Common.{lit<}
+use Rattle.std.proofs.Common.{lit<, get_or}
 use Rattle.std.specs.Prelude.{slice_range}
 use Rattle.std.specs.Int.{w32, w64, to_le_bytes, from_le_bytes}
 use Rattle.std.proofs.lemmas.List.{take_at, drop_at}
 use Rattle.std.proofs.lemmas.Nat.{from_le_bytes-to_le_bytes_4, from_le_bytes-to_le_bytes_8}
+use Rattle.page_core.specs.declared.format.Format.{Format}
+use Rattle.page_core.specs.declared.format.Format.TheVariants.{First, Second}
+use Rattle.page_core.specs.Format.{digit_of}
 use Rattle.copy_vault.specs.declared.copy_id.CopyKind.{CopyKind}
 use Rattle.copy_vault.specs.declared.copy_id.CopyKind.TheVariants.{Full, Inc}
 use Rattle.copy_vault.specs.declared.header.ArchiveHeader.{ArchiveHeader}
@@ -17,6 +20,10 @@ length-header_bytes h = refl
 pub pages_at : (h : ArchiveHeader) → slice_range (header_bytes h) 8 12 ≡ to_le_bytes w32 h.pages
 unfolding header_bytes
 pages_at h = refl
+
+pub digit_at : (h : ArchiveHeader) → get_or (header_bytes h) 7 0 ≡ digit_of h.format
+unfolding header_bytes
+digit_at h = refl
 
 pub id_at : (h : ArchiveHeader) → slice_range (header_bytes h) 12 16 ≡ to_le_bytes w32 h.id
 unfolding header_bytes
@@ -82,6 +89,13 @@ same_kind Full (Inc parent) e p = absurd (omega (arith, e))
 same_kind (Inc parent) Full e p = absurd (omega (arith, e))
 same_kind (Inc a) (Inc b) e p = ap Inc p
 
+-- a format is known by its digit
+pub same_format : (a b : Format) → digit_of a ≡ digit_of b → a ≡ b
+same_format First First e = refl
+same_format First Second e = absurd (omega (arith, e))
+same_format Second First e = absurd (omega (arith, e))
+same_format Second Second e = refl
+
 same_u32 : (bs cs : List ℕ) (m n : ℕ) → m < 4294967296 → n < 4294967296 → bs ≡ to_le_bytes w32 m
     → cs ≡ to_le_bytes w32 n → bs ≡ cs → m ≡ n
 same_u32 bs cs m n m_fits n_fits m_is n_is e =
@@ -101,6 +115,9 @@ same_header a b a_valid b_valid e =
     let g = fit b b_valid in
     let part : (i j : ℕ) → slice_range (header_bytes a) i j ≡ slice_range (header_bytes b) i j =
     λ i j. ap (λ (bs : List ℕ). slice_range bs i j) e in
+    let format : a.format ≡ b.format =
+    same_format a.format b.format
+    (sym (digit_at a) ∙ ap (λ (bs : List ℕ). get_or bs 7 0) e ∙ digit_at b) in
     let pages : a.pages ≡ b.pages = same_u32 _ _ _ _ f.pages g.pages (pages_at a) (pages_at b) (part 8 12) in
     let id : a.id ≡ b.id = same_u32 _ _ _ _ f.id g.id (id_at a) (id_at b) (part 12 16) in
     let kinds : kind_number a.kind ≡ kind_number b.kind =
@@ -111,7 +128,7 @@ same_header a b a_valid b_valid e =
     let begin : a.begin ≡ b.begin = same_u64 _ _ _ _ f.begin g.begin (begin_at a) (begin_at b) (part 24 32) in
     let redo : a.redo ≡ b.redo = same_u64 _ _ _ _ f.redo g.redo (redo_at a) (redo_at b) (part 32 40) in
     let taken : a.taken ≡ b.taken = same_u32 _ _ _ _ f.taken g.taken (taken_at a) (taken_at b) (part 40 44) in
-    rw (pages, id, kind, begin, redo, taken) refl
+    rw (format, pages, id, kind, begin, redo, taken) refl
 
 -- nor if something follows them
 pub same_front : (a b : ArchiveHeader) (x y : List ℕ) → IsHeader a → IsHeader b

@@ -6,6 +6,9 @@ use Rattle.std.specs.Int.{w32, w64, to_le_bytes}
 use Rattle.page_core.specs.declared.page.Page.{Page}
 use Rattle.page_core.specs.declared.page.TheConstants.{MAX_PAGES}
 use Rattle.page_core.specs.declared.numbers.TheConstants.{LSN_STEP}
+use Rattle.page_core.specs.declared.format.Format.{Format}
+use Rattle.page_core.specs.declared.format.Format.TheVariants.{Second}
+use Rattle.page_core.specs.Format.{digit_of}
 use Rattle.page_core.specs.Page.{IsPage, volume_bytes}
 use Rattle.copy_vault.specs.declared.copy_id.CopyKind.{CopyKind}
 use Rattle.copy_vault.specs.declared.copy_id.CopyKind.TheVariants.{Full, Inc}
@@ -23,10 +26,11 @@ abbrev pub parent_of : CopyKind → ℕ
 parent_of Full = 0
 parent_of (Inc parent) = parent
 
--- the 64 bytes in front of the pages: each number has its lowest byte first
+-- the 64 bytes in front of the pages: AIMGARC1 or AIMGARC2, and numbers, each with its lowest byte
+-- first
 unfoldable pub header_bytes : ArchiveHeader → List ℕ
 header_bytes h =
-    codes "AIMGARC1" ++ to_le_bytes w32 h.pages ++ to_le_bytes w32 h.id
+    codes "AIMGARC" ++ digit_of h.format ∷ [] ++ to_le_bytes w32 h.pages ++ to_le_bytes w32 h.id
     ++ to_le_bytes w32 (kind_number h.kind) ++ to_le_bytes w32 (parent_of h.kind)
     ++ to_le_bytes w64 h.begin ++ to_le_bytes w64 h.redo ++ to_le_bytes w32 h.taken
     ++ replicate (HEADER_BYTES - 44) 0
@@ -49,9 +53,10 @@ pub record IsHeader (h : ArchiveHeader) : Type 0 where
   pub redo_past_header : LSN_STEP ≤ h.redo
   pub redo_first : h.redo ≤ h.begin
 
--- the header of a copy's archive
-abbrev pub header_of : CopyView → ArchiveHeader
-header_of copy = record {
+-- the header of a copy's archive, in a format; and as it is written
+abbrev pub header_in : Format → CopyView → ArchiveHeader
+header_in format copy = record {
+  format = format;
   pages = length copy.pages;
   id = copy.id;
   kind = copy.kind;
@@ -60,13 +65,20 @@ header_of copy = record {
   taken = taken_count copy.pages;
 }
 
+abbrev pub header_of : CopyView → ArchiveHeader
+header_of copy = header_in Second copy
+
 -- a header and the pages that follow it
 abbrev pub front_bytes : ArchiveHeader → List Page → List ℕ
 front_bytes h pages = header_bytes h ++ volume_bytes pages
 
 -- the bytes of a copy: its header, and the pages that it took, in order of their numbers
+abbrev pub bytes_in : Format → CopyView → List ℕ
+bytes_in format copy = front_bytes (header_in format copy) (taken_pages copy.pages)
+
+-- those that are written
 abbrev pub archive_bytes : CopyView → List ℕ
-archive_bytes copy = front_bytes (header_of copy) (taken_pages copy.pages)
+archive_bytes copy = bytes_in Second copy
 
 -- a copy that has a spelling
 pub record IsArchived (copy : CopyView) : Type 0 where
@@ -74,10 +86,11 @@ pub record IsArchived (copy : CopyView) : Type 0 where
   pub complete : IsComplete copy.kind copy.pages
   pub pages : AllByRecursion IsPage (taken_pages copy.pages)
 
--- the bytes are the one spelling of the copy
+-- the bytes are the spelling of the copy in one of the formats
 pub record SpellsCopy (copy : CopyView) (bytes : List ℕ) : Type 0 where
   pub valid : IsArchived copy
-  pub spelled : bytes ≡ archive_bytes copy
+  pub format : Format
+  pub spelled : bytes ≡ bytes_in format copy
 
 -- the page numbers rise, the first one being at least this
 abbrev pub RiseFrom : ℕ → List Page → Type 0

@@ -2,17 +2,16 @@
 
 ghost use Rattle.std.specs.Prelude.{ℕ, ◌≡◌, List};
 ghost use Rattle.copy_vault.specs.Copy.{CopyView};
-ghost use Rattle.copy_vault.specs.Archive.{IsArchived, SpellsCopy, archive_bytes};
+ghost use Rattle.copy_vault.specs.Archive.{SpellsCopy};
 ghost use Rattle.copy_vault.specs.ArchiveFault.{HasFault};
 ghost use Rattle.copy_vault.specs.declared.archive_fault.ArchiveFault.{ArchiveFault};
 
 use crate::copy_id::MAX_COPIES;
 use crate::header::{FULL, HEADER_BYTES, INC};
 
-/// Two different copies have different spellings.
+/// Two different copies have no spelling in common, whatever the formats.
 pub fn copies_are_spelled_apart()
-    ensures { (a b : CopyView) → IsArchived a → IsArchived b
-        → archive_bytes a ≡ archive_bytes b → a ≡ b }
+    ensures { (a b : CopyView) (bytes : List ℕ) → SpellsCopy a bytes → SpellsCopy b bytes → a ≡ b }
 {}
 
 /// The archive of a copy has no fault.

@@ -8,7 +8,7 @@ ghost use Rattle.copy_vault.specs.Slots.{AreLaidOver, page_list};
 use crate::copy_id::{CopyId, CopyKind};
 use crate::header::ArchiveHeader;
 use crate::pages::CopyPages;
-use page_core::{Lsn, Page, PageNo};
+use page_core::{Format, Lsn, Page, PageNo};
 use std::marker::Model;
 
 /// An image copy that is complete: of each page it is decided whether the copy has it.
@@ -122,6 +122,7 @@ impl CompleteCopy {
         ensures { result ≡ header_of self.now }
     {
         ArchiveHeader {
+            format: Format::Second,
             pages: self.slots.count(),
             id: self.id,
             kind: self.kind,

@@ -1,13 +1,10 @@
 //! The header of an archive.
 
 use crate::copy_id::{CopyId, CopyKind};
-use page_core::Lsn;
+use page_core::{Format, Lsn};
 
 /// How many bytes the header of an archive has.
 pub const HEADER_BYTES: usize = 64;
-
-/// The text in front of an archive.
-pub const MAGIC: [u8; 8] = *b"AIMGARC1";
 
 /// The kind of a full copy.
 pub const FULL: u32 = 1;
@@ -18,7 +15,8 @@ pub const INC: u32 = 2;
 /// The header of an archive: what its copy is, and how many pages follow.
 #[derive(Clone, Copy)]
 pub struct ArchiveHeader {
-    /// How many pages the volume has.
+    pub format: Format,
+    /// How many pages the volume had when the copy began.
     pub pages: u32,
     pub id: CopyId,
     pub kind: CopyKind,

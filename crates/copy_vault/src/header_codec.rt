@@ -3,20 +3,23 @@
 ghost use Rattle.std.specs.Prelude.{◌≡◌, ◌↔◌, IfSome, IsTrue, Some};
 ghost use Rattle.copy_vault.specs.Archive.{IsHeader, IsKindOf, header_bytes, kind_number};
 ghost use Rattle.copy_vault.specs.Archive.{parent_of};
+ghost use Rattle.page_core.specs.declared.format.Format.{Format};
+ghost use Rattle.page_core.specs.Format.{digit_of};
 ghost use Rattle.copy_vault.specs.declared.copy_id.CopyKind.{CopyKind};
 ghost use Rattle.copy_vault.specs.declared.header.ArchiveHeader.{ArchiveHeader};
 
 use crate::copy_id::{CopyId, CopyKind, MAX_COPIES};
-use crate::header::{ArchiveHeader, FULL, HEADER_BYTES, INC, MAGIC};
+use crate::header::{ArchiveHeader, FULL, HEADER_BYTES, INC};
 use page_core::field::{u32_at, u64_at};
-use page_core::{LSN_STEP, Lsn, MAX_PAGES};
+use page_core::{Format, LSN_STEP, Lsn, MAX_PAGES};
 
 /// The bytes of a header.
 pub fn encode_header(header: &ArchiveHeader) -> [u8; HEADER_BYTES]
     ensures { result ≡ header_bytes header.now }
 {
     let mut bytes = [0; HEADER_BYTES];
-    bytes[..8].copy_from_slice(&MAGIC);
+    bytes[..7].copy_from_slice(b"AIMGARC");
+    bytes[7] = header.format.digit();
     bytes[8..12].copy_from_slice(&header.pages.to_le_bytes());
     bytes[12..16].copy_from_slice(&header.id.0.to_le_bytes());
     bytes[16..20].copy_from_slice(&kind_number(header.kind).to_le_bytes());
@@ -66,7 +69,9 @@ fn fields_of(bytes: &[u8; HEADER_BYTES]) -> Option<ArchiveHeader>
         → result ≡ Some h }
 {
     let kind = kind_of(u32_at(bytes, 16), u32_at(bytes, 20))?;
+    let format = format_of(bytes[7])?;
     Some(ArchiveHeader {
+        format,
         pages: u32_at(bytes, 8),
         id: CopyId(u32_at(bytes, 12)),
         kind,
@@ -74,6 +79,17 @@ fn fields_of(bytes: &[u8; HEADER_BYTES]) -> Option<ArchiveHeader>
         redo: Lsn(u64_at(bytes, 32)),
         taken: u32_at(bytes, 40),
     })
+}
+
+/// The format that this character names.
+fn format_of(digit: u8) -> Option<Format>
+    ensures only { (format : Format) → digit ≡ digit_of format → result ≡ Some format }
+{
+    match digit {
+        b'1' => Some(Format::First),
+        b'2' => Some(Format::Second),
+        _ => None,
+    }
 }
 
 /// The kind that has this number and parent.

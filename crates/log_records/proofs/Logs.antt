@@ -12,7 +12,8 @@ use Rattle.std.proofs.lemmas.Nat.{from_le_bytes-to_le_bytes_4}
 use Rattle.page_core.proofs.Pieces.{length-pieces, take-drop-pieces}
 use Rattle.log_records.specs.declared.record.Record.{Record}
 use Rattle.log_records.specs.Record.{record_bytes}
-use Rattle.log_records.specs.Log.{Log, SpellsLog, header_bytes, lsn_of, pages_in}
+use Rattle.log_records.specs.Log.{Log, SpellsLog, header_in, lsn_of, pages_in}
+use Rattle.page_core.specs.declared.format.Format.{Format}
 use Rattle.log_records.proofs.PageCounts.{valid_cut}
 use Rattle.log_records.proofs.Records.{record_length, same_record}
 
@@ -25,35 +26,35 @@ range_in given rest a b le long =
 
 -- ---- the header
 
-pub length-header_bytes : (pages : ℕ) → length (header_bytes pages) ≡ 64
-unfolding header_bytes
-length-header_bytes pages = refl
+pub length-header : (f : Format) (pages : ℕ) → length (header_in f pages) ≡ 64
+unfolding header_in
+length-header f pages = refl
 
-pub pages_at : (pages : ℕ) → slice_range (header_bytes pages) 8 12 ≡ to_le_bytes w32 pages
-unfolding header_bytes
-pages_at pages = refl
+pub pages_at : (f : Format) (pages : ℕ) → slice_range (header_in f pages) 8 12 ≡ to_le_bytes w32 pages
+unfolding header_in
+pages_at f pages = refl
 
 -- the page count stands within the header
 pub in_header : (bytes : List ℕ) → slice_range (take 64 bytes) 8 12 ≡ slice_range bytes 8 12
 in_header bytes = ap (take 4) (drop-take 8 56 bytes) ∙ take-take 4 56 (drop 8 bytes) (omega arith)
 
-pub pages_in-header : (pages : ℕ) (bytes : List ℕ) → pages ≤ 65536 → take 64 bytes ≡ header_bytes pages
+pub pages_in-header : (f : Format) (pages : ℕ) (bytes : List ℕ) → pages ≤ 65536 → take 64 bytes ≡ header_in f pages
     → pages_in bytes ≡ pages
-pages_in-header pages bytes few e =
-    ap (from_le_bytes w32) (sym (in_header bytes) ∙ ap (λ (bs : List ℕ). slice_range bs 8 12) e ∙ pages_at pages)
+pages_in-header f pages bytes few e =
+    ap (from_le_bytes w32) (sym (in_header bytes) ∙ ap (λ (bs : List ℕ). slice_range bs 8 12) e ∙ pages_at f pages)
     ∙ from_le_bytes-to_le_bytes_4 pages (omega arith)
 
 -- ---- what a log's spelling has
 
 pub length-log : (log : Log) (bytes : List ℕ) → SpellsLog log bytes → length bytes ≡ 64 * (length log.records + 1)
 length-log log bytes spells =
-    ap length spells.spelled ∙ length-append (header_bytes log.pages) (flat_map record_bytes log.records)
-    ∙ omega (arith, length-header_bytes log.pages, length-pieces record_bytes 64 record_length log.records)
+    ap length spells.spelled ∙ length-append (header_in spells.format log.pages) (flat_map record_bytes log.records)
+    ∙ omega (arith, length-header spells.format log.pages, length-pieces record_bytes 64 record_length log.records)
 
-pub header_of_log : (log : Log) (bytes : List ℕ) → SpellsLog log bytes → take 64 bytes ≡ header_bytes log.pages
+pub header_of_log : (log : Log) (bytes : List ℕ) → (spells : SpellsLog log bytes) → take 64 bytes ≡ header_in spells.format log.pages
 header_of_log log bytes spells =
-    ap (take 64) spells.spelled ∙ take_at (header_bytes log.pages) (flat_map record_bytes log.records) 64
-    (length-header_bytes log.pages)
+    ap (take 64) spells.spelled ∙ take_at (header_in spells.format log.pages) (flat_map record_bytes log.records) 64
+    (length-header spells.format log.pages)
 
 pub record_of_log : (log : Log) (bytes : List ℕ) → SpellsLog log bytes → (i : ℕ) (d : Record) → i < length log.records
     → slice_range bytes (lsn_of i) (lsn_of i + 64) ≡ record_bytes (get_or log.records i d)
@@ -61,8 +62,8 @@ record_of_log log bytes spells i d lt =
     let wide : lsn_of i + 64 - lsn_of i ≡ 64 = omega arith in
     let place : lsn_of i ≡ 64 + 64 * i = omega arith in
     let behind : drop 64 bytes ≡ flat_map record_bytes log.records =
-    ap (drop 64) spells.spelled ∙ drop_at (header_bytes log.pages) (flat_map record_bytes log.records) 64
-    (length-header_bytes log.pages) in
+    ap (drop 64) spells.spelled ∙ drop_at (header_in spells.format log.pages) (flat_map record_bytes log.records) 64
+    (length-header spells.format log.pages) in
     ap (λ k. take k (drop (lsn_of i) bytes)) wide ∙ ap (λ k. take 64 (drop k bytes)) place
     ∙ ap (take 64) (sym (drop-drop (64 * i) 64 bytes) ∙ ap (drop (64 * i)) behind)
     ∙ take-drop-pieces record_bytes 64 record_length log.records i d lt
@@ -73,21 +74,22 @@ pub spells_cut : (log : Log) (bytes : List ℕ) (i : ℕ) → i ≤ length log.r
 spells_cut log bytes i le spells =
     let first = take i log.records in
     let rest = drop i log.records in
-    let front = header_bytes log.pages ++ flat_map record_bytes first in
+    let front = header_in spells.format log.pages ++ flat_map record_bytes first in
     let parts : flat_map record_bytes log.records ≡ flat_map record_bytes first ++ flat_map record_bytes rest =
     ap (flat_map record_bytes) (sym (take-append-drop i log.records)) ∙ flat_map-append record_bytes first rest in
     let whole : bytes ≡ front ++ flat_map record_bytes rest =
-    spells.spelled ∙ ap (λ (bs : List ℕ). header_bytes log.pages ++ bs) parts
-    ∙ sym (append_assoc (header_bytes log.pages) (flat_map record_bytes first) (flat_map record_bytes rest)) in
+    spells.spelled ∙ ap (λ (bs : List ℕ). header_in spells.format log.pages ++ bs) parts
+    ∙ sym (append_assoc (header_in spells.format log.pages) (flat_map record_bytes first) (flat_map record_bytes rest)) in
     let long : length front ≡ lsn_of i = omega (
       arith,
-      length-append (header_bytes log.pages) (flat_map record_bytes first),
-      length-header_bytes log.pages,
+      length-append (header_in spells.format log.pages) (flat_map record_bytes first),
+      length-header spells.format log.pages,
       length-pieces record_bytes 64 record_length first,
       length-take i log.records,
     ) in
     record {
       valid = valid_cut log i spells.valid;
+      format = spells.format;
       spelled = ap (take (lsn_of i)) whole ∙ take_at front (flat_map record_bytes rest) (lsn_of i) long;
     }
 
@@ -95,8 +97,8 @@ spells_cut log bytes i le spells =
 pub same_log : (a b : Log) (bytes : List ℕ) → SpellsLog a bytes → SpellsLog b bytes → a ≡ b
 same_log a b bytes a_spells b_spells =
     let pages : a.pages ≡ b.pages =
-    sym (pages_in-header a.pages bytes a_spells.valid.pages.most (header_of_log a bytes a_spells))
-    ∙ pages_in-header b.pages bytes b_spells.valid.pages.most (header_of_log b bytes b_spells) in
+    sym (pages_in-header a_spells.format a.pages bytes a_spells.valid.pages.most (header_of_log a bytes a_spells))
+    ∙ pages_in-header b_spells.format b.pages bytes b_spells.valid.pages.most (header_of_log b bytes b_spells) in
     let counts : length a.records ≡ length b.records =
     omega (arith, length-log a bytes a_spells, length-log b bytes b_spells) in
     let records : a.records ≡ b.records = same_lists a.records b.records counts (λ k d lt.

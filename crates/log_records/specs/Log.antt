@@ -1,6 +1,6 @@
 -- A whole log, and its bytes.
 use Rattle.std.specs.Prelude.{ℕ, ◌≡◌, ◌+◌, ◌-◌, ◌*◌, ◌/◌, ◌<◌, ◌≤◌, List, length, ◌++◌}
-use Rattle.std.specs.Prelude.{slice_index_or, take, replicate, codes, slice_range}
+use Rattle.std.specs.Prelude.{[], ◌∷◌, slice_index_or, take, replicate, codes, slice_range}
 use Rattle.std.specs.List.{AllByRecursion, filter_map, flat_map}
 use Rattle.std.specs.Int.{w32, to_le_bytes, from_le_bytes}
 use Rattle.log_records.specs.declared.record.Record.{Record}
@@ -11,6 +11,9 @@ use Rattle.log_records.specs.DirtyPage.{entries_of}
 use Rattle.page_core.specs.declared.numbers.TheConstants.{LSN_STEP}
 use Rattle.page_core.specs.declared.page.TheConstants.{MAX_PAGES}
 use Rattle.page_core.specs.PageCounts.{PageCounts}
+use Rattle.page_core.specs.declared.format.Format.{Format}
+use Rattle.page_core.specs.declared.format.Format.TheVariants.{Second}
+use Rattle.page_core.specs.Format.{digit_of}
 use Rattle.log_records.specs.declared.limits.TheConstants.{HEADER_BYTES, MAX_RECORDS}
 use Rattle.log_records.specs.PageCount.{count_behind, given_by}
 use Rattle.log_records.specs.Record.{IsRecord, own_lsn, record_bytes}
@@ -80,24 +83,38 @@ pub record IsLog (log : Log) : Type 0 where
   pub records : (i : ℕ) (d : Record) → i < length log.records
       → StandsAt (page_count_at log i) (lsn_of i) (slice_index_or log.records i d)
 
--- the 64 bytes in front of the records
-unfoldable pub header_bytes : ℕ → List ℕ
-header_bytes pages = codes "AIMGLOG1" ++ to_le_bytes w32 pages ++ replicate (HEADER_BYTES - 12) 0
+-- the text in front of a log: AIMGLOG1 or AIMGLOG2
+abbrev pub magic_of : Format → List ℕ
+magic_of format = codes "AIMGLOG" ++ digit_of format ∷ []
+
+-- the 64 bytes in front of the records, by the log's format and its page count
+unfoldable pub header_in : Format → ℕ → List ℕ
+header_in format pages = magic_of format ++ to_le_bytes w32 pages ++ replicate (HEADER_BYTES - 12) 0
+
+-- those of a log that is written
+abbrev pub header_bytes : ℕ → List ℕ
+header_bytes pages = header_in Second pages
 
 -- the page count that a header has
 abbrev pub pages_in : List ℕ → ℕ
 pages_in bytes = from_le_bytes w32 (slice_range bytes 8 12)
 
-abbrev pub log_bytes : Log → List ℕ
-log_bytes log = header_bytes log.pages ++ flat_map record_bytes log.records
+-- the bytes of a log in a format, and those of one that is written
+abbrev pub bytes_in : Format → Log → List ℕ
+bytes_in format log = header_in format log.pages ++ flat_map record_bytes log.records
 
--- the bytes are the one spelling of the log
+abbrev pub log_bytes : Log → List ℕ
+log_bytes log = bytes_in Second log
+
+-- the bytes are the spelling of the log in one of the formats
 pub record SpellsLog (log : Log) (bytes : List ℕ) : Type 0 where
   pub valid : IsLog log
-  pub spelled : bytes ≡ log_bytes log
+  pub format : Format
+  pub spelled : bytes ≡ bytes_in format log
 
 -- the bytes begin with the header of a log of so many pages
 pub record HasHeader (pages : ℕ) (bytes : List ℕ) : Type 0 where
   pub count : IsPageCount pages
   pub long : HEADER_BYTES ≤ length bytes
-  pub spelled : take HEADER_BYTES bytes ≡ header_bytes pages
+  pub format : Format
+  pub spelled : take HEADER_BYTES bytes ≡ header_in format pages

@@ -117,6 +117,7 @@ has_header : (log : Log) (bytes : List ℕ) → StartsWith log bytes → IsHeade
 has_header log bytes starts =
     let end = lsn_of (length log.records) in
     let past : 64 ≤ end = omega arith in (
+      starts.spells.format,
       log.pages,
       starts.spells.valid.pages,
       sym (take-take 64 end bytes past) ∙ header_of_log log (take end bytes) starts.spells,
@@ -234,7 +235,7 @@ none_in_log log bytes spells linked (BadChain at) h =
     let past = unbroken log bytes (starts_alone log bytes spells linked) at h in
     let fits = (break_at bytes at h).0 in
     omega (arith, length-log log bytes spells)
-none_in_log log bytes spells linked BadHeader h = h (log.pages, spells.valid.pages, header_of_log log bytes spells)
+none_in_log log bytes spells linked BadHeader h = h (spells.format, log.pages, spells.valid.pages, header_of_log log bytes spells)
 none_in_log log bytes spells linked (BadRecord at) h =
     let past = none_lacks log bytes (starts_alone log bytes spells linked) at h in
     let fits = h.whole in

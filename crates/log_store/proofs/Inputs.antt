@@ -12,7 +12,7 @@ use Rattle.log_records.specs.Log.{Log, SpellsLog}
 use Rattle.log_history.specs.Linked.{IsLinked}
 use Rattle.log_store.specs.Fault.{BreaksChain, IsPlace, IsHeader, HasFault, IsFirstFault, IsHeld, LacksRecord}
 use Rattle.log_store.specs.Fault.{HoldsNoFault, Refuses, IsOutside, offset_of}
-use Rattle.log_records.proofs.Logs.{length-header_bytes, range_in}
+use Rattle.log_records.proofs.Logs.{length-header, range_in}
 use Rattle.log_store.proofs.Faults.{break_at, first_header, none_in_log}
 
 -- of a place without a record, within what was given
@@ -215,7 +215,7 @@ only_outside log input spells linked TooLong h = none_in_log log input spells li
 -- ---- fewer bytes than a header
 
 no_header : (given : List ℕ) → length given < 64 → ¬ IsHeader (take 64 given)
-no_header given short header = omega (arith, length-take 64 given, ap length header.2, length-header_bytes header.0)
+no_header given short header = omega (arith, length-take 64 given, ap length header.3, length-header header.0 header.1)
 
 pub refuses_short : (given rest : List ℕ) → length given < 64 → rest ≡ [] → Refuses (given ++ rest) BadHeader
 refuses_short given rest short none = refuses_all given rest BadHeader (first_header given (no_header given short)) none

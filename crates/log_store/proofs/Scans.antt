@@ -14,7 +14,8 @@ use Rattle.log_store.specs.declared.fault.LogReadFault.TheVariants.{OutOfMemory,
 use Rattle.log_store.specs.declared.fault.LogReadFault.TheVariants.{ReadFault, TooLong}
 use Rattle.log_records.specs.declared.record.Record.{Record}
 use Rattle.log_records.specs.Record.{record_bytes}
-use Rattle.log_records.specs.Log.{IsLog, IsPageCount, Log, StandsAt, SpellsLog, header_bytes, log_bytes, lsn_of, page_count}
+use Rattle.log_records.specs.Log.{IsLog, IsPageCount, Log, StandsAt, SpellsLog, bytes_in, header_in, lsn_of, page_count}
+use Rattle.page_core.specs.declared.format.Format.{Format}
 use Rattle.log_records.specs.Log.{with_next}
 use Rattle.log_history.specs.History.{IsMadeOf, Made}
 use Rattle.log_history.specs.Linked.{IsLinked, MayFollow}
@@ -79,27 +80,30 @@ bad_chain log r given unit rest spells linked few stands e breaks =
 
 -- ---- one record more
 
-spells_next : (log : Log) (r : Record) (given unit : List ℕ) → SpellsLog log given → length log.records < 1048576
+pub spells_next : (log : Log) (r : Record) (given unit : List ℕ) → SpellsLog log given → length log.records < 1048576
     → StandsAt (page_count log) (lsn_of (length log.records)) r → unit ≡ record_bytes r
     → SpellsLog (with_next log (r ∷ [])) (given ++ unit)
 spells_next log r given unit spells few stands e = record {
   valid = valid_next log r spells.valid few stands;
-  spelled = ap (λ (front : List ℕ). front ++ unit) spells.spelled ∙ ap (λ (end : List ℕ). log_bytes log ++ end) e
-      ∙ flat_map_more record_bytes (header_bytes log.pages) log.records r;
+  format = spells.format;
+  spelled = ap (λ (front : List ℕ). front ++ unit) spells.spelled
+      ∙ ap (λ (end : List ℕ). bytes_in spells.format log ++ end) e
+      ∙ flat_map_more record_bytes (header_in spells.format log.pages) log.records r;
 }
 
 -- ---- what the sink took
 
 -- nothing yet
-pub taken_none : {S : Type 0} (holds : S → Log → Type 0) (sink : S) (made : Made) (pages : ℕ) → IsPageCount pages
-    → holds sink (record { pages = pages; records = [] }) → IsMadeOf (record { pages = pages; records = [] }) made
-    → HasTaken holds sink made 0 (header_bytes pages)
-taken_none holds sink made pages count held of = record {
+pub taken_none : {S : Type 0} (holds : S → Log → Type 0) (sink : S) (made : Made) (f : Format) (pages : ℕ)
+    → IsPageCount pages → holds sink (record { pages = pages; records = [] }) → IsMadeOf (record { pages = pages; records = [] }) made
+    → HasTaken holds sink made 0 (header_in f pages)
+taken_none holds sink made f pages count held of = record {
   log = record { pages = pages; records = [] };
   held = held;
   spells = record {
     valid = record { pages = count; count = omega arith; records = λ i d lt. absurd (omega arith) };
-    spelled = sym (append-nil (header_bytes pages));
+    format = f;
+    spelled = sym (append-nil (header_in f pages));
   };
   linked = linked_none;
   made_of = of;

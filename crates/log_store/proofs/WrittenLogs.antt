@@ -1,10 +1,18 @@
 -- What a log that is written keeps.
-use Rattle.std.proofs.Common.{◌≡◌, ℕ, ◌+◌, ◌*◌, ◌≤◌, List, [], length, take, refl, sym, ap, ◌∙◌, arith}
-use Rattle.std.proofs.lemmas.List.{append-nil, length-take, take_all}
+use Rattle.std.proofs.Common.{◌≡◌, ℕ, ◌+◌, ◌*◌, ◌<◌, ◌≤◌, List, [], ◌∷◌, ◌++◌, length, take, refl, sym, ap, ◌∙◌, arith}
+use Rattle.std.proofs.Common.{subst, suc}
+use Rattle.std.specs.Prelude.{slice_get, Some}
+use Rattle.std.proofs.lemmas.List.{append-nil, length-append, length-take, take_all}
+use Rattle.std.proofs.lemmas.Option.{get_or_from_slice_get, slice_get_within}
+use Rattle.std.proofs.Math.Seq.{take-suc}
 use Rattle.log_records.specs.declared.record.Record.{Record}
-use Rattle.log_records.specs.Log.{IsLog, IsPageCount, header_bytes, lsn_of}
-use Rattle.log_store.specs.WrittenLog.{IsWritten, written_log}
-use Rattle.log_records.proofs.Logs.{length-log, length-header_bytes}
+use Rattle.log_records.specs.Log.{IsLog, IsPageCount, Log, SpellsLog, StandsAt, header_bytes, lsn_of, page_count, page_count_at, with_next}
+use Rattle.log_records.specs.Record.{own_lsn, record_bytes}
+use Rattle.log_records.proofs.Records.{record_length}
+use Rattle.log_store.specs.WrittenLog.{HasRecordAt, IsWritten, written_log}
+use Rattle.log_store.proofs.Scans.{spells_next}
+use Rattle.log_records.proofs.Logs.{length-log, length-header}
+use Rattle.page_core.specs.declared.format.Format.TheVariants.{Second}
 
 -- the forced end lies on the device
 pub on_device : {D : Type 0} (bytes : D → List ℕ) (pages : ℕ) (records : List Record) (forced room : ℕ) (device : D)
@@ -29,7 +37,7 @@ written_empty bytes pages room device count spelled =
       records = λ i d lt. absurd (omega arith);
     } in
     let whole : take 64 (bytes device) ≡ bytes device =
-    take_all 64 (bytes device) (omega (arith, ap length spelled, length-header_bytes pages)) in
+    take_all 64 (bytes device) (omega (arith, ap length spelled, length-header Second pages)) in
     record {
       valid = valid;
       forced = (
@@ -37,7 +45,63 @@ written_empty bytes pages room device count spelled =
         record {
           there = omega arith;
           end = refl;
-          stable = record { valid = valid; spelled = whole ∙ spelled ∙ sym (append-nil (header_bytes pages)) };
+          stable = record { valid = valid; format = Second; spelled = whole ∙ spelled ∙ sym (append-nil (header_bytes pages)) };
         },
       );
     }
+
+module _ {D : Type 0} (bytes : D → List ℕ) (pages : ℕ) (records : List Record) (forced room : ℕ) (device after : D)
+    (kept : IsWritten bytes (written_log pages records forced room device)) (r : Record)
+    (there : slice_get records forced ≡ Some r) where
+  abbrev log : Log
+  log = record { pages = pages; records = records }
+
+  within : forced < length records
+  within = slice_get_within records forced r there
+
+  -- the record that comes next on the device stands in the log behind what is forced
+  pub next_there : HasRecordAt log (lsn_of forced) r
+  next_there = record { index = forced; place = refl; there = there }
+
+  stands : StandsAt (page_count_at log forced) (lsn_of forced) r
+  stands = subst (StandsAt (page_count_at log forced) (lsn_of forced)) (get_or_from_slice_get records forced r r there)
+      (kept.valid.records forced r within)
+
+  pub next_lsn : own_lsn r ≡ lsn_of forced
+  next_lsn = stands.lsn
+
+  -- it is stored: then one record more is forced
+  pub written_next : bytes after ≡ take (lsn_of forced) (bytes device) ++ record_bytes r
+      → IsWritten bytes (written_log pages records (forced + 1) room after)
+  written_next stored =
+      let count = kept.forced.0 in
+      let known = kept.forced.1 in
+      let same : count ≡ forced = (let end : lsn_of forced ≡ lsn_of count = known.end in omega arith) in
+      let front = take (lsn_of forced) (bytes device) in
+      let first : Log = record { pages = pages; records = take forced records } in
+      let before : SpellsLog first front =
+      subst (λ n. SpellsLog (record { pages = pages; records = take n records }) front) same known.stable in
+      let many : length records ≤ 1048576 = kept.valid.count in
+      let few : length (take forced records) ≡ forced = omega (arith, length-take forced records, within) in
+      let longer : take (forced + 1) records ≡ take forced records ++ r ∷ [] =
+      ap (λ n. take n records) (let one : forced + 1 ≡ suc forced = omega arith in one) ∙ take-suc records forced r within
+      ∙ ap (λ (x : Record). take forced records ++ x ∷ []) (get_or_from_slice_get records forced r r there) in
+      let spelled : SpellsLog (record { pages = pages; records = take (forced + 1) records }) (bytes after) =
+      subst (λ (rs : List Record). SpellsLog (record { pages = pages; records = rs }) (bytes after)) (sym longer)
+      (subst (SpellsLog (with_next first (r ∷ []))) (sym stored)
+      (spells_next first r front (record_bytes r) before (let lt = within in omega (arith, few, many))
+      (subst (λ n. StandsAt (page_count first) (lsn_of n) r) (sym few) stands) refl)) in
+      let whole : take (lsn_of (forced + 1)) (bytes after) ≡ bytes after =
+      take_all (lsn_of (forced + 1)) (bytes after)
+      (omega (arith, ap length stored, length-append front (record_bytes r), record_length.each r, length-log first front before, few)) in
+      record {
+        valid = kept.valid;
+        forced = (
+          forced + 1,
+          record {
+            there = (let lt = within in omega arith);
+            end = refl;
+            stable = subst (SpellsLog (record { pages = pages; records = take (forced + 1) records })) (sym whole) spelled;
+          },
+        );
+      }

@@ -14,7 +14,8 @@ use Rattle.log_records.specs.declared.limits.TheConstants.{RECORD_BYTES}
 use Rattle.log_records.specs.declared.record.Record.{Record}
 use Rattle.log_records.specs.Record.{record_bytes}
 use Rattle.log_history.specs.Linked.{IsLinked, MayFollow}
-use Rattle.log_records.specs.Log.{IsPageCount, Log, SpellsLog, StandsAt, header_bytes}
+use Rattle.page_core.specs.declared.format.Format.{Format}
+use Rattle.log_records.specs.Log.{IsPageCount, Log, SpellsLog, StandsAt, header_in}
 use Rattle.log_records.specs.Log.{page_count}
 
 -- an offset at which a record may stand
@@ -23,9 +24,10 @@ pub record IsPlace (at : ℕ) : Type 0 where
   pub past_header : HEADER_BYTES ≤ at
   pub in_longest : at < MAX_LOG_BYTES
 
--- these 64 bytes are the header of a log
+-- these 64 bytes are the header of a log, in one of the formats
 abbrev pub IsHeader : List ℕ → Type 0
-IsHeader bytes = (pages : ℕ) × IsPageCount pages × (bytes ≡ header_bytes pages)
+IsHeader bytes =
+    (format : Format) × (pages : ℕ) × IsPageCount pages × (bytes ≡ header_in format pages)
 
 -- the 64 bytes at this offset are a record that may stand there, in a volume of so many pages
 abbrev pub HasRecord : List ℕ → ℕ → ℕ → Type 0

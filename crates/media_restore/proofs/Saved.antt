@@ -9,6 +9,7 @@ use Rattle.std.proofs.lemmas.List.{length-take-le}
 use Rattle.page_core.specs.declared.page.Page.{Page}
 use Rattle.page_core.specs.Page.{IsPage}
 use Rattle.log_records.specs.Coverage.{Covers, IsPast}
+use Rattle.page_core.specs.declared.format.Format.TheVariants.{Second}
 use Rattle.page_core.specs.PageCounts.{count_below}
 use Rattle.log_records.specs.Log.{IsLog, Log, counts_of, log_bytes, page_count}
 use Rattle.log_records.proofs.PageCounts.{count_below-counts_of, page_count-is_count}
@@ -56,7 +57,7 @@ of_log log master copies left =
       valid = valid;
       linked = subst (λ (k : Log). IsLinked k.records) (sym left.kept.made)
           (linked-take left.it.log.records left.retired.linked left.kept.count);
-      spelled = record { valid = valid; spelled = refl };
+      spelled = record { valid = valid; format = Second; spelled = refl };
     }
 
 of_master : (log : Log) (master : Master) (copies : List CopyView) → AreLeft log master copies

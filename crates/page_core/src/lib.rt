@@ -6,6 +6,7 @@ mod change;
 mod failures;
 mod fault_name;
 pub mod field;
+mod format;
 mod input;
 mod numbers;
 mod output;
@@ -17,6 +18,7 @@ pub use buffer::zeros;
 pub use change::{Change, ChangeKind, undo_of};
 pub use failures::Failures;
 pub use fault_name::FaultName;
+pub use format::Format;
 pub use input::{MAX_TURNS, Turn, keep_from, read_more, readers_are_asked_so_often};
 pub use numbers::{LSN_STEP, Lsn, PageNo, SlotNo, TxnNo};
 pub use output::write_out;
@@ -25,4 +27,4 @@ pub use page::{
     volumes_are_spelled_apart,
 };
 pub use page_counts::{GivenCount, PageCounts};
-pub use volume::formatted_pages;
+pub use volume::{formatted_pages, grow_reserved, new_volumes_grow_to_new_ones};

@@ -1,5 +1,6 @@
 use Rattle.std.proofs.Common.{refl, ◌≡◌, ◌∙◌, ap}
 use Rattle.std.specs.Int.{w32, w64, to_le_bytes}
+use Rattle.page_core.specs.Format.{digit_of}
 use Rattle.copy_vault.specs.declared.header.ArchiveHeader.{ArchiveHeader}
 use Rattle.copy_vault.specs.Archive.{header_bytes, kind_number, parent_of}
 use Rattle.copy_vault.proofs.header_codec.encode_header.Goals as goal
@@ -24,4 +25,6 @@ returns c =
     ∙ c.to_le_bytes-6.ensures ∙ ap (λ (h : ArchiveHeader). to_le_bytes w64 h.redo) c.header.view_is in
     let taken : c.copy_from_slice-8.new.self ≡ to_le_bytes w32 header.taken = c.copy_from_slice-8.ensures.after
     ∙ c.to_le_bytes-7.ensures ∙ ap (λ (h : ArchiveHeader). to_le_bytes w32 h.taken) c.header.view_is in
-    rw (c.copy_from_slice.ensures.after, pages, id, kind, parent, begin, redo, taken) refl
+    let digit : c.digit.result ≡ digit_of header.format =
+    c.digit.ensures ∙ ap (λ (h : ArchiveHeader). digit_of h.format) c.header.view_is in
+    rw (c.copy_from_slice.ensures.after, digit, pages, id, kind, parent, begin, redo, taken) refl

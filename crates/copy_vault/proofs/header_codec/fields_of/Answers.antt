@@ -1,8 +1,8 @@
-use Rattle.std.proofs.Common.{◌≡◌, ◌∙◌, refl, sym, ap, List, ℕ}
+use Rattle.std.proofs.Common.{◌≡◌, ◌∙◌, refl, sym, ap, List, ℕ, get_or}
 use Rattle.std.specs.Prelude.{slice_range}
 use Rattle.std.proofs.lemmas.Option.{none-some, same_Some}
 use Rattle.copy_vault.specs.Archive.{header_bytes, kind_number, parent_of}
-use Rattle.copy_vault.proofs.Headers.{fit, pages_at, id_at, kind_at, parent_at, begin_at, redo_at, taken_at}
+use Rattle.copy_vault.proofs.Headers.{digit_at, fit, pages_at, id_at, kind_at, parent_at, begin_at, redo_at, taken_at}
 use Rattle.copy_vault.proofs.header_codec.fields_of.Goals as goal
 
 pub returns-in_err-kind : goal.returns-in_err-kind
@@ -15,6 +15,13 @@ returns-in_err-kind c = record {
       let parent = c.u32_at-2.ensures.only (parent_of h.kind) f.parent (sym (part 20 24 ∙ parent_at h)) in
       let found = c.kind_of.ensures.only h.kind kind parent in
       absurd (none-some h.kind (sym c.in_err-kind.was ∙ found));
+}
+
+pub returns-in_err-format : goal.returns-in_err-format
+returns-in_err-format c = record {
+  only = λ h valid e.
+      let found = c.format_of.ensures.only h.format (ap (λ (bs : List ℕ). get_or bs 7 0) e ∙ digit_at h) in
+      absurd (none-some h.format (sym c.in_err-format.was ∙ found));
 }
 
 pub returns : goal.returns
@@ -32,5 +39,8 @@ returns c = record {
       let begin = c.u64_at.ensures.only h.begin f.begin (sym (part 24 32 ∙ begin_at h)) in
       let redo = c.u64_at-2.ensures.only h.redo f.redo (sym (part 32 40 ∙ redo_at h)) in
       let taken = c.u32_at-5.ensures.only h.taken f.taken (sym (part 40 44 ∙ taken_at h)) in
-      rw (pages, id, kind, begin, redo, taken) refl;
+      let format : c.in_ok-format.format ≡ h.format =
+      same_Some _ _ (sym c.in_ok-format.was ∙ c.format_of.ensures.only h.format
+      (ap (λ (bs : List ℕ). get_or bs 7 0) e ∙ digit_at h)) in
+      rw (format, pages, id, kind, begin, redo, taken) refl;
 }

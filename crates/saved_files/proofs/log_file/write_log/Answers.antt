@@ -5,7 +5,8 @@ use Rattle.std.proofs.KnownBytes.{Appends-trans}
 use Rattle.std.proofs.lemmas.List.{append-nil, length-append}
 use Rattle.log_records.specs.Log.{header_bytes, log_bytes}
 use Rattle.log_records.specs.Record.{record_bytes}
-use Rattle.log_records.proofs.Logs.{length-header_bytes}
+use Rattle.page_core.specs.declared.format.Format.TheVariants.{Second}
+use Rattle.log_records.proofs.Logs.{length-header}
 use Rattle.page_core.proofs.Pieces.{into}
 use Rattle.saved_files.proofs.log_file.write_log.Goals as goal
 
@@ -21,7 +22,7 @@ returns-in-Err-write_records-clause-err g c =
     subst (λ (bs : List ℕ). done < length bs) read c.in-Err-write_records.ensures.within in
     let old = g.W.Write.contents c.args.writer.now in
     let new = g.W.Write.contents c.write_records.new.writer in
-    let place : 64 ≡ length header = sym (length-header_bytes log.pages) in
+    let place : 64 ≡ length header = sym (length-header Second log.pages) in
     let bytes : c.encode_header-header.result ≡ header = c.encode_header-header.ensures
     ∙ ap header_bytes c.pages.ensures.pages in
     let first : Appends old (g.W.Write.contents c.write_out.new.writer) header =
