@@ -7,7 +7,6 @@ use Rattle.std.proofs.Math.ListN.{get_or-eq_default}
 use Rattle.std.proofs.lemmas.Bool.{cases_lt}
 use Rattle.std.proofs.lemmas.List.{length-take-le}
 use Rattle.page_core.specs.declared.page.Page.{Page}
-use Rattle.page_core.specs.declared.format.Format.TheVariants.{Second}
 use Rattle.page_core.specs.Page.{IsPage}
 use Rattle.log_records.specs.Coverage.{Covers, IsPast}
 use Rattle.page_core.specs.declared.format.Format.TheVariants.{Second}
