@@ -201,6 +201,8 @@ fn logs_with_a_checkpoint_are_read(rt: HostRuntime) -> Result<(), Fail> {
     let alloc = rt.alloc();
     for (offset, byte, fault) in [
         (0, b'A', None),
+        (7, b'1', None),
+        (7, b'3', Some(LogReadFault::BadHeader)),
         (280, 64, Some(LogReadFault::BadChain(Lsn(256)))),
         (344, 2, Some(LogReadFault::BadChain(Lsn(320)))),
         (408, 192, Some(LogReadFault::BadChain(Lsn(384)))),
