@@ -12,8 +12,8 @@ from pathlib import Path
 
 from model.log_checkpoints import (ACTIVE, BEGIN_CHKPT, CHKPT_PAGES, CHKPT_TXNS, END_CHKPT, ROLLING,
                                    CheckpointRecord)
-from model.log_format import (ABORT, ADD, BEGIN, COMMIT, COMP, END, FIRST_MAGIC, MAGIC, NO_CHANGE, RECORD_SIZE, SET, SLOTS,
-                              UPDATE, Change, Record, Volume, encode_header, lsn_of)
+from model.log_format import (ABORT, ADD, BEGIN, COMMIT, COMP, END, FIRST_MAGIC, MAGIC, NO_CHANGE, RECORD_SIZE, SET,
+                              SLOTS, UPDATE, Change, Record, Volume, encode_header, lsn_of)
 
 
 class Log:

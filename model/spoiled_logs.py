@@ -9,8 +9,8 @@ from collections import Counter, defaultdict
 from model import log_checkpoints
 from model.log_checkpoints import CheckpointRecord
 from model.log_format import (ABORT, ADD, BEGIN, COMMIT, COMP, END, FIRST_MAGIC, HEADER_SIZE, KINDS, LONGEST_LOG, MAGIC,
-                              MOST_OPEN, MOST_PAGES, MOST_RECORDS, NO_CHANGE, RECORD_SIZE, SET, UPDATE, Change, History, Record, encode_header,
-                              lsn_of)
+                              MOST_OPEN, MOST_PAGES, MOST_RECORDS, NO_CHANGE, RECORD_SIZE, SET, UPDATE, Change, History,
+                              Record, encode_header, lsn_of)
 from model.samples import Draw, Log, checkpoint, rollback
 
 PAGES = 2
