@@ -12,8 +12,8 @@ pub enum FileKind {
     Archive,
 }
 
-/// What begins like this, if anything that is known here does. Of logs and of archives there are two
-/// formats.
+/// What begins like this, if anything that is known here does. Of logs and of archives there are
+/// two formats.
 pub fn kind_of(header: &[u8; HEADER_BYTES]) -> Option<FileKind> {
     match &header[..8] {
         b"AIMGLOG1" | b"AIMGLOG2" => Some(FileKind::Log),
