@@ -7,6 +7,7 @@ cd "$(dirname "$0")/.."
 for folder in tools/plants/*; do
     crate=$(basename "$folder")
     tried=crates/$crate/must-fail
+    rmdir "$tried" 2> /dev/null || true # an empty one is none for git
     if [ -e "$tried" ]; then
         echo "FAILED plants: $tried is there, so the gate tries the wrong bodies of $crate" >&2
         exit 1
