@@ -14,11 +14,11 @@ use Rattle.log_records.specs.declared.dirty_page.DirtyPage.{DirtyPage}
 use Rattle.log_records.specs.DirtyPage.{entries_of}
 use Rattle.log_records.specs.declared.record.Record.{Record}
 use Rattle.log_records.specs.declared.record.Record.TheVariants.{Begin, Update, Comp, Commit, Abort, End, BeginChkpt}
-use Rattle.log_records.specs.declared.record.Record.TheVariants.{ChkptPages, ChkptTxns, EndChkpt}
-use Rattle.log_records.specs.Log.{AreWithin, IsLog, IsPageCount, IsWithin, Log, StandsAt, counts_of, lsn_of, page_count, page_count_at}
+use Rattle.log_records.specs.declared.record.Record.TheVariants.{ChkptPages, ChkptTxns, EndChkpt, Extend}
+use Rattle.log_records.specs.Log.{AreWithin, IsLog, IsWithin, Log, StandsAt, counts_of, lsn_of, page_count, page_count_at}
 use Rattle.log_records.specs.Log.{page_count_below, with_next}
-use Rattle.log_records.specs.PageCount.{count_after, count_behind, given_by, given_count}
-use Rattle.log_records.specs.Record.{IsRecord, own_lsn}
+use Rattle.log_records.specs.PageCount.{GivesMore, count_after, count_behind, given_by, given_count}
+use Rattle.log_records.specs.Record.{IsPageCount, IsRecord, own_lsn}
 use Rattle.page_core.specs.PageCounts.{count_below, greatest, last_count}
 
 -- ---- along a list of records
@@ -191,6 +191,7 @@ within_more n m le (BeginChkpt lsn) within = tt
 within_more n m le (ChkptPages lsn begin entries) within = entries_within n m le (entries_of entries) within
 within_more n m le (ChkptTxns lsn begin txn state last undo_next) within = tt
 within_more n m le (EndChkpt lsn begin redo) within = tt
+within_more n m le (Extend lsn pages) within = tt
 
 pub stands_more : (n m at : ℕ) (r : Record) → n ≤ m → StandsAt n at r → StandsAt m at r
 stands_more n m at r le stands = record {
@@ -222,6 +223,7 @@ gives_a_count (BeginChkpt lsn) valid = tt
 gives_a_count (ChkptPages lsn begin entries) valid = tt
 gives_a_count (ChkptTxns lsn begin txn state last undo_next) valid = tt
 gives_a_count (EndChkpt lsn begin redo) valid = tt
+gives_a_count (Extend lsn pages) valid = valid.1
 
 greater_is_count : (count : ℕ) (given : Option ℕ) → IsPageCount count → IfSome given IsPageCount
     → IsPageCount (option_map_or (max count) given count)
@@ -257,39 +259,17 @@ valid_cut log count valid =
           let there : i < length log.records = omega (arith, long, lt) in
           rw (get_or-take count log.records i d below, page_count_at-take log i count (omega arith))
           (valid.records i d there);
+      grows = λ i d lt.
+          let below : i < count = omega (arith, long, lt) in
+          let there : i < length log.records = omega (arith, long, lt) in
+          rw (get_or-take count log.records i d below, page_count_at-take log i count (omega arith))
+          (valid.grows i d there);
     }
 
--- ---- no kind of record gives a count so far
+-- ---- a record that gives none
 
-pub gives_none : (r : Record) → given_count r ≡ None
-gives_none (Begin lsn txn) = refl
-gives_none (Update lsn txn prev page slot change) = refl
-gives_none (Comp lsn txn prev undo_next page slot change) = refl
-gives_none (Commit lsn txn prev) = refl
-gives_none (Abort lsn txn prev) = refl
-gives_none (End lsn txn prev) = refl
-gives_none (BeginChkpt lsn) = refl
-gives_none (ChkptPages lsn begin entries) = refl
-gives_none (ChkptTxns lsn begin txn state last undo_next) = refl
-gives_none (EndChkpt lsn begin redo) = refl
+pub count_after-none : (count : ℕ) (r : Record) → given_count r ≡ None → count_after count r ≡ count
+count_after-none count r none = rw none refl
 
-pub count_stays : (count : ℕ) (r : Record) → count_after count r ≡ count
-count_stays count r = rw (gives_none r) refl
-
-pub counts_stay : (count : ℕ) (rs : List Record) → count_behind count rs ≡ count
-unfolding count_behind
-counts_stay count [] = refl
-counts_stay count (r ∷ rs) = ap (λ n. count_behind n rs) (count_stays count r) ∙ counts_stay count rs
-
-pub count_is_first : (log : Log) → page_count log ≡ log.pages
-count_is_first log = counts_stay log.pages log.records
-
-none_given : (rs : List Record) → filter_map given_by rs ≡ []
-none_given [] = refl
-none_given (r ∷ rs) = rw (gives_none r) (none_given rs)
-
-pub counts_are_first : (log : Log) → counts_of log ≡ (record { first = log.pages; given = [] })
-counts_are_first log = rw (none_given log.records) refl
-
-pub count_below_is_first : (log : Log) (lsn : ℕ) → page_count_below log lsn ≡ log.pages
-count_below_is_first log lsn = counts_stay log.pages (take ((lsn - 1) / 64) log.records)
+pub more-none : (count : ℕ) (r : Record) → given_count r ≡ None → GivesMore count r
+more-none count r none = rw none tt

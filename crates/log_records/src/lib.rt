@@ -23,7 +23,7 @@ pub use coverage_laws::{
     covering_outlasts_new_records, redo_of_a_covering_page_is_its_image,
 };
 pub use dirty_page::{DirtyPage, DirtyPages};
-pub use header::{encode_header, page_count};
+pub use header::{LogHeader, encode_header, log_header};
 pub use laws::{
     kinds_have_these_numbers, logs_are_spelled_apart, logs_have_these_numbers,
     records_are_spelled_apart,
