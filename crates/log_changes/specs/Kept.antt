@@ -2,7 +2,9 @@
 use Rattle.std.specs.Prelude.{ℕ, List, length, Option, Some, None}
 use Rattle.std.specs.List.{filter_map}
 use Rattle.log_records.specs.declared.record.Record.{Record}
-use Rattle.log_records.specs.declared.record.Record.TheVariants.{EndChkpt}
+use Rattle.log_records.specs.declared.record.Record.TheVariants.{Begin, Update, Comp, Commit, Abort}
+use Rattle.log_records.specs.declared.record.Record.TheVariants.{End, BeginChkpt, ChkptPages}
+use Rattle.log_records.specs.declared.record.Record.TheVariants.{ChkptTxns, EndChkpt}
 use Rattle.log_records.specs.Log.{Log}
 use Rattle.log_store.specs.declared.master.Master.{Master}
 use Rattle.log_changes.specs.Placed.{Placed, placed_in}
@@ -18,7 +20,15 @@ pub record Kept : Type 0 where
 -- the checkpoint that a record completes
 abbrev pub completed_by : Record → Option Master
 completed_by (EndChkpt lsn begin redo) = Some (record { begin = begin; end = lsn })
-completed_by other = None
+completed_by (Begin lsn txn) = None
+completed_by (Update lsn txn prev page slot change) = None
+completed_by (Comp lsn txn prev undo_next page slot change) = None
+completed_by (Commit lsn txn prev) = None
+completed_by (Abort lsn txn prev) = None
+completed_by (End lsn txn prev) = None
+completed_by (BeginChkpt lsn) = None
+completed_by (ChkptPages lsn begin pages) = None
+completed_by (ChkptTxns lsn begin txn state last undo_next) = None
 
 abbrev pub completed_in : List Record → List Master
 completed_in rs = filter_map completed_by rs

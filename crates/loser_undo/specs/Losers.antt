@@ -5,7 +5,9 @@ use Rattle.std.specs.Prelude.{Option, Some, None, slice_index_or}
 use Rattle.std.specs.List.{filter_map}
 use Rattle.log_records.specs.declared.limits.TheConstants.{MAX_RECORDS}
 use Rattle.log_records.specs.declared.record.Record.{Record}
-use Rattle.log_records.specs.declared.record.Record.TheVariants.{Begin, Update, Comp, Abort}
+use Rattle.log_records.specs.declared.record.Record.TheVariants.{Begin, Update, Comp, Commit, Abort}
+use Rattle.log_records.specs.declared.record.Record.TheVariants.{End, BeginChkpt, ChkptPages}
+use Rattle.log_records.specs.declared.record.Record.TheVariants.{ChkptTxns, EndChkpt}
 use Rattle.log_records.specs.Log.{lsn_of}
 use Rattle.log_history.specs.declared.pending_change.PendingChange.{PendingChange}
 use Rattle.log_history.specs.Linked.{IsLinked}
@@ -40,7 +42,13 @@ abbrev pub way_back : Record → Option ℕ
 way_back (Update lsn t prev page slot change) = Some prev
 way_back (Comp lsn t prev undo_next page slot change) = Some undo_next
 way_back (Abort lsn t prev) = Some prev
-way_back other = None
+way_back (Begin lsn t) = None
+way_back (Commit lsn t prev) = None
+way_back (End lsn t prev) = None
+way_back (BeginChkpt lsn) = None
+way_back (ChkptPages lsn begin pages) = None
+way_back (ChkptTxns lsn begin t state last undo_next) = None
+way_back (EndChkpt lsn begin redo) = None
 
 -- from this LSN on the search meets these records, and then the Begin
 abbrev pub Leads : List Record → ℕ → ℕ → ℕ → List Record → Type 0
@@ -52,12 +60,28 @@ Leads rs t first at (r ∷ more) =
 abbrev pub change_by : Record → Option PendingChange
 change_by (Update lsn t prev page slot change) =
     Some (record { lsn = lsn; prev = prev; page = page; slot = slot; change = change })
-change_by other = None
+change_by (Begin lsn t) = None
+change_by (Comp lsn t prev undo_next page slot change) = None
+change_by (Commit lsn t prev) = None
+change_by (Abort lsn t prev) = None
+change_by (End lsn t prev) = None
+change_by (BeginChkpt lsn) = None
+change_by (ChkptPages lsn begin pages) = None
+change_by (ChkptTxns lsn begin t state last undo_next) = None
+change_by (EndChkpt lsn begin redo) = None
 
 -- the PrevLSN of a Comp
 abbrev pub before_comp : Record → Option ℕ
 before_comp (Comp lsn t prev undo_next page slot change) = Some prev
-before_comp other = None
+before_comp (Begin lsn t) = None
+before_comp (Update lsn t prev page slot change) = None
+before_comp (Commit lsn t prev) = None
+before_comp (Abort lsn t prev) = None
+before_comp (End lsn t prev) = None
+before_comp (BeginChkpt lsn) = None
+before_comp (ChkptPages lsn begin pages) = None
+before_comp (ChkptTxns lsn begin t state last undo_next) = None
+before_comp (EndChkpt lsn begin redo) = None
 
 -- from this LSN on PrevLSN leads over Comps, of which these are the LSNs behind the first, to a
 -- record that is an Abort or is none

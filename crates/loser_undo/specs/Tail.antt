@@ -3,7 +3,8 @@ use Rattle.std.specs.Prelude.{ℕ, ◌≡◌, ◌==◌, nat_lt, not, List, [], �
 use Rattle.std.specs.Prelude.{if◌then◌else◌}
 use Rattle.log_records.specs.declared.record.Record.{Record}
 use Rattle.log_records.specs.declared.record.Record.TheVariants.{Begin, Update, Comp, Commit, Abort}
-use Rattle.log_records.specs.declared.record.Record.TheVariants.{End, BeginChkpt, ChkptTxns}
+use Rattle.log_records.specs.declared.record.Record.TheVariants.{End, BeginChkpt, ChkptPages}
+use Rattle.log_records.specs.declared.record.Record.TheVariants.{ChkptTxns, EndChkpt}
 use Rattle.log_records.specs.Log.{IsLog, Log}
 use Rattle.log_history.specs.Checkpoint.{IsCompleteCheckpoint}
 use Rattle.log_history.specs.Linked.{IsLinked}
@@ -56,4 +57,6 @@ told known (ChkptTxns lsn begin t state last undo) =
     with_txn (record { txn = t; last = last }) known
 told known (Commit lsn t prev) = without_txn t known
 told known (End lsn t prev) = without_txn t known
-told known other = known
+told known (BeginChkpt lsn) = known
+told known (ChkptPages lsn begin pages) = known
+told known (EndChkpt lsn begin redo) = known

@@ -4,7 +4,9 @@ use Rattle.std.specs.Prelude.{Option, Some, None, if◌then◌else◌}
 use Rattle.std.specs.List.{filter_map, fold, list_any}
 use Rattle.page_core.specs.Change.{undo_of}
 use Rattle.log_records.specs.declared.record.Record.{Record}
-use Rattle.log_records.specs.declared.record.Record.TheVariants.{Update, Comp, End}
+use Rattle.log_records.specs.declared.record.Record.TheVariants.{Begin, Update, Comp, Commit, Abort}
+use Rattle.log_records.specs.declared.record.Record.TheVariants.{End, BeginChkpt, ChkptPages}
+use Rattle.log_records.specs.declared.record.Record.TheVariants.{ChkptTxns, EndChkpt}
 use Rattle.log_records.specs.Log.{lsn_of}
 use Rattle.log_history.specs.declared.pending_change.PendingChange.{PendingChange}
 use Rattle.log_history.specs.Transactions.{is_open, last_lsn, open_in, pending}
@@ -26,7 +28,15 @@ lost_by rs (Update lsn txn prev page slot change) = if is_lost rs txn lsn then S
   txn = txn;
   change = record { lsn = lsn; prev = prev; page = page; slot = slot; change = change };
 }) else None
-lost_by rs other = None
+lost_by rs (Begin lsn txn) = None
+lost_by rs (Comp lsn txn prev undo_next page slot change) = None
+lost_by rs (Commit lsn txn prev) = None
+lost_by rs (Abort lsn txn prev) = None
+lost_by rs (End lsn txn prev) = None
+lost_by rs (BeginChkpt lsn) = None
+lost_by rs (ChkptPages lsn begin pages) = None
+lost_by rs (ChkptTxns lsn begin txn state last undo_next) = None
+lost_by rs (EndChkpt lsn begin redo) = None
 
 -- the pending changes of all open transactions, the last first: LSNs rise along a log, so theirs
 -- fall

@@ -48,7 +48,13 @@ fn way_back(met: &Record) -> Option<Lsn>
     match *met {
         Record::Update { prev, .. } | Record::Abort { prev, .. } => Some(prev),
         Record::Comp { undo_next, .. } => Some(undo_next),
-        _ => None,
+        Record::Begin { .. }
+        | Record::Commit { .. }
+        | Record::End { .. }
+        | Record::BeginChkpt { .. }
+        | Record::ChkptPages { .. }
+        | Record::ChkptTxns { .. }
+        | Record::EndChkpt { .. } => None,
     }
 }
 

@@ -27,4 +27,4 @@ pub use page::{
     volumes_are_spelled_apart,
 };
 pub use page_counts::{GivenCount, PageCounts};
-pub use volume::formatted_pages;
+pub use volume::{formatted_pages, grow_reserved, new_volumes_grow_to_new_ones};

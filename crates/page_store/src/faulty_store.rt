@@ -1,14 +1,17 @@
 //! A store that fails where a test tells it to.
 
-ghost use Rattle.std.specs.Prelude.{◌≡◌, ◌<◌, ◌↔◌, length, replicate, false};
-ghost use Rattle.std.specs.Prelude.{slice_set, None, Some, IfOk, IsTrue, true};
+ghost use Rattle.std.specs.Prelude.{◌≡◌, ◌<◌, ◌≤◌, ◌↔◌, ◌-◌, ◌++◌, length, replicate, false};
+ghost use Rattle.std.specs.Prelude.{slice_set, vec_capacity, None, Some, IfOk, IsOk, IsTrue, OnOk, true};
+ghost use Rattle.page_core.specs.declared.page.TheConstants.{MAX_PAGES};
 ghost use Rattle.page_core.specs.Volume.{AreNumbered};
-ghost use Rattle.page_store.specs.FaultyStore.{FaultyReads, FaultyWrites, after_call};
-ghost use Rattle.page_store.specs.FaultyStore.{after_failed_write, after_failure, is_damaged};
+ghost use Rattle.page_store.specs.FaultyStore.{FaultyGrows, FaultyReads, FaultyWrites};
+ghost use Rattle.page_store.specs.FaultyStore.{after_call, after_failed_growth};
+ghost use Rattle.page_store.specs.FaultyStore.{after_failed_write, after_failure, after_growth};
+ghost use Rattle.page_store.specs.FaultyStore.{is_damaged};
 
 use crate::mem_store::MemStore;
 use crate::store::{PageStore, StoreFault};
-use page_core::{Failures, Page, PageNo};
+use page_core::{Failures, MAX_PAGES, Page, PageNo};
 use std::alloc::{AllocError, Global};
 use std::marker::Model;
 
@@ -19,15 +22,16 @@ pub struct FaultyStore {
     /// How many calls were made, up to the greatest number that fits.
     calls: u64,
     calls_to_fault: u64,
-    /// Whether a write that is to fail leaves the new page.
+    /// Whether a write that is to fail leaves the new page, and a growth the new pages.
     is_late: bool,
-    /// For each page after how many calls it is damaged.
+    /// For each page after how many calls it is damaged. There is room for `MAX_PAGES` of them.
     damaged_from: Vec<Option<u64>>,
     failures: Failures,
 }
 
 impl Model for FaultyStore {
-    ghost use Rattle.std.specs.Prelude.{◌≡◌, length, vec_len};
+    ghost use Rattle.std.specs.Prelude.{◌≡◌, ◌≤◌, length, vec_capacity, vec_len};
+    ghost use Rattle.page_core.specs.declared.page.TheConstants.{MAX_PAGES};
     ghost use Rattle.page_core.specs.Failures.{failure_count};
     ghost use Rattle.page_store.specs.FaultyStore.{Faulty};
 
@@ -42,13 +46,26 @@ impl Model for FaultyStore {
       failures = failure_count faulty.failures;
     } };
 
-    ghost invariant = { λ faulty. vec_len faulty.damaged_from ≡ length faulty.store };
+    ghost invariant = { λ faulty. (vec_len faulty.damaged_from ≡ length faulty.store)
+        × (MAX_PAGES ≤ vec_capacity faulty.damaged_from) };
+}
+
+/// Adds pages that are not damaged, in room that was reserved, so that there are `count`.
+fn add_undamaged(damaged_from: &mut Vec<Option<u64>>, count: usize)
+    requires { count ≤ vec_capacity damaged_from.old }
+    ensures added { damaged_from.new.items ≡ damaged_from.old.items
+        ++ replicate (count - length damaged_from.old.items) None }
+    ensures room { vec_capacity damaged_from.new ≡ vec_capacity damaged_from.old }
+{
+    for _ in damaged_from.len()..count {
+        damaged_from.push_reserved(None);
+    }
 }
 
 impl FaultyStore {
-    /// A store whose `k`-th call of `read` or `write` fails, counted from 1. If it is a write, it
-    /// leaves the old page. Each other call goes on to `store`. At 0 all of them do. No page is
-    /// damaged.
+    /// A store whose `k`-th call of `read`, `write` or `grow` fails, counted from 1. If it is a
+    /// write, it leaves the old page; if it is a growth, it adds no page. Each other call goes on to
+    /// `store`. At 0 all of them do. No page is damaged.
     ///
     /// It takes all of its memory here. `AllocError` comes where that is refused.
     pub fn new(alloc: Global, store: MemStore, k: u64) -> Result<FaultyStore, AllocError>
@@ -61,19 +78,21 @@ impl FaultyStore {
           failures = 0;
         }) }
     {
-        let count = store.stored().len();
+        let mut damaged_from = Vec::with_capacity(alloc, MAX_PAGES as usize)?;
+        add_undamaged(&mut damaged_from, store.pages() as usize);
         Ok(FaultyStore {
             store,
             calls: 0,
             calls_to_fault: k,
             is_late: false,
-            damaged_from: vec![in alloc; None; count]?,
+            damaged_from,
             failures: Failures::None,
         })
     }
 
     /// The same, but if the call that fails is a write, it leaves the new page: the store fails
-    /// late, after the page was written. The page is not mended by that, if it is damaged.
+    /// late, after the page was written. The page is not mended by that, if it is damaged. If it is
+    /// a growth, the pages were added.
     pub fn late(alloc: Global, store: MemStore, k: u64) -> Result<FaultyStore, AllocError>
         ensures { IfOk result (λ faulty. faulty ≡ record {
           pages = store;
@@ -100,9 +119,9 @@ impl FaultyStore {
         self.damage_from(number, 0);
     }
 
-    /// Damages a page once `k` calls of `read` or `write` were made of this store: each read of it
-    /// after them fails, until a write of it after them succeeds. So the `k`-th call does not mend
-    /// it. It is no call that is counted, and takes no memory.
+    /// Damages a page once `k` calls of `read`, `write` or `grow` were made of this store: each read
+    /// of it after them fails, until a write of it after them succeeds. So the `k`-th call does not
+    /// mend it. It is no call that is counted, and takes no memory.
     pub fn damage_from(&mut self, number: PageNo, k: u64)
         requires { number < length self.old.pages }
         ensures { self.new ≡ record self.old {
@@ -162,6 +181,31 @@ impl FaultyStore {
         }
         self.fail()
     }
+
+    /// Adds the pages that a growth adds.
+    fn add_pages(&mut self, count: u32) -> Result<(), StoreFault>
+        requires { count ≤ MAX_PAGES }
+        ensures ok { IsOk result }
+        ensures added { self.new ≡ after_growth self.old count }
+        ensures enough { count ≤ length self.new.pages }
+    {
+        self.store.grow(count)?;
+        add_undamaged(&mut self.damaged_from, self.store.pages() as usize);
+        Ok(())
+    }
+
+    /// A growth that fails.
+    fn fail_growth(&mut self, count: u32) -> StoreFault
+        requires { count ≤ MAX_PAGES }
+        ensures { self.new ≡ after_failure (after_failed_growth self.old count) }
+    {
+        if self.is_late {
+            if let Err(fault) = self.add_pages(count) {
+                return fault;
+            }
+        }
+        self.fail()
+    }
 }
 
 impl PageStore for FaultyStore {
@@ -171,10 +215,13 @@ impl PageStore for FaultyStore {
 
     ghost wrote = { λ old number page result new. FaultyWrites old number page result new };
 
+    ghost grew = { λ old count result new. FaultyGrows old count result new };
+
     ghost failures = { λ faulty. faulty.failures };
 
     fn pages(&self) -> u32
         ensures count { result ≡ length self.now.pages }
+        ensures few { length self.now.pages ≤ MAX_PAGES }
         ensures numbered { AreNumbered self.now.pages }
     {
         self.store.pages()
@@ -213,5 +260,21 @@ impl PageStore for FaultyStore {
             self.damaged_from[number.0 as usize] = None;
         }
         Ok(())
+    }
+
+    /// An `Err` comes at the call that is to fail. It adds no page, or, in a store that fails late,
+    /// those that were asked for. No page that is added is damaged. The call takes no memory.
+    fn grow(&mut self, count: u32) -> Result<(), StoreFault>
+        requires { count ≤ MAX_PAGES }
+
+        ensures exact { FaultyGrows self.old count result self.new }
+        ensures enough { OnOk result (count ≤ length self.new.pages) }
+        ensures same { OnOk result
+            (count ≤ length self.old.pages → self.new.pages ≡ self.old.pages) }
+    {
+        if self.count_call() {
+            return Err(self.fail_growth(count));
+        }
+        self.add_pages(count)
     }
 }

@@ -6,12 +6,28 @@ use Rattle.settlement.specs.Receipt.{HasAt}
 
 abbrev pub IsBegin : Record → Type 0
 IsBegin (log.BeginChkpt lsn) = Unit {0}
-IsBegin other = ⊥
+IsBegin (log.Begin lsn txn) = ⊥
+IsBegin (log.Update lsn txn prev page slot change) = ⊥
+IsBegin (log.Comp lsn txn prev undo_next page slot change) = ⊥
+IsBegin (log.Commit lsn txn prev) = ⊥
+IsBegin (log.Abort lsn txn prev) = ⊥
+IsBegin (log.End lsn txn prev) = ⊥
+IsBegin (log.ChkptPages lsn begin pages) = ⊥
+IsBegin (log.ChkptTxns lsn begin txn state last undo_next) = ⊥
+IsBegin (log.EndChkpt lsn begin redo) = ⊥
 
 -- the EndChkpt of the checkpoint that began at this LSN, with this redo point
 abbrev pub IsEndOf : ℕ → ℕ → Record → Type 0
 IsEndOf begin redo (log.EndChkpt lsn b r) = (b ≡ begin) × (r ≡ redo)
-IsEndOf begin redo other = ⊥
+IsEndOf begin redo (log.Begin lsn txn) = ⊥
+IsEndOf begin redo (log.Update lsn txn prev page slot change) = ⊥
+IsEndOf begin redo (log.Comp lsn txn prev undo_next page slot change) = ⊥
+IsEndOf begin redo (log.Commit lsn txn prev) = ⊥
+IsEndOf begin redo (log.Abort lsn txn prev) = ⊥
+IsEndOf begin redo (log.End lsn txn prev) = ⊥
+IsEndOf begin redo (log.BeginChkpt lsn) = ⊥
+IsEndOf begin redo (log.ChkptPages lsn b pages) = ⊥
+IsEndOf begin redo (log.ChkptTxns lsn b txn state last undo_next) = ⊥
 
 -- the log has such a record at this LSN, and it is forced
 pub record HasForced (rs : List Record) (forced_end lsn : ℕ) (IsSuch : Record → Type 0)

@@ -7,7 +7,15 @@ use Rattle.settlement.specs.declared.receipt.Receipt.TheVariants.{Changed}
 
 abbrev pub is_update : Record → Bool
 is_update (log.Update lsn txn prev page slot change) = true
-is_update other = false
+is_update (log.Begin lsn txn) = false
+is_update (log.Comp lsn txn prev undo_next page slot change) = false
+is_update (log.Commit lsn txn prev) = false
+is_update (log.Abort lsn txn prev) = false
+is_update (log.End lsn txn prev) = false
+is_update (log.BeginChkpt lsn) = false
+is_update (log.ChkptPages lsn begin pages) = false
+is_update (log.ChkptTxns lsn begin txn state last undo_next) = false
+is_update (log.EndChkpt lsn begin redo) = false
 
 -- how many changes were made, those that were taken back among them
 abbrev pub updates_in : List Record → ℕ

@@ -1,7 +1,7 @@
 -- When a receipt is true of a log.
 use Rattle.std.specs.Prelude.{ℕ, ◌≡◌, ◌<◌, ◌≤◌, nat_lt, Bool, true, false, List, length, take}
 use Rattle.std.specs.Prelude.{◌==◌, not, map, filter, count_by, slice_get, slice_index_or}
-use Rattle.std.specs.Prelude.{IsSomeAnd}
+use Rattle.std.specs.Prelude.{Option, None, Some, IsSomeAnd}
 use Rattle.std.specs.List.{All}
 use Rattle.page_core.specs.declared.change.Change.{Change}
 use Rattle.page_core.specs.declared.change.Change.TheVariants.{Set, Add}
@@ -12,6 +12,7 @@ use Rattle.log_records.specs.declared.record.Record.TheVariants as log
 use Rattle.log_records.specs.Log.{lsn_of}
 use Rattle.log_records.specs.Record.{own_lsn}
 use Rattle.log_history.specs.Linked.{number_in}
+use Rattle.log_history.specs.Transactions.{txn_of}
 use Rattle.settlement.specs.declared.receipt.Receipt.{Receipt}
 use Rattle.settlement.specs.declared.receipt.Receipt.TheVariants.{Changed, Stepped, Read}
 use Rattle.settlement.specs.declared.receipt.TxnStep.{TxnStep}
@@ -38,20 +39,36 @@ pub record IsChangeOf (kind : ChangeKind) (number : ℕ) (change : Change) : Typ
   pub same_kind : kind_of change ≡ kind
   pub same_number : given change ≡ number
 
+-- the step of its transaction that a record shows, if it shows one
+abbrev pub step_of : Record → Option TxnStep
+step_of (log.Begin lsn txn) = Some step.Begin
+step_of (log.Update lsn txn prev page slot change) = None
+step_of (log.Comp lsn txn prev undo_next page slot change) = Some step.Comp
+step_of (log.Commit lsn txn prev) = Some step.Commit
+step_of (log.Abort lsn txn prev) = Some step.Abort
+step_of (log.End lsn txn prev) = Some step.End
+step_of (log.BeginChkpt lsn) = None
+step_of (log.ChkptPages lsn begin pages) = None
+step_of (log.ChkptTxns lsn begin txn state last undo_next) = None
+step_of (log.EndChkpt lsn begin redo) = None
+
 -- the record says that this transaction took this step
 abbrev pub IsStepOf : ℕ → TxnStep → Record → Type 0
-IsStepOf txn step.Begin (log.Begin lsn t) = t ≡ txn
-IsStepOf txn step.Commit (log.Commit lsn t prev) = t ≡ txn
-IsStepOf txn step.Abort (log.Abort lsn t prev) = t ≡ txn
-IsStepOf txn step.Comp (log.Comp lsn t prev undo_next page slot change) = t ≡ txn
-IsStepOf txn step.End (log.End lsn t prev) = t ≡ txn
-IsStepOf txn step other = ⊥
+IsStepOf txn step r = (txn_of r ≡ txn) × (step_of r ≡ Some step)
 
 -- the record is an Update of this slot by this transaction, and such a change
 abbrev pub IsUpdateOf : ℕ → ℕ → ℕ → (Change → Type 0) → Record → Type 0
 IsUpdateOf txn page slot IsSuch (log.Update lsn t prev p s change) =
     (t ≡ txn) × (p ≡ page) × (s ≡ slot) × IsSuch change
-IsUpdateOf txn page slot IsSuch other = ⊥
+IsUpdateOf txn page slot IsSuch (log.Begin lsn t) = ⊥
+IsUpdateOf txn page slot IsSuch (log.Comp lsn t prev undo_next p s change) = ⊥
+IsUpdateOf txn page slot IsSuch (log.Commit lsn t prev) = ⊥
+IsUpdateOf txn page slot IsSuch (log.Abort lsn t prev) = ⊥
+IsUpdateOf txn page slot IsSuch (log.End lsn t prev) = ⊥
+IsUpdateOf txn page slot IsSuch (log.BeginChkpt lsn) = ⊥
+IsUpdateOf txn page slot IsSuch (log.ChkptPages lsn begin pages) = ⊥
+IsUpdateOf txn page slot IsSuch (log.ChkptTxns lsn begin t state last undo_next) = ⊥
+IsUpdateOf txn page slot IsSuch (log.EndChkpt lsn begin redo) = ⊥
 
 -- the record is the one that the receipt speaks of
 abbrev pub IsRecordOf : Receipt → Record → Type 0

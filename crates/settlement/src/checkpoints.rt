@@ -93,6 +93,14 @@ fn is_end_of(begin: Lsn, redo: Lsn, record: &Record) -> bool
             redo: r,
             ..
         } => b == begin && r == redo,
-        _ => false,
+        Record::Begin { .. }
+        | Record::Update { .. }
+        | Record::Comp { .. }
+        | Record::Commit { .. }
+        | Record::Abort { .. }
+        | Record::End { .. }
+        | Record::BeginChkpt { .. }
+        | Record::ChkptPages { .. }
+        | Record::ChkptTxns { .. } => false,
     }
 }

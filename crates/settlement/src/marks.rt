@@ -106,7 +106,15 @@ fn is_record_of(receipt: &Receipt, record: &Record) -> bool
                 change,
                 ..
             } => t == txn && p == page && s == slot && is_change_of(kind, number, &change),
-            _ => false,
+            Record::Begin { .. }
+            | Record::Comp { .. }
+            | Record::Commit { .. }
+            | Record::Abort { .. }
+            | Record::End { .. }
+            | Record::BeginChkpt { .. }
+            | Record::ChkptPages { .. }
+            | Record::ChkptTxns { .. }
+            | Record::EndChkpt { .. } => false,
         },
         Receipt::Stepped { txn, step, .. } => is_step_of(txn, step, record),
         Receipt::Read { .. } => false,
@@ -130,13 +138,17 @@ fn is_step_of(txn: TxnNo, step: TxnStep, record: &Record) -> bool
     ensures yes { result ≡ true → IsStepOf txn step «record».now }
     ensures no { result ≡ false → ¬ IsStepOf txn step «record».now }
 {
-    match (step, *record) {
-        (TxnStep::Begin, Record::Begin { txn: t, .. })
-        | (TxnStep::Commit, Record::Commit { txn: t, .. })
-        | (TxnStep::Abort, Record::Abort { txn: t, .. })
-        | (TxnStep::Comp, Record::Comp { txn: t, .. })
-        | (TxnStep::End, Record::End { txn: t, .. }) => t == txn,
-        _ => false,
+    match *record {
+        Record::Begin { txn: t, .. } => t == txn && step == TxnStep::Begin,
+        Record::Comp { txn: t, .. } => t == txn && step == TxnStep::Comp,
+        Record::Commit { txn: t, .. } => t == txn && step == TxnStep::Commit,
+        Record::Abort { txn: t, .. } => t == txn && step == TxnStep::Abort,
+        Record::End { txn: t, .. } => t == txn && step == TxnStep::End,
+        Record::Update { .. }
+        | Record::BeginChkpt { .. }
+        | Record::ChkptPages { .. }
+        | Record::ChkptTxns { .. }
+        | Record::EndChkpt { .. } => false,
     }
 }
 

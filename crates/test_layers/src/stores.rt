@@ -43,14 +43,16 @@ fn swap_in<S: PageStore>(store: &mut S, page: &Page) -> Result<Page, StoreFault>
     Ok(before)
 }
 
-/// A call of a store: a write of a page with a number in slot 0, or a read of it.
+/// A call of a store: a write of a page with a number in slot 0, a read of it, or a growth.
 #[derive(Clone, Copy, Debug)]
 enum Call {
     Write(u32, u64),
     Read(u32),
+    Grow(u32),
 }
 
-/// Makes a call, and tells the number that is then known to be in slot 0 of its page.
+/// Makes a call, and tells the number that is then known to be in slot 0 of its page, or for a
+/// growth how many pages there are then.
 fn make_call<S: PageStore>(rt: &impl Abort, store: &mut S, call: Call) -> Result<u64, StoreFault> {
     match call {
         Call::Write(number, value) => {
@@ -64,14 +66,22 @@ fn make_call<S: PageStore>(rt: &impl Abort, store: &mut S, call: Call) -> Result
             same(rt, &page.number, &PageNo(number));
             Ok(page.slots[0])
         }
+        Call::Grow(count) => {
+            assert!(rt; count <= MAX_PAGES);
+            store.grow(count)?;
+            Ok(u64::from(store.pages()))
+        }
     }
 }
 
-const SCRIPT: [Call; 8] = [
+const SCRIPT: [Call; 11] = [
     Call::Read(0),
     Call::Write(1, 5),
+    Call::Grow(3),
     Call::Read(1),
+    Call::Grow(1),
     Call::Write(0, 6),
+    Call::Grow(4),
     Call::Write(1, 7),
     Call::Read(0),
     Call::Read(1),
@@ -81,6 +91,7 @@ const SCRIPT: [Call; 8] = [
 /// Makes the calls of the script on a store of two formatted pages, of which the `k`-th one fails.
 fn assert_follows<S: PageStore>(rt: &impl Abort, store: &mut S, k: usize) {
     let mut numbers = [0, 0];
+    let mut pages = 2;
     for (index, call) in SCRIPT.iter().enumerate() {
         let done = make_call(rt, store, *call);
         if index + 1 == k {
@@ -103,6 +114,10 @@ fn assert_follows<S: PageStore>(rt: &impl Abort, store: &mut S, k: usize) {
             }
             Call::Read(0) => numbers[0],
             Call::Read(_) => numbers[1],
+            Call::Grow(count) => {
+                pages = pages.max(count);
+                u64::from(pages)
+            }
         };
         same_at(
             rt,
@@ -119,7 +134,12 @@ fn a_store_in_memory_never_fails(rt: HostRuntime) -> Result<(), Fail> {
     let formatted = [Page::formatted(PageNo(0)), Page::formatted(PageNo(1))];
     same(&rt, &store.stored(), &formatted.as_slice());
     assert_follows(&rt, &mut store, 0);
-    let written = [page_with(0, 8), page_with(1, 7)];
+    let written = [
+        page_with(0, 8),
+        page_with(1, 7),
+        Page::formatted(PageNo(2)),
+        Page::formatted(PageNo(3)),
+    ];
     same(&rt, &store.stored(), &written.as_slice());
     Ok(())
 }
@@ -237,6 +257,105 @@ fn a_late_write_mends_nothing(rt: HostRuntime) -> Result<(), Fail> {
         (Call::Read(1), Err(StoreFault)),
         (Call::Write(1, 6), Ok(6)),
         (Call::Read(1), Ok(6)),
+    ];
+    assert_calls(&rt, &mut store, &calls);
+    Ok(())
+}
+
+/// A growth that asks for no more pages than there are changes nothing.
+#[test]
+fn a_store_grows(rt: HostRuntime) -> Result<(), Fail> {
+    let mut store = MemStore::new(rt.alloc(), 1)?;
+    let calls = [
+        (Call::Write(0, 5), Ok(5)),
+        (Call::Grow(3), Ok(3)),
+        (Call::Read(2), Ok(0)),
+        (Call::Write(2, 6), Ok(6)),
+        (Call::Grow(0), Ok(3)),
+        (Call::Grow(3), Ok(3)),
+    ];
+    assert_calls(&rt, &mut store, &calls);
+    let grown = [page_with(0, 5), Page::formatted(PageNo(1)), page_with(2, 6)];
+    same(&rt, &store.stored(), &grown.as_slice());
+    let calls = [
+        (Call::Grow(MAX_PAGES), Ok(65_536)),
+        (Call::Read(65_535), Ok(0)),
+        (Call::Read(2), Ok(6)),
+    ];
+    assert_calls(&rt, &mut store, &calls);
+    Ok(())
+}
+
+/// The second call is a growth that fails, and adds no page; the next one adds them.
+#[test]
+fn a_growth_fails(rt: HostRuntime) -> Result<(), Fail> {
+    let alloc = rt.alloc();
+    let mut store = FaultyStore::new(alloc, MemStore::new(alloc, 2)?, 2)?;
+    let calls = [(Call::Write(1, 5), Ok(5)), (Call::Grow(4), Err(StoreFault))];
+    assert_calls(&rt, &mut store, &calls);
+    let stayed = [Page::formatted(PageNo(0)), page_with(1, 5)];
+    same(&rt, &store.stored(), &stayed.as_slice());
+    let calls = [
+        (Call::Grow(4), Ok(4)),
+        (Call::Read(3), Ok(0)),
+        (Call::Read(1), Ok(5)),
+    ];
+    assert_calls(&rt, &mut store, &calls);
+    Ok(())
+}
+
+/// A growth that fails late has added the pages, also where it asked for none.
+#[test]
+fn a_growth_fails_late(rt: HostRuntime) -> Result<(), Fail> {
+    let alloc = rt.alloc();
+    let mut store = FaultyStore::late(alloc, MemStore::new(alloc, 1)?, 1)?;
+    assert_calls(&rt, &mut store, &[(Call::Grow(3), Err(StoreFault))]);
+    let grown = [
+        Page::formatted(PageNo(0)),
+        Page::formatted(PageNo(1)),
+        Page::formatted(PageNo(2)),
+    ];
+    same(&rt, &store.stored(), &grown.as_slice());
+    let calls = [
+        (Call::Write(2, 5), Ok(5)),
+        (Call::Grow(3), Ok(3)),
+        (Call::Read(2), Ok(5)),
+    ];
+    assert_calls(&rt, &mut store, &calls);
+    let mut store = FaultyStore::late(alloc, MemStore::new(alloc, 2)?, 1)?;
+    let calls = [
+        (Call::Grow(1), Err(StoreFault)),
+        (Call::Grow(1), Ok(2)),
+        (Call::Read(1), Ok(0)),
+    ];
+    assert_calls(&rt, &mut store, &calls);
+    Ok(())
+}
+
+/// A page stays damaged where the store grows. A page that was added is damaged only later.
+#[test]
+fn a_page_that_was_added_is_damaged(rt: HostRuntime) -> Result<(), Fail> {
+    let alloc = rt.alloc();
+    let mut store = FaultyStore::new(alloc, MemStore::new(alloc, 2)?, 0)?;
+    store.damage(PageNo(1));
+    store.damage_from(PageNo(0), 1);
+    let calls = [
+        (Call::Grow(4), Ok(4)),
+        (Call::Read(0), Err(StoreFault)),
+        (Call::Read(1), Err(StoreFault)),
+        (Call::Read(2), Ok(0)),
+        (Call::Read(3), Ok(0)),
+    ];
+    assert_calls(&rt, &mut store, &calls);
+    assert!(&rt; store.pages() == 4);
+    store.damage(PageNo(3));
+    let calls = [
+        (Call::Read(3), Err(StoreFault)),
+        (Call::Read(2), Ok(0)),
+        (Call::Grow(5), Ok(5)),
+        (Call::Read(3), Err(StoreFault)),
+        (Call::Write(3, 6), Ok(6)),
+        (Call::Read(3), Ok(6)),
     ];
     assert_calls(&rt, &mut store, &calls);
     Ok(())

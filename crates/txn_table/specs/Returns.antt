@@ -4,7 +4,9 @@ use Rattle.std.specs.Prelude.{if◌then◌else◌}
 use Rattle.std.specs.List.{AllPairs}
 use Rattle.std.specs.Option.{option_to_list}
 use Rattle.log_records.specs.declared.record.Record.{Record}
-use Rattle.log_records.specs.declared.record.Record.TheVariants.{Comp}
+use Rattle.log_records.specs.declared.record.Record.TheVariants.{Begin, Update, Comp, Commit, Abort}
+use Rattle.log_records.specs.declared.record.Record.TheVariants.{End, BeginChkpt, ChkptPages}
+use Rattle.log_records.specs.declared.record.Record.TheVariants.{ChkptTxns, EndChkpt}
 use Rattle.log_history.specs.Transactions.{is_rolling, pending, without_last}
 use Rattle.txn_table.specs.declared.returns.Return.{Return}
 
@@ -22,7 +24,15 @@ return_of before (Comp lsn txn prev undo_next page slot change) =
       txn = txn;
       left = length (without_last (pending before txn));
     })
-return_of before other = None
+return_of before (Begin lsn txn) = None
+return_of before (Update lsn txn prev page slot change) = None
+return_of before (Commit lsn txn prev) = None
+return_of before (Abort lsn txn prev) = None
+return_of before (End lsn txn prev) = None
+return_of before (BeginChkpt lsn) = None
+return_of before (ChkptPages lsn begin pages) = None
+return_of before (ChkptTxns lsn begin txn state last undo_next) = None
+return_of before (EndChkpt lsn begin redo) = None
 
 abbrev pub returns_from : List Record → List Record → List Return
 returns_from before [] = []

@@ -220,7 +220,15 @@ impl TxnTable {
     {
         match *next {
             Record::Comp { lsn, txn, .. } => self.return_by(lsn, txn),
-            _ => None,
+            Record::Begin { .. }
+            | Record::Update { .. }
+            | Record::Commit { .. }
+            | Record::Abort { .. }
+            | Record::End { .. }
+            | Record::BeginChkpt { .. }
+            | Record::ChkptPages { .. }
+            | Record::ChkptTxns { .. }
+            | Record::EndChkpt { .. } => None,
         }
     }
 
