@@ -22,7 +22,8 @@ use Rattle.copy_vault.specs.Vault.{CopyState, HasParent, complete, decided, drop
 use Rattle.copy_coverage.specs.Copied.{AreCopied, IsPoint, copy_in}
 use Rattle.copy_coverage.proofs.Copied.{copied_decided, copied_dropped, copied_forced, copied_later, copied_opened}
 use Rattle.copy_coverage.proofs.Copied.{copied_sealed, copied_stored}
-use Rattle.copy_coverage.proofs.Points.{point_of, redo_before_end}
+use Rattle.copy_coverage.proofs.LaterPages.{count_below-not_more}
+use Rattle.copy_coverage.proofs.Points.{begin_before_end, point_of}
 use Rattle.aries_core.specs.declared.event.Answer.{Answer}
 use Rattle.aries_core.specs.declared.event.Event.{Event}
 use Rattle.aries_core.specs.declared.event.Event.TheVariants as event
@@ -51,18 +52,17 @@ use Rattle.aries_core.specs.EngineState.{volume_pages}
 -- a step leaves the copies, or changes nothing else
 pub data CopyStep (old new : EngineState) : Type 0 where
   LeavesCopies : new.copies ≡ old.copies → CopyStep old new
-  ChangesCopies : (copies : List CopyState) → AreCopied old.log old.forced_end old.stored copies
+  ChangesCopies : (copies : List CopyState) → AreCopied (log_of old) old.forced_end old.stored copies
       → IsSome old.master → new ≡ with_copies old copies → CopyStep old new
 
 -- ---- a copy begins
 
-early_redo : (s : EngineState) → IsFit s → (master : Option Point) → s.master ≡ master → IsSome master
-    → option_map_or (λ p. p.redo) master 0 < s.forced_end
-early_redo s fit None is some = cc
-early_redo s fit (Some point) is some =
+early_begin : (s : EngineState) → IsFit s → (master : Option Point) → s.master ≡ master → IsSome master
+    → option_map_or (λ p. p.begin) master 0 < s.forced_end
+early_begin s fit None is some = cc
+early_begin s fit (Some point) is some =
     let named = subst (λ (o : Option Point). IfSome o (IsMasterOf s.log s.stored s.forced_end)) is fit.master in
-    let low = redo_before_end (log_of s) point.begin point.end named.complete fit.valid in
-    let same = named.same_redo in
+    let low = begin_before_end (log_of s) point.begin point.end named.complete fit.valid in
     let forced = named.forced in
     omega arith
 
@@ -89,15 +89,13 @@ count_of_copy s begin = count_is_first (log_of s) ∙ sym (count_below_is_first 
 
 opens : (s : EngineState) (kind : CopyKind) → IsFit s → length s.copies < MAX_COPIES → IsSome s.master
     → HasParent s.copies (length s.copies + 1) kind
-    → AreCopied s.log s.forced_end s.stored (opened_copy s kind).state.copies
+    → AreCopied (log_of s) s.forced_end s.stored (opened_copy s kind).state.copies
 opens s kind fit few some parent =
     let begin = option_map_or (λ p. p.begin) s.master 0 in
     let redo = option_map_or (λ p. p.redo) s.master 0 in
-    subst (λ (n : ℕ). AreCopied s.log s.forced_end s.stored (opened s.copies kind n begin redo))
-    (fit.counted.stored ∙ count_of_copy s begin)
-    (copied_opened s.log s.forced_end s.stored s.copies kind begin redo fit.copied few
-    (noted_by s fit s.master refl some) parent (early_redo s fit s.master refl some)
-    (λ p d lt. covered_by s fit s.master refl p d lt))
+    copied_opened (log_of s) s.forced_end s.stored s.copies kind begin redo fit.valid fit.copied few
+    (noted_by s fit s.master refl some) (early_begin s fit s.master refl some) parent
+    (λ p d lt. covered_by s fit s.master refl p d lt)
 
 within_ids : (copies : List CopyState) (id : ℕ) (copy : CopyView) → state_of copies id ≡ complete copy
     → id < length copies + 1
@@ -120,14 +118,17 @@ has_parent s parent fit none =
 -- ---- a copy goes on
 
 takes : (s : EngineState) (copy page : ℕ) → IsFit s → refusal s (event.Take copy page) ≡ None
-    → AreCopied s.log s.forced_end s.stored (decided s.copies copy page (stored_page s page))
+    → AreCopied (log_of s) s.forced_end s.stored (decided s.copies copy page (stored_page s page))
 takes s copy page fit none =
     let passes = take_passes s copy page none in
+    let view = passes.view in
     let there : page < length s.stored =
-    omega (arith, passes.within, (fit.copied.each copy passes.view (ap copy_in passes.is_read)).whole) in
+    omega (arith, passes.within, (fit.copied.each copy view (ap copy_in passes.is_read)).whole,
+    count_below-not_more (log_of s) view.begin, fit.counted.stored) in
     let taken = stored_page s page in
     let same : taken ≡ get_or s.stored page taken = get_or_default s.stored page (formatted page) taken there in
-    copied_decided s.log s.forced_end s.stored s.copies copy page passes.view taken fit.copied passes.is_read there same
+    copied_decided (log_of s) s.forced_end s.stored s.copies copy page view taken fit.copied passes.is_read
+    passes.within there same
     (subst (λ (q : Page). q.lsn < s.forced_end) (sym same) (fit.stable.pages page taken there))
 
 -- ---- each reply
@@ -183,11 +184,11 @@ answered old (event.Take copy page) new fit none is =
     ChangesCopies _ (takes old copy page fit none) (fit.noted copy passes.view (ap copy_in passes.is_read)) is
 answered old (event.Seal copy) new fit none is =
     let there = seal_passes old copy none in
-    ChangesCopies _ (copied_sealed old.log old.forced_end old.stored old.copies copy there.0 fit.copied there.1 there.2)
+    ChangesCopies _ (copied_sealed (log_of old) old.forced_end old.stored old.copies copy there.0 fit.copied there.1 there.2)
     (fit.noted copy there.0 (ap copy_in there.1)) is
 answered old (event.DropCopy copy) new fit none is =
     let there = drop_passes old copy none in
-    ChangesCopies _ (copied_dropped old.log old.forced_end old.stored old.copies copy there.0 fit.copied there.1)
+    ChangesCopies _ (copied_dropped (log_of old) old.forced_end old.stored old.copies copy there.0 fit.copied there.1)
     (fit.noted copy there.0 (ap copy_in there.1)) is
 
 failed : (old : EngineState) (event : Event) (why : Refusal) (new : EngineState) → Fails old event why new
@@ -220,41 +221,40 @@ copy_step old event (Err why) new fit (inr both) = failed old event why new both
 
 -- where pages are stored
 copied_by_store : (old new : EngineState) → IsFit old → Stores old new
-    → AreCopied old.log old.forced_end new.stored old.copies
+    → AreCopied (log_of old) old.forced_end new.stored old.copies
 copied_by_store old new fit (StoresNone same) = subst
-    (λ (ps : List Page). AreCopied old.log old.forced_end ps old.copies) (sym same) fit.copied
+    (λ (ps : List Page). AreCopied (log_of old) old.forced_end ps old.copies) (sym same) fit.copied
 copied_by_store old new fit (StoresOne n image d there writes is) =
-    subst (λ (ps : List Page). AreCopied old.log old.forced_end ps old.copies) (sym is)
-    (copied_stored old.log old.forced_end old.stored old.copies n image fit.copied there writes.past
+    subst (λ (ps : List Page). AreCopied (log_of old) old.forced_end ps old.copies) (sym is)
+    (copied_stored (log_of old) old.forced_end old.stored old.copies n image fit.copied there writes.past
     (λ other. subst (λ (q : Page). q.lsn ≤ image.lsn) (get_or_default old.stored n d other there) writes.newer))
 
 copied_by_log : (old : EngineState) (event : Event) (reply : Result Answer Refusal) (new : EngineState)
     (stored : List Page) → IsFit old → EventFits event
     → Stays old event reply new ⊎ Grows old event reply new
-    → AreCopied old.log old.forced_end stored old.copies → AreCopied new.log old.forced_end stored old.copies
-copied_by_log old event reply new stored fit numbers (inl stays) are =
-    subst (λ (rs : List Record). AreCopied rs old.forced_end stored old.copies) (sym stays.log) are
+    → AreCopied (log_of old) old.forced_end stored old.copies → AreCopied (log_of new) old.forced_end stored old.copies
+copied_by_log old event reply new stored fit numbers (inl stays) are = rw (stays.pages, stays.log) are
 copied_by_log old event reply new stored fit numbers (inr grows) are =
     let own = (stands old event grows.r fit numbers grows.accepted grows.made).lsn in
     let k = fit.forced.0 in
     let le = fit.forced.1 in
     let end = fit.forced.2 in
-    subst (λ (rs : List Record). AreCopied rs old.forced_end stored old.copies) (sym grows.log)
-    (copied_later old.log grows.r old.forced_end stored old.copies (omega arith) are)
+    rw (grows.pages, grows.log)
+    (copied_later (log_of old) grows.r old.forced_end stored old.copies own (omega arith) are)
 
 pub copies_fit : (old : EngineState) (event : Event) (reply : Result Answer Refusal) (new : EngineState) → IsFit old
     → EventFits event → Forces old new → PageStep old new → Stays old event reply new ⊎ Grows old event reply new
-    → Step old event reply new → AreCopied new.log new.forced_end new.stored new.copies
+    → Step old event reply new → AreCopied (log_of new) new.forced_end new.stored new.copies
 copies_fit old event reply new fit numbers forces pages kind step = by_step (copy_step old event reply new fit step)
   where
-    by_step : CopyStep old new → AreCopied new.log new.forced_end new.stored new.copies
+    by_step : CopyStep old new → AreCopied (log_of new) new.forced_end new.stored new.copies
     by_step (LeavesCopies same) =
-        subst (λ (cs : List CopyState). AreCopied new.log new.forced_end new.stored cs) (sym same)
-        (copied_forced new.log old.forced_end new.forced_end new.stored old.copies forces.no_less
+        subst (λ (cs : List CopyState). AreCopied (log_of new) new.forced_end new.stored cs) (sym same)
+        (copied_forced (log_of new) old.forced_end new.forced_end new.stored old.copies forces.no_less
         (copied_by_log old event reply new new.stored fit numbers kind
         (copied_by_store old new fit (stores old new fit pages))))
     by_step (ChangesCopies copies are some is) =
-        subst (λ (s : EngineState). AreCopied s.log s.forced_end s.stored s.copies) (sym is) are
+        subst (λ (s : EngineState). AreCopied (log_of s) s.forced_end s.stored s.copies) (sym is) are
 
 -- where there is a copy, a checkpoint is complete
 pub noted_fit : (old : EngineState) (event : Event) (reply : Result Answer Refusal) (new : EngineState) → IsFit old

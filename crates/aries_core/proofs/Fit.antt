@@ -46,7 +46,8 @@ use Rattle.aries_core.proofs.Stands.{stands}
 use Rattle.aries_core.proofs.Steps.{Grows, Stays, grows_count, start, stays_count, stays_or_grows}
 use Rattle.aries_core.proofs.PageComes.{dirty_after, dirty_before, start_dirty, start_fit, start_held, start_images}
 use Rattle.aries_core.proofs.Writes.{GoesOn, PageStep, PagesFit, page_step, pages_fit}
-use Rattle.log_records.proofs.PageCounts.{count_behind-nil, count_stays, page_count-push}
+use Rattle.log_records.proofs.PageCounts.{count_behind-nil}
+use Rattle.log_records.proofs.GivenNone.{page_count-same, transaction_gives_none}
 
 -- ---- after a step
 
@@ -70,7 +71,7 @@ goes_on old event reply new forces (inr grows) = record {
 
 fit_stays : (old : EngineState) (event : Event) (reply : Result Answer Refusal) (new : EngineState) → IsFit old
     → IsFit (start old event reply) → PageStep old new → EndsAtRecord new → PagesFit new → FitsCkpts new
-    → AreCopied new.log new.forced_end new.stored new.copies → HaveMaster new.master new.copies
+    → AreCopied (log_of new) new.forced_end new.stored new.copies → HaveMaster new.master new.copies
     → Stays old event reply new → IsFit new
 fit_stays old event reply new fit from step forced pages ckpts copied noted stays = record {
   valid = rw (stays.pages, stays.log) fit.valid;
@@ -140,14 +141,14 @@ pub fit_appended : (s : EngineState) (r : Record) → IsFit s → Comes s r
 fit_appended s r fit come there =
     let at = come.stands_at in
     let count : volume_pages (appended s r) ≡ volume_pages s =
-    page_count-push (log_of s) r ∙ count_stays (volume_pages s) r in
+    page_count-same (log_of s) r (transaction_gives_none r come.of_transaction) in
     record {
       valid = valid_next (log_of s) r fit.valid (comes_few s r come) at;
       linked = linked_push s.log r fit.linked come.may_follow;
       room = room_push s.log r fit.room come.room;
       forced = (fit.forced.0, omega (arith, fit.forced.1, length_push s.log r), fit.forced.2);
       counted = record {
-        stored = fit.counted.stored ∙ sym count;
+        stored = omega (arith, fit.counted.stored, count);
         written = fit.counted.written ∙ sym count;
         writing = fit.counted.writing ∙ sym count;
       };
@@ -159,14 +160,14 @@ fit_appended s r fit come there =
       gathered = gathered_later
           (log_of s) r s.stored s.left fit.valid fit.linked come.of_transaction come.may_follow at.lsn fit.gathered;
       master = master_now s r fit at.lsn;
-      copied = copied_later s.log r s.forced_end s.stored s.copies (forced_low s r fit at.lsn) fit.copied;
+      copied = copied_later (log_of s) r s.forced_end s.stored s.copies at.lsn (forced_low s r fit at.lsn) fit.copied;
       noted = fit.noted;
     }
 
 fit_grows : (old : EngineState) (event : Event) (reply : Result Answer Refusal) (new : EngineState) → IsFit old
     → IsFit (start old event reply) → PageStep old new
     → EventFits event → EndsAtRecord new → PagesFit new → FitsCkpts new
-    → AreCopied new.log new.forced_end new.stored new.copies → HaveMaster new.master new.copies
+    → AreCopied (log_of new) new.forced_end new.stored new.copies → HaveMaster new.master new.copies
     → Grows old event reply new → IsFit new
 fit_grows old event reply new fit from step numbers forced pages ckpts copied noted grows =
     let r = grows.r in
@@ -239,7 +240,7 @@ not_reading copy e = cc
 not_complete : (copy : CopyView) → ¬ (dropped ≡ complete copy)
 not_complete copy e = cc
 
-no_copies : (s : EngineState) → AreCopied s.log s.forced_end s.stored []
+no_copies : (s : EngineState) → AreCopied (log_of s) s.forced_end s.stored []
 no_copies s = record {
   few = lit≤ tt;
   each = λ id copy is. absurd (none_some copy (ap copy_in (sym (no_copy id)) ∙ is));
@@ -267,7 +268,7 @@ new_is_fit pages frames count = record {
   room = room_of_none;
   forced = (0, omega arith, refl);
   counted = record {
-    stored = length-map-range_with_len formatted 0 pages ∙ sym (count_behind-nil pages);
+    stored = omega (arith, length-map-range_with_len formatted 0 pages, count_behind-nil pages);
     written = length-replicate pages 0 ∙ sym (count_behind-nil pages);
     writing = length-replicate pages None ∙ sym (count_behind-nil pages);
   };

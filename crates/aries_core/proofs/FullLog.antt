@@ -31,8 +31,7 @@ use Rattle.aries_core.specs.Refusal.{active_refusal, frame_refusal, has_no_room,
 use Rattle.aries_core.proofs.Fit.{fit_of_step, new_is_fit}
 use Rattle.aries_core.proofs.Follows.{add_follows}
 use Rattle.aries_core.proofs.Refusals.{change_passes}
-use Rattle.log_records.proofs.PageCounts.{count_is_first}
-use Rattle.aries_core.specs.EngineState.{log_of}
+use Rattle.log_records.proofs.PageCounts.{count_behind-not_less}
 
 -- the Add that comes again and again
 abbrev an_add : Event
@@ -78,7 +77,7 @@ add_now : (n : ℕ) (s : EngineState) → Filled n s → refusal s an_add ≡ re
 add_now n s is =
     let room = refused_if (has_no_room s 2) LogFull in
     let one_page = is.one_page in
-    let within : nat_le (volume_pages s) 0 ≡ false = lt-leb (volume_pages s) 0 (omega (arith, count_is_first (log_of s))) in
+    let within : nat_le (volume_pages s) 0 ≡ false = lt-leb (volume_pages s) 0 (omega (arith, count_behind-not_less s.pages s.log)) in
     let place : page_refusal s 0 0 ≡ None = then _ _ None (passes _ PageOut within) refl in
     let other = λ (o : ℕ). not (eqb o 1) && list_any (keeps_out 0 0 kind.Add) (pending s.log o) in
     let free : holder s.log 0 0 kind.Add 1 ≡ None = ap (λ (ts : List ℕ). least (filter other ts)) is.alone in
@@ -135,7 +134,7 @@ filled_more n s is few =
       owes = omega (arith, length_push s.log r, more);
       frame = frame_there (effect s an_add).state 0
           (resident_later (with_page s 0).resident r 0
-          ∙ page_comes s 0 is.fit (let one = is.one_page in omega (arith, count_is_first (log_of s))));
+          ∙ page_comes s 0 is.fit (let one = is.one_page in omega (arith, count_behind-not_less s.pages s.log)));
     }
 
 filled_is : (n : ℕ) → n ≤ 524286 → Filled n (filled n)

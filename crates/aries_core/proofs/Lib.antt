@@ -18,6 +18,7 @@ pub mod FrameCounts
 pub mod FullLog
 pub mod GatherSteps
 pub mod Gathers
+mod NoCounts
 pub mod Numbers
 pub mod PageComes
 pub mod PageLaws

@@ -29,17 +29,15 @@ use Rattle.aries_core.specs.Repair.{MayBeRepaired}
 use Rattle.aries_core.proofs.PoolStates.{image_at}
 use Rattle.aries_core.proofs.Refusals.{repair_passes}
 use Rattle.aries_core.proofs.WriteCalls.{Called, called}
-use Rattle.log_records.proofs.PageCounts.{count_is_first}
 
 -- ---- what a chain has
 
 -- the pages of a complete copy's chain lack nothing below its redo point
 pub chain_covers : (s : EngineState) (copy p : ℕ) (members : List CopyView) → IsFit s → IsChain members
-    → IsChainOf s.copies copy members → p < volume_pages s → Covers s.log p (content members p) (last_redo members)
-chain_covers s copy p members fit chain of_id within =
+    → IsChainOf s.copies copy members → Covers s.log p (content members p) (last_redo members)
+chain_covers s copy p members fit chain of_id =
     (covered_of_members (log_of s) s.forced_end s.copies copy members p
-    (restorable (log_of s) s.forced_end s.stored s.copies (fit.counted.stored ∙ count_is_first (log_of s)) fit.copied)
-    chain of_id (omega (arith, within, count_is_first (log_of s)))).covers
+    (restorable (log_of s) s.forced_end s.stored s.copies fit.copied) chain of_id).covers
 
 -- ---- the state after it
 

@@ -10,7 +10,6 @@ use Rattle.copy_coverage.specs.Retired.{NamesCheckpoint, IsRetired}
 use Rattle.copy_coverage.proofs.Copied.{restorable}
 use Rattle.aries_core.specs.EngineState.{EngineState, IsFit, log_of, master_record}
 use Rattle.aries_core.specs.EngineState as engine
-use Rattle.log_records.proofs.PageCounts.{count_is_first}
 
 named : (rs : List Record) (stored : List Page) (forced_end : ℕ) (point : Option Point)
     → IfSome point (engine.IsMasterOf rs stored forced_end)
@@ -34,7 +33,6 @@ left_by s fit = record {
   room = fit.room;
   forced = fit.forced;
   master = named s.log s.stored s.forced_end s.master fit.master;
-  copies = restorable (log_of s) s.forced_end s.stored s.copies
-      (fit.counted.stored ∙ count_is_first (log_of s)) fit.copied;
+  copies = restorable (log_of s) s.forced_end s.stored s.copies fit.copied;
   noted = λ id copy is. mapped s.master (fit.noted id copy (ap copy_in is));
 }

@@ -20,7 +20,8 @@ use Rattle.aries_core.specs.Accepted.{shown_call}
 use Rattle.aries_core.specs.EngineState.{EngineState, appended, comp_record, effect, end_ckpt_record, end_record}
 use Rattle.aries_core.specs.EngineState.{ended_write, image_of, log_of, page_needed, volume_pages, taken_back, with_page}
 use Rattle.aries_core.specs.EngineState.{with_stored}
-use Rattle.log_records.proofs.PageCounts.{count_stays, page_count-push}
+use Rattle.log_records.proofs.GivenNone.{page_count-same}
+use Rattle.aries_core.proofs.NoCounts.{call_gives_none}
 use Rattle.aries_core.specs.Refusal.{refusal}
 use Rattle.aries_core.specs.Step.{Fails, MayBeStored, Step}
 use Rattle.aries_core.proofs.Gathers.{PassesPages, PassesTxns, TakesPages, TakesTxn, WasDone, ckpt_end_is, closed_part}
@@ -60,7 +61,7 @@ stays_count old event reply new stays = rw (stays.pages, stays.log) refl
 pub grows_count : (old : EngineState) (event : Event) (reply : Result Answer Refusal) (new : EngineState)
     → Grows old event reply new → volume_pages new ≡ volume_pages old
 grows_count old event reply new grows =
-    rw (grows.pages, grows.log) (page_count-push (log_of old) grows.r ∙ count_stays (volume_pages old) grows.r)
+    rw (grows.pages, grows.log) (page_count-same (log_of old) grows.r (call_gives_none old event grows.r grows.made))
 
 -- ---- each reply
 

@@ -70,7 +70,7 @@ force_kept stored it new table pool ckpts kept same no_less ends =
         room = rw same fit.room;
         forced = ends;
         counted = record {
-          stored = fit.counted.stored ∙ ap page_count (sym same);
+          stored = omega (arith, fit.counted.stored, ap page_count same);
           written = fit.counted.written ∙ ap page_count (sym same);
           writing = fit.counted.writing ∙ ap page_count (sym same);
         };
@@ -86,7 +86,7 @@ force_kept stored it new table pool ckpts kept same no_less ends =
         master = rw same (master_forced it.log.records (stored pool.store) it.forced_end
             new.forced_end ckpts.master no_less
             fit.master);
-        copied = rw same (copied_forced it.log.records it.forced_end new.forced_end
+        copied = rw same (copied_forced it.log it.forced_end new.forced_end
             (stored pool.store) ckpts.copies no_less
             fit.copied);
         noted = fit.noted;

@@ -289,7 +289,7 @@ left_fit old new fit goes left =
     let counted = fit.counted in
     record {
       counted = record {
-        stored = ap length left.stored ∙ counted.stored ∙ sym goes.count;
+        stored = omega (arith, ap length left.stored, counted.stored, goes.count);
         written = ap length left.written ∙ counted.written ∙ sym goes.count;
         writing = ap length left.writing ∙ counted.writing ∙ sym goes.count;
       };
@@ -310,7 +310,7 @@ begun_fit old new page fit goes begins =
     let room : page < length old.writing = let count = counted.writing in omega arith in
     record {
       counted = record {
-        stored = ap length begins.stored ∙ counted.stored ∙ sym goes.count;
+        stored = omega (arith, ap length begins.stored, counted.stored, goes.count);
         written = ap length begins.written ∙ counted.written ∙ sym goes.count;
         writing = ap length begins.writing ∙ length-set old.writing page (Some now) ∙ counted.writing ∙ sym goes.count;
       };
@@ -339,7 +339,7 @@ ended_fit old new page fit goes ends =
     let room : page < length old.writing = let count = counted.writing in omega arith in
     record {
       counted = record {
-        stored = ap length ends.stored ∙ length-set old.stored page image ∙ counted.stored ∙ sym goes.count;
+        stored = omega (arith, ap length ends.stored, length-set old.stored page image, counted.stored, goes.count);
         written = ap length ends.written ∙ length-set old.written page image.lsn ∙ counted.written ∙ sym goes.count;
         writing = ap length ends.writing ∙ length-set old.writing page None ∙ counted.writing ∙ sym goes.count;
       };
@@ -365,7 +365,7 @@ repeated_fit old new page fit goes repeats =
     let there : page < length old.stored = let count = counted.stored in omega arith in
     record {
       counted = record {
-        stored = ap length repeats.stored ∙ length-set old.stored page image ∙ counted.stored ∙ sym goes.count;
+        stored = omega (arith, ap length repeats.stored, length-set old.stored page image, counted.stored, goes.count);
         written = ap length repeats.written ∙ counted.written ∙ sym goes.count;
         writing = ap length repeats.writing ∙ counted.writing ∙ sym goes.count;
       };
@@ -397,7 +397,8 @@ repaired_fit old new page fit goes repairs =
     let below : now.lsn < new.forced_end =
     let stable = image_is_stable old page fit in let forced = repairs.forced in omega arith in
     let past = past_now old.log page in
-    let stored_count = ap length repairs.stored ∙ length-set old.stored page now ∙ counted.stored ∙ sym goes.count in
+    let stored_count : volume_pages new ≤ length new.stored =
+    omega (arith, ap length repairs.stored, length-set old.stored page now, counted.stored, goes.count) in
     let writing_count = ap length repairs.writing ∙ counted.writing ∙ sym goes.count in
     let stable : AreStable new = record {
       pages = rw repairs.stored

@@ -372,9 +372,9 @@ master_record point = record { begin = point.begin; end = point.end }
 
 -- ---- the invariant
 
--- each page of the volume has its place in each list
+-- each page of the volume has its place in each list; more pages may be stored
 pub record AreCounted (s : EngineState) : Type 0 where
-  pub stored : length s.stored ≡ volume_pages s
+  pub stored : volume_pages s ≤ length s.stored
   pub written : length s.written ≡ volume_pages s
   pub writing : length s.writing ≡ volume_pages s
 
@@ -426,7 +426,7 @@ pub record IsFit (s : EngineState) : Type 0 where
   pub stable : AreStable s
   pub gathered : IfSome (open_checkpoint s.log) (IsGathering s.log s.stored s.left)
   pub master : IfSome s.master (IsMasterOf s.log s.stored s.forced_end)
-  pub copied : AreCopied s.log s.forced_end s.stored s.copies
+  pub copied : AreCopied (log_of s) s.forced_end s.stored s.copies
   pub noted : HaveMaster s.master s.copies
 
 -- ---- the engine, its store and its device

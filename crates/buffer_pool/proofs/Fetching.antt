@@ -110,7 +110,7 @@ resident_more pages page n there =
 pub pool_more : {S : Type 0} (stored_in : S → List Page) (log : Log) (pool : PoolView S) (store : S) (room n : ℕ)
     (pages : List Page) (page : Page)
     → IsPoolOf stored_in log pool → stored_in store ≡ stored_in pool.store
-    → length (stored_in pool.store) ≡ length pool.states → n < length pool.states
+    → length pool.states ≤ length (stored_in pool.store) → n < length pool.states
     → ((d : Page) → page ≡ get_or (stored_in pool.store) n d) → page.number ≡ n
     → is_resident pool.resident n ≡ false
     → length pages < pool.frames → All (λ page. page.number < length pool.states) pages

@@ -17,10 +17,12 @@ use Rattle.log_records.specs.declared.record.Record.{Record}
 use Rattle.log_records.specs.declared.page_change.PageChange.{PageChange}
 use Rattle.log_records.specs.Image.{image, with_change, with_record}
 use Rattle.log_records.specs.Log.{IsLog, IsPageCount, IsWithin, Log, lsn_of, page_count, page_count_at}
+use Rattle.log_records.specs.PageCount.{given_count}
 use Rattle.log_records.specs.Record.{change_of, own_lsn}
 use Rattle.log_records.specs.Log.{with_next}
 use Rattle.log_records.proofs.Changes.{change_within}
-use Rattle.log_records.proofs.PageCounts.{count_behind-nil, count_stays, page_count-push, page_count_at-all}
+use Rattle.log_records.proofs.GivenNone.{page_count-same}
+use Rattle.log_records.proofs.PageCounts.{count_behind-nil, page_count_at-all}
 use Rattle.log_records.proofs.PageCounts.{page_count_at-append}
 use Rattle.log_records.proofs.Images.{image_from-append, number-image, number-with_record}
 use Rattle.page_store.specs.Store.{StoresOrKeeps}
@@ -109,18 +111,18 @@ resident_later (page ∷ pages) next n =
     (number-with_record page next)
     ∙ ap (λ (b : Bool). (page.number == n) || b) (resident_later pages next n)
 
--- what a pool is after a record more, if each state is
+-- what a pool is after a record more that gives no page count, if each state is
 later : {S : Type 0} (stored_in : S → List Page) (log : Log) (next : Record) (pool : PoolView S)
-    (states : List PageState)
+    (states : List PageState) → given_count next ≡ None
     → IsLog (with_next log (next ∷ [])) → IsPoolOf stored_in log pool → length states ≡ length pool.states
     → written_of states ≡ written_of pool.states → writing_of states ≡ writing_of pool.states
     → ((p : ℕ) (d : PageState) → p < length states → IsStateOf (with_next log (next ∷ [])) p (get_or states p d))
     → AreHeld pool.resident states
     → IsPoolOf stored_in (with_next log (next ∷ []))
     (record pool { resident = map (λ page. with_record page next) pool.resident; states = states })
-later stored_in log next pool states valid is count written writing each held = record {
+later stored_in log next pool states none valid is count written writing each held = record {
   valid = valid;
-  pages = page_count-push log next ∙ count_stays (page_count log) next ∙ is.pages ∙ sym count;
+  pages = page_count-same log next none ∙ is.pages ∙ sym count;
   few = omega (arith, is.few, length-map pool.resident (λ (page : Page). with_record page next));
   within = All-map (λ page. page.number < length states) (λ page. with_record page next) pool.resident
       (All-weaker (λ page. page.number < length pool.states)
@@ -136,11 +138,12 @@ later stored_in log next pool states valid is count written writing each held = 
 
 -- a record that changes no page
 pub pool_same : {S : Type 0} (stored_in : S → List Page) (log : Log) (next : Record) (pool : PoolView S)
-    → change_of next ≡ None → IsLog (with_next log (next ∷ [])) → IsPoolOf stored_in log pool
+    → given_count next ≡ None → change_of next ≡ None → IsLog (with_next log (next ∷ []))
+    → IsPoolOf stored_in log pool
     → IsPoolOf stored_in (with_next log (next ∷ []))
     (record pool { resident = map (λ page. with_record page next) pool.resident })
-pool_same stored_in log next pool none valid is =
-    later stored_in log next pool pool.states valid is refl refl refl (λ p d lt.
+pool_same stored_in log next pool given none valid is =
+    later stored_in log next pool pool.states given valid is refl refl refl (λ p d lt.
     state_same log next p (get_or pool.states p d) is.valid (own_is log next valid)
     (ap (λ (o : Option PageChange). option_map_or (λ c. c.page == p) o false) none)
     (is.states p d lt))
@@ -148,20 +151,20 @@ pool_same stored_in log next pool none valid is =
 
 -- one that changes a page
 pub pool_changed : {S : Type 0} (stored_in : S → List Page) (log : Log) (next : Record) (pool : PoolView S)
-    (c : PageChange) → change_of next ≡ Some c → IsResident pool.resident c.page → IsLog (with_next log (next ∷ []))
-    → IsPoolOf stored_in log pool
+    (c : PageChange) → given_count next ≡ None → change_of next ≡ Some c → IsResident pool.resident c.page
+    → IsLog (with_next log (next ∷ [])) → IsPoolOf stored_in log pool
     → IsPoolOf stored_in (with_next log (next ∷ [])) (record pool {
       resident = map (λ page. with_record page next) pool.resident;
       states = set pool.states c.page (changed (state_in pool.states c.page) (own_lsn next));
     })
-pool_changed stored_in log next pool c some here valid is =
+pool_changed stored_in log next pool c given some here valid is =
     let there = page_is_there stored_in log next pool c some valid is in
     let states = pool.states in
     let n = c.page in
     let old = state_in states n in
     let new : PageState = changed old (own_lsn next) in
     let own = own_is log next valid in
-    later stored_in log next pool (set states n new) valid is (length-set states n new)
+    later stored_in log next pool (set states n new) given valid is (length-set states n new)
     (column_same (λ (s : PageState). s.written) states n new there refl)
     (column_same (λ (s : PageState). s.writing) states n new there refl)
     (states_set (IsStateOf (with_next log (next ∷ []))) states n new
@@ -261,7 +264,7 @@ held_set pages states n s there was held = λ p lt dirty.
 
 pub pool_begun : {S : Type 0} (stored_in : S → List Page) (log : Log) (pool : PoolView S) (q : Page)
     → q.number < length pool.states → q ≡ image log.records q.number
-    → length (stored_in pool.store) ≡ length pool.states → IsSome (state_at pool q.number).rec_lsn
+    → length pool.states ≤ length (stored_in pool.store) → IsSome (state_at pool q.number).rec_lsn
     → IsPoolOf stored_in log pool
     → IsPoolOf stored_in log (with_state pool q.number (write_begun (state_at pool q.number) q))
 pool_begun stored_in log pool q there now count changed is =
@@ -299,7 +302,7 @@ pool_begun stored_in log pool q there now count changed is =
 
 pub pool_ended : {S : Type 0} (stored_in : S → List Page) (log : Log) (pool : PoolView S) (store : S) (n : ℕ) (q : Page)
     → n < length pool.states → (state_at pool n).writing ≡ Some q
-    → length (stored_in pool.store) ≡ length pool.states → stored_in store ≡ set (stored_in pool.store) n q
+    → length pool.states ≤ length (stored_in pool.store) → stored_in store ≡ set (stored_in pool.store) n q
     → IsPoolOf stored_in log pool
     → IsPoolOf stored_in log
     (record (with_state pool n (write_ended (state_at pool n) q.lsn)) { store = store })
@@ -337,7 +340,7 @@ pool_ended stored_in log pool store n q there here count stores is =
 
 pub pool_failed : {S : Type 0} (stored_in : S → List Page) (log : Log) (pool : PoolView S) (store : S) (n : ℕ)
     (q : Page) → n < length pool.states → (state_at pool n).writing ≡ Some q
-    → length (stored_in pool.store) ≡ length pool.states
+    → length pool.states ≤ length (stored_in pool.store)
     → StoresOrKeeps (stored_in pool.store) n q (stored_in store) → IsPoolOf stored_in log pool
     → IsPoolOf stored_in log (record pool { store = store })
 pool_failed stored_in log pool store n q there here count either is = elim either [

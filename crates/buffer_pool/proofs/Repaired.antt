@@ -103,7 +103,7 @@ whole_set pages new states after n q s named stores are whole =
     let stored : length new ≡ length pages = ap length stores ∙ length-set pages n q in
     record {
       few = omega (arith, whole.few, count);
-      stored_count = stored ∙ whole.stored_count ∙ sym count;
+      enough = omega (arith, whole.enough, stored, count);
       stored_numbers = subst AreNumbered (sym stores) (numbered_set pages n q named whole.stored_numbers);
     }
 
@@ -111,7 +111,7 @@ pub whole_half : (pages new : List Page) (states : List PageState) (n : ℕ) (q 
     → q.number ≡ n → StoresOrKeeps pages n q new → IsWhole pages states → IsWhole new states
 whole_half pages new states n q named (inl stores) whole = record {
   few = whole.few;
-  stored_count = ap length stores ∙ length-set pages n q ∙ whole.stored_count;
+  enough = omega (arith, whole.enough, ap length stores, length-set pages n q);
   stored_numbers = subst AreNumbered (sym stores) (numbered_set pages n q named whole.stored_numbers);
 }
 whole_half pages new states n q named (inr keeps) whole =
@@ -143,7 +143,7 @@ state_repaired log p valid = record {
 
 pub pool_repaired : {S : Type 0} (stored_in : S → List Page) (log : Log) (pool : PoolView S) (store : S) (n : ℕ)
     (q : Page) → n < length pool.states → (state_at pool n).writing ≡ None → q ≡ image log.records n
-    → length (stored_in pool.store) ≡ length pool.states → stored_in store ≡ set (stored_in pool.store) n q
+    → length pool.states ≤ length (stored_in pool.store) → stored_in store ≡ set (stored_in pool.store) n q
     → IsPoolOf stored_in log pool
     → IsPoolOf stored_in log (record (with_state pool n (stored_as_now q.lsn)) { store = store })
 pool_repaired stored_in log pool store n q there idle now count stores is =
@@ -174,7 +174,7 @@ pool_repaired stored_in log pool store n q there idle now count stores is =
 
 pub pool_half : {S : Type 0} (stored_in : S → List Page) (log : Log) (pool : PoolView S) (store : S) (n : ℕ)
     (q : Page) → n < length pool.states → (state_at pool n).writing ≡ None → q ≡ image log.records n
-    → length (stored_in pool.store) ≡ length pool.states
+    → length pool.states ≤ length (stored_in pool.store)
     → StoresOrKeeps (stored_in pool.store) n q (stored_in store) → IsPoolOf stored_in log pool
     → IsPoolOf stored_in log (record pool { store = store })
 pool_half stored_in log pool store n q there idle now count either is = elim either [

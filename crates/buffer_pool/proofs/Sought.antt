@@ -292,7 +292,7 @@ pub whole_states : (stored : List Page) (states after : List PageState) → leng
     → IsWhole stored states → IsWhole stored after
 whole_states stored states after count whole = record {
   few = omega (arith, count, whole.few);
-  stored_count = whole.stored_count ∙ sym count;
+  enough = omega (arith, whole.enough, count);
   stored_numbers = whole.stored_numbers;
 }
 

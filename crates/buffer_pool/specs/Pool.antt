@@ -150,10 +150,11 @@ with_state pool number state = record pool { states = slice_set pool.states numb
 
 -- ---- the invariant
 
--- each page is stored and has a state, and they stand in order of their numbers
+-- each page of the volume is stored and has a state, and they stand in order of their numbers; more
+-- pages may be stored
 pub record IsWhole (stored : List Page) (states : List PageState) : Type 0 where
   pub few : length states ≤ MAX_PAGES
-  pub stored_count : length stored ≡ length states
+  pub enough : length states ≤ length stored
   pub stored_numbers : AreNumbered stored
 
 -- and the search for a clean page among the frames passes over none

@@ -1,6 +1,6 @@
 //! The buffer pool.
 
-ghost use Rattle.std.specs.Prelude.{ℕ, ◌≡◌, ◌<◌, List, [], ◌∷◌, false, length, map, slice_get};
+ghost use Rattle.std.specs.Prelude.{ℕ, ◌≡◌, ◌<◌, ◌≤◌, List, [], ◌∷◌, false, length, map, slice_get};
 ghost use Rattle.std.specs.Prelude.{slice_index_or, slice_set, None, Some, IfSome, IsNone, IsSome};
 ghost use Rattle.std.specs.Prelude.{MatchOption, is_some, Ok, Err, IfOk, IfErr, OnOk, OnErr};
 ghost use Rattle.std.specs.List.{Contains};
@@ -9,6 +9,7 @@ ghost use Rattle.page_core.specs.Volume.{AreNumbered, formatted_pages};
 ghost use Rattle.log_records.specs.Image.{image, with_record};
 ghost use Rattle.log_records.specs.Log.{IsLog, IsPageCount, Log, with_next};
 ghost use Rattle.log_records.specs.Coverage.{dirty, entries_of, next_dirty};
+ghost use Rattle.log_records.specs.PageCount.{given_count};
 ghost use Rattle.log_records.specs.Record.{change_of};
 ghost use Rattle.page_store.specs.Store.{StoresOrKeeps};
 ghost use Rattle.buffer_pool.specs.Frames.{IsResident, fetched, is_full, is_resident};
@@ -103,7 +104,7 @@ impl<S: PageStore> Pool<S> {
     /// How many pages the volume has.
     pub fn pages(&self) -> u32
         ensures states { result ≡ length self.now.states }
-        ensures stored { result ≡ length (S.stored self.now.store) }
+        ensures stored { result ≤ length (S.stored self.now.store) }
         ensures numbered { AreNumbered (S.stored self.now.store) }
     {
         self.states.count()
@@ -215,10 +216,12 @@ impl<S: PageStore> Pool<S> {
     }
 
     /// Makes the change of the log's next record, if it makes one, on its page, which is resident,
-    /// and dirty then. It takes no memory and does not call the store.
+    /// and dirty then. The record gives the volume no page count. It takes no memory and does not
+    /// call the store.
     pub fn change(&mut self, next: &Record)
         requires next { (log : Log) × (IsPoolOf S.stored log self.old
             × IsLog (with_next log (next.now ∷ []))) }
+        requires same_count { given_count next.now ≡ None }
         requires resident { IfSome (change_of next.now) (λ c. IsResident self.old.resident c.page) }
 
         ensures kept { (log : Log) → IsPoolOf S.stored log self.old

@@ -1,5 +1,5 @@
 -- What a page lacks of a log that a crash left.
-use Rattle.std.proofs.Common.{◌≡◌, ℕ, ◌+◌, ◌*◌, ◌/◌, ◌<◌, ◌≤◌, List, length, take, sym, ap, subst, ◌∙◌, arith}
+use Rattle.std.proofs.Common.{◌≡◌, ℕ, ◌+◌, ◌-◌, ◌*◌, ◌/◌, ◌<◌, ◌≤◌, List, length, take, sym, ap, subst, ◌∙◌, arith}
 use Rattle.std.specs.Prelude.{true}
 use Rattle.std.proofs.lemmas.List.{length-take, take-take}
 use Rattle.std.proofs.lemmas.List.Elements.{All-take}
@@ -7,9 +7,9 @@ use Rattle.page_core.specs.declared.page.Page.{Page}
 use Rattle.log_records.specs.declared.record.Record.{Record}
 use Rattle.log_records.specs.Coverage.{Covers, changes, resume}
 use Rattle.log_records.specs.Image.{image}
-use Rattle.log_records.specs.Log.{IsLog, Log, lsn_of}
+use Rattle.log_records.specs.Log.{IsLog, Log, lsn_of, page_count_below}
 use Rattle.log_records.specs.Record.{own_lsn}
-use Rattle.log_records.proofs.PageCounts.{valid_cut}
+use Rattle.log_records.proofs.PageCounts.{page_count_at-take, valid_cut}
 use Rattle.log_records.proofs.Coverage.{at_each, of_each, past_is_named, resume_covering}
 use Rattle.copy_coverage.specs.Copied.{IsCovered}
 use Rattle.copy_coverage.specs.Kept.{IsKeptOf}
@@ -18,6 +18,14 @@ use Rattle.copy_coverage.specs.Kept.{IsKeptOf}
 pub prefix_is_log : (log : Log) (n : ℕ) → IsLog log → n ≤ length log.records
     → IsLog (record log { records = take n log.records })
 prefix_is_log log n valid le = valid_cut log n valid
+
+-- the page count below what is forced
+pub kept_count_below : (log kept : Log) (f lsn : ℕ) → IsKeptOf log f kept → lsn < f
+    → page_count_below kept lsn ≡ page_count_below log lsn
+kept_count_below log kept f lsn is low =
+    let high = is.forced in
+    subst (λ (k : Log). page_count_below k lsn ≡ page_count_below log lsn) (sym is.made)
+    (page_count_at-take log ((lsn - 1) / 64) is.count (omega arith))
 
 steps_below : (lsn k : ℕ) → lsn < 64 * (k + 1) → lsn / 64 ≤ k
 steps_below lsn k lt = omega arith

@@ -35,6 +35,11 @@ pub redo_before_end : (log : Log) (begin end : ℕ) (is : IsCompleteCheckpoint l
     → is.redo < end
 redo_before_end log begin end is valid = (end_is_record log begin end is valid).2.earlier
 
+-- and so does its begin
+pub begin_before_end : (log : Log) (begin end : ℕ) (is : IsCompleteCheckpoint log.records begin end) → IsLog log
+    → begin < end
+begin_before_end log begin end is valid = (end_is_record log begin end is valid).1.earlier
+
 -- a copy may note it
 pub point_of : (log : Log) (begin end : ℕ) (is : IsCompleteCheckpoint log.records begin end) → IsLog log
     → IsLinked log.records → IsPoint begin is.redo

@@ -8,6 +8,7 @@ use Rattle.log_records.specs.declared.record.Record.{Record}
 use Rattle.log_records.specs.declared.record.Record.TheVariants.{BeginChkpt, ChkptPages, ChkptTxns, EndChkpt}
 use Rattle.log_records.specs.Log.{IsLog, Log, with_next}
 use Rattle.log_records.specs.Record.{IsOfCheckpoint, change_of}
+use Rattle.log_records.proofs.GivenNone.{checkpoint_gives_none}
 use Rattle.log_records.proofs.Images.{none_changed}
 use Rattle.log_history.specs.Linked.{MayFollow}
 use Rattle.log_history.specs.Table.{Table, noted, table_of}
@@ -29,7 +30,7 @@ pub pool_kept : {S : Type 0} (stored_in : S → List Page) (log : Log) (r : Reco
 pool_kept stored_in log r pool of valid is =
     let none = changes_none r of in
     subst (λ (pages : List Page). IsPoolOf stored_in (with_next log (r ∷ [])) (record pool { resident = pages }))
-    (sym (none_changed pool.resident r none)) (pool_same stored_in log r pool none valid is)
+    (sym (none_changed pool.resident r none)) (pool_same stored_in log r pool (checkpoint_gives_none r of) none valid is)
 
 noted_same : (table : Table) (r : Record) → IsOfCheckpoint r → noted table r ≡ table
 noted_same table (BeginChkpt lsn) of = refl

@@ -1,7 +1,7 @@
 -- A step over pages: its record may come next, and what the checkpoint is after it.
-use Rattle.std.proofs.Common.{◌≡◌, ℕ, ◌+◌, ◌-◌, ◌<◌, ◌≤◌, eqb, true, false, List, [], ◌∷◌, ◌++◌, length, get_or, refl}
+use Rattle.std.proofs.Common.{◌≡◌, ℕ, ◌+◌, ◌-◌, ◌<◌, ◌≤◌, List, [], ◌∷◌, ◌++◌, length, get_or, refl}
 use Rattle.std.proofs.Common.{sym, ap, subst, ◌∙◌}
-use Rattle.std.proofs.Common.{arith, inl, inr, eqb-true, min}
+use Rattle.std.proofs.Common.{arith, inl, inr, min, true≢false}
 use Rattle.std.specs.Prelude.{Option, Some, None, IfSome, IsSomeAnd, MatchOption, nat_lt}
 use Rattle.std.specs.List.{All, AllByRecursion, Contains, filter}
 use Rattle.std.specs.Option.{option_map_or}
@@ -18,16 +18,16 @@ use Rattle.log_records.specs.declared.dirty_page.DirtyPage.{DirtyPage}
 use Rattle.log_records.specs.declared.dirty_page.DirtyPages.{DirtyPages}
 use Rattle.log_records.specs.declared.dirty_page.DirtyPages.TheVariants.{One, Two, Three}
 use Rattle.log_records.specs.declared.limits.TheConstants.{MAX_RECORDS}
-use Rattle.log_records.specs.declared.page_change.PageChange.{PageChange}
 use Rattle.log_records.specs.declared.record.Record.{Record}
 use Rattle.log_records.specs.declared.record.Record.TheVariants.{ChkptPages}
 use Rattle.log_records.specs.Coverage.{AreStored, Covers, IsPast, changes_on, dirty, next_dirty, rec_lsn}
 use Rattle.log_records.specs.DirtyPage.{entries_of}
 use Rattle.log_records.specs.Log.{IsLog, Log, StandsAt, page_count}
-use Rattle.log_records.proofs.PageCounts.{page_count-is_count, stands_in}
-use Rattle.log_records.specs.Record.{AreDirtyPages, IsBefore, IsDirtyPage, change_of}
-use Rattle.log_records.proofs.Changes.{change_within, valid_change}
+use Rattle.log_records.proofs.PageCounts.{page_count-is_count}
+use Rattle.log_records.specs.Record.{AreDirtyPages, IsBefore, IsDirtyPage}
+use Rattle.log_records.proofs.Changes.{valid_change}
 use Rattle.log_records.proofs.Coverage.{clean_is_image, covers_later, covers_lower, dirty_covers, of_each}
+use Rattle.log_records.proofs.PastVolume.{not_changed}
 use Rattle.log_history.specs.Checkpoint.{Checkpoint, checkpoint_after}
 use Rattle.log_history.specs.Linked.{MayFollow, MayRecordPages}
 use Rattle.log_history.specs.Transactions.{last_of}
@@ -67,14 +67,8 @@ outside_covers : (log : Log) (p bound : ℕ) (page : Page) → IsLog log → pag
 outside_covers log p bound page valid past_end past = record {
   past = past;
   reached = of_each (λ lsn. lsn < bound → lsn ≤ page.lsn) p log.records (λ i d lt e low.
-      absurd (none (change_of (get_or log.records i d))
-      (change_within (page_count log) (get_or log.records i d) (stands_in log valid i d lt).within) e));
+      absurd (true≢false (sym e ∙ not_changed log p i d valid past_end lt)));
 }
-  where
-    none : (o : Option PageChange) → IfSome o (λ c. c.page < page_count log)
-        → option_map_or (λ c. eqb c.page p) o false ≡ true → ⊥
-    none None within e = cc
-    none (Some c) within e = let same = eqb-true c.page p e in omega arith
 
 -- ---- the pages that a step has passed
 

@@ -1,13 +1,14 @@
 //! Laws of pages that are kept elsewhere while their log grows, for readers of the contracts.
 
 ghost use Rattle.std.specs.Prelude.{ℕ, ◌≡◌, ◌<◌, ◌≤◌, ◌++◌, ◌∷◌, [], List, length, take, Some};
-ghost use Rattle.std.specs.Prelude.{None};
+ghost use Rattle.std.specs.Prelude.{None, Option, slice_index_or};
 ghost use Rattle.log_records.specs.declared.record.Record.{Record};
-ghost use Rattle.log_records.specs.Log.{Log, IsLog, lsn_of};
+ghost use Rattle.log_records.specs.Log.{Log, IsLog, lsn_of, page_count};
 ghost use Rattle.log_records.specs.Image.{image};
 ghost use Rattle.log_records.specs.Record.{own_lsn};
 ghost use Rattle.page_core.specs.declared.page.Page.{Page};
-ghost use Rattle.log_records.specs.Coverage.{Covers, IsPast, rec_lsn, resume, up_to};
+ghost use Rattle.page_core.specs.Page.{formatted};
+ghost use Rattle.log_records.specs.Coverage.{AreStored, Covers, IsPast, rec_lsn, resume, up_to};
 
 /// An image names by its LSN the records that it was made of.
 pub fn an_image_names_its_records()
@@ -45,4 +46,13 @@ pub fn a_stored_page_covers_its_rec_lsn()
     ensures clean { (log : Log) (number : ℕ) (page : Page) (written : ℕ) → IsLog log
         → IsPast log.records number page → written ≤ page.lsn
         → rec_lsn log.records number written ≡ None → page ≡ image log.records number }
+{}
+
+/// A store may have more pages than the volume. Those past the volume are formatted, since no
+/// record of the log names one.
+pub fn stored_pages_past_the_volume_are_formatted()
+    ensures { (log : Log) (stored : List Page) (written : List ℕ) (writing : List (Option Page))
+        (number : ℕ) (d : Page) → IsLog log → AreStored log.records stored written writing
+        → page_count log ≤ number → number < length stored
+        → slice_index_or stored number d ≡ formatted number }
 {}

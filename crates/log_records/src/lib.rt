@@ -21,6 +21,7 @@ pub use codec::{decode, encode};
 pub use coverage_laws::{
     a_stored_page_covers_its_rec_lsn, an_image_names_its_records, covering_goes_down,
     covering_outlasts_new_records, redo_of_a_covering_page_is_its_image,
+    stored_pages_past_the_volume_are_formatted,
 };
 pub use dirty_page::{DirtyPage, DirtyPages};
 pub use header::{LogHeader, encode_header, log_header};

@@ -9,10 +9,10 @@ use Rattle.std.proofs.lemmas.List.{length-take-le}
 use Rattle.page_core.specs.declared.page.Page.{Page}
 use Rattle.page_core.specs.Page.{IsPage}
 use Rattle.log_records.specs.Coverage.{Covers, IsPast}
-use Rattle.page_core.specs.PageCounts.{PageCounts, count_below}
 use Rattle.page_core.specs.declared.format.Format.TheVariants.{Second}
-use Rattle.log_records.specs.Log.{IsLog, Log, SpellsLog, counts_of, log_bytes}
-use Rattle.log_records.proofs.PageCounts.{count_is_first, counts_are_first}
+use Rattle.page_core.specs.PageCounts.{count_below}
+use Rattle.log_records.specs.Log.{IsLog, Log, SpellsLog, counts_of, log_bytes, page_count, page_count_below}
+use Rattle.log_records.proofs.PageCounts.{count_below-counts_of, page_count-is_count}
 use Rattle.copy_coverage.specs.Retired.{IsRetired, RetiredView}
 use Rattle.log_records.proofs.Logs.{same_log}
 use Rattle.log_history.specs.Linked.{IsLinked}
@@ -31,11 +31,14 @@ use Rattle.copy_vault.specs.Vault.{CopyState, HasParent, complete, dropped, stat
 use Rattle.copy_vault.proofs.ArchiveReads.{same_copy}
 use Rattle.copy_vault.proofs.Chains.{some_members}
 use Rattle.copy_vault.proofs.Decisions.{count_within}
-use Rattle.copy_coverage.specs.Copied.{AreRestorable, IsCovered, StandsOn, decided_over, page_in}
+use Rattle.copy_coverage.specs.Copied.{AreRestorable, IsCovered, StandsOn}
+use Rattle.copy_coverage.specs.Kept.{IsKeptOf}
 use Rattle.copy_coverage.proofs.Chains.{covered_of_members}
-use Rattle.copy_coverage.proofs.Kept.{covers_kept, prefix_is_log}
+use Rattle.copy_coverage.proofs.Contents.{content_by}
+use Rattle.copy_coverage.proofs.Kept.{covers_kept, kept_count_below, prefix_is_log}
+use Rattle.copy_coverage.proofs.LaterPages.{count_below-not_less, count_below-not_more}
 use Rattle.copy_coverage.proofs.Points.{end_is_record}
-use Rattle.page_redo.proofs.Valid.{valid-image}
+use Rattle.page_redo.proofs.Valid.{valid-past}
 use Rattle.copy_audit.proofs.Audits.{same_copies, same_log_of}
 use Rattle.media_restore.specs.Files.{AreCovering, AreSound, HasParts, IsOfLog, IsOfMaster, IsRestoredFrom}
 use Rattle.media_restore.specs.FilesArchives.{AreOfArchives, end_of}
@@ -93,12 +96,9 @@ all_taken P (taken page ∷ ds) each =
 all_taken P (kept ∷ ds) each = all_taken P ds (λ p page lt. each (suc p) page (omega arith))
 
 -- what is of a log's past is what a part of it makes
-past_is_page : (log : Log) (p : ℕ) (page : Page) → IsLog log → p < log.pages → IsPast log.records p page → IsPage page
-past_is_page log p page valid lt past =
-    subst IsPage (sym past.made)
-    (valid-image (record log { records = take past.count log.records }) p
-    (prefix_is_log log past.count valid past.within)
-    (omega (arith, lt, count_is_first (record log { records = take past.count log.records }))))
+past_is_page : (log : Log) (p : ℕ) (page : Page) → IsLog log → p < page_count log → IsPast log.records p page
+    → IsPage page
+past_is_page log p page valid lt past = subst IsPage (sym past.made) (valid-past log p past.count valid lt)
 
 record HasId (copies : List CopyState) (id : ℕ) : Type 0 where
   least : 1 ≤ id
@@ -132,17 +132,18 @@ stable log f copies copy older valid are state stands whole =
     let is = are.each copy.id copy state in
     let covered : (p : ℕ) (page : Page) → decision_at copy.pages p ≡ taken page
     → IsCovered log.records f copy.redo p page =
-    λ p page at. subst (λ (d : PageDecision).
-    IfSome (decided_over (page_in older p) d) (IsCovered log.records f copy.redo p)) at
+    λ p page at. subst (IsCovered log.records f copy.redo p) (content_by copy older p (taken page) at)
     (are.covered copy.id copy older state stands p) in
     let id = has_id copies copy.id copy state in
     let count = is.whole in
+    let some = count_below-not_less log copy.begin in
+    let most = count_below-not_more log copy.begin in
     let few = are.few in
     record {
       archived = record {
         header = record {
           some_pages = let least = valid.pages.least in omega arith;
-          few_pages = let most = valid.pages.most in omega arith;
+          few_pages = let limit = (page_count-is_count log valid).most in omega arith;
           least_id = id.least;
           most_id = let most = id.most in omega arith;
           kind = kind_of copies copy copy.kind refl whole is.parent;
@@ -156,7 +157,7 @@ stable log f copies copy older valid are state stands whole =
         pages = all_taken IsPage copy.pages
             (λ p page lt at. past_is_page log p page valid (omega arith) (covered p page at).covers.past);
       };
-      early = is.early;
+      early = let early = is.early in let order = is.noted.order in omega arith;
       below = all_taken (λ (page : Page). page.lsn < f) copy.pages (λ p page lt at. (covered p page at).stable);
     }
 
@@ -196,17 +197,16 @@ all_weaker P Q (x ∷ xs) weaker all = (weaker x all.0, all_weaker P Q xs weaker
 abbrev AreWhole : Log → List CopyView → Type 0
 AreWhole log copies = AllByRecursion (λ copy. length copy.pages ≡ count_below (counts_of log) copy.begin) copies
 
--- no record gives a page count so far
-count_in_all : (log : Log) (begin : ℕ) → count_below (counts_of log) begin ≡ log.pages
-count_in_all log begin = ap (λ (counts : PageCounts). count_below counts begin) (counts_are_first log)
-
-whole_members : (log : Log) (it : RetiredView) (copies : List CopyView) → IsRetired it → log.pages ≡ it.log.pages
-    → AllByRecursion (λ copy. state_of it.copies copy.id ≡ complete copy) copies → AreWhole log copies
-whole_members log it [] retired same of_vault = tt
-whole_members log it (copy ∷ copies) retired same of_vault = (
-  (retired.copies.each copy.id copy of_vault.0).whole ∙ sym same ∙ sym (count_in_all log copy.begin),
-  whole_members log it copies retired same of_vault.1,
-)
+whole_members : (log : Log) (it : RetiredView) (copies : List CopyView) → IsLog log → IsRetired it
+    → IsKeptOf it.log it.forced_end log → AllByRecursion (λ copy. state_of it.copies copy.id ≡ complete copy) copies
+    → AreWhole log copies
+whole_members log it [] valid retired kept of_vault = tt
+whole_members log it (copy ∷ copies) valid retired kept of_vault =
+    let is = retired.copies.each copy.id copy of_vault.0 in (
+      is.whole ∙ sym (kept_count_below it.log log it.forced_end copy.begin kept is.early)
+          ∙ sym (count_below-counts_of log copy.begin valid),
+      whole_members log it copies valid retired kept of_vault.1,
+    )
 
 fit_more : (log : Log) (copy : CopyView) (more : List CopyView) → Follow copy more → AreWhole log more
     → FitFrom (counts_of log) (Inc copy.id) more
@@ -262,8 +262,8 @@ of_archives : (log : Log) (master : Master) (copies : List CopyView) → AreLeft
     → AreOfArchives (map (λ (copy : CopyView). Some (archive_bytes copy)) copies) log copies
 of_archives log master copies left =
     let chain = left.chain in
-    let same = ap (λ (k : Log). k.pages) left.kept.made in
-    let whole = whole_members log left.it copies left.retired same left.of_id.of_vault in
+    let whole = whole_members log left.it copies (log_is log master copies left) left.retired left.kept
+    left.of_id.of_vault in
     let whole' = subst (AreWhole log) chain.is whole in
     record {
       spelled = spell_copies copies (left_archived log master copies left);
@@ -302,10 +302,8 @@ pub covering_of : (log : Log) (master : Master) (copies : List CopyView) → Are
 covering_of log master copies left = λ p lt.
     let it = left.it in
     let made = left.kept.made in
-    let within : p < it.log.pages =
-    omega (arith, lt, count_is_first log, ap (λ (k : Log). k.pages) made) in
     let covered = covered_of_members it.log it.forced_end it.copies left.id copies p left.retired.copies left.chain
-    left.of_id within in
+    left.of_id in
     let stable = covered.stable in
     let high = left.kept.forced in
     subst (λ (k : Log). Covers k.records p (content copies p) (last_redo copies)) (sym made)

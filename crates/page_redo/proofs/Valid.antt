@@ -1,9 +1,9 @@
 -- The pages that a log makes are pages that a volume may have.
-use Rattle.std.proofs.Common.{ℕ, zero, suc, ◌+◌, ◌<◌, ◌≤◌, ◌^◌, List, [], ◌∷◌, length, get_or, set, replicate, map}
+use Rattle.std.proofs.Common.{ℕ, zero, suc, ◌+◌, ◌<◌, ◌≤◌, ◌^◌, List, [], ◌∷◌, length, get_or, set, replicate, map, take}
 use Rattle.std.proofs.Common.{refl, subst, ◌∙◌, arith}
 use Rattle.std.specs.Prelude.{Option, IfSome}
 use Rattle.std.specs.List.{range_with_len, AllByRecursion}
-use Rattle.std.proofs.lemmas.List.{length-set}
+use Rattle.std.proofs.lemmas.List.{get_or-take, length-set, length-take}
 use Rattle.page_core.specs.declared.change.Change.{Change}
 use Rattle.page_core.specs.declared.page.Page.{Page}
 use Rattle.page_core.specs.Page.{formatted, put, IsPage}
@@ -59,10 +59,17 @@ valid-image_from page (r ∷ rs) page_valid each =
     valid-image_from (with_record page r) rs (valid-with_record page r page_valid (each 0 r (omega arith)))
     (λ i d lt. each (suc i) d (omega arith))
 
-pub valid-image : (log : Log) (p : ℕ) → IsLog log → p < page_count log → IsPage (image log.records p)
-valid-image log p valid lt =
-    valid-image_from (formatted p) log.records (valid_formatted p (let few = (page_count-is_count log valid).most in omega arith))
-    (λ i d lt. (valid.records i d lt).valid)
+-- a page of the volume, as a part of the log makes it, also a part where the volume lacks the page yet
+pub valid-past : (log : Log) (p count : ℕ) → IsLog log → p < page_count log
+    → IsPage (image (take count log.records) p)
+valid-past log p count valid lt =
+    let long = length-take count log.records in
+    valid-image_from (formatted p) (take count log.records)
+    (valid_formatted p (let few = (page_count-is_count log valid).most in omega arith))
+    (λ i d at.
+    let below : i < count = omega (arith, long, at) in
+    let there : i < length log.records = omega (arith, long, at) in
+    rw (get_or-take count log.records i d below) (valid.records i d there).valid)
 
 pub valid-redo_all : (log : Log) → IsLog log → AllByRecursion IsPage (redo_all log.records (page_count log))
 valid-redo_all log valid = over 0 (page_count log) (let few = (page_count-is_count log valid).most in omega arith)

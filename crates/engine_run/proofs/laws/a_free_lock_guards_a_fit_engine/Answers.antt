@@ -1,5 +1,3 @@
-use Rattle.std.proofs.Common.{◌∙◌}
-use Rattle.log_records.proofs.PageCounts.{count_is_first}
 use Rattle.aries_core.specs.EngineState.{IsFit, log_of}
 use Rattle.engine_run.proofs.laws.a_free_lock_guards_a_fit_engine.Goals as goal
 
@@ -9,5 +7,4 @@ returns-clause-restores g c = λ kept id copy is_kept is.
     let fit : IsFit s = rw (← c.held.view_is) c.log_end-end.ensures.fit in
     c.a_complete_copy_restores.ensures.restores (log_of s) kept s.forced_end s.copies id copy
     fit.valid
-    (c.copies_may_be_restored.ensures (log_of s) s.forced_end s.stored s.copies
-    (fit.counted.stored ∙ count_is_first (log_of s)) fit.copied) is_kept is
+    (c.copies_may_be_restored.ensures (log_of s) s.forced_end s.stored s.copies fit.copied) is_kept is

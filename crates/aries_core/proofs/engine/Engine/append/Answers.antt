@@ -2,6 +2,7 @@ use Rattle.std.proofs.Common.{◌≡◌, length, sym, ap, subst, ◌∙◌, arit
 use Rattle.std.specs.Prelude.{IfSome, Result, Ok, Err, OnOk, is_err, false}
 use Rattle.buffer_pool.specs.Frames.{IsResident}
 use Rattle.log_records.specs.Record.{change_of}
+use Rattle.log_records.proofs.GivenNone.{transaction_gives_none}
 use Rattle.log_records.specs.Log.{Log, StandsAt, lsn_of}
 use Rattle.log_records.specs.Log.{page_count}
 use Rattle.aries_core.specs.Call.{Calls}
@@ -81,6 +82,9 @@ change-requires-clause-next g c =
         valid_with s c.args.next c.self.invariant.fit (comes s c.args.next c.self.invariant.fit calls),
       ),
     )
+
+pub change-requires-clause-same_count : goal.change-requires-clause-same_count
+change-requires-clause-same_count g c = transaction_gives_none c.args.next c.requires.called.of_transaction
 
 pub change-requires-clause-resident : goal.change-requires-clause-resident
 change-requires-clause-resident g c =

@@ -5,6 +5,7 @@ use Rattle.buffer_pool.specs.Frames.{fetched}
 use Rattle.buffer_pool.specs.Pool.{PoolView, is_clean, written_of}
 use Rattle.log_records.specs.Log.{Log, StandsAt, lsn_of}
 use Rattle.log_records.specs.Log.{page_count}
+use Rattle.log_records.proofs.GivenNone.{transaction_gives_none}
 use Rattle.aries_core.specs.Call.{Calls}
 use Rattle.aries_core.specs.EngineState.{EngineState, EngineView, appended, engine_view, log_of, with_page}
 use Rattle.aries_core.specs.EngineState.{volume_pages}
@@ -74,6 +75,9 @@ append-requires-2-clause-few g c =
     let come = comes s r fit calls in
     let few = comes_few s r come in
     omega (arith, few, ap (λ (l : Log). length l.records) c.make_room.ensures.same)
+
+pub change-requires-clause-same_count : goal.change-requires-clause-same_count
+change-requires-clause-same_count g c = transaction_gives_none c.args.next c.requires.called.of_transaction
 
 pub change-requires-clause-next : goal.change-requires-clause-next
 change-requires-clause-next g c =

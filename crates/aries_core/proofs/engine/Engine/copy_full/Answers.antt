@@ -1,4 +1,4 @@
-use Rattle.std.proofs.Common.{◌∙◌, subst}
+use Rattle.std.proofs.Common.{◌∙◌, subst, sym}
 use Rattle.std.specs.Prelude.{Ok}
 use Rattle.aries_core.specs.declared.event.Answer.TheVariants as answer
 use Rattle.aries_core.specs.declared.event.Event.TheVariants as event
@@ -24,7 +24,7 @@ full_made g c =
     let ok = c.in_ok-open_full.ensures in
     full_step s c.open_full.new.self.copies c.pages-pages.result c.in_ok-open_full.field-0
     c.in-Some.master c.in-Some.is ok.ok
-    (c.pages-pages.ensures.stored ∙ c.self.invariant.fit.counted.stored ∙ count_of_copy s c.in-Some.master.begin)
+    (c.pages-pages.ensures.states ∙ sym c.self.invariant.pool_of_log.pages ∙ count_of_copy s c.in-Some.master.begin)
     ok.id ok.opened
 
 pub invariant_of-self-2 : goal.invariant_of-self-2

@@ -25,7 +25,7 @@ inc_made g c =
     let ok = c.in_ok-open_inc.ensures in
     inc_step s c.open_inc.new.self.copies c.args.parent c.pages-pages.result c.noted_begin-begin.result
     c.noted_redo-redo.result c.in_ok-open_inc.field-0 ok.ok
-    (c.pages-pages.ensures.stored ∙ c.self.invariant.fit.counted.stored ∙ count_of_copy s c.noted_begin-begin.result)
+    (c.pages-pages.ensures.states ∙ sym c.self.invariant.pool_of_log.pages ∙ count_of_copy s c.noted_begin-begin.result)
     (c.noted_begin-begin.ensures ∙ ap (λ v. option_map_or (λ p. p.begin) v.state.master 0) (sym c.self.view_is))
     (c.noted_redo-redo.ensures
     ∙ ap (λ v. option_map_or (λ p. p.redo) v.state.master 0) (sym c.self.view_is)) ok.id ok.opened

@@ -1,14 +1,10 @@
 use Rattle.std.proofs.Common.{◌≡◌, ◌∙◌, List, ap, subst, sym}
-use Rattle.std.specs.Prelude.{None}
 use Rattle.log_records.specs.declared.record.Record.{Record}
 use Rattle.log_records.specs.Coverage.{Covers}
 use Rattle.log_records.specs.Image.{image}
 use Rattle.copy_vault.specs.Chain.{content, last_redo}
-use Rattle.aries_core.specs.declared.event.Event.TheVariants as event
 use Rattle.aries_core.specs.EngineState.{EngineView, engine_view, page_now}
 use Rattle.aries_core.specs.OpenCkpt.{media_view}
-use Rattle.aries_core.specs.Refusal.{refusal}
-use Rattle.aries_core.proofs.Refusals.{repair_passes}
 use Rattle.aries_core.proofs.Repairs.{chain_covers}
 use Rattle.aries_core.proofs.engine.Engine.rebuild.Goals as goal
 
@@ -19,11 +15,8 @@ returns-clause-rebuilt g c =
     (media_view it.master it.session it.vault.copies it.returns.made)).state in
     let p = c.args.page in
     let members = c.in_ok-chain.chain in
-    let none : refusal s (event.Repair c.args.copy p) ≡ None =
-    subst (λ (v : EngineView g.row.S.Denot g.row.D.Denot). refusal v.state (event.Repair c.args.copy p) ≡ None)
-    (sym c.self.view_is) c.requires in
     let covers = chain_covers s c.args.copy p members c.self.invariant.fit c.in_ok-chain.ensures.chain
-    c.in_ok-chain.ensures.found (repair_passes s c.args.copy p none).within in
+    c.in_ok-chain.ensures.found in
     let records : c.records.result.now ≡ it.log.log.records = c.records.ensures.records in
     c.rebuild_page.ensures.image
     (subst (λ (rs : List Record). Covers rs p (content members p) (last_redo members)) (sym records) covers)

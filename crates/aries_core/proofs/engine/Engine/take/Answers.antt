@@ -1,7 +1,7 @@
 use Rattle.std.proofs.Common.{arith, ◌≡◌, ◌∙◌, sym, ap, subst, refl}
 use Rattle.std.specs.Prelude.{None, Ok}
 use Rattle.aries_core.specs.declared.event.Event.TheVariants as event
-use Rattle.aries_core.specs.EngineState.{engine_view}
+use Rattle.aries_core.specs.EngineState.{engine_view, log_of}
 use Rattle.aries_core.specs.OpenCkpt.{media_view}
 use Rattle.copy_vault.specs.Vault.{answer_in, decided, state_of}
 use Rattle.aries_core.specs.Refusal.{refusal}
@@ -17,6 +17,7 @@ use Rattle.buffer_pool.proofs.Fetching.{read_is}
 use Rattle.aries_core.specs.Asked.{Asks, a_page}
 use Rattle.aries_core.specs.EngineState.{EngineView}
 use Rattle.aries_core.proofs.Asks.{always}
+use Rattle.copy_coverage.proofs.LaterPages.{count_below-not_more}
 use Rattle.copy_coverage.specs.Copied.{copy_in}
 use Rattle.aries_core.proofs.Refusals.{take_passes}
 
@@ -104,4 +105,10 @@ stored-requires g c =
     c.in_ok-find_takeable.ensures.free in
     let passes = take_passes s c.args.copy c.args.page none in
     let whole = (fit.copied.each c.args.copy passes.view (ap copy_in passes.is_read)).whole in
-    omega (arith, passes.within, whole, fit.counted.stored, c.self.invariant.pool_of_log.pages)
+    omega (
+      arith,
+      passes.within,
+      whole,
+      count_below-not_more (log_of s) passes.view.begin,
+      c.self.invariant.pool_of_log.pages,
+    )

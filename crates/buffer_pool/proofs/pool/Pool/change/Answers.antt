@@ -43,7 +43,7 @@ returns-in-Some-clause-kept g c = λ log of valid.
       resident = map (λ page. with_record page next) it.frames.pages;
       states = set it.states n (changed (state_in it.states n) (own_lsn next));
     } in
-    let made = pool_changed stored_in log next old c.in-Some.change named here valid
+    let made = pool_changed stored_in log next old c.in-Some.change c.requires.same_count named here valid
     (subst (IsPoolOf stored_in log) (sym view) of) in
     pool_noted stored_in log' (record new {
       room = c.redo.new.self.room - 1;
@@ -71,7 +71,7 @@ returns-in_default-clause-kept g c = λ log of valid.
     let none = sym c.in_default.ensures in
     subst (λ (pages : List Page). IsPoolOf g.S.PageStore.stored (with_next log (next ∷ []))
     (record old { resident = pages }))
-    (none_changes next old.resident none) (pool_same g.S.PageStore.stored log next old none valid of)
+    (none_changes next old.resident none) (pool_same g.S.PageStore.stored log next old c.requires.same_count none valid of)
 
 pub returns-in-Some-clause-pages : goal.returns-in-Some-clause-pages
 returns-in-Some-clause-pages g c =

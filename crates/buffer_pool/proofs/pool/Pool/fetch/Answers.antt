@@ -39,7 +39,7 @@ returns-then-len-self-clause-kept g c = λ log of.
     }))
     (sym c.put.ensures.pages)
     (pool_more stored_in log pool c.read.new.self (c.put.new.self.room - 1) n it.frames.pages page is c.in_ok-page.ensures.same
-    c.self.invariant.whole.stored_count there (λ d. read_is (stored_in it.store) n page d found) c.in_ok-page.ensures.numbered
+    c.self.invariant.whole.enough there (λ d. read_is (stored_in it.store) n page d found) c.in_ok-page.ensures.numbered
     absent few is.within is.resident is.held)
 
 pub returns-then-len-self-clause-resident : goal.returns-then-len-self-clause-resident
@@ -140,7 +140,7 @@ returns-else-len-self-clause-kept g c = λ log of.
     }))
     (sym c.replace.ensures.pages)
     (pool_more stored_in log pool c.read.new.self (c.replace.new.self.room - 1) n (given_up clean it.frames.pages) page is
-    c.in_ok-page.ensures.same c.self.invariant.whole.stored_count there
+    c.in_ok-page.ensures.same c.self.invariant.whole.enough there
     (λ d. read_is (stored_in it.store) n page d c.in_ok-page.ensures.found) c.in_ok-page.ensures.numbered absent
     (omega (arith, less, is.few))
     (all_less (λ q. q.number < length it.states) clean it.frames.pages is.within)

@@ -54,7 +54,7 @@ returns-in_err-write-clause-kept g c = λ log of now.
     let idle : (state_in it.states n).writing ≡ None =
     ap (λ (v : PoolView g.row.S.Denot). (state_at v n).writing) view
     ∙ is_idle (state_at c.args.self.now n).writing c.requires.idle in
-    pool_half stored_in log old c.write.new.self n q there idle now c.self.invariant.whole.stored_count
+    pool_half stored_in log old c.write.new.self n q there idle now c.self.invariant.whole.enough
     c.in_err-write.ensures.either (subst (IsPoolOf stored_in log) (sym view) of)
 
 pub returns-clause-kept : goal.returns-clause-kept
@@ -84,5 +84,5 @@ returns-clause-kept g c = λ log of now.
     c.note.new.self.pages c.note.ensures.pages
     (subst (λ (states : List PageState). IsPoolOf stored_in log (record old { store = store; states = states }))
     (sym (c.end_write.ensures ∙ ap (λ (s : PageState). set it.states n s) state))
-    (pool_repaired stored_in log old store n q there idle now c.self.invariant.whole.stored_count
+    (pool_repaired stored_in log old store n q there idle now c.self.invariant.whole.enough
     c.in_ok-write.ensures.stored pool))

@@ -43,7 +43,7 @@ invariant_of-result g c =
     record {
       whole = record {
         few = omega (arith, c.requires.1.0.most);
-        stored_count = sym c.pages-count.ensures.count ∙ sym states;
+        enough = omega (arith, c.pages-count.ensures.count, states);
         stored_numbers = c.pages-count.ensures.numbered;
       };
       sought = sought_all (is_clean_in c.in_ok-states.states) c.in_ok-frames.frames.slots c.in_ok-frames.frames.marks

@@ -26,6 +26,6 @@ returns-clause-kept g c = λ log of.
     c.requires.current in
     subst (λ (states : List PageState). IsPoolOf stored_in log (record old { states = states }))
     (sym c.begin_write.ensures)
-    (pool_begun stored_in log old q there now c.self.invariant.whole.stored_count
+    (pool_begun stored_in log old q there now c.self.invariant.whole.enough
     (subst (λ (v : PoolView g.row.S.Denot). IsSome (state_at v q.number).rec_lsn) (sym view) c.requires.dirty)
     (subst (IsPoolOf stored_in log) (sym view) of))

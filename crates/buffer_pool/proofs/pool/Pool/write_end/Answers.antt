@@ -26,7 +26,7 @@ returns-in_err-write-clause-kept g c = λ log of.
     omega (arith, c.requires.within, ap (λ (v : PoolView g.row.S.Denot). length v.states) view) in
     let here : (state_in it.states n).writing ≡ Some q =
     sym c.in-Some.ensures.image ∙ ap Some (sym c.page-page.ensures) in
-    pool_failed stored_in log old c.write.new.self n q there here c.self.invariant.whole.stored_count
+    pool_failed stored_in log old c.write.new.self n q there here c.self.invariant.whole.enough
     c.in_err-write.ensures.either (subst (IsPoolOf stored_in log) (sym view) of)
 
 pub returns-clause-kept : goal.returns-clause-kept
@@ -53,7 +53,7 @@ returns-clause-kept g c = λ log of.
     c.note.new.self.pages c.note.ensures.pages
     (subst (λ (states : List PageState). IsPoolOf stored_in log (record old { store = store; states = states }))
     (sym c.end_write.ensures)
-    (pool_ended stored_in log old store n q there here c.self.invariant.whole.stored_count c.in_ok-write.ensures.stored
+    (pool_ended stored_in log old store n q there here c.self.invariant.whole.enough c.in_ok-write.ensures.stored
     (subst (IsPoolOf stored_in log) (sym view) of)))
 
 pub invariant_of-self-2 : goal.invariant_of-self-2
