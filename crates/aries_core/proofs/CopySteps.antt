@@ -18,7 +18,7 @@ use Rattle.copy_vault.specs.declared.copy_id.CopyKind.{CopyKind}
 use Rattle.copy_vault.specs.declared.copy_id.CopyKind.TheVariants.{Full, Inc}
 use Rattle.copy_vault.specs.declared.copy_id.TheConstants.{MAX_COPIES}
 use Rattle.copy_vault.specs.Copy.{CopyView}
-use Rattle.copy_vault.specs.Vault.{CopyState, HasParent, complete, decided, dropped, opened, state_of}
+use Rattle.copy_vault.specs.Vault.{CopyState, HasParent, complete, decided, dropped, state_of}
 use Rattle.copy_coverage.specs.Copied.{AreCopied, IsPoint, copy_in}
 use Rattle.copy_coverage.proofs.Copied.{copied_decided, copied_dropped, copied_forced, copied_later, copied_opened}
 use Rattle.copy_coverage.proofs.Copied.{copied_sealed, copied_stored}

@@ -1,8 +1,7 @@
 -- The repair of a page: what it makes of an engine that is in step with its pool.
-use Rattle.std.proofs.Common.{◌≡◌, ℕ, ◌<◌, List, length, set, refl, sym, ap, subst, ◌∙◌, max, inl}
-use Rattle.std.proofs.Common.{arith, inr}
-use Rattle.std.specs.Prelude.{None, ◌∷◌, Ok, Err}
-use Rattle.std.specs.List.{AllByRecursion}
+use Rattle.std.proofs.Common.{◌≡◌, ℕ, ◌<◌, List, length, set, refl, sym, ap, ◌∙◌, max, inl}
+use Rattle.std.proofs.Common.{inr}
+use Rattle.std.specs.Prelude.{None, Ok, Err}
 use Rattle.std.proofs.lemmas.List.{get_or-map, map-set, set-get_or}
 use Rattle.page_core.specs.declared.page.Page.{Page}
 use Rattle.page_store.specs.Store.{StoresOrKeeps}
@@ -12,8 +11,6 @@ use Rattle.log_history.specs.Table.{Table}
 use Rattle.log_store.specs.WrittenLog.{WrittenLog, end_up_to}
 use Rattle.copy_vault.specs.Chain.{IsChain, IsChainOf, content, last_redo}
 use Rattle.copy_vault.specs.Copy.{CopyView}
-use Rattle.copy_vault.specs.Vault.{complete, state_of}
-use Rattle.copy_coverage.specs.Copied.{copy_in}
 use Rattle.copy_coverage.proofs.Chains.{covered_of_members}
 use Rattle.copy_coverage.proofs.Copied.{restorable}
 use Rattle.buffer_pool.specs.Pool.{IsPoolOf, PoolView, stored_as_now, state_at, unwritten, with_state, writing_of, written_of}

@@ -60,9 +60,9 @@ found_complete dropped P found = elim found [ ]
 
 restored_by : (left : RetiredView) (kept : Log)
     → ((id : ℕ) (copy : CopyView) → state_of left.copies id ≡ complete copy
-    → Restores left.copies left.log.pages copy kept.records)
+    → Restores left.copies copy kept.records)
     → (w : Work) → WorkStands (evidence_in left) w
-    → IsRestoredBy left.copies left.log.pages kept.records w
+    → IsRestoredBy left.copies kept.records w
 restored_by left kept restores (Pointed point) stands = tt
 restored_by left kept restores (Copied id kind taken) stands =
     let found = found_complete (state_of left.copies id) _ stands in
@@ -71,11 +71,11 @@ restored_by left kept restores (Copied id kind taken) stands =
 pub copies_told : (left : RetiredView) (sessions : List (List Receipt)) (works : List Work)
     (kept : Log) → IsSettled (evidence_in left) sessions works
     → ((id : ℕ) (copy : CopyView) → state_of left.copies id ≡ complete copy
-    → Restores left.copies left.log.pages copy kept.records)
-    → All (IsRestoredBy left.copies left.log.pages kept.records) works
+    → Restores left.copies copy kept.records)
+    → All (IsRestoredBy left.copies kept.records) works
 copies_told left sessions works kept settled restores =
     All-weaker (WorkStands (evidence_in left))
-    (IsRestoredBy left.copies left.log.pages kept.records) (restored_by left kept restores) works
+    (IsRestoredBy left.copies kept.records) (restored_by left kept restores) works
     settled.work
 
 pub wrong_told : (e : Evidence) (sessions : List (List Receipt)) (works : List Work) (at : ℕ)

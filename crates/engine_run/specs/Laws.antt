@@ -17,7 +17,7 @@ ReadsItsOwn rs xs = (j k : ℕ) (d : Receipt) → j < k → k < length xs
     (IsRecordOf (slice_index_or xs j d))
 
 -- a copy that was answered restores any kept log
-abbrev pub IsRestoredBy : List CopyState → ℕ → List Record → Work → Type 0
-IsRestoredBy copies pages kept (Copied id kind taken) =
-    (copy : CopyView) × (state_of copies id ≡ complete copy) × Restores copies pages copy kept
-IsRestoredBy copies pages kept other = Unit {0}
+abbrev pub IsRestoredBy : List CopyState → List Record → Work → Type 0
+IsRestoredBy copies kept (Copied id kind taken) =
+    (copy : CopyView) × (state_of copies id ≡ complete copy) × Restores copies copy kept
+IsRestoredBy copies kept other = Unit {0}

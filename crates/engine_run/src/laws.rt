@@ -33,7 +33,7 @@ pub fn a_free_lock_guards_a_fit_engine<S: PageStore, D: LogDevice, G: Ledger>(he
     ensures counted { IsCounted held.now }
     ensures restores { let s = held.now.engine.state in (kept : Log) (id : ℕ) (copy : CopyView)
         → IsKeptOf (log_of s) s.forced_end kept → state_of s.copies id ≡ complete copy
-        → Restores s.copies s.pages copy kept.records }
+        → Restores s.copies copy kept.records }
 {
     let _end = held.engine.log_end();
     copies_may_be_restored();
@@ -70,7 +70,7 @@ pub fn an_answered_copy_restores()
     ensures { (left : RetiredView) (sessions : List (List Receipt)) (works : List Work) (kept : Log)
         → IsRetired left → IsSettled (evidence_in left) sessions works
         → IsKeptOf left.log left.forced_end kept
-        → All (IsRestoredBy left.copies left.log.pages kept.records) works }
+        → All (IsRestoredBy left.copies kept.records) works }
 {
     a_complete_copy_restores();
 }

@@ -7,7 +7,7 @@ use Rattle.std.specs.List.{AllByRecursion, filter}
 use Rattle.std.proofs.Math.Seq.{get_or-append_right, take-append-add}
 use Rattle.std.proofs.lemmas.Bool.{ltb-false}
 use Rattle.std.proofs.lemmas.List.{get_or-map, length-append, length-map, length-take, same_lists, take-take, take_min}
-use Rattle.std.proofs.lemmas.List.FromFn.{get_or-map-range_with_len, length-map-range_with_len}
+use Rattle.std.proofs.lemmas.List.FromFn.{get_or-map-range_with_len, length-map-range_with_len, take-map-range_with_len}
 use Rattle.page_core.specs.declared.page.Page.{Page}
 use Rattle.page_core.specs.Volume.{AreNumbered}
 use Rattle.log_records.specs.declared.limits.TheConstants.{MAX_RECORDS}
@@ -15,7 +15,7 @@ use Rattle.log_records.specs.declared.record.Record.{Record}
 use Rattle.log_records.specs.Coverage.{is_resumed, resume}
 use Rattle.log_records.specs.Image.{image, redo_all}
 use Rattle.log_records.specs.Log.{IsLog, Log, lsn_of, page_count}
-use Rattle.log_records.proofs.PageCounts.{count_is_first}
+use Rattle.log_records.proofs.PageCounts.{page_count_at-not_more}
 use Rattle.copy_vault.proofs.Chains.{contents_numbered}
 use Rattle.log_records.specs.Record.{own_lsn}
 use Rattle.log_records.specs.declared.record.Record.TheVariants.{EndChkpt}
@@ -119,17 +119,23 @@ noted_in it id retired fine = by_state (state_of it.copies id) refl fine
 
 -- ---- the pages
 
--- a log has as many pages as its beginning: no record gives a page count so far
-pub kept_count : (it : RetiredView) (cut : ℕ) → page_count (kept_log it.log cut) ≡ it.log.pages
-kept_count it cut = count_is_first (kept_log it.log cut)
+-- of the pages that were loaded, those that the volume had where the log is cut
+pub pages_at_cut : (it : RetiredView) (cut count left : ℕ) (members : List CopyView) (all pages : List Page)
+    → all ≡ contents members count → count ≡ page_count it.log → left ≡ page_count (kept_log it.log cut)
+    → pages ≡ take left all → pages ≡ contents members (page_count (kept_log it.log cut))
+pages_at_cut it cut count left members all pages loaded counted few is =
+    is ∙ ap (λ (n : ℕ). take n all) few
+    ∙ ap (take (page_count (kept_log it.log cut))) (loaded ∙ ap (contents members) counted)
+    ∙ take-map-range_with_len (content members) 0 (page_count it.log) (page_count (kept_log it.log cut))
+    (page_count_at-not_more it.log cut)
 
 each_resumed : (it : RetiredView) (cut id : ℕ) (members : List CopyView) (p : ℕ) → IsRetired it → IsChain members
-    → IsChainOf it.copies id members → IsKeptOf it.log it.forced_end (kept_log it.log cut) → p < it.log.pages
+    → IsChainOf it.copies id members → IsKeptOf it.log it.forced_end (kept_log it.log cut)
     → resume (content members p) (kept_log it.log cut).records (last_redo members)
     ≡ image (kept_log it.log cut).records p
-each_resumed it cut id members p retired chain of_id kept lt =
+each_resumed it cut id members p retired chain of_id kept =
     restored_of_members it.log it.forced_end it.copies (kept_log it.log cut) id members p retired.valid retired.copies
-    kept chain of_id lt
+    kept chain of_id
 
 pub all_restored : (it : RetiredView) (cut id : ℕ) (members : List CopyView) → IsRetired it → IsChain members
     → IsChainOf it.copies id members → IsKeptOf it.log it.forced_end (kept_log it.log cut)
@@ -147,7 +153,7 @@ all_restored it cut id members retired chain of_id kept =
     let below : k < n = omega (arith, length-map (contents members n) f, long) in
     get_or-map f (contents members n) k d d (omega arith)
     ∙ ap f (get_or-map-range_with_len (content members) 0 n k k d below (omega arith))
-    ∙ each_resumed it cut id members k retired chain of_id kept (omega (arith, below, kept_count it cut))
+    ∙ each_resumed it cut id members k retired chain of_id kept
     ∙ sym (get_or-map-range_with_len (image rs) 0 n k k d below (omega arith)))
 
 -- ---- all of it

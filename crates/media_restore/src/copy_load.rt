@@ -49,13 +49,15 @@ pub fn load(
         return Err((retired, fault));
     }
     let count = retired.log().page_count();
-    let (pages, redo) = match loaded_pages(alloc, retired.vault(), copy, count) {
+    let (mut pages, redo) = match loaded_pages(alloc, retired.vault(), copy, count) {
         Ok(loaded) => loaded,
         Err(_) => return Err((retired, LoadFault::OutOfMemory)),
     };
     let master = noted_master(&retired, copy);
     let mut log = retired.into_log();
     log.keep_first(cut);
+    // The volume had no more pages where the log is cut.
+    pages.truncate(log.page_count() as usize);
     Ok(Loaded::new(log, master, pages, redo))
 }
 

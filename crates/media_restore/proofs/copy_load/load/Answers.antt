@@ -3,14 +3,13 @@ use Rattle.page_core.specs.declared.page.Page.{Page}
 use Rattle.log_records.specs.Coverage.{resume}
 use Rattle.log_records.specs.Image.{redo_all}
 use Rattle.log_records.specs.Log.{Log, page_count}
-use Rattle.log_records.proofs.PageCounts.{count_is_first}
 use Rattle.copy_vault.specs.Chain.{IsChain, IsChainOf, contents, last_redo}
 use Rattle.copy_vault.specs.Copy.{CopyView}
 use Rattle.copy_vault.specs.Vault.{CopyState}
 use Rattle.copy_coverage.specs.Kept.{IsKeptOf}
 use Rattle.copy_coverage.specs.Retired.{HasRoomForUndo}
 use Rattle.media_restore.specs.Load.{IsLoaded, LoadedView, kept_log}
-use Rattle.media_restore.proofs.Loads.{all_restored, cut_is_fine, kept_count, kept_of, loaded, room_of}
+use Rattle.media_restore.proofs.Loads.{all_restored, cut_is_fine, kept_of, loaded, pages_at_cut, room_of}
 use Rattle.media_restore.proofs.copy_load.load.Goals as goal
 
 pub new-requires : goal.new-requires
@@ -25,13 +24,13 @@ new-requires c =
     subst (λ (copies : List CopyState). IsChainOf copies c.args.copy members) c.vault.ensures found.2 in
     let log : c.keep_first.new.self ≡ kept_log it.log c.args.cut =
     c.keep_first.ensures ∙ ap (λ (log : Log). kept_log log c.args.cut) c.into_log-log.ensures in
-    let pages = c.in-Ok.loaded.0.items in
+    let pages = c.truncate.new.self.items in
     let redo = c.in-Ok.loaded.1 in
     let n = page_count (kept_log it.log c.args.cut) in
-    let count : c.page_count-count.result ≡ n =
-    c.page_count-count.ensures.count ∙ ap page_count c.log.ensures.log ∙ count_is_first it.log
-    ∙ sym (kept_count it c.args.cut) in
-    let pages_are : pages ≡ contents members n = found.3 ∙ ap (contents members) count in
+    let pages_are : pages ≡ contents members n =
+    pages_at_cut it c.args.cut c.page_count-count.result c.page_count.result members c.in-Ok.loaded.0.items pages found.3
+    (c.page_count-count.ensures.count ∙ ap page_count c.log.ensures.log)
+    (c.page_count.ensures.count ∙ ap page_count log) c.truncate.ensures.items in
     let made : Log → List Page → ℕ → Type 0 =
     λ log ps from. IsLoaded (record { log = log; master = master; pages = ps; redo = from }) in
     subst (λ (log : Log). made log pages redo) (sym log)
@@ -50,13 +49,13 @@ returns-clause-restores c =
     subst (λ (copies : List CopyState). IsChainOf copies c.args.copy members) c.vault.ensures found.2 in
     let log : c.keep_first.new.self ≡ kept_log it.log c.args.cut =
     c.keep_first.ensures ∙ ap (λ (log : Log). kept_log log c.args.cut) c.into_log-log.ensures in
-    let pages = c.in-Ok.loaded.0.items in
+    let pages = c.truncate.new.self.items in
     let redo = c.in-Ok.loaded.1 in
     let n = page_count (kept_log it.log c.args.cut) in
-    let count : c.page_count-count.result ≡ n =
-    c.page_count-count.ensures.count ∙ ap page_count c.log.ensures.log ∙ count_is_first it.log
-    ∙ sym (kept_count it c.args.cut) in
-    let pages_are : pages ≡ contents members n = found.3 ∙ ap (contents members) count in
+    let pages_are : pages ≡ contents members n =
+    pages_at_cut it c.args.cut c.page_count-count.result c.page_count.result members c.in-Ok.loaded.0.items pages found.3
+    (c.page_count-count.ensures.count ∙ ap page_count c.log.ensures.log)
+    (c.page_count.ensures.count ∙ ap page_count log) c.truncate.ensures.items in
     subst (λ (it : LoadedView). map (λ page. resume page it.log.records it.redo) it.pages
     ≡ redo_all it.log.records (page_count it.log))
     (sym c.new.ensures)
@@ -93,14 +92,16 @@ returns-clause-chain c =
     subst (λ (copies : List CopyState). IsChainOf copies c.args.copy members) c.vault.ensures found.2 in
     let log : c.keep_first.new.self ≡ kept_log it.log c.args.cut =
     c.keep_first.ensures ∙ ap (λ (log : Log). kept_log log c.args.cut) c.into_log-log.ensures in
-    let count : c.page_count-count.result ≡ page_count (kept_log it.log c.args.cut) =
-    c.page_count-count.ensures.count ∙ ap page_count c.log.ensures.log ∙ count_is_first it.log
-    ∙ sym (kept_count it c.args.cut) in
+    let pages = c.truncate.new.self.items in
+    let pages_are : pages ≡ contents members (page_count (kept_log it.log c.args.cut)) =
+    pages_at_cut it c.args.cut c.page_count-count.result c.page_count.result members c.in-Ok.loaded.0.items pages found.3
+    (c.page_count-count.ensures.count ∙ ap page_count c.log.ensures.log)
+    (c.page_count.ensures.count ∙ ap page_count log) c.truncate.ensures.items in
     subst (λ (it' : LoadedView). (ms : List CopyView) × IsChain ms × IsChainOf it.copies c.args.copy ms
     × (it'.pages ≡ contents ms (page_count it'.log)) × (it'.redo ≡ last_redo ms)) (sym c.new.ensures) (
       members,
       found.1,
       of_id,
-      found.3 ∙ ap (contents members) count ∙ ap (λ (l : Log). contents members (page_count l)) (sym log),
+      pages_are ∙ ap (λ (l : Log). contents members (page_count l)) (sym log),
       found.4,
     )
