@@ -984,18 +984,3 @@ returns_rise log valid linked =
 
 pub length_without : (changes : List PendingChange) → length (without_last changes) ≡ length changes - 1
 length_without changes = omega (arith, length-take-le (length changes - 1) changes (omega arith))
-
-pub no_return : (rs : List Record) (x : Record)
-    → ((lsn t prev undo_next page slot : ℕ) (change : Change) → x ≡ Comp lsn t prev undo_next page slot change → ⊥)
-    → return_of rs x ≡ None
-no_return rs (Comp lsn t prev undo_next page slot change) other =
-    absurd (other lsn t prev undo_next page slot change refl)
-no_return rs (Begin lsn t) other = refl
-no_return rs (Update lsn t prev page slot change) other = refl
-no_return rs (Commit lsn t prev) other = refl
-no_return rs (Abort lsn t prev) other = refl
-no_return rs (End lsn t prev) other = refl
-no_return rs (BeginChkpt lsn) other = refl
-no_return rs (ChkptPages lsn begin pages) other = refl
-no_return rs (ChkptTxns lsn begin t state last undo) other = refl
-no_return rs (EndChkpt lsn begin redo) other = refl

@@ -4,7 +4,7 @@ use Rattle.log_records.specs.declared.record.Record.TheVariants.{Comp}
 use Rattle.log_history.specs.Linked.{MayFollow}
 use Rattle.log_history.specs.Transactions.{is_rolling, pending}
 use Rattle.txn_table.specs.Returns.{return_of}
-use Rattle.txn_table.proofs.Savepoints.{length_without, no_return, return_at}
+use Rattle.txn_table.proofs.Savepoints.{length_without, return_at}
 use Rattle.txn_table.proofs.table.TxnTable.return_of.Goals as goal
 
 pub returns-in-Comp : goal.returns-in-Comp
@@ -16,6 +16,3 @@ returns-in-Comp c = λ rs of may.
     ∙ ap (λ n. cond (is_rolling rs r.txn) None (Some (return_at r.lsn r.txn n)))
     (sym (length_without (pending rs r.txn)))
     ∙ ap (return_of rs) (sym r.is)
-
-pub returns-in_default : goal.returns-in_default
-returns-in_default c = λ rs of may. sym (no_return rs c.args.next.now c.in_default.not-Comp)
