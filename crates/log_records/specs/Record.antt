@@ -97,6 +97,20 @@ IsOfCheckpoint (Abort lsn txn prev) = ⊥
 IsOfCheckpoint (End lsn txn prev) = ⊥
 IsOfCheckpoint (Extend lsn pages) = ⊥
 
+-- a record of a transaction
+abbrev pub IsOfTransaction : Record → Type 0
+IsOfTransaction (Begin lsn txn) = Unit {0}
+IsOfTransaction (Update lsn txn prev page slot change) = Unit {0}
+IsOfTransaction (Comp lsn txn prev undo_next page slot change) = Unit {0}
+IsOfTransaction (Commit lsn txn prev) = Unit {0}
+IsOfTransaction (Abort lsn txn prev) = Unit {0}
+IsOfTransaction (End lsn txn prev) = Unit {0}
+IsOfTransaction (BeginChkpt lsn) = ⊥
+IsOfTransaction (ChkptPages lsn begin pages) = ⊥
+IsOfTransaction (ChkptTxns lsn begin txn state last undo_next) = ⊥
+IsOfTransaction (EndChkpt lsn begin redo) = ⊥
+IsOfTransaction (Extend lsn pages) = ⊥
+
 -- the change that redo makes of a record, if it makes one
 abbrev pub change_of : Record → Option PageChange
 change_of (Begin lsn txn) = None
