@@ -8,8 +8,9 @@ use Rattle.std.specs.Option.{option_map_or}
 use Rattle.std.proofs.Math.Seq.{take-nil}
 use Rattle.std.proofs.lemmas.Bool.{cases_lt, le-ltb, lt-ltb}
 use Rattle.std.proofs.Math.Nat.{le-max_left}
-use Rattle.std.proofs.lemmas.List.{get_or-take, length-take, take-append-drop, take-append-le, take-take, take_all}
+use Rattle.std.proofs.lemmas.List.{append-nil, get_or-take, length-take, take-append-drop, take-append-le, take-take, take_all, take_more}
 use Rattle.std.proofs.lemmas.List.Sums.{fold-append, fold_push}
+use Rattle.std.proofs.lemmas.List.Elements.{filter_map-append}
 use Rattle.log_records.specs.declared.dirty_page.DirtyPage.{DirtyPage}
 use Rattle.log_records.specs.DirtyPage.{entries_of}
 use Rattle.log_records.specs.declared.record.Record.{Record}
@@ -64,6 +65,12 @@ count_behind-rises count rs i j le =
     subst (λ (xs : List Record). count_behind count xs ≤ count_behind count (take j rs)) (take-take i j rs le)
     (count_behind-part count (take j rs) i)
 
+-- one record more of a list
+pub count_behind-next : (count : ℕ) (rs : List Record) (i : ℕ) (d : Record) → i < length rs
+    → count_behind count (take (i + 1) rs) ≡ count_after (count_behind count (take i rs)) (get_or rs i d)
+count_behind-next count rs i d lt =
+    ap (count_behind count) (take_more rs i d lt) ∙ count_behind-push count (take i rs) (get_or rs i d)
+
 -- ---- of a log
 
 pub page_count_at-all : (log : Log) (count : ℕ) → length log.records ≤ count → page_count_at log count ≡ page_count log
@@ -98,7 +105,7 @@ page_count-push log r = count_behind-push log.pages log.records r
 
 -- ---- the counts that it gave
 
-after_given : (count : ℕ) (r : Record) (given : Option ℕ) → given_count r ≡ given
+pub after_given : (count : ℕ) (r : Record) (given : Option ℕ) → given_count r ≡ given
     → count_after count r ≡ option_map_or (max count) given count
 after_given count r given is = ap (λ g. option_map_or (max count) g count) is
 
@@ -115,6 +122,29 @@ counts_last count (r ∷ rs) = by_given (λ n. counts_last n rs) (given_count r)
 pub last_count-counts_of : (log : Log) → last_count (counts_of log) ≡ page_count log
 unfolding count_behind
 last_count-counts_of log = counts_last log.pages log.records
+
+given_next : (rs : List Record) (i : ℕ) (d : Record) → i < length rs
+    → filter_map given_by (take (i + 1) rs) ≡ filter_map given_by (take i rs) ++ filter_map given_by (get_or rs i d ∷ [])
+given_next rs i d lt =
+    ap (filter_map given_by) (take_more rs i d lt) ∙ filter_map-append given_by (take i rs) (get_or rs i d ∷ [])
+
+pub given_next-none : (rs : List Record) (i : ℕ) (d : Record) → i < length rs → given_count (get_or rs i d) ≡ None
+    → filter_map given_by (take (i + 1) rs) ≡ filter_map given_by (take i rs)
+given_next-none rs i d lt none =
+    given_next rs i d lt
+    ∙ ap (λ gs. filter_map given_by (take i rs) ++ gs)
+    (let empty : filter_map given_by (get_or rs i d ∷ []) ≡ [] = rw none refl in empty)
+    ∙ append-nil (filter_map given_by (take i rs))
+
+pub given_next-some : (rs : List Record) (i : ℕ) (d : Record) (n : ℕ) → i < length rs
+    → given_count (get_or rs i d) ≡ Some n
+    → filter_map given_by (take (i + 1) rs)
+    ≡ filter_map given_by (take i rs) ++ (record { lsn = own_lsn (get_or rs i d); pages = n }) ∷ []
+given_next-some rs i d n lt some =
+    given_next rs i d lt
+    ∙ ap (λ gs. filter_map given_by (take i rs) ++ gs)
+    (let one : filter_map given_by (get_or rs i d ∷ []) ≡ (record { lsn = own_lsn (get_or rs i d); pages = n }) ∷ [] =
+    rw some refl in one)
 
 -- the records stand side by side, the first of them behind so many others
 abbrev StandFrom : ℕ → List Record → Type 0
