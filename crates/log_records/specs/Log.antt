@@ -1,6 +1,6 @@
 -- A whole log, and its bytes.
 use Rattle.std.specs.Prelude.{ℕ, ◌≡◌, ◌+◌, ◌-◌, ◌*◌, ◌/◌, ◌<◌, ◌≤◌, List, length, ◌++◌}
-use Rattle.std.specs.Prelude.{[], ◌∷◌, slice_index_or, take, replicate, codes, slice_range}
+use Rattle.std.specs.Prelude.{[], ◌∷◌, ◌==◌, if◌then◌else◌, slice_index_or, take, replicate, codes, slice_range}
 use Rattle.std.specs.List.{AllByRecursion, filter_map, flat_map}
 use Rattle.std.specs.Int.{w32, to_le_bytes, from_le_bytes}
 use Rattle.log_records.specs.declared.record.Record.{Record}
@@ -16,7 +16,8 @@ use Rattle.page_core.specs.declared.format.Format.TheVariants.{First, Second}
 use Rattle.page_core.specs.Format.{digit_of}
 use Rattle.log_records.specs.declared.limits.TheConstants.{HEADER_BYTES, MAX_RECORDS}
 use Rattle.log_records.specs.PageCount.{GivesMore, count_behind, given_by}
-use Rattle.log_records.specs.Record.{IsPageCount, IsRecord, own_lsn, record_bytes}
+use Rattle.log_records.specs.Record.{IsRecord, own_lsn, record_bytes}
+pub use Rattle.log_records.specs.Record.{IsPageCount}
 
 -- the page count that the header gives, and the records, the oldest first
 pub record Log : Type 0 where
@@ -81,6 +82,10 @@ pub record IsLog (log : Log) : Type 0 where
       → StandsAt (page_count_at log i) (lsn_of i) (slice_index_or log.records i d)
   pub grows : (i : ℕ) (d : Record) → i < length log.records
       → GivesMore (page_count_at log i) (slice_index_or log.records i d)
+
+-- the format that the bytes of a log name
+abbrev pub format_in : List ℕ → Format
+format_in bytes = if slice_index_or bytes 7 0 == digit_of First then First else Second
 
 -- the text in front of a log: AIMGLOG1 or AIMGLOG2
 abbrev pub magic_of : Format → List ℕ

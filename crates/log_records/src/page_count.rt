@@ -27,6 +27,16 @@ impl Record {
             | Record::EndChkpt { .. } => None,
         }
     }
+
+    /// The page count behind the record, of a volume that had so many pages before it.
+    pub fn count_after(&self, count: u32) -> u32
+        ensures { result ≡ count_after count self.now }
+    {
+        match self.given_count() {
+            Some(given) => count.max(given),
+            None => count,
+        }
+    }
 }
 
 /// The page count behind these records, of a volume that had so many pages before them.
@@ -35,9 +45,7 @@ pub fn count_behind(count: u32, records: &[Record]) -> u32
 {
     let mut last = count;
     for record in records {
-        if let Some(given) = record.given_count() {
-            last = last.max(given);
-        }
+        last = record.count_after(last);
     }
     last
 }
