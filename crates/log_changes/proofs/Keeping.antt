@@ -2,10 +2,10 @@
 use Rattle.std.proofs.Common.{◌≡◌, ℕ, ◌+◌, ◌<◌, List, [], ◌∷◌, ◌++◌, length, sym, ap, subst, ◌∙◌, arith, drop, take, get_or, append_assoc}
 use Rattle.std.specs.Option.{option_to_list}
 use Rattle.std.proofs.Math.Seq.{get_or-append_seam}
-use Rattle.std.proofs.lemmas.List.{get_or_append_left, length-append, length_push, take-append-drop, take_more}
+use Rattle.std.proofs.lemmas.List.{length_push, take-append-drop, take_more}
 use Rattle.log_records.specs.declared.limits.TheConstants.{MAX_RECORDS}
 use Rattle.log_records.specs.declared.record.Record.{Record}
-use Rattle.log_records.specs.Log.{IsLog, Log, StandsAt, lsn_of, with_next}
+use Rattle.log_records.specs.Log.{IsLog, Log, lsn_of, with_next}
 use Rattle.log_records.specs.Record.{own_lsn}
 use Rattle.log_history.proofs.Filters.{filter_map_push}
 use Rattle.log_changes.specs.Kept.{Kept, completed_by, completed_in, kept_of}

@@ -135,8 +135,17 @@ fn keep_checkpoint(checkpoints: &mut Vec<Master>, next: &Record) -> Result<(), A
     ensures { OnOk result (checkpoints.new.items
         ≡ checkpoints.old.items ++ option_to_list (completed_by next.now)) }
 {
-    if let Record::EndChkpt { lsn, begin, .. } = *next {
-        checkpoints.push(Master { begin, end: lsn })?;
+    match *next {
+        Record::EndChkpt { lsn, begin, .. } => checkpoints.push(Master { begin, end: lsn })?,
+        Record::Begin { .. }
+        | Record::Update { .. }
+        | Record::Comp { .. }
+        | Record::Commit { .. }
+        | Record::Abort { .. }
+        | Record::End { .. }
+        | Record::BeginChkpt { .. }
+        | Record::ChkptPages { .. }
+        | Record::ChkptTxns { .. } => {}
     }
     Ok(())
 }

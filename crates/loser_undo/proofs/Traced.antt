@@ -1,5 +1,5 @@
 -- What the records of an open transaction tell of it, from its last one back.
-use Rattle.std.proofs.Common.{◌≡◌, ℕ, ◌-◌, ◌<◌, Bool, true, false, ◌&&◌, ◌||◌, not, List, [], ◌∷◌, ◌++◌}
+use Rattle.std.proofs.Common.{◌≡◌, ℕ, ◌-◌, ◌<◌, Bool, true, ◌&&◌, ◌||◌, not, List, [], ◌∷◌, ◌++◌}
 use Rattle.std.proofs.Common.{append_assoc, get_or, length, map, sym, refl, ap, subst, subst₂, ◌∙◌, inl, inr, arith, true≢false}
 use Rattle.std.specs.Prelude.{Option, Some, None, IsSomeAnd, reverse}
 use Rattle.std.specs.List.{cons_option, filter_map}
@@ -418,14 +418,26 @@ pub to_abort_stands : (rs : List Record) (b : Bool) (at : ℕ) (comps : List ℕ
 to_abort_stands rs b at [] leads = (leads.0, leads.1)
 to_abort_stands rs b at (next ∷ more) leads = (leads.0, leads.1)
 
-pub comp_earlier : (log : Log) (at : ℕ) (x : Record) (lsn u prev undo_next page slot : ℕ) (change : Change) → IsLog log
-    → (r : Record) × StandsAtLsn log.records at r → ((r : Record) → StandsAtLsn log.records at r → x ≡ r)
-    → x ≡ Comp lsn u prev undo_next page slot change → prev < at
-comp_earlier log at x lsn u prev undo_next page slot change valid there is of =
-    let stands = subst (StandsAt (page_count log) at) (sym (is there.0 there.1) ∙ of) (stands_at log at there.0 valid there.1) in
+comp_goes_earlier : (pages at prev : ℕ) (x : Record) → StandsAt pages at x → before_comp x ≡ Some prev → prev < at
+comp_goes_earlier pages at prev (Comp lsn u p undo_next page slot change) stands comp =
     let lt = stands.valid.2.earlier in
     let here = stands.lsn in
-    omega arith
+    let same : p ≡ prev = same_Some _ _ comp in omega arith
+comp_goes_earlier pages at prev (Begin lsn u) stands comp = cc
+comp_goes_earlier pages at prev (Update lsn u p page slot change) stands comp = cc
+comp_goes_earlier pages at prev (Commit lsn u p) stands comp = cc
+comp_goes_earlier pages at prev (Abort lsn u p) stands comp = cc
+comp_goes_earlier pages at prev (End lsn u p) stands comp = cc
+comp_goes_earlier pages at prev (BeginChkpt lsn) stands comp = cc
+comp_goes_earlier pages at prev (ChkptPages lsn begin pages_found) stands comp = cc
+comp_goes_earlier pages at prev (ChkptTxns lsn begin u state last undo) stands comp = cc
+comp_goes_earlier pages at prev (EndChkpt lsn begin redo) stands comp = cc
+
+pub comp_earlier : (log : Log) (at prev : ℕ) (x : Record) → IsLog log → (r : Record) × StandsAtLsn log.records at r
+    → ((r : Record) → StandsAtLsn log.records at r → x ≡ r) → before_comp x ≡ Some prev → prev < at
+comp_earlier log at prev x valid there is comp =
+    comp_goes_earlier (page_count log) at prev x
+    (subst (StandsAt (page_count log) at) (sym (is there.0 there.1)) (stands_at log at there.0 valid there.1)) comp
 
 pub to_abort_more : (rs : List Record) (b : Bool) (at prev : ℕ) (comps : List ℕ) (x : Record) → LeadsToAbort rs b at comps
     → ((r : Record) → StandsAtLsn rs at r → x ≡ r) → before_comp x ≡ Some prev
@@ -441,34 +453,6 @@ pub to_abort_end : (rs : List Record) (b : Bool) (at : ℕ) (comps : List ℕ) (
 to_abort_end rs b at [] x leads is none = ap is_abort (is leads.0 leads.1) ∙ leads.3
 to_abort_end rs b at (next ∷ more) x leads is none =
     let same = sym none ∙ ap before_comp (is leads.0 leads.1) ∙ leads.2 in cc
-
--- ---- a record that is none of these
-
-pub not_comp : (x : Record)
-    → ((lsn u prev undo_next page slot : ℕ) (change : Change) → x ≡ Comp lsn u prev undo_next page slot change → ⊥)
-    → before_comp x ≡ None
-not_comp (Comp lsn u prev undo_next page slot change) other = absurd (other lsn u prev undo_next page slot change refl)
-not_comp (Begin lsn u) other = refl
-not_comp (Update lsn u prev page slot change) other = refl
-not_comp (Commit lsn u prev) other = refl
-not_comp (Abort lsn u prev) other = refl
-not_comp (End lsn u prev) other = refl
-not_comp (BeginChkpt lsn) other = refl
-not_comp (ChkptPages lsn begin pages) other = refl
-not_comp (ChkptTxns lsn begin u state last undo) other = refl
-not_comp (EndChkpt lsn begin redo) other = refl
-
-pub not_abort : (x : Record) → ((lsn u prev : ℕ) → x ≡ Abort lsn u prev → ⊥) → is_abort x ≡ false
-not_abort (Abort lsn u prev) other = absurd (other lsn u prev refl)
-not_abort (Begin lsn u) other = refl
-not_abort (Update lsn u prev page slot change) other = refl
-not_abort (Comp lsn u prev undo_next page slot change) other = refl
-not_abort (Commit lsn u prev) other = refl
-not_abort (End lsn u prev) other = refl
-not_abort (BeginChkpt lsn) other = refl
-not_abort (ChkptPages lsn begin pages) other = refl
-not_abort (ChkptTxns lsn begin u state last undo) other = refl
-not_abort (EndChkpt lsn begin redo) other = refl
 
 -- ---- the oldest first
 

@@ -7,9 +7,11 @@ ghost use Rattle.log_records.specs.declared.record.Record.{Record};
 ghost use Rattle.log_records.specs.Log.{IsLog};
 ghost use Rattle.log_history.specs.Linked.{IsLinked};
 ghost use Rattle.log_history.specs.Table.{entry_of};
-ghost use Rattle.log_history.specs.Transactions.{first_lsn, is_open, is_rolling, last_lsn, pending};
+ghost use Rattle.log_history.specs.Transactions.{first_lsn, is_abort, is_open, is_rolling};
+ghost use Rattle.log_history.specs.Transactions.{last_lsn, pending};
 ghost use Rattle.log_history.specs.OpenEntry.{changes_of, entry_view};
-ghost use Rattle.loser_undo.specs.Losers.{Leads, LeadsToAbort, StandsAtLsn, change_by, way_back};
+ghost use Rattle.loser_undo.specs.Losers.{Leads, LeadsToAbort, StandsAtLsn, before_comp};
+ghost use Rattle.loser_undo.specs.Losers.{change_by, way_back};
 
 use crate::tail::{OpenTxn, count_before};
 use log_history::{OpenEntry, Pending, PendingChange};
@@ -63,22 +65,32 @@ fn keep_change(found: &mut Vec<Pending>, met: &Record) -> Result<(), AllocError>
     ensures { OnOk result (changes_of found.new.items
         ≡ changes_of found.old.items ++ option_to_list (change_by met.now)) }
 {
-    if let Record::Update {
-        lsn,
-        prev,
-        page,
-        slot,
-        change,
-        ..
-    } = *met
-    {
-        found.push(Pending::new(PendingChange {
+    match *met {
+        Record::Update {
             lsn,
             prev,
             page,
             slot,
             change,
-        }))?;
+            ..
+        } => {
+            found.push(Pending::new(PendingChange {
+                lsn,
+                prev,
+                page,
+                slot,
+                change,
+            }))?;
+        }
+        Record::Begin { .. }
+        | Record::Comp { .. }
+        | Record::Commit { .. }
+        | Record::Abort { .. }
+        | Record::End { .. }
+        | Record::BeginChkpt { .. }
+        | Record::ChkptPages { .. }
+        | Record::ChkptTxns { .. }
+        | Record::EndChkpt { .. } => {}
     }
     Ok(())
 }
@@ -115,8 +127,43 @@ fn is_rolling(log: &LogImage, one: &OpenTxn) -> bool
     ensures { result ≡ is_rolling log.now.records one.now.txn }
 {
     let mut at = one.last;
-    while let Record::Comp { prev, .. } = *record_at(log, at) {
+    'comps: while let Some(prev) = before_comp(record_at(log, at)) {
         at = prev;
     }
-    matches!(*record_at(log, at), Record::Abort { .. })
+    is_abort(record_at(log, at))
+}
+
+/// The PrevLSN of a Comp.
+fn before_comp(met: &Record) -> Option<Lsn>
+    ensures { result ≡ before_comp met.now }
+{
+    match *met {
+        Record::Comp { prev, .. } => Some(prev),
+        Record::Begin { .. }
+        | Record::Update { .. }
+        | Record::Commit { .. }
+        | Record::Abort { .. }
+        | Record::End { .. }
+        | Record::BeginChkpt { .. }
+        | Record::ChkptPages { .. }
+        | Record::ChkptTxns { .. }
+        | Record::EndChkpt { .. } => None,
+    }
+}
+
+fn is_abort(met: &Record) -> bool
+    ensures { result ≡ is_abort met.now }
+{
+    match *met {
+        Record::Abort { .. } => true,
+        Record::Begin { .. }
+        | Record::Update { .. }
+        | Record::Comp { .. }
+        | Record::Commit { .. }
+        | Record::End { .. }
+        | Record::BeginChkpt { .. }
+        | Record::ChkptPages { .. }
+        | Record::ChkptTxns { .. }
+        | Record::EndChkpt { .. } => false,
+    }
 }

@@ -8,8 +8,8 @@ use Rattle.page_core.specs.Page.{formatted, volume_bytes}
 abbrev pub formatted_pages : ℕ → List Page
 formatted_pages count = map formatted (range_with_len 0 count)
 
--- a volume that has grown to so many pages: behind those that it had stand formatted ones, each with
--- its number; one that had as many stays as it was
+-- a volume that has grown to so many pages: behind those that it had stand formatted ones, each
+-- with its number; one that had as many stays as it was
 abbrev pub grown_to : ℕ → List Page → List Page
 grown_to count pages =
     pages ++ map formatted (range_with_len (length pages) (count - length pages))

@@ -23,7 +23,7 @@ GrowCall S = S → ℕ → Result Unit StoreFault → S → Type 0
 abbrev pub StoresOrKeeps : List Page → ℕ → Page → List Page → Type 0
 StoresOrKeeps old number page new = (new ≡ slice_set old number page) ⊎ (new ≡ old)
 
--- of a growth: the pages that were stored are the first ones, as they were, and each page behind them
--- is formatted
+-- of a growth: the pages that were stored are the first ones, as they were, and each page behind
+-- them is formatted
 abbrev pub IsGrown : List Page → List Page → Type 0
 IsGrown old new = (count : ℕ) × (new ≡ grown_to count old)

@@ -1,7 +1,8 @@
 //! A store that fails where a test tells it to.
 
 ghost use Rattle.std.specs.Prelude.{◌≡◌, ◌<◌, ◌≤◌, ◌↔◌, ◌-◌, ◌++◌, length, replicate, false};
-ghost use Rattle.std.specs.Prelude.{slice_set, vec_capacity, None, Some, IfOk, IsOk, IsTrue, OnOk, true};
+ghost use Rattle.std.specs.Prelude.{slice_set, vec_capacity, None, Some, IfOk, IsOk, IsTrue};
+ghost use Rattle.std.specs.Prelude.{OnOk, true};
 ghost use Rattle.page_core.specs.declared.page.TheConstants.{MAX_PAGES};
 ghost use Rattle.page_core.specs.Volume.{AreNumbered};
 ghost use Rattle.page_store.specs.FaultyStore.{FaultyGrows, FaultyReads, FaultyWrites};
@@ -64,8 +65,8 @@ fn add_undamaged(damaged_from: &mut Vec<Option<u64>>, count: usize)
 
 impl FaultyStore {
     /// A store whose `k`-th call of `read`, `write` or `grow` fails, counted from 1. If it is a
-    /// write, it leaves the old page; if it is a growth, it adds no page. Each other call goes on to
-    /// `store`. At 0 all of them do. No page is damaged.
+    /// write, it leaves the old page; if it is a growth, it adds no page. Each other call goes on
+    /// to `store`. At 0 all of them do. No page is damaged.
     ///
     /// It takes all of its memory here. `AllocError` comes where that is refused.
     pub fn new(alloc: Global, store: MemStore, k: u64) -> Result<FaultyStore, AllocError>
@@ -119,9 +120,9 @@ impl FaultyStore {
         self.damage_from(number, 0);
     }
 
-    /// Damages a page once `k` calls of `read`, `write` or `grow` were made of this store: each read
-    /// of it after them fails, until a write of it after them succeeds. So the `k`-th call does not
-    /// mend it. It is no call that is counted, and takes no memory.
+    /// Damages a page once `k` calls of `read`, `write` or `grow` were made of this store: each
+    /// read of it after them fails, until a write of it after them succeeds. So the `k`-th call does
+    /// not mend it. It is no call that is counted, and takes no memory.
     pub fn damage_from(&mut self, number: PageNo, k: u64)
         requires { number < length self.old.pages }
         ensures { self.new ≡ record self.old {

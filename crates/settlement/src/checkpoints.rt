@@ -65,7 +65,18 @@ fn is_begin(record: &Record) -> bool
     ensures yes { result ≡ true → IsBegin «record».now }
     ensures no { result ≡ false → ¬ IsBegin «record».now }
 {
-    matches!(record, Record::BeginChkpt { .. })
+    match *record {
+        Record::BeginChkpt { .. } => true,
+        Record::Begin { .. }
+        | Record::Update { .. }
+        | Record::Comp { .. }
+        | Record::Commit { .. }
+        | Record::Abort { .. }
+        | Record::End { .. }
+        | Record::ChkptPages { .. }
+        | Record::ChkptTxns { .. }
+        | Record::EndChkpt { .. } => false,
+    }
 }
 
 /// Whether the forced record at an LSN is the EndChkpt of this checkpoint.
