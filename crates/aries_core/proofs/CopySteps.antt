@@ -123,8 +123,13 @@ takes s copy page fit none =
     let passes = take_passes s copy page none in
     let view = passes.view in
     let there : page < length s.stored =
-    omega (arith, passes.within, (fit.copied.each copy view (ap copy_in passes.is_read)).whole,
-    count_below-not_more (log_of s) view.begin, fit.counted.stored) in
+    omega (
+      arith,
+      passes.within,
+      (fit.copied.each copy view (ap copy_in passes.is_read)).whole,
+      count_below-not_more (log_of s) view.begin,
+      fit.counted.stored,
+    ) in
     let taken = stored_page s page in
     let same : taken ≡ get_or s.stored page taken = get_or_default s.stored page (formatted page) taken there in
     copied_decided (log_of s) s.forced_end s.stored s.copies copy page view taken fit.copied passes.is_read
