@@ -1,20 +1,19 @@
 -- Pages past the page count at an LSN: no record below it changes them, so whatever was made of such
 -- a page has all of its changes below that LSN.
-use Rattle.std.proofs.Common.{◌≡◌, ℕ, ◌-◌, ◌/◌, ◌<◌, ◌≤◌, List, get_or, take, true, false, refl, arith, inl, inr}
-use Rattle.std.specs.Prelude.{Option, Some, None, IfSome, ◌==◌}
+use Rattle.std.proofs.Common.{◌≡◌, ℕ, ◌-◌, ◌/◌, ◌<◌, ◌≤◌, List, get_or, take, refl, sym, ap, ◌∙◌}
+use Rattle.std.proofs.Common.{Bool, true, false, arith, inl, inr}
 use Rattle.std.specs.List.{All}
-use Rattle.std.specs.Option.{option_map_or}
-use Rattle.std.proofs.lemmas.Bool.{cases_lt, eqb-true}
+use Rattle.std.proofs.lemmas.Bool.{cases_lt}
+use Rattle.std.proofs.lemmas.List.{get_or-take, length-take}
 use Rattle.page_core.specs.declared.page.Page.{Page}
 use Rattle.page_core.specs.Page.{formatted}
-use Rattle.log_records.specs.declared.page_change.PageChange.{PageChange}
 use Rattle.log_records.specs.declared.record.Record.{Record}
 use Rattle.log_records.specs.Coverage.{Covers, IsPast, changes}
-use Rattle.log_records.specs.Log.{IsLog, Log, page_count, page_count_at, page_count_below}
-use Rattle.log_records.specs.Record.{change_of, own_lsn}
-use Rattle.log_records.proofs.Changes.{change_within}
+use Rattle.log_records.specs.Log.{IsLog, Log, page_count, page_count_below}
+use Rattle.log_records.specs.Record.{own_lsn}
 use Rattle.log_records.proofs.Coverage.{of_each}
-use Rattle.log_records.proofs.PageCounts.{count_behind-not_less, count_behind-rises, page_count_at-not_more}
+use Rattle.log_records.proofs.PageCounts.{count_behind-not_less, count_behind-rises, page_count_at-not_more, valid_cut}
+use Rattle.log_records.proofs.PastVolume.{not_changed}
 
 -- the page count along the LSNs
 pub count_below-rises : (log : Log) (low high : ℕ) → low ≤ high → page_count_below log low ≤ page_count_below log high
@@ -27,26 +26,27 @@ count_below-not_less log lsn = count_behind-not_less log.pages (take ((lsn - 1) 
 pub count_below-not_more : (log : Log) (lsn : ℕ) → page_count_below log lsn ≤ page_count log
 count_below-not_more log lsn = page_count_at-not_more log ((lsn - 1) / 64)
 
-changed_within : (pages p : ℕ) (o : Option PageChange) → IfSome o (λ c. c.page < pages)
-    → option_map_or (λ c. c.page == p) o false ≡ true → p < pages
-changed_within pages p None within e = cc
-changed_within pages p (Some c) within e = let same : c.page ≡ p = eqb-true c.page p e in omega (arith, same, within)
-
 -- no record below an LSN changes a page that the volume does not have there
 pub none_below : (log : Log) (p lsn : ℕ) → IsLog log → page_count_below log lsn ≤ p
     → All (λ r. changes p r ≡ true → lsn ≤ own_lsn r) log.records
 none_below log p lsn valid past = λ i d lt e.
-    let r = get_or log.records i d in
-    let stands = valid.records i d lt in
-    let own = stands.lsn in
-    let count = page_count_at log i in
-    let within : p < count = changed_within count p (change_of r) (change_within count r stands.within) e in
-    elim (cases_lt (own_lsn r) lsn) [
+    let k = (lsn - 1) / 64 in
+    let cut = record log { records = take k log.records } in
+    let own = (valid.records i d lt).lsn in
+    elim (cases_lt (own_lsn (get_or log.records i d)) lsn) [
       | inl low ↦
-          let le : i ≤ (lsn - 1) / 64 = omega (arith, low, own) in
-          absurd (omega (arith, past, within, count_behind-rises log.pages log.records i ((lsn - 1) / 64) le))
+          let below : i < k = omega (arith, low, own) in
+          let left : changes p (get_or (take k log.records) i d) ≡ false =
+          not_changed cut p i d (valid_cut log k valid) past (omega (arith, below, lt, length-take k log.records)) in
+          let none : changes p (get_or log.records i d) ≡ false =
+          ap (changes p) (sym (get_or-take k log.records i d below)) ∙ left in
+          absurd (not_both (changes p (get_or log.records i d)) e none)
       | inr high ↦ high
     ]
+  where
+    not_both : (b : Bool) → b ≡ true → b ≡ false → ⊥
+    not_both true is other = cc
+    not_both false is other = cc
 
 -- so such a page has all of its changes below that LSN, whichever it has
 pub later_covers : (log : Log) (p lsn : ℕ) (page : Page) → IsLog log → page_count_below log lsn ≤ p

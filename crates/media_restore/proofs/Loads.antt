@@ -3,23 +3,20 @@ use Rattle.std.proofs.Common.{◌≡◌, ℕ, suc, ◌+◌, ◌-◌, ◌<◌, �
 use Rattle.std.proofs.Common.{ap, subst}
 use Rattle.std.proofs.Common.{◌∙◌, arith, min}
 use Rattle.std.specs.Prelude.{Option, Some, None, IfSome, IsSome, nat_lt, true, false, Bool, if◌then◌else◌}
-use Rattle.std.specs.List.{AllByRecursion, filter}
 use Rattle.std.proofs.Math.Seq.{get_or-append_right, take-append-add}
 use Rattle.std.proofs.lemmas.Bool.{ltb-false}
 use Rattle.std.proofs.lemmas.List.{get_or-map, length-append, length-map, length-take, same_lists, take-take, take_min}
 use Rattle.std.proofs.lemmas.List.FromFn.{get_or-map-range_with_len, length-map-range_with_len, take-map-range_with_len}
 use Rattle.page_core.specs.declared.page.Page.{Page}
-use Rattle.page_core.specs.Volume.{AreNumbered}
 use Rattle.log_records.specs.declared.limits.TheConstants.{MAX_RECORDS}
 use Rattle.log_records.specs.declared.record.Record.{Record}
-use Rattle.log_records.specs.Coverage.{is_resumed, resume}
+use Rattle.log_records.specs.Coverage.{resume}
 use Rattle.log_records.specs.Image.{image, redo_all}
 use Rattle.log_records.specs.Log.{IsLog, Log, lsn_of, page_count}
 use Rattle.log_records.proofs.PageCounts.{page_count_at-not_more}
 use Rattle.copy_vault.proofs.Chains.{contents_numbered}
 use Rattle.log_records.specs.Record.{own_lsn}
 use Rattle.log_records.specs.declared.record.Record.TheVariants.{EndChkpt}
-use Rattle.log_records.proofs.Images.{number-image, number-image_from}
 use Rattle.log_history.specs.Checkpoint.{IsCompleteCheckpoint}
 use Rattle.log_history.specs.Transactions.{owed}
 use Rattle.log_history.proofs.Histories.{linked-take}

@@ -1,5 +1,5 @@
 -- The pages that are restored of a chain and a log.
-use Rattle.std.proofs.Common.{◌≡◌, ◌∙◌, ℕ, ◌<◌, ◌≤◌, List, [], ◌∷◌, length, map}
+use Rattle.std.proofs.Common.{◌≡◌, ◌∙◌, ℕ, ◌<◌, ◌≤◌, List, length, map}
 use Rattle.std.proofs.Common.{refl, sym, ap, subst, arith, Global, Vec}
 use Rattle.std.specs.Prelude.{Option, Result, Ok, Err, IfOk, IfErr, OnOk}
 use Rattle.std.proofs.KnownBytes.{Keeps-refl}
@@ -22,7 +22,6 @@ use Rattle.log_store.specs.declared.fault.LogReadFault.TheVariants as log
 use Rattle.log_store.specs.declared.master.Master.{Master}
 use Rattle.copy_vault.specs.declared.chain_read_fault.ChainReadFault.{ChainReadFault}
 use Rattle.copy_vault.specs.declared.chain_read_fault.ChainReadFault.TheVariants as chain
-use Rattle.copy_vault.specs.declared.copy_id.CopyKind.TheVariants.{Full}
 use Rattle.copy_vault.specs.Chain.{content, contents, last_redo}
 use Rattle.copy_vault.specs.ChainReading.{IsChainRead}
 use Rattle.copy_vault.specs.Copy.{CopyView}

@@ -1,7 +1,7 @@
 -- Files of what an engine leaves.
 use Rattle.std.proofs.Common.{◌≡◌, ◌∙◌, ℕ, zero, suc, ◌<◌, ◌≤◌, inl, inr, List, [], ◌∷◌, length, map}
-use Rattle.std.proofs.Common.{take, refl, sym, ap, subst, arith}
-use Rattle.std.specs.Prelude.{Some, IfSome}
+use Rattle.std.proofs.Common.{refl, sym, ap, subst, arith}
+use Rattle.std.specs.Prelude.{Some}
 use Rattle.std.specs.List.{AllByRecursion}
 use Rattle.std.proofs.Math.ListN.{get_or-eq_default}
 use Rattle.std.proofs.lemmas.Bool.{cases_lt}
@@ -11,10 +11,9 @@ use Rattle.page_core.specs.Page.{IsPage}
 use Rattle.log_records.specs.Coverage.{Covers, IsPast}
 use Rattle.page_core.specs.declared.format.Format.TheVariants.{Second}
 use Rattle.page_core.specs.PageCounts.{count_below}
-use Rattle.log_records.specs.Log.{IsLog, Log, SpellsLog, counts_of, log_bytes, page_count, page_count_below}
+use Rattle.log_records.specs.Log.{IsLog, Log, counts_of, log_bytes, page_count}
 use Rattle.log_records.proofs.PageCounts.{count_below-counts_of, page_count-is_count}
 use Rattle.copy_coverage.specs.Retired.{IsRetired, RetiredView}
-use Rattle.log_records.proofs.Logs.{same_log}
 use Rattle.log_history.specs.Linked.{IsLinked}
 use Rattle.log_history.proofs.Histories.{linked-take}
 use Rattle.log_store.specs.declared.master.Master.{Master}
@@ -28,7 +27,6 @@ use Rattle.copy_vault.specs.ChainReading.{AreWithinLog, IsRightChain, SpellCopie
 use Rattle.copy_vault.specs.Copy.{CopyView, IsComplete, PageDecision, decision_at, kept, taken, taken_count}
 use Rattle.copy_vault.specs.Copy.{taken_pages, undecided}
 use Rattle.copy_vault.specs.Vault.{CopyState, HasParent, complete, dropped, state_of}
-use Rattle.copy_vault.proofs.ArchiveReads.{same_copy}
 use Rattle.copy_vault.proofs.Chains.{some_members}
 use Rattle.copy_vault.proofs.Decisions.{count_within}
 use Rattle.copy_coverage.specs.Copied.{AreRestorable, IsCovered, StandsOn}
@@ -200,12 +198,12 @@ AreWhole log copies = AllByRecursion (λ copy. length copy.pages ≡ count_below
 whole_members : (log : Log) (it : RetiredView) (copies : List CopyView) → IsLog log → IsRetired it
     → IsKeptOf it.log it.forced_end log → AllByRecursion (λ copy. state_of it.copies copy.id ≡ complete copy) copies
     → AreWhole log copies
-whole_members log it [] valid retired kept of_vault = tt
-whole_members log it (copy ∷ copies) valid retired kept of_vault =
+whole_members log it [] valid retired crash of_vault = tt
+whole_members log it (copy ∷ copies) valid retired crash of_vault =
     let is = retired.copies.each copy.id copy of_vault.0 in (
-      is.whole ∙ sym (kept_count_below it.log log it.forced_end copy.begin kept is.early)
+      is.whole ∙ sym (kept_count_below it.log log it.forced_end copy.begin crash is.early)
           ∙ sym (count_below-counts_of log copy.begin valid),
-      whole_members log it copies valid retired kept of_vault.1,
+      whole_members log it copies valid retired crash of_vault.1,
     )
 
 fit_more : (log : Log) (copy : CopyView) (more : List CopyView) → Follow copy more → AreWhole log more

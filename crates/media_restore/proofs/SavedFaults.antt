@@ -1,6 +1,6 @@
 -- Files of what an engine leaves have no fault of their own.
-use Rattle.std.proofs.Common.{◌≡◌, ◌≤◌, ◌<◌, ◌⊎◌, inl, inr, ℕ, List, refl, sym, subst, arith}
-use Rattle.std.specs.Prelude.{Option, Some}
+use Rattle.std.proofs.Common.{◌≡◌, ◌≤◌, ◌<◌, ◌⊎◌, inl, inr, List, refl, sym, subst, arith}
+use Rattle.std.specs.Prelude.{Some}
 use Rattle.log_records.specs.declared.limits.TheConstants.{MAX_RECORDS}
 use Rattle.log_records.specs.declared.record.Record.{Record}
 use Rattle.log_records.specs.Log.{Log, SpellsLog, counts_of, log_bytes}
@@ -15,7 +15,7 @@ use Rattle.log_store.proofs.Faults.{none_in_log}
 use Rattle.log_store.proofs.Masters.{same_master}
 use Rattle.copy_vault.specs.declared.chain_read_fault.ChainReadFault.{ChainReadFault}
 use Rattle.copy_vault.specs.declared.chain_read_fault.ChainReadFault.TheVariants as chain
-use Rattle.copy_vault.specs.ChainReading.{AreNoChain, IsFromOutside, IsRightChain, archives_of}
+use Rattle.copy_vault.specs.ChainReading.{AreNoChain, IsFromOutside, archives_of}
 use Rattle.copy_vault.specs.Copy.{CopyView}
 use Rattle.copy_audit.proofs.Audits.{from_outside, same_log_of}
 use Rattle.media_restore.specs.declared.files_fault.RestoreFault.{RestoreFault}
