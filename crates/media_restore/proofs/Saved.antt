@@ -215,7 +215,7 @@ fit_more log copy (next ∷ more) follow whole =
 spell_copies : (copies : List CopyView) → AllByRecursion IsArchived copies
     → SpellCopies (map (λ (copy : CopyView). Some (archive_bytes copy)) copies) copies
 spell_copies [] all = tt
-spell_copies (copy ∷ copies) all = (record { valid = all.0; spelled = refl }, spell_copies copies all.1)
+spell_copies (copy ∷ copies) all = (record { valid = all.0; format = Second; spelled = refl }, spell_copies copies all.1)
 
 left_stable : (log : Log) (master : Master) (copies : List CopyView) → (left : AreLeft log master copies)
     → AllByRecursion (IsStable left.it.forced_end) copies
