@@ -403,6 +403,7 @@ pool_of_none stored_in store n frames resident count holds few within now = reco
     pages = count;
     count = omega arith;
     records = λ i d lt. absurd (omega arith);
+    grows = λ i d lt. absurd (omega arith);
   };
   pages = count_behind-nil n ∙ sym (length-replicate n unwritten);
   few = few;

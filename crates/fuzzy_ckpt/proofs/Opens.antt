@@ -15,7 +15,7 @@ use Rattle.log_records.specs.declared.dirty_page.DirtyPages.{DirtyPages}
 use Rattle.log_records.specs.declared.dirty_page.DirtyPages.TheVariants.{One, Two, Three}
 use Rattle.log_records.specs.declared.record.Record.{Record}
 use Rattle.log_records.specs.declared.record.Record.TheVariants.{Begin, Update, Comp, Commit, Abort, End, BeginChkpt}
-use Rattle.log_records.specs.declared.record.Record.TheVariants.{ChkptPages, ChkptTxns, EndChkpt}
+use Rattle.log_records.specs.declared.record.Record.TheVariants.{ChkptPages, ChkptTxns, EndChkpt, Extend}
 use Rattle.log_records.specs.DirtyPage.{entries_of}
 use Rattle.log_records.specs.Log.{IsLog, Log, lsn_of}
 use Rattle.log_records.specs.Record.{AreDirtyPages, IsBefore, IsOfTransaction, IsRecord, own_lsn}
@@ -43,6 +43,7 @@ after_transaction o (BeginChkpt lsn) of = absurd of
 after_transaction o (ChkptPages lsn begin pages) of = absurd of
 after_transaction o (ChkptTxns lsn begin txn state last undo) of = absurd of
 after_transaction o (EndChkpt lsn begin redo) of = absurd of
+after_transaction o (Extend lsn count) of = absurd of
 
 pub open_same : (rs : List Record) (r : Record) → IsOfTransaction r
     → open_checkpoint (rs ++ r ∷ []) ≡ open_checkpoint rs
@@ -128,6 +129,7 @@ before_step at (ChkptTxns lsn begin txn state last undo) own valid None are = tt
 before_step at (ChkptTxns lsn begin txn state last undo) own valid (Some c) are =
     let old = all_later at (at + 64) c (omega arith) are in record { begin = old.begin; pages = old.pages }
 before_step at (EndChkpt lsn begin redo) own valid o are = tt
+before_step at (Extend lsn count) own valid o are = stays_before at o are
 before_step at (Begin lsn txn) own valid o are = stays_before at o are
 before_step at (Update lsn txn prev page slot change) own valid o are = stays_before at o are
 before_step at (Comp lsn txn prev undo_next page slot change) own valid o are = stays_before at o are
@@ -199,6 +201,7 @@ noted_old begin P table (BeginChkpt lsn) le all = all
 noted_old begin P table (ChkptPages lsn b pages) le all = all
 noted_old begin P table (ChkptTxns lsn b txn state last undo) le all = all
 noted_old begin P table (EndChkpt lsn b redo) le all = all
+noted_old begin P table (Extend lsn count) le all = all
 
 of_map : {X Y : Type 0} (P : Y → Type 0) (f : X → Y) (xs : List X) → All P (map f xs) → All (λ x. P (f x)) xs
 of_map P f [] all = All-nil (λ x. P (f x))

@@ -14,7 +14,7 @@ use Rattle.page_core.specs.declared.page.Page.{Page}
 use Rattle.log_records.specs.declared.limits.TheConstants.{MAX_RECORDS}
 use Rattle.log_records.specs.declared.record.Record.{Record}
 use Rattle.log_records.specs.declared.record.Record.TheVariants.{Begin, Update, Comp, Commit, Abort, End, BeginChkpt}
-use Rattle.log_records.specs.declared.record.Record.TheVariants.{ChkptPages, ChkptTxns, EndChkpt}
+use Rattle.log_records.specs.declared.record.Record.TheVariants.{ChkptPages, ChkptTxns, EndChkpt, Extend}
 use Rattle.log_records.specs.Coverage.{Covers}
 use Rattle.log_records.specs.Log.{IsLog, Log, StandsAt, page_count}
 use Rattle.log_records.specs.Record.{IsBefore, IsTxn, own_lsn}
@@ -103,6 +103,7 @@ pending_after at changes (BeginChkpt lsn) own all = all
 pending_after at changes (ChkptPages lsn begin entries) own all = all
 pending_after at changes (ChkptTxns lsn begin txn state last undo) own all = all
 pending_after at changes (EndChkpt lsn begin redo) own all = all
+pending_after at changes (Extend lsn count) own all = all
 
 pending_all : (at : ℕ) (changes : List PendingChange) (rs : List Record) → All (IsAt at) changes
     → All (λ r. IsBefore at (own_lsn r)) rs → All (IsAt at) (pending_from changes rs)

@@ -12,6 +12,7 @@ ghost use Rattle.log_records.specs.declared.record.Record.TheVariants.{BeginChkp
 ghost use Rattle.log_records.specs.DirtyPage.{entries_of};
 ghost use Rattle.log_records.specs.Log.{IsLog, Log as LogValue, StandsAt, page_count};
 ghost use Rattle.log_records.specs.Log.{with_next};
+ghost use Rattle.log_records.specs.Record.{IsOfCheckpoint};
 ghost use Rattle.log_history.specs.Checkpoint.{IsCompleteCheckpoint, open_checkpoint, redo_point};
 ghost use Rattle.log_history.specs.Linked.{MayFollow};
 ghost use Rattle.log_history.specs.Table.{entry_of};
@@ -302,6 +303,7 @@ impl Ckpt<Gathered> {
 /// Appends a record of a checkpoint.
 fn append<D: LogDevice>(log: &mut Log<D>, next: Record) -> Result<(), AllocError>
     requires stands { StandsAt (page_count log.old.log) (end_of log.old.log.records) next }
+    requires kind { IsOfCheckpoint next }
     requires few { length log.old.log.records < MAX_RECORDS }
 
     ensures ok { OnOk result (log.new.log ≡ with_next log.old.log (next ∷ [])) }

@@ -3,6 +3,7 @@ use Rattle.std.specs.Prelude.{IfSome, IsSome}
 use Rattle.log_records.specs.declared.record.Record.{Record}
 use Rattle.log_records.specs.Log.{Log, StandsAt, page_count, with_next}
 use Rattle.log_records.specs.Coverage.{Covers}
+use Rattle.log_records.specs.Record.{IsOfCheckpoint}
 use Rattle.log_history.specs.Linked.{MayFollow}
 use Rattle.fuzzy_ckpt.specs.Ckpt.{CkptView, IsCkptOf, Phase, gathered, in_txns, txns_ckpt}
 use Rattle.fuzzy_ckpt.specs.Steps.{Gathering, HasRoomForStep, end_of, txn_record, with_step}
@@ -122,3 +123,15 @@ returns-in-Err-clause-appends g c =
     c.requires.table.linked c.requires.ckpt (c.phase.view_is ∙ ap (λ (v : CkptView ℕ). v.phase) c.self.view_is)
     (c.next_from.ensures log.records c.requires.table) c.in-Some.is in
     subst (λ (x : Gathering). IsSome x.next) (sym it.0.step) refl
+
+pub append-requires-clause-kind : goal.append-requires-clause-kind
+append-requires-clause-kind g c =
+    let log = c.args.log.now.log in
+    let t = c.in-Some.state.txn in
+    let it = table_more log c.args.self c.phase.inside.from c.next_from.result c.in-Some.state
+    c.end_of-lsn.ensures.valid
+    c.requires.table.linked c.requires.ckpt (c.phase.view_is ∙ ap (λ (v : CkptView ℕ). v.phase) c.self.view_is)
+    (c.next_from.ensures log.records c.requires.table) c.in-Some.is in
+    let made = c.txn_record-next.ensures log.records c.requires.table c.end_of-lsn.ensures.end it.0.still_open it.1
+    ∙ ap (λ (v : CkptView ℕ). txn_record log.records v.begin t) c.self.view_is in
+    subst IsOfCheckpoint (sym made) tt
