@@ -263,7 +263,12 @@ get_or-replicate (suc n) x (suc i) = get_or-replicate n x i
 
 pub new_is_fit : (pages frames : ℕ) → IsPageCount pages → IsFit (new_state pages frames)
 new_is_fit pages frames count = record {
-  valid = record { pages = count; count = omega arith; records = λ i d lt. absurd (omega arith) };
+  valid = record {
+    pages = count;
+    count = omega arith;
+    records = λ i d lt. absurd (omega arith);
+    grows = λ i d lt. absurd (omega arith);
+  };
   linked = linked_none;
   room = room_of_none;
   forced = (0, omega arith, refl);
