@@ -8,6 +8,7 @@
 #                 to scripts with a model of the engine, also with each of its allocations refused in turn;
 #                 if rt is used, those of read_log and of the engine too, by a program of their own; and checks
 #                 that what the documents name is there
+# make plants     tries the few wrong bodies that the gate leaves out, since it would prove their crates for them alone
 # make bench      measures the program beside a plain Rust program, prints a table, and draws bench/times.svg; if rt is
 #                 used, it then measures copies of a shared engine by many workers, and draws bench/copies.svg
 # make examples   makes the example logs and their expected answers again
@@ -37,7 +38,7 @@ endif
 need = @command -v "$(1)" > /dev/null || { echo "make: the program '$(1)' is missing: $(2)" >&2; exit 1; }
 
 .DEFAULT_GOAL := imgcopy
-.PHONY: imgcopy demo test check bench examples contracts bench-programs install clean
+.PHONY: imgcopy demo test check plants bench examples contracts bench-programs install clean
 .PHONY: need-rt need-python3 need-cargo need-rustc need-imgcopy
 
 imgcopy: need-rt
@@ -53,6 +54,9 @@ test:
 
 check: $(PROGRAM)
 	@tools/run_tests.sh $(GIVEN) "$(IMGCOPY)"
+
+plants: need-rt
+	@tools/plants.sh
 
 bench: need-python3 bench-programs $(PROGRAM)
 	@python3 bench/run.py --imgcopy "$(IMGCOPY)" --tools $(BENCH_PROGRAMS) --rounds $(ROUNDS) > build/bench.md

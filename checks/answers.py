@@ -297,14 +297,21 @@ def check_audit_row(checker, row, saved):
 
 
 def check_cuts(checker, saved):
-    """An audit of a chain of which one file is cut, at each length."""
+    """An audit of a chain of which one file is cut, at each length, with files of each format."""
     archives = ["copy-1", "copy-2", "copy-3"]
-    for name in ["log", *archives]:
-        for size in range(len(saved[name])):
-            files = saved | {name: saved[name][:size]}
-            wanted = audit_files(files["log"], [files[archive] for archive in archives])
-            checker.write(files)
-            checker.check(f"{name} cut to {size} bytes, audited", wanted, ["audit", "log", *archives])
+    first = saved | {name: model_file_rows.of_first_format(saved[name]) for name in ["log", *archives]}
+    answers = []
+    for whole in (saved, first):
+        answers.append([])
+        for name in ["log", *archives]:
+            for size in range(len(whole[name])):
+                files = whole | {name: whole[name][:size]}
+                wanted = audit_files(files["log"], [files[archive] for archive in archives])
+                answers[-1].append(wanted)
+                checker.write(files)
+                checker.check(f"{name} cut to {size} bytes, audited", wanted, ["audit", "log", *archives])
+    if answers[0] != answers[1]:
+        raise Failure("the model does not audit files of the first format as it audits those of the second")
 
 
 # What is long, and what has a known answer without the model

@@ -1,4 +1,4 @@
-"""Spoils logs in some 23,000 ways, and compares what a program answers to each with the definitions.
+"""Spoils logs in some 24,000 ways, and compares what a program answers to each with the definitions.
 
 usage: python3 -m checks.faults PROGRAM
 
@@ -123,8 +123,8 @@ def describe(one_answer):
 
 def small_logs():
     """Each small log with its name."""
-    for logs in (spoiled_logs.changed_bytes, spoiled_logs.cut_logs, spoiled_logs.fields_at_bounds,
-                 spoiled_logs.chained_fields, spoiled_logs.moved_records, spoiled_logs.compensations,
+    for logs in (spoiled_logs.changed_bytes, spoiled_logs.cut_logs, spoiled_logs.formats,
+                 spoiled_logs.fields_at_bounds, spoiled_logs.chained_fields, spoiled_logs.moved_records, spoiled_logs.compensations,
                  spoiled_logs.two_faults, spoiled_logs.drawn_logs, spoiled_logs.checkpoints):
         yield from logs()
     for name, log, marked in spoiled_logs.scenarios():

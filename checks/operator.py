@@ -179,8 +179,9 @@ def check_reasons(program):
         return name
 
     files = {"kind": spoiled("kind", 64, b"\x11"), "lsn": spoiled("lsn", 128 + 56, b"\x40"),
-             "pages": spoiled("pages", 8, b"\0\0"), "prev": spoiled("prev", 128 + 8, bytes(8))}
-    (program.folder / "short").write_bytes(b"AIMGLOG1")
+             "pages": spoiled("pages", 8, b"\0\0"), "prev": spoiled("prev", 128 + 8, bytes(8)),
+             "first": spoiled("first", 7, b"1"), "later": spoiled("later", 7, b"3")}
+    (program.folder / "short").write_bytes(b"AIMGLOG2")
     for words, status, line, why in (
             ([files["kind"], "master"], 2, "E31 BadRecord 64", "kind (log): kind 17 is that of no record"),
             ([files["lsn"], "master"], 2, "E31 BadRecord 128", "lsn (log): the record there has LSN 64 in itself"),
@@ -189,6 +190,8 @@ def check_reasons(program):
             (["master", "log"], 2, "E30 BadHeader", "master (log): is a master record"),
             (["log", "copy-1"], 2, "E30 BadHeader", "copy-1 (master record): is an image copy"),
             (["log", "master", "log"], 2, "E36 BadArchive 0", "log (image copy): is a log"),
+            (["log", "master", files["first"]], 2, "E36 BadArchive 0", "first (image copy): is a log"),
+            ([files["later"], "master"], 2, "E30 BadHeader", "later (log): begins like no file of imgcopy"),
             (["log", "master", "copy-2"], 1, "E37 ChainBroken 2",
              "copy-2 (image copy): is an increment of copy 1, but stands first"),
             (["log", "master", "copy-1", "copy-3"], 1, "E37 ChainBroken 3",

@@ -13,7 +13,9 @@ sys.path.insert(0, str(Path(__file__).resolve().parent.parent))
 from model.log_format import PAGE_SIZE, decode_page
 
 
-MAGICS = {b"AIMGLOG1": "a log", b"AIMGMST1": "a master record", b"AIMGARC1": "an archive of an image copy"}
+# What a file is that begins so. Of logs and of archives there are two formats.
+MAGICS = {b"AIMGLOG1": "a log", b"AIMGLOG2": "a log", b"AIMGMST1": "a master record",
+          b"AIMGARC1": "an archive of an image copy", b"AIMGARC2": "an archive of an image copy"}
 
 
 def read_page(path, wanted):

@@ -30,14 +30,31 @@ class FileRow(NamedTuple):
         return bytes.fromhex(self.answer).ljust(512, b"\0")
 
 
+def in_first_format(row):
+    """The same row with its log and its archives in the first format, which byte 7 of each says."""
+    names = ["log"] if row.names == "redo" else \
+        [name for name in row.names.split() if name == "log" or name.startswith("copy-")]
+    return row._replace(name=f"{row.name}, in the first format",
+                        edits=(*((name, 7, FIRST) for name in names), *row.edits))
+
+
+def of_first_format(data):
+    """The log or the archive with the same value in the first format."""
+    return data[:7] + bytes.fromhex(FIRST) + data[8:]
+
+
+# The characters that name a format, in hexadecimal digits. There is neither a format 0 nor a format 3.
+FIRST, NONE, LATER = "31", "30", "33"
+
 INCREMENTS = "two incremental copies of one parent"
 CHAIN = "a chain, and a rollback that was begun"
 DIRTY = "a page that is dirty all the time"
 COPIED = "a change after the copy"
 FILES_OF_CHAIN = "log master copy-1 copy-2 copy-3"
+VOLUME_OF_CHAIN = "0000000001000000 c002000000000000"
 
-FILE_ROWS = [
-    FileRow("a chain from its files", CHAIN, FILES_OF_CHAIN, "0000000001000000 c002000000000000", status=0),
+ROWS_OF_BOTH_FORMATS = [
+    FileRow("a chain from its files", CHAIN, FILES_OF_CHAIN, VOLUME_OF_CHAIN, status=0),
     FileRow("redo of a rollback that was begun", CHAIN, "redo", "0000000001000000 8002000000000000 05", status=0),
     FileRow("redo of four records", "four records", "redo", "0000000001000000 c000000000000000" + "00" * 24 + "0c",
             status=0),
@@ -79,3 +96,17 @@ FILE_ROWS = [
     FileRow("a folder as archive", CHAIN, "log master copy-1 .", "E33 ReadFault"),
     FileRow("a fault before a file that is missing", CHAIN, "log master copy-2 missing", "E37 ChainBroken 2", status=1),
 ]
+
+FORMAT_ROWS = [
+    FileRow("a log of the first format, and archives of the second", CHAIN, FILES_OF_CHAIN, VOLUME_OF_CHAIN,
+            (("log", 7, FIRST),), status=0),
+    FileRow("archives of both formats", CHAIN, FILES_OF_CHAIN, VOLUME_OF_CHAIN, (("copy-2", 7, FIRST),), status=0),
+    FileRow("redo of a log of no format", "four records", "redo", "E30 BadHeader", (("log", 7, NONE),)),
+    FileRow("redo of a log of a later format", "four records", "redo", "E30 BadHeader", (("log", 7, LATER),)),
+    FileRow("a log of a later format", CHAIN, FILES_OF_CHAIN, "E30 BadHeader", (("log", 7, LATER),)),
+    FileRow("an archive of no format", CHAIN, FILES_OF_CHAIN, "E36 BadArchive 0", (("copy-3", 7, NONE),)),
+    FileRow("an archive of a later format", CHAIN, FILES_OF_CHAIN, "E36 BadArchive 0", (("copy-1", 7, LATER),)),
+    FileRow("a master record of a second format", CHAIN, FILES_OF_CHAIN, "E30 BadHeader", (("master", 7, "32"),)),
+]
+
+FILE_ROWS = [*ROWS_OF_BOTH_FORMATS, *map(in_first_format, ROWS_OF_BOTH_FORMATS), *FORMAT_ROWS]

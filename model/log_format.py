@@ -11,7 +11,9 @@ from typing import NamedTuple
 from model import log_checkpoints
 from model.log_checkpoints import Checkpoints
 
-MAGIC = b"AIMGLOG1"
+# What a log begins with that is written, and one of the first format, which is read too.
+MAGIC = b"AIMGLOG2"
+FIRST_MAGIC = b"AIMGLOG1"
 HEADER_SIZE = 64
 RECORD_SIZE = 64
 MOST_RECORDS = 2**20
@@ -216,8 +218,8 @@ class History:
             del claims[claim]
 
 
-def encode_header(pages):
-    return HEADER.pack(MAGIC, pages, bytes(len(SPARE_OF_HEADER)))
+def encode_header(pages, magic=MAGIC):
+    return HEADER.pack(magic, pages, bytes(len(SPARE_OF_HEADER)))
 
 
 def lsn_of(index):
@@ -250,8 +252,8 @@ def fault_of_header(data):
     if len(data) < HEADER_SIZE:
         return f"the header is misspelt: it has {len(data)} bytes"
     magic, pages, spare = HEADER.unpack(data)
-    if magic != MAGIC:
-        return f"the header is misspelt: it does not begin with {MAGIC.decode()}"
+    if magic not in (MAGIC, FIRST_MAGIC):
+        return f"the header is misspelt: it begins with neither {FIRST_MAGIC.decode()} nor {MAGIC.decode()}"
     if not 1 <= pages <= MOST_PAGES:
         return f"the header is misspelt: its page count is {pages}"
     if any(spare):

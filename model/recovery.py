@@ -27,7 +27,9 @@ STATUS_1 = {8, 17, 19, 27, 37, 39, 40, 41}
 
 MOST_COPIES = 1024
 MASTER_MAGIC = b"AIMGMST1"
-ARCHIVE_MAGIC = b"AIMGARC1"
+# The same of an archive.
+ARCHIVE_MAGIC = b"AIMGARC2"
+FIRST_ARCHIVE_MAGIC = b"AIMGARC1"
 FULL, INCREMENTAL = 1, 2
 MASTER = struct.Struct("<8s Q Q 40x")
 ARCHIVE = struct.Struct("<8s I I B 3x I Q Q I 20x")
@@ -339,7 +341,7 @@ def read_archive_header(data):
     magic, pages, number, kind, parent, begin, redo, taken = fields = ARCHIVE.unpack(data)
     is_full = kind == FULL and parent == 0 and taken == pages
     is_incremental = kind == INCREMENTAL and 1 <= parent < number and taken <= pages
-    is_spelt = magic == ARCHIVE_MAGIC and data == ARCHIVE.pack(*fields) and \
+    is_spelt = magic in (ARCHIVE_MAGIC, FIRST_ARCHIVE_MAGIC) and data == ARCHIVE.pack(*fields) and \
         1 <= pages <= MOST_PAGES and 1 <= number <= MOST_COPIES and (is_full or is_incremental) and \
         begin % 64 == 0 and redo % 64 == 0 and 64 <= redo <= begin
     if not is_spelt:

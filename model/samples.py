@@ -2,7 +2,8 @@
 
 usage: python3 -m model.samples [FOLDER]     FOLDER is the folder to write to, by default examples/
 
-NAME.log is a log. NAME.volume is the volume that it must give, or NAME.fault the fault line that it must give.
+NAME.log is a log. NAME.volume is the volume that it must give, or NAME.fault the fault line that it must give. The log
+of interleaved is of the first format, since logs of that are read, too. The others are of the second one.
 """
 
 import random
@@ -11,8 +12,8 @@ from pathlib import Path
 
 from model.log_checkpoints import (ACTIVE, BEGIN_CHKPT, CHKPT_PAGES, CHKPT_TXNS, END_CHKPT, ROLLING,
                                    CheckpointRecord)
-from model.log_format import (ABORT, ADD, BEGIN, COMMIT, COMP, END, NO_CHANGE, RECORD_SIZE, SET, SLOTS, UPDATE, Change,
-                              Record, Volume, encode_header, lsn_of)
+from model.log_format import (ABORT, ADD, BEGIN, COMMIT, COMP, END, FIRST_MAGIC, MAGIC, NO_CHANGE, RECORD_SIZE, SET,
+                              SLOTS, UPDATE, Change, Record, Volume, encode_header, lsn_of)
 
 
 class Log:
@@ -69,8 +70,8 @@ class Log:
         begin = 0 if record.kind == BEGIN_CHKPT else begins[-1]
         self.records.append(record._replace(begin=begin, lsn=lsn))
 
-    def encode(self):
-        return encode_header(self.pages) + b"".join(record.encode() for record in self.records)
+    def encode(self, magic=MAGIC):
+        return encode_header(self.pages, magic) + b"".join(record.encode() for record in self.records)
 
 
 def volume_of(log):
@@ -200,9 +201,9 @@ def torn():
 
 
 def main(folder):
-    for name, log in [("four_records", four_records()), ("interleaved", interleaved()), ("rollback", rollback()),
-                      ("checkpoint", checkpoint())]:
-        (folder / f"{name}.log").write_bytes(log.encode())
+    for name, log, magic in [("four_records", four_records(), MAGIC), ("interleaved", interleaved(), FIRST_MAGIC),
+                             ("rollback", rollback(), MAGIC), ("checkpoint", checkpoint(), MAGIC)]:
+        (folder / f"{name}.log").write_bytes(log.encode(magic))
         (folder / f"{name}.volume").write_bytes(volume_of(log))
     for name, (log, fault) in [("torn", torn()), ("bad_chain", bad_chain())]:
         (folder / f"{name}.log").write_bytes(log)

@@ -149,6 +149,12 @@ def archive_page(draw, given):
     given.put(name, with_field(draw, data, start + at, size, values))
 
 
+def other_format(draw, given):
+    """The log or an archive that says it is of the first format, which it then is, or of one that there is not."""
+    name = draw.one_of([given.log, *given.archives])
+    given.put(name, with_field(draw, given.data(name), 7, 1, [*b"1110123"]))
+
+
 def master_field(draw, given):
     """Another begin and end, most of the time those of records of the log."""
     data = given.data(given.master)
@@ -205,8 +211,8 @@ def of_another_run(draw, given, others):
 
 
 WAYS = [one_byte, one_byte, cut, lost_tail, lost_tail, more, other_order, other_order, no_file, empty, archive_header,
-        archive_header, archive_header, archive_page, archive_page, archive_page, master_field, other_master,
-        other_master, record_field, record_field, moved_record]
+        archive_header, archive_header, archive_page, archive_page, archive_page, other_format,
+        master_field, other_master, other_master, record_field, record_field, moved_record]
 
 
 def spoil(draw, given, others):

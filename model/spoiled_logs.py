@@ -8,9 +8,9 @@ from collections import Counter, defaultdict
 
 from model import log_checkpoints
 from model.log_checkpoints import CheckpointRecord
-from model.log_format import (ABORT, ADD, BEGIN, COMMIT, COMP, END, HEADER_SIZE, KINDS, LONGEST_LOG, MOST_OPEN, MOST_PAGES,
-                              MOST_RECORDS, NO_CHANGE, RECORD_SIZE, SET, UPDATE, Change, History, Record, encode_header,
-                              lsn_of)
+from model.log_format import (ABORT, ADD, BEGIN, COMMIT, COMP, END, FIRST_MAGIC, HEADER_SIZE, KINDS, LONGEST_LOG, MAGIC,
+                              MOST_OPEN, MOST_PAGES, MOST_RECORDS, NO_CHANGE, RECORD_SIZE, SET, UPDATE, Change, History,
+                              Record, encode_header, lsn_of)
 from model.samples import Draw, Log, checkpoint, rollback
 
 PAGES = 2
@@ -245,6 +245,28 @@ def cut_logs():
     for length in range(len(log)):
         yield f"cut to {length}", log[:length]
         yield f"spoiled at 200 and cut to {length}", spoiled[:length]
+
+
+def formats():
+    """Right logs of the first format, one of them cut and turned, and one with each character in the place of 2."""
+    for name, records in BASES.items():
+        yield f"{name}, in the first format", in_first_format(log_of(records))
+    yield "checkpoint, in the first format", in_first_format(checkpoint().encode())
+    log = in_first_format(log_of(RECORDS))
+    for length in range(len(log)):
+        yield f"cut to {length}, in the first format", log[:length]
+    for at in range(len(log)):
+        yield f"byte {at} turned, in the first format", turned(log, at, 0x40)
+    for character in range(256):
+        yield f"{character} names the format", log[:FORMAT_AT] + bytes([character]) + log[FORMAT_AT + 1:]
+
+
+FORMAT_AT = len(MAGIC) - 1
+
+
+def in_first_format(log):
+    """The same log with the beginning of one of the first format."""
+    return FIRST_MAGIC + log[len(FIRST_MAGIC):]
 
 
 def fields_at_bounds():

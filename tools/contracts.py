@@ -24,7 +24,8 @@ INTRODUCTION = """\
 For each crate of `crates.txt`: its public items that can be named from outside the crate, or all of them where the
 crate is a program; the first sentence of what the source says of each; and the names of its clauses, where `-` is a
 clause without a name, and `ghost` stands before a word that other contracts use. Then the wrong bodies of the crate,
-which the check has to refuse (`crates/*/must-fail/`), behind the places that they change.
+which the check has to refuse (`crates/*/must-fail/`, and `tools/plants/` for those that the gate leaves out), behind
+the places that they change.
 
 `make contracts` makes this file from the sources.
 """
@@ -190,7 +191,8 @@ def wrong_bodies(crate, found):
     """The crate's edits that the check has to refuse, each behind the place that it changes."""
     by_file = {module.file: module.items for module in found}
     edits = []
-    for edit in (ROOT / "crates" / crate / "must-fail").glob("*.edit"):
+    folders = (ROOT / "crates" / crate / "must-fail", ROOT / "tools" / "plants" / crate)
+    for edit in (edit for folder in folders for edit in folder.glob("*.edit")):
         lines = edit.read_text(encoding="utf-8").splitlines()
         name, old = (next(line[len(word):] for line in lines if line.startswith(word)) for word in ("file: ", "old: "))
         file = ROOT / "crates" / crate / name

@@ -2,10 +2,14 @@
 
 use crate::engine::{lsn_of, Master};
 use crate::replies::{Answer, Refusal, Reply};
-use crate::{formatted_volume, halves, word, Fault, Page, MOST_PAGES, PAGE_FORMAT, PAGE_SIZE};
+use crate::{
+    formatted_volume, halves, is_one_of, word, Fault, Page, MOST_PAGES, PAGE_FORMAT, PAGE_SIZE,
+};
 
 pub const ARCHIVE_HEADER_SIZE: usize = 64;
-const ARCHIVE_MAGIC: &[u8; 8] = b"AIMGARC1";
+/// What an archive begins with that is written, and one of the first format, which is read too.
+const ARCHIVE_MAGIC: &[u8; 8] = b"AIMGARC2";
+const FIRST_ARCHIVE_MAGIC: &[u8; 8] = b"AIMGARC1";
 const MOST_COPIES: usize = 1024;
 const FULL: u8 = 1;
 const INCREMENTAL: u8 = 2;
@@ -203,7 +207,7 @@ fn read_header(archive: &[u8]) -> Option<Header> {
         INCREMENTAL => parent >= 1 && parent < id && taken <= page_count,
         _ => false,
     };
-    let is_header = magic == u64::from_le_bytes(*ARCHIVE_MAGIC)
+    let is_header = is_one_of(magic, [ARCHIVE_MAGIC, FIRST_ARCHIVE_MAGIC])
         && (1..=MOST_PAGES).contains(&page_count)
         && (1..=MOST_COPIES as u32).contains(&id)
         && is_of_kind

@@ -15,7 +15,9 @@ pub mod workload;
 use std::fmt;
 use std::io::{self, ErrorKind, Read};
 
-pub const MAGIC: &[u8; 8] = b"AIMGLOG1";
+/// What a log begins with that is written, and one of the first format, which is read too.
+pub const MAGIC: &[u8; 8] = b"AIMGLOG2";
+pub const FIRST_MAGIC: &[u8; 8] = b"AIMGLOG1";
 pub const HEADER_SIZE: usize = 64;
 pub const RECORD_SIZE: usize = 64;
 pub const MOST_RECORDS: usize = 1 << 20;
@@ -107,6 +109,11 @@ pub fn formatted_volume(page_count: u32) -> Vec<Page> {
         page[4..8].copy_from_slice(&PAGE_FORMAT.to_le_bytes());
     }
     volume
+}
+
+/// Whether the first word of a header is one of these texts.
+pub fn is_one_of(word: u64, texts: [&[u8; 8]; 2]) -> bool {
+    texts.iter().any(|text| word == u64::from_le_bytes(**text))
 }
 
 pub fn words(bytes: &[u8]) -> [u64; 8] {

@@ -3,9 +3,9 @@
 use crate::chains::{Chains, Change, ChangeKind};
 use crate::checkpoints::{self, Checkpoints};
 use crate::{
-    fill, formatted_volume, halves, word, words, Fault, Page, ABORT, ADD, BEGIN, BEGIN_CHKPT,
-    COMMIT, COMP, END, FIRST_SLOT, HEADER_SIZE, LONGEST_LOG, MAGIC, MOST_PAGES, RECORD_SIZE, SET,
-    SLOTS, UPDATE,
+    fill, formatted_volume, halves, is_one_of, word, words, Fault, Page, ABORT, ADD, BEGIN,
+    BEGIN_CHKPT, COMMIT, COMP, END, FIRST_MAGIC, FIRST_SLOT, HEADER_SIZE, LONGEST_LOG, MAGIC,
+    MOST_PAGES, RECORD_SIZE, SET, SLOTS, UPDATE,
 };
 use std::io::{self, Read};
 
@@ -211,7 +211,7 @@ pub fn change_of(bytes: &[u8], page_count: u32) -> Option<Change> {
 fn read_header(header: &[u8; HEADER_SIZE]) -> Option<u32> {
     let [magic, page_count, rest @ ..] = words(header);
     let page_count = u32::try_from(page_count).ok()?;
-    let is_header = magic == u64::from_le_bytes(*MAGIC)
+    let is_header = is_one_of(magic, [MAGIC, FIRST_MAGIC])
         && (1..=MOST_PAGES).contains(&page_count)
         && rest == [0; 6];
     is_header.then_some(page_count)

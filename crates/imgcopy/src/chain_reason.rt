@@ -1,9 +1,8 @@
 //! Why a record may not follow those before it, for a person: the log is read once more.
 
+use crate::headers::pages_of_log;
 use log_history::{OpenTransactions, TxnState};
-use log_records::{
-    HEADER_BYTES, MAX_OPEN, MAX_RECORDS, RECORD_BYTES, Record, page_count, record_at,
-};
+use log_records::{HEADER_BYTES, MAX_OPEN, MAX_RECORDS, RECORD_BYTES, Record, record_at};
 use page_core::{Lsn, PageNo, SlotNo, TxnNo};
 use std::alloc::Global;
 use std::fmt;
@@ -90,7 +89,7 @@ pub fn chain_reason<R: Read + Drop>(alloc: Global, log: R, at: Lsn) -> Option<Ch
     let mut reader = BufReader::with_capacity(alloc, PIECE_BYTES, log).ok()?;
     let mut bytes = [0; RECORD_BYTES];
     reader.read_exact(&mut bytes).ok()?;
-    let pages = page_count(&bytes)?;
+    let pages = pages_of_log(&bytes)?;
     let mut table = OpenTransactions::new(alloc);
     let mut lsn = HEADER_BYTES as u64;
     for _ in 0..MAX_RECORDS {

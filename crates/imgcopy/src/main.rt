@@ -10,6 +10,7 @@ ghost use Rattle.script_run.specs.Status.{status_of_audit, status_of_finish, sta
 mod advice;
 mod bad_line;
 mod chain_reason;
+mod headers;
 mod output;
 mod reasons;
 mod shown;

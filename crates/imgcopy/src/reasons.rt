@@ -1,11 +1,12 @@
 //! What is wrong with a file that was refused, for a person: the file is read once more.
 
 use crate::chain_reason::{ChainReason, chain_reason};
+use crate::headers::{ArchiveHeader, FileKind, archive_header, kind_of, pages_of_log};
 use copy_audit::Unsound;
 use copy_vault::CopyId;
 use log_records::RECORD_BYTES;
 use media_restore::RestoreFault;
-use page_core::field::{u32_at, u64_at};
+use page_core::field::u64_at;
 use page_core::{Lsn, PAGE_BYTES, PageNo};
 use std::io::{Read, Seek, SeekFrom};
 use std::{fmt, fs};
@@ -243,11 +244,11 @@ fn reason_of_header(rt: &HostRuntime, name: &str, place: usize) -> Option<Reason
     let Some(bytes) = bytes_at(rt, name, 0) else {
         return Some(Reason::IsShort(end_of(rt, name)?));
     };
-    let (found, wanted) = match &bytes[..8] {
-        b"AIMGLOG1" => (Reason::IsLog, 0),
-        b"AIMGMST1" => (Reason::IsMaster, 1),
-        b"AIMGARC1" => (Reason::IsArchive, FIRST_ARCHIVE),
-        _ => return Some(Reason::IsOther),
+    let (found, wanted) = match kind_of(&bytes) {
+        Some(FileKind::Log) => (Reason::IsLog, 0),
+        Some(FileKind::Master) => (Reason::IsMaster, 1),
+        Some(FileKind::Archive) => (Reason::IsArchive, FIRST_ARCHIVE),
+        None => return Some(Reason::IsOther),
     };
     if place.min(FIRST_ARCHIVE) == wanted {
         Some(Reason::BadHeader)
@@ -287,7 +288,7 @@ fn reason_of_master(rt: &HostRuntime, name: &str) -> Option<Reason> {
 fn reason_of_broken(rt: &HostRuntime, names: &Named<'_>, place: usize) -> Option<Reason> {
     let index = place.checked_sub(FIRST_ARCHIVE)?;
     let header = archive_at(rt, names.archives.get(index)?)?;
-    let log = u32_at(&bytes_at(rt, names.log, 0)?, 8);
+    let log = pages_of_log(&bytes_at(rt, names.log, 0)?)?;
     let before = match index.checked_sub(1) {
         Some(index) => Some(archive_at(rt, names.archives.get(index)?)?.id),
         None => None,
@@ -306,28 +307,11 @@ fn reason_of_count(rt: &HostRuntime, name: &str) -> Option<Reason> {
     Some(Reason::Count(there, header.taken))
 }
 
-/// What the header of an archive says.
-#[derive(Clone, Copy)]
-struct ArchiveHeader {
-    pages: u32,
-    id: u32,
-    parent: u32,
-    redo: u64,
-    taken: u32,
-}
-
 fn archive_at(rt: &HostRuntime, name: &str) -> Option<ArchiveHeader> {
     if !is_regular(rt, name) {
         return None;
     }
-    let bytes = bytes_at(rt, name, 0)?;
-    Some(ArchiveHeader {
-        pages: u32_at(&bytes, 8),
-        id: u32_at(&bytes, 12),
-        parent: u32_at(&bytes, 20),
-        redo: u64_at(&bytes, 32),
-        taken: u32_at(&bytes, 40),
-    })
+    Some(archive_header(&bytes_at(rt, name, 0)?))
 }
 
 /// How many bytes a file has.

@@ -1,6 +1,6 @@
 //! Audits of chains whose numbers were changed.
 
-use crate::bytes::{FULL, Head, archive, log, next};
+use crate::bytes::{FORMATS, FULL, Head, archive, log, name_format, next};
 use copy_audit::{Sound, Unsound, audit};
 use copy_vault::CopyId;
 use page_core::PageNo;
@@ -9,16 +9,21 @@ use std::process::Abort;
 use std::test::Fail;
 
 /// What an audit says of the archives of these headers, for a log over so many pages. Page 0 has
-/// this LSN and this number in slot 0 in each archive that took it.
+/// this LSN and this number in slot 0 in each archive that took it. These characters name the
+/// format of the log and that of the archives.
 fn audited(
     alloc: Global,
     pages: u64,
     members: &[(Head, u64, u64)],
+    (of_log, of_archives): (u8, u8),
 ) -> Result<Result<Sound, Unsound>, Fail> {
-    let whole = log(alloc, pages)?;
+    let mut whole = log(alloc, pages)?;
+    name_format(&mut whole, of_log);
     let mut archives = Vec::new(alloc);
     for (head, lsn, slot) in members {
-        archives.push(archive(alloc, *head, *lsn, *slot)?)?;
+        let mut bytes = archive(alloc, *head, *lsn, *slot)?;
+        name_format(&mut bytes, of_archives);
+        archives.push(bytes)?;
     }
     let mut readers = Vec::new(alloc);
     for bytes in &archives {
@@ -30,15 +35,18 @@ fn audited(
     Ok(found)
 }
 
-/// Asserts what an audit says of these members, for a log of one page.
+/// Asserts what an audit says of these members, for a log of one page, where all files are of one
+/// format.
 fn assert_audit(
     rt: &impl Abort,
     alloc: Global,
     members: &[(Head, u64, u64)],
     wanted: Result<Sound, Unsound>,
 ) -> Result<(), Fail> {
-    let found = audited(alloc, 1, members)?;
-    assert_eq!(rt; found, wanted);
+    for format in &FORMATS {
+        let found = audited(alloc, 1, members, (*format, *format))?;
+        assert_eq!(rt; found, wanted, "{format}");
+    }
     Ok(())
 }
 
@@ -95,10 +103,32 @@ fn a_full_copy_reaches_past_the_log(rt: HostRuntime) -> Result<(), Fail> {
 #[test]
 fn a_log_of_another_volume_is_refused(rt: HostRuntime) -> Result<(), Fail> {
     let alloc = rt.alloc();
-    let found = audited(alloc, 2, &[(FULL, 0, 0)])?;
-    assert_eq!(rt; found, broken(1));
-    let found = audited(alloc, 0, &[(FULL, 0, 0)])?;
-    assert_eq!(rt; found, Err(Unsound::BadHeader));
+    for format in &FORMATS {
+        let found = audited(alloc, 2, &[(FULL, 0, 0)], (*format, *format))?;
+        assert_eq!(rt; found, broken(1), "{format}");
+        let found = audited(alloc, 0, &[(FULL, 0, 0)], (*format, *format))?;
+        assert_eq!(rt; found, Err(Unsound::BadHeader), "{format}");
+    }
+    Ok(())
+}
+
+#[test]
+fn a_log_and_its_archives_may_have_different_formats(rt: HostRuntime) -> Result<(), Fail> {
+    for formats in [(b'1', b'2'), (b'2', b'1')] {
+        let found = audited(rt.alloc(), 1, &[(FULL, 128, 5)], formats)?;
+        assert_eq!(rt; found, Ok(Sound), "{formats:?}");
+    }
+    Ok(())
+}
+
+#[test]
+fn a_format_that_there_is_not_is_refused(rt: HostRuntime) -> Result<(), Fail> {
+    for none in [b'0', b'3'] {
+        let found = audited(rt.alloc(), 1, &[(FULL, 0, 0)], (none, b'2'))?;
+        assert_eq!(rt; found, Err(Unsound::BadHeader), "{none}");
+        let found = audited(rt.alloc(), 1, &[(FULL, 0, 0)], (b'2', none))?;
+        assert_eq!(rt; found, Err(Unsound::BadArchive(0)), "{none}");
+    }
     Ok(())
 }
 

@@ -12,11 +12,21 @@ pub(crate) fn bytes_of(alloc: Global, words: &[u64]) -> Result<Vec<u8>, Fail> {
     Ok(bytes)
 }
 
-/// `AIMGLOG1`, and a page count behind it.
-pub(crate) const LOG: u64 = 0x31_47_4f_4c_47_4d_49_41;
+/// `AIMGLOG2`, and a page count behind it.
+pub(crate) const LOG: u64 = 0x32_47_4f_4c_47_4d_49_41;
 
-/// `AIMGARC1`.
-pub(crate) const ARCHIVE: u64 = 0x31_43_52_41_47_4d_49_41;
+/// `AIMGARC2`.
+pub(crate) const ARCHIVE: u64 = 0x32_43_52_41_47_4d_49_41;
+
+/// Has a log or an archive say that it is of another format, by the character that names it.
+pub(crate) fn name_format(file: &mut [u8], character: u8) {
+    if let Some(place) = file.get_mut(7) {
+        *place = character;
+    }
+}
+
+/// The characters of the two formats.
+pub(crate) const FORMATS: [u8; 2] = [b'1', b'2'];
 
 /// A number at byte 4 of its eight.
 pub(crate) const HIGH: u64 = 0x1_0000_0000;

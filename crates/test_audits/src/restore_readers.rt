@@ -1,6 +1,7 @@
 //! Restores from files through readers that are slow, are interrupted, or fail, and to writers that
 //! fail.
 
+use crate::bytes::name_format;
 use crate::four_pages::{
     Inputs, OF_FULL, OF_LOG, OF_MASTER, OF_SECOND, OF_THIRD, files, only, restored, slices, volume,
 };
@@ -38,6 +39,20 @@ fn bytes_come_in_steps(rt: HostRuntime) -> Result<(), Fail> {
         let troubles = [Trouble::Nothing; 5];
         assert_whole(&rt, &inputs, *step, &troubles, whole.as_slice());
     }
+    Ok(())
+}
+
+/// The log and the archives say that they are of the first format, and the master record has but
+/// one.
+#[test]
+fn files_of_the_first_format_restore_the_same(rt: HostRuntime) -> Result<(), Fail> {
+    let mut made = files(rt.alloc())?;
+    for file in [OF_LOG, OF_FULL, OF_SECOND, OF_THIRD] {
+        name_format(&mut made[file], b'1');
+    }
+    let whole = volume(rt.alloc())?;
+    let troubles = [Trouble::Nothing; 5];
+    assert_whole(&rt, &slices(&made), 64, &troubles, whole.as_slice());
     Ok(())
 }
 

@@ -8,9 +8,15 @@ use std::io::Write;
 use std::process::Abort;
 use std::thread::Threads;
 
+// The header of a log of one page, also in the first format, and in one that there is not.
+const HEADER: &str = "41494d474c4f4732 0100000000000000 0 0 0 0 0 0";
+
+const FIRST_HEADER: &str = "41494d474c4f4731 0100000000000000 0 0 0 0 0 0";
+
+const LATER_HEADER: &str = "41494d474c4f4733 0100000000000000 0 0 0 0 0 0";
+
 // A transaction sets slot 0 of the one page to 5, and a checkpoint is made.
-const CHANGED: &str = "41494d474c4f4731 0100000000000000 0 0 0 0 0 0 \
-     0100000001000000 0 0 0 0 0 0 4000000000000000 \
+const CHANGED: &str = "0100000001000000 0 0 0 0 0 0 4000000000000000 \
      0200000001000000 4000000000000000 0 0000000000000100 0 0500000000000000 0 8000000000000000 \
      0700000000000000 0 0 0 0 0 0 c000000000000000 \
      0800000000000000 c000000000000000 0100000000000000 8000000000000000 0 0 0 0001000000000000 \
@@ -20,11 +26,15 @@ const CHANGED: &str = "41494d474c4f4731 0100000000000000 0 0 0 0 0 0 \
 
 const COMMIT: &str = "0400000001000000 8000000000000000 0 0 0 0 0 c001000000000000";
 
-const COMMITTED_LOG: Groups = Groups(&[CHANGED, COMMIT], 512);
+const COMMITTED_LOG: Groups = Groups(&[HEADER, CHANGED, COMMIT], 512);
 
-const OPEN_LOG: Groups = Groups(&[CHANGED], 448);
+const OPEN_LOG: Groups = Groups(&[HEADER, CHANGED], 448);
 
-const TORN_LOG: Groups = Groups(&[CHANGED, COMMIT], 500);
+const TORN_LOG: Groups = Groups(&[HEADER, CHANGED, COMMIT], 500);
+
+const FIRST_LOG: Groups = Groups(&[FIRST_HEADER, CHANGED, COMMIT], 512);
+
+const LATER_LOG: Groups = Groups(&[LATER_HEADER, CHANGED, COMMIT], 512);
 
 const MASTER_BYTES: &str = "41494d474d535431 c000000000000000 8001000000000000";
 
@@ -35,19 +45,24 @@ const SHORT_MASTER: Groups = Groups(&[MASTER_BYTES], 63);
 // No checkpoint of the log begins at 128.
 const OTHER_MASTER: Groups = Groups(&["41494d474d535431 8000000000000000 8001000000000000"], 64);
 
+const ARCHIVE: &str = "41494d4741524332";
+
 // A full copy of one page that took the formatted one: redo begins at 128.
-const COPY_BYTES: &str =
-    "41494d4741524331 0100000001000000 0100000000000000 c000000000000000 8000000000000000 \
+const COPY_BYTES: &str = "0100000001000000 0100000000000000 c000000000000000 8000000000000000 \
      0100000000000000 0 0 0000000001000000";
 
-const COPY: Groups = Groups(&[COPY_BYTES], 576);
+const COPY: Groups = Groups(&[ARCHIVE, COPY_BYTES], 576);
 
-const CUT_COPY: Groups = Groups(&[COPY_BYTES], 574);
+const CUT_COPY: Groups = Groups(&[ARCHIVE, COPY_BYTES], 574);
+
+const FIRST_COPY: Groups = Groups(&["41494d4741524331", COPY_BYTES], 576);
+
+const LATER_COPY: Groups = Groups(&["41494d4741524333", COPY_BYTES], 576);
 
 // The same, where redo begins at 192, which is too late.
 const LATE_COPY: Groups = Groups(
     &[
-        "41494d4741524331 0100000001000000 0100000000000000 c000000000000000 c000000000000000 \
+        "41494d4741524332 0100000001000000 0100000000000000 c000000000000000 c000000000000000 \
        0100000000000000 0 0 0000000001000000",
     ],
     576,
@@ -55,26 +70,26 @@ const LATE_COPY: Groups = Groups(
 
 // An incremental copy on copy 1, which took no page.
 const NEXT_COPY: Groups = Groups(
-    &["41494d4741524331 0100000002000000 0200000001000000 c000000000000000 8000000000000000"],
+    &["41494d4741524332 0100000002000000 0200000001000000 c000000000000000 8000000000000000"],
     64,
 );
 
 // A full copy of the same page, with a redo point at the log's end, and with an LSN there.
 const COPY_PAST_LOG: Groups = Groups(
     &[
-        "41494d4741524331 0100000001000000 0100000000000000 0002000000000000 0002000000000000 \
+        "41494d4741524332 0100000001000000 0100000000000000 0002000000000000 0002000000000000 \
        0100000000000000 0 0 0000000001000000",
     ],
     576,
 );
 
-const PAGE_PAST_LOG: Groups = Groups(&[COPY_BYTES, "0002000000000000"], 577);
+const PAGE_PAST_LOG: Groups = Groups(&[ARCHIVE, COPY_BYTES, "0002000000000000"], 577);
 
 // A page of two was changed between two checkpoints, and copied whole after the first one and as an
 // increment after the second.
 const CHANGED_BETWEEN: Groups = Groups(
     &[
-        "41494d474c4f4731 0200000000000000 0 0 0 0 0 0 \
+        "41494d474c4f4732 0200000000000000 0 0 0 0 0 0 \
      0700000000000000 0 0 0 0 0 0 4000000000000000 \
      0a00000000000000 4000000000000000 0 4000000000000000 0 0 0 8000000000000000 \
      0100000001000000 0 0 0 0 0 0 c000000000000000 \
@@ -92,7 +107,7 @@ const ZEROS_OF_A_PAGE: &str = "0 0 0 0 0 0 0 0 0 0 0 0 0 0 0 0 0 0 0 0 0 0 0 0 0
      0 0 0 0 0 0 0 0 0 0 0 0 0 0 0 0 0 0 0 0 0 0 0 0 0 0 0 0 0 0 0";
 
 const BOTH_PAGES: [&str; 4] = [
-    "41494d4741524331 0200000001000000 0100000000000000 4000000000000000 4000000000000000 \
+    "41494d4741524332 0200000001000000 0100000000000000 4000000000000000 4000000000000000 \
      0200000000000000 0 0",
     "0000000001000000",
     ZEROS_OF_A_PAGE,
@@ -106,7 +121,7 @@ const CUT_IN_ITS_SECOND_PAGE: Groups = Groups(&BOTH_PAGES, 1_000);
 const CHANGED_PAGE: &str = "0100000001000000 0001000000000000 0900000000000000";
 
 const INCREMENT: [&str; 2] = [
-    "41494d4741524331 0200000002000000 0200000001000000 8001000000000000 8001000000000000 \
+    "41494d4741524332 0200000002000000 0200000001000000 8001000000000000 8001000000000000 \
      0100000000000000 0 0",
     CHANGED_PAGE,
 ];
@@ -192,6 +207,28 @@ static RESTORED: [Restored; 4] = [
 #[test]
 fn a_page_is_restored(rt: HostRuntime) {
     assert_each(&rt, &RESTORED);
+}
+
+/// The log and the archives may be of the first format, each by itself.
+static FIRST_FORMAT: [Restored; 5] = [
+    ((FIRST_LOG, MASTER, &[FIRST_COPY]), "", FIVE_AT_128),
+    ((FIRST_LOG, MASTER, &[COPY]), "", FIVE_AT_128),
+    (
+        (COMMITTED_LOG, MASTER, &[FIRST_COPY, NEXT_COPY]),
+        "",
+        FIVE_AT_128,
+    ),
+    ((LATER_LOG, MASTER, &[COPY]), "E30 BadHeader", EMPTY),
+    (
+        (FIRST_LOG, MASTER, &[LATER_COPY]),
+        "E36 BadArchive 0",
+        EMPTY,
+    ),
+];
+
+#[test]
+fn files_of_the_first_format_are_restored(rt: HostRuntime) {
+    assert_each(&rt, &FIRST_FORMAT);
 }
 
 static ON_A_LATE_COPY: [Restored; 1] = [(

@@ -9,7 +9,14 @@ use std::io::{ErrorKind, Read, Write};
 use std::process::Abort;
 use volume_redo::{Fault, redo_stream};
 
-const ONE_PAGE: &str = "41494d474c4f4731 0100000000000000 0 0 0 0 0 0";
+const ONE_PAGE: &str = "41494d474c4f4732 0100000000000000 0 0 0 0 0 0";
+
+/// The same in the first format, and in two that there are not.
+const FIRST_FORMAT: &str = "41494d474c4f4731 0100000000000000 0 0 0 0 0 0";
+
+const NO_FORMAT: &str = "41494d474c4f4730 0100000000000000 0 0 0 0 0 0";
+
+const LATER_FORMAT: &str = "41494d474c4f4733 0100000000000000 0 0 0 0 0 0";
 
 const BEGIN: &str = "0100000001000000 0 0 0 0 0 0 4000000000000000";
 
@@ -33,11 +40,23 @@ const SET_SEVEN_SPOILED: &str =
 const SET_IN_PAGE_ONE: &str =
     "0200000001000000 4000000000000000 0 0100000003000100 0 0700000000000000 0 8000000000000000";
 
-const TWO_PAGES: Groups = Groups(&["41494d474c4f4731 0200000000000000"], 64);
+const TWO_PAGES: Groups = Groups(&["41494d474c4f4732 0200000000000000"], 64);
 
 const FOUR_PARTS: &[&str] = &[ONE_PAGE, BEGIN, SET_SEVEN, ADD_FIVE, COMMIT];
 
 const FOUR_RECORDS: Groups = Groups(FOUR_PARTS, 320);
+
+const FOUR_OF_THE_FIRST_FORMAT: Groups = Groups(
+    &[FIRST_FORMAT, BEGIN, SET_SEVEN, ADD_FIVE, COMMIT],
+    320,
+);
+
+const FOUR_OF_NO_FORMAT: Groups = Groups(&[NO_FORMAT, BEGIN, SET_SEVEN, ADD_FIVE, COMMIT], 320);
+
+const FOUR_OF_A_LATER_FORMAT: Groups = Groups(
+    &[LATER_FORMAT, BEGIN, SET_SEVEN, ADD_FIVE, COMMIT],
+    320,
+);
 
 /// What the four records make.
 const VOLUME: Groups = Groups(
@@ -87,6 +106,11 @@ fn writes_the_volume_of_four_records(rt: HostRuntime) {
 }
 
 #[test]
+fn writes_the_volume_of_a_log_of_the_first_format(rt: HostRuntime) {
+    assert_volume(&rt, FOUR_OF_THE_FIRST_FORMAT, VOLUME);
+}
+
+#[test]
 fn writes_the_volume_of_a_sum_that_wraps(rt: HostRuntime) {
     assert_volume(&rt, SUM_WRAPS, VOLUME_OF_A_SUM);
 }
@@ -112,6 +136,12 @@ fn writes_nothing_of_a_cut_log(rt: HostRuntime) {
 #[test]
 fn writes_nothing_of_no_bytes(rt: HostRuntime) {
     assert_no_log(&rt, NO_BYTES, "E30 BadHeader");
+}
+
+#[test]
+fn writes_nothing_of_a_format_that_there_is_not(rt: HostRuntime) {
+    assert_no_log(&rt, FOUR_OF_NO_FORMAT, "E30 BadHeader");
+    assert_no_log(&rt, FOUR_OF_A_LATER_FORMAT, "E30 BadHeader");
 }
 
 #[test]
@@ -402,7 +432,7 @@ static WIDE: [Written; 3] = [
 /// To a writer that takes all of them or fails within the last one.
 #[test]
 fn writes_many_pages(rt: HostRuntime) {
-    let log = Groups(&["41494d474c4f4731 0102000000000000"], 64);
+    let log = Groups(&["41494d474c4f4732 0102000000000000"], 64);
     let volume = formatted_volume(&rt);
     assert_written(&rt, log, &volume, &WIDE);
 }

@@ -14,15 +14,15 @@ use std::test::Fail;
 
 // The parts of archives in groups of eight bytes, in hexadecimal. `0` is eight zero bytes.
 const OF_ONE_PAGE: &str =
-    "41494d4741524331 0100000001000000 0100000000000000 c000000000000000 8000000000000000 \
+    "41494d4741524332 0100000001000000 0100000000000000 c000000000000000 8000000000000000 \
      0100000000000000 0 0";
 
 const OF_TWO_PAGES: &str =
-    "41494d4741524331 0200000001000000 0100000000000000 4000000000000000 4000000000000000 \
+    "41494d4741524332 0200000001000000 0100000000000000 4000000000000000 4000000000000000 \
      0200000000000000 0 0";
 
 const OF_A_KEPT_PAGE: &str =
-    "41494d4741524331 0100000003000000 0200000002000000 8001000000000000 8001000000000000 0 0 0";
+    "41494d4741524332 0100000003000000 0200000002000000 8001000000000000 8001000000000000 0 0 0";
 
 /// An archive with this header, and so many formatted pages behind it.
 fn archive_with(alloc: Global, header: &str, pages: u32) -> Result<Vec<u8>, Fail> {
@@ -191,8 +191,15 @@ fn an_archive_is_read_and_written_again(rt: HostRuntime) -> Result<(), Fail> {
     Ok(())
 }
 
-/// Asserts what a copy is whose archive has this header and so many formatted pages, and that it is
-/// written as it was read.
+/// Puts another byte into an archive.
+pub(crate) fn put(archive: &mut [u8], at: usize, byte: u8) {
+    if let Some(place) = archive.get_mut(at) {
+        *place = byte;
+    }
+}
+
+/// Asserts what a copy is whose archive has this header and so many formatted pages, in either
+/// format, and that it is written in the second one.
 fn assert_archive(
     rt: &impl Abort,
     alloc: Global,
@@ -201,13 +208,17 @@ fn assert_archive(
     (id, begin, redo): (CopyId, Lsn, Lsn),
 ) -> Result<(), Fail> {
     let archive = archive_with(alloc, header, pages)?;
-    let copy = read_archive(alloc, &mut archive.as_slice())?;
-    let given = (copy.id(), copy.begin(), copy.redo(), copy.taken());
-    same(rt, &given, &(id, begin, redo, pages));
-    same(rt, &copy.kind(), &kind);
-    let again = written(alloc, &copy);
-    drop(copy);
-    same(rt, &again?, &archive);
+    for format in [b'1', b'2'] {
+        let mut bytes = archive_with(alloc, header, pages)?;
+        put(&mut bytes, 7, format);
+        let copy = read_archive(alloc, &mut bytes.as_slice())?;
+        let given = (copy.id(), copy.begin(), copy.redo(), copy.taken());
+        same_at(rt, &given, &(id, begin, redo, pages), &format);
+        same_at(rt, &copy.kind(), &kind, &format);
+        let again = written(alloc, &copy);
+        drop(copy);
+        same_at(rt, &again?, &archive, &format);
+    }
     Ok(())
 }
 
@@ -276,8 +287,11 @@ fn a_cut_archive_is_refused(rt: HostRuntime) -> Result<(), Fail> {
 fn a_spoiled_archive_is_refused(rt: HostRuntime) -> Result<(), Fail> {
     let alloc = rt.alloc();
     for (at, byte, wanted) in [
-        // The text in front, a spare byte, a parent of a full copy, a redo point past the begin.
+        // The text in front, two formats that there are not, a spare byte, a parent of a full copy,
+        // a redo point past the begin.
         (0, 0x42, ArchiveFault::BadArchive(0)),
+        (7, b'0', ArchiveFault::BadArchive(0)),
+        (7, b'3', ArchiveFault::BadArchive(0)),
         (63, 1, ArchiveFault::BadArchive(0)),
         (20, 1, ArchiveFault::BadArchive(0)),
         (32, 0x80, ArchiveFault::BadArchive(0)),
@@ -287,9 +301,7 @@ fn a_spoiled_archive_is_refused(rt: HostRuntime) -> Result<(), Fail> {
         (576, 2, ArchiveFault::BadArchive(576)),
     ] {
         let mut archive = archive_with(alloc, OF_TWO_PAGES, 2)?;
-        if let Some(place) = archive.get_mut(at) {
-            *place = byte;
-        }
+        put(&mut archive, at, byte);
         same_at(
             &rt,
             &fault_of(alloc, &archive),

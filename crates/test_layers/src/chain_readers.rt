@@ -1,5 +1,6 @@
 //! The archives of a chain, read side by side.
 
+use crate::archives::put;
 use crate::asserts::same;
 use copy_vault::{ChainReadFault, ChainReader, CopyId, read_chain_pages};
 use page_core::{GivenCount, Lsn, Page, PageCounts, PageNo};
@@ -19,7 +20,7 @@ pub(crate) fn archive(
 ) -> Result<Vec<u8>, Fail> {
     let kind = if parent == 0 { 1u32 } else { 2u32 };
     let mut bytes = Vec::new(alloc);
-    bytes.extend_from_slice(b"AIMGARC1")?;
+    bytes.extend_from_slice(b"AIMGARC2")?;
     for number in [count, id, kind, parent] {
         bytes.extend_from_slice(&number.to_le_bytes())?;
     }
@@ -112,6 +113,25 @@ fn a_page_is_that_of_the_last_copy(rt: HostRuntime) -> Result<(), Fail> {
     let wanted = [(0, 64), (1, 128), (2, 256), (3, 256)];
     same(&rt, &given.as_slice(), &wanted.as_slice());
     same(&rt, &fault, &None);
+    Ok(())
+}
+
+#[test]
+fn archives_of_a_chain_may_have_different_formats(rt: HostRuntime) -> Result<(), Fail> {
+    let alloc = rt.alloc();
+    for (first, second, wanted) in [
+        (b'1', b'1', None),
+        (b'1', b'2', None),
+        (b'2', b'1', None),
+        (b'3', b'2', Some(ChainReadFault::BadArchive(0))),
+        (b'2', b'0', Some(ChainReadFault::BadArchive(0))),
+    ] {
+        let mut full = archive(alloc, (1, 0), (2, 64), &[(0, 0), (1, 0)])?;
+        let mut next = archive(alloc, (2, 1), (2, 384), &[(1, 256)])?;
+        put(&mut full, 7, first);
+        put(&mut next, 7, second);
+        assert_fault(&rt, alloc, &full, &next, wanted)?;
+    }
     Ok(())
 }
 

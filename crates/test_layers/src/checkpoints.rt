@@ -201,6 +201,8 @@ fn logs_with_a_checkpoint_are_read(rt: HostRuntime) -> Result<(), Fail> {
     let alloc = rt.alloc();
     for (offset, byte, fault) in [
         (0, b'A', None),
+        (7, b'0', Some(LogReadFault::BadHeader)),
+        (7, b'3', Some(LogReadFault::BadHeader)),
         (280, 64, Some(LogReadFault::BadChain(Lsn(256)))),
         (344, 2, Some(LogReadFault::BadChain(Lsn(320)))),
         (408, 192, Some(LogReadFault::BadChain(Lsn(384)))),
@@ -218,6 +220,21 @@ fn logs_with_a_checkpoint_are_read(rt: HostRuntime) -> Result<(), Fail> {
         let bytes = log_with(alloc, &records(), (offset, byte))?;
         let found = read_log(alloc, &mut bytes.as_slice()).err();
         same_at(&rt, &found, &fault, &format_args!("{byte} at {offset}"));
+    }
+    Ok(())
+}
+
+/// Behind the header of either format the same records are read.
+#[test]
+fn a_log_with_a_checkpoint_is_read_in_either_format(rt: HostRuntime) -> Result<(), Fail> {
+    let alloc = rt.alloc();
+    for format in [b'1', b'2'] {
+        let bytes = log_with(alloc, &records(), (7, format))?;
+        let log = read_log(alloc, &mut bytes.as_slice())?;
+        let pages = log.pages();
+        same_at(&rt, &log.records(), &records().as_slice(), &format);
+        drop(log);
+        same_at(&rt, &pages, &1, &format);
     }
     Ok(())
 }

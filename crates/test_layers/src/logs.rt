@@ -14,7 +14,10 @@ use std::io;
 use std::io::Read;
 use std::process::Abort;
 use std::test::Fail;
-use vectors::{Case, bytes_of, cases, header_of_2_pages, log_of, records, spellings};
+use vectors::{
+    Case, FIRST_FORMAT, SECOND_FORMAT, bytes_of, cases, header_of_2_pages, log_of, records,
+    spellings,
+};
 
 #[test]
 fn records_have_their_bytes(rt: HostRuntime) {
@@ -130,28 +133,42 @@ fn read_known<R: Read>(
     Ok((pages, count))
 }
 
+/// Asserts what is read of a log in this format.
+fn assert_case(rt: &impl Abort, alloc: Global, case: &Case, format: u64) -> Result<(), Fail> {
+    let bytes = log_of(alloc, case, format)?;
+    let Case { name, want, .. } = *case;
+    let mut whole = bytes.as_slice();
+    same_at(rt, &read_known(rt, alloc, &mut whole), &want, &name);
+    let mut slow = Steps::new(&bytes, 1);
+    same_at(
+        rt,
+        &read_known(rt, alloc, &mut slow),
+        &want,
+        &format_args!("{name}, a byte at a time"),
+    );
+    let mut interrupted = Steps::new(&bytes, 50).interrupted();
+    same_at(
+        rt,
+        &read_known(rt, alloc, &mut interrupted),
+        &want,
+        &format_args!("{name}, interrupted"),
+    );
+    Ok(())
+}
+
 #[test]
 fn logs_are_read(rt: HostRuntime) -> Result<(), Fail> {
-    let alloc = rt.alloc();
     for case in &cases() {
-        let bytes = log_of(alloc, case)?;
-        let Case { name, want, .. } = *case;
-        let mut whole = bytes.as_slice();
-        same_at(&rt, &read_known(&rt, alloc, &mut whole), &want, &name);
-        let mut slow = Steps::new(&bytes, 1);
-        same_at(
-            &rt,
-            &read_known(&rt, alloc, &mut slow),
-            &want,
-            &format_args!("{name}, a byte at a time"),
-        );
-        let mut interrupted = Steps::new(&bytes, 50).interrupted();
-        same_at(
-            &rt,
-            &read_known(&rt, alloc, &mut interrupted),
-            &want,
-            &format_args!("{name}, interrupted"),
-        );
+        assert_case(&rt, rt.alloc(), case, SECOND_FORMAT)?;
+    }
+    Ok(())
+}
+
+/// They are what the same records are behind a header of the second format.
+#[test]
+fn logs_of_the_first_format_are_read(rt: HostRuntime) -> Result<(), Fail> {
+    for case in &cases() {
+        assert_case(&rt, rt.alloc(), case, FIRST_FORMAT)?;
     }
     Ok(())
 }
@@ -161,7 +178,7 @@ fn logs_are_read(rt: HostRuntime) -> Result<(), Fail> {
 fn a_reader_fails(rt: HostRuntime) -> Result<(), Fail> {
     let alloc = rt.alloc();
     for case in &cases() {
-        let bytes = log_of(alloc, case)?;
+        let bytes = log_of(alloc, case, SECOND_FORMAT)?;
         let Case {
             name,
             known_from,

@@ -5,7 +5,11 @@ use log_store::LogReadFault;
 use page_core::{Change, Lsn, PageNo, SlotNo, TxnNo};
 use std::alloc::{AllocError, Global};
 
-const MAGIC: u64 = 0x4149_4d47_4c4f_4731;
+/// `AIMGLOG1`.
+pub(crate) const FIRST_FORMAT: u64 = 0x4149_4d47_4c4f_4731;
+
+/// `AIMGLOG2`, which is written.
+pub(crate) const SECOND_FORMAT: u64 = 0x4149_4d47_4c4f_4732;
 
 /// The page count of a header, as the eight bytes behind its magic.
 const NO_PAGES: u64 = 0;
@@ -98,11 +102,11 @@ pub(crate) fn spellings() -> [[u64; 8]; 4] {
 }
 
 pub(crate) fn header_of_2_pages() -> [u64; 8] {
-    header_of(TWO_PAGES)
+    header_of(SECOND_FORMAT, TWO_PAGES)
 }
 
-fn header_of(pages: u64) -> [u64; 8] {
-    [MAGIC, pages, 0, 0, 0, 0, 0, 0]
+fn header_of(format: u64, pages: u64) -> [u64; 8] {
+    [format, pages, 0, 0, 0, 0, 0, 0]
 }
 
 pub(crate) fn bytes_of(spelling: &[u64; 8]) -> [u8; 64] {
@@ -128,9 +132,10 @@ pub struct Case {
     pub want: Result<(u32, usize), LogReadFault>,
 }
 
-pub(crate) fn log_of(alloc: Global, case: &Case) -> Result<Vec<u8>, AllocError> {
+/// The bytes of a log in this format.
+pub(crate) fn log_of(alloc: Global, case: &Case, format: u64) -> Result<Vec<u8>, AllocError> {
     let mut bytes = Vec::new(alloc);
-    bytes.extend_from_slice(&bytes_of(&header_of(case.pages)))?;
+    bytes.extend_from_slice(&bytes_of(&header_of(format, case.pages)))?;
     let spellings = spellings();
     for index in case.indexes {
         if let Some(spelling) = spellings.get(*index) {
@@ -146,7 +151,7 @@ pub(crate) fn log_of(alloc: Global, case: &Case) -> Result<Vec<u8>, AllocError> 
     Ok(bytes)
 }
 
-pub(crate) fn cases() -> [Case; 16] {
+pub(crate) fn cases() -> [Case; 18] {
     [
         Case {
             name: "four records",
@@ -260,7 +265,25 @@ pub(crate) fn cases() -> [Case; 16] {
             name: "another magic",
             pages: ONE_PAGE,
             indexes: &[0, 1, 2, 3],
-            other: Some((7, 50)),
+            other: Some((6, 0x67)),
+            length: 320,
+            known_from: Some(64),
+            want: Err(LogReadFault::BadHeader),
+        },
+        Case {
+            name: "no format",
+            pages: ONE_PAGE,
+            indexes: &[0, 1, 2, 3],
+            other: Some((7, b'0')),
+            length: 320,
+            known_from: Some(64),
+            want: Err(LogReadFault::BadHeader),
+        },
+        Case {
+            name: "a later format",
+            pages: ONE_PAGE,
+            indexes: &[0, 1, 2, 3],
+            other: Some((7, b'3')),
             length: 320,
             known_from: Some(64),
             want: Err(LogReadFault::BadHeader),
