@@ -10,6 +10,12 @@ use Rattle.log_records.specs.Image.{with_record}
 use Rattle.log_records.specs.Log.{IsLog, Log, with_next}
 use Rattle.log_records.specs.Record.{change_of}
 use Rattle.log_history.proofs.AtEnd.{valid_next}
+use Rattle.log_records.proofs.GivenNone.{transaction_gives_none}
+use Rattle.log_records.proofs.PageCounts.{more-none}
+use Rattle.log_records.specs.Record.{IsOfTransaction}
+use Rattle.log_history.specs.Checkpoint.{Checkpoint, open_checkpoint}
+use Rattle.aries_core.specs.Gather.{Left}
+use Rattle.aries_core.proofs.GatherSteps.{begun_before, session_same}
 use Rattle.log_history.specs.Table.{Table, table_of}
 use Rattle.log_store.specs.WrittenLog.{WrittenLog}
 use Rattle.fuzzy_ckpt.proofs.Opens.{open_same}
@@ -25,7 +31,22 @@ use Rattle.aries_core.proofs.PageComes.{fetched_fit, page_comes}
 
 -- the log with it
 pub valid_with : (s : EngineState) (r : Record) → IsFit s → Comes s r → IsLog (with_next (log_of s) (r ∷ []))
-valid_with s r fit come = valid_next (log_of s) r fit.valid (comes_few s r come) come.stands_at
+valid_with s r fit come =
+    valid_next (log_of s) r fit.valid (comes_few s r come) come.stands_at
+    (more-none _ r (transaction_gives_none r come.of_transaction))
+
+-- the session of the open checkpoint stays
+session_later : (s : EngineState) (r : Record) (left : Left) → IsFit s → IsOfTransaction r
+    → option_map (session_of (with_next (log_of s) (r ∷ [])) left) (open_checkpoint (s.log ++ r ∷ []))
+    ≡ option_map (session_of (log_of s) left) (open_checkpoint s.log)
+session_later s r left fit of =
+    ap (option_map (session_of (with_next (log_of s) (r ∷ [])) left)) (open_same s.log r of)
+    ∙ by_open (open_checkpoint s.log) refl
+  where
+    by_open : (o : Option Checkpoint) → open_checkpoint s.log ≡ o
+        → option_map (session_of (with_next (log_of s) (r ∷ [])) left) o ≡ option_map (session_of (log_of s) left) o
+    by_open None is = refl
+    by_open (Some c) is = ap Some (session_same (log_of s) r left c (begun_before s c fit is))
 
 -- the engine after it
 pub kept_next : {S : Type 0} (stored : S → List Page) (s : EngineState) (old new : Table) (pool after : PoolView S)
@@ -40,7 +61,7 @@ kept_next stored s old new pool after ckpts returns r kept come there noted chan
       table_of_log = record { linked = fit.linked; few = fit.valid.count; made = noted };
       pool_of_log = changed;
       session_of_log = kept.session_of_log
-          ∙ ap (option_map (session_of s.left)) (sym (open_same s.log r come.of_transaction));
+          ∙ sym (session_later s r s.left kept.fit come.of_transaction);
       returns_of_log = back;
     }
 

@@ -8,7 +8,6 @@ use Rattle.std.proofs.lemmas.List.Elements.{All-weaker}
 use Rattle.buffer_pool.specs.Pool.{IsPoolOf, PoolView, state_at, with_state, write_begun, write_ended, writing_of}
 use Rattle.log_records.specs.Image.{image}
 use Rattle.log_history.specs.Table.{Table}
-use Rattle.log_records.specs.Log.{Log}
 use Rattle.log_records.specs.Log.{page_count}
 use Rattle.log_store.specs.WrittenLog.{EndsAtRecord, WrittenLog, end_up_to}
 use Rattle.aries_core.specs.declared.event.Answer.{Answer}
@@ -83,7 +82,7 @@ force_kept stored it new table pool ckpts kept same no_less ends =
           images = λ p. image_below (get_or (writing_of pool.states) p None) (fit.stable.images p);
         };
         gathered = rw same fit.gathered;
-        master = rw same (master_forced it.log.records (stored pool.store) it.forced_end
+        master = rw same (master_forced it.log (stored pool.store) it.forced_end
             new.forced_end ckpts.master no_less
             fit.master);
         copied = rw same (copied_forced it.log it.forced_end new.forced_end

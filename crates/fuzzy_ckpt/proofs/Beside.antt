@@ -5,7 +5,7 @@ use Rattle.std.proofs.lemmas.List.{length_push}
 use Rattle.page_core.specs.declared.page.Page.{Page}
 use Rattle.log_records.specs.declared.limits.TheConstants.{MAX_RECORDS}
 use Rattle.log_records.specs.declared.record.Record.{Record}
-use Rattle.log_records.specs.declared.record.Record.TheVariants.{BeginChkpt, ChkptPages, ChkptTxns, EndChkpt, Extend}
+use Rattle.log_records.specs.declared.record.Record.TheVariants.{BeginChkpt, ChkptPages, ChkptTxns, EndChkpt}
 use Rattle.log_records.specs.Log.{IsLog, Log, with_next}
 use Rattle.log_records.specs.Record.{IsOfCheckpoint, change_of}
 use Rattle.log_records.proofs.GivenNone.{checkpoint_gives_none}
