@@ -1,10 +1,11 @@
 -- An engine whose log, table and pool are in step, and the record of an accepted call.
-use Rattle.std.proofs.Common.{◌≡◌, ◌<◌, ℕ, ◌++◌, ◌∷◌, [], List, map, refl, sym, ap, subst, ◌∙◌}
+use Rattle.std.proofs.Common.{◌≡◌, ◌<◌, length, ℕ, ◌++◌, ◌∷◌, [], List, map, refl, sym, ap, subst, ◌∙◌}
 use Rattle.std.specs.Prelude.{IfSome, None, Option, Some}
 use Rattle.std.specs.Option.{option_map}
 use Rattle.page_core.specs.declared.page.Page.{Page}
 use Rattle.buffer_pool.specs.Frames.{IsResident}
-use Rattle.buffer_pool.specs.Pool.{IsPoolOf, PoolView, writing_of, written_of}
+use Rattle.std.proofs.lemmas.List.{length-map}
+use Rattle.buffer_pool.specs.Pool.{IsPoolOf, PageState, PoolView, writing_of, written_of}
 use Rattle.log_records.specs.declared.record.Record.{Record}
 use Rattle.log_records.specs.Image.{with_record}
 use Rattle.log_records.specs.Log.{IsLog, Log, with_next}
@@ -74,7 +75,11 @@ pub appended_is : {S D : Type 0} (stored : S → List Page) (old mid new : Writt
     → written_of after.states ≡ written_of pool.states → writing_of after.states ≡ writing_of pool.states
     → (engine_view stored new after ckpts).state ≡ appended (engine_view stored old pool ckpts).state r
 appended_is stored old mid new pool after ckpts r same same_end next next_end store frames resident written writing =
+    let count : length after.states ≡ length pool.states =
+    sym (length-map after.states (λ (s : PageState). s.written)) ∙ ap length written
+    ∙ length-map pool.states (λ (s : PageState). s.written) in
     rw (
+      count,
       next ∙ ap (λ (l : Log). with_next l (r ∷ [])) same,
       next_end ∙ same_end,
       store,

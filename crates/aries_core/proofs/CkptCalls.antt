@@ -16,7 +16,11 @@ use Rattle.log_records.specs.DirtyPage.{entries_of}
 use Rattle.log_history.specs.Linked.{MayFollow}
 use Rattle.log_history.specs.Table.{Table}
 use Rattle.log_store.specs.WrittenLog.{WrittenLog}
-use Rattle.buffer_pool.specs.Pool.{PoolView, written_of}
+use Rattle.buffer_pool.specs.Pool.{IsPoolOf, PoolView, written_of}
+use Rattle.std.proofs.Common.{◌≤◌, take}
+use Rattle.std.proofs.lemmas.List.{length-take}
+use Rattle.fuzzy_ckpt.proofs.Covers.{behind_grown}
+use Rattle.aries_core.proofs.PoolStates.{behind_volume}
 use Rattle.fuzzy_ckpt.specs.declared.point.Point.{Point}
 use Rattle.fuzzy_ckpt.specs.Ckpt.{AreCovered, CkptView, IsCkptOf, Phase, in_txns}
 use Rattle.fuzzy_ckpt.specs.Answers.{IsUnforced}
@@ -187,6 +191,18 @@ session_covered stored s table pool ckpts v kept has = by_open (open_checkpoint 
         let same = session_is stored s table pool ckpts c v kept is has in
         let now = gathering_of s c s.left kept.fit is refl in
         (subst (IsCkptOf (log_of s)) (sym same) now.ckpt, subst (AreCovered s.log s.stored) (sym same) now.covered)
+
+-- the pages behind the volume are covered too
+pub whole_covered : {S : Type 0} (stored : S → List Page) (log : Log) (pool : PoolView S) (v : CkptView Phase)
+    → IsPoolOf stored log pool → length pool.states ≤ length (stored pool.store)
+    → AreCovered log.records (take (length pool.states) (stored pool.store)) v
+    → AreCovered log.records (stored pool.store) v
+whole_covered stored log pool v is enough covered =
+    let first = take (length pool.states) (stored pool.store) in
+    let grown = behind_volume stored log pool is enough in
+    subst (λ (ps : List Page). AreCovered log.records ps v) (sym grown.1)
+    (behind_grown log first grown.0 is.valid
+    (omega (arith, is.pages, length-take (length pool.states) (stored pool.store))) v covered)
 
 gathered_kept : {S D : Type 0} (stored : S → List Page) (it new : WrittenLog D) (table : Table) (pool : PoolView S)
     (ckpts after : MediaView) (reply : Result Answer Refusal) (next : Option Record)

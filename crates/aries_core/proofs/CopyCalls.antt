@@ -93,16 +93,15 @@ drop_step s copies copy fine made =
     (no_fault (drop_refusal (state_of s.copies copy)) fine, refl, ap (with_copies s) made)
 
 pub take_step : (s : EngineState) (copies : List CopyState) (copy p : ℕ) (page : Page) (decision : Decision)
-    (given : Answer) → refusal s (event.Take copy p) ≡ None → slice_get s.stored p ≡ Some page
+    (given : Answer) → refusal s (event.Take copy p) ≡ None → stored_page s p ≡ page
     → decision ≡ answer_in s.copies (state_of s.copies copy) page → copies ≡ decided s.copies copy p page
     → given ≡ take_answer decision page → Step s (event.Take copy p) (Ok given) (with_copies s copies)
-take_step s copies copy p page decision given none there answer_is made given_is =
-    let same : stored_page s p ≡ page = get_or_from_slice_get s.stored p page (formatted p) there in (
-      none,
-      given_is ∙ ap (λ (d : Decision). take_answer d page) answer_is
-          ∙ ap (λ (q : Page). take_answer (answer_in s.copies (state_of s.copies copy) q) q) (sym same),
-      ap (with_copies s) (made ∙ ap (decided s.copies copy p) (sym same)),
-    )
+take_step s copies copy p page decision given none same answer_is made given_is = (
+  none,
+  given_is ∙ ap (λ (d : Decision). take_answer d page) answer_is
+      ∙ ap (λ (q : Page). take_answer (answer_in s.copies (state_of s.copies copy) q) q) (sym same),
+  ap (with_copies s) (made ∙ ap (decided s.copies copy p) (sym same)),
+)
 
 -- ---- the pages of a copy that is being read
 

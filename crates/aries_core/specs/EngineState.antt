@@ -1,5 +1,5 @@
 -- What an engine is, and what an accepted call makes of it.
-use Rattle.std.specs.Prelude.{ℕ, ◌≡◌, ◌+◌, ◌<◌, ◌≤◌, List, [], ◌∷◌, ◌++◌, length, map, max, nat_lt}
+use Rattle.std.specs.Prelude.{ℕ, ◌≡◌, ◌+◌, ◌<◌, ◌≤◌, take, List, [], ◌∷◌, ◌++◌, length, map, max, nat_lt}
 use Rattle.std.specs.Prelude.{replicate, slice_index, slice_index_or, slice_set, Option, Some}
 use Rattle.std.specs.Prelude.{IsSome, IsSomeAnd, None, IfSome, false, if◌then◌else◌}
 use Rattle.std.specs.List.{All}
@@ -49,8 +49,8 @@ use Rattle.aries_core.specs.Gather.{Left, is_done, left_of, pages_left, session_
 
 -- the page count in the log's header, the log's records, the LSN below which each of them is on
 -- the device, and the last complete checkpoint below it; how many frames there are; the pages in
--- memory, in the order in which they were fetched; the stored pages; of each page the LSN of its
--- last write, and the image that is being written;
+-- memory, in the order in which they were fetched; the pages of the volume as they are stored; of
+-- each of them the LSN of its last write, and the image that is being written;
 -- what is left for the gather of the open checkpoint (all, where none is open); and the image
 -- copies in order of their ids
 pub record EngineState : Type 0 where
@@ -376,9 +376,9 @@ master_record point = record { begin = point.begin; end = point.end }
 
 -- ---- the invariant
 
--- each page of the volume has its place in each list; more pages may be stored
+-- each page of the volume has its place in each list
 pub record AreCounted (s : EngineState) : Type 0 where
-  pub stored : volume_pages s ≤ length s.stored
+  pub stored : length s.stored ≡ volume_pages s
   pub written : length s.written ≡ volume_pages s
   pub writing : length s.writing ≡ volume_pages s
 
@@ -449,7 +449,8 @@ pub record MediaView : Type 0 where
   pub copies : List CopyState
   pub returns : List Return
 
--- what an engine is, by the log that it writes, the pool of its pages, its checkpoints and copies
+-- what an engine is, by the log that it writes, the pool of its pages, its checkpoints and copies;
+-- the store may have more pages than the volume
 abbrev pub engine_view : {S D : Type 0} → (S → List Page) → WrittenLog D → PoolView S
     → MediaView → EngineView S D
 engine_view stored it pool ckpts = record {
@@ -460,7 +461,7 @@ engine_view stored it pool ckpts = record {
     master = ckpts.master;
     frames = pool.frames;
     resident = pool.resident;
-    stored = stored pool.store;
+    stored = take (length pool.states) (stored pool.store);
     written = written_of pool.states;
     writing = writing_of pool.states;
     left = option_map_or (λ c. left_of c.phase) ckpts.session pages_left;
