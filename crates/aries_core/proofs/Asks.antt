@@ -13,7 +13,7 @@ use Rattle.aries_core.specs.declared.event.Event.TheVariants as event
 use Rattle.aries_core.specs.Asked.{Asks, FailsAsking, a_page, asked, nothing, page_asked, to_store}
 use Rattle.aries_core.specs.EngineState.{EngineView, MediaView, engine_view}
 use Rattle.aries_core.specs.Refusal.{refusal}
-use Rattle.aries_core.proofs.PoolStates.{image_at}
+use Rattle.aries_core.proofs.PoolStates.{image_at, page_at}
 use Rattle.aries_core.proofs.Refusals.{write_end_passes}
 
 -- what an answer that is no `Err` says, and why one failed
@@ -39,15 +39,16 @@ asks_nothing gave wrote old new page there same =
 -- one that is not there was read from the store, of a pool that had made room for it
 module _ {S D : Type 0} (stored : S → List Page) (gave : ReadCall S) (wrote : WriteCall S) (it : WrittenLog D)
     (pool roomy : PoolView S) (media : MediaView) (new : EngineView S D) (page : ℕ)
-    (absent : is_resident pool.resident page ≡ false) (same : roomy ≡ record pool { room = roomy.room }) where
+    (within : page < length pool.states) (absent : is_resident pool.resident page ≡ false) (same : roomy ≡ record pool { room = roomy.room }) where
   pub asks_page : gave roomy.store page (Ok (get_or (stored roomy.store) page (formatted page))) new.store
       → Asks gave wrote (page_asked (engine_view stored it pool media).state page) (engine_view stored it pool media)
       new
   asks_page given =
       subst (λ (b : Bool). Asks gave wrote (cond b nothing (a_page page)) (engine_view stored it pool media) new)
       (sym absent)
+      (subst (λ (q : Page). gave pool.store page (Ok q) new.store) (sym (page_at stored it pool media page within))
       (subst (λ (v : PoolView S). gave v.store page (Ok (get_or (stored v.store) page (formatted page))) new.store) same
-      given)
+      given))
 
   pub fails_asking : (why : StoreFault) × gave roomy.store page (Err why) new.store
       → FailsAsking gave wrote (page_asked (engine_view stored it pool media).state page)

@@ -5,7 +5,7 @@ use Rattle.log_records.specs.Log.{header_bytes}
 use Rattle.log_store.specs.declared.device.DeviceFault.{DeviceFault}
 use Rattle.log_store.specs.Stores.{StoreCall}
 use Rattle.log_store.specs.WrittenLog.{IsWritten}
-use Rattle.page_store.specs.Store.{ReadCall, WriteCall}
+use Rattle.page_store.specs.Store.{IsGrown, ReadCall, WriteCall}
 use Rattle.aries_core.specs.declared.event.Answer.{Answer}
 use Rattle.aries_core.specs.declared.event.Event.{Event}
 use Rattle.aries_core.specs.declared.refusal.Refusal.{Refusal}
@@ -28,10 +28,10 @@ pub record Storage (S D : Type 0) : Type 1 where
   pub stored : S → List Page
   pub store_failures : S → ℕ
 
--- the store has the pages that the state calls stored, and the device the records that it calls
--- forced
+-- the store has the pages that the state calls stored, and behind them none but formatted ones; and
+-- the device has the records that it calls forced
 pub record IsStoredOn {S D : Type 0} (on : Storage S D) (it : EngineView S D) : Type 0 where
-  pub pages : on.stored it.store ≡ it.state.stored
+  pub pages : IsGrown it.state.stored (on.stored it.store)
   pub records : IsWritten on.bytes (written_log_of it)
 
 -- which calls of the device a call of the engine makes: where it is answered, or the store failed,

@@ -3,3 +3,4 @@ pub mod Tables
 pub mod Owed
 pub mod Savepoints
 pub mod Searches
+pub mod Beside

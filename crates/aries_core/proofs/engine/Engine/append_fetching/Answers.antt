@@ -110,7 +110,9 @@ came g c =
     let of_room = c.make_room-else-is_err-2.ensures.kept (log_of s) c.self.invariant.pool_of_log in
     let now = said c.fetch.result _ (sym c.is_err-2.ensures.value ∙ c.if-is_err-4.false) c.fetch.ensures.fetched
     (log_of s) (formatted p) of_room in
-    fetched_is stored it.log it.pool c.fetch.new.self media p (sym c.is_resident.ensures ∙ c.if-is_resident.false)
+    fetched_is stored it.log it.pool c.fetch.new.self media p
+    (omega (arith, c.requires.within, ap (λ v. volume_pages v.state) c.self.view_is, c.self.invariant.pool_of_log.pages))
+    (sym c.is_resident.ensures ∙ c.if-is_resident.false)
     (c.fetch.ensures.stored ∙ ap (λ (v : PoolView g.row.S.Denot). stored v.store) same)
     (c.fetch.ensures.frames ∙ ap (λ (v : PoolView g.row.S.Denot). v.frames) same)
     (c.fetch.ensures.states ∙ ap (λ (v : PoolView g.row.S.Denot). v.states) same)
@@ -178,6 +180,7 @@ returns-clause-asked g c =
     (formatted p) in
     subst (λ (v : EngineView g.row.S.Denot g.row.D.Denot). Asks gave wrote (page_asked v.state p) v new) c.self.view_is
     (asks_page stored gave wrote it.log it.pool c.make_room-else-is_err-2.new.self media new p
+    (omega (arith, c.requires.within, ap (λ v. volume_pages v.state) c.self.view_is, c.self.invariant.pool_of_log.pages))
     (sym c.is_resident.ensures ∙ c.if-is_resident.false) c.make_room-else-is_err-2.ensures.same
     (subst (λ (x : g.row.S.Denot). gave c.make_room-else-is_err-2.new.self.store p
     (Ok (get_or (stored c.make_room-else-is_err-2.new.self.store) p (formatted p))) x) (sym c.change.ensures.store) given))
@@ -195,4 +198,5 @@ returns-then-is_err-4-clause-failed g c = λ by_store.
     subst (λ (v : EngineView g.row.S.Denot g.row.D.Denot). FailsAsking gave wrote (page_asked v.state p) v new)
     c.self.view_is
     (fails_asking stored gave wrote it.log it.pool c.make_room-else-is_err-2.new.self media new p
+    (omega (arith, c.requires.within, ap (λ v. volume_pages v.state) c.self.view_is, c.self.invariant.pool_of_log.pages))
     (sym c.is_resident.ensures ∙ c.if-is_resident.false) c.make_room-else-is_err-2.ensures.same failed)

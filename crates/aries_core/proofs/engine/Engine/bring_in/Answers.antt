@@ -1,3 +1,5 @@
+use Rattle.aries_core.specs.EngineState.{volume_pages}
+use Rattle.std.proofs.Common.{ap, arith}
 use Rattle.std.proofs.Common.{◌∙◌, subst, sym}
 use Rattle.page_core.specs.Page.{formatted}
 use Rattle.aries_core.specs.Asked.{Asks, FailsAsking, page_asked}
@@ -19,6 +21,7 @@ returns-clause-asked g c =
     (formatted p) in
     subst (λ (v : EngineView g.row.S.Denot g.row.D.Denot). Asks gave wrote (page_asked v.state p) v new) c.self.view_is
     (asks_page stored gave wrote it.log it.pool c.make_room.new.self media new p
+    (omega (arith, c.requires.within, ap (λ v. volume_pages v.state) c.self.view_is, c.self.invariant.pool_of_log.pages))
     (sym c.is_resident.ensures ∙ c.if-is_resident.false) c.make_room.ensures.same given)
 
 pub returns-then-is_err-2-clause-failed : goal.returns-then-is_err-2-clause-failed
@@ -34,4 +37,5 @@ returns-then-is_err-2-clause-failed g c = λ by_store.
     subst (λ (v : EngineView g.row.S.Denot g.row.D.Denot). FailsAsking gave wrote (page_asked v.state p) v new)
     c.self.view_is
     (fails_asking stored gave wrote it.log it.pool c.make_room.new.self media new p
+    (omega (arith, c.requires.within, ap (λ v. volume_pages v.state) c.self.view_is, c.self.invariant.pool_of_log.pages))
     (sym c.is_resident.ensures ∙ c.if-is_resident.false) c.make_room.ensures.same failed)

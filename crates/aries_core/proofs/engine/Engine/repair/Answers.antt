@@ -59,7 +59,7 @@ call g c =
           subst (λ (r : Result Lsn Refusal). Called stored it.log c.force_to.new.self it.txns it.pool c.repair.new.self
           media (event.Repair copy p) (reply_of (λ lsn. answer.Repaired lsn) r)) (sym w.result-is)
           (half_done stored it.log c.force_to.new.self it.txns it.pool c.repair.new.self media copy p q
-          c.self.invariant none now c.force_to.ensures.same forced
+          c.self.invariant none within now c.force_to.ensures.same forced
           w.in-Err.ensures.either w.in-Err.ensures.stays of_log)
     ]
 
