@@ -4,6 +4,7 @@ ghost use Rattle.std.specs.Prelude.{◌≡◌, ◌<◌, ◌≤◌, [], IfErr, If
 ghost use Rattle.log_records.specs.Coverage.{dirty, entries_of, next_dirty};
 ghost use Rattle.log_store.specs.WrittenLog.{IsWritten};
 ghost use Rattle.page_store.specs.Store.{IsGrown};
+ghost use Rattle.page_store.specs.Store.{IsGrown};
 ghost use Rattle.aries_core.specs.Asked.{Asks, FailsAsking, a_page};
 ghost use Rattle.aries_core.specs.EngineState.{log_of, stored_page};
 ghost use Rattle.aries_core.specs.EngineState.{volume_pages};
@@ -58,9 +59,9 @@ impl<S: PageStore, D: LogDevice> Engine<S, D> {
             × (self.new.store ≡ self.old.store)) }
         ensures state { self.new.state ≡ self.old.state }
         ensures device { self.new.device ≡ self.old.device }
-        ensures asked { OnOk result (Asks S.gave S.wrote (a_page page) self.old self.new) }
+        ensures asked { OnOk result (Asks S.gave S.wrote S.grew (a_page page) self.old self.new) }
         ensures failed { IfErr result (λ why. IsByStore why
-            → FailsAsking S.gave S.wrote (a_page page) self.old self.new) }
+            → FailsAsking S.gave S.wrote S.grew (a_page page) self.old self.new) }
         ensures no_failure { OnOk result (S.failures self.new.store ≡ S.failures self.old.store) }
         ensures failure { IfErr result (λ why. IsByStore why
             → S.failures self.old.store < S.failures self.new.store) }
