@@ -381,7 +381,6 @@ effect s (event.Repair copy page) = record {
   answer = answer.Repaired (page_now s page).lsn;
   state = repaired (forced_through s (page_now s page).lsn) page (page_now s page);
 }
-
 effect s (event.Extend count) = record {
   answer = answer.Logged (end s);
   state = appended (grown s count) (extend_record s count);

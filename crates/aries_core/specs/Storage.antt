@@ -5,7 +5,7 @@ use Rattle.log_records.specs.Log.{header_bytes}
 use Rattle.log_store.specs.declared.device.DeviceFault.{DeviceFault}
 use Rattle.log_store.specs.Stores.{StoreCall}
 use Rattle.log_store.specs.WrittenLog.{IsWritten}
-use Rattle.page_store.specs.Store.{IsGrown, ReadCall, WriteCall}
+use Rattle.page_store.specs.Store.{GrowCall, IsGrown, ReadCall, WriteCall}
 use Rattle.aries_core.specs.declared.event.Answer.{Answer}
 use Rattle.aries_core.specs.declared.event.Event.{Event}
 use Rattle.aries_core.specs.declared.refusal.Refusal.{Refusal}

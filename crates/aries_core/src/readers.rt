@@ -4,7 +4,6 @@ ghost use Rattle.std.specs.Prelude.{◌≡◌, ◌<◌, ◌≤◌, [], IfErr, If
 ghost use Rattle.log_records.specs.Coverage.{dirty, entries_of, next_dirty};
 ghost use Rattle.log_store.specs.WrittenLog.{IsWritten};
 ghost use Rattle.page_store.specs.Store.{IsGrown};
-ghost use Rattle.page_store.specs.Store.{IsGrown};
 ghost use Rattle.aries_core.specs.Asked.{Asks, FailsAsking, a_page};
 ghost use Rattle.aries_core.specs.EngineState.{log_of, stored_page};
 ghost use Rattle.aries_core.specs.EngineState.{volume_pages};
