@@ -77,6 +77,7 @@ answered old (event.Take copy page) new beside is = keeps old new _ is refl refl
 answered old (event.Seal copy) new beside is = keeps old new _ is refl refl
 answered old (event.DropCopy copy) new beside is = keeps old new _ is refl refl
 answered old (event.Repair copy page) new beside is = keeps old new _ is refl refl
+answered old (event.Extend count) new beside is = keeps old new _ is refl refl
 answered old (event.Commit txn) new beside is = keeps old new _ is refl refl
 answered old (event.Abort txn) new beside is = keeps old new _ is refl refl
 answered old (event.UndoStep txn) new beside is = undo_keeps old txn new _ refl is
@@ -108,6 +109,7 @@ failed old (event.Repair copy page) StoreFault new beside fails = elim fails [
   | inl kept ↦ keeps old new _ kept refl refl
   | inr stored ↦ keeps old new _ stored refl refl
 ]
+failed old (event.Extend count) StoreFault new beside fails = keeps old new old fails refl refl
 failed old event StoreFault new beside fails = keeps old new old fails.1 refl refl
 failed old event why new beside fails = absurd fails
 

@@ -141,6 +141,7 @@ answered old event.CkptGather answer new given is =
 answered old event.CkptEnd answer new given is =
     same_copies old new _ is (ckpt_end_has (λ s. s.copies ≡ old.copies) old refl (λ c. refl))
 answered old (event.Repair copy page) answer new given is = same_copies old new _ is refl
+answered old (event.Extend count) answer new given is = same_copies old new _ is refl
 answered old event.CopyFull answer new given is = made new _ is ∙ opens old.copies Full _ _ _
 answered old (event.CopyInc parent) answer new given is = made new _ is ∙ opens old.copies (Inc parent) _ _ _
 answered old (event.Take copy page) answer new given is = took old copy page answer new given is
@@ -168,6 +169,7 @@ failed old (event.Repair copy page) StoreFault new fails = elim fails [
   | inl kept ↦ same_copies old new _ kept refl
   | inr stored ↦ same_copies old new _ stored refl
 ]
+failed old (event.Extend count) StoreFault new fails = same_copies old new _ fails refl
 failed old event StoreFault new fails = same_copies old new _ fails.1 refl
 failed old event why new fails = absurd fails
 

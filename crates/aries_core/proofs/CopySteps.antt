@@ -180,6 +180,7 @@ answered old event.CkptGather new fit none is =
 answered old event.CkptEnd new fit none is =
     leaves old new _ is (ckpt_end_has (λ s. s.copies ≡ old.copies) old refl (λ c. refl))
 answered old (event.Repair copy page) new fit none is = leaves old new _ is refl
+answered old (event.Extend count) new fit none is = leaves old new _ is refl
 answered old event.CopyFull new fit none is =
     let some = full_passes old none in
     ChangesCopies _ (opens old Full fit (full_is_few old none) some tt) some is
@@ -217,6 +218,7 @@ failed old (event.Repair copy page) StoreFault new fails = elim fails [
   | inl kept ↦ leaves old new _ kept refl
   | inr stored ↦ leaves old new _ stored refl
 ]
+failed old (event.Extend count) StoreFault new fails = leaves old new old fails refl
 failed old event StoreFault new fails = leaves old new old fails.1 refl
 failed old event why new fails = absurd fails
 

@@ -36,6 +36,7 @@ new_size pages = record { now = pages; begun = pages }
 
 abbrev pub with_size : VolumeSize → Event → Result Answer Refusal → VolumeSize
 with_size size event.CkptBegin (Ok answer) = record size { begun = size.now }
+with_size size (event.Extend count) (Ok answer) = record size { now = count }
 with_size size event reply = size
 
 -- an accepted end of a checkpoint answers what it is as a Point, whose page count is the one at its

@@ -1,5 +1,5 @@
 -- What an engine is, and what an accepted call makes of it.
-use Rattle.std.specs.Prelude.{ℕ, ◌≡◌, ◌+◌, ◌<◌, ◌≤◌, take, List, [], ◌∷◌, ◌++◌, length, map, max, nat_lt}
+use Rattle.std.specs.Prelude.{ℕ, ◌≡◌, ◌+◌, ◌-◌, ◌<◌, ◌≤◌, take, take, List, [], ◌∷◌, ◌++◌, length, map, max, nat_lt}
 use Rattle.std.specs.Prelude.{replicate, slice_index, slice_index_or, slice_set, Option, Some}
 use Rattle.std.specs.Prelude.{IsSome, IsSomeAnd, None, IfSome, false, if◌then◌else◌}
 use Rattle.std.specs.List.{All}
@@ -8,7 +8,7 @@ use Rattle.page_core.specs.declared.change.Change.{Change}
 use Rattle.page_core.specs.declared.change.Change.TheVariants.{Set, Add}
 use Rattle.page_core.specs.Change.{undo_of}
 use Rattle.page_core.specs.Page.{formatted}
-use Rattle.page_core.specs.Volume.{formatted_pages}
+use Rattle.page_core.specs.Volume.{formatted_pages, grown_to}
 use Rattle.buffer_pool.specs.Frames.{IsResident, fetched, is_resident}
 use Rattle.buffer_pool.specs.Pool.{IsPoolOf, PoolView, is_clean, writing_of, written_of}
 use Rattle.log_records.specs.Coverage.{AreStored, rec_lsn}
@@ -133,6 +133,15 @@ repaired s page image = record s {
   written = slice_set s.written page image.lsn;
 }
 
+-- the volume has grown to so many pages: those that were added are stored as they are formatted, and
+-- were never written
+abbrev pub grown : EngineState → ℕ → EngineState
+grown s count = record s {
+  stored = grown_to count s.stored;
+  written = s.written ++ replicate (count - length s.written) 0;
+  writing = s.writing ++ replicate (count - length s.writing) None;
+}
+
 -- the gather of the open checkpoint has this left
 abbrev pub gathering : EngineState → Left → EngineState
 gathering s left = record s { left = left }
@@ -212,6 +221,9 @@ end_record s txn = log.End (end s) txn (last_lsn s.log txn)
 abbrev pub comp_record : EngineState → ℕ → PendingChange → Record
 comp_record s txn p = log.Comp (end s) txn (last_lsn s.log txn) p.prev p.page p.slot
     (undo_of p.change)
+
+abbrev pub extend_record : EngineState → ℕ → Record
+extend_record s count = log.Extend (end s) count
 
 -- ---- the open checkpoint
 
@@ -368,6 +380,10 @@ effect s (event.DropCopy copy) = record {
 effect s (event.Repair copy page) = record {
   answer = answer.Repaired (page_now s page).lsn;
   state = repaired (forced_through s (page_now s page).lsn) page (page_now s page);
+}
+effect s (event.Extend count) = record {
+  answer = answer.Logged (end s);
+  state = appended (grown s count) (extend_record s count);
 }
 
 -- the master record of a complete checkpoint

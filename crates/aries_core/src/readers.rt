@@ -58,9 +58,9 @@ impl<S: PageStore, D: LogDevice> Engine<S, D> {
             × (self.new.store ≡ self.old.store)) }
         ensures state { self.new.state ≡ self.old.state }
         ensures device { self.new.device ≡ self.old.device }
-        ensures asked { OnOk result (Asks S.gave S.wrote (a_page page) self.old self.new) }
+        ensures asked { OnOk result (Asks S.gave S.wrote S.grew (a_page page) self.old self.new) }
         ensures failed { IfErr result (λ why. IsByStore why
-            → FailsAsking S.gave S.wrote (a_page page) self.old self.new) }
+            → FailsAsking S.gave S.wrote S.grew (a_page page) self.old self.new) }
         ensures no_failure { OnOk result (S.failures self.new.store ≡ S.failures self.old.store) }
         ensures failure { IfErr result (λ why. IsByStore why
             → S.failures self.old.store < S.failures self.new.store) }

@@ -100,6 +100,7 @@ returns-clause-asked g c =
     let stored = g.S.PageStore.stored in
     let gave = g.S.PageStore.gave in
     let wrote = g.S.PageStore.wrote in
+    let grew = g.S.PageStore.grew in
     let p = c.args.page in
     let new = engine_view stored it.log c.stored.new.self
     (media_view it.master it.session c.decide.new.self.copies it.returns.made) in
@@ -119,7 +120,7 @@ returns-clause-asked g c =
       c.self.invariant.pool_of_log.pages,
     ) in
     always c.match-decide.result
-    (subst (λ (v : EngineView g.row.S.Denot g.row.D.Denot). Asks gave wrote (a_page p) v new) c.self.view_is
+    (subst (λ (v : EngineView g.row.S.Denot g.row.D.Denot). Asks gave wrote grew (a_page p) v new) c.self.view_is
     (subst (λ (x : Page). gave it.pool.store p (Ok x) c.stored.new.self.store)
     (read_is (stored it.pool.store) p c.in-Ok.stored (formatted p) c.in-Ok.ensures.found
     ∙ sym (page_at stored it.log it.pool media p within)) c.in-Ok.ensures.gave))

@@ -373,6 +373,7 @@ returns-clause-asked g c =
     let stored = g.S.PageStore.stored in
     let gave = g.S.PageStore.gave in
     let wrote = g.S.PageStore.wrote in
+    let grew = g.S.PageStore.grew in
     let media = media_view it.master it.session it.vault.copies it.returns.made in
     let p = c.args.page in
     let absent : is_resident it.pool.resident p ≡ false =
@@ -381,8 +382,8 @@ returns-clause-asked g c =
     let new = engine_view stored c.append.new.self c.change.new.self media in
     let given = said c.fetch.result _ (sym c.is_err-3.ensures.value ∙ c.if-is_err-4.false) c.fetch.ensures.gave
     (formatted p) in
-    subst (λ (v : EngineView g.row.S.Denot g.row.D.Denot). Asks gave wrote (page_asked v.state p) v new) c.self.view_is
-    (asks_page stored gave wrote it.log it.pool c.make_room-else-is_err.new.self media new p
+    subst (λ (v : EngineView g.row.S.Denot g.row.D.Denot). Asks gave wrote grew (page_asked v.state p) v new) c.self.view_is
+    (asks_page stored gave wrote grew it.log it.pool c.make_room-else-is_err.new.self media new p
     (omega (
       arith,
       (slot_passes c.args.self.now.state p c.args.slot c.requires.place).within,
@@ -399,6 +400,7 @@ returns-then-is_err-4-clause-failed g c = λ by_store.
     let stored = g.S.PageStore.stored in
     let gave = g.S.PageStore.gave in
     let wrote = g.S.PageStore.wrote in
+    let grew = g.S.PageStore.grew in
     let media = media_view it.master it.session it.vault.copies it.returns.made in
     let p = c.args.page in
     let absent : is_resident it.pool.resident p ≡ false =
@@ -406,9 +408,9 @@ returns-then-is_err-4-clause-failed g c = λ by_store.
     c.requires.absent in
     let new = engine_view stored c.make_room.new.self c.fetch.new.self media in
     let failed = why_failed c.fetch.result _ (sym c.is_err-3.ensures.value ∙ c.if-is_err-4.true) c.fetch.ensures.failed in
-    subst (λ (v : EngineView g.row.S.Denot g.row.D.Denot). FailsAsking gave wrote (page_asked v.state p) v new)
+    subst (λ (v : EngineView g.row.S.Denot g.row.D.Denot). FailsAsking gave wrote grew (page_asked v.state p) v new)
     c.self.view_is
-    (fails_asking stored gave wrote it.log it.pool c.make_room-else-is_err.new.self media new p
+    (fails_asking stored gave wrote grew it.log it.pool c.make_room-else-is_err.new.self media new p
     (omega (
       arith,
       (slot_passes c.args.self.now.state p c.args.slot c.requires.place).within,
