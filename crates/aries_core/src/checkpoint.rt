@@ -102,24 +102,9 @@ impl<S: PageStore, D: LogDevice> Engine<S, D> {
             }
             Err(FinishFault::LogFault) => return Err(Refusal::LogFault),
         };
-        let Point {
-            begin,
-            end,
-            redo,
-            pages,
-        } = point;
-        self.master = Some(Point {
-            begin,
-            end,
-            redo,
-            pages,
-        });
-        Ok(Point {
-            begin,
-            end,
-            redo,
-            pages,
-        })
+        let Point { begin, end, redo } = point;
+        self.master = Some(Point { begin, end, redo });
+        Ok(Point { begin, end, redo })
     }
 
     /// The last complete checkpoint whose end is forced.

@@ -5,7 +5,6 @@
 mod bit_row;
 mod frame;
 mod frames;
-mod growth;
 mod laws;
 mod marks;
 mod page_image;

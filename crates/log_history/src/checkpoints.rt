@@ -88,8 +88,7 @@ impl Checkpoints {
             | Record::Comp { .. }
             | Record::Commit { .. }
             | Record::Abort { .. }
-            | Record::End { .. }
-            | Record::Extend { .. } => true,
+            | Record::End { .. } => true,
         }
     }
 
@@ -169,8 +168,7 @@ impl Checkpoints {
             | Record::Comp { .. }
             | Record::Commit { .. }
             | Record::Abort { .. }
-            | Record::End { .. }
-            | Record::Extend { .. } => {}
+            | Record::End { .. } => {}
         }
         Ok(())
     }

@@ -209,10 +209,7 @@ impl OpenTransactions {
                 undo_next,
                 ..
             } => self.is_now(txn, state, last, undo_next),
-            Record::BeginChkpt { .. }
-            | Record::ChkptPages { .. }
-            | Record::EndChkpt { .. }
-            | Record::Extend { .. } => true,
+            Record::BeginChkpt { .. } | Record::ChkptPages { .. } | Record::EndChkpt { .. } => true,
         }
     }
 
@@ -333,10 +330,9 @@ impl OpenTransactions {
                 undo_next,
                 ..
             } => Ok(self.is_now(txn, state, last, undo_next)),
-            Record::BeginChkpt { .. }
-            | Record::ChkptPages { .. }
-            | Record::EndChkpt { .. }
-            | Record::Extend { .. } => Ok(true),
+            Record::BeginChkpt { .. } | Record::ChkptPages { .. } | Record::EndChkpt { .. } => {
+                Ok(true)
+            }
         }
     }
 

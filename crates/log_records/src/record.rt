@@ -79,12 +79,6 @@ pub enum Record {
         begin: Lsn,
         redo: Lsn,
     },
-    /// The volume grows: from here on it has so many pages. The new ones are formatted. It is of no
-    /// transaction and of no checkpoint, and is never undone.
-    Extend {
-        lsn: Lsn,
-        pages: u32,
-    },
 }
 
 impl Record {
@@ -106,8 +100,7 @@ impl Record {
             | Record::BeginChkpt { lsn }
             | Record::ChkptPages { lsn, .. }
             | Record::ChkptTxns { lsn, .. }
-            | Record::EndChkpt { lsn, .. }
-            | Record::Extend { lsn, .. } => lsn,
+            | Record::EndChkpt { lsn, .. } => lsn,
         }
     }
 
@@ -135,8 +128,7 @@ impl Record {
             | Record::BeginChkpt { .. }
             | Record::ChkptPages { .. }
             | Record::ChkptTxns { .. }
-            | Record::EndChkpt { .. }
-            | Record::Extend { .. } => None,
+            | Record::EndChkpt { .. } => None,
         }
     }
 

@@ -56,8 +56,7 @@ fn way_back(met: &Record) -> Option<Lsn>
         | Record::BeginChkpt { .. }
         | Record::ChkptPages { .. }
         | Record::ChkptTxns { .. }
-        | Record::EndChkpt { .. }
-        | Record::Extend { .. } => None,
+        | Record::EndChkpt { .. } => None,
     }
 }
 
@@ -91,8 +90,7 @@ fn keep_change(found: &mut Vec<Pending>, met: &Record) -> Result<(), AllocError>
         | Record::BeginChkpt { .. }
         | Record::ChkptPages { .. }
         | Record::ChkptTxns { .. }
-        | Record::EndChkpt { .. }
-        | Record::Extend { .. } => {}
+        | Record::EndChkpt { .. } => {}
     }
     Ok(())
 }
@@ -149,8 +147,7 @@ fn before_comp(met: &Record) -> Option<Lsn>
         | Record::BeginChkpt { .. }
         | Record::ChkptPages { .. }
         | Record::ChkptTxns { .. }
-        | Record::EndChkpt { .. }
-        | Record::Extend { .. } => None,
+        | Record::EndChkpt { .. } => None,
     }
 }
 
@@ -167,7 +164,6 @@ fn is_abort(met: &Record) -> bool
         | Record::BeginChkpt { .. }
         | Record::ChkptPages { .. }
         | Record::ChkptTxns { .. }
-        | Record::EndChkpt { .. }
-        | Record::Extend { .. } => false,
+        | Record::EndChkpt { .. } => false,
     }
 }

@@ -145,7 +145,8 @@ fn restored<L: Read, M: Read, A: Read>(
 {
     let (kept, losers) = read_changes(alloc, log)?;
     read_master(master, &kept)?;
-    let (pages, redo) = read_chain_pages(alloc, archives, kept.counts(), kept.end())?;
+    let counts = kept.counts(alloc);
+    let (pages, redo) = read_chain_pages(alloc, archives, &counts, kept.end())?;
     recovered(rt, kept, losers, pages, redo)
 }
 

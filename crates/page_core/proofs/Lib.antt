@@ -1,7 +1,6 @@
-pub mod Counts
-pub mod EightBytes
-pub mod Formats
-pub mod Inputs
-pub mod PageBytes
 pub mod Pieces
+pub mod EightBytes
+pub mod Inputs
+pub mod Counts
+pub mod PageBytes
 pub mod Volumes

@@ -75,8 +75,7 @@ fn is_begin(record: &Record) -> bool
         | Record::End { .. }
         | Record::ChkptPages { .. }
         | Record::ChkptTxns { .. }
-        | Record::EndChkpt { .. }
-        | Record::Extend { .. } => false,
+        | Record::EndChkpt { .. } => false,
     }
 }
 
@@ -113,7 +112,6 @@ fn is_end_of(begin: Lsn, redo: Lsn, record: &Record) -> bool
         | Record::End { .. }
         | Record::BeginChkpt { .. }
         | Record::ChkptPages { .. }
-        | Record::ChkptTxns { .. }
-        | Record::Extend { .. } => false,
+        | Record::ChkptTxns { .. } => false,
     }
 }

@@ -114,8 +114,7 @@ fn is_record_of(receipt: &Receipt, record: &Record) -> bool
             | Record::BeginChkpt { .. }
             | Record::ChkptPages { .. }
             | Record::ChkptTxns { .. }
-            | Record::EndChkpt { .. }
-            | Record::Extend { .. } => false,
+            | Record::EndChkpt { .. } => false,
         },
         Receipt::Stepped { txn, step, .. } => is_step_of(txn, step, record),
         Receipt::Read { .. } => false,
@@ -149,8 +148,7 @@ fn is_step_of(txn: TxnNo, step: TxnStep, record: &Record) -> bool
         | Record::BeginChkpt { .. }
         | Record::ChkptPages { .. }
         | Record::ChkptTxns { .. }
-        | Record::EndChkpt { .. }
-        | Record::Extend { .. } => false,
+        | Record::EndChkpt { .. } => false,
     }
 }
 

@@ -3,4 +3,3 @@ pub mod Tables
 pub mod Owed
 pub mod Savepoints
 pub mod Searches
-pub mod Beside

@@ -228,8 +228,7 @@ impl TxnTable {
             | Record::BeginChkpt { .. }
             | Record::ChkptPages { .. }
             | Record::ChkptTxns { .. }
-            | Record::EndChkpt { .. }
-            | Record::Extend { .. } => None,
+            | Record::EndChkpt { .. } => None,
         }
     }
 
@@ -272,7 +271,6 @@ impl TxnTable {
             Record::ChkptPages { .. } => self.owed,
             Record::ChkptTxns { .. } => self.owed,
             Record::EndChkpt { .. } => self.owed,
-            Record::Extend { .. } => self.owed,
         }
     }
 
