@@ -41,8 +41,8 @@ pub record IsPoint (begin redo : ℕ) : Type 0 where
   pub order : redo ≤ begin
 
 -- a copy of the whole volume as it was when the copy began, of this id; it notes a checkpoint whose
--- begin is forced, and its parent was there before it; a page that it took stands at its number, and
--- a full copy keeps none
+-- begin is forced, and its parent was there before it; a page that it took stands at its number,
+-- and a full copy keeps none
 pub record IsCopyOf (log : Log) (forced_end : ℕ) (copies : List CopyState) (id : ℕ)
     (copy : CopyView) : Type 0 where
   pub named : copy.id ≡ id
@@ -59,8 +59,8 @@ abbrev pub AreDecided : List CopyState → Type 0
 AreDecided copies = (id : ℕ) (copy : CopyView) → state_of copies id ≡ complete copy
     → AreDecidedBelow (length copy.pages) copy.pages
 
--- a copy has nothing to decide of a page any more: something is decided of it, or the volume did not
--- have it yet when the copy began
+-- a copy has nothing to decide of a page any more: something is decided of it, or the volume did
+-- not have it yet when the copy began
 abbrev pub IsDecidedIn : List PageDecision → ℕ → Type 0
 IsDecidedIn pages p = p < length pages → ¬ (decision_at pages p ≡ undecided)
 

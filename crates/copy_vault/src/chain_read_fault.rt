@@ -1,8 +1,7 @@
 //! Why the archives of a chain could not be read side by side.
 
 ghost use Rattle.std.specs.Prelude.{◌≡◌};
-ghost use Rattle.copy_vault.specs.declared.chain_read_fault.ChainReadFault.TheVariants.{};
-ghost use Rattle.copy_vault.specs.declared.chain_read_fault.ChainReadFault.TheVariants.{OutOfMemory};
+ghost use Rattle.copy_vault.specs.declared.chain_read_fault.ChainReadFault.TheVariants as fault;
 
 use crate::copy_id::CopyId;
 use page_core::{FaultName, PageNo};
@@ -59,7 +58,7 @@ impl fmt::Display for ChainReadFault {
 impl Error for ChainReadFault {}
 
 impl From<AllocError> for ChainReadFault {
-    ghost from_gives = { λ _ e. e ≡ OutOfMemory };
+    ghost from_gives = { λ _ e. e ≡ fault.OutOfMemory };
 
     fn from(_error: AllocError) -> ChainReadFault {
         ChainReadFault::OutOfMemory
@@ -67,7 +66,7 @@ impl From<AllocError> for ChainReadFault {
 }
 
 impl<T: Drop> From<AllocFailed<T>> for ChainReadFault {
-    ghost from_gives = { λ _ e. e ≡ OutOfMemory };
+    ghost from_gives = { λ _ e. e ≡ fault.OutOfMemory };
 
     fn from(_error: AllocFailed<T>) -> ChainReadFault {
         ChainReadFault::OutOfMemory

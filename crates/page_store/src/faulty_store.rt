@@ -121,8 +121,8 @@ impl FaultyStore {
     }
 
     /// Damages a page once `k` calls of `read`, `write` or `grow` were made of this store: each
-    /// read of it after them fails, until a write of it after them succeeds. So the `k`-th call does
-    /// not mend it. It is no call that is counted, and takes no memory.
+    /// read of it after them fails, until a write of it after them succeeds. So the `k`-th call
+    /// does not mend it. It is no call that is counted, and takes no memory.
     pub fn damage_from(&mut self, number: PageNo, k: u64)
         requires { number < length self.old.pages }
         ensures { self.new ≡ record self.old {
