@@ -6,7 +6,7 @@ use Rattle.std.proofs.lemmas.Bool.{cases_eq, cases_lt}
 use Rattle.std.proofs.lemmas.List.{get_or_default}
 use Rattle.txn_table.specs.declared.returns.Return.{Return}
 use Rattle.txn_table.specs.Returns.{AreRising}
-use Rattle.txn_table.proofs.Savepoints.{return_at}
+use Rattle.txn_table.proofs.Going.{return_at}
 
 pub below_middle : (made : List Return) (middle at : ℕ) (x : Return) → x ≡ get_or made middle x → middle < length made
     → x.lsn < at → AreRising made → (k : ℕ) (d : Return) → k < middle + 1 → (get_or made k d).lsn < at

@@ -2,7 +2,7 @@ use Rattle.std.proofs.Common.{◌∙◌, ◌++◌, ap, ap₂, sym}
 use Rattle.std.proofs.lemmas.List.{append-nil}
 use Rattle.std.specs.Option.{option_to_list}
 use Rattle.txn_table.specs.Returns.{ReturnsView}
-use Rattle.txn_table.proofs.Savepoints.{returns_added}
+use Rattle.txn_table.proofs.Stacks.{returns_added}
 use Rattle.txn_table.proofs.returns.Returns.add.Goals as goal
 
 pub returns-in-Some-clause-log : goal.returns-in-Some-clause-log

@@ -4,7 +4,7 @@ use Rattle.std.proofs.lemmas.Grind.{common_steps}
 use Rattle.std.proofs.lemmas.Option.{same_Some}
 use Rattle.txn_table.specs.declared.returns.Return.{Return}
 use Rattle.txn_table.specs.Returns.{AreRising, ReturnsView}
-use Rattle.txn_table.proofs.Savepoints.{return_at}
+use Rattle.txn_table.proofs.Going.{return_at}
 use Rattle.txn_table.proofs.returns.Returns.is_return.Goals as goal
 
 pub returns-in-Some : goal.returns-in-Some

@@ -10,7 +10,9 @@ use Rattle.txn_table.specs.TxnTable.{IsTableOf}
 use Rattle.log_history.specs.TxnState.{state_of}
 use Rattle.txn_table.specs.declared.returns.Return.{Return}
 use Rattle.txn_table.specs.Returns.{AreRising, returns_of}
-use Rattle.txn_table.proofs.Savepoints.{IsFound, found_savepoint, no_savepoint, return_at, returns_rise}
+use Rattle.txn_table.proofs.Comps.{returns_rise}
+use Rattle.txn_table.proofs.Going.{return_at}
+use Rattle.txn_table.proofs.Savepoints.{IsFound, found_savepoint, no_savepoint}
 use Rattle.txn_table.proofs.returns.Returns.savepoint.Goals as goal
 
 pub returns-then-eq : goal.returns-then-eq

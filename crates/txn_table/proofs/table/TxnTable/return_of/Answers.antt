@@ -4,7 +4,8 @@ use Rattle.log_records.specs.declared.record.Record.TheVariants.{Comp}
 use Rattle.log_history.specs.Linked.{MayFollow}
 use Rattle.log_history.specs.Transactions.{is_rolling, pending}
 use Rattle.txn_table.specs.Returns.{return_of}
-use Rattle.txn_table.proofs.Savepoints.{length_without, return_at}
+use Rattle.txn_table.proofs.Comps.{length_without}
+use Rattle.txn_table.proofs.Going.{return_at}
 use Rattle.txn_table.proofs.table.TxnTable.return_of.Goals as goal
 
 pub returns-in-Comp : goal.returns-in-Comp
