@@ -156,7 +156,7 @@ def check_seed(checker, seed):
     name = f"script {seed} on {script.pages} pages with {script.frames} frames"
     checker.check_run(name, script, ran)
     wanted = answer_of(redo_file, ran.files["log"])
-    if wanted.output != encode_pages(map(ran.engine.page, range(script.pages))):
+    if wanted.output != encode_pages(map(ran.engine.page, range(ran.engine.count))):
         raise Failure(f"{name}: the model's pages are not those that its log makes")
     checker.check(f"{name}, redo", wanted, ["redo"], ran.files["log"])
     check_copies(checker, name, ran)

@@ -9,7 +9,8 @@ from collections import defaultdict
 
 from model.log_checkpoints import (ACTIVE, BEGIN_CHKPT, CHKPT_PAGES, CHKPT_TXNS, END_CHKPT, MOST_ENTRIES, ROLLING,
                                    CheckpointRecord)
-from model.log_format import (ABORT, ADD, BEGIN, COMMIT, MOST_OPEN, MOST_RECORDS, SET, SLOTS, UPDATE, Change, Record, lsn_of)
+from model.log_format import (ABORT, ADD, BEGIN, COMMIT, MOST_OPEN, MOST_PAGES, MOST_RECORDS, SET, SLOTS, UPDATE, Change,
+                              Extend, Record, lsn_of)
 from model.recovery import (MOST_COPIES, Copy, Page, Refusal, Transactions, compensation, content, encode_log,
                             encode_master, ending, is_change, restore, resume)
 from model.savepoints import savepoint
@@ -21,8 +22,9 @@ MOST_FRAMES = 65_536
 class Checkpoint:
     """An open checkpoint: what it has recorded, and what it gathers now."""
 
-    def __init__(self, begin):
+    def __init__(self, begin, pages):
         self.begin = begin
+        self.pages = pages  # how many the volume has at its begin
         self.rec_lsns = []
         self.gathers = "pages"  # then "transactions", and at last "nothing"
         self.cursor = 0  # of pages, and then the last transaction
@@ -33,7 +35,8 @@ class Checkpoint:
 
 class Engine:
     def __init__(self, pages, frames=MOST_FRAMES):
-        self.pages = pages
+        self.pages = pages  # before the log
+        self.count = pages  # and now
         self.frames = frames
         self.resident = {}  # the pages in memory, in the order in which they were fetched
         self.log = []
@@ -45,7 +48,7 @@ class Engine:
         self.changes = defaultdict(list)  # by page: the LSNs of its changes
         self.images = {}  # of the writes in progress, by page
         self.checkpoint = None
-        self.master = None  # the begin, the end and the redo point of the last complete checkpoint
+        self.master = None  # the begin, the end and the redo point of the last complete checkpoint, and its page count
         self.copies = []
 
     # Transactions
@@ -117,6 +120,18 @@ class Engine:
         self.bring_in(transaction.pending[-1].change.page)
         return f"undid {self.append(compensation(transaction, self.end()))}"
 
+    # The volume
+
+    def extend(self, count):
+        """The volume grows: the store first, and then the log tells it."""
+        if not self.count < count <= MOST_PAGES:
+            raise Refusal(43, self.count)
+        self.need_room(records=1)
+        self.grow_stored(count)
+        lsn = self.append(Extend(count, self.end()))
+        self.count = count
+        return f"lsn {lsn}"
+
     def force(self):
         self.forced = len(self.log)
         return f"forced {lsn_of(self.forced)}"
@@ -171,7 +186,7 @@ class Engine:
         if self.checkpoint is not None:
             raise Refusal(13)
         self.need_room(records=1)
-        self.checkpoint = Checkpoint(self.append(CheckpointRecord(BEGIN_CHKPT, lsn=self.end())))
+        self.checkpoint = Checkpoint(self.append(CheckpointRecord(BEGIN_CHKPT, lsn=self.end())), self.count)
         return f"lsn {self.checkpoint.begin}"
 
     def gather(self):
@@ -209,7 +224,7 @@ class Engine:
         begin, redo = checkpoint.begin, checkpoint.redo_point()
         end = self.append(CheckpointRecord(END_CHKPT, begin, redo_point=redo, lsn=self.end()))
         self.force_to(end)
-        self.checkpoint, self.master = None, (begin, end, redo)
+        self.checkpoint, self.master = None, (begin, end, redo, checkpoint.pages)
         return f"point {begin} {end} {redo}"
 
     def open_checkpoint(self):
@@ -230,13 +245,14 @@ class Engine:
     def new_copy(self, parent):
         if len(self.copies) >= MOST_COPIES:
             raise Refusal(25)
-        begin, _, redo = self.master
-        self.copies.append(Copy(len(self.copies) + 1, parent, self.pages, begin, redo))
+        begin, _, redo, pages = self.master
+        self.copies.append(Copy(len(self.copies) + 1, parent, pages, begin, redo))
         return f"copy {len(self.copies)}"
 
     def take(self, number, page):
         copy = self.open_copy(number)
-        self.need_page(page)
+        if page >= copy.pages:
+            raise Refusal(3)
         if page in copy.taken or page in copy.kept:
             raise Refusal(20)
         stored = self.read_stored(page)
@@ -264,7 +280,7 @@ class Engine:
         if page in self.images:
             raise Refusal(11)
         changes = [record for record in self.log if is_change(record) and record.change.page == page]
-        rebuilt = resume([content(chain)[page]], changes, chain[-1].redo)[0]
+        rebuilt = resume([content(chain, self.count)[page]], changes, chain[-1].redo)[0]
         if rebuilt != self.page(page):
             raise AssertionError(f"copy {number} does not give page {page}")
         self.force_to(rebuilt.lsn)
@@ -307,7 +323,7 @@ class Engine:
         log = self.log if cut is None else self.log[:cut]
         if len(log) < self.forced:
             raise Refusal(27, self.forced)
-        return restore(chain, log)
+        return restore(chain, log, self.pages)
 
     def files(self):
         """What is saved, by the names of the files."""
@@ -345,6 +361,9 @@ class Engine:
     def write_stored(self, number, page):
         self.stored[number] = page
 
+    def grow_stored(self, count):
+        """Pages that are not stored are formatted, so there is nothing to keep."""
+
     def transaction(self, number):
         if number not in self.transactions.open:
             raise Refusal(2)
@@ -357,7 +376,7 @@ class Engine:
         return transaction
 
     def need_page(self, page):
-        if page >= self.pages:
+        if page >= self.count:
             raise Refusal(3)
 
     def need_slot(self, page, slot):

@@ -61,6 +61,10 @@ class FaultyEngine(Engine):
         if is_damaged:
             self.damage = None
 
+    def grow_stored(self, count):
+        if self.store_fails():
+            raise Refusal(22)
+
     def force_to(self, lsn):
         """Each record is stored by one call. Those before a call that fails are forced."""
         while self.forced < lsn // 64:

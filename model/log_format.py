@@ -26,10 +26,12 @@ MOST_PAGES = 2**16
 SLOTS = 62
 
 BEGIN, UPDATE, COMP, COMMIT, ABORT, END = 1, 2, 3, 4, 5, 6
+EXTEND = 11
 SET, ADD = 1, 2
 
 HEADER = struct.Struct("<8s I 52s")
 RECORD = struct.Struct("<B 3s I Q Q I H B 1s Q Q 8s Q")
+EXTENT = struct.Struct("<B 23x I 28x Q")
 PAGE = struct.Struct(f"<I I Q {SLOTS}Q")
 
 # The offsets of the bytes that no field has, and that are 0.
@@ -95,12 +97,29 @@ class Record(NamedTuple):
                            page, slot, kind, self.spare[3:4], before, number, self.spare[4:], self.lsn)
 
 
+class Extend(NamedTuple):
+    """The record that the volume has so many pages from there on. `data` are the bytes that it was read from."""
+
+    pages: int
+    lsn: int = 0
+    data: bytes = b""
+    kind: int = EXTEND
+
+    def encode(self):
+        return EXTENT.pack(EXTEND, self.pages, self.lsn)
+
+
 class Volume:
     """The pages that the records of a log leave, each as its LSN and its slots."""
 
     def __init__(self, pages):
-        self.lsns = [0] * pages
-        self.slots = [[0] * SLOTS for _ in range(pages)]
+        self.lsns, self.slots = [], []
+        self.grow(pages)
+
+    def grow(self, pages):
+        added = pages - len(self.lsns)
+        self.lsns += [0] * added
+        self.slots += [[0] * SLOTS for _ in range(added)]
 
     def redo(self, record):
         if record.kind in KINDS and KINDS[record.kind].has_change:
@@ -137,6 +156,8 @@ class History:
 
     def fault(self, record):
         """Why this record, which is spelt right, may not come next, in words, or None."""
+        if record.kind == EXTEND:
+            return None if record.pages > self.pages else f"the page count is {record.pages}, and it was {self.pages}"
         if record.kind in log_checkpoints.NAMES:
             return self.checkpoints.fault(record, self.open)
         if record.kind == BEGIN:
@@ -187,6 +208,10 @@ class History:
     def take(self, record):
         """Adds the next record, which has no fault."""
         self.end += RECORD_SIZE
+        if record.kind == EXTEND:
+            self.pages = record.pages
+            self.volume.grow(record.pages)
+            return
         if record.kind in log_checkpoints.NAMES:
             self.checkpoints.take(record)
             return
@@ -232,7 +257,14 @@ def page_count(header):
     return pages
 
 
+def is_first_format(header):
+    return header.startswith(FIRST_MAGIC)
+
+
 def decode_record(data):
+    if data[0] == EXTEND:
+        _, pages, lsn = EXTENT.unpack(data)
+        return Extend(pages, lsn, data)
     if data[0] in log_checkpoints.NAMES:
         return log_checkpoints.decode(data)
     (kind, spare, transaction, previous, undo_next, page, slot, change, more_spare, before, number, most_spare,
@@ -261,8 +293,11 @@ def fault_of_header(data):
     return None
 
 
-def fault_of_record(record, at, pages):
-    """What is wrong with a record that stands at this offset of a log of so many pages, in words, or None."""
+def fault_of_record(record, at, pages, is_first=False):
+    """What is wrong with a record that stands at this offset of a log, in words, or None. So many pages has the volume
+    there. A log of the first format has no Extend."""
+    if record.kind == EXTEND and not is_first:
+        return fault_of_extend(record, at)
     if record.kind in log_checkpoints.NAMES:
         return log_checkpoints.fault_of_spelling(record, at, pages)
     if record.kind not in KINDS:
@@ -274,6 +309,14 @@ def fault_of_record(record, at, pages):
     if record.transaction == 0:
         return "the transaction is 0"
     return fault_of_chain(record) or fault_of_change(record, pages)
+
+
+def fault_of_extend(record, at):
+    if record.data and record.encode() != record.data:
+        return "the record has a byte that it may not have"
+    if record.lsn != at:
+        return f"the record's own LSN is {record.lsn}"
+    return None if 1 <= record.pages <= MOST_PAGES else f"the page count is {record.pages}"
 
 
 def first_spoiled(spare, offsets):

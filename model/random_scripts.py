@@ -4,7 +4,7 @@ usage: python3 -m model.random_scripts SEED     writes the script of this seed, 
 
 A script comes of some actors that take turns: transactions on few slots, checkpoints, writers, copies, and one that
 asks for what must be refused. Some scripts have few frames, so that pages leave memory. In the scripts of odd seeds
-transactions also go back to savepoints, and to what is none any more. Each actor is a generator. It gives an event and
+transactions also go back to savepoints, and to what is none any more. In some scripts the volume grows. Each actor is a generator. It gives an event and
 is sent the reply of the model. The same seed gives the same script.
 """
 
@@ -43,9 +43,10 @@ class Play:
         self.places = [(self.page(), draw.one_of([0, 1, 3, 61, draw.below(SLOTS)])) for _ in range(slots)]
         self.patience = draw.one_of([1, 2, 8, 30])  # of one who has something open
         self.mistakes = draw.one_of([0, 0, 0.02, 0.3])
+        self.grows = seed % 5 in (1, 3) and self.pages < 100
 
     def page(self):
-        return self.draw.below(self.pages)
+        return self.draw.below(self.engine.count)
 
     def chance(self, share):
         return self.draw.below(1000) < share * 1000
@@ -156,7 +157,7 @@ def copies(play):
             yield from (None for _ in range(20))
             continue
         number = reply.split()[1]
-        left = list(range(play.pages))
+        left = list(range(play.engine.copies[-1].pages))
         while left and not play.chance(0.02 / play.pages):
             if play.chance(play.mistakes):
                 yield f"seal {number}"
@@ -171,6 +172,16 @@ def forcing(play):
     while True:
         yield from play.waits()
         yield "force"
+
+
+def growth(play):
+    """The volume grows now and then by some pages, or is asked to grow to no more than it has."""
+    draw = play.draw
+    while True:
+        for _ in range(1 + draw.below(4)):
+            yield from play.waits()
+        count = play.engine.count
+        yield f"extend {draw.one_of([count + 1, count + 1, count + 1 + draw.below(5), count, draw.below(count + 1)])}"
 
 
 def repairs(play):
@@ -213,6 +224,7 @@ def actors(play):
     chosen += [forcing(play)] * draw.below(2)
     chosen += [repairs(play)] * draw.below(2)
     chosen += [mistakes(play)] if play.mistakes else []
+    chosen += [growth(play)] if play.grows else []
     most = max(1, len(chosen) // 2)
     return [[checkpoints(play), None, draw.one_of([1, 3, 9, 9 * most])],
             *([actor, None, draw.one_of([1, 3, 9])] for actor in chosen)]
@@ -296,7 +308,7 @@ BAD_LINES = [
     "set 1 0 0 18446744073709551616", "set 4294967296 0 0 5", "set 1 4294967296 0 5", "set 1 0 65536 5",
     "set 1 0 0 000000000000000000005", "add 1 0 0 99999999999999999999", "read 0", "read 0 0 0", "commit", "abort 1 1",
     "undo", "undo 1 1", "force 1", "ckpt 0", "gather 1", "endckpt 1", "wbegin", "wend x", "full 1", "inc", "inc 1 1",
-    "take 1", "take 1 0 0", "seal", "drop", "repair", "repair 1", "repair 1 0 0", "repair 1 4294967296", "extend 3",
+    "take 1", "take 1 0 0", "seal", "drop", "repair", "repair 1", "repair 1 0 0", "repair 1 4294967296", "extend", "extend 1 2", "extend 4294967296", "extend -1",
     "restore", "restore 1", "save", "save 1 1", "save 4294967296", "save -1", "undoto", "undoto 1", "undoto 1 64 64",
     "undoto 4294967296 64", "undoto 1 18446744073709551616", "undoto 1 all", "Save 1", "undo to 1 64",
     "restore 1 all all", "restore all", "restore all 1", "restore 1 All", "restore 1 18446744073709551616",

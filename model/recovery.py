@@ -10,8 +10,8 @@ from functools import lru_cache
 from typing import NamedTuple
 
 from model.log_format import (ABORT, BEGIN, COMMIT, COMP, END, HEADER_SIZE, KINDS, MOST_PAGES, MOST_RECORDS, PAGE,
-                              PAGE_FORMAT, PAGE_SIZE, RECORD_SIZE, SLOTS, UPDATE, History, Record, decode_record,
-                              encode_header, fault_of_header, fault_of_record, lsn_of, page_count)
+                              PAGE_FORMAT, PAGE_SIZE, RECORD_SIZE, SLOTS, UPDATE, EXTEND, History, Record, decode_record,
+                              encode_header, fault_of_header, fault_of_record, is_first_format, lsn_of, page_count)
 from model.log_checkpoints import BEGIN_CHKPT, CHKPT_TXNS, END_CHKPT
 from model.savepoints import stack_from
 
@@ -22,6 +22,7 @@ NAMES = {
     22: "StoreFault", 23: "LogFault", 24: "PoolFull", 25: "TooManyCopies", 26: "CommitUnsure", 27: "CutTooShort", 29: "WriteFault",
     30: "BadHeader", 31: "BadRecord", 32: "Torn", 33: "ReadFault", 34: "TooLong", 35: "BadChain", 36: "BadArchive",
     37: "ChainBroken", 38: "CountDiffers", 39: "RedoBeyondLog", 40: "PageBeyondLog", 41: "Unsound", 42: "NoSavepoint",
+    43: "NotLarger",
 }
 STATUS_1 = {8, 17, 19, 27, 37, 39, 40, 41}
 
@@ -73,9 +74,20 @@ def is_change(record):
     return record.kind in (UPDATE, COMP)
 
 
+def count_behind(log, pages):
+    """How many pages a volume has behind these records, which had so many before them."""
+    return max([pages, *(record.pages for record in log if record.kind == EXTEND)])
+
+
+def count_below(log, pages, lsn):
+    """And behind those below an LSN."""
+    return count_behind(log[:max(lsn - 1, 0) // RECORD_SIZE], pages)
+
+
 def redo_all(log, pages):
-    """The images of all pages: each change of the log is put on a formatted page, and no LSN is compared."""
-    volume = {number: Page(number) for number in range(pages)}
+    """The images of all pages of a volume that had so many before the log: each change of the log is put on a formatted
+    page, and no LSN is compared."""
+    volume = {number: Page(number) for number in range(count_behind(log, pages))}
     for record in log:
         if is_change(record):
             volume[record.change.page] = volume[record.change.page].put(record)
@@ -211,12 +223,12 @@ class Copy:
         return header + b"".join(page.encode() for _, page in sorted(self.taken.items()))
 
 
-def content(chain):
-    """Each page as the last copy of the chain that took it has it."""
-    pages = {}
+def content(chain, count):
+    """Each of so many pages as the last copy of the chain that took it has it; formatted where none took it."""
+    pages = {number: Page(number) for number in range(count)}
     for copy in chain:
         pages.update(copy.taken)
-    return [page for _, page in sorted(pages.items())]
+    return [pages[number] for number in range(count)]
 
 
 def resume(pages, log, redo):
@@ -228,15 +240,16 @@ def resume(pages, log, redo):
     return list(pages.values())
 
 
-def restore(chain, log):
-    """The pages of a chain, redone from the last copy's redo point and undone, each as it then is."""
+def restore(chain, log, pages):
+    """The pages of a chain, redone from the last copy's redo point and undone, each as it then is. The volume had so many
+    pages before the log."""
     if len(log) + Transactions(log).owed() > MOST_RECORDS:
         raise Refusal(8)
-    pages = {page.number: page for page in resume(content(chain), log, chain[-1].redo)}
+    volume = {page.number: page for page in resume(content(chain, count_behind(log, pages)), log, chain[-1].redo)}
     for record in undo_records(log):
         if is_change(record):
-            pages[record.change.page] = pages[record.change.page].put(record)
-    return list(pages.values())
+            volume[record.change.page] = volume[record.change.page].put(record)
+    return list(volume.values())
 
 
 def encode_log(log, pages):
@@ -253,7 +266,7 @@ def encode_pages(pages):
 
 @lru_cache(maxsize=4)
 def read_log(data):
-    """The page count and the records of a log. No bytes at all, as None, are a file that cannot be read."""
+    """The page count of a log's header, and its records. No bytes at all, as None, are a file that cannot be read."""
     if data is None:
         raise Refusal(33)
     if fault_of_header(data[:HEADER_SIZE]):
@@ -265,13 +278,13 @@ def read_log(data):
         if len(data) - at < RECORD_SIZE:
             raise Refusal(32, at)
         record = decode_record(data[at:at + RECORD_SIZE])
-        if fault_of_record(record, at, history.pages):
+        if fault_of_record(record, at, history.pages, is_first_format(data)):
             raise Refusal(31, at)
         if history.fault(record):
             raise Refusal(35, at)
         history.take(record)
         records.append(record)
-    return history.pages, records
+    return page_count(data[:HEADER_SIZE]), records
 
 
 def read_master(data, log):
@@ -292,9 +305,10 @@ def read_master(data, log):
     return begin, end
 
 
-def read_chain(archives, pages, end):
-    """The copies of a chain, for a volume of so many pages and a log that ends there. All headers come first. Then
-    each archive's first page is read, in order; a further page is read once the chain has given the one before it."""
+def read_chain(archives, log, pages):
+    """The copies of a chain, for a log of a volume that had so many pages before it. All headers come first. Then each
+    archive's first page is read, in order; a further page is read once the chain has given the one before it."""
+    end = lsn_of(len(log))
     if not archives:
         raise Refusal(37, 0)
     chain, readings = [], []
@@ -302,14 +316,14 @@ def read_chain(archives, pages, end):
         if data is None:
             raise Refusal(33)
         copy, taken = read_archive_header(data[:ARCHIVE.size])
-        if copy.pages != pages or copy.parent != (chain[-1].number if chain else 0):
+        if copy.pages != count_below(log, pages, copy.begin) or copy.parent != (chain[-1].number if chain else 0):
             raise Refusal(37, copy.number)
         chain.append(copy)
         readings.append(page_numbers(copy, taken, data, end))
     if any(copy.redo >= end for copy in chain):
         raise Refusal(39)
     at_hand = [next(reading, None) for reading in readings]
-    for given in range(pages):
+    for given in range(count_behind(log, pages)):
         at_hand = [next(reading, None) if number == given else number for reading, number in zip(readings, at_hand)]
     return chain
 
@@ -363,7 +377,7 @@ def restore_files(log, master, archives):
     pages, records = read_log(log)
     begin, _ = read_master(master, records)
     compare_losers(records, begin)
-    return restore(read_chain(archives, pages, lsn_of(len(records))), records)
+    return restore(read_chain(archives, records, pages), records, pages)
 
 
 def compare_losers(log, begin):
@@ -375,7 +389,7 @@ def compare_losers(log, begin):
 
 def images(log, pages):
     """Of each page all that the log made of it, one after another, from the formatted page on."""
-    made = [[Page(number)] for number in range(pages)]
+    made = [[Page(number)] for number in range(count_behind(log, pages))]
     for record in log:
         if is_change(record):
             of_page = made[record.change.page]
@@ -388,7 +402,7 @@ def audit(chain, log, pages):
     redo point of that member."""
     made = images(log, pages)
     for at, copy in enumerate(chain):
-        for page in content(chain[:at + 1]):
+        for page in content(chain[:at + 1], len(made)):
             of_page = made[page.number]
             if page not in of_page or any(page.lsn < image.lsn < copy.redo for image in of_page):
                 raise Refusal(41, copy.number, page.number)
@@ -398,7 +412,7 @@ def audit_files(log, archives):
     """What the program must answer to an audit of these files. One that cannot be read is None."""
     try:
         pages, records = read_log(log)
-        audit(read_chain(archives, pages, lsn_of(len(records))), records, pages)
+        audit(read_chain(archives, records, pages), records, pages)
     except Refusal as refusal:
         return Answer(refusal.status(), f"{refusal.line()}\n".encode())
     return Answer(0, b"sound\n")

@@ -18,7 +18,7 @@ def stacks(log, number):
     """By LSN: the stack of this transaction at each of its records, as the LSNs of its changes."""
     stack, at = [], {}
     for record in log:
-        if record.transaction == number and record.kind in (BEGIN, UPDATE, COMP):
+        if record.kind in (BEGIN, UPDATE, COMP) and record.transaction == number:
             if record.kind == UPDATE:
                 stack = [*stack, record.lsn]
             elif record.kind == COMP:

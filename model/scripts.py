@@ -11,7 +11,7 @@ NUMBER = re.compile("[0-9]{1,20}")
 U16, U32, U64 = 2**16, 2**32, 2**64
 OUT_OF_MEMORY = "E1 OutOfMemory"
 
-# The bounds of the numbers by what they name: transaction, page, copy, slot, value, and count of records or LSN.
+# The bounds of the numbers by what they name: transaction, page or page count, copy, slot, value, and count of records or LSN.
 BOUNDS = {"T": U32, "P": U32, "C": U32, "S": U16, "V": U64, "K": U64}
 
 CALLS = {
@@ -24,6 +24,7 @@ CALLS = {
     "undo": ("T", Engine.undo),
     "save": ("T", Engine.savepoint),
     "undoto": ("TK", Engine.undo_to),
+    "extend": ("P", Engine.extend),
     "force": ("", Engine.force),
     "ckpt": ("", Engine.checkpoint_begin),
     "gather": ("", Engine.gather),

@@ -1,15 +1,22 @@
 -- An engine whose log, table and pool are in step, and the record of an accepted call.
-use Rattle.std.proofs.Common.{◌≡◌, ◌<◌, ℕ, ◌++◌, ◌∷◌, [], List, map, refl, sym, ap, subst, ◌∙◌}
+use Rattle.std.proofs.Common.{◌≡◌, ◌<◌, length, ℕ, ◌++◌, ◌∷◌, [], List, map, refl, sym, ap, subst, ◌∙◌}
 use Rattle.std.specs.Prelude.{IfSome, None, Option, Some}
 use Rattle.std.specs.Option.{option_map}
 use Rattle.page_core.specs.declared.page.Page.{Page}
 use Rattle.buffer_pool.specs.Frames.{IsResident}
-use Rattle.buffer_pool.specs.Pool.{IsPoolOf, PoolView, writing_of, written_of}
+use Rattle.std.proofs.lemmas.List.{length-map}
+use Rattle.buffer_pool.specs.Pool.{IsPoolOf, PageState, PoolView, writing_of, written_of}
 use Rattle.log_records.specs.declared.record.Record.{Record}
 use Rattle.log_records.specs.Image.{with_record}
 use Rattle.log_records.specs.Log.{IsLog, Log, with_next}
 use Rattle.log_records.specs.Record.{change_of}
 use Rattle.log_history.proofs.AtEnd.{valid_next}
+use Rattle.log_records.proofs.GivenNone.{transaction_gives_none}
+use Rattle.log_records.proofs.PageCounts.{more-none}
+use Rattle.log_records.specs.Record.{IsOfTransaction}
+use Rattle.log_history.specs.Checkpoint.{Checkpoint, open_checkpoint}
+use Rattle.aries_core.specs.Gather.{Left}
+use Rattle.aries_core.proofs.GatherSteps.{begun_before, session_same}
 use Rattle.log_history.specs.Table.{Table, table_of}
 use Rattle.log_store.specs.WrittenLog.{WrittenLog}
 use Rattle.fuzzy_ckpt.proofs.Opens.{open_same}
@@ -25,7 +32,22 @@ use Rattle.aries_core.proofs.PageComes.{fetched_fit, page_comes}
 
 -- the log with it
 pub valid_with : (s : EngineState) (r : Record) → IsFit s → Comes s r → IsLog (with_next (log_of s) (r ∷ []))
-valid_with s r fit come = valid_next (log_of s) r fit.valid (comes_few s r come) come.stands_at
+valid_with s r fit come =
+    valid_next (log_of s) r fit.valid (comes_few s r come) come.stands_at
+    (more-none _ r (transaction_gives_none r come.of_transaction))
+
+-- the session of the open checkpoint stays
+session_later : (s : EngineState) (r : Record) (left : Left) → IsFit s → IsOfTransaction r
+    → option_map (session_of (with_next (log_of s) (r ∷ [])) left) (open_checkpoint (s.log ++ r ∷ []))
+    ≡ option_map (session_of (log_of s) left) (open_checkpoint s.log)
+session_later s r left fit of =
+    ap (option_map (session_of (with_next (log_of s) (r ∷ [])) left)) (open_same s.log r of)
+    ∙ by_open (open_checkpoint s.log) refl
+  where
+    by_open : (o : Option Checkpoint) → open_checkpoint s.log ≡ o
+        → option_map (session_of (with_next (log_of s) (r ∷ [])) left) o ≡ option_map (session_of (log_of s) left) o
+    by_open None is = refl
+    by_open (Some c) is = ap Some (session_same (log_of s) r left c (begun_before s c fit is))
 
 -- the engine after it
 pub kept_next : {S : Type 0} (stored : S → List Page) (s : EngineState) (old new : Table) (pool after : PoolView S)
@@ -40,7 +62,7 @@ kept_next stored s old new pool after ckpts returns r kept come there noted chan
       table_of_log = record { linked = fit.linked; few = fit.valid.count; made = noted };
       pool_of_log = changed;
       session_of_log = kept.session_of_log
-          ∙ ap (option_map (session_of s.left)) (sym (open_same s.log r come.of_transaction));
+          ∙ sym (session_later s r s.left kept.fit come.of_transaction);
       returns_of_log = back;
     }
 
@@ -53,7 +75,11 @@ pub appended_is : {S D : Type 0} (stored : S → List Page) (old mid new : Writt
     → written_of after.states ≡ written_of pool.states → writing_of after.states ≡ writing_of pool.states
     → (engine_view stored new after ckpts).state ≡ appended (engine_view stored old pool ckpts).state r
 appended_is stored old mid new pool after ckpts r same same_end next next_end store frames resident written writing =
+    let count : length after.states ≡ length pool.states =
+    sym (length-map after.states (λ (s : PageState). s.written)) ∙ ap length written
+    ∙ length-map pool.states (λ (s : PageState). s.written) in
     rw (
+      count,
       next ∙ ap (λ (l : Log). with_next l (r ∷ [])) same,
       next_end ∙ same_end,
       store,

@@ -5,7 +5,7 @@ use Rattle.std.specs.Option.{option_map_or}
 use Rattle.page_core.specs.declared.page.Page.{Page}
 use Rattle.page_core.specs.Page.{formatted}
 use Rattle.page_store.specs.declared.store.StoreFault.{StoreFault}
-use Rattle.page_store.specs.Store.{ReadCall, WriteCall}
+use Rattle.page_store.specs.Store.{GrowCall, ReadCall, WriteCall}
 use Rattle.buffer_pool.specs.Frames.{is_resident}
 use Rattle.buffer_pool.specs.Pool.{PoolView, state_at}
 use Rattle.log_store.specs.WrittenLog.{WrittenLog}
@@ -13,7 +13,7 @@ use Rattle.aries_core.specs.declared.event.Event.TheVariants as event
 use Rattle.aries_core.specs.Asked.{Asks, FailsAsking, a_page, asked, nothing, page_asked, to_store}
 use Rattle.aries_core.specs.EngineState.{EngineView, MediaView, engine_view}
 use Rattle.aries_core.specs.Refusal.{refusal}
-use Rattle.aries_core.proofs.PoolStates.{image_at}
+use Rattle.aries_core.proofs.PoolStates.{image_at, page_at}
 use Rattle.aries_core.proofs.Refusals.{write_end_passes}
 
 -- what an answer that is no `Err` says, and why one failed
@@ -30,35 +30,36 @@ always (Ok x) h = h
 always (Err e) h = tt
 
 -- a page that is in memory is not asked for
-pub asks_nothing : {S D : Type 0} (gave : ReadCall S) (wrote : WriteCall S) (old new : EngineView S D) (page : ℕ)
+pub asks_nothing : {S D : Type 0} (gave : ReadCall S) (wrote : WriteCall S) (grew : GrowCall S) (old new : EngineView S D) (page : ℕ)
     → is_resident old.state.resident page ≡ true → new.store ≡ old.store
-    → Asks gave wrote (page_asked old.state page) old new
-asks_nothing gave wrote old new page there same =
-    subst (λ (b : Bool). Asks gave wrote (cond b nothing (a_page page)) old new) (sym there) same
+    → Asks gave wrote grew (page_asked old.state page) old new
+asks_nothing gave wrote grew old new page there same =
+    subst (λ (b : Bool). Asks gave wrote grew (cond b nothing (a_page page)) old new) (sym there) same
 
 -- one that is not there was read from the store, of a pool that had made room for it
-module _ {S D : Type 0} (stored : S → List Page) (gave : ReadCall S) (wrote : WriteCall S) (it : WrittenLog D)
+module _ {S D : Type 0} (stored : S → List Page) (gave : ReadCall S) (wrote : WriteCall S) (grew : GrowCall S) (it : WrittenLog D)
     (pool roomy : PoolView S) (media : MediaView) (new : EngineView S D) (page : ℕ)
-    (absent : is_resident pool.resident page ≡ false) (same : roomy ≡ record pool { room = roomy.room }) where
+    (within : page < length pool.states) (absent : is_resident pool.resident page ≡ false) (same : roomy ≡ record pool { room = roomy.room }) where
   pub asks_page : gave roomy.store page (Ok (get_or (stored roomy.store) page (formatted page))) new.store
-      → Asks gave wrote (page_asked (engine_view stored it pool media).state page) (engine_view stored it pool media)
+      → Asks gave wrote grew (page_asked (engine_view stored it pool media).state page) (engine_view stored it pool media)
       new
   asks_page given =
-      subst (λ (b : Bool). Asks gave wrote (cond b nothing (a_page page)) (engine_view stored it pool media) new)
+      subst (λ (b : Bool). Asks gave wrote grew (cond b nothing (a_page page)) (engine_view stored it pool media) new)
       (sym absent)
+      (subst (λ (q : Page). gave pool.store page (Ok q) new.store) (sym (page_at stored it pool media page within))
       (subst (λ (v : PoolView S). gave v.store page (Ok (get_or (stored v.store) page (formatted page))) new.store) same
-      given)
+      given))
 
   pub fails_asking : (why : StoreFault) × gave roomy.store page (Err why) new.store
-      → FailsAsking gave wrote (page_asked (engine_view stored it pool media).state page)
+      → FailsAsking gave wrote grew (page_asked (engine_view stored it pool media).state page)
       (engine_view stored it pool media) new
   fails_asking failed =
-      subst (λ (b : Bool). FailsAsking gave wrote (cond b nothing (a_page page)) (engine_view stored it pool media) new)
+      subst (λ (b : Bool). FailsAsking gave wrote grew (cond b nothing (a_page page)) (engine_view stored it pool media) new)
       (sym absent)
       (subst (λ (v : PoolView S). (why : StoreFault) × gave v.store page (Err why) new.store) same failed)
 
 -- the image of a page whose write ends is stored
-module _ {S D : Type 0} (stored : S → List Page) (gave : ReadCall S) (wrote : WriteCall S) (it : WrittenLog D)
+module _ {S D : Type 0} (stored : S → List Page) (gave : ReadCall S) (wrote : WriteCall S) (grew : GrowCall S) (it : WrittenLog D)
     (pool : PoolView S) (media : MediaView) (new : EngineView S D) (page : ℕ)
     (none : refusal (engine_view stored it pool media).state (event.WriteEnd page) ≡ None)
     (within : page < length pool.states) where
@@ -69,20 +70,20 @@ module _ {S D : Type 0} (stored : S → List Page) (gave : ReadCall S) (wrote : 
       ∙ (write_end_passes (engine_view stored it pool media).state page none).there
 
   pub asks_to_store : IfSome (state_at pool page).writing (λ q. wrote pool.store page q (Ok tt) new.store)
-      → Asks gave wrote (asked (engine_view stored it pool media).state (event.WriteEnd page))
+      → Asks gave wrote grew (asked (engine_view stored it pool media).state (event.WriteEnd page))
       (engine_view stored it pool media) new
   asks_to_store done =
-      subst (λ (o : Option Page). Asks gave wrote (option_map_or (to_store page) o nothing)
+      subst (λ (o : Option Page). Asks gave wrote grew (option_map_or (to_store page) o nothing)
       (engine_view stored it pool media) new)
       (sym (write_end_passes (engine_view stored it pool media).state page none).there)
       (subst (λ (o : Option Page). IfSome o (λ q. wrote pool.store page q (Ok tt) new.store)) here done)
 
   pub fails_to_store : (why : StoreFault)
       → IfSome (state_at pool page).writing (λ q. wrote pool.store page q (Err why) new.store)
-      → FailsAsking gave wrote (asked (engine_view stored it pool media).state (event.WriteEnd page))
+      → FailsAsking gave wrote grew (asked (engine_view stored it pool media).state (event.WriteEnd page))
       (engine_view stored it pool media) new
   fails_to_store why failed =
-      subst (λ (o : Option Page). FailsAsking gave wrote (option_map_or (to_store page) o nothing)
+      subst (λ (o : Option Page). FailsAsking gave wrote grew (option_map_or (to_store page) o nothing)
       (engine_view stored it pool media) new)
       (sym (write_end_passes (engine_view stored it pool media).state page none).there)
       (why, subst (λ (o : Option Page). IfSome o (λ q. wrote pool.store page q (Err why) new.store)) here failed)

@@ -1,5 +1,5 @@
 -- The open checkpoint and the master, while transactions and writes of pages go on beside them.
-use Rattle.std.proofs.Common.{◌≡◌, ℕ, ◌<◌, ◌≤◌, ◌++◌, List, [], ◌∷◌, length, get_or, set, refl, sym, ap, subst, ◌∙◌}
+use Rattle.std.proofs.Common.{◌≡◌, ℕ, ◌-◌, ◌/◌, ◌<◌, ◌≤◌, ◌++◌, List, [], ◌∷◌, length, get_or, set, refl, sym, ap, subst, ◌∙◌}
 use Rattle.std.proofs.Common.{arith, inl, inr}
 use Rattle.std.specs.Prelude.{Option, Some, None, IfSome, Result, Ok, Err}
 use Rattle.std.proofs.lemmas.List.{append_assoc}
@@ -7,27 +7,30 @@ use Rattle.std.proofs.lemmas.Option.{same_Some}
 use Rattle.page_core.specs.declared.page.Page.{Page}
 use Rattle.log_records.specs.declared.record.Record.{Record}
 use Rattle.log_records.specs.Coverage.{IsWriting}
-use Rattle.log_records.specs.Log.{IsLog, Log, lsn_of}
+use Rattle.log_records.specs.Log.{IsLog, Log, lsn_of, with_next}
+use Rattle.log_records.proofs.PageCounts.{page_count_at-append}
 use Rattle.log_records.specs.Record.{IsOfTransaction, own_lsn}
 use Rattle.log_history.specs.declared.pending_change.PendingChange.{PendingChange}
 use Rattle.log_history.specs.Checkpoint.{Checkpoint, IsCompleteCheckpoint, open_checkpoint}
 use Rattle.log_history.specs.Linked.{IsLinked, MayFollow}
 use Rattle.log_history.specs.Transactions.{last_of, pending}
-use Rattle.copy_coverage.proofs.Points.{redo_before_end}
+use Rattle.copy_coverage.proofs.Points.{begin_before_end, redo_before_end}
 use Rattle.fuzzy_ckpt.specs.declared.point.Point.{Point}
 use Rattle.fuzzy_ckpt.proofs.Covers.{all_later, all_written, behind_later, behind_written}
-use Rattle.fuzzy_ckpt.proofs.Opens.{ckpt_kept, open_same}
+use Rattle.fuzzy_ckpt.proofs.Opens.{ckpt_kept, open_before, open_same}
+use Rattle.fuzzy_ckpt.specs.Ckpt.{AreCovered, IsCkptOf}
 use Rattle.aries_core.specs.declared.event.Answer.{Answer}
 use Rattle.aries_core.specs.declared.event.Event.{Event}
 use Rattle.aries_core.specs.declared.event.Event.TheVariants as event
 use Rattle.aries_core.specs.declared.refusal.Refusal.{Refusal}
 use Rattle.aries_core.specs.declared.refusal.Refusal.TheVariants.{CommitUnsure, LogFault, OutOfMemory, StoreFault}
 use Rattle.aries_core.specs.Call.{record_for}
-use Rattle.aries_core.specs.EngineState.{EngineState, IsFit, IsGathering, IsMasterOf, effect, image_of, page_now}
+use Rattle.aries_core.specs.EngineState.{EngineState, IsFit, IsGathering, IsMasterOf, effect, image_of, log_of, page_now}
 use Rattle.aries_core.specs.Gather.{Left, session_of}
 use Rattle.aries_core.specs.Step.{Fails, Step}
 use Rattle.aries_core.proofs.Follows.{undo_has}
 use Rattle.aries_core.proofs.Gathers.{AreGathered}
+use Rattle.aries_core.proofs.GatherSteps.{session_same}
 use Rattle.aries_core.proofs.Steps.{stored_or_not}
 use Rattle.aries_core.proofs.Writes.{Begins, Ends, Leaves, PageStep, Repairs, Repeats, repairs_newer}
 use Rattle.aries_core.proofs.StepsBack.{back_has, back_record_has}
@@ -74,6 +77,7 @@ answered old (event.Take copy page) new beside is = keeps old new _ is refl refl
 answered old (event.Seal copy) new beside is = keeps old new _ is refl refl
 answered old (event.DropCopy copy) new beside is = keeps old new _ is refl refl
 answered old (event.Repair copy page) new beside is = keeps old new _ is refl refl
+answered old (event.Extend count) new beside is = keeps old new _ is refl refl
 answered old (event.Commit txn) new beside is = keeps old new _ is refl refl
 answered old (event.Abort txn) new beside is = keeps old new _ is refl refl
 answered old (event.UndoStep txn) new beside is = undo_keeps old txn new _ refl is
@@ -105,6 +109,7 @@ failed old (event.Repair copy page) StoreFault new beside fails = elim fails [
   | inl kept ↦ keeps old new _ kept refl refl
   | inr stored ↦ keeps old new _ stored refl refl
 ]
+failed old (event.Extend count) StoreFault new beside fails = keeps old new old fails refl refl
 failed old event StoreFault new beside fails = keeps old new old fails.1 refl refl
 failed old event why new beside fails = absurd fails
 
@@ -178,36 +183,39 @@ stores old new fit (Repairs page repairs) =
 
 pub gathered_later : (log : Log) (r : Record) (stored : List Page) (left : Left) → IsLog log → IsLinked log.records
     → IsOfTransaction r → MayFollow log.records r → own_lsn r ≡ lsn_of (length log.records)
-    → AreGathered log.records stored left → AreGathered (log.records ++ r ∷ []) stored left
+    → AreGathered log stored left → AreGathered (with_next log (r ∷ [])) stored left
 gathered_later log r stored left valid linked of may own are =
-    subst (λ (o : Option Checkpoint). IfSome o (IsGathering (log.records ++ r ∷ []) stored left))
-    (sym (open_same log.records r of)) (by_open (open_checkpoint log.records) are)
+    subst (λ (o : Option Checkpoint). IfSome o (IsGathering (with_next log (r ∷ [])) stored left))
+    (sym (open_same log.records r of)) (by_open (open_checkpoint log.records) refl are)
   where
-    by_open : (o : Option Checkpoint) → IfSome o (IsGathering log.records stored left)
-        → IfSome o (IsGathering (log.records ++ r ∷ []) stored left)
-    by_open None are = tt
-    by_open (Some c) are = record {
-      ckpt = ckpt_kept log r _ valid linked of may own are.ckpt;
-      covered = behind_later log r stored _ valid own are.ckpt are.covered;
-    }
+    by_open : (o : Option Checkpoint) → open_checkpoint log.records ≡ o → IfSome o (IsGathering log stored left)
+        → IfSome o (IsGathering (with_next log (r ∷ [])) stored left)
+    by_open None is are = tt
+    by_open (Some c) is are =
+        let same = sym (session_same log r left c (open_before log c valid is).begin.earlier) in
+        record {
+          ckpt = subst (IsCkptOf (with_next log (r ∷ []))) same (ckpt_kept log r _ valid linked of may own are.ckpt);
+          covered = subst (AreCovered (log.records ++ r ∷ []) stored) same
+              (behind_later log r stored _ valid own are.ckpt are.covered);
+        }
 
-pub gathered_set : (rs : List Record) (stored : List Page) (left : Left) (n : ℕ) (image d : Page)
-    → IsWriting rs n (get_or stored n d) image → n < length stored → AreGathered rs stored left
-    → AreGathered rs (set stored n image) left
-gathered_set rs stored left n image d writes there are = by_open (open_checkpoint rs) are
+pub gathered_set : (log : Log) (stored : List Page) (left : Left) (n : ℕ) (image d : Page)
+    → IsWriting log.records n (get_or stored n d) image → n < length stored → AreGathered log stored left
+    → AreGathered log (set stored n image) left
+gathered_set log stored left n image d writes there are = by_open (open_checkpoint log.records) are
   where
-    by_open : (o : Option Checkpoint) → IfSome o (IsGathering rs stored left)
-        → IfSome o (IsGathering rs (set stored n image) left)
+    by_open : (o : Option Checkpoint) → IfSome o (IsGathering log stored left)
+        → IfSome o (IsGathering log (set stored n image) left)
     by_open None are = tt
     by_open (Some c) are = record {
       ckpt = are.ckpt;
-      covered = behind_written rs stored (session_of left c) n image d writes.past writes.newer there are.covered;
+      covered = behind_written log.records stored (session_of log left c) n image d writes.past writes.newer there are.covered;
     }
 
 -- ---- the master
 
-abbrev pub HasMaster : List Record → List Page → ℕ → Option Point → Type 0
-HasMaster rs stored forced_end master = IfSome master (IsMasterOf rs stored forced_end)
+abbrev pub HasMaster : Log → List Page → ℕ → Option Point → Type 0
+HasMaster log stored forced_end master = IfSome master (IsMasterOf log stored forced_end)
 
 pub complete_later : (rs : List Record) (r : Record) (begin end : ℕ) → IsCompleteCheckpoint rs begin end
     → IsCompleteCheckpoint (rs ++ r ∷ []) begin end
@@ -221,39 +229,44 @@ complete_later rs r begin end is = record {
 
 pub master_later : (log : Log) (r : Record) (stored : List Page) (forced_end : ℕ) (master : Option Point) → IsLog log
     → own_lsn r ≡ lsn_of (length log.records) → forced_end ≤ lsn_of (length log.records)
-    → HasMaster log.records stored forced_end master → HasMaster (log.records ++ r ∷ []) stored forced_end master
+    → HasMaster log stored forced_end master → HasMaster (with_next log (r ∷ [])) stored forced_end master
 unfolding complete_later
 master_later log r stored forced_end None valid own within has = tt
 master_later log r stored forced_end (Some point) valid own within has =
     let low = redo_before_end log point.begin point.end has.complete valid in
+    let begun = begin_before_end log point.begin point.end has.complete valid in
     let same = has.same_redo in
     let forced = has.forced in
+    let place : (point.begin - 1) / 64 ≤ length log.records = omega (arith, begun, forced, within) in
     record {
       complete = complete_later log.records r point.begin point.end has.complete;
       same_redo = has.same_redo;
+      same_pages = has.same_pages ∙ sym (page_count_at-append log (r ∷ []) ((point.begin - 1) / 64) place);
       forced = forced;
       covered = all_later log.records r stored point.redo (omega arith) has.covered;
     }
 
-pub master_set : (rs : List Record) (stored : List Page) (forced_end : ℕ) (master : Option Point) (n : ℕ)
-    (image d : Page) → IsWriting rs n (get_or stored n d) image → n < length stored
-    → HasMaster rs stored forced_end master → HasMaster rs (set stored n image) forced_end master
-master_set rs stored forced_end None n image d writes there has = tt
-master_set rs stored forced_end (Some point) n image d writes there has = record {
+pub master_set : (log : Log) (stored : List Page) (forced_end : ℕ) (master : Option Point) (n : ℕ)
+    (image d : Page) → IsWriting log.records n (get_or stored n d) image → n < length stored
+    → HasMaster log stored forced_end master → HasMaster log (set stored n image) forced_end master
+master_set log stored forced_end None n image d writes there has = tt
+master_set log stored forced_end (Some point) n image d writes there has = record {
   complete = has.complete;
   same_redo = has.same_redo;
+  same_pages = has.same_pages;
   forced = has.forced;
-  covered = all_written rs stored point.redo n image d writes.past writes.newer there has.covered;
+  covered = all_written log.records stored point.redo n image d writes.past writes.newer there has.covered;
 }
 
-pub master_forced : (rs : List Record) (stored : List Page) (before after : ℕ) (master : Option Point)
-    → before ≤ after → HasMaster rs stored before master → HasMaster rs stored after master
-master_forced rs stored before after None le has = tt
-master_forced rs stored before after (Some point) le has =
+pub master_forced : (log : Log) (stored : List Page) (before after : ℕ) (master : Option Point)
+    → before ≤ after → HasMaster log stored before master → HasMaster log stored after master
+master_forced log stored before after None le has = tt
+master_forced log stored before after (Some point) le has =
     let forced = has.forced in
     record {
       complete = has.complete;
       same_redo = has.same_redo;
+      same_pages = has.same_pages;
       forced = omega arith;
       covered = has.covered;
     }
@@ -261,26 +274,26 @@ master_forced rs stored before after (Some point) le has =
 -- ---- both, as a step stores pages and appends records
 
 -- of a state: what holds of its open checkpoint, and of its master
-pub record CkptsFit (rs : List Record) (stored : List Page) (left : Left) (forced_end : ℕ)
+pub record CkptsFit (log : Log) (stored : List Page) (left : Left) (forced_end : ℕ)
     (point : Option Point) : Type 0 where
-  pub gathered : AreGathered rs stored left
-  pub master : HasMaster rs stored forced_end point
+  pub gathered : AreGathered log stored left
+  pub master : HasMaster log stored forced_end point
 
 pub ckpts_stored : (old new : EngineState) → IsFit old → PageStep old new
-    → CkptsFit old.log new.stored old.left old.forced_end old.master
+    → CkptsFit (log_of old) new.stored old.left old.forced_end old.master
 ckpts_stored old new fit step = elim (stores old new fit step) [
   | StoresNone same ↦ rw same (record { gathered = fit.gathered; master = fit.master })
   | StoresOne n image d there writes is ↦ rw is (record {
-    gathered = gathered_set old.log old.stored old.left n image d writes there fit.gathered;
-    master = master_set old.log old.stored old.forced_end old.master n image d writes there fit.master;
+    gathered = gathered_set (log_of old) old.stored old.left n image d writes there fit.gathered;
+    master = master_set (log_of old) old.stored old.forced_end old.master n image d writes there fit.master;
   })
 ]
 
 pub ckpts_later : (log : Log) (r : Record) (stored : List Page) (left : Left) (forced_end : ℕ) (master : Option Point)
     → IsLog log → IsLinked log.records → IsOfTransaction r → MayFollow log.records r
     → own_lsn r ≡ lsn_of (length log.records) → forced_end ≤ lsn_of (length log.records)
-    → CkptsFit log.records stored left forced_end master
-    → CkptsFit (log.records ++ r ∷ []) stored left forced_end master
+    → CkptsFit log stored left forced_end master
+    → CkptsFit (with_next log (r ∷ [])) stored left forced_end master
 ckpts_later log r stored left forced_end master valid linked of may own within fit = record {
   gathered = gathered_later log r stored left valid linked of may own fit.gathered;
   master = master_later log r stored forced_end master valid own within fit.master;

@@ -28,10 +28,12 @@ use Rattle.aries_core.specs.EngineState.{EngineState, effect, image_of, opened_c
 use Rattle.aries_core.specs.Run.{Run}
 use Rattle.aries_core.specs.Step.{Fails, Step}
 use Rattle.aries_core.proofs.Gathers.{ckpt_end_has, closed_part, gather_has}
-use Rattle.aries_core.proofs.Steps.{stays_or_grows, stored_or_not}
+use Rattle.aries_core.proofs.CkptLaws.{IsSized, master_of_step, notes_begun, sized_step}
+use Rattle.aries_core.proofs.Steps.{stored_or_not}
 use Rattle.aries_core.proofs.StepsBack.{back_has}
-use Rattle.aries_core.specs.EngineState.{log_of}
-use Rattle.log_records.proofs.PageCounts.{count_below_is_first}
+use Rattle.fuzzy_ckpt.specs.declared.point.Point.{Point}
+use Rattle.aries_core.specs.CkptReplies.{VolumeSize, with_point, with_size}
+use Rattle.aries_core.specs.Catalogue.{pages_of_point}
 
 -- ---- copies and their entries
 
@@ -105,7 +107,8 @@ made new state is = ap (λ (s : EngineState). entries s.copies) is
 
 took : (old : EngineState) (copy page : ℕ) (answer : Answer) (new : EngineState)
     → answer ≡ (effect old (event.Take copy page)).answer → new ≡ (effect old (event.Take copy page)).state
-    → entries new.copies ≡ with_copy_event old.pages (entries old.copies) (event.Take copy page) (Ok answer)
+    → entries new.copies
+    ≡ with_copy_event (pages_of_point old.master) (entries old.copies) (event.Take copy page) (Ok answer)
 took old copy page answer new given is =
     let state = state_of old.copies copy in
     let stored = stored_page old page in
@@ -118,7 +121,7 @@ took old copy page answer new given is =
 
 answered : (old : EngineState) (event : Event) (answer : Answer) (new : EngineState)
     → answer ≡ (effect old event).answer → new ≡ (effect old event).state
-    → entries new.copies ≡ with_copy_event old.pages (entries old.copies) event (Ok answer)
+    → entries new.copies ≡ with_copy_event (pages_of_point old.master) (entries old.copies) event (Ok answer)
 answered old event.Begin answer new given is = same_copies old new _ is refl
 answered old (event.Set txn page slot number) answer new given is = same_copies old new _ is refl
 answered old (event.Add txn page slot amount) answer new given is = same_copies old new _ is refl
@@ -138,10 +141,9 @@ answered old event.CkptGather answer new given is =
 answered old event.CkptEnd answer new given is =
     same_copies old new _ is (ckpt_end_has (λ s. s.copies ≡ old.copies) old refl (λ c. refl))
 answered old (event.Repair copy page) answer new given is = same_copies old new _ is refl
+answered old (event.Extend count) answer new given is = same_copies old new _ is refl
 answered old event.CopyFull answer new given is = made new _ is ∙ opens old.copies Full _ _ _
-    ∙ ap (with_next_copy (entries old.copies) Full) (count_below_is_first (log_of old) _)
 answered old (event.CopyInc parent) answer new given is = made new _ is ∙ opens old.copies (Inc parent) _ _ _
-    ∙ ap (with_next_copy (entries old.copies) (Inc parent)) (count_below_is_first (log_of old) _)
 answered old (event.Take copy page) answer new given is = took old copy page answer new given is
 answered old (event.Seal copy) answer new given is =
     made new _ is
@@ -167,16 +169,18 @@ failed old (event.Repair copy page) StoreFault new fails = elim fails [
   | inl kept ↦ same_copies old new _ kept refl
   | inr stored ↦ same_copies old new _ stored refl
 ]
+failed old (event.Extend count) StoreFault new fails = same_copies old new _ fails refl
 failed old event StoreFault new fails = same_copies old new _ fails.1 refl
 failed old event why new fails = absurd fails
 
 pub copies_of_step : (old : EngineState) (event : Event) (reply : Result Answer Refusal) (new : EngineState)
-    → Step old event reply new → entries new.copies ≡ with_copy_event old.pages (entries old.copies) event reply
+    → Step old event reply new
+    → entries new.copies ≡ with_copy_event (pages_of_point old.master) (entries old.copies) event reply
 copies_of_step old event (Ok answer) new step = answered old event answer new step.1 step.2
 copies_of_step old event (Err why) new (inl both) =
-    same_copies old new old both.1 refl ∙ sym (not_answered old.pages (entries old.copies) event why)
+    same_copies old new old both.1 refl ∙ sym (not_answered (pages_of_point old.master) (entries old.copies) event why)
 copies_of_step old event (Err why) new (inr both) =
-    failed old event why new both.1 ∙ sym (not_answered old.pages (entries old.copies) event why)
+    failed old event why new both.1 ∙ sym (not_answered (pages_of_point old.master) (entries old.copies) event why)
 
 -- the id that a new copy gets
 pub next_id : (old : EngineState) (kind : CopyKind) (id : ℕ)
@@ -187,21 +191,16 @@ next_id old kind id given =
 
 -- ---- a run
 
-pages_of_step : (old : EngineState) (event : Event) (reply : Result Answer Refusal) (new : EngineState)
-    → Step old event reply new → new.pages ≡ old.pages
-pages_of_step old event reply new step = elim (stays_or_grows old event reply new step) [
-  | inl stays ↦ stays.pages
-  | inr grows ↦ grows.pages
-]
-
-pub copies_of_run : (old : EngineState) (events : List Event) (replies : List (Result Answer Refusal))
-    (new : EngineState) → Run old events replies new
-    → entries new.copies ≡ catalogue_from old.pages (entries old.copies) events replies
-copies_of_run old [] [] new is = ap (λ (s : EngineState). entries s.copies) is
-copies_of_run old (event ∷ events) (reply ∷ replies) new run =
-    copies_of_run run.0 events replies new run.2
-    ∙ ap (λ (n : ℕ). catalogue_from n (entries run.0.copies) events replies)
-    (pages_of_step old event reply run.0 run.1)
-    ∙ ap (λ (es : List CatalogueEntry). catalogue_from old.pages es events replies) (copies_of_step old event reply run.0 run.1)
-copies_of_run old [] (reply ∷ replies) new run = absurd run
-copies_of_run old (event ∷ events) [] new run = absurd run
+pub copies_of_run : (old : EngineState) (size : VolumeSize) (events : List Event)
+    (replies : List (Result Answer Refusal)) (new : EngineState) → IsSized old size → Run old events replies new
+    → entries new.copies ≡ catalogue_from size old.master (entries old.copies) events replies
+copies_of_run old size [] [] new sized is = ap (λ (s : EngineState). entries s.copies) is
+copies_of_run old size (event ∷ events) (reply ∷ replies) new sized run =
+    let next = with_size size event reply in
+    copies_of_run run.0 next events replies new (sized_step old size event reply run.0 sized run.1) run.2
+    ∙ ap (λ (m : Option Point). catalogue_from next m (entries run.0.copies) events replies)
+    (master_of_step old size event reply run.0 (notes_begun old size sized) run.1)
+    ∙ ap (λ (es : List CatalogueEntry). catalogue_from next (with_point size old.master event reply) es events replies)
+    (copies_of_step old event reply run.0 run.1)
+copies_of_run old size [] (reply ∷ replies) new sized run = absurd run
+copies_of_run old size (event ∷ events) [] new sized run = absurd run

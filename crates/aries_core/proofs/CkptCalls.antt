@@ -8,13 +8,19 @@ use Rattle.page_core.specs.declared.page.Page.{Page}
 use Rattle.log_records.specs.declared.limits.TheConstants.{MAX_RECORDS}
 use Rattle.log_records.specs.declared.record.Record.{Record}
 use Rattle.log_records.specs.declared.record.Record.TheVariants.{BeginChkpt}
-use Rattle.log_records.specs.Log.{IsLog, Log, lsn_of, with_next}
+use Rattle.log_records.specs.Log.{IsLog, Log, lsn_of, page_count_below, with_next}
 use Rattle.log_records.specs.Record.{IsOfCheckpoint, change_of}
 use Rattle.log_history.specs.Checkpoint.{Checkpoint, checkpoint_after, open_checkpoint, redo_point}
+use Rattle.log_history.specs.Checkpoint.{with_pages as taking_pages, with_txn as taking_txn}
+use Rattle.log_records.specs.DirtyPage.{entries_of}
 use Rattle.log_history.specs.Linked.{MayFollow}
 use Rattle.log_history.specs.Table.{Table}
 use Rattle.log_store.specs.WrittenLog.{WrittenLog}
-use Rattle.buffer_pool.specs.Pool.{PoolView, written_of}
+use Rattle.buffer_pool.specs.Pool.{IsPoolOf, PoolView, written_of}
+use Rattle.std.proofs.Common.{◌≤◌, take}
+use Rattle.std.proofs.lemmas.List.{length-take}
+use Rattle.fuzzy_ckpt.proofs.Covers.{behind_grown}
+use Rattle.aries_core.proofs.PoolStates.{behind_volume}
 use Rattle.fuzzy_ckpt.specs.declared.point.Point.{Point}
 use Rattle.fuzzy_ckpt.specs.Ckpt.{AreCovered, CkptView, IsCkptOf, Phase, in_txns}
 use Rattle.fuzzy_ckpt.specs.Answers.{IsUnforced}
@@ -36,7 +42,8 @@ use Rattle.aries_core.specs.Refusal.{refusal}
 use Rattle.aries_core.specs.Step.{Fails, ForcedPart, Step, TakesMemory}
 use Rattle.aries_core.proofs.Fit.{fit_of_step}
 use Rattle.aries_core.proofs.Follows.{follows, gather_record_has, none_is_not_some}
-use Rattle.aries_core.proofs.GatherSteps.{cursor_after_txn, end_ckpt_follows, first_txn, gathering_of, past_is_session}
+use Rattle.aries_core.proofs.GatherSteps.{begun_before, cursor_after_txn, end_ckpt_follows, first_txn, gathering_of, new_is_session}
+use Rattle.aries_core.proofs.GatherSteps.{past_is_session, session_same}
 use Rattle.buffer_pool.proofs.Pools.{none_changes}
 use Rattle.aries_core.proofs.Gathers.{PassesPages, PassesTxns, TakesPages, TakesTxn, WasDone}
 use Rattle.aries_core.proofs.Gathers.{at_left, ckpt_end_is, gather_case, pages_record, txn_entry, with_pages, with_txn}
@@ -51,9 +58,10 @@ pub record CkptCalled {S D : Type 0} (stored : S → List Page) (it new : Writte
   pub kept : IsConsistent stored (engine_view stored new pool after).state table pool after
 
 -- the open checkpoint has this session
-abbrev HasSession : List Record → Option (CkptView Phase) → Type 0
-HasSession rs session =
-    session ≡ option_map (session_of (option_map_or (λ c. left_of c.phase) session pages_left)) (open_checkpoint rs)
+abbrev HasSession : Log → Option (CkptView Phase) → Type 0
+HasSession log session =
+    session
+    ≡ option_map (session_of log (option_map_or (λ c. left_of c.phase) session pages_left)) (open_checkpoint log.records)
 
 -- one record of a checkpoint more
 with_record : {S D : Type 0} (stored : S → List Page) (it new : WrittenLog D) (table : Table) (pool : PoolView S)
@@ -61,7 +69,7 @@ with_record : {S D : Type 0} (stored : S → List Page) (it new : WrittenLog D) 
     → IsConsistent stored (engine_view stored it pool ckpts).state table pool ckpts → EventFits call
     → Step (engine_view stored it pool ckpts).state call reply (engine_view stored new pool after).state
     → new.log ≡ with_next it.log (r ∷ []) → IsOfCheckpoint r → MayFollow it.log.records r
-    → length it.log.records < MAX_RECORDS → HasSession new.log.records after.session → after.returns ≡ ckpts.returns
+    → length it.log.records < MAX_RECORDS → HasSession new.log after.session → after.returns ≡ ckpts.returns
     → CkptCalled stored it new table pool ckpts after call reply
 with_record stored it new table pool ckpts after call reply r kept fits step logged of may few session alike =
     let s = (engine_view stored it pool ckpts).state in
@@ -85,7 +93,7 @@ pub ckpt_begun : {S D : Type 0} (stored : S → List Page) (it new : WrittenLog 
     (ckpts after : MediaView) (lsn : ℕ) → IsConsistent stored (engine_view stored it pool ckpts).state table pool ckpts
     → refusal (engine_view stored it pool ckpts).state event.CkptBegin ≡ None
     → new.log ≡ with_next it.log (BeginChkpt (end_of it.log.records) ∷ []) → new.forced_end ≡ it.forced_end
-    → after ≡ record ckpts { session = Some (new_ckpt (end_of it.log.records)) } → lsn ≡ end_of it.log.records
+    → after ≡ record ckpts { session = Some (new_ckpt it.log) } → lsn ≡ end_of it.log.records
     → CkptCalled stored it new table pool ckpts after event.CkptBegin (Ok (answer.Logged lsn))
 ckpt_begun stored it new table pool ckpts after lsn kept none logged forced is at =
     let s = (engine_view stored it pool ckpts).state in
@@ -96,42 +104,53 @@ ckpt_begun stored it new table pool ckpts after lsn kept none logged forced is a
     ≡ (effect s event.CkptBegin).state = rw (is, logged, forced, none_changes r pool.resident refl) refl in
     with_record stored it new table pool ckpts after event.CkptBegin (Ok (answer.Logged lsn)) r kept tt
     (none, ap answer.Logged at, state) logged tt passes.idle (omega arith)
-    (rw (is, logged) (ap (option_map (session_of pages_left)) (sym (open_push it.log.records r))))
+    (rw (is, logged) (ap Some (new_is_session it.log)
+    ∙ ap (option_map (session_of (with_next it.log (r ∷ [])) pages_left)) (sym (open_push it.log.records r))))
     (ap (λ (x : MediaView). x.returns) is)
 
 -- ---- its gather goes on
 
 -- what a step of a gather leaves is the session of the checkpoint that is open after it
 abbrev LeavesSession : EngineState → Gathering → Type 0
-LeavesSession s g = HasSession (with_step (log_of s) g.next).records (Some g.ckpt)
+LeavesSession s g = HasSession (with_step (log_of s) g.next) (Some g.ckpt)
 
-opened : (s : EngineState) (c : Checkpoint) (left : Left) (r : Record) → open_checkpoint s.log ≡ Some c
-    → option_map (session_of left) (open_checkpoint (s.log ++ r ∷ []))
-    ≡ option_map (session_of left) (checkpoint_after (Some c) r)
-opened s c left r is =
-    ap (option_map (session_of left)) (open_push s.log r ∙ ap (λ (o : Option Checkpoint). checkpoint_after o r) is)
+opened : (s : EngineState) (c after : Checkpoint) (left : Left) (r : Record) → open_checkpoint s.log ≡ Some c
+    → checkpoint_after (Some c) r ≡ Some after → after.begin < end s
+    → option_map (session_of (with_next (log_of s) (r ∷ [])) left) (open_checkpoint (s.log ++ r ∷ []))
+    ≡ Some (session_of (log_of s) left after)
+opened s c after left r is made before =
+    ap (option_map (session_of (with_next (log_of s) (r ∷ [])) left))
+    (open_push s.log r ∙ ap (λ (o : Option Checkpoint). checkpoint_after o r) is ∙ made)
+    ∙ ap Some (session_same (log_of s) r left after before)
 
 session_after : (s : EngineState) (c : Checkpoint) → IsFit s → open_checkpoint s.log ≡ Some c
     → LeavesSession s (next_step s c)
 session_after s c fit is =
-    let view : Phase → CkptView Phase = λ phase. record { begin = c.begin; redo = redo_point c; phase = phase } in
+    let view : Phase → CkptView Phase = λ phase. record {
+      begin = c.begin;
+      pages = page_count_below (log_of s) c.begin;
+      redo = redo_point c;
+      phase = phase;
+    } in
+    let before = begun_before s c fit is in
     elim (gather_case s c) [
       | TakesPages pages finds ↦
           subst (LeavesSession s) (sym (at_left s c pages_left finds.left ∙ ap (with_pages s c) finds.found))
-          (ap Some (past_is_session c pages) ∙ sym (opened s c pages_left (pages_record s c pages) is))
+          (ap Some (past_is_session (log_of s) c pages)
+          ∙ sym (opened s c (taking_pages (entries_of pages) c) pages_left (pages_record s c pages) is refl before))
       | PassesPages finds ↦
           subst (LeavesSession s) (sym (at_left s c pages_left finds.left ∙ ap (with_pages s c) finds.found))
           (ap (λ n. Some (view (in_txns n))) (sym (first_txn s c fit is finds.left))
-          ∙ sym (ap (option_map (session_of txns_left)) is))
+          ∙ sym (ap (option_map (session_of (log_of s) txns_left)) is))
       | TakesTxn t finds ↦
           subst (LeavesSession s) (sym (at_left s c txns_left finds.left ∙ ap (with_txn s c) finds.found))
           (ap (λ n. Some (view (in_txns n))) (sym (cursor_after_txn c t))
-          ∙ sym (opened s c txns_left (txn_entry s c t) is))
+          ∙ sym (opened s c (taking_txn t c) txns_left (txn_entry s c t) is refl before))
       | PassesTxns finds ↦
           subst (LeavesSession s) (sym (at_left s c txns_left finds.left ∙ ap (with_txn s c) finds.found))
-          (sym (ap (option_map (session_of none_left)) is))
+          (sym (ap (option_map (session_of (log_of s) none_left)) is))
       | WasDone left ↦
-          subst (LeavesSession s) (sym (at_left s c none_left left)) (sym (ap (option_map (session_of none_left)) is))
+          subst (LeavesSession s) (sym (at_left s c none_left left)) (sym (ap (option_map (session_of (log_of s) none_left)) is))
     ]
 
 -- the record of a step changes no page
@@ -155,23 +174,35 @@ gathered_state stored it new pool ckpts after (Some r) v none logged forced is =
 -- the open checkpoint is the one of the session
 session_is : {S : Type 0} (stored : S → List Page) (s : EngineState) (table : Table) (pool : PoolView S)
     (ckpts : MediaView) (c : Checkpoint) (v : CkptView Phase) → IsConsistent stored s table pool ckpts
-    → open_checkpoint s.log ≡ Some c → ckpts.session ≡ Some v → v ≡ session_of s.left c
+    → open_checkpoint s.log ≡ Some c → ckpts.session ≡ Some v → v ≡ session_of (log_of s) s.left c
 session_is stored s table pool ckpts c v kept is has =
-    same_Some _ _ (sym has ∙ kept.session_of_log ∙ ap (option_map (session_of s.left)) is)
+    same_Some _ _ (sym has ∙ kept.session_of_log ∙ ap (option_map (session_of (log_of s) s.left)) is)
 
 -- what the engine knows of its session
 pub session_covered : {S : Type 0} (stored : S → List Page) (s : EngineState) (table : Table) (pool : PoolView S)
     (ckpts : MediaView) (v : CkptView Phase) → IsConsistent stored s table pool ckpts → ckpts.session ≡ Some v
-    → IsCkptOf s.log v × AreCovered s.log s.stored v
+    → IsCkptOf (log_of s) v × AreCovered s.log s.stored v
 session_covered stored s table pool ckpts v kept has = by_open (open_checkpoint s.log) refl
   where
-    by_open : (o : Option Checkpoint) → open_checkpoint s.log ≡ o → IsCkptOf s.log v × AreCovered s.log s.stored v
+    by_open : (o : Option Checkpoint) → open_checkpoint s.log ≡ o → IsCkptOf (log_of s) v × AreCovered s.log s.stored v
     by_open None is =
-        absurd (none_is_not_some (sym (kept.session_of_log ∙ ap (option_map (session_of s.left)) is) ∙ has))
+        absurd (none_is_not_some (sym (kept.session_of_log ∙ ap (option_map (session_of (log_of s) s.left)) is) ∙ has))
     by_open (Some c) is =
         let same = session_is stored s table pool ckpts c v kept is has in
         let now = gathering_of s c s.left kept.fit is refl in
-        (subst (IsCkptOf s.log) (sym same) now.ckpt, subst (AreCovered s.log s.stored) (sym same) now.covered)
+        (subst (IsCkptOf (log_of s)) (sym same) now.ckpt, subst (AreCovered s.log s.stored) (sym same) now.covered)
+
+-- the pages behind the volume are covered too
+pub whole_covered : {S : Type 0} (stored : S → List Page) (log : Log) (pool : PoolView S) (v : CkptView Phase)
+    → IsPoolOf stored log pool → length pool.states ≤ length (stored pool.store)
+    → AreCovered log.records (take (length pool.states) (stored pool.store)) v
+    → AreCovered log.records (stored pool.store) v
+whole_covered stored log pool v is enough covered =
+    let first = take (length pool.states) (stored pool.store) in
+    let grown = behind_volume stored log pool is enough in
+    subst (λ (ps : List Page). AreCovered log.records ps v) (sym grown.1)
+    (behind_grown log first grown.0 is.valid
+    (omega (arith, is.pages, length-take (length pool.states) (stored pool.store))) v covered)
 
 gathered_kept : {S D : Type 0} (stored : S → List Page) (it new : WrittenLog D) (table : Table) (pool : PoolView S)
     (ckpts after : MediaView) (reply : Result Answer Refusal) (next : Option Record)
@@ -179,7 +210,7 @@ gathered_kept : {S D : Type 0} (stored : S → List Page) (it new : WrittenLog D
     → refusal (engine_view stored it pool ckpts).state event.CkptGather ≡ None
     → Step (engine_view stored it pool ckpts).state event.CkptGather reply (engine_view stored new pool after).state
     → gathered_record (engine_view stored it pool ckpts).state ≡ next → new.log ≡ with_step it.log next
-    → HasSession new.log.records after.session → after.returns ≡ ckpts.returns
+    → HasSession new.log after.session → after.returns ≡ ckpts.returns
     → CkptCalled stored it new table pool ckpts after event.CkptGather reply
 gathered_kept stored it new table pool ckpts after reply None kept none step made logged session alike =
     let s = (engine_view stored it pool ckpts).state in
@@ -258,7 +289,7 @@ pub ckpt_ended : {S D : Type 0} (stored : S → List Page) (it new : WrittenLog 
     → refusal (engine_view stored it pool ckpts).state event.CkptEnd ≡ None → ckpts.session ≡ Some v
     → new.log ≡ with_next it.log (end_record it.log.records v ∷ []) → new.forced_end ≡ end_of new.log.records
     → after ≡ record ckpts { master = Some point; session = None }
-    → point ≡ record { begin = v.begin; end = end_of it.log.records; redo = v.redo }
+    → point ≡ record { begin = v.begin; end = end_of it.log.records; redo = v.redo; pages = v.pages }
     → CkptCalled stored it new table pool ckpts after event.CkptEnd (Ok (answer.Point point.begin point.end point.redo))
 ckpt_ended stored it new table pool ckpts after v point kept none has logged forced is at =
     let s = (engine_view stored it pool ckpts).state in
@@ -269,7 +300,7 @@ ckpt_ended stored it new table pool ckpts after v point kept none has logged for
     let next : new.log ≡ with_next it.log (r ∷ []) =
     logged ∙ ap (λ (x : CkptView Phase). with_next it.log (end_record it.log.records x ∷ [])) same in
     let named : point ≡ point_of s c =
-    at ∙ ap (λ (x : CkptView Phase). record { begin = x.begin; end = end_of it.log.records; redo = x.redo }) same in
+    at ∙ ap (λ (x : CkptView Phase). record { begin = x.begin; end = end_of it.log.records; redo = x.redo; pages = x.pages }) same in
     let ends : new.forced_end ≡ end_of (it.log.records ++ r ∷ []) = forced ∙ ap (λ (l : Log). end_of l.records) next in
     let outcome = ckpt_end_is s c passes.still_open in
     let state : (engine_view stored new pool after).state ≡ (effect s event.CkptEnd).state =
@@ -280,7 +311,7 @@ ckpt_ended stored it new table pool ckpts after v point kept none has logged for
     with_record stored it new table pool ckpts after event.CkptEnd
     (Ok (answer.Point point.begin point.end point.redo)) r
     kept tt (none, answered, state) next tt (end_ckpt_follows s c kept.fit passes.still_open passes.done) (omega arith)
-    (rw (is, next) (ap (option_map (session_of pages_left)) (sym (open_push it.log.records r))))
+    (rw (is, next) (ap (option_map (session_of (with_next it.log (r ∷ [])) pages_left)) (sym (open_push it.log.records r))))
     (ap (λ (x : MediaView). x.returns) is)
 
 -- the log's device failed
@@ -314,7 +345,7 @@ ckpt_unforced stored it new table pool ckpts after v kept none has failed is =
     let room = passes.room in
     with_record stored it new table pool ckpts after event.CkptEnd (Err LogFault) r kept tt (inr (none, fails)) next tt
     (end_ckpt_follows s c kept.fit passes.still_open passes.done) (omega arith)
-    (rw (is, next) (ap (option_map (session_of pages_left)) (sym (open_push it.log.records r))))
+    (rw (is, next) (ap (option_map (session_of (with_next it.log (r ∷ [])) pages_left)) (sym (open_push it.log.records r))))
     (ap (λ (x : MediaView). x.returns) is)
 
 -- ---- nothing has changed

@@ -1,14 +1,16 @@
 -- The open checkpoint and the master after a step.
-use Rattle.std.proofs.Common.{◌≡◌, ℕ, ◌≤◌, ◌++◌, ◌⊎◌, List, [], ◌∷◌, length, refl, sym, ap, subst, ◌∙◌, arith, inl, inr}
+use Rattle.std.proofs.Common.{◌≡◌, ◌≤◌, ◌⊎◌, List, [], ◌∷◌, length, refl, sym, ap, subst, ◌∙◌, arith, inl, inr}
 use Rattle.std.specs.Prelude.{Option, Some, None, IfSome, IsSomeAnd, Result, Ok, Err}
 use Rattle.std.proofs.lemmas.List.{length_push}
 use Rattle.page_core.specs.declared.page.Page.{Page}
 use Rattle.log_records.specs.declared.record.Record.{Record}
 use Rattle.log_records.specs.declared.record.Record.TheVariants.{BeginChkpt}
-use Rattle.log_records.specs.Log.{lsn_of}
+use Rattle.log_records.specs.Log.{Log, lsn_of, with_next}
 use Rattle.log_records.specs.Record.{own_lsn}
 use Rattle.log_history.specs.Checkpoint.{Checkpoint, open_checkpoint}
-use Rattle.fuzzy_ckpt.proofs.Ends.{begun_is, end_covers}
+use Rattle.fuzzy_ckpt.specs.Ckpt.{IsCkptOf}
+use Rattle.fuzzy_ckpt.specs.Steps.{end_of}
+use Rattle.fuzzy_ckpt.proofs.Ends.{begun_is, end_covers, end_pages}
 use Rattle.fuzzy_ckpt.proofs.Opens.{open_push}
 use Rattle.aries_core.specs.declared.event.Answer.{Answer}
 use Rattle.aries_core.specs.declared.event.Event.{Event}
@@ -28,14 +30,14 @@ use Rattle.aries_core.proofs.Forces.{Forces}
 use Rattle.aries_core.proofs.Gathers.{AreGathered, PassesPages, PassesTxns, TakesPages, TakesTxn, WasDone, ckpt_end_is}
 use Rattle.aries_core.proofs.Gathers.{closed_part, gather_case, pages_record, passes_pages, passes_txns, takes_pages}
 use Rattle.aries_core.proofs.Gathers.{takes_txn, txn_entry, was_done}
-use Rattle.aries_core.proofs.GatherSteps.{gathering_of, pages_gathered, pages_passed, txn_gathered, txns_passed}
+use Rattle.aries_core.proofs.GatherSteps.{gathering_of, new_is_session, pages_gathered, pages_passed, txn_gathered, txns_passed}
 use Rattle.aries_core.proofs.Refusals.{ckpt_end_passes, gather_passes}
 use Rattle.aries_core.proofs.Stands.{stands}
 use Rattle.aries_core.proofs.Steps.{Grows, Stays}
 use Rattle.aries_core.proofs.Writes.{PageStep}
 
 abbrev pub FitsCkpts : EngineState → Type 0
-FitsCkpts s = CkptsFit s.log s.stored s.left s.forced_end s.master
+FitsCkpts s = CkptsFit (log_of s) s.stored s.left s.forced_end s.master
 
 ckpts_now : (s : EngineState) → IsFit s → FitsCkpts s
 ckpts_now s fit = record { gathered = fit.gathered; master = fit.master }
@@ -45,18 +47,22 @@ forced_within s fit = let k = fit.forced.0 in let le = fit.forced.1 in let is = 
 
 -- the master with one more record
 pub master_now : (s : EngineState) (r : Record) → IsFit s → own_lsn r ≡ end s
-    → IfSome s.master (IsMasterOf (s.log ++ r ∷ []) s.stored s.forced_end)
+    → IfSome s.master (IsMasterOf (with_next (log_of s) (r ∷ [])) s.stored s.forced_end)
 master_now s r fit own = master_later (log_of s) r s.stored s.forced_end s.master fit.valid own
     (forced_within s fit) fit.master
 
 -- ---- a checkpoint begins
 
-begun_gathered : (rs : List Record) (stored : List Page) (lsn : ℕ) → AreGathered
-    (rs ++ BeginChkpt lsn ∷ []) stored pages_left
-begun_gathered rs stored lsn =
-    subst (λ (o : Option Checkpoint). IfSome o (IsGathering (rs ++ BeginChkpt lsn ∷ []) stored pages_left))
-    (sym (open_push rs (BeginChkpt lsn)))
-    (record { ckpt = begun_is rs lsn; covered = λ p d lt passed. absurd (omega arith) })
+begun_gathered : (log : Log) (stored : List Page)
+    → AreGathered (with_next log (BeginChkpt (end_of log.records) ∷ [])) stored pages_left
+begun_gathered log stored =
+    let next = with_next log (BeginChkpt (end_of log.records) ∷ []) in
+    subst (λ (o : Option Checkpoint). IfSome o (IsGathering next stored pages_left))
+    (sym (open_push log.records (BeginChkpt (end_of log.records))))
+    (record {
+      ckpt = subst (IsCkptOf next) (new_is_session log) (begun_is log);
+      covered = λ p d lt passed. absurd (omega arith);
+    })
 
 -- ---- its gather goes on
 
@@ -89,20 +95,20 @@ gathered_fit old new fit none is =
           })
       | WasDone left ↦
           subst FitsCkpts (sym (is ∙ ap (λ o. o.state) (was_done old c open_now left).outcome)) (record {
-            gathered = subst (AreGathered old.log old.stored) left fit.gathered;
+            gathered = subst (AreGathered (log_of old) old.stored) left fit.gathered;
             master = fit.master;
           })
     ]
 
 -- ---- it ends
 
-none_gathered : (s : EngineState) (c : Checkpoint) → AreGathered (s.log ++ end_ckpt_record s c ∷ []) s.stored pages_left
+none_gathered : (s : EngineState) (c : Checkpoint) → AreGathered (with_next (log_of s) (end_ckpt_record s c ∷ [])) s.stored pages_left
 none_gathered s c =
-    subst (λ (o : Option Checkpoint). IfSome o (IsGathering (s.log ++ end_ckpt_record s c ∷ []) s.stored pages_left))
+    subst (λ (o : Option Checkpoint). IfSome o (IsGathering (with_next (log_of s) (end_ckpt_record s c ∷ [])) s.stored pages_left))
     (sym (open_push s.log (end_ckpt_record s c))) tt
 
 point_is_master : (s : EngineState) (c : Checkpoint) → IsFit s → open_checkpoint s.log ≡ Some c → s.left ≡ none_left
-    → IsMasterOf (s.log ++ end_ckpt_record s c ∷ []) s.stored (end (closed s c)) (point_of s c)
+    → IsMasterOf (with_next (log_of s) (end_ckpt_record s c ∷ [])) s.stored (end (closed s c)) (point_of s c)
 point_is_master s c fit is done =
     let r = end_ckpt_record s c in
     let now = gathering_of s c none_left fit is done in
@@ -115,8 +121,9 @@ point_is_master s c fit is done =
         begun = subst (λ (o : Option Checkpoint). IsSomeAnd o (λ x. x.begin ≡ c.begin)) (sym is) refl;
       };
       same_redo = refl;
+      same_pages = end_pages (log_of s) (session_of (log_of s) none_left c) fit.valid now.ckpt;
       forced = omega (arith, length_push s.log r);
-      covered = end_covers (log_of s) (session_of none_left c) s.stored fit.valid now.ckpt now.covered;
+      covered = end_covers (log_of s) (session_of (log_of s) none_left c) s.stored fit.valid now.ckpt now.covered;
     }
 
 ended_fit : (old new : EngineState) → IsFit old → refusal old event.CkptEnd ≡ None
@@ -139,7 +146,7 @@ unforced_fit old new fit fails =
     let at = ap (λ (s : EngineState). s.forced_end) is in
     subst FitsCkpts (sym is) (record {
       gathered = none_gathered old c;
-      master = master_forced (closed old c).log old.stored old.forced_end (lsn_of k) old.master (omega arith)
+      master = master_forced (log_of (closed old c)) old.stored old.forced_end (lsn_of k) old.master (omega arith)
           (master_now old (end_ckpt_record old c) fit refl);
     })
 
@@ -151,17 +158,17 @@ beside_fit : (old : EngineState) (event : Event) (reply : Result Answer Refusal)
 beside_fit old event reply new fit numbers beside forces pages kind step =
     let keeps = keeps_ckpts old event reply new beside step in
     let stored = ckpts_stored old new fit pages in
-    let so_far : CkptsFit new.log new.stored old.left old.forced_end old.master = elim kind [
-      | inl stays ↦ rw stays.log stored
+    let so_far : CkptsFit (log_of new) new.stored old.left old.forced_end old.master = elim kind [
+      | inl stays ↦ rw (stays.pages, stays.log) stored
       | inr grows ↦
           let r = grows.r in
-          rw grows.log (ckpts_later (log_of old) r new.stored old.left old.forced_end old.master fit.valid fit.linked
+          rw (grows.pages, grows.log) (ckpts_later (log_of old) r new.stored old.left old.forced_end old.master fit.valid fit.linked
           (of_transaction old event r beside grows.made) (follows old event r fit grows.accepted grows.made)
           (stands old event r fit numbers grows.accepted grows.made).lsn (forced_within old fit) stored)
     ] in
     rw (keeps.left, keeps.master) (record {
       gathered = so_far.gathered;
-      master = master_forced new.log new.stored old.forced_end new.forced_end old.master forces.no_less so_far.master;
+      master = master_forced (log_of new) new.stored old.forced_end new.forced_end old.master forces.no_less so_far.master;
     })
 
 -- ---- each step
@@ -171,7 +178,7 @@ pub ckpts_fit : (old : EngineState) (event : Event) (reply : Result Answer Refus
     → Stays old event reply new ⊎ Grows old event reply new → Step old event reply new → FitsCkpts new
 ckpts_fit old event.CkptBegin (Ok answer) new fit numbers forces pages kind step =
     subst FitsCkpts (sym step.2) (record {
-      gathered = begun_gathered old.log old.stored (end old);
+      gathered = begun_gathered (log_of old) old.stored;
       master = master_now old (begin_ckpt_record old) fit refl;
     })
 ckpts_fit old event.CkptGather

@@ -1,5 +1,5 @@
 -- Laws of checkpoints, of steps and of whole runs.
-use Rattle.std.proofs.Common.{◌≡◌, ℕ, ◌<◌, ◌≤◌, ◌↔◌, ◌++◌, Bool, true, false, not, List, [], ◌∷◌, get_or, refl, sym, ap}
+use Rattle.std.proofs.Common.{◌≡◌, ℕ, ◌-◌, ◌/◌, ◌<◌, ◌≤◌, ◌↔◌, ◌++◌, Bool, true, false, not, List, [], ◌∷◌, get_or, length, refl, sym, ap}
 use Rattle.std.proofs.Common.{subst, subst₂, ◌∙◌, arith, inl, inr}
 use Rattle.std.specs.Prelude.{Option, Some, None, IfSome, IsSome, IsSomeAnd, Result, Ok, Err, is_none, is_some}
 use Rattle.std.proofs.lemmas.List.{length_push}
@@ -16,8 +16,21 @@ use Rattle.aries_core.specs.declared.event.Event.TheVariants as event
 use Rattle.aries_core.specs.declared.refusal.Refusal.{Refusal}
 use Rattle.aries_core.specs.declared.refusal.Refusal.TheVariants.{CkptOpen, GatherLeft, LogFault, LogFull, NoCkpt}
 use Rattle.aries_core.specs.declared.refusal.Refusal.TheVariants.{OutOfMemory, StoreFault}
-use Rattle.aries_core.specs.CkptReplies.{gather_from, point_from, with_gather, with_point}
-use Rattle.aries_core.specs.EngineState.{EngineState, IsFit, IsMasterOf, effect, end, end_ckpt_record}
+use Rattle.aries_core.specs.CkptReplies.{VolumeSize, gather_from, new_size, point_from, with_gather, with_point, with_size}
+use Rattle.aries_core.specs.EngineState.{EngineState, IsFit, IsMasterOf, begin_ckpt_record, effect, end, end_ckpt_record}
+use Rattle.aries_core.specs.EngineState.{log_of, new_state}
+use Rattle.aries_core.specs.Call.{record_for}
+use Rattle.aries_core.proofs.Follows.{end_record_has, gather_record_has}
+use Rattle.aries_core.proofs.NoCounts.{call_gives_none}
+use Rattle.std.specs.Option.{option_map_or}
+use Rattle.log_records.specs.declared.record.Record.{Record}
+use Rattle.log_records.specs.Log.{Log, lsn_of, page_count, page_count_below, with_next}
+use Rattle.log_records.specs.PageCount.{given_count}
+use Rattle.log_records.specs.Record.{IsOfTransaction}
+use Rattle.log_records.proofs.GivenNone.{page_count-same}
+use Rattle.log_records.proofs.PageCounts.{count_behind-nil, page_count_at-append}
+use Rattle.log_history.specs.Checkpoint.{checkpoint_after}
+use Rattle.fuzzy_ckpt.proofs.Ends.{begun_is}
 use Rattle.aries_core.specs.EngineState.{volume_pages}
 use Rattle.aries_core.specs.Gather.{is_done}
 use Rattle.aries_core.specs.Refusal.{has_no_room, or_else, refused_if, refusal}
@@ -33,12 +46,16 @@ use Rattle.aries_core.proofs.Steps.{stays_or_grows}
 -- ---- the master of a fit engine
 
 of_master : (s : EngineState) (point : Point) → IsFit s → s.master ≡ Some point
-    → IsMasterOf s.log s.stored s.forced_end point
-of_master s point fit is = subst (λ (o : Option Point). IfSome o (IsMasterOf s.log s.stored s.forced_end)) is fit.master
+    → IsMasterOf (log_of s) s.stored s.forced_end point
+of_master s point fit is = subst (λ (o : Option Point). IfSome o (IsMasterOf (log_of s) s.stored s.forced_end)) is fit.master
 
 pub master_is_complete : (s : EngineState) (point : Point) → IsFit s → s.master ≡ Some point
     → IsCompleteCheckpoint s.log point.begin point.end × (point.end < s.forced_end)
 master_is_complete s point fit is = let has = of_master s point fit is in (has.complete, has.forced)
+
+pub master_has_pages : (s : EngineState) (point : Point) → IsFit s → s.master ≡ Some point
+    → point.pages ≡ page_count_below (log_of s) point.begin
+master_has_pages s point fit is = (of_master s point fit is).same_pages
 
 pub redo_is_covered : (s : EngineState) (point : Point) (page : ℕ) (d : Page) → IsFit s → page < volume_pages s
     → s.master ≡ Some point → Covers s.log page (get_or s.stored page d) point.redo
@@ -52,7 +69,12 @@ pub point_is_master : (old : EngineState) (begin end redo : ℕ) (new : EngineSt
     → Step old event.CkptEnd (Ok (answer.Point begin end redo)) new
     → IsSomeAnd (open_checkpoint old.log) (λ c. (begin ≡ c.begin) × (redo ≡ redo_point c))
     × (new.log ≡ old.log ++ log.EndChkpt end begin redo ∷ []) × (end < new.forced_end)
-    × (new.master ≡ Some (record { begin = begin; end = end; redo = redo }))
+    × (new.master ≡ Some (record {
+      begin = begin;
+      end = end;
+      redo = redo;
+      pages = page_count_below (log_of old) begin;
+    }))
 point_is_master old begin at redo new step =
     let passes = ckpt_end_passes old step.0 in
     let c = passes.ckpt in
@@ -112,29 +134,32 @@ unforced_leaves old new (inr both) = unforced_at old new both.1
 
 -- ---- which checkpoint ended last
 
-same_if_beside : (point : Option Point) (event : Event) (reply : Result Answer Refusal) → IsBeside event
-    → with_point point event reply ≡ point
-same_if_beside point event.CkptBegin reply beside = absurd beside
-same_if_beside point event.CkptGather reply beside = absurd beside
-same_if_beside point event.CkptEnd reply beside = absurd beside
-same_if_beside point event reply beside = refl
+same_if_beside : (size : VolumeSize) (point : Option Point) (event : Event) (reply : Result Answer Refusal)
+    → IsBeside event → with_point size point event reply ≡ point
+same_if_beside size point event.CkptBegin reply beside = absurd beside
+same_if_beside size point event.CkptGather reply beside = absurd beside
+same_if_beside size point event.CkptEnd reply beside = absurd beside
+same_if_beside size point event reply beside = refl
 
-not_answered : (point : Option Point) (event : Event) (why : Refusal) → with_point point event (Err why) ≡ point
-not_answered point event.CkptEnd why = refl
-not_answered point event why = refl
+-- of the open checkpoint, if one is, this is the page count at its begin
+abbrev NotesBegun : EngineState → VolumeSize → Type 0
+NotesBegun s size = (c : Checkpoint) → open_checkpoint s.log ≡ Some c → size.begun ≡ page_count_below (log_of s) c.begin
 
 same_master : (old new state : EngineState) → new ≡ state → state.master ≡ old.master → new.master ≡ old.master
 same_master old new state is same = ap (λ (s : EngineState). s.master) is ∙ same
 
-ended_point : (old : EngineState) (reply : Answer) (new : EngineState) → refusal old event.CkptEnd ≡ None
+ended_point : (old : EngineState) (size : VolumeSize) (reply : Answer) (new : EngineState) → NotesBegun old size
+    → refusal old event.CkptEnd ≡ None
     → reply ≡ (effect old event.CkptEnd).answer → new ≡ (effect old event.CkptEnd).state
-    → new.master ≡ with_point old.master event.CkptEnd (Ok reply)
-ended_point old reply new none given is =
+    → new.master ≡ with_point size old.master event.CkptEnd (Ok reply)
+ended_point old size reply new notes none given is =
     let passes = ckpt_end_passes old none in
     let c = passes.ckpt in
     let outcome = ckpt_end_is old c passes.still_open in
     ap (λ (s : EngineState). s.master) (is ∙ ap (λ o. o.state) outcome)
-    ∙ ap (λ (a : Answer). with_point old.master event.CkptEnd (Ok a)) (sym (given ∙ ap (λ o. o.answer) outcome))
+    ∙ ap (λ (n : ℕ). Some (record { begin = c.begin; end = end old; redo = redo_point c; pages = n }))
+    (sym (notes c passes.still_open))
+    ∙ ap (λ (a : Answer). with_point size old.master event.CkptEnd (Ok a)) (sym (given ∙ ap (λ o. o.answer) outcome))
 
 failed_point : (old : EngineState) (why : Refusal) (new : EngineState) → Fails old event.CkptEnd why new
     → new.master ≡ old.master
@@ -153,37 +178,188 @@ failed_gather old OutOfMemory new fails = fails.1
 failed_gather old StoreFault new fails = absurd fails.0
 failed_gather old why new fails = absurd fails
 
-pub master_of_step : (old : EngineState) (event : Event) (reply : Result Answer Refusal) (new : EngineState)
-    → Step old event reply new → new.master ≡ with_point old.master event reply
-master_of_step old event.CkptBegin (Ok reply) new step = same_master old new _ step.2 refl
-master_of_step old event.CkptGather (Ok reply) new step =
+pub master_of_step : (old : EngineState) (size : VolumeSize) (event : Event) (reply : Result Answer Refusal)
+    (new : EngineState) → NotesBegun old size
+    → Step old event reply new → new.master ≡ with_point size old.master event reply
+master_of_step old size event.CkptBegin (Ok reply) new notes step = same_master old new _ step.2 refl
+master_of_step old size event.CkptGather (Ok reply) new notes step =
     same_master old new _ step.2 (gather_has (λ s. s.master ≡ old.master) old refl (λ left. refl) (λ r left. refl))
-master_of_step old event.CkptEnd (Ok reply) new step = ended_point old reply new step.0 step.1 step.2
-master_of_step old event.CkptBegin (Err why) new (inl both) = same_master old new old both.1 refl
-master_of_step old event.CkptBegin (Err why) new (inr both) = same_master old new old
+master_of_step old size event.CkptEnd (Ok reply) new notes step = ended_point old size reply new notes step.0 step.1 step.2
+master_of_step old size event.CkptBegin (Err why) new notes (inl both) = same_master old new old both.1 refl
+master_of_step old size event.CkptBegin (Err why) new notes (inr both) = same_master old new old
     (failed_begin old why new both.1) refl
-master_of_step old event.CkptGather (Err why) new (inl both) = same_master old new old both.1 refl
-master_of_step old event.CkptGather (Err why) new (inr both) = same_master old new old
+master_of_step old size event.CkptGather (Err why) new notes (inl both) = same_master old new old both.1 refl
+master_of_step old size event.CkptGather (Err why) new notes (inr both) = same_master old new old
     (failed_gather old why new both.1) refl
-master_of_step old event.CkptEnd (Err why) new (inl both) = same_master old new old both.1 refl
-master_of_step old event.CkptEnd (Err why) new (inr both) = failed_point old why new both.1
-master_of_step old event reply new step =
-    (keeps_ckpts old event reply new tt step).master ∙ sym (same_if_beside old.master event reply tt)
+master_of_step old size event.CkptEnd (Err why) new notes (inl both) = same_master old new old both.1 refl
+master_of_step old size event.CkptEnd (Err why) new notes (inr both) = failed_point old why new both.1
+master_of_step old size event reply new notes step =
+    (keeps_ckpts old event reply new tt step).master ∙ sym (same_if_beside size old.master event reply tt)
 
 -- a master stays one, or another takes its place
-pub has_point : (point : Option Point) (event : Event) (reply : Result Answer Refusal) → IsSome point
-    → IsSome (with_point point event reply)
-has_point point event.CkptEnd (Ok (answer.Point begin last redo)) has = refl
-has_point point event reply has = has
+has_point : (size : VolumeSize) (point : Option Point) (event : Event) (reply : Result Answer Refusal) → IsSome point
+    → IsSome (with_point size point event reply)
+has_point size point event.CkptEnd (Ok (answer.Point begin last redo)) has = refl
+has_point size point event reply has = has
 
-pub master_of_run : (old : EngineState) (events : List Event) (replies : List (Result Answer Refusal))
-    (new : EngineState) → Run old events replies new → new.master ≡ point_from old.master events replies
-master_of_run old [] [] new is = ap (λ (s : EngineState). s.master) is
-master_of_run old (event ∷ events) (reply ∷ replies) new run =
-    master_of_run run.0 events replies new run.2
-    ∙ ap (λ (m : Option Point). point_from m events replies) (master_of_step old event reply run.0 run.1)
-master_of_run old [] (reply ∷ replies) new run = absurd run
-master_of_run old (event ∷ events) [] new run = absurd run
+pub master_stays : (old : EngineState) (event : Event) (reply : Result Answer Refusal) (new : EngineState)
+    → Step old event reply new → IsSome old.master → IsSome new.master
+master_stays old event reply new step has =
+    let count = option_map_or (λ c. page_count_below (log_of old) c.begin) (open_checkpoint old.log) 0 in
+    let size : VolumeSize = record { now = 0; begun = count } in
+    subst (λ (o : Option Point). IsSome o)
+    (sym (master_of_step old size event reply new
+    (λ c is. ap (λ o. option_map_or (λ x. page_count_below (log_of old) x.begin) o 0) is) step))
+    (has_point size old.master event reply has)
+
+-- ---- the page count along a run
+
+-- the page count of the state, and at the begin of its open checkpoint
+pub record IsSized (s : EngineState) (size : VolumeSize) : Type 0 where
+  pub now : size.now ≡ volume_pages s
+  pub begun : IfSome (open_checkpoint s.log)
+      (λ c. (c.begin < end s) × (size.begun ≡ page_count_below (log_of s) c.begin))
+
+pub notes_begun : (s : EngineState) (size : VolumeSize) → IsSized s size → NotesBegun s size
+notes_begun s size sized = λ c is.
+    (subst (λ (o : Option Checkpoint). IfSome o
+    (λ x. (x.begin < end s) × (size.begun ≡ page_count_below (log_of s) x.begin))) is sized.begun).1
+
+pub new_is_sized : (pages frames : ℕ) → IsSized (new_state pages frames) (new_size pages)
+new_is_sized pages frames = record { now = sym (count_behind-nil pages); begun = tt }
+
+-- a record that begins no checkpoint
+abbrev BeginsNone : Record → Type 0
+BeginsNone (log.BeginChkpt lsn) = ⊥
+BeginsNone other = Unit {0}
+
+not_begin : (r : Record) → IsOfTransaction r → BeginsNone r
+not_begin (log.BeginChkpt lsn) of = absurd of
+not_begin (log.Begin lsn txn) of = tt
+not_begin (log.Update lsn txn prev page slot change) of = tt
+not_begin (log.Comp lsn txn prev undo_next page slot change) of = tt
+not_begin (log.Commit lsn txn prev) of = tt
+not_begin (log.Abort lsn txn prev) of = tt
+not_begin (log.End lsn txn prev) of = tt
+not_begin (log.ChkptPages lsn begin pages) of = tt
+not_begin (log.ChkptTxns lsn begin txn state last undo_next) of = tt
+not_begin (log.EndChkpt lsn begin redo) of = tt
+not_begin (log.Extend lsn count) of = tt
+
+-- it leaves the begin of the open checkpoint, or closes it
+begin_stays : (Q : ℕ → Type 0) (o : Option Checkpoint) (r : Record) → BeginsNone r → IfSome o (λ c. Q c.begin)
+    → IfSome (checkpoint_after o r) (λ c. Q c.begin)
+begin_stays Q o (log.BeginChkpt lsn) not has = absurd not
+begin_stays Q None (log.ChkptPages lsn begin pages) not has = tt
+begin_stays Q (Some c) (log.ChkptPages lsn begin pages) not has = has
+begin_stays Q None (log.ChkptTxns lsn begin txn state last undo_next) not has = tt
+begin_stays Q (Some c) (log.ChkptTxns lsn begin txn state last undo_next) not has = has
+begin_stays Q o (log.EndChkpt lsn begin redo) not has = tt
+begin_stays Q o (log.Begin lsn txn) not has = has
+begin_stays Q o (log.Update lsn txn prev page slot change) not has = has
+begin_stays Q o (log.Comp lsn txn prev undo_next page slot change) not has = has
+begin_stays Q o (log.Commit lsn txn prev) not has = has
+begin_stays Q o (log.Abort lsn txn prev) not has = has
+begin_stays Q o (log.End lsn txn prev) not has = has
+begin_stays Q o (log.Extend lsn count) not has = has
+
+-- what a state with such a record more keeps
+sized_push : (old new : EngineState) (size : VolumeSize) (r : Record) → IsSized old size → BeginsNone r
+    → given_count r ≡ None → log_of new ≡ with_next (log_of old) (r ∷ []) → IsSized new size
+sized_push old new size r sized not none is =
+    let len = ap (λ (l : Log). length l.records) is in
+    let longer : end old ≤ end new = omega (arith, len, length_push old.log r) in
+    record {
+      now = sized.now ∙ sym (ap page_count is ∙ page_count-same (log_of old) r none);
+      begun = subst (λ (l : Log). IfSome (open_checkpoint l.records)
+          (λ c. (c.begin < end new) × (size.begun ≡ page_count_below l c.begin))) (sym is)
+          (subst (λ (o : Option Checkpoint). IfSome o
+          (λ c. (c.begin < end new) × (size.begun ≡ page_count_below (with_next (log_of old) (r ∷ [])) c.begin)))
+          (sym (open_push old.log r))
+          (begin_stays
+          (λ n. (n < end new) × (size.begun ≡ page_count_below (with_next (log_of old) (r ∷ [])) n))
+          (open_checkpoint old.log) r not (later longer (open_checkpoint old.log) sized.begun)));
+    }
+  where
+    later : end old ≤ end new → (o : Option Checkpoint)
+        → IfSome o (λ c. (c.begin < end old) × (size.begun ≡ page_count_below (log_of old) c.begin))
+        → IfSome o (λ c. (c.begin < end new)
+        × (size.begun ≡ page_count_below (with_next (log_of old) (r ∷ [])) c.begin))
+    later longer None has = tt
+    later longer (Some c) has =
+        let before = has.0 in
+        let place : (c.begin - 1) / 64 ≤ length old.log = omega (arith, before) in
+        (omega (arith, before, longer), has.1 ∙ sym (page_count_at-append (log_of old) (r ∷ []) ((c.begin - 1) / 64) place))
+
+same_sized : (old new : EngineState) (size : VolumeSize) → IsSized old size → log_of new ≡ log_of old → IsSized new size
+same_sized old new size sized is = record {
+  now = sized.now ∙ sym (ap page_count is);
+  begun = subst (λ (l : Log). IfSome (open_checkpoint l.records)
+      (λ c. (c.begin < lsn_of (length l.records)) × (size.begun ≡ page_count_below l c.begin))) (sym is) sized.begun;
+}
+
+-- of an event that begins no checkpoint
+abbrev NoBegin : Event → Type 0
+NoBegin event.CkptBegin = ⊥
+NoBegin other = Unit {0}
+
+record_begins_none : (s : EngineState) (event : Event) (r : Record) → NoBegin event → refusal s event ≡ None
+    → record_for s event ≡ Some r → BeginsNone r
+record_begins_none s event.CkptBegin r not none made = absurd not
+record_begins_none s event.CkptGather r not none made =
+    gather_record_has BeginsNone s r none made (λ c pages is finds. tt) (λ c t is finds. tt)
+record_begins_none s event.CkptEnd r not none made = end_record_has BeginsNone s r none made (λ c is done. tt)
+record_begins_none s event r not none made = not_begin r (of_transaction s event r tt made)
+
+size_stays : (size : VolumeSize) (event : Event) (reply : Result Answer Refusal) → NoBegin event
+    → with_size size event reply ≡ size
+size_stays size event.CkptBegin reply not = absurd not
+size_stays size event reply not = refl
+
+sized_beside : (old : EngineState) (size : VolumeSize) (event : Event) (reply : Result Answer Refusal)
+    (new : EngineState) → NoBegin event → IsSized old size → Step old event reply new
+    → IsSized new (with_size size event reply)
+sized_beside old size event reply new not sized step =
+    subst (IsSized new) (sym (size_stays size event reply not)) (elim (stays_or_grows old event reply new step) [
+      | inl stays ↦ same_sized old new size sized (λ i. record { pages = stays.pages i; records = stays.log i })
+      | inr grows ↦
+          sized_push old new size grows.r sized (record_begins_none old event grows.r not grows.accepted grows.made)
+          (call_gives_none old event grows.r grows.made) (λ i. record { pages = grows.pages i; records = grows.log i })
+    ])
+
+sized_begun : (old : EngineState) (size : VolumeSize) → IsSized old size
+    → IsSized (effect old event.CkptBegin).state (record size { begun = size.now })
+sized_begun old size sized =
+    let r = begin_ckpt_record old in
+    record {
+      now = sized.now ∙ sym (page_count-same (log_of old) r refl);
+      begun = subst (λ (o : Option Checkpoint). IfSome o (λ c. (c.begin < lsn_of (length (old.log ++ r ∷ [])))
+          × (size.now ≡ page_count_below (with_next (log_of old) (r ∷ [])) c.begin)))
+          (sym (open_push old.log r))
+          (omega (arith, length_push old.log r), sized.now ∙ (begun_is (log_of old)).same_pages);
+    }
+
+pub sized_step : (old : EngineState) (size : VolumeSize) (event : Event) (reply : Result Answer Refusal)
+    (new : EngineState) → IsSized old size → Step old event reply new → IsSized new (with_size size event reply)
+sized_step old size event.CkptBegin (Ok reply) new sized step =
+    subst (λ (s : EngineState). IsSized s (record size { begun = size.now })) (sym step.2) (sized_begun old size sized)
+sized_step old size event.CkptBegin (Err why) new sized (inl both) =
+    subst (λ (s : EngineState). IsSized s size) (sym both.1) sized
+sized_step old size event.CkptBegin (Err why) new sized (inr both) =
+    subst (λ (s : EngineState). IsSized s size) (sym (failed_begin old why new both.1)) sized
+sized_step old size event reply new sized step = sized_beside old size event reply new tt sized step
+
+pub master_of_run : (old : EngineState) (size : VolumeSize) (events : List Event)
+    (replies : List (Result Answer Refusal)) (new : EngineState) → IsSized old size → Run old events replies new
+    → new.master ≡ point_from size old.master events replies
+master_of_run old size [] [] new sized is = ap (λ (s : EngineState). s.master) is
+master_of_run old size (event ∷ events) (reply ∷ replies) new sized run =
+    master_of_run run.0 (with_size size event reply) events replies new
+    (sized_step old size event reply run.0 sized run.1) run.2
+    ∙ ap (λ (m : Option Point). point_from (with_size size event reply) m events replies)
+    (master_of_step old size event reply run.0 (notes_begun old size sized) run.1)
+master_of_run old size [] (reply ∷ replies) new sized run = absurd run
+master_of_run old size (event ∷ events) [] new sized run = absurd run
 
 -- ---- which checkpoint is open
 

@@ -1,5 +1,5 @@
 -- Calls that change the copies of an engine and nothing else.
-use Rattle.std.proofs.Common.{◌≡◌, ℕ, ◌+◌, ◌<◌, List, length, refl, sym, ap, ◌∙◌, arith}
+use Rattle.std.proofs.Common.{◌≡◌, ℕ, ◌+◌, ◌<◌, List, length, refl, sym, ap, ◌∙◌}
 use Rattle.std.specs.Prelude.{Option, Some, None, Result, Ok}
 use Rattle.std.specs.Option.{option_map, option_map_or}
 use Rattle.std.specs.List.{slice_get}
@@ -18,20 +18,18 @@ use Rattle.copy_vault.specs.Vault.{CopyState, answer_in, complete, decided, drop
 use Rattle.copy_vault.specs.Vault.{open_refusal}
 use Rattle.copy_vault.specs.Vault.{opened, pages_read, reading, reading_of, seal_refusal, sealed, state_of}
 use Rattle.copy_vault.specs.Vault.{taken_in, without}
-use Rattle.copy_coverage.specs.Copied.{copy_in}
 use Rattle.aries_core.specs.declared.event.Answer.{Answer}
 use Rattle.aries_core.specs.declared.event.Answer.TheVariants as answer
 use Rattle.aries_core.specs.declared.event.Event.{Event}
 use Rattle.aries_core.specs.declared.event.Event.TheVariants as event
 use Rattle.aries_core.specs.declared.refusal.Refusal.{Refusal}
-use Rattle.aries_core.specs.EngineState.{EngineState, IsFit, IsConsistent, MediaView, engine_view, stored_page}
-use Rattle.aries_core.specs.EngineState.{log_of, volume_pages, take_answer, with_copies}
-use Rattle.log_records.specs.Log.{page_count_below}
+use Rattle.aries_core.specs.EngineState.{EngineState, IsConsistent, MediaView, engine_view, stored_page}
+use Rattle.aries_core.specs.EngineState.{take_answer, with_copies}
 use Rattle.aries_core.specs.EventFits.{EventFits}
 use Rattle.aries_core.specs.Refusal.{of_vault, refusal}
 use Rattle.aries_core.specs.Step.{Step}
 use Rattle.aries_core.proofs.Fit.{fit_of_step}
-use Rattle.aries_core.proofs.Refusals.{inc_passes, take_passes}
+use Rattle.aries_core.proofs.Refusals.{take_passes}
 
 -- the engine is kept, and the pool may have asked its store
 pub copies_kept : {S D : Type 0} (stored : S → List Page) (it : WrittenLog D) (table : Table) (pool after : PoolView S)
@@ -56,21 +54,21 @@ no_fault o is = ap (option_map of_vault) is
 
 -- ---- each of them is a step
 
-pub full_step : (s : EngineState) (copies : List CopyState) (pages id : ℕ) (point : Point) → s.master ≡ Some point
-    → open_refusal s.copies ≡ None → pages ≡ page_count_below (log_of s) point.begin → id ≡ length s.copies + 1
-    → copies ≡ opened s.copies Full pages point.begin point.redo
+pub full_step : (s : EngineState) (copies : List CopyState) (id : ℕ) (point : Point) → s.master ≡ Some point
+    → open_refusal s.copies ≡ None → id ≡ length s.copies + 1
+    → copies ≡ opened s.copies Full point.pages point.begin point.redo
     → Step s event.CopyFull (Ok (answer.Copied id)) (with_copies s copies)
-full_step s copies pages id point master fine same given made = (
+full_step s copies id point master fine given made = (
   rw master (no_fault (open_refusal s.copies) fine),
   ap answer.Copied given,
-  ap (with_copies s) (made ∙ ap (λ (n : ℕ). opened s.copies Full n point.begin point.redo) same
-      ∙ ap (λ (o : Option Point). let begin = option_map_or (λ p. p.begin) o 0 in
-      opened s.copies Full (page_count_below (log_of s) begin) begin (option_map_or (λ p. p.redo) o 0))
+  ap (with_copies s) (made
+      ∙ ap (λ (o : Option Point). opened s.copies Full (option_map_or (λ p. p.pages) o 0)
+      (option_map_or (λ p. p.begin) o 0) (option_map_or (λ p. p.redo) o 0))
       (sym master)),
 )
 
 pub inc_step : (s : EngineState) (copies : List CopyState) (parent pages begin redo id : ℕ)
-    → inc_refusal s.copies parent ≡ None → pages ≡ page_count_below (log_of s) begin
+    → inc_refusal s.copies parent ≡ None → pages ≡ option_map_or (λ p. p.pages) s.master 0
     → begin ≡ option_map_or (λ p. p.begin) s.master 0 → redo ≡ option_map_or (λ p. p.redo) s.master 0
     → id ≡ length s.copies + 1 → copies ≡ opened s.copies (Inc parent) pages begin redo
     → Step s (event.CopyInc parent) (Ok (answer.Copied id)) (with_copies s copies)
@@ -78,8 +76,8 @@ inc_step s copies parent pages begin redo id fine same begin_is redo_is given ma
   no_fault (inc_refusal s.copies parent) fine,
   ap answer.Copied given,
   ap (with_copies s) (made ∙ ap (λ (n : ℕ). opened s.copies (Inc parent) n begin redo) same
-      ∙ ap (λ (n : ℕ). opened s.copies (Inc parent) (page_count_below (log_of s) n) n redo) begin_is
-      ∙ ap (opened s.copies (Inc parent) (page_count_below (log_of s) (option_map_or (λ p. p.begin) s.master 0))
+      ∙ ap (λ (n : ℕ). opened s.copies (Inc parent) (option_map_or (λ p. p.pages) s.master 0) n redo) begin_is
+      ∙ ap (opened s.copies (Inc parent) (option_map_or (λ p. p.pages) s.master 0)
       (option_map_or (λ p. p.begin) s.master 0)) redo_is),
 )
 
@@ -95,16 +93,15 @@ drop_step s copies copy fine made =
     (no_fault (drop_refusal (state_of s.copies copy)) fine, refl, ap (with_copies s) made)
 
 pub take_step : (s : EngineState) (copies : List CopyState) (copy p : ℕ) (page : Page) (decision : Decision)
-    (given : Answer) → refusal s (event.Take copy p) ≡ None → slice_get s.stored p ≡ Some page
+    (given : Answer) → refusal s (event.Take copy p) ≡ None → stored_page s p ≡ page
     → decision ≡ answer_in s.copies (state_of s.copies copy) page → copies ≡ decided s.copies copy p page
     → given ≡ take_answer decision page → Step s (event.Take copy p) (Ok given) (with_copies s copies)
-take_step s copies copy p page decision given none there answer_is made given_is =
-    let same : stored_page s p ≡ page = get_or_from_slice_get s.stored p page (formatted p) there in (
-      none,
-      given_is ∙ ap (λ (d : Decision). take_answer d page) answer_is
-          ∙ ap (λ (q : Page). take_answer (answer_in s.copies (state_of s.copies copy) q) q) (sym same),
-      ap (with_copies s) (made ∙ ap (decided s.copies copy p) (sym same)),
-    )
+take_step s copies copy p page decision given none same answer_is made given_is = (
+  none,
+  given_is ∙ ap (λ (d : Decision). take_answer d page) answer_is
+      ∙ ap (λ (q : Page). take_answer (answer_in s.copies (state_of s.copies copy) q) q) (sym same),
+  ap (with_copies s) (made ∙ ap (decided s.copies copy p) (sym same)),
+)
 
 -- ---- the pages of a copy that is being read
 

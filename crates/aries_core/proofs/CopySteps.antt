@@ -19,6 +19,7 @@ use Rattle.copy_vault.specs.declared.copy_id.CopyKind.TheVariants.{Full, Inc}
 use Rattle.copy_vault.specs.declared.copy_id.TheConstants.{MAX_COPIES}
 use Rattle.copy_vault.specs.Copy.{CopyView}
 use Rattle.copy_vault.specs.Vault.{CopyState, HasParent, complete, decided, dropped, state_of}
+use Rattle.copy_vault.specs.Vault.{opened as opened_with}
 use Rattle.copy_coverage.specs.Copied.{AreCopied, IsPoint, copy_in}
 use Rattle.copy_coverage.proofs.Copied.{copied_decided, copied_dropped, copied_forced, copied_later, copied_opened}
 use Rattle.copy_coverage.proofs.Copied.{copied_sealed, copied_stored}
@@ -35,7 +36,7 @@ use Rattle.aries_core.specs.EventFits.{EventFits}
 use Rattle.aries_core.specs.Refusal.{refusal}
 use Rattle.aries_core.specs.Step.{Fails, Step}
 use Rattle.aries_core.proofs.Beside.{Stores, StoresNone, StoresOne, stores}
-use Rattle.aries_core.proofs.CkptLaws.{has_point, master_of_step}
+use Rattle.aries_core.proofs.CkptLaws.{master_stays}
 use Rattle.aries_core.proofs.Forces.{Forces}
 use Rattle.aries_core.proofs.Gathers.{ckpt_end_has, closed_part, gather_has}
 use Rattle.aries_core.proofs.Refusals.{drop_passes, full_is_few, full_passes, inc_is_few, inc_passes, seal_passes}
@@ -46,8 +47,6 @@ use Rattle.aries_core.proofs.Writes.{PageStep}
 use Rattle.aries_core.proofs.StepsBack.{back_has}
 use Rattle.aries_core.specs.EngineState.{opened_copy}
 use Rattle.log_records.specs.Log.{page_count_below}
-use Rattle.log_records.proofs.PageCounts.{count_below_is_first, count_is_first}
-use Rattle.aries_core.specs.EngineState.{volume_pages}
 
 -- a step leaves the copies, or changes nothing else
 pub data CopyStep (old new : EngineState) : Type 0 where
@@ -61,7 +60,7 @@ early_begin : (s : EngineState) → IsFit s → (master : Option Point) → s.ma
     → option_map_or (λ p. p.begin) master 0 < s.forced_end
 early_begin s fit None is some = cc
 early_begin s fit (Some point) is some =
-    let named = subst (λ (o : Option Point). IfSome o (IsMasterOf s.log s.stored s.forced_end)) is fit.master in
+    let named = subst (λ (o : Option Point). IfSome o (IsMasterOf (log_of s) s.stored s.forced_end)) is fit.master in
     let low = begin_before_end (log_of s) point.begin point.end named.complete fit.valid in
     let forced = named.forced in
     omega arith
@@ -73,19 +72,22 @@ covered_by : (s : EngineState) → IsFit s → (master : Option Point) → s.mas
     → p < length s.stored → Covers s.log p (get_or s.stored p d) (option_map_or (λ q. q.redo) master 0)
 covered_by s fit None is p d lt = none_below s.log p (get_or s.stored p d) (fit.stored.pages p d lt).past
 covered_by s fit (Some point) is p d lt =
-    (subst (λ (o : Option Point). IfSome o (IsMasterOf s.log s.stored s.forced_end)) is fit.master).covered p d lt
+    (subst (λ (o : Option Point). IfSome o (IsMasterOf (log_of s) s.stored s.forced_end)) is fit.master).covered p d lt
 
 noted_by : (s : EngineState) → IsFit s → (master : Option Point) → s.master ≡ master → IsSome master
     → IsPoint (option_map_or (λ p. p.begin) master 0) (option_map_or (λ p. p.redo) master 0)
 noted_by s fit None is some = cc
 noted_by s fit (Some point) is some =
-    let named = subst (λ (o : Option Point). IfSome o (IsMasterOf s.log s.stored s.forced_end)) is fit.master in
+    let named = subst (λ (o : Option Point). IfSome o (IsMasterOf (log_of s) s.stored s.forced_end)) is fit.master in
     subst (IsPoint point.begin) (sym named.same_redo)
     (point_of (log_of s) point.begin point.end named.complete fit.valid fit.linked)
 
--- no record gives a page count so far, so a copy has as many pages as the volume
-pub count_of_copy : (s : EngineState) (begin : ℕ) → volume_pages s ≡ page_count_below (log_of s) begin
-count_of_copy s begin = count_is_first (log_of s) ∙ sym (count_below_is_first (log_of s) begin)
+-- a copy has as many pages as the volume had where the master's checkpoint began
+pages_by : (s : EngineState) → IsFit s → (master : Option Point) → s.master ≡ master → IsSome master
+    → page_count_below (log_of s) (option_map_or (λ p. p.begin) master 0) ≡ option_map_or (λ p. p.pages) master 0
+pages_by s fit None is some = cc
+pages_by s fit (Some point) is some =
+    sym (subst (λ (o : Option Point). IfSome o (IsMasterOf (log_of s) s.stored s.forced_end)) is fit.master).same_pages
 
 opens : (s : EngineState) (kind : CopyKind) → IsFit s → length s.copies < MAX_COPIES → IsSome s.master
     → HasParent s.copies (length s.copies + 1) kind
@@ -93,9 +95,11 @@ opens : (s : EngineState) (kind : CopyKind) → IsFit s → length s.copies < MA
 opens s kind fit few some parent =
     let begin = option_map_or (λ p. p.begin) s.master 0 in
     let redo = option_map_or (λ p. p.redo) s.master 0 in
-    copied_opened (log_of s) s.forced_end s.stored s.copies kind begin redo fit.valid fit.copied few
+    subst (λ (n : ℕ). AreCopied (log_of s) s.forced_end s.stored (opened_with s.copies kind n begin redo))
+    (pages_by s fit s.master refl some)
+    (copied_opened (log_of s) s.forced_end s.stored s.copies kind begin redo fit.valid fit.copied few
     (noted_by s fit s.master refl some) (early_begin s fit s.master refl some) parent
-    (λ p d lt. covered_by s fit s.master refl p d lt)
+    (λ p d lt. covered_by s fit s.master refl p d lt))
 
 within_ids : (copies : List CopyState) (id : ℕ) (copy : CopyView) → state_of copies id ≡ complete copy
     → id < length copies + 1
@@ -176,6 +180,7 @@ answered old event.CkptGather new fit none is =
 answered old event.CkptEnd new fit none is =
     leaves old new _ is (ckpt_end_has (λ s. s.copies ≡ old.copies) old refl (λ c. refl))
 answered old (event.Repair copy page) new fit none is = leaves old new _ is refl
+answered old (event.Extend count) new fit none is = leaves old new _ is refl
 answered old event.CopyFull new fit none is =
     let some = full_passes old none in
     ChangesCopies _ (opens old Full fit (full_is_few old none) some tt) some is
@@ -213,6 +218,7 @@ failed old (event.Repair copy page) StoreFault new fails = elim fails [
   | inl kept ↦ leaves old new _ kept refl
   | inr stored ↦ leaves old new _ stored refl
 ]
+failed old (event.Extend count) StoreFault new fails = leaves old new old fails refl
 failed old event StoreFault new fails = leaves old new old fails.1 refl
 failed old event why new fails = absurd fails
 
@@ -267,8 +273,7 @@ pub noted_fit : (old : EngineState) (event : Event) (reply : Result Answer Refus
 noted_fit old event reply new fit step = by_step (copy_step old event reply new fit step)
   where
     stays : IsSome old.master → IsSome new.master
-    stays has = subst (λ (o : Option Point). IsSome o) (sym (master_of_step old event reply new step))
-        (has_point old.master event reply has)
+    stays has = master_stays old event reply new step has
 
     by_step : CopyStep old new → HaveMaster new.master new.copies
     by_step (LeavesCopies same) = λ id copy is.

@@ -46,7 +46,8 @@ use Rattle.aries_core.proofs.Stands.{stands}
 use Rattle.aries_core.proofs.Steps.{Grows, Stays, grows_count, start, stays_count, stays_or_grows}
 use Rattle.aries_core.proofs.PageComes.{dirty_after, dirty_before, start_dirty, start_fit, start_held, start_images}
 use Rattle.aries_core.proofs.Writes.{GoesOn, PageStep, PagesFit, page_step, pages_fit}
-use Rattle.log_records.proofs.PageCounts.{count_behind-nil}
+use Rattle.log_records.proofs.PageCounts.{count_behind-nil, more-none}
+use Rattle.aries_core.proofs.NoCounts.{call_gives_none}
 use Rattle.log_records.proofs.GivenNone.{page_count-same, transaction_gives_none}
 
 -- ---- after a step
@@ -143,7 +144,8 @@ fit_appended s r fit come there =
     let count : volume_pages (appended s r) ≡ volume_pages s =
     page_count-same (log_of s) r (transaction_gives_none r come.of_transaction) in
     record {
-      valid = valid_next (log_of s) r fit.valid (comes_few s r come) at;
+      valid = valid_next (log_of s) r fit.valid (comes_few s r come) at
+          (more-none _ r (transaction_gives_none r come.of_transaction));
       linked = linked_push s.log r fit.linked come.may_follow;
       room = room_push s.log r fit.room come.room;
       forced = (fit.forced.0, omega (arith, fit.forced.1, length_push s.log r), fit.forced.2);
@@ -176,7 +178,8 @@ fit_grows old event reply new fit from step numbers forced pages ckpts copied no
     let few : length old.log < MAX_RECORDS = omega (arith, length_push old.log r) in
     let at = stands old event r fit numbers grows.accepted grows.made in
     record {
-      valid = rw (grows.pages, grows.log) (valid_next (log_of old) r fit.valid few at);
+      valid = rw (grows.pages, grows.log) (valid_next (log_of old) r fit.valid few at
+          (more-none _ r (call_gives_none old event r grows.made)));
       linked = rw grows.log (linked_push old.log r fit.linked may);
       room = rw grows.log (room_push old.log r fit.room whole);
       forced = forced;
@@ -263,7 +266,12 @@ get_or-replicate (suc n) x (suc i) = get_or-replicate n x i
 
 pub new_is_fit : (pages frames : ℕ) → IsPageCount pages → IsFit (new_state pages frames)
 new_is_fit pages frames count = record {
-  valid = record { pages = count; count = omega arith; records = λ i d lt. absurd (omega arith) };
+  valid = record {
+    pages = count;
+    count = omega arith;
+    records = λ i d lt. absurd (omega arith);
+    grows = λ i d lt. absurd (omega arith);
+  };
   linked = linked_none;
   room = room_of_none;
   forced = (0, omega arith, refl);

@@ -149,6 +149,7 @@ follows s (event.UndoTo txn at) r fit none made =
 follows s event.Force r fit none made = absurd (cc)
 follows s (event.WriteBegin page) r fit none made = absurd (cc)
 follows s (event.WriteEnd page) r fit none made = absurd (cc)
+follows s (event.Extend count) r fit none made = subst (MayFollow s.log) (same_Some _ _ made) tt
 follows s event.CkptBegin r fit none made =
     subst (MayFollow s.log) (same_Some _ _ made) (ckpt_begin_passes s none).idle
 follows s event.CkptGather r fit none made =

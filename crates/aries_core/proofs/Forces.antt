@@ -16,7 +16,7 @@ use Rattle.aries_core.specs.declared.event.Event.TheVariants as event
 use Rattle.aries_core.specs.declared.refusal.Refusal.{Refusal}
 use Rattle.aries_core.specs.declared.refusal.Refusal.TheVariants.{OutOfMemory, StoreFault, LogFault, CommitUnsure}
 use Rattle.aries_core.specs.EngineState.{EngineState, appended, closed, commit_record, comp_record, effect, end}
-use Rattle.aries_core.specs.EngineState.{end_ckpt_record, end_record, forced_through, forced_to, image_of, log_of}
+use Rattle.aries_core.specs.EngineState.{end_ckpt_record, end_record, extend_record, forced_through, forced_to, image_of, log_of}
 use Rattle.aries_core.specs.EngineState.{page_now, with_page}
 use Rattle.aries_core.specs.Step.{Fails, ForcedPart, Step}
 use Rattle.aries_core.proofs.Gathers.{ckpt_end_has, closed_part, gather_has}
@@ -140,6 +140,9 @@ effect_forces old event.CkptBegin ends =
     let all = appended_forces old _ ends in record { at_record = all.at_record; no_less = all.no_less }
 effect_forces old event.CkptGather ends = gather_forces old ends
 effect_forces old event.CkptEnd ends = ckpt_end_forces old ends
+effect_forces old (event.Extend count) ends =
+    let all = appended_forces old (extend_record old count) ends in
+    record { at_record = all.at_record; no_less = all.no_less }
 
 failed_forces : (old : EngineState) (event : Event) (why : Refusal) (new : EngineState) → EndsAtRecord old
     → Fails old event why new → Forces old new
@@ -169,6 +172,7 @@ failed_forces old (event.Repair copy page) StoreFault new ends fails =
       | inr stored ↦ subst (Forces old) (sym stored)
           (record { at_record = through.at_record; no_less = through.no_less })
     ]
+failed_forces old (event.Extend count) StoreFault new ends fails = subst (Forces old) (sym fails) (same_forces old ends)
 failed_forces old event StoreFault new ends fails = subst (Forces old) (sym fails.1) (same_forces old ends)
 failed_forces old event why new ends fails = absurd fails
 

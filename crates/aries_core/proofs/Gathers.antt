@@ -7,6 +7,7 @@ use Rattle.log_records.specs.declared.dirty_page.DirtyPages.{DirtyPages}
 use Rattle.log_records.specs.declared.record.Record.{Record}
 use Rattle.log_records.specs.declared.record.Record.TheVariants.{ChkptPages}
 use Rattle.log_records.specs.Coverage.{dirty, next_dirty}
+use Rattle.log_records.specs.Log.{Log}
 use Rattle.log_history.specs.Checkpoint.{Checkpoint, open_checkpoint}
 use Rattle.txn_table.specs.TxnTable.{next_open}
 use Rattle.fuzzy_ckpt.specs.Ckpt.{gathered, in_txns}
@@ -15,14 +16,14 @@ use Rattle.aries_core.specs.declared.event.Answer.TheVariants as answer
 use Rattle.aries_core.specs.declared.event.Event.TheVariants as event
 use Rattle.aries_core.specs.declared.refusal.Refusal.TheVariants.{LogFault}
 use Rattle.aries_core.specs.EngineState.{EngineState, IsGathering, Outcome, appended, ckpt_end_effect, closed, effect}
-use Rattle.aries_core.specs.EngineState.{end, gather_effect, gathered_record, gathering, next_step}
+use Rattle.aries_core.specs.EngineState.{end, gather_effect, gathered_record, gathering, log_of, next_step}
 use Rattle.aries_core.specs.Step.{Fails, ForcedPart}
 use Rattle.aries_core.specs.Gather.{Left, behind_pages, behind_txns, left_of, none_left, pages_left, session_of}
 use Rattle.aries_core.specs.Gather.{txns_left}
 
 -- what is said of the open checkpoint, if one is
-abbrev pub AreGathered : List Record → List Page → Left → Type 0
-AreGathered rs stored left = IfSome (open_checkpoint rs) (IsGathering rs stored left)
+abbrev pub AreGathered : Log → List Page → Left → Type 0
+AreGathered log stored left = IfSome (open_checkpoint log.records) (IsGathering log stored left)
 
 -- ---- the cases
 
@@ -95,7 +96,7 @@ done s = record { answer = answer.Done; state = gathering s none_left }
 
 -- the step of a session
 abbrev pub step_at : EngineState → Checkpoint → Left → Gathering
-step_at s c left = gather_step s.log s.written (session_of left c)
+step_at s c left = gather_step s.log s.written (session_of (log_of s) left c)
 
 pub at_left : (s : EngineState) (c : Checkpoint) (left : Left) → s.left ≡ left → next_step s c ≡ step_at s c left
 at_left s c left is = ap (step_at s c) is
@@ -105,18 +106,18 @@ abbrev pub with_pages : EngineState → Checkpoint → Option DirtyPages → Gat
 with_pages s c o =
     option_map_or (λ pages. record {
       next = Some (pages_record s c pages);
-      ckpt = past_pages pages (session_of pages_left c);
+      ckpt = past_pages pages (session_of (log_of s) pages_left c);
     })
-    o (record { next = None; ckpt = record (session_of pages_left c) { phase = in_txns 0 } })
+    o (record { next = None; ckpt = record (session_of (log_of s) pages_left c) { phase = in_txns 0 } })
 
 -- it takes this transaction, or is done
 abbrev pub with_txn : EngineState → Checkpoint → Option ℕ → Gathering
 with_txn s c o =
     option_map_or (λ t. record {
       next = Some (txn_entry s c t);
-      ckpt = record (session_of txns_left c) { phase = in_txns (t + 1) };
+      ckpt = record (session_of (log_of s) txns_left c) { phase = in_txns (t + 1) };
     })
-    o (record { next = None; ckpt = record (session_of txns_left c) { phase = gathered } })
+    o (record { next = None; ckpt = record (session_of (log_of s) txns_left c) { phase = gathered } })
 
 pub takes_pages : (s : EngineState) (c : Checkpoint) (pages : DirtyPages) → open_checkpoint s.log ≡ Some c
     → FindsPages s c (Some pages)

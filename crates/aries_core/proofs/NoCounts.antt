@@ -1,4 +1,4 @@
--- No call's record gives the volume a page count.
+-- No call's record gives the volume a page count, but that of a growth.
 use Rattle.std.proofs.Common.{◌≡◌, ℕ, refl, subst}
 use Rattle.std.specs.Prelude.{Option, Some, None, IfSome}
 use Rattle.std.specs.Option.{option_map, option_map_or}
@@ -51,28 +51,34 @@ of_step_back : (s : EngineState) (txn : ℕ) (o : Option PendingChange)
 of_step_back s txn None = tt
 of_step_back s txn (Some p) = refl
 
-of_call : (s : EngineState) (call : Event) → IfGivesNone (record_for s call)
-of_call s event.Begin = refl
-of_call s (event.Set txn page slot number) = refl
-of_call s (event.Add txn page slot amount) = refl
-of_call s (event.Read page slot) = tt
-of_call s event.CopyFull = tt
-of_call s (event.CopyInc parent) = tt
-of_call s (event.Take copy page) = tt
-of_call s (event.Seal copy) = tt
-of_call s (event.DropCopy copy) = tt
-of_call s (event.Repair copy page) = tt
-of_call s (event.Commit txn) = refl
-of_call s (event.Abort txn) = refl
-of_call s (event.UndoStep txn) = of_undo s txn (last_of (pending s.log txn))
-of_call s (event.Savepoint txn) = tt
-of_call s (event.UndoTo txn at) = of_step_back s txn (taken_back s txn at)
-of_call s event.Force = tt
-of_call s (event.WriteBegin page) = tt
-of_call s (event.WriteEnd page) = tt
-of_call s event.CkptBegin = refl
-of_call s event.CkptGather = of_gather s (open_checkpoint s.log)
-of_call s event.CkptEnd = of_end s (open_checkpoint s.log)
+abbrev pub IsNoGrowth : Event → Type 0
+IsNoGrowth (event.Extend count) = ⊥
+IsNoGrowth other = Unit {0}
 
-pub call_gives_none : (s : EngineState) (call : Event) (r : Record) → record_for s call ≡ Some r → given_count r ≡ None
-call_gives_none s call r made = subst IfGivesNone made (of_call s call)
+of_call : (s : EngineState) (call : Event) → IsNoGrowth call → IfGivesNone (record_for s call)
+of_call s event.Begin other = refl
+of_call s (event.Set txn page slot number) other = refl
+of_call s (event.Add txn page slot amount) other = refl
+of_call s (event.Read page slot) other = tt
+of_call s event.CopyFull other = tt
+of_call s (event.CopyInc parent) other = tt
+of_call s (event.Take copy page) other = tt
+of_call s (event.Seal copy) other = tt
+of_call s (event.DropCopy copy) other = tt
+of_call s (event.Repair copy page) other = tt
+of_call s (event.Commit txn) other = refl
+of_call s (event.Abort txn) other = refl
+of_call s (event.UndoStep txn) other = of_undo s txn (last_of (pending s.log txn))
+of_call s (event.Savepoint txn) other = tt
+of_call s (event.UndoTo txn at) other = of_step_back s txn (taken_back s txn at)
+of_call s event.Force other = tt
+of_call s (event.WriteBegin page) other = tt
+of_call s (event.WriteEnd page) other = tt
+of_call s event.CkptBegin other = refl
+of_call s event.CkptGather other = of_gather s (open_checkpoint s.log)
+of_call s event.CkptEnd other = of_end s (open_checkpoint s.log)
+of_call s (event.Extend count) other = absurd other
+
+pub call_gives_none : (s : EngineState) (call : Event) (r : Record) → IsNoGrowth call → record_for s call ≡ Some r
+    → given_count r ≡ None
+call_gives_none s call r other made = subst IfGivesNone made (of_call s call other)

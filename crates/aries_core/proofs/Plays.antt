@@ -12,7 +12,7 @@ use Rattle.aries_core.specs.declared.refusal.Refusal.TheVariants.{CommitUnsure, 
 use Rattle.log_records.specs.Log.{lsn_of}
 use Rattle.log_records.specs.declared.record.Record.{Record}
 use Rattle.log_store.specs.Stores.{StoreCall, StoresEach, records_between}
-use Rattle.page_store.specs.Store.{ReadCall, WriteCall}
+use Rattle.page_store.specs.Store.{GrowCall, ReadCall, WriteCall}
 use Rattle.aries_core.specs.Asked.{Asks, FailsAsking, asked}
 use Rattle.aries_core.specs.EngineState.{EngineState, EngineView, end, new_state}
 use Rattle.aries_core.specs.Run.{Run}
@@ -147,6 +147,7 @@ same_end old (event.WriteEnd page) new other (inr both) = elim (stored_or_not ol
   | inr stored ↦ ap (λ (s : EngineState). s.forced_end) stored.2
 ]
 same_end old (event.Take copy page) new other (inr both) = ap (λ (s : EngineState). s.forced_end) both.1
+same_end old (event.Extend count) new other (inr both) = ap (λ (s : EngineState). s.forced_end) both.1
 same_end old event new other (inr both) = ap (λ (s : EngineState). s.forced_end) both.1.1
 
 -- where nothing more is forced and the device is as it was, each record that is forced was stored
@@ -187,14 +188,14 @@ calls_device called call old new (Err other) step refused ok first failed = refu
     by_event (event.Repair copy page) = λ h. h
     by_event other_event = λ h. h
 
-calls_store : {S D : Type 0} (gave : ReadCall S) (wrote : WriteCall S) (event : Event) (old new : EngineView S D)
-    (reply : Result Answer Refusal) → OnOk reply (Asks gave wrote (asked old.state event) old new)
+calls_store : {S D : Type 0} (gave : ReadCall S) (wrote : WriteCall S) (grew : GrowCall S) (event : Event) (old new : EngineView S D)
+    (reply : Result Answer Refusal) → OnOk reply (Asks gave wrote grew (asked old.state event) old new)
     → IfErr reply (λ why. ¬ IsByStore why → new.store ≡ old.store)
-    → IfErr reply (λ why. IsByStore why → FailsAsking gave wrote (asked old.state event) old new)
-    → CallsStore gave wrote event old reply new
-calls_store gave wrote event old new (Ok answer) ok refused failed = ok
-calls_store gave wrote event old new (Err StoreFault) ok refused failed = failed tt
-calls_store gave wrote event old new (Err other) ok refused failed = refused (λ h. h)
+    → IfErr reply (λ why. IsByStore why → FailsAsking gave wrote grew (asked old.state event) old new)
+    → CallsStore gave wrote grew event old reply new
+calls_store gave wrote grew event old new (Ok answer) ok refused failed = ok
+calls_store gave wrote grew event old new (Err StoreFault) ok refused failed = failed tt
+calls_store gave wrote grew event old new (Err other) ok refused failed = refused (λ h. h)
 
 -- what the contract of a call says of it
 pub call_on : {S D : Type 0} (on : Storage S D) (old : EngineView S D) (event : Event)
@@ -205,9 +206,9 @@ pub call_on : {S D : Type 0} (on : Storage S D) (old : EngineView S D) (event : 
     → IfErr reply (λ why. ¬ IsByDevice why → on.device_failures new.device ≡ on.device_failures old.device)
     → OnOk reply (on.device_failures new.device ≡ on.device_failures old.device)
     → IfErr reply (λ why. IsByDevice why → on.device_failures old.device < on.device_failures new.device)
-    → OnOk reply (Asks on.gave on.wrote (asked old.state event) old new)
+    → OnOk reply (Asks on.gave on.wrote on.grew (asked old.state event) old new)
     → IfErr reply (λ why. ¬ IsByStore why → new.store ≡ old.store)
-    → IfErr reply (λ why. IsByStore why → FailsAsking on.gave on.wrote (asked old.state event) old new)
+    → IfErr reply (λ why. IsByStore why → FailsAsking on.gave on.wrote on.grew (asked old.state event) old new)
     → OnOk reply (on.store_failures new.store ≡ on.store_failures old.store)
     → IfErr reply (λ why. IsByStore why → on.store_failures old.store < on.store_failures new.store)
     → IsStoredOn on new → CallOn on old event reply new
@@ -216,7 +217,7 @@ call_on on old event reply new step same called first last sound none cause ok s
       step = step;
       stored = stored;
       device = calls_device on.called event old new reply step same called first last;
-      store = calls_store on.gave on.wrote event old new reply ok store_same failed;
+      store = calls_store on.gave on.wrote on.grew event old new reply ok store_same failed;
       device_told = counts IsByDevice on.device_failures old.device new.device reply sound none cause;
       store_told = counts IsByStore on.store_failures old.store new.store reply
           (left_sound IsByStore on.store_failures old.store new.store reply store_same) store_none store_cause;

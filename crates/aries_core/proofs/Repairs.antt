@@ -2,7 +2,7 @@
 use Rattle.std.proofs.Common.{◌≡◌, ℕ, ◌<◌, List, length, set, refl, sym, ap, ◌∙◌, max, inl}
 use Rattle.std.proofs.Common.{inr}
 use Rattle.std.specs.Prelude.{None, Ok, Err}
-use Rattle.std.proofs.lemmas.List.{get_or-map, map-set, set-get_or}
+use Rattle.std.proofs.lemmas.List.{get_or-map, length-set, map-set, set-get_or}
 use Rattle.page_core.specs.declared.page.Page.{Page}
 use Rattle.page_store.specs.Store.{StoresOrKeeps}
 use Rattle.log_records.specs.Coverage.{Covers}
@@ -23,7 +23,7 @@ use Rattle.aries_core.specs.EngineState.{volume_pages}
 use Rattle.aries_core.specs.EngineState as engine
 use Rattle.aries_core.specs.Refusal.{refusal}
 use Rattle.aries_core.specs.Repair.{MayBeRepaired}
-use Rattle.aries_core.proofs.PoolStates.{image_at}
+use Rattle.aries_core.proofs.PoolStates.{image_at, stored_set}
 use Rattle.aries_core.proofs.Refusals.{repair_passes}
 use Rattle.aries_core.proofs.WriteCalls.{Called, called}
 
@@ -54,17 +54,19 @@ repaired_is stored it new pool after ckpts p q within idle same forced store fra
     ∙ ap (set (writing_of pool.states) p)
     (sym (get_or-map (λ s. s.writing) pool.states p unwritten None within ∙ idle))
     ∙ set-get_or (writing_of pool.states) p None in
-    rw (same, forced, store, frames, resident, written, writing) refl
+    let pages = stored_set stored pool after p q within (ap length states ∙ length-set pool.states p state) store in
+    rw (same, forced, pages, frames, resident, written, writing) refl
 
 pub stored_is : {S D : Type 0} (stored : S → List Page) (it new : WrittenLog D) (pool after : PoolView S)
-    (ckpts : MediaView) (p : ℕ) (q : Page) → new.log ≡ it.log
+    (ckpts : MediaView) (p : ℕ) (q : Page) → p < length pool.states → new.log ≡ it.log
     → new.forced_end ≡ max it.forced_end (end_up_to it.log q.lsn)
     → stored after.store ≡ set (stored pool.store) p q → after.frames ≡ pool.frames
     → after.resident ≡ pool.resident → after.states ≡ pool.states
     → (engine_view stored new after ckpts).state
     ≡ with_stored (forced_through (engine_view stored it pool ckpts).state q.lsn) p q
-stored_is stored it new pool after ckpts p q same forced store frames resident states =
-    rw (same, forced, store, frames, resident, states) refl
+stored_is stored it new pool after ckpts p q within same forced store frames resident states =
+    let pages = stored_set stored pool after p q within (ap length states) store in
+    rw (same, forced, pages, frames, resident, states) refl
 
 pub forced_is : {S D : Type 0} (stored : S → List Page) (it new : WrittenLog D) (pool after : PoolView S)
     (ckpts : MediaView) (lsn : ℕ) → new.log ≡ it.log
@@ -101,19 +103,19 @@ done stored it new table pool after ckpts copy p q kept none within now same for
 pub half_done : {S D : Type 0} (stored : S → List Page) (it new : WrittenLog D) (table : Table)
     (pool after : PoolView S) (ckpts : MediaView) (copy p : ℕ) (q : Page)
     → IsConsistent stored (engine_view stored it pool ckpts).state table pool ckpts
-    → refusal (engine_view stored it pool ckpts).state (event.Repair copy p) ≡ None
+    → refusal (engine_view stored it pool ckpts).state (event.Repair copy p) ≡ None → p < length pool.states
     → q ≡ image it.log.records p → new.log ≡ it.log
     → new.forced_end ≡ max it.forced_end (end_up_to it.log q.lsn)
     → StoresOrKeeps (stored pool.store) p q (stored after.store)
     → after ≡ record pool { store = after.store } → IsPoolOf stored it.log after
     → Called stored it new table pool after ckpts (event.Repair copy p) (Err StoreFault)
-half_done stored it new table pool after ckpts copy p q kept none now same forced either is of_log =
+half_done stored it new table pool after ckpts copy p q kept none within now same forced either is of_log =
     let s = (engine_view stored it pool ckpts).state in
     let frames = ap (λ v. v.frames) is in
     let resident = ap (λ v. v.resident) is in
     let states = ap (λ v. v.states) is in
     let may : MayBeRepaired p s (engine_view stored new after ckpts).state = elim either [
-      | inl stores ↦ inr (stored_is stored it new pool after ckpts p q same forced stores frames resident states
+      | inl stores ↦ inr (stored_is stored it new pool after ckpts p q within same forced stores frames resident states
           ∙ ap (λ (x : Page). with_stored (forced_through s x.lsn) p x) now)
       | inr keeps ↦ inl (forced_is stored it new pool after ckpts q.lsn same forced keeps frames resident states
           ∙ ap (λ (x : Page). forced_through s x.lsn) now)

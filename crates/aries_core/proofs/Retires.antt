@@ -3,7 +3,7 @@ use Rattle.std.proofs.Common.{ℕ, List, refl, ap}
 use Rattle.std.specs.Prelude.{Option, Some, None, IfSome, IsSome}
 use Rattle.std.specs.Option.{option_map}
 use Rattle.page_core.specs.declared.page.Page.{Page}
-use Rattle.log_records.specs.declared.record.Record.{Record}
+use Rattle.log_records.specs.Log.{Log}
 use Rattle.fuzzy_ckpt.specs.declared.point.Point.{Point}
 use Rattle.copy_coverage.specs.Copied.{copy_in}
 use Rattle.copy_coverage.specs.Retired.{NamesCheckpoint, IsRetired}
@@ -11,11 +11,11 @@ use Rattle.copy_coverage.proofs.Copied.{restorable}
 use Rattle.aries_core.specs.EngineState.{EngineState, IsFit, log_of, master_record}
 use Rattle.aries_core.specs.EngineState as engine
 
-named : (rs : List Record) (stored : List Page) (forced_end : ℕ) (point : Option Point)
-    → IfSome point (engine.IsMasterOf rs stored forced_end)
-    → IfSome (option_map master_record point) (NamesCheckpoint rs forced_end)
-named rs stored forced_end None has = tt
-named rs stored forced_end (Some point) has = record { complete = has.complete; forced = has.forced }
+named : (log : Log) (stored : List Page) (forced_end : ℕ) (point : Option Point)
+    → IfSome point (engine.IsMasterOf log stored forced_end)
+    → IfSome (option_map master_record point) (NamesCheckpoint log.records forced_end)
+named log stored forced_end None has = tt
+named log stored forced_end (Some point) has = record { complete = has.complete; forced = has.forced }
 
 mapped : (point : Option Point) → IsSome point → IsSome (option_map master_record point)
 mapped None has = has
@@ -32,7 +32,7 @@ left_by s fit = record {
   linked = fit.linked;
   room = fit.room;
   forced = fit.forced;
-  master = named s.log s.stored s.forced_end s.master fit.master;
+  master = named (log_of s) s.stored s.forced_end s.master fit.master;
   copies = restorable (log_of s) s.forced_end s.stored s.copies fit.copied;
   noted = λ id copy is. mapped s.master (fit.noted id copy (ap copy_in is));
 }

@@ -5,7 +5,7 @@ use Rattle.std.specs.Option.{option_to_list}
 use Rattle.std.proofs.lemmas.List.{append-nil}
 use Rattle.log_records.specs.declared.record.Record.{Record}
 use Rattle.log_records.specs.declared.record.Record.TheVariants.{Begin, Update, Comp, Commit, Abort, End, BeginChkpt}
-use Rattle.log_records.specs.declared.record.Record.TheVariants.{ChkptPages, ChkptTxns, EndChkpt}
+use Rattle.log_records.specs.declared.record.Record.TheVariants.{ChkptPages, ChkptTxns, EndChkpt, Extend}
 use Rattle.log_records.specs.Record.{IsOfCheckpoint}
 use Rattle.txn_table.specs.Returns.{return_of, returns_of}
 use Rattle.txn_table.proofs.Stacks.{returns_push}
@@ -20,6 +20,7 @@ none_of_checkpoint rs (BeginChkpt lsn) of = refl
 none_of_checkpoint rs (ChkptPages lsn begin pages) of = refl
 none_of_checkpoint rs (ChkptTxns lsn begin txn state last undo_next) of = refl
 none_of_checkpoint rs (EndChkpt lsn begin redo) of = refl
+none_of_checkpoint rs (Extend lsn count) of = refl
 none_of_checkpoint rs (Begin lsn txn) of = absurd of
 none_of_checkpoint rs (Update lsn txn prev page slot change) of = absurd of
 none_of_checkpoint rs (Comp lsn txn prev undo_next page slot change) of = absurd of

@@ -107,6 +107,7 @@ failed_same old event.CkptEnd LogFault new no_fault no_store sure fails = absurd
 failed_same old (event.Take copy page) StoreFault new no_fault no_store sure fails = fails
 failed_same old (event.Repair copy page) LogFault new no_fault no_store sure fails = absurd (no_fault refl)
 failed_same old (event.Repair copy page) StoreFault new no_fault no_store sure fails = absurd (no_store refl)
+failed_same old (event.Extend count) StoreFault new no_fault no_store sure fails = fails
 failed_same old event StoreFault new no_fault no_store sure fails = fails.1
 failed_same old (event.Commit txn) (CommitUnsure lsn) new no_fault no_store sure fails = absurd (sure lsn refl)
 failed_same old event why new no_fault no_store sure fails = absurd fails

@@ -21,7 +21,7 @@ use Rattle.aries_core.specs.EngineState.{EngineState, appended, comp_record, eff
 use Rattle.aries_core.specs.EngineState.{ended_write, image_of, log_of, page_needed, volume_pages, taken_back, with_page}
 use Rattle.aries_core.specs.EngineState.{with_stored}
 use Rattle.log_records.proofs.GivenNone.{page_count-same}
-use Rattle.aries_core.proofs.NoCounts.{call_gives_none}
+use Rattle.aries_core.proofs.NoCounts.{IsNoGrowth, call_gives_none}
 use Rattle.aries_core.specs.Refusal.{refusal}
 use Rattle.aries_core.specs.Step.{Fails, MayBeStored, Step}
 use Rattle.aries_core.proofs.Gathers.{PassesPages, PassesTxns, TakesPages, TakesTxn, WasDone, ckpt_end_is, closed_part}
@@ -57,11 +57,12 @@ pub stays_count : (old : EngineState) (event : Event) (reply : Result Answer Ref
     → Stays old event reply new → volume_pages new ≡ volume_pages old
 stays_count old event reply new stays = rw (stays.pages, stays.log) refl
 
--- no call's record gives a page count
+-- no record but that of a growth gives a page count
 pub grows_count : (old : EngineState) (event : Event) (reply : Result Answer Refusal) (new : EngineState)
-    → Grows old event reply new → volume_pages new ≡ volume_pages old
-grows_count old event reply new grows =
-    rw (grows.pages, grows.log) (page_count-same (log_of old) grows.r (call_gives_none old event grows.r grows.made))
+    → IsNoGrowth event → Grows old event reply new → volume_pages new ≡ volume_pages old
+grows_count old event reply new other grows =
+    rw (grows.pages, grows.log)
+    (page_count-same (log_of old) grows.r (call_gives_none old event grows.r other grows.made))
 
 -- ---- each reply
 
@@ -227,6 +228,8 @@ answered old event.CkptBegin answer new none given is =
     inr (grows old event.CkptBegin (Ok answer) new _ _ is none refl refl refl refl tt refl)
 answered old event.CkptGather answer new none given is = gather_stays_or_grows old answer new none is
 answered old event.CkptEnd answer new none given is = inr (ckpt_end_grows old answer new none is)
+answered old (event.Extend count) answer new none given is =
+    inr (grows old (event.Extend count) (Ok answer) new _ _ is none refl refl refl refl tt refl)
 
 -- an error shows no call, but for an unsure Commit
 not_shown : (call : Event) (why : Refusal) → ((txn lsn : ℕ) → call ≡ event.Commit txn → why ≡ CommitUnsure lsn → ⊥)
@@ -269,6 +272,8 @@ failed old (event.Repair copy page) StoreFault new none fails = elim fails [
   | inl kept ↦ inl (stays old (event.Repair copy page) (Err StoreFault) new _ kept refl refl refl refl)
   | inr stored ↦ inl (stays old (event.Repair copy page) (Err StoreFault) new _ stored refl refl refl refl)
 ]
+failed old (event.Extend count) StoreFault new none fails =
+    inl (stays old (event.Extend count) (Err StoreFault) new old fails refl refl refl refl)
 failed old event StoreFault new none fails =
     inl (stays old event (Err StoreFault) new old fails.1 refl refl refl
     (not_shown event StoreFault (λ txn lsn commit unsure. (cc))))

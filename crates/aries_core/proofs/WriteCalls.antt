@@ -1,5 +1,5 @@
 -- The calls that write a page: what they make of an engine that is in step with its pool.
-use Rattle.std.proofs.Common.{◌≡◌, ℕ, ◌<◌, ◌≤◌, List, length, get_or, set, refl, sym, ap, subst, ◌∙◌, arith, max, inl}
+use Rattle.std.proofs.Common.{take, ◌≡◌, ℕ, ◌<◌, ◌≤◌, List, length, get_or, set, refl, sym, ap, subst, ◌∙◌, arith, max, inl}
 use Rattle.std.proofs.Common.{inr}
 use Rattle.std.specs.Prelude.{Option, Some, None, IfSome, Result, Ok, Err}
 use Rattle.page_core.specs.declared.page.Page.{Page}
@@ -8,7 +8,6 @@ use Rattle.std.proofs.lemmas.List.Elements.{All-weaker}
 use Rattle.buffer_pool.specs.Pool.{IsPoolOf, PoolView, state_at, with_state, write_begun, write_ended, writing_of}
 use Rattle.log_records.specs.Image.{image}
 use Rattle.log_history.specs.Table.{Table}
-use Rattle.log_records.specs.Log.{Log}
 use Rattle.log_records.specs.Log.{page_count}
 use Rattle.log_store.specs.WrittenLog.{EndsAtRecord, WrittenLog, end_up_to}
 use Rattle.aries_core.specs.declared.event.Answer.{Answer}
@@ -79,15 +78,15 @@ force_kept stored it new table pool ckpts kept same no_less ends =
         stored = rw same fit.stored;
         stable = record {
           pages = All-weaker (λ page. page.lsn < it.forced_end) (λ page. page.lsn < new.forced_end)
-              (λ page low. omega arith) (stored pool.store) fit.stable.pages;
+              (λ page low. omega arith) (take (length pool.states) (stored pool.store)) fit.stable.pages;
           images = λ p. image_below (get_or (writing_of pool.states) p None) (fit.stable.images p);
         };
         gathered = rw same fit.gathered;
-        master = rw same (master_forced it.log.records (stored pool.store) it.forced_end
+        master = rw same (master_forced it.log (take (length pool.states) (stored pool.store)) it.forced_end
             new.forced_end ckpts.master no_less
             fit.master);
         copied = rw same (copied_forced it.log it.forced_end new.forced_end
-            (stored pool.store) ckpts.copies no_less
+            (take (length pool.states) (stored pool.store)) ckpts.copies no_less
             fit.copied);
         noted = fit.noted;
       };
@@ -152,7 +151,7 @@ ended stored it table pool after ckpts p lsn kept none within at store states of
     (λ q. after ≡ record (with_state pool p (write_ended (state_at pool p) q.lsn))
     { store = after.store }) q here states in
     let state : (engine_view stored it after ckpts).state ≡ ended_write s p q =
-    ended_is stored it pool after ckpts p q stored_is (ap (λ v. v.frames) is) (ap (λ v. v.resident) is)
+    ended_is stored it pool after ckpts p q within stored_is (ap (λ v. v.frames) is) (ap (λ v. v.resident) is)
     (ap (λ v. v.states) is) in
     let effected : (engine_view stored it after ckpts).state ≡ (effect s (event.WriteEnd p)).state =
     rw ends.there state in
@@ -178,7 +177,7 @@ repeated stored it table pool after ckpts p kept none within either goes_on of_l
     let may : MayBeStored p s (engine_view stored it after ckpts).state =
     rw ends.there (elim (of_image (state_at pool p).writing
     (λ q. StoresOrKeeps (stored pool.store) p q (stored after.store)) q here either) [
-      | inl stores ↦ inr (repeated_is stored it pool after ckpts p q stores frames resident states)
+      | inl stores ↦ inr (repeated_is stored it pool after ckpts p q within stores frames resident states)
       | inr keeps ↦ inl (kept_is stored it pool after ckpts keeps frames resident states)
     ]) in
     called stored it it table pool after ckpts (event.WriteEnd p) (Err StoreFault) kept tt refl

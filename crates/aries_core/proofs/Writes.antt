@@ -397,7 +397,7 @@ repaired_fit old new page fit goes repairs =
     let below : now.lsn < new.forced_end =
     let stable = image_is_stable old page fit in let forced = repairs.forced in omega arith in
     let past = past_now old.log page in
-    let stored_count : volume_pages new ≤ length new.stored =
+    let stored_count : length new.stored ≡ volume_pages new =
     omega (arith, ap length repairs.stored, length-set old.stored page now, counted.stored, goes.count) in
     let writing_count = ap length repairs.writing ∙ counted.writing ∙ sym goes.count in
     let stable : AreStable new = record {

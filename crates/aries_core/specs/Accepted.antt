@@ -2,7 +2,7 @@
 use Rattle.std.specs.Prelude.{List, [], ◌∷◌, ◌++◌, Option, Some, None, Result, Ok, Err}
 use Rattle.std.specs.Option.{option_to_list}
 use Rattle.log_history.specs.Work.{AbortCall, AddCall, BeginCall, Call, CommitCall}
-use Rattle.log_history.specs.Work.{SetCall, UndoCall, UndoToCall}
+use Rattle.log_history.specs.Work.{ExtendCall, SetCall, UndoCall, UndoToCall}
 use Rattle.aries_core.specs.declared.event.Answer.{Answer}
 use Rattle.aries_core.specs.declared.event.Answer.TheVariants as answer
 use Rattle.aries_core.specs.declared.event.Event.{Event}
@@ -20,6 +20,7 @@ accepted_call (event.Commit txn) answer = Some (CommitCall txn)
 accepted_call (event.Abort txn) answer = Some (AbortCall txn)
 accepted_call (event.UndoStep txn) answer = Some (UndoCall txn)
 accepted_call (event.UndoTo txn at) (answer.Undid lsn) = Some (UndoToCall txn)
+accepted_call (event.Extend count) answer = Some (ExtendCall count)
 accepted_call event answer = None
 
 -- the same of any reply: a Commit that is not known to be forced stands in the log, so it counts

@@ -11,7 +11,7 @@ use Rattle.log_history.specs.Transactions.{last_of, pending}
 use Rattle.aries_core.specs.declared.event.Event.{Event}
 use Rattle.aries_core.specs.declared.event.Event.TheVariants as event
 use Rattle.aries_core.specs.EngineState.{EngineState, abort_record, commit_record, comp_record, end}
-use Rattle.aries_core.specs.EngineState.{begin_ckpt_record, end_ckpt_record, end_record}
+use Rattle.aries_core.specs.EngineState.{begin_ckpt_record, end_ckpt_record, end_record, extend_record}
 use Rattle.aries_core.specs.EngineState.{gathered_record, next_txn, taken_back, update_record}
 use Rattle.aries_core.specs.EventFits.{EventFits}
 use Rattle.aries_core.specs.Refusal.{refusal}
@@ -40,6 +40,7 @@ record_for s (event.WriteBegin page) = None
 record_for s (event.WriteEnd page) = None
 record_for s event.CkptBegin = Some (begin_ckpt_record s)
 record_for s event.CkptGather = gathered_record s
+record_for s (event.Extend count) = Some (extend_record s count)
 record_for s event.CkptEnd = option_map (end_ckpt_record s) (open_checkpoint s.log)
 
 -- the record is that of a transaction's call that is accepted

@@ -3,7 +3,8 @@ use Rattle.std.specs.Prelude.{ℕ, zero, suc, ◌-◌, ◌++◌, nat_le, Bool, t
 use Rattle.std.specs.Prelude.{List, [], ◌∷◌, length, map, replicate, slice_index_or, slice_set}
 use Rattle.std.specs.Prelude.{Option, Some, None, Result, Ok}
 use Rattle.std.specs.List.{position}
-use Rattle.std.specs.Option.{option_map}
+use Rattle.std.specs.Option.{option_map, option_map_or}
+use Rattle.fuzzy_ckpt.specs.declared.point.Point.{Point}
 use Rattle.copy_vault.specs.declared.copy_id.CopyKind.{CopyKind}
 use Rattle.copy_vault.specs.declared.copy_id.CopyKind.TheVariants.{Full, Inc}
 use Rattle.copy_vault.specs.declared.copy_id.TheConstants.{MAX_COPIES}
@@ -17,6 +18,7 @@ use Rattle.aries_core.specs.declared.refusal.Refusal.{Refusal}
 use Rattle.aries_core.specs.declared.refusal.Refusal.TheVariants.{NoMaster, NoCopy, CopyNotOpen}
 use Rattle.aries_core.specs.declared.refusal.Refusal.TheVariants.{CopyNotComplete, PageDecided}
 use Rattle.aries_core.specs.declared.refusal.Refusal.TheVariants.{PageOut, PagesLeft, TooManyCopies}
+use Rattle.aries_core.specs.CkptReplies.{VolumeSize, new_size, with_point, with_size}
 use Rattle.aries_core.specs.Refusal.{or_else, refused_if}
 
 -- of a page of a copy: nothing was answered yet, or that it was taken with this LSN, or that the
@@ -74,7 +76,7 @@ abbrev pub completed : CatalogueEntry → CatalogueEntry
 completed (being_read kind marks) = is_complete kind marks
 completed entry = entry
 
--- an accepted call on copies gives one an id, decides of a page, completes a copy, or drops it
+-- an accepted call on copies gives one an id, and so many pages, decides of a page, completes a copy, or drops it
 abbrev pub with_copy_event : ℕ → List CatalogueEntry → Event → Result Answer Refusal
     → List CatalogueEntry
 with_copy_event pages entries event.CopyFull (Ok answer) = with_next_copy entries Full pages
@@ -88,16 +90,21 @@ with_copy_event pages entries (event.DropCopy copy) (Ok answer) =
     with_entry entries copy was_dropped
 with_copy_event pages entries event reply = entries
 
-abbrev pub catalogue_from : ℕ → List CatalogueEntry → List Event → List (Result Answer Refusal)
-    → List CatalogueEntry
-catalogue_from pages entries [] replies = entries
-catalogue_from pages entries (event ∷ events) [] = entries
-catalogue_from pages entries (event ∷ events) (reply ∷ replies) =
-    catalogue_from pages (with_copy_event pages entries event reply) events replies
+-- a copy has the pages that the volume had where the checkpoint of the last Point began
+abbrev pub pages_of_point : Option Point → ℕ
+pages_of_point point = option_map_or (λ p. p.pages) point 0
 
--- the copies of a volume of so many pages, in order of their ids
+abbrev pub catalogue_from : VolumeSize → Option Point → List CatalogueEntry → List Event
+    → List (Result Answer Refusal) → List CatalogueEntry
+catalogue_from size point entries [] replies = entries
+catalogue_from size point entries (event ∷ events) [] = entries
+catalogue_from size point entries (event ∷ events) (reply ∷ replies) =
+    catalogue_from (with_size size event reply) (with_point size point event reply)
+    (with_copy_event (pages_of_point point) entries event reply) events replies
+
+-- the copies of a volume that began with so many pages, in order of their ids
 abbrev pub catalogue : ℕ → List Event → List (Result Answer Refusal) → List CatalogueEntry
-catalogue pages events replies = catalogue_from pages [] events replies
+catalogue pages events replies = catalogue_from (new_size pages) None [] events replies
 
 -- ---- when a call on copies is refused
 

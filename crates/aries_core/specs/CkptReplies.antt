@@ -1,6 +1,6 @@
 -- Whether the gather of a checkpoint has ended, and which checkpoint ended last, by events and
 -- replies alone.
-use Rattle.std.specs.Prelude.{Bool, true, false, List, [], ◌∷◌, Option, Some, None, Result, Ok}
+use Rattle.std.specs.Prelude.{ℕ, Bool, true, false, List, [], ◌∷◌, Option, Some, None, Result, Ok}
 use Rattle.fuzzy_ckpt.specs.declared.point.Point.{Point}
 use Rattle.aries_core.specs.declared.event.Answer.{Answer}
 use Rattle.aries_core.specs.declared.event.Answer.TheVariants as answer
@@ -24,18 +24,35 @@ gather_from done (event ∷ events) (reply ∷ replies) =
 abbrev pub gather_ended : List Event → List (Result Answer Refusal) → Bool
 gather_ended events replies = gather_from false events replies
 
--- an accepted end of a checkpoint answers what it is as a Point
-abbrev pub with_point : Option Point → Event → Result Answer Refusal → Option Point
-with_point point event.CkptEnd (Ok (answer.Point begin end redo)) =
-    Some (record { begin = begin; end = end; redo = redo })
-with_point point event reply = point
+-- ---- the checkpoint that ended last
 
-abbrev pub point_from : Option Point → List Event → List (Result Answer Refusal) → Option Point
-point_from point [] replies = point
-point_from point (event ∷ events) [] = point
-point_from point (event ∷ events) (reply ∷ replies) =
-    point_from (with_point point event reply) events replies
+-- the page count of a volume, and what it was at the last accepted begin of a checkpoint
+pub record VolumeSize : Type 0 where
+  pub now : ℕ
+  pub begun : ℕ
 
--- the last Point that was answered
-abbrev pub last_point : List Event → List (Result Answer Refusal) → Option Point
-last_point events replies = point_from None events replies
+abbrev pub new_size : ℕ → VolumeSize
+new_size pages = record { now = pages; begun = pages }
+
+abbrev pub with_size : VolumeSize → Event → Result Answer Refusal → VolumeSize
+with_size size event.CkptBegin (Ok answer) = record size { begun = size.now }
+with_size size (event.Extend count) (Ok answer) = record size { now = count }
+with_size size event reply = size
+
+-- an accepted end of a checkpoint answers what it is as a Point, whose page count is the one at its
+-- begin
+abbrev pub with_point : VolumeSize → Option Point → Event → Result Answer Refusal → Option Point
+with_point size point event.CkptEnd (Ok (answer.Point begin end redo)) =
+    Some (record { begin = begin; end = end; redo = redo; pages = size.begun })
+with_point size point event reply = point
+
+abbrev pub point_from : VolumeSize → Option Point → List Event → List (Result Answer Refusal)
+    → Option Point
+point_from size point [] replies = point
+point_from size point (event ∷ events) [] = point
+point_from size point (event ∷ events) (reply ∷ replies) =
+    point_from (with_size size event reply) (with_point size point event reply) events replies
+
+-- the last Point that was answered, of a volume that began with so many pages
+abbrev pub last_point : ℕ → List Event → List (Result Answer Refusal) → Option Point
+last_point pages events replies = point_from (new_size pages) None events replies

@@ -1,5 +1,5 @@
 -- What an engine is, and what an accepted call makes of it.
-use Rattle.std.specs.Prelude.{ℕ, ◌≡◌, ◌+◌, ◌<◌, ◌≤◌, List, [], ◌∷◌, ◌++◌, length, map, max, nat_lt}
+use Rattle.std.specs.Prelude.{ℕ, ◌≡◌, ◌+◌, ◌-◌, ◌<◌, ◌≤◌, take, take, List, [], ◌∷◌, ◌++◌, length, map, max, nat_lt}
 use Rattle.std.specs.Prelude.{replicate, slice_index, slice_index_or, slice_set, Option, Some}
 use Rattle.std.specs.Prelude.{IsSome, IsSomeAnd, None, IfSome, false, if◌then◌else◌}
 use Rattle.std.specs.List.{All}
@@ -8,7 +8,7 @@ use Rattle.page_core.specs.declared.change.Change.{Change}
 use Rattle.page_core.specs.declared.change.Change.TheVariants.{Set, Add}
 use Rattle.page_core.specs.Change.{undo_of}
 use Rattle.page_core.specs.Page.{formatted}
-use Rattle.page_core.specs.Volume.{formatted_pages}
+use Rattle.page_core.specs.Volume.{formatted_pages, grown_to}
 use Rattle.buffer_pool.specs.Frames.{IsResident, fetched, is_resident}
 use Rattle.buffer_pool.specs.Pool.{IsPoolOf, PoolView, is_clean, writing_of, written_of}
 use Rattle.log_records.specs.Coverage.{AreStored, rec_lsn}
@@ -49,8 +49,8 @@ use Rattle.aries_core.specs.Gather.{Left, is_done, left_of, pages_left, session_
 
 -- the page count in the log's header, the log's records, the LSN below which each of them is on
 -- the device, and the last complete checkpoint below it; how many frames there are; the pages in
--- memory, in the order in which they were fetched; the stored pages; of each page the LSN of its
--- last write, and the image that is being written;
+-- memory, in the order in which they were fetched; the pages of the volume as they are stored; of
+-- each of them the LSN of its last write, and the image that is being written;
 -- what is left for the gather of the open checkpoint (all, where none is open); and the image
 -- copies in order of their ids
 pub record EngineState : Type 0 where
@@ -133,6 +133,15 @@ repaired s page image = record s {
   written = slice_set s.written page image.lsn;
 }
 
+-- the volume has grown to so many pages: those that were added are stored as they are formatted, and
+-- were never written
+abbrev pub grown : EngineState → ℕ → EngineState
+grown s count = record s {
+  stored = grown_to count s.stored;
+  written = s.written ++ replicate (count - length s.written) 0;
+  writing = s.writing ++ replicate (count - length s.writing) None;
+}
+
 -- the gather of the open checkpoint has this left
 abbrev pub gathering : EngineState → Left → EngineState
 gathering s left = record s { left = left }
@@ -213,6 +222,9 @@ abbrev pub comp_record : EngineState → ℕ → PendingChange → Record
 comp_record s txn p = log.Comp (end s) txn (last_lsn s.log txn) p.prev p.page p.slot
     (undo_of p.change)
 
+abbrev pub extend_record : EngineState → ℕ → Record
+extend_record s count = log.Extend (end s) count
+
 -- ---- the open checkpoint
 
 abbrev pub begin_ckpt_record : EngineState → Record
@@ -223,7 +235,7 @@ end_ckpt_record s c = log.EndChkpt (end s) c.begin (redo_point c)
 
 -- the next step of its gather
 abbrev pub next_step : EngineState → Checkpoint → Gathering
-next_step s c = gather_step s.log s.written (session_of s.left c)
+next_step s c = gather_step s.log s.written (session_of (log_of s) s.left c)
 
 -- the record that this step appends, if it appends one
 abbrev pub gathered_record : EngineState → Option Record
@@ -231,7 +243,12 @@ gathered_record s = option_map_or (λ c. (next_step s c).next) (open_checkpoint 
 
 -- what the checkpoint is as a Point, once it is complete
 abbrev pub point_of : EngineState → Checkpoint → Point
-point_of s c = record { begin = c.begin; end = end s; redo = redo_point c }
+point_of s c = record {
+  begin = c.begin;
+  end = end s;
+  redo = redo_point c;
+  pages = page_count_below (log_of s) c.begin;
+}
 
 -- it is closed by its EndChkpt, which need not be forced yet
 abbrev pub closed : EngineState → Checkpoint → EngineState
@@ -296,11 +313,10 @@ of_open s other outcome =
 -- master's checkpoint began
 abbrev pub opened_copy : EngineState → CopyKind → Outcome
 opened_copy s kind =
-    let begin = option_map_or (λ p. p.begin) s.master 0 in
     record {
       answer = answer.Copied (length s.copies + 1);
-      state = with_copies s (opened s.copies kind (page_count_below (log_of s) begin) begin
-          (option_map_or (λ p. p.redo) s.master 0));
+      state = with_copies s (opened s.copies kind (option_map_or (λ p. p.pages) s.master 0)
+          (option_map_or (λ p. p.begin) s.master 0) (option_map_or (λ p. p.redo) s.master 0));
     }
 
 -- what is answered of a page that a copy has decided of
@@ -365,6 +381,10 @@ effect s (event.Repair copy page) = record {
   answer = answer.Repaired (page_now s page).lsn;
   state = repaired (forced_through s (page_now s page).lsn) page (page_now s page);
 }
+effect s (event.Extend count) = record {
+  answer = answer.Logged (end s);
+  state = appended (grown s count) (extend_record s count);
+}
 
 -- the master record of a complete checkpoint
 abbrev pub master_record : Point → Master
@@ -372,9 +392,9 @@ master_record point = record { begin = point.begin; end = point.end }
 
 -- ---- the invariant
 
--- each page of the volume has its place in each list; more pages may be stored
+-- each page of the volume has its place in each list
 pub record AreCounted (s : EngineState) : Type 0 where
-  pub stored : volume_pages s ≤ length s.stored
+  pub stored : length s.stored ≡ volume_pages s
   pub written : length s.written ≡ volume_pages s
   pub writing : length s.writing ≡ volume_pages s
 
@@ -394,19 +414,20 @@ pub record AreStable (s : EngineState) : Type 0 where
 
 -- what lies behind the cursor of the open checkpoint: the log has it, and no stored page there
 -- lacks a change below the redo point so far
-pub record IsGathering (rs : List Record) (stored : List Page) (left : Left)
+pub record IsGathering (log : Log) (stored : List Page) (left : Left)
     (c : Checkpoint) : Type 0 where
-  pub ckpt : IsCkptOf rs (session_of left c)
-  pub covered : AreCovered rs stored (session_of left c)
+  pub ckpt : IsCkptOf log (session_of log left c)
+  pub covered : AreCovered log.records stored (session_of log left c)
 
--- the master names a complete checkpoint of the log whose end is forced, and no stored page lacks a
--- change below its redo point
-pub record IsMasterOf (rs : List Record) (stored : List Page) (forced_end : ℕ)
+-- the master names a complete checkpoint of the log whose end is forced, with the page count of the
+-- volume at its begin, and no stored page lacks a change below its redo point
+pub record IsMasterOf (log : Log) (stored : List Page) (forced_end : ℕ)
     (point : Point) : Type 0 where
-  pub complete : IsCompleteCheckpoint rs point.begin point.end
+  pub complete : IsCompleteCheckpoint log.records point.begin point.end
   pub same_redo : point.redo ≡ complete.redo
+  pub same_pages : point.pages ≡ page_count_below log point.begin
   pub forced : point.end < forced_end
-  pub covered : AllCover rs stored point.redo
+  pub covered : AllCover log.records stored point.redo
 
 -- a copy begins only where a checkpoint is complete
 abbrev pub HaveMaster : Option Point → List CopyState → Type 0
@@ -424,8 +445,8 @@ pub record IsFit (s : EngineState) : Type 0 where
   pub held : AreHeld s
   pub stored : AreStored s.log s.stored s.written s.writing
   pub stable : AreStable s
-  pub gathered : IfSome (open_checkpoint s.log) (IsGathering s.log s.stored s.left)
-  pub master : IfSome s.master (IsMasterOf s.log s.stored s.forced_end)
+  pub gathered : IfSome (open_checkpoint s.log) (IsGathering (log_of s) s.stored s.left)
+  pub master : IfSome s.master (IsMasterOf (log_of s) s.stored s.forced_end)
   pub copied : AreCopied (log_of s) s.forced_end s.stored s.copies
   pub noted : HaveMaster s.master s.copies
 
@@ -444,7 +465,8 @@ pub record MediaView : Type 0 where
   pub copies : List CopyState
   pub returns : List Return
 
--- what an engine is, by the log that it writes, the pool of its pages, its checkpoints and copies
+-- what an engine is, by the log that it writes, the pool of its pages, its checkpoints and copies;
+-- the store may have more pages than the volume
 abbrev pub engine_view : {S D : Type 0} → (S → List Page) → WrittenLog D → PoolView S
     → MediaView → EngineView S D
 engine_view stored it pool ckpts = record {
@@ -455,7 +477,7 @@ engine_view stored it pool ckpts = record {
     master = ckpts.master;
     frames = pool.frames;
     resident = pool.resident;
-    stored = stored pool.store;
+    stored = take (length pool.states) (stored pool.store);
     written = written_of pool.states;
     writing = writing_of pool.states;
     left = option_map_or (λ c. left_of c.phase) ckpts.session pages_left;
@@ -472,5 +494,6 @@ pub record IsConsistent {S : Type 0} (stored : S → List Page) (s : EngineState
   pub fit : IsFit s
   pub table_of_log : IsTableOf s.log table
   pub pool_of_log : IsPoolOf stored (log_of s) pool
-  pub session_of_log : ckpts.session ≡ option_map (session_of s.left) (open_checkpoint s.log)
+  pub session_of_log : ckpts.session
+      ≡ option_map (session_of (log_of s) s.left) (open_checkpoint s.log)
   pub returns_of_log : ckpts.returns ≡ returns_of s.log

@@ -1,6 +1,7 @@
 -- How far the gather of a checkpoint has come.
 use Rattle.std.specs.Prelude.{◌+◌, ℕ, Bool, true, false}
 use Rattle.std.specs.Option.{option_map_or}
+use Rattle.log_records.specs.Log.{Log, page_count_below}
 use Rattle.log_history.specs.Checkpoint.{Checkpoint, redo_point}
 use Rattle.log_history.specs.Transactions.{last_of}
 use Rattle.fuzzy_ckpt.specs.Ckpt.{CkptView, Phase, gathered, in_pages, in_txns}
@@ -33,10 +34,11 @@ left_of (in_pages from) = pages_left
 left_of (in_txns from) = txns_left
 left_of gathered = none_left
 
--- a checkpoint as its session has it
-abbrev pub session_of : Left → Checkpoint → CkptView Phase
-session_of left c = record {
+-- a checkpoint of a log as its session has it
+abbrev pub session_of : Log → Left → Checkpoint → CkptView Phase
+session_of log left c = record {
   begin = c.begin;
+  pages = page_count_below log c.begin;
   redo = redo_point c;
   phase = phase_of left c;
 }

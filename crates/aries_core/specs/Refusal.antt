@@ -1,5 +1,5 @@
 -- When a call is refused, and what is printed of a refusal.
-use Rattle.std.specs.Prelude.{ℕ, ◌+◌, ◌&&◌, nat_le, nat_lt, Bool, not, List, length, Option}
+use Rattle.std.specs.Prelude.{ℕ, ◌+◌, ◌&&◌, ◌||◌, nat_le, nat_lt, Bool, not, List, length, Option}
 use Rattle.std.specs.Prelude.{Some}
 use Rattle.std.specs.Prelude.{is_some, is_none}
 use Rattle.std.specs.Prelude.{None, if◌then◌else◌, true}
@@ -9,7 +9,7 @@ use Rattle.page_core.specs.declared.change.ChangeKind.TheVariants as kind
 use Rattle.page_core.specs.FaultName.{fault_line, fault_line_with}
 use Rattle.page_core.specs.declared.fault_name.FaultName.{FaultName}
 use Rattle.page_core.specs.declared.fault_name.FaultName.TheVariants as name
-use Rattle.page_core.specs.declared.page.TheConstants.{SLOTS}
+use Rattle.page_core.specs.declared.page.TheConstants.{MAX_PAGES, SLOTS}
 use Rattle.log_records.specs.declared.limits.TheConstants.{MAX_OPEN, MAX_RECORDS}
 use Rattle.log_history.specs.Checkpoint.{open_checkpoint}
 use Rattle.log_history.specs.Savepoints.{savepoint}
@@ -36,7 +36,7 @@ use Rattle.aries_core.specs.declared.refusal.Refusal.TheVariants.{CopyNotComplet
 use Rattle.aries_core.specs.declared.refusal.Refusal.TheVariants.{PagesLeft, TooManyCopies}
 use Rattle.aries_core.specs.declared.refusal.Refusal.TheVariants.{StoreFault, LogFault}
 use Rattle.aries_core.specs.declared.refusal.Refusal.TheVariants.{CommitUnsure, PoolFull}
-use Rattle.aries_core.specs.declared.refusal.Refusal.TheVariants.{NoSavepoint}
+use Rattle.aries_core.specs.declared.refusal.Refusal.TheVariants.{NoSavepoint, NotLarger}
 use Rattle.aries_core.specs.declared.setup.PlayFault.{PlayFault}
 use Rattle.aries_core.specs.declared.setup.PlayFault.TheVariants as play
 use Rattle.aries_core.specs.EngineState.{EngineState, gathered_record, image_of, rec_lsn_of}
@@ -169,6 +169,10 @@ refusal s (event.Repair copy page) =
     or_else (option_map of_vault (complete_refusal (state_of s.copies copy)))
     (or_else (refused_if (nat_le (volume_pages s) page) PageOut)
     (refused_if (is_some (image_of s page)) WriteBegun))
+refusal s (event.Extend count) =
+    or_else (refused_if (nat_le count (volume_pages s) || nat_lt MAX_PAGES count)
+    (NotLarger (volume_pages s)))
+    (refused_if (has_no_room s 1) LogFull)
 
 -- the name, and a number behind it, if there is one
 abbrev pub line_with_any : FaultName → Option ℕ → List ℕ
@@ -203,6 +207,7 @@ line_of LogFault = fault_line name.LogFault
 line_of PoolFull = fault_line name.PoolFull
 line_of TooManyCopies = fault_line name.TooManyCopies
 line_of NoSavepoint = fault_line name.NoSavepoint
+line_of (NotLarger present) = fault_line_with name.NotLarger present
 line_of (CommitUnsure lsn) = fault_line_with name.CommitUnsure lsn
 
 -- what is printed where an engine cannot be made

@@ -93,6 +93,7 @@ Fails old (event.Take copy page) StoreFault new = new ≡ old
 Fails old (event.Repair copy page) LogFault new =
     ForcedPart (end_up_to (log_of old) (page_now old page).lsn) old new
 Fails old (event.Repair copy page) StoreFault new = MayBeRepaired page old new
+Fails old (event.Extend count) StoreFault new = new ≡ old
 Fails old event StoreFault new = Fetches old event × (new ≡ old)
 Fails old event refusal new = ⊥
 

@@ -5,7 +5,7 @@ use Rattle.log_records.specs.Log.{header_bytes}
 use Rattle.log_store.specs.declared.device.DeviceFault.{DeviceFault}
 use Rattle.log_store.specs.Stores.{StoreCall}
 use Rattle.log_store.specs.WrittenLog.{IsWritten}
-use Rattle.page_store.specs.Store.{ReadCall, WriteCall}
+use Rattle.page_store.specs.Store.{GrowCall, IsGrown, ReadCall, WriteCall}
 use Rattle.aries_core.specs.declared.event.Answer.{Answer}
 use Rattle.aries_core.specs.declared.event.Event.{Event}
 use Rattle.aries_core.specs.declared.refusal.Refusal.{Refusal}
@@ -17,7 +17,7 @@ use Rattle.aries_core.specs.Step.{FailsForcing, Forces, IsByDevice, IsByStore, S
 use Rattle.aries_core.specs.Step.{written_log_of}
 
 -- what contracts see of a store and of a device: what one call of the device did, the bytes on it,
--- what one read and one write of the store did, the stored pages, and how often each of the two has
+-- what one read, one write and one growth of the store did, the stored pages, and how often each of the two has
 -- failed
 pub record Storage (S D : Type 0) : Type 1 where
   pub called : StoreCall D
@@ -25,13 +25,14 @@ pub record Storage (S D : Type 0) : Type 1 where
   pub device_failures : D → ℕ
   pub gave : ReadCall S
   pub wrote : WriteCall S
+  pub grew : GrowCall S
   pub stored : S → List Page
   pub store_failures : S → ℕ
 
--- the store has the pages that the state calls stored, and the device the records that it calls
--- forced
+-- the store has the pages that the state calls stored, and behind them none but formatted ones; and
+-- the device has the records that it calls forced
 pub record IsStoredOn {S D : Type 0} (on : Storage S D) (it : EngineView S D) : Type 0 where
-  pub pages : on.stored it.store ≡ it.state.stored
+  pub pages : IsGrown it.state.stored (on.stored it.store)
   pub records : IsWritten on.bytes (written_log_of it)
 
 -- which calls of the device a call of the engine makes: where it is answered, or the store failed,
@@ -48,12 +49,13 @@ CallsDevice called old (Err other) new = new.device ≡ old.device
 -- which calls of the store a call of the engine makes: where it is answered, the one that asks what
 -- it has to ask, or none if that is nothing; where the store failed, that call, which failed; else
 -- none
-abbrev pub CallsStore : {S D : Type 0} → ReadCall S → WriteCall S → Event → EngineView S D
+abbrev pub CallsStore : {S D : Type 0} → ReadCall S → WriteCall S → GrowCall S → Event → EngineView S D
     → Result Answer Refusal → EngineView S D → Type 0
-CallsStore gave wrote event old (Ok answer) new = Asks gave wrote (asked old.state event) old new
-CallsStore gave wrote event old (Err StoreFault) new =
-    FailsAsking gave wrote (asked old.state event) old new
-CallsStore gave wrote event old (Err other) new = new.store ≡ old.store
+CallsStore gave wrote grew event old (Ok answer) new =
+    Asks gave wrote grew (asked old.state event) old new
+CallsStore gave wrote grew event old (Err StoreFault) new =
+    FailsAsking gave wrote grew (asked old.state event) old new
+CallsStore gave wrote grew event old (Err other) new = new.store ≡ old.store
 
 -- one call of an engine, with what it does to its store and its device; its reply tells of a fault
 -- of one of them just where there was one in this call
@@ -62,7 +64,7 @@ pub record CallOn {S D : Type 0} (on : Storage S D) (old : EngineView S D) (even
   pub step : Step old.state event reply new.state
   pub stored : IsStoredOn on new
   pub device : CallsDevice on.called old reply new
-  pub store : CallsStore on.gave on.wrote event old reply new
+  pub store : CallsStore on.gave on.wrote on.grew event old reply new
   pub device_told : TellsOfFault IsByDevice
       (on.device_failures old.device) reply (on.device_failures new.device)
   pub store_told : TellsOfFault IsByStore

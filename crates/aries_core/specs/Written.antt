@@ -1,5 +1,5 @@
 -- The LSNs of the last writes, by events and replies alone.
-use Rattle.std.specs.Prelude.{ℕ, List, [], ◌∷◌, replicate, slice_set, Result, Ok}
+use Rattle.std.specs.Prelude.{ℕ, ◌-◌, ◌++◌, List, [], ◌∷◌, length, replicate, slice_set, Result, Ok}
 use Rattle.aries_core.specs.declared.event.Answer.{Answer}
 use Rattle.aries_core.specs.declared.event.Answer.TheVariants as answer
 use Rattle.aries_core.specs.declared.event.Event.{Event}
@@ -10,6 +10,9 @@ use Rattle.aries_core.specs.declared.refusal.Refusal.{Refusal}
 abbrev pub with_write : List ℕ → Event → Result Answer Refusal → List ℕ
 with_write written (event.WriteEnd page) (Ok (answer.Written lsn)) = slice_set written page lsn
 with_write written (event.Repair copy page) (Ok (answer.Repaired lsn)) = slice_set written page lsn
+-- a volume that grows has pages more that were never written
+with_write written (event.Extend count) (Ok answer) =
+    written ++ replicate (count - length written) 0
 with_write written event reply = written
 
 abbrev pub written_from : List ℕ → List Event → List (Result Answer Refusal) → List ℕ

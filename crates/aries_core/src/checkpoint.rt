@@ -102,9 +102,24 @@ impl<S: PageStore, D: LogDevice> Engine<S, D> {
             }
             Err(FinishFault::LogFault) => return Err(Refusal::LogFault),
         };
-        let Point { begin, end, redo } = point;
-        self.master = Some(Point { begin, end, redo });
-        Ok(Point { begin, end, redo })
+        let Point {
+            begin,
+            end,
+            redo,
+            pages,
+        } = point;
+        self.master = Some(Point {
+            begin,
+            end,
+            redo,
+            pages,
+        });
+        Ok(Point {
+            begin,
+            end,
+            redo,
+            pages,
+        })
     }
 
     /// The last complete checkpoint whose end is forced.

@@ -9,7 +9,8 @@ ghost use Rattle.log_records.specs.Coverage.{Covers};
 ghost use Rattle.log_history.specs.Checkpoint.{IsCompleteCheckpoint, open_checkpoint, redo_point};
 ghost use Rattle.fuzzy_ckpt.specs.declared.point.Point.{Point};
 ghost use Rattle.aries_core.specs.CkptReplies.{gather_ended, last_point};
-ghost use Rattle.aries_core.specs.EngineState.{EngineState, IsFit, new_state};
+ghost use Rattle.log_records.specs.Log.{page_count_below};
+ghost use Rattle.aries_core.specs.EngineState.{EngineState, IsFit, log_of, new_state};
 ghost use Rattle.aries_core.specs.EngineState.{volume_pages};
 ghost use Rattle.aries_core.specs.Refusal.{refusal};
 ghost use Rattle.aries_core.specs.Run.{Run};
@@ -22,10 +23,13 @@ ghost use Rattle.aries_core.specs.declared.refusal.Refusal.{Refusal};
 ghost use Rattle.aries_core.specs.declared.refusal.Refusal.TheVariants.{CkptOpen, GatherLeft};
 ghost use Rattle.aries_core.specs.declared.refusal.Refusal.TheVariants.{LogFault, NoCkpt};
 
-/// The master of a fit engine names a complete checkpoint of its log, whose EndChkpt is forced.
+/// The master of a fit engine names a complete checkpoint of its log, whose EndChkpt is forced, and
+/// the page count of the volume where it began.
 pub fn the_master_names_a_complete_checkpoint()
-    ensures { (s : EngineState) (point : Point) → IsFit s → s.master ≡ Some point
+    ensures complete { (s : EngineState) (point : Point) → IsFit s → s.master ≡ Some point
         → IsCompleteCheckpoint s.log point.begin point.end × (point.end < s.forced_end) }
+    ensures pages { (s : EngineState) (point : Point) → IsFit s → s.master ≡ Some point
+        → point.pages ≡ page_count_below (log_of s) point.begin }
 {}
 
 /// Each stored page of a fit engine has each of its changes below the redo point of the master: a
@@ -44,7 +48,12 @@ pub fn an_answered_point_is_the_master()
         → IsSomeAnd (open_checkpoint old.log) (λ c. (begin ≡ c.begin) × (redo ≡ redo_point c))
         × (new.log ≡ old.log ++ log.EndChkpt end begin redo ∷ [])
         × (end < new.forced_end)
-        × (new.master ≡ Some (record { begin = begin; end = end; redo = redo })) }
+        × (new.master ≡ Some (record {
+          begin = begin;
+          end = end;
+          redo = redo;
+          pages = page_count_below (log_of old) begin;
+        })) }
 {}
 
 /// At LogFault the EndChkpt stands at the end of the log, not counted as forced; the checkpoint is
@@ -62,7 +71,7 @@ pub fn an_unforced_checkpoint_leaves_the_master()
 pub fn the_master_is_the_last_point_answered()
     ensures { (pages frames : ℕ) (events : List Event) (replies : List (Result Answer Refusal))
         (new : EngineState) → Run (new_state pages frames) events replies new
-        → new.master ≡ last_point events replies }
+        → new.master ≡ last_point pages events replies }
 {}
 
 /// The log says whether a checkpoint is open: a begin is refused for it just where one is, and a

@@ -18,7 +18,8 @@ use page_store::PageStore;
 
 impl<S: PageStore, D: LogDevice> Engine<S, D> {
     /// Begins a full image copy (ARIES, section 8), and answers its id. The copy notes the begin
-    /// LSN and the redo point of the last complete checkpoint, whatever checkpoint is open.
+    /// LSN and the redo point of the last complete checkpoint, whatever checkpoint is open. It is
+    /// of the pages that the volume had where that checkpoint began.
     /// Refusals in order: `NoMaster`, `TooManyCopies`, `OutOfMemory`.
     pub fn copy_full(&mut self) -> Result<CopyId, Refusal>
         ensures step { Step self.old.state event.CopyFull (reply_of answer.Copied result)
@@ -29,10 +30,9 @@ impl<S: PageStore, D: LogDevice> Engine<S, D> {
         let Some(master) = self.master else {
             return Err(Refusal::NoMaster);
         };
-        let pages = self.pool.pages();
         Ok(
             self.vault
-                .open_full(self.alloc, pages, master.begin, master.redo)?,
+                .open_full(self.alloc, master.pages, master.begin, master.redo)?,
         )
     }
 
@@ -47,7 +47,7 @@ impl<S: PageStore, D: LogDevice> Engine<S, D> {
     {
         let begin = self.noted_begin();
         let redo = self.noted_redo();
-        let pages = self.pool.pages();
+        let pages = self.noted_pages();
         Ok(self.vault.open_inc(self.alloc, parent, pages, begin, redo)?)
     }
 
@@ -61,9 +61,9 @@ impl<S: PageStore, D: LogDevice> Engine<S, D> {
         ensures device { self.new.device ≡ self.old.device }
         ensures store_refused { IfErr result (λ why. ¬ IsByStore why
             → self.new.store ≡ self.old.store) }
-        ensures asked { OnOk result (Asks S.gave S.wrote
+        ensures asked { OnOk result (Asks S.gave S.wrote S.grew
             (asked self.old.state (event.Take copy page)) self.old self.new) }
-        ensures failed { IfErr result (λ why. IsByStore why → FailsAsking S.gave S.wrote
+        ensures failed { IfErr result (λ why. IsByStore why → FailsAsking S.gave S.wrote S.grew
             (asked self.old.state (event.Take copy page)) self.old self.new) }
         ensures no_store_failure { OnOk result
             (S.failures self.new.store ≡ S.failures self.old.store) }
@@ -112,6 +112,16 @@ impl<S: PageStore, D: LogDevice> Engine<S, D> {
         match self.master {
             Some(master) => master.begin,
             None => Lsn(0),
+        }
+    }
+
+    /// The page count of the volume where the last complete checkpoint began.
+    fn noted_pages(&self) -> u32
+        ensures { result ≡ option_map_or (λ p. p.pages) self.now.state.master 0 }
+    {
+        match self.master {
+            Some(master) => master.pages,
+            None => 0,
         }
     }
 

@@ -148,13 +148,13 @@ impl<S: PageStore, D: LogDevice> Engine<S, D> {
             → D.fails_from self.old.device ≤ end self.new.state) }
 
         ensures asked { OnOk result
-            (Asks S.gave S.wrote (asked self.old.state event) self.old self.new) }
+            (Asks S.gave S.wrote S.grew (asked self.old.state event) self.old self.new) }
         ensures store_refused { IfErr result (λ why. ¬ IsByStore why
             → self.new.store ≡ self.old.store) }
         ensures no_store_failure { OnOk result
             (S.failures self.new.store ≡ S.failures self.old.store) }
         ensures failed { IfErr result (λ why. IsByStore why
-            → FailsAsking S.gave S.wrote (asked self.old.state event) self.old self.new) }
+            → FailsAsking S.gave S.wrote S.grew (asked self.old.state event) self.old self.new) }
         ensures store_cause { IfErr result (λ why. IsByStore why
             → S.failures self.old.store < S.failures self.new.store) }
     {
@@ -208,6 +208,7 @@ impl<S: PageStore, D: LogDevice> Engine<S, D> {
             Event::Seal(copy) => self.seal(copy).map(Answer::Sealed),
             Event::DropCopy(copy) => self.drop_copy(copy).map(|_| Answer::Dropped),
             Event::Repair { copy, page } => self.repair(copy, page).map(Answer::Repaired),
+            Event::Extend(count) => self.extend(count).map(Answer::Logged),
         }
     }
 
@@ -246,9 +247,9 @@ impl<S: PageStore, D: LogDevice> Engine<S, D> {
         ensures device { self.new.device ≡ self.old.device }
         ensures store { ¬ Fetches self.old.state (event.Set txn page slot number)
             → self.new.store ≡ self.old.store }
-        ensures asked { OnOk result (Asks S.gave S.wrote
+        ensures asked { OnOk result (Asks S.gave S.wrote S.grew
             (asked self.old.state (event.Set txn page slot number)) self.old self.new) }
-        ensures failed { IfErr result (λ why. IsByStore why → FailsAsking S.gave S.wrote
+        ensures failed { IfErr result (λ why. IsByStore why → FailsAsking S.gave S.wrote S.grew
             (asked self.old.state (event.Set txn page slot number)) self.old self.new) }
         ensures store_refused { IfErr result (λ why. ¬ IsByStore why
             → self.new.store ≡ self.old.store) }
@@ -280,9 +281,9 @@ impl<S: PageStore, D: LogDevice> Engine<S, D> {
         ensures device { self.new.device ≡ self.old.device }
         ensures store { ¬ Fetches self.old.state (event.Add txn page slot amount)
             → self.new.store ≡ self.old.store }
-        ensures asked { OnOk result (Asks S.gave S.wrote
+        ensures asked { OnOk result (Asks S.gave S.wrote S.grew
             (asked self.old.state (event.Add txn page slot amount)) self.old self.new) }
-        ensures failed { IfErr result (λ why. IsByStore why → FailsAsking S.gave S.wrote
+        ensures failed { IfErr result (λ why. IsByStore why → FailsAsking S.gave S.wrote S.grew
             (asked self.old.state (event.Add txn page slot amount)) self.old self.new) }
         ensures store_refused { IfErr result (λ why. ¬ IsByStore why
             → self.new.store ≡ self.old.store) }
@@ -305,9 +306,9 @@ impl<S: PageStore, D: LogDevice> Engine<S, D> {
         ensures device { self.new.device ≡ self.old.device }
         ensures store { ¬ Fetches self.old.state (event.Read page slot)
             → self.new.store ≡ self.old.store }
-        ensures asked { OnOk result (Asks S.gave S.wrote
+        ensures asked { OnOk result (Asks S.gave S.wrote S.grew
             (asked self.old.state (event.Read page slot)) self.old self.new) }
-        ensures failed { IfErr result (λ why. IsByStore why → FailsAsking S.gave S.wrote
+        ensures failed { IfErr result (λ why. IsByStore why → FailsAsking S.gave S.wrote S.grew
             (asked self.old.state (event.Read page slot)) self.old self.new) }
         ensures store_refused { IfErr result (λ why. ¬ IsByStore why
             → self.new.store ≡ self.old.store) }

@@ -72,6 +72,8 @@ pub enum Event {
         copy: CopyId,
         page: PageNo,
     },
+    /// Grows the volume to so many pages.
+    Extend(u32),
 }
 
 /// What an accepted call answers.

@@ -74,9 +74,9 @@ impl<S: PageStore, D: LogDevice> Engine<S, D> {
         ensures no_store_failure { OnOk result
             (S.failures self.new.store ≡ S.failures self.old.store) }
         ensures asked { OnOk result
-            (Asks S.gave S.wrote (page_asked self.old.state page) self.old self.new) }
+            (Asks S.gave S.wrote S.grew (page_asked self.old.state page) self.old self.new) }
         ensures failed { IfErr result (λ why. IsByStore why
-            → FailsAsking S.gave S.wrote (page_asked self.old.state page) self.old self.new) }
+            → FailsAsking S.gave S.wrote S.grew (page_asked self.old.state page) self.old self.new) }
         ensures store_cause { IfErr result (λ why. IsByStore why
             → S.failures self.old.store < S.failures self.new.store) }
     {
@@ -120,9 +120,9 @@ impl<S: PageStore, D: LogDevice> Engine<S, D> {
         ensures no_store_failure { OnOk result
             (S.failures self.new.store ≡ S.failures self.old.store) }
         ensures asked { OnOk result
-            (Asks S.gave S.wrote (page_asked self.old.state page) self.old self.new) }
+            (Asks S.gave S.wrote S.grew (page_asked self.old.state page) self.old self.new) }
         ensures failed { IfErr result (λ why. IsByStore why
-            → FailsAsking S.gave S.wrote (page_asked self.old.state page) self.old self.new) }
+            → FailsAsking S.gave S.wrote S.grew (page_asked self.old.state page) self.old self.new) }
         ensures store_cause { IfErr result (λ why. IsByStore why
             → S.failures self.old.store < S.failures self.new.store) }
     {
@@ -170,9 +170,9 @@ impl<S: PageStore, D: LogDevice> Engine<S, D> {
         ensures no_store_failure { OnOk result
             (S.failures self.new.store ≡ S.failures self.old.store) }
         ensures asked { OnOk result
-            (Asks S.gave S.wrote (page_asked self.old.state page) self.old self.new) }
+            (Asks S.gave S.wrote S.grew (page_asked self.old.state page) self.old self.new) }
         ensures failed { IfErr result (λ why. IsByStore why
-            → FailsAsking S.gave S.wrote (page_asked self.old.state page) self.old self.new) }
+            → FailsAsking S.gave S.wrote S.grew (page_asked self.old.state page) self.old self.new) }
         ensures store_cause { IfErr result (λ why. IsByStore why
             → S.failures self.old.store < S.failures self.new.store) }
     {
@@ -228,9 +228,9 @@ impl<S: PageStore, D: LogDevice> Engine<S, D> {
         ensures no_store_failure { OnOk result
             (S.failures self.new.store ≡ S.failures self.old.store) }
         ensures asked { OnOk result
-            (Asks S.gave S.wrote (page_asked self.old.state page) self.old self.new) }
+            (Asks S.gave S.wrote S.grew (page_asked self.old.state page) self.old self.new) }
         ensures failed { IfErr result (λ why. IsByStore why
-            → FailsAsking S.gave S.wrote (page_asked self.old.state page) self.old self.new) }
+            → FailsAsking S.gave S.wrote S.grew (page_asked self.old.state page) self.old self.new) }
         ensures store_cause { IfErr result (λ why. IsByStore why
             → S.failures self.old.store < S.failures self.new.store) }
     {

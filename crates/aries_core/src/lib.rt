@@ -7,6 +7,7 @@ mod copies;
 mod copy_laws;
 mod engine;
 mod event;
+mod extend;
 mod fetches;
 mod laws;
 mod open_ckpt;

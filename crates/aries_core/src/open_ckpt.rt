@@ -65,7 +65,7 @@ impl OpenCkpt {
         pool: &Pool<S>,
         txns: &TxnTable,
     ) -> Result<OpenCkpt, OpenCkpt>
-        requires ckpt { IsCkptOf log.old.log.records (view_of self) }
+        requires ckpt { IsCkptOf log.old.log (view_of self) }
         requires pool { IsPoolOf S.stored log.old.log pool.now }
         requires table { IsTableOf log.old.log.records txns.now }
         requires covered { AreCovered log.old.log.records (S.stored pool.now.store) (view_of self) }

@@ -3,6 +3,7 @@
 ghost use Rattle.std.specs.Prelude.{◌≡◌, ◌<◌, ◌≤◌, [], IfErr, IfOk, MatchOption, OnOk};
 ghost use Rattle.log_records.specs.Coverage.{dirty, entries_of, next_dirty};
 ghost use Rattle.log_store.specs.WrittenLog.{IsWritten};
+ghost use Rattle.page_store.specs.Store.{IsGrown};
 ghost use Rattle.aries_core.specs.Asked.{Asks, FailsAsking, a_page};
 ghost use Rattle.aries_core.specs.EngineState.{log_of, stored_page};
 ghost use Rattle.aries_core.specs.EngineState.{volume_pages};
@@ -24,7 +25,8 @@ impl<S: PageStore, D: LogDevice> Engine<S, D> {
         ensures device { result.now.device ≡ self.now.device }
         // What is forced is on the device, and what is stored is in the store.
         ensures records { IsWritten D.bytes (written_log_of self.now) }
-        ensures pages { S.stored self.now.store ≡ self.now.state.stored }
+        // Behind the volume's pages the store has none but formatted ones.
+        ensures pages { IsGrown self.now.state.stored (S.stored self.now.store) }
     {
         let _ = self.log.device();
         &self.log
@@ -56,9 +58,9 @@ impl<S: PageStore, D: LogDevice> Engine<S, D> {
             × (self.new.store ≡ self.old.store)) }
         ensures state { self.new.state ≡ self.old.state }
         ensures device { self.new.device ≡ self.old.device }
-        ensures asked { OnOk result (Asks S.gave S.wrote (a_page page) self.old self.new) }
+        ensures asked { OnOk result (Asks S.gave S.wrote S.grew (a_page page) self.old self.new) }
         ensures failed { IfErr result (λ why. IsByStore why
-            → FailsAsking S.gave S.wrote (a_page page) self.old self.new) }
+            → FailsAsking S.gave S.wrote S.grew (a_page page) self.old self.new) }
         ensures no_failure { OnOk result (S.failures self.new.store ≡ S.failures self.old.store) }
         ensures failure { IfErr result (λ why. IsByStore why
             → S.failures self.old.store < S.failures self.new.store) }

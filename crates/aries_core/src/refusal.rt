@@ -55,13 +55,16 @@ pub enum Refusal {
     /// The page store failed. At the end of a write, the write stays in progress with its image,
     /// and may be ended again; the old page is stored, or the image. At a repair the log is forced
     /// through the page's LSN, the old page is stored, or the rebuilt one, and the page is as dirty
-    /// as before. At a call that reads a page, nothing changed.
+    /// as before. At a call that reads a page, nothing changed. At a growth the store may have more
+    /// pages than the volume, and nothing else changed.
     StoreFault,
     /// The page has to come in, each frame is taken, and none has a clean page.
     PoolFull,
     /// The LSN is no savepoint of the transaction: none of its records stands there, or some change
     /// that was pending then was taken back since.
     NoSavepoint,
+    /// The volume has as many pages, or so many are more than a volume may have: the present count.
+    NotLarger(u32),
     /// All 1,024 ids of copies were given, dropped ones counted.
     TooManyCopies,
     /// The log's device failed. The records that were stored before the fault count as forced.
@@ -139,6 +142,7 @@ impl Refusal {
             Refusal::PoolFull => (FaultName::PoolFull, None),
             Refusal::TooManyCopies => (FaultName::TooManyCopies, None),
             Refusal::NoSavepoint => (FaultName::NoSavepoint, None),
+            Refusal::NotLarger(present) => (FaultName::NotLarger, Some(*present as u64)),
             Refusal::CommitUnsure(lsn) => (FaultName::CommitUnsure, Some(lsn.0)),
         }
     }

@@ -48,9 +48,9 @@ impl<S: PageStore, D: LogDevice> Engine<S, D> {
 
         ensures store_refused { IfErr result (λ why. ¬ IsByStore why
             → self.new.store ≡ self.old.store) }
-        ensures asked { OnOk result (Asks S.gave S.wrote
+        ensures asked { OnOk result (Asks S.gave S.wrote S.grew
             (asked self.old.state (event.Repair copy page)) self.old self.new) }
-        ensures failed { IfErr result (λ why. IsByStore why → FailsAsking S.gave S.wrote
+        ensures failed { IfErr result (λ why. IsByStore why → FailsAsking S.gave S.wrote S.grew
             (asked self.old.state (event.Repair copy page)) self.old self.new) }
         ensures no_store_failure { OnOk result
             (S.failures self.new.store ≡ S.failures self.old.store) }

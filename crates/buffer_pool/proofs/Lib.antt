@@ -2,6 +2,7 @@ pub mod Bits
 pub mod Columns
 pub mod Dirty
 pub mod Fetching
+pub mod Grown
 pub mod Holes
 pub mod PageSets
 pub mod Pools

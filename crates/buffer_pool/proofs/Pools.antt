@@ -77,7 +77,7 @@ images_later rs next pages now =
     pages now)
 
 -- the record stands behind the log
-own_is : (log : Log) (next : Record) → IsLog (with_next log (next ∷ [])) → own_lsn next ≡ lsn_of (length log.records)
+pub own_is : (log : Log) (next : Record) → IsLog (with_next log (next ∷ [])) → own_lsn next ≡ lsn_of (length log.records)
 own_is log next valid =
     let rs = log.records in
     let there : length rs < length (rs ++ next ∷ []) = omega (arith, length_push rs next) in
@@ -403,6 +403,7 @@ pool_of_none stored_in store n frames resident count holds few within now = reco
     pages = count;
     count = omega arith;
     records = λ i d lt. absurd (omega arith);
+    grows = λ i d lt. absurd (omega arith);
   };
   pages = count_behind-nil n ∙ sym (length-replicate n unwritten);
   few = few;

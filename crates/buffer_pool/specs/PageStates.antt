@@ -30,6 +30,12 @@ pub record AreColumns (written : List ℕ) (rec_lsns : List (Option ℕ)) (image
   pub numbers : (p : ℕ) → p < length images
       → IfSome (slice_index_or images p None) (λ q. q.number ≡ p)
 
+-- and each of three columns has room for as many pages as a volume may have
+pub record HaveRoom (written images since : ℕ) : Type 0 where
+  pub in_written : MAX_PAGES ≤ written
+  pub in_images : MAX_PAGES ≤ images
+  pub in_since : MAX_PAGES ≤ since
+
 -- no page from one number up to another is dirty
 abbrev pub AreClean : List PageState → ℕ → ℕ → Type 0
 AreClean states from to = (p : ℕ) → from ≤ p → p < to → (state_in states p).rec_lsn ≡ None

@@ -1,5 +1,6 @@
 -- A pool of pages that are changed as their log grows, and written to a store meanwhile.
-use Rattle.std.specs.Prelude.{ℕ, ◌≡◌, ◌<◌, ◌≤◌, Bool, false, List, [], length, map, replicate}
+use Rattle.std.specs.Prelude.{ℕ, ◌≡◌, ◌-◌, ◌++◌, ◌<◌, ◌≤◌, Bool, false, List, [], length, map}
+use Rattle.std.specs.Prelude.{replicate}
 use Rattle.std.specs.Prelude.{slice_index, slice_index_or, slice_set, Option, None, Some, IfSome}
 use Rattle.std.specs.Prelude.{is_none, is_some, if◌then◌else◌}
 use Rattle.std.specs.List.{All}
@@ -143,6 +144,14 @@ new_pool store pages frames = record {
 -- and one with a frame for each page: all are resident, as they are formatted
 abbrev pub whole_pool : {S : Type 0} → S → ℕ → PoolView S
 whole_pool store pages = record (new_pool store pages pages) { resident = formatted_pages pages }
+
+-- the states of the pages of a volume that has grown to so many: those that were added are unwritten
+abbrev pub grown_states : ℕ → List PageState → List PageState
+grown_states count states = states ++ replicate (count - length states) unwritten
+
+-- and its pool: no page that was added is resident
+abbrev pub grown_pool : {S : Type 0} → ℕ → PoolView S → PoolView S
+grown_pool count pool = record pool { states = grown_states count pool.states }
 
 -- the state of one page is another
 abbrev pub with_state : {S : Type 0} → PoolView S → ℕ → PageState → PoolView S

@@ -5,6 +5,7 @@
 mod bit_row;
 mod frame;
 mod frames;
+mod growth;
 mod laws;
 mod marks;
 mod page_image;

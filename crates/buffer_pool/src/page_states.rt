@@ -5,9 +5,11 @@ ghost use Rattle.std.specs.Prelude.{None, Some, IfSome, IsSome, MatchOption};
 ghost use Rattle.std.specs.Option.{option_copied, unwrap_or};
 ghost use Rattle.log_records.specs.Coverage.{entries_of, next_dirty};
 ghost use Rattle.buffer_pool.specs.PageStates.{AreClean, IsFirstDirty, dirty_in};
-ghost use Rattle.buffer_pool.specs.Pool.{changed, is_clean_in, state_in, unwritten, write_begun};
+ghost use Rattle.buffer_pool.specs.Pool.{changed, grown_states, is_clean_in, state_in, unwritten};
+ghost use Rattle.buffer_pool.specs.Pool.{write_begun};
 ghost use Rattle.buffer_pool.specs.Pool.{write_ended};
 
+use crate::growth::{grow_column, grow_lsns};
 use crate::page_image::PageImage;
 use crate::rec_lsns::RecLsns;
 use log_records::{DirtyPage, DirtyPages};
@@ -29,9 +31,9 @@ pub(crate) struct PageStates {
 }
 
 impl Model for PageStates {
-    ghost use Rattle.std.specs.Prelude.{List};
+    ghost use Rattle.std.specs.Prelude.{List, vec_capacity};
     ghost use Rattle.buffer_pool.specs.Pool.{PageState};
-    ghost use Rattle.buffer_pool.specs.PageStates.{AreColumns, states_of};
+    ghost use Rattle.buffer_pool.specs.PageStates.{AreColumns, HaveRoom, states_of};
 
     ghost Value = { List PageState };
 
@@ -39,22 +41,38 @@ impl Model for PageStates {
         it.first_changes.items };
 
     ghost invariant = { λ it. AreColumns it.last_writes.items it.rec_lsns it.images.items
-        it.first_changes.items };
+        it.first_changes.items
+        × HaveRoom (vec_capacity it.last_writes) (vec_capacity it.images)
+        (vec_capacity it.first_changes) };
 }
 
 impl PageStates {
-    /// The states of so many pages, neither changed nor written. `AllocError` comes where memory is
-    /// refused.
+    /// The states of so many pages, neither changed nor written, with room for those of as many as
+    /// a volume may have. `AllocError` comes where memory is refused.
     pub(crate) fn new(alloc: Global, count: u32) -> Result<PageStates, AllocError>
         requires { count ≤ MAX_PAGES }
         ensures { IfOk result (λ states. states ≡ replicate count unwritten) }
     {
-        Ok(PageStates {
-            last_writes: vec![in alloc; Lsn(0); count as usize]?,
-            rec_lsns: RecLsns::new(alloc, count)?,
-            images: empty_column(alloc, count)?,
-            first_changes: empty_column(alloc, count)?,
-        })
+        let mut states = PageStates {
+            last_writes: Vec::with_capacity(alloc, MAX_PAGES as usize)?,
+            rec_lsns: RecLsns::new(alloc)?,
+            images: Vec::with_capacity(alloc, MAX_PAGES as usize)?,
+            first_changes: Vec::with_capacity(alloc, MAX_PAGES as usize)?,
+        };
+        states.grow(count);
+        Ok(states)
+    }
+
+    /// There are `count` pages, at least: those that are added were neither changed nor written. It
+    /// takes no memory.
+    pub(crate) fn grow(&mut self, count: u32)
+        requires { count ≤ MAX_PAGES }
+        ensures { self.new ≡ grown_states count self.old }
+    {
+        grow_lsns(&mut self.last_writes, count);
+        self.rec_lsns.grow(count);
+        grow_column(&mut self.images, count);
+        grow_column(&mut self.first_changes, count);
     }
 
     /// How many pages there are.
@@ -150,17 +168,6 @@ impl PageStates {
     {
         self.rec_lsns.first_from(from)
     }
-}
-
-/// A column of so many places with nothing in them.
-fn empty_column<T: Drop>(alloc: Global, count: u32) -> Result<Vec<Option<T>>, AllocError>
-    ensures { IfOk result (λ column. column.items ≡ replicate count None) }
-{
-    let mut column = Vec::with_capacity(alloc, count as usize)?;
-    for _ in 0..count {
-        column.push(None)?;
-    }
-    Ok(column)
 }
 
 /// Notes the LSN of a change, if none was noted before.

@@ -5,15 +5,18 @@ ghost use Rattle.std.specs.Prelude.{slice_index_or, slice_set, None, Some, IfSom
 ghost use Rattle.std.specs.Prelude.{MatchOption, is_some, Ok, Err, IfOk, IfErr, OnOk, OnErr};
 ghost use Rattle.std.specs.List.{Contains};
 ghost use Rattle.page_core.specs.declared.page.Page.{Page};
+ghost use Rattle.page_core.specs.declared.page.TheConstants.{MAX_PAGES};
 ghost use Rattle.page_core.specs.Volume.{AreNumbered, formatted_pages};
 ghost use Rattle.log_records.specs.Image.{image, with_record};
 ghost use Rattle.log_records.specs.Log.{IsLog, IsPageCount, Log, with_next};
 ghost use Rattle.log_records.specs.Coverage.{dirty, entries_of, next_dirty};
 ghost use Rattle.log_records.specs.PageCount.{given_count};
 ghost use Rattle.log_records.specs.Record.{change_of};
-ghost use Rattle.page_store.specs.Store.{StoresOrKeeps};
+ghost use Rattle.log_records.specs.declared.record.Record.TheVariants.{Extend};
+ghost use Rattle.page_store.specs.Store.{IsGrown, StoresOrKeeps};
 ghost use Rattle.buffer_pool.specs.Frames.{IsResident, fetched, is_full, is_resident};
-ghost use Rattle.buffer_pool.specs.Pool.{IsPoolOf, is_clean, new_pool, stored_as_now, state_at};
+ghost use Rattle.buffer_pool.specs.Pool.{IsPoolOf, grown_pool, is_clean, new_pool, stored_as_now};
+ghost use Rattle.buffer_pool.specs.Pool.{state_at};
 ghost use Rattle.buffer_pool.specs.Pool.{whole_pool};
 ghost use Rattle.buffer_pool.specs.Pool.{with_state, write_begun, write_ended, writing_of};
 ghost use Rattle.buffer_pool.specs.Pool.{written_of};
@@ -368,6 +371,37 @@ impl<S: PageStore> Pool<S> {
         self.store.write(number, rebuilt)?;
         self.states.end_write(number, rebuilt.lsn);
         self.frames.note(number, &self.states);
+        Ok(())
+    }
+
+    /// Grows the volume to `count` pages, by one call of the store. The pages that are added are
+    /// formatted, and neither resident nor dirty. It takes no memory.
+    ///
+    /// An `Err` comes where the store fails, and of nothing else. The volume has as many pages as
+    /// before then; more may be stored, and those past the volume are formatted.
+    pub fn grow(&mut self, count: u32) -> Result<(), StoreFault>
+        requires more { length self.old.states ≤ count }
+        requires few { count ≤ MAX_PAGES }
+
+        ensures stored { IsGrown (S.stored self.old.store) (S.stored self.new.store) }
+        ensures grown { OnOk result
+            (self.new ≡ record (grown_pool count self.old) { store = self.new.store }) }
+        ensures next { OnOk result ((log : Log) (lsn : ℕ) → IsPoolOf S.stored log self.old
+            → IsLog (with_next log (Extend lsn count ∷ []))
+            → IsPoolOf S.stored (with_next log (Extend lsn count ∷ [])) self.new) }
+
+        ensures stays { OnErr result (self.new ≡ record self.old { store = self.new.store }) }
+        ensures kept { OnErr result ((log : Log) → IsPoolOf S.stored log self.old
+            → IsPoolOf S.stored log self.new) }
+
+        // The store was asked for that many pages by one call, and for nothing else.
+        ensures grew { S.grew self.old.store count result self.new.store }
+        ensures no_failure { OnOk result
+            (S.failures self.new.store ≡ S.failures self.old.store) }
+        ensures failure { OnErr result (S.failures self.old.store < S.failures self.new.store) }
+    {
+        self.store.grow(count)?;
+        self.states.grow(count);
         Ok(())
     }
 

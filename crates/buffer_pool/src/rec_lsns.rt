@@ -1,10 +1,11 @@
 //! The RecLSNs of all pages.
 
-ghost use Rattle.std.specs.Prelude.{ℕ, ◌≡◌, ◌<◌, ◌≤◌, length, replicate, slice_index_or};
+ghost use Rattle.std.specs.Prelude.{ℕ, ◌≡◌, ◌-◌, ◌++◌, ◌<◌, ◌≤◌, [], length, replicate, slice_index_or};
 ghost use Rattle.std.specs.Prelude.{slice_set, is_none, IfOk, None, Some, MatchOption};
 ghost use Rattle.std.specs.Option.{unwrap_or};
 ghost use Rattle.buffer_pool.specs.RecLsns.{HasNoneDirty, IsFirstEntry};
 
+use crate::growth::grow_column;
 use crate::page_set::PageSet;
 use log_records::DirtyPage;
 use page_core::{Lsn, MAX_PAGES, PageNo};
@@ -20,26 +21,34 @@ pub(crate) struct RecLsns {
 }
 
 impl Model for RecLsns {
-    ghost use Rattle.std.specs.Prelude.{ℕ, List, Option};
+    ghost use Rattle.std.specs.Prelude.{ℕ, List, Option, vec_capacity};
     ghost use Rattle.buffer_pool.specs.RecLsns.{AreFound};
 
     ghost Value = { List (Option ℕ) };
 
     ghost view = { λ it. it.lsns.items };
 
-    ghost invariant = { λ it. AreFound it.lsns.items it.dirty };
+    ghost invariant = { λ it. AreFound it.lsns.items it.dirty (vec_capacity it.lsns) };
 }
 
 impl RecLsns {
-    /// So many pages, of which none is dirty. `AllocError` comes where memory is refused.
-    pub(crate) fn new(alloc: Global, count: u32) -> Result<RecLsns, AllocError>
-        requires { count ≤ MAX_PAGES }
-        ensures { IfOk result (λ rec_lsns. rec_lsns ≡ replicate count None) }
+    /// Those of no page, with room for as many as a volume may have. `AllocError` comes where
+    /// memory is refused.
+    pub(crate) fn new(alloc: Global) -> Result<RecLsns, AllocError>
+        ensures { IfOk result (λ rec_lsns. rec_lsns ≡ []) }
     {
         Ok(RecLsns {
-            lsns: vec![in alloc; None; count as usize]?,
-            dirty: PageSet::new(alloc, count)?,
+            lsns: Vec::with_capacity(alloc, MAX_PAGES as usize)?,
+            dirty: PageSet::new(alloc, MAX_PAGES)?,
         })
+    }
+
+    /// There are `count` pages, at least: those that are added are not dirty. It takes no memory.
+    pub(crate) fn grow(&mut self, count: u32)
+        requires { count ≤ MAX_PAGES }
+        ensures { self.new ≡ self.old ++ replicate (count - length self.old) None }
+    {
+        grow_column(&mut self.lsns, count);
     }
 
     /// The RecLSN of a page.

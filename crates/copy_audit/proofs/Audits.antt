@@ -79,7 +79,7 @@ same_copies (x ∷ a) (y ∷ b) spell all =
 
 pub same_log_of : (log other : Log) → SpellsLog other (log_bytes log) → IsLog log → other ≡ log
 same_log_of log other spells valid =
-    same_log other log (log_bytes log) spells (record { valid = valid; format = Second; spelled = refl })
+    same_log other log (log_bytes log) spells (record { valid = valid; format = Second; of_format = λ i d lt. tt; spelled = refl })
 
 -- ---- why they are not refused
 
@@ -120,7 +120,7 @@ pub refused_outside : (whole : Log) (copies : List CopyView) (why : fault.Unsoun
     → AreRefused (Some (log_bytes whole)) (archives_of copies) why → IsOutside why
 refused_outside whole copies why valid linked right audited (of_the_log first same refused) =
     subst IsOutside (sym same)
-    (outside_log whole (record { valid = valid; format = Second; spelled = refl }) linked first refused)
+    (outside_log whole (record { valid = valid; format = Second; of_format = λ i d lt. tt; spelled = refl }) linked first refused)
 refused_outside whole copies why valid linked right audited (of_the_archives other is first same lefts refused) =
     let one : other ≡ whole = same_log_of whole other is.spelled valid in
     subst IsOutside (sym same) (outside_chain first (from_outside (counts_of whole) (end_of whole) lefts copies first right

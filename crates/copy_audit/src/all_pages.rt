@@ -83,7 +83,7 @@ fn pages_in<A: Read>(
     ensures err { IfErr result (AreNoChain (counts_of log.now) (end_of log.now)
         (map (λ a. A.remaining a) archives.old) (map (λ a. A.remaining a) archives.new)) }
 {
-    let counts = log.counts(alloc);
+    let counts = log.counts(alloc)?;
     let mut chain = ChainReader::new(alloc, archives, &counts, log.end())?;
     let changes = by_page(alloc, log.records(), Lsn(0), log.page_count())?;
     let mut row = places(alloc, archives.len())?;

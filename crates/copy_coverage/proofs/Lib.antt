@@ -2,6 +2,7 @@ pub mod Chains
 pub mod CompleteCopies
 pub mod Contents
 pub mod Copied
+pub mod Growth
 pub mod Kept
 pub mod LaterPages
 pub mod OneCopy

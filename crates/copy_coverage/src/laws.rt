@@ -3,6 +3,7 @@
 ghost use Rattle.std.specs.Prelude.{ℕ, ◌≡◌, ◌+◌, ◌≤◌, ◌<◌, ◌∷◌, [], List, length, slice_set};
 ghost use Rattle.std.specs.Prelude.{None};
 ghost use Rattle.std.specs.Prelude.{slice_index_or};
+ghost use Rattle.page_core.specs.Volume.{grown_to};
 ghost use Rattle.page_core.specs.declared.page.Page.{Page};
 ghost use Rattle.log_records.specs.declared.record.Record.{Record};
 ghost use Rattle.log_records.specs.Coverage.{Covers, IsPast};
@@ -14,7 +15,8 @@ ghost use Rattle.copy_vault.specs.Vault.{CopyState, HasParent, complete, decided
 ghost use Rattle.copy_vault.specs.Vault.{sealed, state_of, without};
 ghost use Rattle.log_records.specs.Coverage.{resume};
 ghost use Rattle.log_records.specs.Image.{image};
-ghost use Rattle.log_records.specs.Log.{IsLog, Log, lsn_of, page_count_below, with_next};
+ghost use Rattle.log_records.specs.Log.{IsLog, Log, lsn_of, page_count, page_count_below};
+ghost use Rattle.log_records.specs.Log.{with_next};
 ghost use Rattle.copy_vault.specs.Chain.{IsChain, IsChainOf, content, last_redo};
 ghost use Rattle.copy_coverage.specs.Copied.{AreCopied, AreRestorable, IsPoint, Restores};
 ghost use Rattle.copy_coverage.specs.Kept.{IsKeptOf};
@@ -36,6 +38,13 @@ pub fn copies_outlast_page_writes()
         → IsPast log.records p image
         → ((d : Page) → (slice_index_or stored p d).lsn ≤ image.lsn)
         → AreCopied log forced_end (slice_set stored p image) copies }
+{}
+
+/// Nor do they while formatted pages are added to the stored ones, behind those of the volume.
+pub fn copies_outlast_growth()
+    ensures { (log : Log) (forced_end count : ℕ) (stored : List Page) (copies : List CopyState)
+        → IsLog log → page_count log ≤ length stored → AreCopied log forced_end stored copies
+        → AreCopied log forced_end (grown_to count stored) copies }
 {}
 
 /// A copy may begin while there are ids, with a checkpoint below whose redo point every stored page

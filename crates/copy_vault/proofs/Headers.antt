@@ -5,9 +5,8 @@ use Rattle.std.specs.Prelude.{slice_range}
 use Rattle.std.specs.Int.{w32, w64, to_le_bytes, from_le_bytes}
 use Rattle.std.proofs.lemmas.List.{take_at, drop_at}
 use Rattle.std.proofs.lemmas.Nat.{from_le_bytes-to_le_bytes_4, from_le_bytes-to_le_bytes_8}
-use Rattle.page_core.specs.declared.format.Format.{Format}
-use Rattle.page_core.specs.declared.format.Format.TheVariants.{First, Second}
 use Rattle.page_core.specs.Format.{digit_of}
+use Rattle.page_core.proofs.Formats.{same_format}
 use Rattle.copy_vault.specs.declared.copy_id.CopyKind.{CopyKind}
 use Rattle.copy_vault.specs.declared.copy_id.CopyKind.TheVariants.{Full, Inc}
 use Rattle.copy_vault.specs.declared.header.ArchiveHeader.{ArchiveHeader}
@@ -88,13 +87,6 @@ same_kind Full Full e p = refl
 same_kind Full (Inc parent) e p = absurd (omega (arith, e))
 same_kind (Inc parent) Full e p = absurd (omega (arith, e))
 same_kind (Inc a) (Inc b) e p = ap Inc p
-
--- a format is known by its digit
-pub same_format : (a b : Format) → digit_of a ≡ digit_of b → a ≡ b
-same_format First First e = refl
-same_format First Second e = absurd (omega (arith, e))
-same_format Second First e = absurd (omega (arith, e))
-same_format Second Second e = refl
 
 same_u32 : (bs cs : List ℕ) (m n : ℕ) → m < 4294967296 → n < 4294967296 → bs ≡ to_le_bytes w32 m
     → cs ≡ to_le_bytes w32 n → bs ≡ cs → m ≡ n

@@ -1,5 +1,5 @@
 -- The open checkpoint of a log, while the log goes on.
-use Rattle.std.proofs.Common.{◌≡◌, ℕ, zero, suc, ◌+◌, ◌<◌, ◌≤◌, Bool, true, false, cond, eqb, List, [], ◌∷◌, ◌++◌}
+use Rattle.std.proofs.Common.{◌≡◌, ℕ, zero, suc, ◌+◌, ◌-◌, ◌/◌, ◌<◌, ◌≤◌, Bool, true, false, cond, eqb, List, [], ◌∷◌, ◌++◌}
 use Rattle.std.proofs.Common.{length, get_or, take, map, refl, sym, ap, subst, ◌∙◌, arith, inl, inr, min}
 use Rattle.std.specs.Prelude.{Option, Some, None, IfSome}
 use Rattle.std.specs.List.{All, Contains, fold}
@@ -15,9 +15,10 @@ use Rattle.log_records.specs.declared.dirty_page.DirtyPages.{DirtyPages}
 use Rattle.log_records.specs.declared.dirty_page.DirtyPages.TheVariants.{One, Two, Three}
 use Rattle.log_records.specs.declared.record.Record.{Record}
 use Rattle.log_records.specs.declared.record.Record.TheVariants.{Begin, Update, Comp, Commit, Abort, End, BeginChkpt}
-use Rattle.log_records.specs.declared.record.Record.TheVariants.{ChkptPages, ChkptTxns, EndChkpt}
+use Rattle.log_records.specs.declared.record.Record.TheVariants.{ChkptPages, ChkptTxns, EndChkpt, Extend}
 use Rattle.log_records.specs.DirtyPage.{entries_of}
-use Rattle.log_records.specs.Log.{IsLog, Log, lsn_of}
+use Rattle.log_records.specs.Log.{IsLog, Log, lsn_of, page_count_below, with_next}
+use Rattle.log_records.proofs.PageCounts.{page_count_at-append}
 use Rattle.log_records.specs.Record.{AreDirtyPages, IsBefore, IsOfTransaction, IsRecord, own_lsn}
 use Rattle.log_history.specs.Checkpoint.{Checkpoint, checkpoint_after, open_checkpoint, redo_point}
 use Rattle.log_history.specs.Linked.{IsLinked, MayFollow}
@@ -43,6 +44,7 @@ after_transaction o (BeginChkpt lsn) of = absurd of
 after_transaction o (ChkptPages lsn begin pages) of = absurd of
 after_transaction o (ChkptTxns lsn begin txn state last undo) of = absurd of
 after_transaction o (EndChkpt lsn begin redo) of = absurd of
+after_transaction o (Extend lsn count) of = absurd of
 
 pub open_same : (rs : List Record) (r : Record) → IsOfTransaction r
     → open_checkpoint (rs ++ r ∷ []) ≡ open_checkpoint rs
@@ -128,6 +130,7 @@ before_step at (ChkptTxns lsn begin txn state last undo) own valid None are = tt
 before_step at (ChkptTxns lsn begin txn state last undo) own valid (Some c) are =
     let old = all_later at (at + 64) c (omega arith) are in record { begin = old.begin; pages = old.pages }
 before_step at (EndChkpt lsn begin redo) own valid o are = tt
+before_step at (Extend lsn count) own valid o are = stays_before at o are
 before_step at (Begin lsn txn) own valid o are = stays_before at o are
 before_step at (Update lsn txn prev page slot change) own valid o are = stays_before at o are
 before_step at (Comp lsn txn prev undo_next page slot change) own valid o are = stays_before at o are
@@ -199,6 +202,7 @@ noted_old begin P table (BeginChkpt lsn) le all = all
 noted_old begin P table (ChkptPages lsn b pages) le all = all
 noted_old begin P table (ChkptTxns lsn b txn state last undo) le all = all
 noted_old begin P table (EndChkpt lsn b redo) le all = all
+noted_old begin P table (Extend lsn count) le all = all
 
 of_map : {X Y : Type 0} (P : Y → Type 0) (f : X → Y) (xs : List X) → All P (map f xs) → All (λ x. P (f x)) xs
 of_map P f [] all = All-nil (λ x. P (f x))
@@ -216,17 +220,24 @@ old_kept rs r begin P linked may le all =
 
 -- ---- a checkpoint that is being taken
 
-pub begin_before : (log : Log) (it : CkptView Phase) → IsLog log → IsCkptOf log.records it
+pub begin_before : (log : Log) (it : CkptView Phase) → IsLog log → IsCkptOf log it
     → IsBefore (lsn_of (length log.records)) it.begin
 begin_before log it valid is =
     subst (IsBefore (lsn_of (length log.records))) (sym is.same_begin)
     (open_before log is.ckpt valid is.still_open).begin
 
-pub ckpt_redo_before : (log : Log) (it : CkptView Phase) → IsLog log → IsCkptOf log.records it
+pub ckpt_redo_before : (log : Log) (it : CkptView Phase) → IsLog log → IsCkptOf log it
     → IsBefore (lsn_of (length log.records)) it.redo
 ckpt_redo_before log it valid is =
     subst (IsBefore (lsn_of (length log.records))) (sym is.same_redo)
     (redo_before (lsn_of (length log.records)) is.ckpt (open_before log is.ckpt valid is.still_open))
+
+-- the page count at its begin stays
+pub pages_later : (log : Log) (r : Record) (it : CkptView Phase) → IsLog log → IsCkptOf log it
+    → page_count_below (with_next log (r ∷ [])) it.begin ≡ page_count_below log it.begin
+pages_later log r it valid is =
+    let before = (begin_before log it valid is).earlier in
+    page_count_at-append log (r ∷ []) ((it.begin - 1) / 64) (omega arith)
 
 behind_kept : (rs : List Record) (r : Record) (phase : Phase) (c : Checkpoint) → IsLinked rs → MayFollow rs r
     → c.begin ≤ own_lsn r → HasBehind rs phase c → HasBehind (rs ++ r ∷ []) phase c
@@ -237,14 +248,32 @@ behind_kept rs r gathered c linked may le has =
     old_kept rs r c.begin (λ t. Contains c.txns t) linked may le has
 
 pub ckpt_kept : (log : Log) (r : Record) (it : CkptView Phase) → IsLog log → IsLinked log.records → IsOfTransaction r
-    → MayFollow log.records r → own_lsn r ≡ lsn_of (length log.records) → IsCkptOf log.records it
-    → IsCkptOf (log.records ++ r ∷ []) it
+    → MayFollow log.records r → own_lsn r ≡ lsn_of (length log.records) → IsCkptOf log it
+    → IsCkptOf (with_next log (r ∷ [])) it
 ckpt_kept log r it valid linked of may own is =
     let before = (open_before log is.ckpt valid is.still_open).begin.earlier in
     record {
       ckpt = is.ckpt;
       still_open = open_same log.records r of ∙ is.still_open;
       same_begin = is.same_begin;
+      same_pages = is.same_pages ∙ sym (pages_later log r it valid is);
       same_redo = is.same_redo;
       behind = behind_kept log.records r it.phase is.ckpt linked may (omega arith) is.behind;
+    }
+
+-- an Extend leaves it, too
+pub open_grown : (rs : List Record) (lsn count : ℕ) → open_checkpoint (rs ++ Extend lsn count ∷ []) ≡ open_checkpoint rs
+open_grown rs lsn count = open_push rs (Extend lsn count)
+
+pub ckpt_grown : (log : Log) (lsn count : ℕ) (it : CkptView Phase) → IsLog log → IsLinked log.records
+    → lsn ≡ lsn_of (length log.records) → IsCkptOf log it → IsCkptOf (with_next log (Extend lsn count ∷ [])) it
+ckpt_grown log lsn count it valid linked own is =
+    let before = (open_before log is.ckpt valid is.still_open).begin.earlier in
+    record {
+      ckpt = is.ckpt;
+      still_open = open_grown log.records lsn count ∙ is.still_open;
+      same_begin = is.same_begin;
+      same_pages = is.same_pages ∙ sym (pages_later log (Extend lsn count) it valid is);
+      same_redo = is.same_redo;
+      behind = behind_kept log.records (Extend lsn count) it.phase is.ckpt linked tt (omega arith) is.behind;
     }

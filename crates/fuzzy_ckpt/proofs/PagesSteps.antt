@@ -22,7 +22,7 @@ use Rattle.log_records.specs.declared.record.Record.{Record}
 use Rattle.log_records.specs.declared.record.Record.TheVariants.{ChkptPages}
 use Rattle.log_records.specs.Coverage.{AreStored, Covers, IsPast, changes_on, dirty, next_dirty, rec_lsn}
 use Rattle.log_records.specs.DirtyPage.{entries_of}
-use Rattle.log_records.specs.Log.{IsLog, Log, StandsAt, page_count}
+use Rattle.log_records.specs.Log.{IsLog, Log, StandsAt, page_count, with_next}
 use Rattle.log_records.proofs.PageCounts.{page_count-is_count}
 use Rattle.log_records.specs.Record.{AreDirtyPages, IsBefore, IsDirtyPage}
 use Rattle.log_records.proofs.Changes.{valid_change}
@@ -39,7 +39,7 @@ use Rattle.fuzzy_ckpt.proofs.Dirty.{AreNext, IsEntry, last_is, lsn_at, next_dirt
 use Rattle.fuzzy_ckpt.proofs.Dirty.{pages_of_entries, upto_last}
 use Rattle.fuzzy_ckpt.proofs.Ends.{end_is_lsn}
 use Rattle.fuzzy_ckpt.proofs.Leasts.{from_none, from_some, least_in}
-use Rattle.fuzzy_ckpt.proofs.Opens.{begin_before, ckpt_redo_before, lowered, lowered_falls, lowered_least, open_push}
+use Rattle.fuzzy_ckpt.proofs.Opens.{begin_before, ckpt_redo_before, lowered, lowered_falls, lowered_least, open_push, pages_later}
 
 -- ---- one stored page
 
@@ -138,20 +138,22 @@ if_weaker P Q None f h = tt
 if_weaker P Q (Some e) f h = f e h
 
 -- no transaction stands in a record yet
-pub none_kept : (rs : List Record) (c : CkptView ℕ) → IsCkptOf rs (pages_ckpt c)
-    → IsCkptOf rs (record (pages_ckpt c) { phase = in_txns 0 })
-none_kept rs c is = record {
+pub none_kept : (log : Log) (c : CkptView ℕ) → IsCkptOf log (pages_ckpt c)
+    → IsCkptOf log (record (pages_ckpt c) { phase = in_txns 0 })
+none_kept log c is = record {
   ckpt = is.ckpt;
   still_open = is.still_open;
   same_begin = is.same_begin;
+  same_pages = is.same_pages;
   same_redo = is.same_redo;
   behind = (subst (All (λ t. t < 0)) (sym is.behind.1) (All-nil (λ t. t < 0)), λ i d lt old low. absurd (omega arith));
 }
 
-pub more_kept : (rs : List Record) (c : CkptView ℕ) (lsn : ℕ) (pages : DirtyPages) → IsCkptOf rs (pages_ckpt c)
+pub more_kept : (log : Log) (c : CkptView ℕ) (lsn : ℕ) (pages : DirtyPages) → IsLog log → IsCkptOf log (pages_ckpt c)
     → c.phase ≤ last_page pages → All (λ e. e.page < last_page pages + 1) (entries_of pages)
-    → IsCkptOf (rs ++ ChkptPages lsn c.begin pages ∷ []) (past_pages pages (pages_ckpt c))
-more_kept rs c lsn pages is behind upto =
+    → IsCkptOf (with_next log (ChkptPages lsn c.begin pages ∷ [])) (past_pages pages (pages_ckpt c))
+more_kept log c lsn pages valid is behind upto =
+    let rs = log.records in
     let old = is.ckpt in
     let es = entries_of pages in
     record {
@@ -159,6 +161,7 @@ more_kept rs c lsn pages is behind upto =
       still_open = open_push rs (ChkptPages lsn c.begin pages)
           ∙ ap (λ (o : Option Checkpoint). checkpoint_after o (ChkptPages lsn c.begin pages)) is.still_open;
       same_begin = is.same_begin;
+      same_pages = is.same_pages ∙ sym (pages_later log (ChkptPages lsn c.begin pages) (pages_ckpt c) valid is);
       same_redo = ap (λ (n : ℕ). lowered n es) is.same_redo
           ∙ sym (fold-append (λ least (e : DirtyPage). min least e.rec_lsn) old.begin old.pages es);
       behind = (
@@ -171,10 +174,11 @@ more_kept rs c lsn pages is behind upto =
     }
 
 -- the next dirty pages may come next
-pages_follow : (rs : List Record) (written : List ℕ) (c : CkptView ℕ) (pages : DirtyPages) (lsn : ℕ)
-    → AreNext (lsn_at rs written) c.phase (length written) (entries_of pages) → IsCkptOf rs (pages_ckpt c)
-    → MayFollow rs (ChkptPages lsn c.begin pages)
-pages_follow rs written c pages lsn next is =
+pages_follow : (log : Log) (written : List ℕ) (c : CkptView ℕ) (pages : DirtyPages) (lsn : ℕ)
+    → AreNext (lsn_at log.records written) c.phase (length written) (entries_of pages) → IsCkptOf log (pages_ckpt c)
+    → MayFollow log.records (ChkptPages lsn c.begin pages)
+pages_follow log written c pages lsn next is =
+    let rs = log.records in
     let es = entries_of pages in
     let may : MayRecordPages c.begin pages is.ckpt = record {
       same = is.same_begin;
@@ -258,14 +262,14 @@ pub record MorePages (log : Log) (stored : List Page) (written : List ℕ) (c : 
   pub follows : MayFollow log.records (ChkptPages (end_of log.records) c.begin pages)
   pub stands : length log.records < MAX_RECORDS
       → StandsAt (page_count log) (end_of log.records) (ChkptPages (end_of log.records) c.begin pages)
-  pub kept : IsCkptOf (log.records ++ ChkptPages (end_of log.records) c.begin pages ∷ [])
+  pub kept : IsCkptOf (with_next log (ChkptPages (end_of log.records) c.begin pages ∷ []))
       (past_pages pages (pages_ckpt c))
   pub covered : AreCovered (log.records ++ ChkptPages (end_of log.records) c.begin pages ∷ []) stored
       (past_pages pages (pages_ckpt c))
 
 pub more_pages : (log : Log) (stored : List Page) (written : List ℕ) (writing : List (Option Page)) (c : CkptView ℕ)
     (pages : DirtyPages) → IsLog log → page_count log ≡ length written → AreStored log.records stored written writing
-    → IsCkptOf log.records (pages_ckpt c) → AreCovered log.records stored (pages_ckpt c)
+    → IsCkptOf log (pages_ckpt c) → AreCovered log.records stored (pages_ckpt c)
     → entries_of pages ≡ next_dirty (dirty log.records written) c.phase → MorePages log stored written c pages
 more_pages log stored written writing c pages valid count are is covered found =
     let rs = log.records in
@@ -279,7 +283,7 @@ more_pages log stored written writing c pages valid count are is covered found =
     record {
       step = pages_found rs written c pages found;
       fits = let lt = last.1 in omega arith;
-      follows = pages_follow rs written c pages (end_of rs) next is;
+      follows = pages_follow log written c pages (end_of rs) next is;
       stands = λ few. record {
         lsn = refl;
         valid = (
@@ -291,7 +295,7 @@ more_pages log stored written writing c pages valid count are is covered found =
             (All-weaker (IsEntry (lsn_at rs written) c.phase end) (λ e. e.page < page_count log)
             (λ e it. let lt = it.within in omega arith) (entries_of pages) next.each);
       };
-      kept = more_kept rs c (end_of rs) pages is last.0 (upto_last (lsn_at rs written) c.phase end pages next);
+      kept = more_kept log c (end_of rs) pages valid is last.0 (upto_last (lsn_at rs written) c.phase end pages next);
       covered = λ p d lt passed.
           let sooner = before.earlier in
           covers_later rs (ChkptPages (end_of rs) c.begin pages) p (get_or stored p d)
@@ -310,7 +314,7 @@ abbrev Answers : List DirtyPage → ℕ → Option DirtyPages → Type 0
 Answers table from o = MatchOption o (next_dirty table from ≡ []) (λ some. entries_of some ≡ next_dirty table from)
 
 pub pool_more : {S : Type 0} (stored_in : S → List Page) (log : Log) (pool : PoolView S) (c : CkptView ℕ) (from : ℕ)
-    (o : Option DirtyPages) (pages : DirtyPages) → IsPoolOf stored_in log pool → IsCkptOf log.records (pages_ckpt c)
+    (o : Option DirtyPages) (pages : DirtyPages) → IsPoolOf stored_in log pool → IsCkptOf log (pages_ckpt c)
     → AreCovered log.records (stored_in pool.store) (pages_ckpt c) → from ≡ c.phase
     → Answers (dirty log.records (written_of pool.states)) from o → o ≡ Some pages
     → MorePages log (stored_in pool.store) (written_of pool.states) c pages

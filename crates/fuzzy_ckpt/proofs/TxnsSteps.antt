@@ -14,9 +14,9 @@ use Rattle.page_core.specs.declared.page.Page.{Page}
 use Rattle.log_records.specs.declared.limits.TheConstants.{MAX_RECORDS}
 use Rattle.log_records.specs.declared.record.Record.{Record}
 use Rattle.log_records.specs.declared.record.Record.TheVariants.{Begin, Update, Comp, Commit, Abort, End, BeginChkpt}
-use Rattle.log_records.specs.declared.record.Record.TheVariants.{ChkptPages, ChkptTxns, EndChkpt}
+use Rattle.log_records.specs.declared.record.Record.TheVariants.{ChkptPages, ChkptTxns, EndChkpt, Extend}
 use Rattle.log_records.specs.Coverage.{Covers}
-use Rattle.log_records.specs.Log.{IsLog, Log, StandsAt, page_count}
+use Rattle.log_records.specs.Log.{IsLog, Log, StandsAt, page_count, with_next}
 use Rattle.log_records.specs.Record.{IsBefore, IsTxn, own_lsn}
 use Rattle.log_records.proofs.Changes.{valid_change}
 use Rattle.log_records.proofs.Coverage.{covers_later}
@@ -35,7 +35,7 @@ use Rattle.fuzzy_ckpt.specs.Ckpt.{AreCovered, CkptView, IsCkptOf, gathered, in_t
 use Rattle.fuzzy_ckpt.specs.Steps.{Gathering, end_of, txn_record, txns_step}
 use Rattle.fuzzy_ckpt.proofs.Ends.{end_is_lsn}
 use Rattle.fuzzy_ckpt.proofs.Leasts.{least_in, least_low, least_none, of_kept}
-use Rattle.fuzzy_ckpt.proofs.Opens.{begin_before, ckpt_redo_before, old_kept, open_before, open_push}
+use Rattle.fuzzy_ckpt.proofs.Opens.{begin_before, ckpt_redo_before, old_kept, open_before, open_push, pages_later}
 
 -- ---- the numbers of an open transaction
 
@@ -103,6 +103,7 @@ pending_after at changes (BeginChkpt lsn) own all = all
 pending_after at changes (ChkptPages lsn begin entries) own all = all
 pending_after at changes (ChkptTxns lsn begin txn state last undo) own all = all
 pending_after at changes (EndChkpt lsn begin redo) own all = all
+pending_after at changes (Extend lsn count) own all = all
 
 pending_all : (at : ℕ) (changes : List PendingChange) (rs : List Record) → All (IsAt at) changes
     → All (λ r. IsBefore at (own_lsn r)) rs → All (IsAt at) (pending_from changes rs)
@@ -172,15 +173,17 @@ last_below from t ns all le = by_last (last_of ns) refl
         omega arith
 
 -- all of them are passed
-pub all_passed : (rs : List Record) (c : CkptView ℕ) → IsCkptOf rs (txns_ckpt c) → next_open rs c.phase ≡ None
-    → IsCkptOf rs (record (txns_ckpt c) { phase = gathered })
-all_passed rs c is none =
+pub all_passed : (log : Log) (c : CkptView ℕ) → IsCkptOf log (txns_ckpt c) → next_open log.records c.phase ≡ None
+    → IsCkptOf log (record (txns_ckpt c) { phase = gathered })
+all_passed log c is none =
+    let rs = log.records in
     let old = is.behind.1 in
     let no = no_next rs c.phase none in
     record {
       ckpt = is.ckpt;
       still_open = is.still_open;
       same_begin = is.same_begin;
+      same_pages = is.same_pages;
       same_redo = is.same_redo;
       behind = λ i d lt early. elim (cases_lt (get_or (open_in rs) i d) c.phase) [
         | inl below ↦ old i d lt early below
@@ -201,11 +204,11 @@ pub record MoreTxns (log : Log) (c : CkptView ℕ) (t : ℕ) : Type 0 where
   pub follows : MayFollow log.records (txn_record log.records c.begin t)
   pub stands : length log.records < MAX_RECORDS
       → StandsAt (page_count log) (end_of log.records) (txn_record log.records c.begin t)
-  pub kept : IsCkptOf (log.records ++ txn_record log.records c.begin t ∷ [])
+  pub kept : IsCkptOf (with_next log (txn_record log.records c.begin t ∷ []))
       (record (txns_ckpt c) { phase = in_txns (t + 1) })
 
 pub more_txns : (log : Log) (c : CkptView ℕ) (t : ℕ) → IsLog log → IsLinked log.records
-    → IsCkptOf log.records (txns_ckpt c)
+    → IsCkptOf log (txns_ckpt c)
     → next_open log.records c.phase ≡ Some t → MoreTxns log c t
 more_txns log c t valid linked is found =
     let rs = log.records in
@@ -242,6 +245,7 @@ more_txns log c t valid linked is found =
         ckpt = record old { txns = old.txns ++ t ∷ [] };
         still_open = open_push rs r ∙ ap (λ (o : Option Checkpoint). checkpoint_after o r) is.still_open;
         same_begin = is.same_begin;
+        same_pages = is.same_pages ∙ sym (pages_later log r (txns_ckpt c) valid is);
         same_redo = is.same_redo;
         behind = (
           All-push (λ n. n < t + 1) old.txns t
@@ -275,24 +279,24 @@ more_txns log c t valid linked is found =
 -- ---- of a table
 
 pub table_more : (log : Log) (c : CkptView ℕ) (from : ℕ) (o : Option TxnState) (state : TxnState) → IsLog log
-    → IsLinked log.records → IsCkptOf log.records (txns_ckpt c) → from ≡ c.phase
+    → IsLinked log.records → IsCkptOf log (txns_ckpt c) → from ≡ c.phase
     → o ≡ option_map (λ t. state_of (entry_of log.records t)) (next_open log.records from) → o ≡ Some state
     → MoreTxns log c state.txn × (state ≡ state_of (entry_of log.records state.txn))
 table_more log c from o state valid linked is same answer some =
     let found = table_found log.records (next_open log.records from) state (sym some ∙ answer) in
     (more_txns log c state.txn valid linked is (ap (next_open log.records) (sym same) ∙ found.0), found.1)
 
-pub table_passed : (log : Log) (c : CkptView ℕ) (from : ℕ) (o : Option TxnState) → IsCkptOf log.records (txns_ckpt c)
+pub table_passed : (log : Log) (c : CkptView ℕ) (from : ℕ) (o : Option TxnState) → IsCkptOf log (txns_ckpt c)
     → from ≡ c.phase → o ≡ option_map (λ t. state_of (entry_of log.records t)) (next_open log.records from) → o ≡ None
-    → IsCkptOf log.records (record (txns_ckpt c) { phase = gathered })
+    → IsCkptOf log (record (txns_ckpt c) { phase = gathered })
 table_passed log c from o is same answer none =
-    all_passed log.records c is
+    all_passed log c is
     (ap (next_open log.records) (sym same)
     ∙ table_none log.records (next_open log.records from) (sym none ∙ answer))
 
 -- the stored pages cover what they did
 pub txns_cover : (log : Log) (c : CkptView ℕ) (stored : List Page) (r : Record) → IsLog log
-    → IsCkptOf log.records (txns_ckpt c) → own_lsn r ≡ end_of log.records
+    → IsCkptOf log (txns_ckpt c) → own_lsn r ≡ end_of log.records
     → AreCovered log.records stored (txns_ckpt c)
     → (p : ℕ) (d : Page) → p < length stored → Covers (log.records ++ r ∷ []) p (get_or stored p d) c.redo
 txns_cover log c stored r valid is own covered p d lt =

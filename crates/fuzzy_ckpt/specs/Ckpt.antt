@@ -4,6 +4,7 @@ use Rattle.std.specs.List.{All}
 use Rattle.page_core.specs.declared.page.Page.{Page}
 use Rattle.log_records.specs.declared.record.Record.{Record}
 use Rattle.log_records.specs.Coverage.{Covers}
+use Rattle.log_records.specs.Log.{Log, page_count_below}
 use Rattle.log_history.specs.Checkpoint.{Checkpoint, open_checkpoint, redo_point}
 use Rattle.log_history.specs.Linked.{HasOldTxns}
 use Rattle.log_history.specs.Transactions.{first_lsn, open_in}
@@ -15,15 +16,21 @@ pub data Phase : Type 0 where
   in_txns : (from : ℕ) → Phase
   gathered : Phase
 
--- a checkpoint that is being taken: the LSN of its BeginChkpt, the least of it and of the RecLSNs
--- so far, and how far it has come
+-- a checkpoint that is being taken: the LSN of its BeginChkpt, the page count of the volume there,
+-- the least of that LSN and of the RecLSNs so far, and how far it has come
 pub record CkptView (P : Type 0) : Type 0 where
   pub begin : ℕ
+  pub pages : ℕ
   pub redo : ℕ
   pub phase : P
 
 abbrev pub at_phase : {P : Type 0} → Phase → CkptView P → CkptView Phase
-at_phase phase c = record { begin = c.begin; redo = c.redo; phase = phase }
+at_phase phase c = record {
+  begin = c.begin;
+  pages = c.pages;
+  redo = c.redo;
+  phase = phase;
+}
 
 -- the checkpoint of each session, which has its cursor alone
 abbrev pub pages_ckpt : CkptView ℕ → CkptView Phase
@@ -49,12 +56,13 @@ HasBehind rs (in_txns from) c = All (λ t. t < from) c.txns × HasOldTxnsBelow r
 HasBehind rs gathered c = HasOldTxns rs c
 
 -- it is the open checkpoint of this log
-pub record IsCkptOf (rs : List Record) (it : CkptView Phase) : Type 0 where
+pub record IsCkptOf (log : Log) (it : CkptView Phase) : Type 0 where
   pub ckpt : Checkpoint
-  pub still_open : open_checkpoint rs ≡ Some ckpt
+  pub still_open : open_checkpoint log.records ≡ Some ckpt
   pub same_begin : it.begin ≡ ckpt.begin
+  pub same_pages : it.pages ≡ page_count_below log it.begin
   pub same_redo : it.redo ≡ redo_point ckpt
-  pub behind : HasBehind rs it.phase ckpt
+  pub behind : HasBehind log.records it.phase ckpt
 
 -- ---- a checkpoint and the stored pages
 

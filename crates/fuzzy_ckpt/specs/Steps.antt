@@ -11,7 +11,7 @@ use Rattle.log_records.specs.declared.record.Record.{Record}
 use Rattle.log_records.specs.declared.record.Record.TheVariants.{ChkptPages, ChkptTxns, EndChkpt}
 use Rattle.log_records.specs.Coverage.{dirty, next_dirty}
 use Rattle.log_records.specs.DirtyPage.{entries_of}
-use Rattle.log_records.specs.Log.{Log, lsn_of, with_next}
+use Rattle.log_records.specs.Log.{Log, lsn_of, page_count, with_next}
 use Rattle.log_history.specs.Transactions.{last_lsn, phase, undo_next}
 use Rattle.txn_table.specs.TxnTable.{next_open}
 use Rattle.fuzzy_ckpt.specs.Ckpt.{CkptView, Phase, gathered, in_pages, in_txns}
@@ -20,9 +20,14 @@ use Rattle.fuzzy_ckpt.specs.Ckpt.{CkptView, Phase, gathered, in_pages, in_txns}
 abbrev pub end_of : List Record → ℕ
 end_of rs = lsn_of (length rs)
 
--- a checkpoint whose BeginChkpt has this LSN, before anything is gathered
-abbrev pub new_ckpt : ℕ → CkptView Phase
-new_ckpt begin = record { begin = begin; redo = begin; phase = in_pages 0 }
+-- a checkpoint whose BeginChkpt comes next in the log, before anything is gathered
+abbrev pub new_ckpt : Log → CkptView Phase
+new_ckpt log = record {
+  begin = end_of log.records;
+  pages = page_count log;
+  redo = end_of log.records;
+  phase = in_pages 0;
+}
 
 -- what a step of a gather does: the record that it appends, if it appends one, and the checkpoint
 -- after it
@@ -56,6 +61,7 @@ last_page (Three a b c) = c.page
 abbrev pub past_pages : DirtyPages → CkptView Phase → CkptView Phase
 past_pages pages c = record {
   begin = c.begin;
+  pages = c.pages;
   redo = fold (λ least e. min least e.rec_lsn) c.redo (entries_of pages);
   phase = in_pages (last_page pages + 1);
 }

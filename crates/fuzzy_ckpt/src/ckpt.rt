@@ -11,7 +11,8 @@ ghost use Rattle.log_records.specs.declared.record.Record.{Record};
 ghost use Rattle.log_records.specs.declared.record.Record.TheVariants.{BeginChkpt};
 ghost use Rattle.log_records.specs.DirtyPage.{entries_of};
 ghost use Rattle.log_records.specs.Log.{IsLog, Log as LogValue, StandsAt, page_count};
-ghost use Rattle.log_records.specs.Log.{with_next};
+ghost use Rattle.log_records.specs.Log.{page_count_below, with_next};
+ghost use Rattle.log_records.specs.Record.{IsOfCheckpoint};
 ghost use Rattle.log_history.specs.Checkpoint.{IsCompleteCheckpoint, open_checkpoint, redo_point};
 ghost use Rattle.log_history.specs.Linked.{MayFollow};
 ghost use Rattle.log_history.specs.Table.{entry_of};
@@ -44,6 +45,8 @@ use txn_table::TxnTable;
 #[derive(Drop)]
 pub struct Ckpt<P> {
     begin: Lsn,
+    /// The page count of the volume at `begin`.
+    pages: u32,
     /// The least of `begin` and the RecLSNs gathered so far.
     redo: Lsn,
     phase: P,
@@ -54,7 +57,12 @@ impl<P> Model for Ckpt<P> {
 
     ghost Value = { CkptView P };
 
-    ghost view = { λ it. record { begin = it.begin; redo = it.redo; phase = it.phase } };
+    ghost view = { λ it. record {
+      begin = it.begin;
+      pages = it.pages;
+      redo = it.redo;
+      phase = it.phase;
+    } };
 }
 
 /// What a step over pages leaves.
@@ -81,10 +89,10 @@ impl Ckpt<Pages> {
         requires closed { open_checkpoint log.old.log.records ≡ None }
         requires few { length log.old.log.records < MAX_RECORDS }
 
-        ensures begun { IfOk result (λ c. pages_ckpt c ≡ new_ckpt (end_of log.old.log.records)) }
+        ensures begun { IfOk result (λ c. pages_ckpt c ≡ new_ckpt log.old.log) }
         ensures logged { OnOk result (log.new.log
             ≡ with_next log.old.log (BeginChkpt (end_of log.old.log.records) ∷ [])) }
-        ensures ckpt { IfOk result (λ c. IsCkptOf log.new.log.records (pages_ckpt c)) }
+        ensures ckpt { IfOk result (λ c. IsCkptOf log.new.log (pages_ckpt c)) }
         ensures covered { IfOk result (λ c. (stored : List Page)
             → AreCovered log.new.log.records stored (pages_ckpt c)) }
 
@@ -94,9 +102,11 @@ impl Ckpt<Pages> {
         ensures device { log.new.device ≡ log.old.device }
     {
         let begin = log.end();
+        let pages = log.pages();
         append(log, Record::BeginChkpt { lsn: begin })?;
         Ok(Ckpt {
             begin,
+            pages,
             redo: begin,
             phase: Pages { from: PageNo(0) },
         })
@@ -109,7 +119,7 @@ impl Ckpt<Pages> {
         log: &mut Log<D>,
         pool: &Pool<S>,
     ) -> Result<PagesStep, Ckpt<Pages>>
-        requires ckpt { IsCkptOf log.old.log.records (pages_ckpt self) }
+        requires ckpt { IsCkptOf log.old.log (pages_ckpt self) }
         requires pool { IsPoolOf S.stored log.old.log pool.now }
         requires covered { AreCovered log.old.log.records (S.stored pool.now.store)
             (pages_ckpt self) }
@@ -124,7 +134,7 @@ impl Ckpt<Pages> {
         ensures follows { IfSome (pages_step log.old.log.records
             (written_of pool.now.states) self.phase (pages_ckpt self)).next
             (MayFollow log.old.log.records) }
-        ensures ckpt { IfOk result (λ step. IsCkptOf log.new.log.records (after_pages step)) }
+        ensures ckpt { IfOk result (λ step. IsCkptOf log.new.log (after_pages step)) }
         ensures covered { IfOk result (λ step.
             AreCovered log.new.log.records (S.stored pool.now.store) (after_pages step)) }
 
@@ -137,24 +147,41 @@ impl Ckpt<Pages> {
         ensures forced_end { log.new.forced_end ≡ log.old.forced_end }
         ensures device { log.new.device ≡ log.old.device }
     {
-        let Ckpt { begin, redo, phase } = self;
-        let Some(pages) = pool.dirty_from(phase.from) else {
+        let Ckpt {
+            begin,
+            pages,
+            redo,
+            phase,
+        } = self;
+        let Some(dirty) = pool.dirty_from(phase.from) else {
             return Ok(PagesStep::Passed(Ckpt {
                 begin,
+                pages,
                 redo,
                 phase: Txns { from: TxnNo(0) },
             }));
         };
         let lsn = log.end();
-        match append(log, Record::ChkptPages { lsn, begin, pages }) {
+        let next = Record::ChkptPages {
+            lsn,
+            begin,
+            pages: dirty,
+        };
+        match append(log, next) {
             Ok(()) => Ok(PagesStep::More(Ckpt {
                 begin,
-                redo: least_of(redo, pages),
+                pages,
+                redo: least_of(redo, dirty),
                 phase: Pages {
-                    from: behind(pages),
+                    from: behind(dirty),
                 },
             })),
-            Err(_) => Err(Ckpt { begin, redo, phase }),
+            Err(_) => Err(Ckpt {
+                begin,
+                pages,
+                redo,
+                phase,
+            }),
         }
     }
 
@@ -185,7 +212,7 @@ impl Ckpt<Txns> {
         log: &mut Log<D>,
         table: &TxnTable,
     ) -> Result<TxnsStep, Ckpt<Txns>>
-        requires ckpt { IsCkptOf log.old.log.records (txns_ckpt self) }
+        requires ckpt { IsCkptOf log.old.log (txns_ckpt self) }
         requires table { IsTableOf log.old.log.records table.now }
         requires room { HasRoomForStep log.old.log.records
             (txns_step log.old.log.records self.phase (txns_ckpt self)).next }
@@ -196,7 +223,7 @@ impl Ckpt<Txns> {
             (txns_step log.old.log.records self.phase (txns_ckpt self)).next) }
         ensures follows { IfSome (txns_step log.old.log.records self.phase (txns_ckpt self)).next
             (MayFollow log.old.log.records) }
-        ensures ckpt { IfOk result (λ step. IsCkptOf log.new.log.records (after_txns step)) }
+        ensures ckpt { IfOk result (λ step. IsCkptOf log.new.log (after_txns step)) }
         ensures covered { IfOk result (λ step. (stored : List Page)
             → AreCovered log.old.log.records stored (txns_ckpt self)
             → AreCovered log.new.log.records stored (after_txns step)) }
@@ -210,11 +237,17 @@ impl Ckpt<Txns> {
         ensures forced_end { log.new.forced_end ≡ log.old.forced_end }
         ensures device { log.new.device ≡ log.old.device }
     {
-        let Ckpt { begin, redo, phase } = self;
+        let Ckpt {
+            begin,
+            pages,
+            redo,
+            phase,
+        } = self;
         let lsn = end_of(log);
         let Some(state) = table.next_from(phase.from) else {
             return Ok(TxnsStep::Passed(Ckpt {
                 begin,
+                pages,
                 redo,
                 phase: Gathered,
             }));
@@ -223,12 +256,18 @@ impl Ckpt<Txns> {
         match append(log, next) {
             Ok(()) => Ok(TxnsStep::More(Ckpt {
                 begin,
+                pages,
                 redo,
                 phase: Txns {
                     from: next_number(state.txn),
                 },
             })),
-            Err(_) => Err(Ckpt { begin, redo, phase }),
+            Err(_) => Err(Ckpt {
+                begin,
+                pages,
+                redo,
+                phase,
+            }),
         }
     }
 }
@@ -242,7 +281,7 @@ impl Ckpt<Gathered> {
         log: &mut Log<D>,
         pool: &Pool<S>,
     ) -> Result<Point, FinishFault>
-        requires ckpt { IsCkptOf log.old.log.records (gathered_ckpt self) }
+        requires ckpt { IsCkptOf log.old.log (gathered_ckpt self) }
         requires covered { AreCovered log.old.log.records (S.stored pool.now.store)
             (gathered_ckpt self) }
         requires few { length log.old.log.records < MAX_RECORDS }
@@ -251,7 +290,10 @@ impl Ckpt<Gathered> {
           begin = self.begin;
           end = end_of log.old.log.records;
           redo = self.redo;
+          pages = self.pages;
         }) }
+        ensures pages { IfOk result (λ point.
+            point.pages ≡ page_count_below log.new.log point.begin) }
         ensures least { IfOk result (λ point. IsSomeAnd (open_checkpoint log.old.log.records)
             (λ c. point.redo ≡ redo_point c)) }
         ensures stored { IfOk result (λ point.
@@ -293,6 +335,7 @@ impl Ckpt<Gathered> {
                 begin: self.begin,
                 end: lsn,
                 redo,
+                pages: self.pages,
             }),
             Err(_) => Err(FinishFault::LogFault),
         }
@@ -302,6 +345,7 @@ impl Ckpt<Gathered> {
 /// Appends a record of a checkpoint.
 fn append<D: LogDevice>(log: &mut Log<D>, next: Record) -> Result<(), AllocError>
     requires stands { StandsAt (page_count log.old.log) (end_of log.old.log.records) next }
+    requires kind { IsOfCheckpoint next }
     requires few { length log.old.log.records < MAX_RECORDS }
 
     ensures ok { OnOk result (log.new.log ≡ with_next log.old.log (next ∷ [])) }

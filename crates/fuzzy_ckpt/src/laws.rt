@@ -2,12 +2,13 @@
 
 ghost use Rattle.std.specs.Prelude.{ℕ, ◌≡◌, ◌<◌, ◌≤◌, ◌∷◌, ◌++◌, [], List, length, slice_set, None};
 ghost use Rattle.std.specs.Prelude.{slice_index_or};
+ghost use Rattle.page_core.specs.Volume.{grown_to};
 ghost use Rattle.page_core.specs.declared.page.Page.{Page};
 ghost use Rattle.log_records.specs.declared.limits.TheConstants.{MAX_RECORDS};
 ghost use Rattle.log_records.specs.declared.record.Record.{Record};
-ghost use Rattle.log_records.specs.declared.record.Record.TheVariants.{EndChkpt};
+ghost use Rattle.log_records.specs.declared.record.Record.TheVariants.{EndChkpt, Extend};
 ghost use Rattle.log_records.specs.Coverage.{IsPast};
-ghost use Rattle.log_records.specs.Log.{IsLog, Log, lsn_of, with_next};
+ghost use Rattle.log_records.specs.Log.{IsLog, Log, lsn_of, page_count, with_next};
 ghost use Rattle.log_records.specs.Record.{IsOfCheckpoint, IsOfTransaction, own_lsn};
 ghost use Rattle.log_history.specs.Checkpoint.{open_checkpoint};
 ghost use Rattle.log_history.specs.Linked.{IsLinked, MayFollow};
@@ -25,7 +26,16 @@ pub fn checkpoints_stay_open_as_transactions_go_on()
         → open_checkpoint (rs ++ r ∷ []) ≡ open_checkpoint rs }
     ensures kept { (log : Log) (r : Record) (it : CkptView Phase) → IsLog log → IsLinked log.records
         → IsOfTransaction r → MayFollow log.records r → own_lsn r ≡ lsn_of (length log.records)
-        → IsCkptOf log.records it → IsCkptOf (log.records ++ r ∷ []) it }
+        → IsCkptOf log it → IsCkptOf (with_next log (r ∷ [])) it }
+{}
+
+/// And so does an Extend, which raises the page count behind it, and none before it.
+pub fn checkpoints_stay_open_as_the_volume_grows()
+    ensures same { (rs : List Record) (lsn count : ℕ)
+        → open_checkpoint (rs ++ Extend lsn count ∷ []) ≡ open_checkpoint rs }
+    ensures kept { (log : Log) (lsn count : ℕ) (it : CkptView Phase) → IsLog log
+        → IsLinked log.records → lsn ≡ lsn_of (length log.records) → IsCkptOf log it
+        → IsCkptOf (with_next log (Extend lsn count ∷ [])) it }
 {}
 
 /// The end of a checkpoint leaves none open.
@@ -37,7 +47,7 @@ pub fn an_ended_checkpoint_is_not_open()
 /// A record more leaves what the stored pages cover, since its change is not below the redo point.
 pub fn covered_pages_stay_covered_as_the_log_grows()
     ensures behind { (log : Log) (r : Record) (stored : List Page) (it : CkptView Phase) → IsLog log
-        → own_lsn r ≡ lsn_of (length log.records) → IsCkptOf log.records it
+        → own_lsn r ≡ lsn_of (length log.records) → IsCkptOf log it
         → AreCovered log.records stored it → AreCovered (log.records ++ r ∷ []) stored it }
     ensures all { (rs : List Record) (r : Record) (stored : List Page) (bound : ℕ)
         → bound ≤ own_lsn r → AllCover rs stored bound → AllCover (rs ++ r ∷ []) stored bound }
@@ -54,6 +64,17 @@ pub fn covered_pages_stay_covered_as_pages_are_written()
         → IsPast rs n image → (slice_index_or stored n d).lsn ≤ image.lsn
         → n < length stored → AllCover rs stored bound
         → AllCover rs (slice_set stored n image) bound }
+{}
+
+/// And so do formatted pages that are added behind those of the volume: the log changes none of
+/// them.
+pub fn covered_pages_stay_covered_as_the_store_grows()
+    ensures behind { (log : Log) (stored : List Page) (it : CkptView Phase) (count : ℕ) → IsLog log
+        → page_count log ≤ length stored → AreCovered log.records stored it
+        → AreCovered log.records (grown_to count stored) it }
+    ensures all { (log : Log) (stored : List Page) (bound count : ℕ) → IsLog log
+        → page_count log ≤ length stored → AllCover log.records stored bound
+        → AllCover log.records (grown_to count stored) bound }
 {}
 
 /// A record of a checkpoint changes no page: the pool of the log is that of the log with it.

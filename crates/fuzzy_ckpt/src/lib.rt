@@ -9,8 +9,9 @@ mod point;
 pub use ckpt::{Ckpt, PagesStep, TxnsStep};
 pub use laws::{
     an_ended_checkpoint_is_not_open, checkpoint_records_leave_the_pool,
-    checkpoint_records_leave_the_table, checkpoints_stay_open_as_transactions_go_on,
-    covered_pages_stay_covered_as_pages_are_written, covered_pages_stay_covered_as_the_log_grows,
+    checkpoint_records_leave_the_table, checkpoints_stay_open_as_the_volume_grows,
+    checkpoints_stay_open_as_transactions_go_on, covered_pages_stay_covered_as_pages_are_written,
+    covered_pages_stay_covered_as_the_log_grows, covered_pages_stay_covered_as_the_store_grows,
 };
 pub use phase::{Gathered, Pages, Txns};
 pub use point::{FinishFault, Point};

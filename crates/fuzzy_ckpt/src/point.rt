@@ -4,13 +4,15 @@ use crate::ckpt::Ckpt;
 use crate::phase::Gathered;
 use page_core::Lsn;
 
-/// A complete checkpoint: the LSNs of its BeginChkpt and of its EndChkpt, and its redo point, from
-/// which on redo has to read the log. Every change below it is stored.
+/// A complete checkpoint: the LSNs of its BeginChkpt and of its EndChkpt, its redo point, from
+/// which on redo has to read the log, and the page count of the volume at its BeginChkpt. Every
+/// change below the redo point is stored.
 #[derive(Clone, Copy, Debug, PartialEq, Eq)]
 pub struct Point {
     pub begin: Lsn,
     pub end: Lsn,
     pub redo: Lsn,
+    pub pages: u32,
 }
 
 /// Why a checkpoint did not come to its end.

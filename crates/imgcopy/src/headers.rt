@@ -1,7 +1,7 @@
 //! What the header of a file says, for a person: the libraries tell nothing of a file that they
 //! refuse.
 
-use log_records::{HEADER_BYTES, page_count};
+use log_records::{HEADER_BYTES, log_header};
 use page_core::field::{u32_at, u64_at};
 
 /// What a file is, by the text in front of it.
@@ -25,7 +25,7 @@ pub fn kind_of(header: &[u8; HEADER_BYTES]) -> Option<FileKind> {
 
 /// The page count that the header of a log gives, of either format.
 pub fn pages_of_log(header: &[u8; HEADER_BYTES]) -> Option<u32> {
-    page_count(header)
+    Some(log_header(header)?.pages)
 }
 
 /// What the header of an archive says.

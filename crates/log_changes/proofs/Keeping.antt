@@ -5,7 +5,10 @@ use Rattle.std.proofs.Math.Seq.{get_or-append_seam}
 use Rattle.std.proofs.lemmas.List.{length_push, take-append-drop, take_more}
 use Rattle.log_records.specs.declared.limits.TheConstants.{MAX_RECORDS}
 use Rattle.log_records.specs.declared.record.Record.{Record}
-use Rattle.log_records.specs.Log.{IsLog, Log, lsn_of, with_next}
+use Rattle.log_records.specs.Log.{IsLog, Log, counts_of, lsn_of, with_next}
+use Rattle.log_records.specs.PageCount.{given_by}
+use Rattle.page_core.specs.PageCounts.{PageCounts}
+use Rattle.page_core.specs.declared.page_counts.GivenCount.{GivenCount}
 use Rattle.log_records.specs.Record.{own_lsn}
 use Rattle.log_history.proofs.Filters.{filter_map_push}
 use Rattle.log_changes.specs.Kept.{Kept, completed_by, completed_in, kept_of}
@@ -27,11 +30,18 @@ stands_last log r valid =
       ),
     )
 
-pub kept_more : (log : Log) (r : Record) (old new : Kept) → old ≡ kept_of log → new.pages ≡ old.pages
+abbrev pub with_given : PageCounts → List GivenCount → PageCounts
+with_given counts more = record counts { given = counts.given ++ more }
+
+pub kept_more : (log : Log) (r : Record) (old new : Kept) → old ≡ kept_of log
+    → new.counts ≡ (record old.counts { given = old.counts.given ++ option_to_list (given_by r) })
     → new.count ≡ old.count + 1 → new.changes ≡ old.changes ++ option_to_list (placed_by r)
     → new.checkpoints ≡ old.checkpoints ++ option_to_list (completed_by r) → new ≡ kept_of (with_next log (r ∷ []))
-kept_more log r old new is pages count changes checkpoints =
-    let all_pages = pages ∙ ap (λ (k : Kept). k.pages) is in
+kept_more log r old new is counts count changes checkpoints =
+    let all_counts : new.counts ≡ counts_of (with_next log (r ∷ [])) =
+    counts ∙ ap (λ (k : Kept). with_given k.counts (option_to_list (given_by r))) is
+    ∙ ap (λ gs. (let it : PageCounts = record { first = log.pages; given = gs } in it))
+    (sym (filter_map_push given_by log.records r)) in
     let all_count : new.count ≡ length (log.records ++ r ∷ []) =
     count ∙ ap (λ (k : Kept). k.count + 1) is ∙ sym (length_push log.records r) in
     let all_changes : new.changes ≡ placed_in (log.records ++ r ∷ []) =
@@ -41,7 +51,7 @@ kept_more log r old new is pages count changes checkpoints =
     checkpoints ∙ ap (λ (k : Kept). k.checkpoints ++ option_to_list (completed_by r)) is
     ∙ sym (filter_map_push completed_by log.records r) in
     λ i. record {
-      pages = all_pages i;
+      counts = all_counts i;
       count = all_count i;
       changes = all_changes i;
       checkpoints = all_checkpoints i;

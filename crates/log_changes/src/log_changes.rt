@@ -3,6 +3,7 @@
 ghost use Rattle.std.specs.Prelude.{ℕ, ◌≡◌, ◌↔◌, ◌<◌, ◌++◌, ◌∷◌, [], IsTrue, OnOk};
 ghost use Rattle.std.specs.Option.{option_to_list};
 ghost use Rattle.log_records.specs.declared.limits.TheConstants.{MAX_RECORDS};
+ghost use Rattle.log_records.specs.PageCount.{given_by};
 ghost use Rattle.log_records.specs.Record.{IsRecord, own_lsn};
 ghost use Rattle.log_history.specs.Checkpoint.{IsCompleteCheckpoint};
 ghost use Rattle.log_history.specs.Linked.{IsLinked};
@@ -13,15 +14,15 @@ ghost use Rattle.log_changes.specs.Placed.{placed_by};
 use crate::placed_change::PlacedChange;
 use log_records::Record;
 use log_store::{Master, RecordSink};
-use page_core::{LSN_STEP, Lsn, PageCounts};
+use page_core::{GivenCount, LSN_STEP, Lsn, PageCounts};
 use std::alloc::{AllocError, Global};
 use std::marker::Model;
 
-/// What a restore keeps of a log: of each change 16 bytes, and the checkpoints that were completed.
+/// What a restore keeps of a log: of each change 16 bytes, the page counts that were given, and the
+/// checkpoints that were completed.
 #[derive(Drop)]
 pub struct LogChanges {
-    /// The page count that the log's header gives.
-    pages: u32,
+    counts: PageCounts,
     count: u32,
     changes: Vec<PlacedChange>,
     checkpoints: Vec<Master>,
@@ -33,7 +34,7 @@ impl Model for LogChanges {
     ghost Value = { Kept };
 
     ghost view = { λ it. record {
-      pages = it.pages;
+      counts = it.counts;
       count = it.count;
       changes = it.changes.items;
       checkpoints = it.checkpoints.items;
@@ -41,11 +42,11 @@ impl Model for LogChanges {
 }
 
 impl LogChanges {
-    /// The page counts of the volume, as the log goes on. No record gives a count so far.
-    pub fn counts(&self, alloc: Global) -> PageCounts
-        ensures { (log : Log) → self.now ≡ kept_of log → result ≡ counts_of log }
+    /// The page counts of the volume, as the log goes on.
+    pub fn counts(&self) -> &PageCounts
+        ensures { (log : Log) → self.now ≡ kept_of log → result.now ≡ counts_of log }
     {
-        PageCounts::new(alloc, self.pages)
+        &self.counts
     }
 
     /// How many records the log has.
@@ -92,6 +93,7 @@ impl LogChanges {
     {
         keep_change(&mut self.changes, next)?;
         keep_checkpoint(&mut self.checkpoints, next)?;
+        keep_count(&mut self.counts, next)?;
         self.count += 1;
         Ok(())
     }
@@ -102,7 +104,7 @@ impl RecordSink for LogChanges {
 
     fn start(alloc: Global, pages: u32) -> Result<LogChanges, AllocError> {
         Ok(LogChanges {
-            pages,
+            counts: PageCounts::new(alloc, pages),
             count: 0,
             changes: Vec::new(alloc),
             checkpoints: Vec::new(alloc),
@@ -145,7 +147,21 @@ fn keep_checkpoint(checkpoints: &mut Vec<Master>, next: &Record) -> Result<(), A
         | Record::End { .. }
         | Record::BeginChkpt { .. }
         | Record::ChkptPages { .. }
-        | Record::ChkptTxns { .. } => {}
+        | Record::ChkptTxns { .. }
+        | Record::Extend { .. } => {}
+    }
+    Ok(())
+}
+
+/// Keeps the page count that a record gives, if it gives one.
+fn keep_count(counts: &mut PageCounts, next: &Record) -> Result<(), AllocError>
+    ensures { OnOk result (counts.new ≡ record counts.old {
+      given = counts.old.given ++ option_to_list (given_by next.now);
+    }) }
+{
+    if let Some(pages) = next.given_count() {
+        let lsn = next.lsn();
+        counts.note(GivenCount { lsn, pages })?;
     }
     Ok(())
 }

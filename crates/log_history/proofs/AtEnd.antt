@@ -14,7 +14,8 @@ use Rattle.page_core.specs.Change.{undo_of}
 use Rattle.log_records.specs.declared.limits.TheConstants.{MAX_RECORDS}
 use Rattle.log_records.specs.declared.record.Record.{Record}
 use Rattle.log_records.specs.declared.record.Record.TheVariants.{Begin, Update, Comp, Commit, Abort, End, BeginChkpt}
-use Rattle.log_records.specs.declared.record.Record.TheVariants.{ChkptPages, ChkptTxns, EndChkpt}
+use Rattle.log_records.specs.declared.record.Record.TheVariants.{ChkptPages, ChkptTxns, EndChkpt, Extend}
+use Rattle.log_records.specs.PageCount.{GivesMore}
 use Rattle.log_records.specs.Log.{IsLog, IsWithin, Log, StandsAt, lsn_of, page_count, page_count_at, with_next}
 use Rattle.log_records.specs.Record.{HasNoBefore, IsBefore, IsChange, IsLsn, IsPageChange, IsRecord, IsTxn, own_lsn}
 use Rattle.log_records.proofs.Changes.{valid_change}
@@ -40,6 +41,7 @@ noted (BeginChkpt lsn) = None
 noted (ChkptPages lsn begin entries) = None
 noted (ChkptTxns lsn begin txn state last undo) = None
 noted (EndChkpt lsn begin redo) = None
+noted (Extend lsn pages) = None
 
 All-with_pending : (Q : PendingChange → Type 0) (changes : List PendingChange) (r : Record) → All Q changes
     → IfSome (noted r) Q → All Q (with_pending changes r)
@@ -53,6 +55,7 @@ All-with_pending Q changes (BeginChkpt lsn) all new = all
 All-with_pending Q changes (ChkptPages lsn begin entries) all new = all
 All-with_pending Q changes (ChkptTxns lsn begin txn state last undo) all new = all
 All-with_pending Q changes (EndChkpt lsn begin redo) all new = all
+All-with_pending Q changes (Extend lsn pages) all new = all
 
 All-pending_from : (Q : PendingChange → Type 0) (changes : List PendingChange) (rs : List Record) → All Q changes
     → All (λ r. IfSome (noted r) Q) rs → All Q (pending_from changes rs)
@@ -119,6 +122,7 @@ is_noted pages at (BeginChkpt lsn) stands = tt
 is_noted pages at (ChkptPages lsn begin entries) stands = tt
 is_noted pages at (ChkptTxns lsn begin txn state last undo) stands = tt
 is_noted pages at (EndChkpt lsn begin redo) stands = tt
+is_noted pages at (Extend lsn count) stands = tt
 
 pub all_pending : (log : Log) (t : ℕ) → IsLog log
     → All (IsPending (page_count log) (lsn_of (length log.records))) (pending log.records t)
@@ -182,8 +186,9 @@ lsn_is_lsn n few = record {
 -- ---- one record more
 
 pub valid_next : (log : Log) (r : Record) → IsLog log → length log.records < 1048576
-    → StandsAt (page_count log) (lsn_of (length log.records)) r → IsLog (with_next log (r ∷ []))
-valid_next log r valid few stands =
+    → StandsAt (page_count log) (lsn_of (length log.records)) r → GivesMore (page_count log) r
+    → IsLog (with_next log (r ∷ []))
+valid_next log r valid few stands more =
     let all : page_count_at log (length log.records) ≡ page_count log =
     page_count_at-all log (length log.records) (omega arith) in
     record {
@@ -202,6 +207,20 @@ valid_next log r valid few stands =
             page_count_at-append log (r ∷ []) (length log.records) (omega arith),
             all,
           ) stands) i
+          (omega (arith, length_push log.records r));
+      grows = λ i d lt.
+          below_more
+          (λ n. GivesMore (page_count_at (with_next log (r ∷ [])) n) (get_or (log.records ++ r ∷ []) n d))
+          (length log.records)
+          (λ n below. rw (
+            get_or_append_left log.records (r ∷ []) d n below,
+            page_count_at-append log (r ∷ []) n (omega (arith, below)),
+          ) (valid.grows n d below))
+          (rw (
+            get_or_push log.records r d (length log.records) refl,
+            page_count_at-append log (r ∷ []) (length log.records) (omega arith),
+            all,
+          ) more) i
           (omega (arith, length_push log.records r));
     }
 

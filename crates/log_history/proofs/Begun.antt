@@ -11,7 +11,7 @@ use Rattle.std.proofs.lemmas.List.FromFn.{get_or-range_with_len, length-range_wi
 use Rattle.std.proofs.lemmas.List.Kept.{IsStrictlyIncreasing-filter}
 use Rattle.log_records.specs.declared.record.Record.{Record}
 use Rattle.log_records.specs.declared.record.Record.TheVariants.{Begin, Update, Comp, Commit, Abort, End, BeginChkpt}
-use Rattle.log_records.specs.declared.record.Record.TheVariants.{ChkptPages, ChkptTxns, EndChkpt}
+use Rattle.log_records.specs.declared.record.Record.TheVariants.{ChkptPages, ChkptTxns, EndChkpt, Extend}
 use Rattle.log_history.specs.Transactions.{begun, begun_by, is_last, is_open, open_in, records_of, txn_of}
 use Rattle.log_history.specs.Linked.{IsLinked, MayFollow}
 use Rattle.log_history.proofs.Histories.{along_linked}
@@ -43,6 +43,7 @@ begins_or_goes_on rs (BeginChkpt lsn) may = inr (inr (refl, refl))
 begins_or_goes_on rs (ChkptPages lsn begin pages) may = inr (inr (refl, refl))
 begins_or_goes_on rs (ChkptTxns lsn begin t state last undo) may = inr (inr (refl, refl))
 begins_or_goes_on rs (EndChkpt lsn begin redo) may = inr (inr (refl, refl))
+begins_or_goes_on rs (Extend lsn pages) may = inr (inr (refl, refl))
 
 pub begins_its : (r : Record) (u : ℕ) → begun_by r ≡ Some u → txn_of r ≡ u
 begins_its (Begin lsn t) u begins = cc

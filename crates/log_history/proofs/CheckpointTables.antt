@@ -15,7 +15,7 @@ use Rattle.log_records.specs.declared.dirty_page.DirtyPages.TheVariants.{One, Tw
 use Rattle.log_records.specs.declared.page_change.PageChange.{PageChange}
 use Rattle.log_records.specs.declared.record.Record.{Record}
 use Rattle.log_records.specs.declared.record.Record.TheVariants.{Begin, Update, Comp, Commit, Abort, End, BeginChkpt}
-use Rattle.log_records.specs.declared.record.Record.TheVariants.{ChkptPages, ChkptTxns, EndChkpt}
+use Rattle.log_records.specs.declared.record.Record.TheVariants.{ChkptPages, ChkptTxns, EndChkpt, Extend}
 use Rattle.log_records.specs.Coverage.{changes, changes_on}
 use Rattle.log_records.specs.DirtyPage.{entries_of}
 use Rattle.log_records.specs.Log.{IsLog, Log, lsn_of}
@@ -69,6 +69,7 @@ current_step (Some c) (ChkptPages lsn begin pages) = ap Some (pages_added pages 
 current_step None (ChkptTxns lsn begin txn state last undo) = refl
 current_step (Some c) (ChkptTxns lsn begin txn state last undo) = refl
 current_step o (EndChkpt lsn begin redo) = refl
+current_step o (Extend lsn pages) = refl
 current_step o (Begin lsn txn) = refl
 current_step o (Update lsn txn prev page slot change) = refl
 current_step o (Comp lsn txn prev undo_next page slot change) = refl
@@ -236,6 +237,7 @@ goes_as_noted log (ChkptTxns lsn begin txn state last undo) valid is =
 goes_as_noted log (EndChkpt lsn begin redo) valid is =
     of_current (open_checkpoint log.records) (λ c. MayEnd begin redo c × HasOldTxns log.records c)
     (MayClose (table_of log.records) begin redo) (close_as_ended log.records begin redo)
+goes_as_noted log (Extend lsn pages) valid is = (λ h. h, λ h. h)
 goes_as_noted log (Begin lsn txn) valid is = (λ h. h, λ h. h)
 goes_as_noted log (Update lsn txn prev page slot change) valid is = (λ h. h, λ h. h)
 goes_as_noted log (Comp lsn txn prev undo_next page slot change) valid is = (λ h. h, λ h. h)

@@ -13,7 +13,7 @@ use Rattle.page_core.specs.Change.{kind_of}
 use Rattle.log_records.specs.declared.limits.TheConstants.{MAX_OPEN}
 use Rattle.log_records.specs.declared.record.Record.{Record}
 use Rattle.log_records.specs.declared.record.Record.TheVariants.{Begin, Update, Comp, Commit, Abort, End, BeginChkpt}
-use Rattle.log_records.specs.declared.record.Record.TheVariants.{ChkptPages, ChkptTxns, EndChkpt}
+use Rattle.log_records.specs.declared.record.Record.TheVariants.{ChkptPages, ChkptTxns, EndChkpt, Extend}
 use Rattle.log_history.specs.Transactions.{begun, holder, is_open, keeps_out, last_of, open_in, owed}
 use Rattle.log_records.specs.Least.{least}
 use Rattle.log_history.specs.Linked.{Compensates, IsActive, MayFollow}
@@ -109,12 +109,14 @@ may_note rs (ChkptTxns lsn begin t state last undo) may =
 may_note rs (BeginChkpt lsn) may = tt
 may_note rs (ChkptPages lsn begin pages) may = tt
 may_note rs (EndChkpt lsn begin redo) may = tt
+may_note rs (Extend lsn pages) may = tt
 
 pub goes_with_checkpoint : (rs : List Record) (r : Record) → MayFollow rs r → GoesWithCheckpoint rs r
 goes_with_checkpoint rs (BeginChkpt lsn) may = may
 goes_with_checkpoint rs (ChkptPages lsn begin pages) may = may
 goes_with_checkpoint rs (ChkptTxns lsn begin t state last undo) may = may.0
 goes_with_checkpoint rs (EndChkpt lsn begin redo) may = may
+goes_with_checkpoint rs (Extend lsn pages) may = may
 goes_with_checkpoint rs other may = tt
 
 pub names_number : (rs : List Record) (r : Record) → MayFollow rs r → NamesNumber rs r
@@ -153,3 +155,4 @@ may_follow rs (ChkptTxns lsn begin t state last undo) may names goes =
       },
     )
 may_follow rs (EndChkpt lsn begin redo) may names goes = goes
+may_follow rs (Extend lsn pages) may names goes = goes

@@ -1,16 +1,16 @@
 -- What the records so far make says whether the next one may follow.
-use Rattle.std.proofs.Common.{◌≡◌, ℕ, ◌<◌, ◌∷◌, ◌++◌, [], List, get_or, map, sym, ap, subst, subst₂, ◌∙◌, ◌↔◌, arith}
+use Rattle.std.proofs.Common.{◌≡◌, ℕ, ◌<◌, ◌≤◌, ◌∷◌, ◌++◌, [], List, get_or, map, sym, ap, subst, subst₂, ◌∙◌, ◌↔◌, arith}
 use Rattle.std.specs.Prelude.{slice_index}
 use Rattle.std.proofs.lemmas.List.{map-id}
-use Rattle.std.proofs.lemmas.List.FromFn.{get_or-map-range_with_len}
+use Rattle.std.proofs.lemmas.List.FromFn.{get_or-map-range_with_len, length-map-range_with_len}
 use Rattle.page_core.specs.declared.page.Page.{Page}
 use Rattle.page_core.specs.Change.{Replaces}
 use Rattle.page_core.specs.Page.{formatted}
 use Rattle.log_records.specs.declared.record.Record.{Record}
 use Rattle.log_records.specs.declared.record.Record.TheVariants.{Begin, Update, Comp, Commit, Abort, End, BeginChkpt}
-use Rattle.log_records.specs.declared.record.Record.TheVariants.{ChkptPages, ChkptTxns, EndChkpt}
+use Rattle.log_records.specs.declared.record.Record.TheVariants.{ChkptPages, ChkptTxns, EndChkpt, Extend}
 use Rattle.log_history.specs.Checked.{GoesWithCheckpoint, NamesNumber}
-use Rattle.log_history.specs.History.{IsMadeOf, Made, MayComeNext, NamesNumberOn, followed, number_on}
+use Rattle.log_history.specs.History.{IsMadeOf, Made, MayComeNext, NamesNumberOn, followed, number_on, pages_after}
 use Rattle.log_records.specs.Image.{image, redo_all, with_record}
 use Rattle.log_history.specs.Linked.{IsLinked, MayFollow, number_in}
 use Rattle.log_records.specs.Log.{IsLog, IsWithin, Log, page_count, with_next}
@@ -21,7 +21,15 @@ use Rattle.log_history.specs.CheckpointTable.{CheckpointTable, MayNoteCheckpoint
 use Rattle.log_records.specs.Record.{IsOfCheckpoint, IsRecord}
 use Rattle.log_history.proofs.Checks.{may_follow as table_allows}
 use Rattle.log_records.proofs.Images.{redo_all-append}
-use Rattle.log_records.proofs.PageCounts.{count_stays, page_count-push}
+use Rattle.log_records.proofs.PageCounts.{count_after-none, page_count-push}
+use Rattle.log_records.proofs.PastVolume.{redo_all-grown}
+use Rattle.log_records.specs.PageCount.{GivesMore, count_after, given_count}
+use Rattle.page_core.specs.Volume.{grown_to}
+use Rattle.std.specs.Option.{option_map_or}
+use Rattle.std.specs.Prelude.{IfSome}
+use Rattle.std.proofs.Common.{Option, Some, None, length, max, refl}
+use Rattle.std.proofs.lemmas.Option.{none-some}
+use Rattle.std.proofs.Math.Nat.{max-eq_right}
 use Rattle.log_history.proofs.Steps.{table_of_push}
 
 -- the number in a slot of a log's volume
@@ -51,6 +59,7 @@ names log made (BeginChkpt lsn) of within on = tt
 names log made (ChkptPages lsn begin pages) of within on = tt
 names log made (ChkptTxns lsn begin txn state last undo) of within on = tt
 names log made (EndChkpt lsn begin redo) of within on = tt
+names log made (Extend lsn pages) of within on = tt
 
 names_on : (log : Log) (made : Made) (r : Record) → IsMadeOf log made → IsWithin (page_count log) r
     → NamesNumber log.records r → NamesNumberOn made.pages r
@@ -65,6 +74,7 @@ names_on log made (BeginChkpt lsn) of within named = tt
 names_on log made (ChkptPages lsn begin pages) of within named = tt
 names_on log made (ChkptTxns lsn begin txn state last undo) of within named = tt
 names_on log made (EndChkpt lsn begin redo) of within named = tt
+names_on log made (Extend lsn pages) of within named = tt
 
 -- what the tables say of checkpoints is what the log says
 goes : (log : Log) (made : Made) (r : Record) → IsMadeOf log made → IsLog log → IsRecord r
@@ -79,24 +89,80 @@ may_follow log made r of valid is within may =
     table_allows log.records r (subst (λ (t : Table). MayNote t r) of.table may.may_note)
     (names log made r of within may.replaces) ((goes log made r of valid is).1 may.may_note_checkpoint)
 
+-- the made pages are as many as the log says
+count_made : (log : Log) (made : Made) → IsMadeOf log made → length made.pages ≡ page_count log
+count_made log made of =
+    ap length of.pages ∙ length-map-range_with_len (image log.records) 0 (page_count log)
+
 pub may_come : (log : Log) (made : Made) (r : Record) → IsMadeOf log made → IsLog log → IsRecord r
-    → IsWithin (page_count log) r → MayFollow log.records r → MayComeNext made r
-may_come log made r of valid is within may = record {
+    → IsWithin (page_count log) r → GivesMore (page_count log) r → MayFollow log.records r → MayComeNext made r
+may_come log made r of valid is within more may = record {
   may_note = subst (λ (t : Table). MayNote t r) (sym of.table) (may_note log.records r may);
   may_note_checkpoint = (goes log made r of valid is).0 (goes_with_checkpoint log.records r may);
   replaces = names_on log made r of within (names_number log.records r may);
+  more = subst (λ n. GivesMore n r) (sym (count_made log made of)) more;
 }
 
+-- so it gives more pages than the log, if it gives any
+pub gives_more : (log : Log) (made : Made) (r : Record) → IsMadeOf log made → MayComeNext made r
+    → GivesMore (page_count log) r
+gives_more log made r of may = subst (λ n. GivesMore n r) (count_made log made of) may.more
+
+-- ---- the pages after one more record
+
+-- a record that gives a page count changes no page
+changes_none : (r : Record) (count : ℕ) → given_count r ≡ Some count → (page : Page) → with_record page r ≡ page
+changes_none (Extend lsn pages) count is page = refl
+changes_none (Begin lsn txn) count is page = absurd (none-some count is)
+changes_none (Update lsn txn prev number slot change) count is page = absurd (none-some count is)
+changes_none (Comp lsn txn prev undo_next number slot change) count is page = absurd (none-some count is)
+changes_none (Commit lsn txn prev) count is page = absurd (none-some count is)
+changes_none (Abort lsn txn prev) count is page = absurd (none-some count is)
+changes_none (End lsn txn prev) count is page = absurd (none-some count is)
+changes_none (BeginChkpt lsn) count is page = absurd (none-some count is)
+changes_none (ChkptPages lsn begin pages) count is page = absurd (none-some count is)
+changes_none (ChkptTxns lsn begin txn state last undo) count is page = absurd (none-some count is)
+changes_none (EndChkpt lsn begin redo) count is page = absurd (none-some count is)
+
+pub pages_next : (log : Log) (r : Record) → IsLog log → GivesMore (page_count log) r
+    → pages_after (redo_all log.records (page_count log)) r
+    ≡ redo_all (log.records ++ r ∷ []) (page_count (with_next log (r ∷ [])))
+pages_next log r valid more = by_given (given_count r) refl
+  where
+    by_given : (given : Option ℕ) → given_count r ≡ given
+        → pages_after (redo_all log.records (page_count log)) r
+        ≡ redo_all (log.records ++ r ∷ []) (page_count (with_next log (r ∷ [])))
+    by_given None is =
+        let count = page_count log in
+        let here : pages_after (redo_all log.records count) r ≡ map (λ page. with_record page r) (redo_all log.records count) =
+        ap (λ (g : Option ℕ). option_map_or (λ c. grown_to c (redo_all log.records count)) g
+        (map (λ page. with_record page r) (redo_all log.records count))) is in
+        here ∙ redo_all-append log.records (r ∷ []) count
+        ∙ ap (redo_all (log.records ++ r ∷ [])) (sym (page_count-push log r ∙ count_after-none count r is))
+    by_given (Some given) is =
+        let count = page_count log in
+        let greater : count < given = subst (λ (g : Option ℕ). IfSome g (λ c. count < c)) is more in
+        let here : pages_after (redo_all log.records count) r ≡ grown_to given (redo_all log.records count) =
+        ap (λ (g : Option ℕ). option_map_or (λ c. grown_to c (redo_all log.records count)) g
+        (map (λ page. with_record page r) (redo_all log.records count))) is in
+        let after : count_after count r ≡ given =
+        ap (λ (g : Option ℕ). option_map_or (max count) g count) is ∙ max-eq_right (let le : count ≤ given = omega arith in le) in
+        let grown = redo_all log.records given in
+        let same : map (λ page. with_record page r) grown ≡ grown =
+        (λ i. map (λ page. changes_none r given is page i) grown) ∙ map-id grown in
+        here ∙ redo_all-grown log given valid (omega arith) ∙ sym same
+        ∙ redo_all-append log.records (r ∷ []) given
+        ∙ ap (redo_all (log.records ++ r ∷ [])) (sym (page_count-push log r ∙ after))
+
 pub made_next : (log : Log) (made new : Made) (r : Record) → IsLinked log.records → IsMadeOf log made
+    → IsLog log → GivesMore (page_count log) r
     → MayFollow log.records r → new ≡ followed made r → IsMadeOf (with_next log (r ∷ [])) new
-made_next log made new r linked of may e = record {
+made_next log made new r linked of valid more may e = record {
   table = ap (λ (m : Made). m.table) e ∙ ap (λ (t : Table). noted t r) of.table
       ∙ sym (table_of_push log.records r linked may);
   checkpoints = ap (λ (m : Made). m.checkpoints) e ∙ ap (λ (t : CheckpointTable). noted_checkpoint t r) of.checkpoints
       ∙ sym (checkpoint_table_of_push log.records r);
-  pages = ap (λ (m : Made). m.pages) e ∙ ap (map (λ page. with_record page r)) of.pages
-      ∙ redo_all-append log.records (r ∷ []) (page_count log)
-      ∙ ap (redo_all (log.records ++ r ∷ [])) (sym (page_count-push log r ∙ count_stays (page_count log) r));
+  pages = ap (λ (m : Made). m.pages) e ∙ ap (λ pages. pages_after pages r) of.pages ∙ pages_next log r valid more;
 }
 
 -- ---- a record of a checkpoint changes neither the transactions nor the pages
@@ -117,6 +183,7 @@ after_checkpoint made (ChkptTxns lsn begin txn state last undo) is =
     (tt, same_pages made (noted_checkpoint made.checkpoints (ChkptTxns lsn begin txn state last undo)))
 after_checkpoint made (EndChkpt lsn begin redo) is =
     (tt, same_pages made (noted_checkpoint made.checkpoints (EndChkpt lsn begin redo)))
+after_checkpoint made (Extend lsn pages) is = absurd is
 after_checkpoint made (Begin lsn txn) is = absurd is
 after_checkpoint made (Update lsn txn prev page slot change) is = absurd is
 after_checkpoint made (Comp lsn txn prev undo_next page slot change) is = absurd is

@@ -14,7 +14,7 @@ use Rattle.page_core.specs.declared.change.Change.{Change}
 use Rattle.log_history.specs.declared.pending_change.PendingChange.{PendingChange}
 use Rattle.log_records.specs.declared.record.Record.{Record}
 use Rattle.log_records.specs.declared.record.Record.TheVariants.{Begin, Update, Comp, Commit, Abort, End, BeginChkpt}
-use Rattle.log_records.specs.declared.record.Record.TheVariants.{ChkptPages, ChkptTxns, EndChkpt}
+use Rattle.log_records.specs.declared.record.Record.TheVariants.{ChkptPages, ChkptTxns, EndChkpt, Extend}
 use Rattle.log_history.specs.Transactions.{begun, begun_by, is_abort, is_last, is_open, is_rolling}
 use Rattle.log_history.specs.Transactions.{last_of, open_in, owed, owed_by, pending, pending_from, records_of, txn_of}
 use Rattle.log_history.specs.Transactions.{with_pending, without_last}
@@ -232,6 +232,7 @@ needs (BeginChkpt lsn) = 1
 needs (ChkptPages lsn begin pages) = 1
 needs (ChkptTxns lsn begin t state last undo) = 1
 needs (EndChkpt lsn begin redo) = 1
+needs (Extend lsn pages) = 1
 needs other = 0
 
 pub claimed_push : (rs : List Record) (r : Record) → IsLinked rs → MayFollow rs r
@@ -251,3 +252,5 @@ claimed_push rs (ChkptTxns lsn begin t state last undo) linked may =
     le_of_eq (claimed_aside rs (ChkptTxns lsn begin t state last undo) linked refl refl refl)
 claimed_push rs (EndChkpt lsn begin redo) linked may =
     le_of_eq (claimed_aside rs (EndChkpt lsn begin redo) linked refl refl refl)
+claimed_push rs (Extend lsn pages) linked may =
+    le_of_eq (claimed_aside rs (Extend lsn pages) linked refl refl refl)

@@ -13,7 +13,7 @@ use Rattle.std.proofs.lemmas.Simd.{map-map}
 use Rattle.std.proofs.Math.Bool.{or-false, or-true}
 use Rattle.log_records.specs.declared.record.Record.{Record}
 use Rattle.log_records.specs.declared.record.Record.TheVariants.{Begin, Update, Comp, Commit, Abort, End, BeginChkpt}
-use Rattle.log_records.specs.declared.record.Record.TheVariants.{ChkptPages, ChkptTxns, EndChkpt}
+use Rattle.log_records.specs.declared.record.Record.TheVariants.{ChkptPages, ChkptTxns, EndChkpt, Extend}
 use Rattle.log_records.specs.Record.{IsOfTransaction, own_lsn}
 use Rattle.log_history.specs.Transactions.{begun, begun_by, first_lsn, is_abort, is_last, is_open}
 use Rattle.log_history.specs.Transactions.{is_rolling, last_or, open_in, pending, pending_from, records_of}
@@ -92,6 +92,7 @@ grown_is_after rs (BeginChkpt lsn) t of none more = absurd of
 grown_is_after rs (ChkptPages lsn begin pages) t of none more = absurd of
 grown_is_after rs (ChkptTxns lsn begin u state last undo) t of none more = absurd of
 grown_is_after rs (EndChkpt lsn begin redo) t of none more = absurd of
+grown_is_after rs (Extend lsn pages) t of none more = absurd of
 
 entry_of_push : (rs : List Record) (r : Record) → IsOfTransaction r → begun_by r ≡ None → is_last r ≡ false
     → 0 < length (records_of rs (txn_of r)) → (t : ℕ)
@@ -207,3 +208,4 @@ table_of_push rs (ChkptPages lsn begin pages) linked may =
 table_of_push rs (ChkptTxns lsn begin t state last undo) linked may =
     aside_noted rs (ChkptTxns lsn begin t state last undo) linked refl refl refl
 table_of_push rs (EndChkpt lsn begin redo) linked may = aside_noted rs (EndChkpt lsn begin redo) linked refl refl refl
+table_of_push rs (Extend lsn pages) linked may = aside_noted rs (Extend lsn pages) linked refl refl refl

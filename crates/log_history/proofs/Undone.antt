@@ -16,7 +16,7 @@ use Rattle.page_core.specs.Change.{Replaces, changed, kind_of, undo_of}
 use Rattle.log_history.specs.declared.pending_change.PendingChange.{PendingChange}
 use Rattle.log_records.specs.declared.record.Record.{Record}
 use Rattle.log_records.specs.declared.record.Record.TheVariants.{Begin, Update, Comp, Commit, Abort, End, BeginChkpt}
-use Rattle.log_records.specs.declared.record.Record.TheVariants.{ChkptPages, ChkptTxns, EndChkpt}
+use Rattle.log_records.specs.declared.record.Record.TheVariants.{ChkptPages, ChkptTxns, EndChkpt, Extend}
 use Rattle.log_records.specs.Record.{IsChange, IsRecord, change_of}
 use Rattle.log_history.specs.Transactions.{begun_by, is_last, txn_of, is_open, keeps_out, open_in, pending}
 use Rattle.log_history.specs.Transactions.{without_last}
@@ -209,6 +209,7 @@ module _ (rs : List Record) (page slot : ℕ) (linked : IsLinked rs) (valid : Al
   accounts_push (ChkptTxns lsn begin t state last undo) may =
       accounts_of_none (ChkptTxns lsn begin t state last undo) refl refl refl refl refl
   accounts_push (EndChkpt lsn begin redo) may = accounts_of_none (EndChkpt lsn begin redo) refl refl refl refl refl
+  accounts_push (Extend lsn pages) may = accounts_of_none (Extend lsn pages) refl refl refl refl refl
 
 -- ---- each slot of a linked log
 

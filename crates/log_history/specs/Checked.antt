@@ -4,7 +4,7 @@ use Rattle.std.specs.Prelude.{◌≡◌, List, None, IsSomeAnd}
 use Rattle.log_records.specs.declared.record.Record.{Record}
 use Rattle.log_records.specs.declared.record.Record.TheVariants.{Begin, Update, Comp, Commit, Abort}
 use Rattle.log_records.specs.declared.record.Record.TheVariants.{End, BeginChkpt, ChkptPages}
-use Rattle.log_records.specs.declared.record.Record.TheVariants.{ChkptTxns, EndChkpt}
+use Rattle.log_records.specs.declared.record.Record.TheVariants.{ChkptTxns, EndChkpt, Extend}
 use Rattle.log_history.specs.Checkpoint.{open_checkpoint}
 use Rattle.log_history.specs.Linked.{ArePagesNow, HasOldTxns, MayEnd, MayRecordPages, MayRecordTxn}
 use Rattle.log_history.specs.Linked.{number_in}
@@ -21,6 +21,7 @@ NamesNumber rs (BeginChkpt lsn) = Unit {0}
 NamesNumber rs (ChkptPages lsn begin pages) = Unit {0}
 NamesNumber rs (ChkptTxns lsn begin txn state last undo) = Unit {0}
 NamesNumber rs (EndChkpt lsn begin redo) = Unit {0}
+NamesNumber rs (Extend lsn pages) = Unit {0}
 
 -- a checkpoint's record goes on with the open checkpoint, or opens one
 abbrev pub GoesWithCheckpoint : List Record → Record → Type 0
@@ -37,3 +38,4 @@ GoesWithCheckpoint rs (Comp lsn txn prev undo_next page slot change) = Unit {0}
 GoesWithCheckpoint rs (Commit lsn txn prev) = Unit {0}
 GoesWithCheckpoint rs (Abort lsn txn prev) = Unit {0}
 GoesWithCheckpoint rs (End lsn txn prev) = Unit {0}
+GoesWithCheckpoint rs (Extend lsn pages) = Unit {0}

@@ -6,7 +6,7 @@ use Rattle.log_records.specs.declared.dirty_page.DirtyPage.{DirtyPage}
 use Rattle.log_records.specs.declared.record.Record.{Record}
 use Rattle.log_records.specs.declared.record.Record.TheVariants.{Begin, Update, Comp, Commit, Abort}
 use Rattle.log_records.specs.declared.record.Record.TheVariants.{End, BeginChkpt, ChkptPages}
-use Rattle.log_records.specs.declared.record.Record.TheVariants.{ChkptTxns, EndChkpt}
+use Rattle.log_records.specs.declared.record.Record.TheVariants.{ChkptTxns, EndChkpt, Extend}
 use Rattle.log_records.specs.DirtyPage.{entries_of}
 
 -- a checkpoint that is open: the LSN of its BeginChkpt, and the dirty pages and transactions that
@@ -34,6 +34,7 @@ checkpoint_after c (Comp lsn txn prev undo_next page slot change) = c
 checkpoint_after c (Commit lsn txn prev) = c
 checkpoint_after c (Abort lsn txn prev) = c
 checkpoint_after c (End lsn txn prev) = c
+checkpoint_after c (Extend lsn pages) = c
 
 -- the checkpoint that is open at the end of a log, if one is
 abbrev pub open_checkpoint : List Record → Option Checkpoint

@@ -10,7 +10,7 @@ use Rattle.log_records.specs.declared.dirty_page.DirtyPages.TheVariants.{One, Tw
 use Rattle.log_records.specs.declared.record.Record.{Record}
 use Rattle.log_records.specs.declared.record.Record.TheVariants.{Begin, Update, Comp, Commit, Abort}
 use Rattle.log_records.specs.declared.record.Record.TheVariants.{End, BeginChkpt, ChkptPages}
-use Rattle.log_records.specs.declared.record.Record.TheVariants.{ChkptTxns, EndChkpt}
+use Rattle.log_records.specs.declared.record.Record.TheVariants.{ChkptTxns, EndChkpt, Extend}
 use Rattle.log_records.specs.DirtyPage.{entries_of}
 use Rattle.log_records.specs.Record.{change_of}
 use Rattle.log_history.specs.declared.checkpoints.TheConstants.{NO_PAGE}
@@ -94,6 +94,7 @@ MayNoteCheckpoint table t (Comp lsn txn prev undo_next page slot change) = Unit 
 MayNoteCheckpoint table t (Commit lsn txn prev) = Unit {0}
 MayNoteCheckpoint table t (Abort lsn txn prev) = Unit {0}
 MayNoteCheckpoint table t (End lsn txn prev) = Unit {0}
+MayNoteCheckpoint table t (Extend lsn pages) = Unit {0}
 
 -- ---- the table after one more record
 
@@ -124,6 +125,7 @@ current_after c (Comp lsn txn prev undo_next page slot change) = c
 current_after c (Commit lsn txn prev) = c
 current_after c (Abort lsn txn prev) = c
 current_after c (End lsn txn prev) = c
+current_after c (Extend lsn pages) = c
 
 abbrev pub noted_checkpoint : CheckpointTable → Record → CheckpointTable
 noted_checkpoint t r = record {

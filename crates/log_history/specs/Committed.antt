@@ -5,7 +5,7 @@ use Rattle.log_history.specs.declared.pending_change.PendingChange.{PendingChang
 use Rattle.log_records.specs.declared.record.Record.{Record}
 use Rattle.log_records.specs.declared.record.Record.TheVariants.{Begin, Update, Comp, Commit, Abort}
 use Rattle.log_records.specs.declared.record.Record.TheVariants.{End, BeginChkpt, ChkptPages}
-use Rattle.log_records.specs.declared.record.Record.TheVariants.{ChkptTxns, EndChkpt}
+use Rattle.log_records.specs.declared.record.Record.TheVariants.{ChkptTxns, EndChkpt, Extend}
 use Rattle.log_history.specs.Transactions.{pending}
 
 -- the number of each slot of each page
@@ -35,6 +35,7 @@ with_commit before values (BeginChkpt lsn) = values
 with_commit before values (ChkptPages lsn begin pages) = values
 with_commit before values (ChkptTxns lsn begin txn state last undo) = values
 with_commit before values (EndChkpt lsn begin redo) = values
+with_commit before values (Extend lsn pages) = values
 
 abbrev pub committed_from : List Record → Values → List Record → Values
 committed_from before values [] = values

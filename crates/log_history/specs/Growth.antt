@@ -2,7 +2,7 @@
 use Rattle.log_records.specs.declared.record.Record.{Record}
 use Rattle.log_records.specs.declared.record.Record.TheVariants.{Begin, Update, Comp, Commit, Abort}
 use Rattle.log_records.specs.declared.record.Record.TheVariants.{End, BeginChkpt, ChkptPages}
-use Rattle.log_records.specs.declared.record.Record.TheVariants.{ChkptTxns, EndChkpt}
+use Rattle.log_records.specs.declared.record.Record.TheVariants.{ChkptTxns, EndChkpt, Extend}
 
 -- a record that makes the table of open transactions larger
 abbrev pub MayGrow : Record → Type 0
@@ -16,3 +16,4 @@ MayGrow (BeginChkpt lsn) = ⊥
 MayGrow (ChkptPages lsn begin pages) = ⊥
 MayGrow (ChkptTxns lsn begin txn state last undo) = ⊥
 MayGrow (EndChkpt lsn begin redo) = ⊥
+MayGrow (Extend lsn pages) = ⊥

@@ -1,13 +1,16 @@
 -- What the records of a log make: the tables of its open transactions and of its checkpoints, and
 -- its pages.
-use Rattle.std.specs.Prelude.{ℕ, ◌≡◌, List, map, slice_index, slice_index_or}
+use Rattle.std.specs.Prelude.{ℕ, ◌≡◌, List, length, map, slice_index, slice_index_or}
 use Rattle.page_core.specs.declared.page.Page.{Page}
 use Rattle.page_core.specs.Change.{Replaces}
 use Rattle.page_core.specs.Page.{formatted}
+use Rattle.page_core.specs.Volume.{grown_to}
+use Rattle.log_records.specs.PageCount.{GivesMore, given_count}
+use Rattle.std.specs.Option.{option_map_or}
 use Rattle.log_records.specs.declared.record.Record.{Record}
 use Rattle.log_records.specs.declared.record.Record.TheVariants.{Begin, Update, Comp, Commit, Abort}
 use Rattle.log_records.specs.declared.record.Record.TheVariants.{End, BeginChkpt, ChkptPages}
-use Rattle.log_records.specs.declared.record.Record.TheVariants.{ChkptTxns, EndChkpt}
+use Rattle.log_records.specs.declared.record.Record.TheVariants.{ChkptTxns, EndChkpt, Extend}
 use Rattle.log_records.specs.Image.{redo_all, with_record}
 use Rattle.log_records.specs.Log.{Log, page_count}
 use Rattle.log_history.specs.CheckpointTable.{CheckpointTable, MayNoteCheckpoint}
@@ -42,18 +45,26 @@ NamesNumberOn pages (BeginChkpt lsn) = Unit {0}
 NamesNumberOn pages (ChkptPages lsn begin dirty) = Unit {0}
 NamesNumberOn pages (ChkptTxns lsn begin txn state last undo) = Unit {0}
 NamesNumberOn pages (EndChkpt lsn begin redo) = Unit {0}
+NamesNumberOn pages (Extend lsn count) = Unit {0}
 
 -- the record may come next, as far as the transactions, the checkpoints and the pages say
 pub record MayComeNext (made : Made) (r : Record) : Type 0 where
   pub may_note : MayNote made.table r
   pub may_note_checkpoint : MayNoteCheckpoint made.table made.checkpoints r
   pub replaces : NamesNumberOn made.pages r
+  pub more : GivesMore (length made.pages) r
+
+-- the pages after one more record: its change is made on its page, and an Extend adds formatted
+-- pages
+abbrev pub pages_after : List Page → Record → List Page
+pages_after pages r =
+    option_map_or (λ count. grown_to count pages) (given_count r)
+    (map (λ page. with_record page r) pages)
 
 -- what stands after it
 abbrev pub followed : Made → Record → Made
 followed made r = record {
   table = noted made.table r;
   checkpoints = noted_checkpoint made.checkpoints r;
-  pages =
-      map (λ page. with_record page r) made.pages;
+  pages = pages_after made.pages r;
 }

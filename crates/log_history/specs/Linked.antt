@@ -9,7 +9,7 @@ use Rattle.log_history.specs.declared.pending_change.PendingChange.{PendingChang
 use Rattle.log_records.specs.declared.record.Record.{Record}
 use Rattle.log_records.specs.declared.record.Record.TheVariants.{Begin, Update, Comp, Commit, Abort}
 use Rattle.log_records.specs.declared.record.Record.TheVariants.{End, BeginChkpt, ChkptPages}
-use Rattle.log_records.specs.declared.record.Record.TheVariants.{ChkptTxns, EndChkpt}
+use Rattle.log_records.specs.declared.record.Record.TheVariants.{ChkptTxns, EndChkpt, Extend}
 use Rattle.log_records.specs.declared.dirty_page.DirtyPages.{DirtyPages}
 use Rattle.log_records.specs.declared.txn_phase.TxnPhase.{TxnPhase}
 use Rattle.log_records.specs.Coverage.{changes_on}
@@ -89,7 +89,8 @@ pub record MayEnd (begin redo : ℕ) (c : Checkpoint) : Type 0 where
 abbrev pub HasOldTxns : List Record → Checkpoint → Type 0
 HasOldTxns before c = All (λ t. first_lsn before t < c.begin → Contains c.txns t) (open_in before)
 
--- the record may come behind these
+-- the record may come behind these. That an Extend gives more pages than there were is a matter of
+-- the whole log, whose header has the first page count (`IsLog`)
 abbrev pub MayFollow : List Record → Record → Type 0
 MayFollow before (Begin lsn txn) = MayBegin before txn
 MayFollow before (Update lsn txn prev page slot change) = MayUpdate before txn prev page slot change
@@ -107,6 +108,7 @@ MayFollow before (ChkptTxns lsn begin txn state last undo_next) =
     × IsTxnNow before txn state last undo_next
 MayFollow before (EndChkpt lsn begin redo) =
     IsSomeAnd (open_checkpoint before) (λ c. MayEnd begin redo c × HasOldTxns before c)
+MayFollow before (Extend lsn pages) = Unit {0}
 
 -- each record may come behind those before it
 abbrev pub IsLinked : List Record → Type 0

@@ -9,7 +9,7 @@ use Rattle.log_history.specs.declared.pending_change.PendingChange.{PendingChang
 use Rattle.log_records.specs.declared.record.Record.{Record}
 use Rattle.log_records.specs.declared.record.Record.TheVariants.{Begin, Update, Comp, Commit, Abort}
 use Rattle.log_records.specs.declared.record.Record.TheVariants.{End, BeginChkpt, ChkptPages}
-use Rattle.log_records.specs.declared.record.Record.TheVariants.{ChkptTxns, EndChkpt}
+use Rattle.log_records.specs.declared.record.Record.TheVariants.{ChkptTxns, EndChkpt, Extend}
 use Rattle.log_records.specs.declared.txn_phase.TxnPhase.{TxnPhase}
 use Rattle.log_records.specs.declared.txn_phase.TxnPhase.TheVariants.{Active, Rolling}
 use Rattle.std.specs.Option.{option_map_or}
@@ -101,6 +101,7 @@ MayNote table (ChkptTxns lsn begin txn state last undo) =
 MayNote table (BeginChkpt lsn) = Unit {0}
 MayNote table (ChkptPages lsn begin pages) = Unit {0}
 MayNote table (EndChkpt lsn begin redo) = Unit {0}
+MayNote table (Extend lsn pages) = Unit {0}
 
 -- ---- the table after one more record
 
@@ -123,6 +124,7 @@ entry_after e (BeginChkpt lsn) = e
 entry_after e (ChkptPages lsn begin pages) = e
 entry_after e (ChkptTxns lsn begin txn state last undo) = e
 entry_after e (EndChkpt lsn begin redo) = e
+entry_after e (Extend lsn pages) = e
 
 abbrev pub with_entry : Table → ℕ → Record → Table
 with_entry table t r = record table {
@@ -155,3 +157,4 @@ noted table (BeginChkpt lsn) = table
 noted table (ChkptPages lsn begin pages) = table
 noted table (ChkptTxns lsn begin txn state last undo) = table
 noted table (EndChkpt lsn begin redo) = table
+noted table (Extend lsn pages) = table

@@ -12,12 +12,13 @@ use Rattle.log_records.specs.Least.{least}
 use Rattle.log_records.specs.declared.record.Record.{Record}
 use Rattle.log_records.specs.declared.record.Record.TheVariants.{Begin, Update, Comp, Commit, Abort}
 use Rattle.log_records.specs.declared.record.Record.TheVariants.{End, BeginChkpt, ChkptPages}
-use Rattle.log_records.specs.declared.record.Record.TheVariants.{ChkptTxns, EndChkpt}
+use Rattle.log_records.specs.declared.record.Record.TheVariants.{ChkptTxns, EndChkpt, Extend}
 use Rattle.log_records.specs.declared.txn_phase.TxnPhase.{TxnPhase}
 use Rattle.log_records.specs.declared.txn_phase.TxnPhase.TheVariants.{Active, Rolling}
 use Rattle.log_records.specs.Record.{own_lsn}
 
 -- the transaction of a record; 0, which is no transaction, of a checkpoint's record
+-- and of an Extend
 abbrev pub txn_of : Record → ℕ
 txn_of (Begin lsn txn) = txn
 txn_of (Update lsn txn prev page slot change) = txn
@@ -29,6 +30,7 @@ txn_of (BeginChkpt lsn) = 0
 txn_of (ChkptPages lsn begin pages) = 0
 txn_of (ChkptTxns lsn begin txn state last undo) = 0
 txn_of (EndChkpt lsn begin redo) = 0
+txn_of (Extend lsn pages) = 0
 
 -- the transaction that a record begins
 abbrev pub begun_by : Record → Option ℕ
@@ -42,6 +44,7 @@ begun_by (BeginChkpt lsn) = None
 begun_by (ChkptPages lsn begin pages) = None
 begun_by (ChkptTxns lsn begin txn state last undo) = None
 begun_by (EndChkpt lsn begin redo) = None
+begun_by (Extend lsn pages) = None
 
 -- a record ends its transaction: it commits, or all is taken back
 abbrev pub is_last : Record → Bool
@@ -55,6 +58,7 @@ is_last (BeginChkpt lsn) = false
 is_last (ChkptPages lsn begin pages) = false
 is_last (ChkptTxns lsn begin txn state last undo) = false
 is_last (EndChkpt lsn begin redo) = false
+is_last (Extend lsn pages) = false
 
 -- a record says that its transaction takes all its changes back, and ends
 abbrev pub is_abort : Record → Bool
@@ -68,6 +72,7 @@ is_abort (BeginChkpt lsn) = false
 is_abort (ChkptPages lsn begin pages) = false
 is_abort (ChkptTxns lsn begin txn state last undo) = false
 is_abort (EndChkpt lsn begin redo) = false
+is_abort (Extend lsn pages) = false
 
 -- the records of a transaction
 abbrev pub records_of : List Record → ℕ → List Record
@@ -123,6 +128,7 @@ with_pending changes (BeginChkpt lsn) = changes
 with_pending changes (ChkptPages lsn begin pages) = changes
 with_pending changes (ChkptTxns lsn begin txn state last undo) = changes
 with_pending changes (EndChkpt lsn begin redo) = changes
+with_pending changes (Extend lsn pages) = changes
 
 abbrev pub pending_from : List PendingChange → List Record → List PendingChange
 pending_from changes [] = changes

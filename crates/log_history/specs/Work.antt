@@ -6,7 +6,7 @@ use Rattle.page_core.specs.declared.change.Change.TheVariants.{Set, Add}
 use Rattle.log_records.specs.declared.record.Record.{Record}
 use Rattle.log_records.specs.declared.record.Record.TheVariants.{Begin, Update, Comp, Commit, Abort}
 use Rattle.log_records.specs.declared.record.Record.TheVariants.{End, BeginChkpt, ChkptPages}
-use Rattle.log_records.specs.declared.record.Record.TheVariants.{ChkptTxns, EndChkpt}
+use Rattle.log_records.specs.declared.record.Record.TheVariants.{ChkptTxns, EndChkpt, Extend}
 use Rattle.log_history.specs.Transactions.{is_rolling}
 
 -- a call that a log shows: a begin with the number that it answered, and a Set without the number
@@ -19,6 +19,7 @@ pub data Call : Type 0 where
   UndoToCall : (txn : ℕ) → Call
   CommitCall : (txn : ℕ) → Call
   AbortCall : (txn : ℕ) → Call
+  ExtendCall : (pages : ℕ) → Call
 
 abbrev pub change_call : ℕ → ℕ → ℕ → Change → Call
 change_call txn page slot (Set before after) = SetCall txn page slot after
@@ -39,6 +40,7 @@ call_of before (BeginChkpt lsn) = None
 call_of before (ChkptPages lsn begin pages) = None
 call_of before (ChkptTxns lsn begin txn state last undo) = None
 call_of before (EndChkpt lsn begin redo) = None
+call_of before (Extend lsn pages) = Some (ExtendCall pages)
 
 abbrev pub work_from : List Record → List Record → List Call
 work_from before [] = []

@@ -88,7 +88,8 @@ impl Checkpoints {
             | Record::Comp { .. }
             | Record::Commit { .. }
             | Record::Abort { .. }
-            | Record::End { .. } => true,
+            | Record::End { .. }
+            | Record::Extend { .. } => true,
         }
     }
 
@@ -168,7 +169,8 @@ impl Checkpoints {
             | Record::Comp { .. }
             | Record::Commit { .. }
             | Record::Abort { .. }
-            | Record::End { .. } => {}
+            | Record::End { .. }
+            | Record::Extend { .. } => {}
         }
         Ok(())
     }

@@ -9,7 +9,7 @@ ghost use Rattle.log_history.specs.History.{NamesNumberOn};
 use crate::checkpoints::Checkpoints;
 use crate::open_transactions::OpenTransactions;
 use log_records::{Record, redo_on_its_page};
-use page_core::{Change, Page, PageNo, SlotNo, formatted_pages};
+use page_core::{Change, Page, PageNo, SlotNo, formatted_pages, grow_reserved};
 use std::alloc::{AllocError, Global};
 use std::marker::Model;
 
@@ -38,7 +38,8 @@ impl Model for History {
 }
 
 impl History {
-    ghost use Rattle.std.specs.Prelude.{◌≡◌, [], length, IfOk, IsTrue, OnErr};
+    ghost use Rattle.std.specs.Prelude.{ℕ, ◌≡◌, [], length, IfOk, IsTrue, OnErr};
+    ghost use Rattle.log_records.specs.declared.record.Record.TheVariants.{Extend};
     ghost use Rattle.log_history.specs.History.{IsMadeOf, MayComeNext, followed};
     ghost use Rattle.log_records.specs.Log.{IsWithin};
     ghost use Rattle.log_records.specs.Record.{IsOfCheckpoint, IsOfTransaction, IsRecord};
@@ -103,7 +104,27 @@ impl History {
             | Record::Commit { .. }
             | Record::Abort { .. }
             | Record::End { .. } => self.follow_transaction(next),
+            Record::Extend { pages, .. } => self.follow_extend(next, pages),
         }
+    }
+
+    /// The same of an Extend, which gives the volume so many pages.
+    fn follow_extend(&mut self, next: &Record, pages: u32) -> Result<bool, AllocError>
+        requires kind { (lsn : ℕ) × (next.now ≡ Extend lsn pages) }
+        ensures taken { IfOk result (λ may. IsTrue may
+            → MayComeNext self.old next.now × (self.new ≡ followed self.old next.now)) }
+        ensures refused { IfOk result (λ may. MayComeNext self.old next.now → IsTrue may) }
+        ensures same { IfOk result (λ may. ¬ IsTrue may → self.new ≡ self.old) }
+        ensures err { OnErr result (self.new ≡ self.old) }
+    {
+        let present = self.pages.len();
+        if pages as usize <= present {
+            return Ok(false);
+        }
+        self.pages.reserve(pages as usize - present)?;
+        self.checkpoints.note(next)?;
+        grow_reserved(&mut self.pages, pages);
+        Ok(true)
     }
 
     /// The same of a checkpoint's record, which changes no page.
@@ -177,6 +198,7 @@ fn names_number_on(pages: &[Page], next: &Record) -> bool
         | Record::BeginChkpt { .. }
         | Record::ChkptPages { .. }
         | Record::ChkptTxns { .. }
-        | Record::EndChkpt { .. } => true,
+        | Record::EndChkpt { .. }
+        | Record::Extend { .. } => true,
     }
 }

@@ -209,7 +209,10 @@ impl OpenTransactions {
                 undo_next,
                 ..
             } => self.is_now(txn, state, last, undo_next),
-            Record::BeginChkpt { .. } | Record::ChkptPages { .. } | Record::EndChkpt { .. } => true,
+            Record::BeginChkpt { .. }
+            | Record::ChkptPages { .. }
+            | Record::EndChkpt { .. }
+            | Record::Extend { .. } => true,
         }
     }
 
@@ -330,9 +333,10 @@ impl OpenTransactions {
                 undo_next,
                 ..
             } => Ok(self.is_now(txn, state, last, undo_next)),
-            Record::BeginChkpt { .. } | Record::ChkptPages { .. } | Record::EndChkpt { .. } => {
-                Ok(true)
-            }
+            Record::BeginChkpt { .. }
+            | Record::ChkptPages { .. }
+            | Record::EndChkpt { .. }
+            | Record::Extend { .. } => Ok(true),
         }
     }
 

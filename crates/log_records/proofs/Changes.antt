@@ -6,7 +6,7 @@ use Rattle.page_core.specs.declared.change.Change.TheVariants.{Set, Add}
 use Rattle.page_core.specs.Change.{changed}
 use Rattle.log_records.specs.declared.record.Record.{Record}
 use Rattle.log_records.specs.declared.record.Record.TheVariants.{Begin, Update, Comp, Commit, Abort, End, BeginChkpt}
-use Rattle.log_records.specs.declared.record.Record.TheVariants.{ChkptPages, ChkptTxns, EndChkpt}
+use Rattle.log_records.specs.declared.record.Record.TheVariants.{ChkptPages, ChkptTxns, EndChkpt, Extend}
 use Rattle.log_records.specs.Log.{IsWithin}
 use Rattle.log_records.specs.Record.{IsChange, IsLsn, IsPageChange, IsRecord, change_of, own_lsn}
 
@@ -26,6 +26,7 @@ valid_change (BeginChkpt lsn) valid = (valid, tt)
 valid_change (ChkptPages lsn begin pages) valid = (valid.0, tt)
 valid_change (ChkptTxns lsn begin txn state last undo_next) valid = (valid.0, tt)
 valid_change (EndChkpt lsn begin redo) valid = (valid.0, tt)
+valid_change (Extend lsn pages) valid = (valid.0, tt)
 
 -- what a record changes is within what it names
 pub change_within : (pages : ℕ) (r : Record) → IsWithin pages r → IfSome (change_of r) (λ c. c.page < pages)
@@ -39,3 +40,4 @@ change_within pages (BeginChkpt lsn) within = tt
 change_within pages (ChkptPages lsn begin entries) within = tt
 change_within pages (ChkptTxns lsn begin txn state last undo_next) within = tt
 change_within pages (EndChkpt lsn begin redo) within = tt
+change_within pages (Extend lsn count) within = tt

@@ -8,7 +8,7 @@ use Rattle.log_records.specs.declared.dirty_page.DirtyPages.TheVariants.{One, Tw
 use Rattle.log_records.specs.declared.fields.TheConstants.{BEGIN_CHKPT, CHKPT_PAGES, CHKPT_TXNS, END_CHKPT}
 use Rattle.log_records.specs.declared.record.Record.{Record}
 use Rattle.log_records.specs.declared.record.Record.TheVariants.{Begin, Update, Comp, Commit, Abort, End, BeginChkpt}
-use Rattle.log_records.specs.declared.record.Record.TheVariants.{ChkptPages, ChkptTxns, EndChkpt}
+use Rattle.log_records.specs.declared.record.Record.TheVariants.{ChkptPages, ChkptTxns, EndChkpt, Extend}
 use Rattle.log_records.specs.declared.txn_phase.TxnPhase.{TxnPhase}
 use Rattle.log_records.specs.declared.txn_phase.TxnPhase.TheVariants.{Active, Rolling}
 use Rattle.log_records.specs.CkptBytes.{ckpt_bytes, code_of, entry_bytes, pages_body, redo_body, txn_body}
@@ -132,6 +132,7 @@ kind_is n (Comp lsn txn prev undo_next page slot change) bs of same reads = absu
 kind_is n (Commit lsn txn prev) bs of same reads = absurd of
 kind_is n (Abort lsn txn prev) bs of same reads = absurd of
 kind_is n (End lsn txn prev) bs of same reads = absurd of
+kind_is n (Extend lsn pages) bs of same reads = absurd of
 
 -- the one answer to these bytes
 abbrev pub Answers : List ℕ → ℕ → Option Record → Type 0

@@ -8,17 +8,18 @@ use Rattle.std.specs.Option.{option_map_or}
 use Rattle.std.proofs.Math.Seq.{take-nil}
 use Rattle.std.proofs.lemmas.Bool.{cases_lt, le-ltb, lt-ltb}
 use Rattle.std.proofs.Math.Nat.{le-max_left}
-use Rattle.std.proofs.lemmas.List.{get_or-take, length-take, take-append-drop, take-append-le, take-take, take_all}
+use Rattle.std.proofs.lemmas.List.{append-nil, get_or-take, length-take, take-append-drop, take-append-le, take-take, take_all, take_more}
 use Rattle.std.proofs.lemmas.List.Sums.{fold-append, fold_push}
+use Rattle.std.proofs.lemmas.List.Elements.{filter_map-append}
 use Rattle.log_records.specs.declared.dirty_page.DirtyPage.{DirtyPage}
 use Rattle.log_records.specs.DirtyPage.{entries_of}
 use Rattle.log_records.specs.declared.record.Record.{Record}
 use Rattle.log_records.specs.declared.record.Record.TheVariants.{Begin, Update, Comp, Commit, Abort, End, BeginChkpt}
-use Rattle.log_records.specs.declared.record.Record.TheVariants.{ChkptPages, ChkptTxns, EndChkpt}
-use Rattle.log_records.specs.Log.{AreWithin, IsLog, IsPageCount, IsWithin, Log, StandsAt, counts_of, lsn_of, page_count, page_count_at}
+use Rattle.log_records.specs.declared.record.Record.TheVariants.{ChkptPages, ChkptTxns, EndChkpt, Extend}
+use Rattle.log_records.specs.Log.{AreWithin, IsLog, IsWithin, Log, StandsAt, counts_of, lsn_of, page_count, page_count_at}
 use Rattle.log_records.specs.Log.{page_count_below, with_next}
-use Rattle.log_records.specs.PageCount.{count_after, count_behind, given_by, given_count}
-use Rattle.log_records.specs.Record.{IsRecord, own_lsn}
+use Rattle.log_records.specs.PageCount.{GivesMore, count_after, count_behind, given_by, given_count}
+use Rattle.log_records.specs.Record.{IsPageCount, IsRecord, own_lsn}
 use Rattle.page_core.specs.PageCounts.{count_below, greatest, last_count}
 
 -- ---- along a list of records
@@ -64,6 +65,12 @@ count_behind-rises count rs i j le =
     subst (λ (xs : List Record). count_behind count xs ≤ count_behind count (take j rs)) (take-take i j rs le)
     (count_behind-part count (take j rs) i)
 
+-- one record more of a list
+pub count_behind-next : (count : ℕ) (rs : List Record) (i : ℕ) (d : Record) → i < length rs
+    → count_behind count (take (i + 1) rs) ≡ count_after (count_behind count (take i rs)) (get_or rs i d)
+count_behind-next count rs i d lt =
+    ap (count_behind count) (take_more rs i d lt) ∙ count_behind-push count (take i rs) (get_or rs i d)
+
 -- ---- of a log
 
 pub page_count_at-all : (log : Log) (count : ℕ) → length log.records ≤ count → page_count_at log count ≡ page_count log
@@ -98,7 +105,7 @@ page_count-push log r = count_behind-push log.pages log.records r
 
 -- ---- the counts that it gave
 
-after_given : (count : ℕ) (r : Record) (given : Option ℕ) → given_count r ≡ given
+pub after_given : (count : ℕ) (r : Record) (given : Option ℕ) → given_count r ≡ given
     → count_after count r ≡ option_map_or (max count) given count
 after_given count r given is = ap (λ g. option_map_or (max count) g count) is
 
@@ -115,6 +122,29 @@ counts_last count (r ∷ rs) = by_given (λ n. counts_last n rs) (given_count r)
 pub last_count-counts_of : (log : Log) → last_count (counts_of log) ≡ page_count log
 unfolding count_behind
 last_count-counts_of log = counts_last log.pages log.records
+
+given_next : (rs : List Record) (i : ℕ) (d : Record) → i < length rs
+    → filter_map given_by (take (i + 1) rs) ≡ filter_map given_by (take i rs) ++ filter_map given_by (get_or rs i d ∷ [])
+given_next rs i d lt =
+    ap (filter_map given_by) (take_more rs i d lt) ∙ filter_map-append given_by (take i rs) (get_or rs i d ∷ [])
+
+pub given_next-none : (rs : List Record) (i : ℕ) (d : Record) → i < length rs → given_count (get_or rs i d) ≡ None
+    → filter_map given_by (take (i + 1) rs) ≡ filter_map given_by (take i rs)
+given_next-none rs i d lt none =
+    given_next rs i d lt
+    ∙ ap (λ gs. filter_map given_by (take i rs) ++ gs)
+    (let empty : filter_map given_by (get_or rs i d ∷ []) ≡ [] = rw none refl in empty)
+    ∙ append-nil (filter_map given_by (take i rs))
+
+pub given_next-some : (rs : List Record) (i : ℕ) (d : Record) (n : ℕ) → i < length rs
+    → given_count (get_or rs i d) ≡ Some n
+    → filter_map given_by (take (i + 1) rs)
+    ≡ filter_map given_by (take i rs) ++ (record { lsn = own_lsn (get_or rs i d); pages = n }) ∷ []
+given_next-some rs i d n lt some =
+    given_next rs i d lt
+    ∙ ap (λ gs. filter_map given_by (take i rs) ++ gs)
+    (let one : filter_map given_by (get_or rs i d ∷ []) ≡ (record { lsn = own_lsn (get_or rs i d); pages = n }) ∷ [] =
+    rw some refl in one)
 
 -- the records stand side by side, the first of them behind so many others
 abbrev StandFrom : ℕ → List Record → Type 0
@@ -191,6 +221,7 @@ within_more n m le (BeginChkpt lsn) within = tt
 within_more n m le (ChkptPages lsn begin entries) within = entries_within n m le (entries_of entries) within
 within_more n m le (ChkptTxns lsn begin txn state last undo_next) within = tt
 within_more n m le (EndChkpt lsn begin redo) within = tt
+within_more n m le (Extend lsn pages) within = tt
 
 pub stands_more : (n m at : ℕ) (r : Record) → n ≤ m → StandsAt n at r → StandsAt m at r
 stands_more n m at r le stands = record {
@@ -222,6 +253,7 @@ gives_a_count (BeginChkpt lsn) valid = tt
 gives_a_count (ChkptPages lsn begin entries) valid = tt
 gives_a_count (ChkptTxns lsn begin txn state last undo_next) valid = tt
 gives_a_count (EndChkpt lsn begin redo) valid = tt
+gives_a_count (Extend lsn pages) valid = valid.1
 
 greater_is_count : (count : ℕ) (given : Option ℕ) → IsPageCount count → IfSome given IsPageCount
     → IsPageCount (option_map_or (max count) given count)
@@ -257,39 +289,17 @@ valid_cut log count valid =
           let there : i < length log.records = omega (arith, long, lt) in
           rw (get_or-take count log.records i d below, page_count_at-take log i count (omega arith))
           (valid.records i d there);
+      grows = λ i d lt.
+          let below : i < count = omega (arith, long, lt) in
+          let there : i < length log.records = omega (arith, long, lt) in
+          rw (get_or-take count log.records i d below, page_count_at-take log i count (omega arith))
+          (valid.grows i d there);
     }
 
--- ---- no kind of record gives a count so far
+-- ---- a record that gives none
 
-pub gives_none : (r : Record) → given_count r ≡ None
-gives_none (Begin lsn txn) = refl
-gives_none (Update lsn txn prev page slot change) = refl
-gives_none (Comp lsn txn prev undo_next page slot change) = refl
-gives_none (Commit lsn txn prev) = refl
-gives_none (Abort lsn txn prev) = refl
-gives_none (End lsn txn prev) = refl
-gives_none (BeginChkpt lsn) = refl
-gives_none (ChkptPages lsn begin entries) = refl
-gives_none (ChkptTxns lsn begin txn state last undo_next) = refl
-gives_none (EndChkpt lsn begin redo) = refl
+pub count_after-none : (count : ℕ) (r : Record) → given_count r ≡ None → count_after count r ≡ count
+count_after-none count r none = rw none refl
 
-pub count_stays : (count : ℕ) (r : Record) → count_after count r ≡ count
-count_stays count r = rw (gives_none r) refl
-
-pub counts_stay : (count : ℕ) (rs : List Record) → count_behind count rs ≡ count
-unfolding count_behind
-counts_stay count [] = refl
-counts_stay count (r ∷ rs) = ap (λ n. count_behind n rs) (count_stays count r) ∙ counts_stay count rs
-
-pub count_is_first : (log : Log) → page_count log ≡ log.pages
-count_is_first log = counts_stay log.pages log.records
-
-none_given : (rs : List Record) → filter_map given_by rs ≡ []
-none_given [] = refl
-none_given (r ∷ rs) = rw (gives_none r) (none_given rs)
-
-pub counts_are_first : (log : Log) → counts_of log ≡ (record { first = log.pages; given = [] })
-counts_are_first log = rw (none_given log.records) refl
-
-pub count_below_is_first : (log : Log) (lsn : ℕ) → page_count_below log lsn ≡ log.pages
-count_below_is_first log lsn = counts_stay log.pages (take ((lsn - 1) / 64) log.records)
+pub more-none : (count : ℕ) (r : Record) → given_count r ≡ None → GivesMore count r
+more-none count r none = rw none tt

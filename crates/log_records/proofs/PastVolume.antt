@@ -1,6 +1,11 @@
 -- Pages past the volume: no record of the log names them.
 use Rattle.std.proofs.Common.{◌≡◌, ℕ, zero, suc, ◌+◌, ◌<◌, ◌≤◌, eqb, Bool, true, false, length, get_or, take}
-use Rattle.std.proofs.Common.{refl, subst, ◌∙◌, arith, eqb-true}
+use Rattle.std.proofs.Common.{refl, sym, ap, subst, ◌∙◌, arith, eqb-true, inl, inr, List, ◌-◌, ◌++◌, map}
+use Rattle.std.specs.List.{range_with_len}
+use Rattle.std.proofs.lemmas.Bool.{cases_lt}
+use Rattle.std.proofs.lemmas.List.{get_or_append_left, get_or-append_right, length-append, same_lists, take_all}
+use Rattle.std.proofs.lemmas.List.FromFn.{get_or-map-range_with_len, length-map-range_with_len}
+use Rattle.page_core.specs.Volume.{grown_to}
 use Rattle.std.specs.Prelude.{Option, Some, None, IfSome}
 use Rattle.std.specs.Option.{option_map_or}
 use Rattle.page_core.specs.declared.page.Page.{Page}
@@ -9,7 +14,7 @@ use Rattle.log_records.specs.declared.page_change.PageChange.{PageChange}
 use Rattle.log_records.specs.declared.record.Record.{Record}
 use Rattle.log_records.specs.declared.record.Record.TheVariants.{Begin}
 use Rattle.log_records.specs.Coverage.{IsPast, changes}
-use Rattle.log_records.specs.Image.{image}
+use Rattle.log_records.specs.Image.{image, redo_all}
 use Rattle.log_records.specs.Log.{IsLog, Log, page_count}
 use Rattle.log_records.specs.Record.{change_of}
 use Rattle.log_records.proofs.Changes.{change_within}
@@ -47,3 +52,38 @@ pub past_is_formatted : (log : Log) (p : ℕ) (page : Page) → IsLog log → pa
     → page ≡ formatted p
 past_is_formatted log p page valid past_end past =
     past.made ∙ formatted_past log p past.count valid past_end past.within
+
+pub image_past : (log : Log) (p : ℕ) → IsLog log → page_count log ≤ p → image log.records p ≡ formatted p
+image_past log p valid past_end =
+    ap (λ (rs : List Record). image rs p) (sym (take_all (length log.records) log.records (omega arith)))
+    ∙ formatted_past log p (length log.records) valid past_end (omega arith)
+
+-- the volume that a log makes, grown, is the one that it makes of more pages
+pub redo_all-grown : (log : Log) (count : ℕ) → IsLog log → page_count log ≤ count
+    → grown_to count (redo_all log.records (page_count log)) ≡ redo_all log.records count
+redo_all-grown log count valid le =
+    let n = page_count log in
+    let rs = log.records in
+    let pages = redo_all rs n in
+    let long : length pages ≡ n = length-map-range_with_len (image rs) 0 n in
+    let added = map formatted (range_with_len (length pages) (count - length pages)) in
+    let more : length added ≡ count - length pages =
+    length-map-range_with_len formatted (length pages) (count - length pages) in
+    let all : length (redo_all rs count) ≡ count = length-map-range_with_len (image rs) 0 count in
+    same_lists (pages ++ added) (redo_all rs count) (omega (arith, length-append pages added, long, more, all)) (λ k d lt.
+    let below : k < count = omega (arith, length-append pages added, long, more, lt) in
+    let there : get_or (redo_all rs count) k d ≡ image rs k =
+    get_or-map-range_with_len (image rs) 0 count k k d below (omega arith) in
+    elim (cases_lt k n) [
+      | inl less ↦
+          let short : k < length pages = omega (arith, long, less) in
+          get_or_append_left pages added d k short
+          ∙ get_or-map-range_with_len (image rs) 0 n k k d less (omega arith) ∙ sym there
+      | inr past ↦
+          let behind : length pages ≤ k = omega (arith, long, past) in
+          let left : k - length pages < count - length pages = omega (arith, long, below, past) in
+          get_or-append_right pages added (length pages) k d refl behind
+          ∙ get_or-map-range_with_len formatted (length pages) (count - length pages) (k - length pages) k d left
+          (omega arith)
+          ∙ sym (image_past log k valid past) ∙ sym there
+    ])

@@ -11,9 +11,9 @@ use Rattle.page_core.specs.declared.change.Change.TheVariants.{Set, Add}
 use Rattle.log_records.specs.declared.page_change.PageChange.{PageChange}
 use Rattle.log_records.specs.declared.record.Record.{Record}
 use Rattle.log_records.specs.declared.record.Record.TheVariants.{Begin, Update, Comp, Commit, Abort, End, BeginChkpt}
-use Rattle.log_records.specs.declared.record.Record.TheVariants.{ChkptPages, ChkptTxns, EndChkpt}
+use Rattle.log_records.specs.declared.record.Record.TheVariants.{ChkptPages, ChkptTxns, EndChkpt, Extend}
 use Rattle.log_records.specs.declared.fields.Fields.{Fields}
-use Rattle.log_records.specs.declared.fields.TheConstants.{ABORT, BEGIN, COMMIT, COMP, END, SET, UPDATE}
+use Rattle.log_records.specs.declared.fields.TheConstants.{ABORT, BEGIN, COMMIT, COMP, END, EXTEND, SET, UPDATE}
 use Rattle.log_records.specs.declared.fields.TheConstants.{BEGIN_CHKPT, CHKPT_PAGES, CHKPT_TXNS, END_CHKPT}
 use Rattle.log_records.specs.declared.ckpt_codec.TheConstants.{ACTIVE}
 use Rattle.log_records.specs.declared.dirty_page.DirtyPage.{DirtyPage}
@@ -24,7 +24,8 @@ use Rattle.log_records.specs.declared.txn_phase.TxnPhase.TheVariants.{Active, Ro
 use Rattle.log_records.specs.CkptBytes.{ckpt_bytes, code_of, entry_bytes, no_body, pages_body, redo_body, txn_body}
 use Rattle.log_records.specs.Fields.{AreInRange, fields_bytes, fields_of, fields_of_change, no_fields}
 use Rattle.log_records.proofs.Changes.{valid_change}
-use Rattle.log_records.specs.Record.{IsChange, IsDirtyPage, IsLsn, IsOfCheckpoint, IsOfTransaction, IsPageChange}
+use Rattle.log_records.specs.Record.{IsChange, IsDirtyPage, IsLsn, IsOfCheckpoint, IsPageChange}
+use Rattle.log_records.specs.Fields.{HasFields}
 use Rattle.log_records.specs.Record.{IsRecord, IsTxn, own_lsn, record_bytes}
 
 -- ---- they fit their bytes
@@ -135,6 +136,19 @@ in_range (BeginChkpt lsn) valid = none_in_range
 in_range (ChkptPages lsn begin pages) valid = none_in_range
 in_range (ChkptTxns lsn begin txn state last undo_next) valid = none_in_range
 in_range (EndChkpt lsn begin redo) valid = none_in_range
+in_range (Extend lsn pages) valid = record {
+  kind = lit< tt;
+  txn = lit< tt;
+  prev = lit< tt;
+  undo_next = lit< tt;
+  page = omega (arith, valid.1.most);
+  slot = lit< tt;
+  change = lit< tt;
+  before = lit< tt;
+  after = lit< tt;
+  spare = lit< tt;
+  lsn = valid.0.fits;
+}
 
 pub record_length : HaveLength record_bytes 64
 unfolding fields_bytes ckpt_bytes no_body pages_body entry_bytes txn_body redo_body
@@ -153,6 +167,7 @@ record_length = record { each = long }
     long (ChkptPages lsn begin (Three a b c)) = refl
     long (ChkptTxns lsn begin txn state last undo_next) = refl
     long (EndChkpt lsn begin redo) = refl
+    long (Extend lsn pages) = refl
 
 -- ---- two records with the same bytes are one
 
@@ -208,14 +223,15 @@ record_from f =
     else (if f.kind == COMP then Comp f.lsn f.txn f.prev f.undo_next f.page f.slot (change_from f)
     else (if f.kind == COMMIT then Commit f.lsn f.txn f.prev
     else (if f.kind == ABORT then Abort f.lsn f.txn f.prev
-    else End f.lsn f.txn f.prev))))
+    else (if f.kind == EXTEND then Extend f.lsn f.page
+    else End f.lsn f.txn f.prev)))))
 
 change_again : (change : Change) → change_from (fields_of_change change) ≡ change
 unfolding change_from
 change_again (Set before after) = refl
 change_again (Add amount) = refl
 
-record_again : (r : Record) → IsOfTransaction r → record_from (fields_of r) ≡ r
+record_again : (r : Record) → HasFields r → record_from (fields_of r) ≡ r
 unfolding record_from change_from
 record_again (Begin lsn txn) of = refl
 record_again (Update lsn txn prev page slot change) of = ap (Update lsn txn prev page slot) (change_again change)
@@ -228,6 +244,7 @@ record_again (BeginChkpt lsn) of = absurd of
 record_again (ChkptPages lsn begin pages) of = absurd of
 record_again (ChkptTxns lsn begin txn state last undo_next) of = absurd of
 record_again (EndChkpt lsn begin redo) of = absurd of
+record_again (Extend lsn pages) of = refl
 
 -- the dirty pages in these bytes
 abbrev entry_from : ℕ → ℕ → DirtyPage
@@ -262,7 +279,7 @@ record_in bytes =
     else (if num32 bytes 0 4 == END_CHKPT then EndChkpt (num64 bytes 56 64) (num64 bytes 8 16) (num64 bytes 24 32)
     else record_from (fields_in bytes))))
 
-of_fields : (r : Record) → IsOfTransaction r → IsRecord r → record_from (fields_in (fields_bytes (fields_of r))) ≡ r
+of_fields : (r : Record) → HasFields r → IsRecord r → record_from (fields_in (fields_bytes (fields_of r))) ≡ r
 of_fields r of valid = ap record_from (fields_again (fields_of r) (in_range r valid)) ∙ record_again r of
 
 state_again : (state : TxnPhase)
@@ -280,6 +297,7 @@ read_again (Comp lsn txn prev undo_next page slot change) valid =
 read_again (Commit lsn txn prev) valid = of_fields (Commit lsn txn prev) tt valid
 read_again (Abort lsn txn prev) valid = of_fields (Abort lsn txn prev) tt valid
 read_again (End lsn txn prev) valid = of_fields (End lsn txn prev) tt valid
+read_again (Extend lsn pages) valid = of_fields (Extend lsn pages) tt valid
 read_again (BeginChkpt lsn) valid = ap BeginChkpt (from_le_bytes-to_le_bytes_8 lsn valid.fits)
 read_again (ChkptPages lsn begin (One a)) valid =
     rw (
@@ -333,6 +351,7 @@ own_at (ChkptPages lsn begin (Two a b)) = refl
 own_at (ChkptPages lsn begin (Three a b c)) = refl
 own_at (ChkptTxns lsn begin txn state last undo_next) = refl
 own_at (EndChkpt lsn begin redo) = refl
+own_at (Extend lsn pages) = refl
 
 -- the last number in a record's bytes is its LSN
 pub lsn_is : (r : Record) (f : Fields) → IsRecord r → f.lsn < 2 ^ 64 → fields_bytes f ≡ record_bytes r
@@ -343,25 +362,27 @@ lsn_is r f valid fits same =
     ∙ ap (λ (bs : List ℕ). from_le_bytes w64 (slice_range bs 56 64)) same ∙ ap (from_le_bytes w64) (own_at r)
     ∙ from_le_bytes-to_le_bytes_8 (own_lsn r) (let change = valid_change r valid in change.0.fits)
 
--- a transaction's record is the bytes of its numbers
-pub of_transaction : (r : Record) → IsOfTransaction r → record_bytes r ≡ fields_bytes (fields_of r)
-of_transaction (Begin lsn txn) of = refl
-of_transaction (Update lsn txn prev page slot change) of = refl
-of_transaction (Comp lsn txn prev undo_next page slot change) of = refl
-of_transaction (Commit lsn txn prev) of = refl
-of_transaction (Abort lsn txn prev) of = refl
-of_transaction (End lsn txn prev) of = refl
-of_transaction (BeginChkpt lsn) of = absurd of
-of_transaction (ChkptPages lsn begin pages) of = absurd of
-of_transaction (ChkptTxns lsn begin txn state last undo_next) of = absurd of
-of_transaction (EndChkpt lsn begin redo) of = absurd of
+-- a record that its numbers tell is their bytes
+pub of_fields_alone : (r : Record) → HasFields r → record_bytes r ≡ fields_bytes (fields_of r)
+of_fields_alone (Begin lsn txn) of = refl
+of_fields_alone (Update lsn txn prev page slot change) of = refl
+of_fields_alone (Comp lsn txn prev undo_next page slot change) of = refl
+of_fields_alone (Commit lsn txn prev) of = refl
+of_fields_alone (Abort lsn txn prev) of = refl
+of_fields_alone (End lsn txn prev) of = refl
+of_fields_alone (BeginChkpt lsn) of = absurd of
+of_fields_alone (ChkptPages lsn begin pages) of = absurd of
+of_fields_alone (ChkptTxns lsn begin txn state last undo_next) of = absurd of
+of_fields_alone (EndChkpt lsn begin redo) of = absurd of
+of_fields_alone (Extend lsn pages) of = refl
 
 -- a record is one or the other
-pub of_either : (r : Record) → IsOfTransaction r ⊎ IsOfCheckpoint r
+pub of_either : (r : Record) → HasFields r ⊎ IsOfCheckpoint r
 of_either (BeginChkpt lsn) = inr tt
 of_either (ChkptPages lsn begin pages) = inr tt
 of_either (ChkptTxns lsn begin txn state last undo_next) = inr tt
 of_either (EndChkpt lsn begin redo) = inr tt
+of_either (Extend lsn pages) = inl tt
 of_either (Begin lsn txn) = inl tt
 of_either (Update lsn txn prev page slot change) = inl tt
 of_either (Comp lsn txn prev undo_next page slot change) = inl tt

@@ -6,10 +6,10 @@ use Rattle.page_core.specs.declared.change.Change.TheVariants.{Set, Add}
 use Rattle.log_records.specs.declared.record.Record.{Record}
 use Rattle.log_records.specs.declared.record.Record.TheVariants.{Begin, Update, Comp, Commit, Abort}
 use Rattle.log_records.specs.declared.record.Record.TheVariants.{End, BeginChkpt, ChkptPages}
-use Rattle.log_records.specs.declared.record.Record.TheVariants.{ChkptTxns, EndChkpt}
+use Rattle.log_records.specs.declared.record.Record.TheVariants.{ChkptTxns, EndChkpt, Extend}
 use Rattle.log_records.specs.declared.fields.Fields.{Fields}
 use Rattle.log_records.specs.declared.fields.TheConstants.{ABORT, ADD, BEGIN, COMMIT, COMP, END}
-use Rattle.log_records.specs.declared.fields.TheConstants.{SET, UPDATE}
+use Rattle.log_records.specs.declared.fields.TheConstants.{EXTEND, SET, UPDATE}
 
 -- each number with its lowest byte first, one after another: 64 bytes
 unfoldable pub fields_bytes : Fields → List ℕ
@@ -66,8 +66,8 @@ fields_of_step kind txn prev lsn = record no_fields {
       lsn;
 }
 
--- the numbers of a transaction's record; what a kind does not have is 0. A checkpoint's record has
--- none of them
+-- the numbers of a transaction's record, or of an Extend; what a kind does not have is 0. A
+-- checkpoint's record has none of them
 abbrev pub fields_of : Record → Fields
 fields_of (Begin lsn txn) = fields_of_step BEGIN txn 0 lsn
 fields_of (Update lsn txn prev page slot change) = record (fields_of_change change) {
@@ -94,3 +94,18 @@ fields_of (BeginChkpt lsn) = no_fields
 fields_of (ChkptPages lsn begin pages) = no_fields
 fields_of (ChkptTxns lsn begin txn state last undo_next) = no_fields
 fields_of (EndChkpt lsn begin redo) = no_fields
+fields_of (Extend lsn pages) = record no_fields { kind = EXTEND; page = pages; lsn = lsn }
+
+-- a record that these numbers tell: a transaction's, or an Extend
+abbrev pub HasFields : Record → Type 0
+HasFields (Begin lsn txn) = Unit {0}
+HasFields (Update lsn txn prev page slot change) = Unit {0}
+HasFields (Comp lsn txn prev undo_next page slot change) = Unit {0}
+HasFields (Commit lsn txn prev) = Unit {0}
+HasFields (Abort lsn txn prev) = Unit {0}
+HasFields (End lsn txn prev) = Unit {0}
+HasFields (Extend lsn pages) = Unit {0}
+HasFields (BeginChkpt lsn) = ⊥
+HasFields (ChkptPages lsn begin pages) = ⊥
+HasFields (ChkptTxns lsn begin txn state last undo_next) = ⊥
+HasFields (EndChkpt lsn begin redo) = ⊥

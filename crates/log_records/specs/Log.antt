@@ -1,22 +1,23 @@
 -- A whole log, and its bytes.
 use Rattle.std.specs.Prelude.{ℕ, ◌≡◌, ◌+◌, ◌-◌, ◌*◌, ◌/◌, ◌<◌, ◌≤◌, List, length, ◌++◌}
-use Rattle.std.specs.Prelude.{[], ◌∷◌, slice_index_or, take, replicate, codes, slice_range}
+use Rattle.std.specs.Prelude.{[], ◌∷◌, ◌==◌, if◌then◌else◌, slice_index_or, take, replicate, codes, slice_range}
 use Rattle.std.specs.List.{AllByRecursion, filter_map, flat_map}
 use Rattle.std.specs.Int.{w32, to_le_bytes, from_le_bytes}
 use Rattle.log_records.specs.declared.record.Record.{Record}
 use Rattle.log_records.specs.declared.record.Record.TheVariants.{Begin, Update, Comp, Commit, Abort}
 use Rattle.log_records.specs.declared.record.Record.TheVariants.{End, BeginChkpt, ChkptPages}
-use Rattle.log_records.specs.declared.record.Record.TheVariants.{ChkptTxns, EndChkpt}
+use Rattle.log_records.specs.declared.record.Record.TheVariants.{ChkptTxns, EndChkpt, Extend}
 use Rattle.log_records.specs.DirtyPage.{entries_of}
 use Rattle.page_core.specs.declared.numbers.TheConstants.{LSN_STEP}
 use Rattle.page_core.specs.declared.page.TheConstants.{MAX_PAGES}
 use Rattle.page_core.specs.PageCounts.{PageCounts}
 use Rattle.page_core.specs.declared.format.Format.{Format}
-use Rattle.page_core.specs.declared.format.Format.TheVariants.{Second}
+use Rattle.page_core.specs.declared.format.Format.TheVariants.{First, Second}
 use Rattle.page_core.specs.Format.{digit_of}
 use Rattle.log_records.specs.declared.limits.TheConstants.{HEADER_BYTES, MAX_RECORDS}
-use Rattle.log_records.specs.PageCount.{count_behind, given_by}
+use Rattle.log_records.specs.PageCount.{GivesMore, count_behind, given_by}
 use Rattle.log_records.specs.Record.{IsRecord, own_lsn, record_bytes}
+pub use Rattle.log_records.specs.Record.{IsPageCount}
 
 -- the page count that the header gives, and the records, the oldest first
 pub record Log : Type 0 where
@@ -60,6 +61,7 @@ IsWithin pages (ChkptPages lsn begin entries) =
     AllByRecursion (λ e. e.page < pages) (entries_of entries)
 IsWithin pages (ChkptTxns lsn begin txn state last undo_next) = Unit {0}
 IsWithin pages (EndChkpt lsn begin redo) = Unit {0}
+IsWithin pages (Extend lsn count) = Unit {0}
 
 -- and so do all of these
 abbrev pub AreWithin : ℕ → List Record → Type 0
@@ -71,17 +73,19 @@ pub record StandsAt (pages at : ℕ) (r : Record) : Type 0 where
   pub valid : IsRecord r
   pub within : IsWithin pages r
 
-pub record IsPageCount (pages : ℕ) : Type 0 where
-  pub least : 1 ≤ pages
-  pub most : pages ≤ MAX_PAGES
-
 -- a log that has a spelling: each record stands at its place, and names no page past the page count
--- that the records before it leave
+-- that the records before it leave; one that gives a page count gives a greater one
 pub record IsLog (log : Log) : Type 0 where
   pub pages : IsPageCount log.pages
   pub count : length log.records ≤ MAX_RECORDS
   pub records : (i : ℕ) (d : Record) → i < length log.records
       → StandsAt (page_count_at log i) (lsn_of i) (slice_index_or log.records i d)
+  pub grows : (i : ℕ) (d : Record) → i < length log.records
+      → GivesMore (page_count_at log i) (slice_index_or log.records i d)
+
+-- the format that the bytes of a log name
+abbrev pub format_in : List ℕ → Format
+format_in bytes = if slice_index_or bytes 7 0 == digit_of First then First else Second
 
 -- the text in front of a log: AIMGLOG1 or AIMGLOG2
 abbrev pub magic_of : Format → List ℕ
@@ -106,15 +110,33 @@ bytes_in format log = header_in format log.pages ++ flat_map record_bytes log.re
 abbrev pub log_bytes : Log → List ℕ
 log_bytes log = bytes_in Second log
 
+-- a record that a log of this format may have: one of the first format has no Extend
+abbrev pub IsOfFormat : Format → Record → Type 0
+IsOfFormat Second r = Unit {0}
+IsOfFormat First (Begin lsn txn) = Unit {0}
+IsOfFormat First (Update lsn txn prev page slot change) = Unit {0}
+IsOfFormat First (Comp lsn txn prev undo_next page slot change) = Unit {0}
+IsOfFormat First (Commit lsn txn prev) = Unit {0}
+IsOfFormat First (Abort lsn txn prev) = Unit {0}
+IsOfFormat First (End lsn txn prev) = Unit {0}
+IsOfFormat First (BeginChkpt lsn) = Unit {0}
+IsOfFormat First (ChkptPages lsn begin entries) = Unit {0}
+IsOfFormat First (ChkptTxns lsn begin txn state last undo_next) = Unit {0}
+IsOfFormat First (EndChkpt lsn begin redo) = Unit {0}
+IsOfFormat First (Extend lsn pages) = ⊥
+
+abbrev pub AreOfFormat : Format → List Record → Type 0
+AreOfFormat format rs =
+    (i : ℕ) (d : Record) → i < length rs → IsOfFormat format (slice_index_or rs i d)
+
 -- the bytes are the spelling of the log in one of the formats
 pub record SpellsLog (log : Log) (bytes : List ℕ) : Type 0 where
   pub valid : IsLog log
   pub format : Format
+  pub of_format : AreOfFormat format log.records
   pub spelled : bytes ≡ bytes_in format log
 
--- the bytes begin with the header of a log of so many pages
-pub record HasHeader (pages : ℕ) (bytes : List ℕ) : Type 0 where
+-- the bytes begin with the header of a log of this format and of so many pages
+pub record HasHeader (format : Format) (pages : ℕ) (bytes : List ℕ) : Type 0 where
   pub count : IsPageCount pages
-  pub long : HEADER_BYTES ≤ length bytes
-  pub format : Format
   pub spelled : take HEADER_BYTES bytes ≡ header_in format pages

@@ -9,7 +9,7 @@ use Rattle.log_records.specs.declared.page_change.PageChange.{PageChange}
 use Rattle.log_records.specs.declared.record.Record.{Record}
 use Rattle.log_records.specs.declared.record.Record.TheVariants.{Begin, Update, Comp, Commit, Abort}
 use Rattle.log_records.specs.declared.record.Record.TheVariants.{End, BeginChkpt, ChkptPages}
-use Rattle.log_records.specs.declared.record.Record.TheVariants.{ChkptTxns, EndChkpt}
+use Rattle.log_records.specs.declared.record.Record.TheVariants.{ChkptTxns, EndChkpt, Extend}
 use Rattle.log_records.specs.declared.dirty_page.DirtyPage.{DirtyPage}
 use Rattle.log_records.specs.declared.dirty_page.DirtyPages.{DirtyPages}
 use Rattle.log_records.specs.declared.dirty_page.DirtyPages.TheVariants.{One, Two, Three}
@@ -34,6 +34,11 @@ pub record IsLsn (lsn : ℕ) : Type 0 where
 pub record IsBefore (at lsn : ℕ) : Type 0 where
   pub place : IsLsn lsn
   pub earlier : lsn < at
+
+-- a page count that a volume may have
+pub record IsPageCount (pages : ℕ) : Type 0 where
+  pub least : 1 ≤ pages
+  pub most : pages ≤ MAX_PAGES
 
 -- the numbers of a change
 abbrev pub IsChange : Change → Type 0
@@ -76,6 +81,7 @@ own_lsn (BeginChkpt lsn) = lsn
 own_lsn (ChkptPages lsn begin pages) = lsn
 own_lsn (ChkptTxns lsn begin txn state last undo_next) = lsn
 own_lsn (EndChkpt lsn begin redo) = lsn
+own_lsn (Extend lsn pages) = lsn
 
 -- a record of a checkpoint
 abbrev pub IsOfCheckpoint : Record → Type 0
@@ -89,6 +95,7 @@ IsOfCheckpoint (Comp lsn txn prev undo_next page slot change) = ⊥
 IsOfCheckpoint (Commit lsn txn prev) = ⊥
 IsOfCheckpoint (Abort lsn txn prev) = ⊥
 IsOfCheckpoint (End lsn txn prev) = ⊥
+IsOfCheckpoint (Extend lsn pages) = ⊥
 
 -- a record of a transaction
 abbrev pub IsOfTransaction : Record → Type 0
@@ -102,6 +109,7 @@ IsOfTransaction (BeginChkpt lsn) = ⊥
 IsOfTransaction (ChkptPages lsn begin pages) = ⊥
 IsOfTransaction (ChkptTxns lsn begin txn state last undo_next) = ⊥
 IsOfTransaction (EndChkpt lsn begin redo) = ⊥
+IsOfTransaction (Extend lsn pages) = ⊥
 
 -- the change that redo makes of a record, if it makes one
 abbrev pub change_of : Record → Option PageChange
@@ -117,6 +125,7 @@ change_of (BeginChkpt lsn) = None
 change_of (ChkptPages lsn begin pages) = None
 change_of (ChkptTxns lsn begin txn state last undo_next) = None
 change_of (EndChkpt lsn begin redo) = None
+change_of (Extend lsn pages) = None
 
 -- a record that a log may have: only such a record has a spelling
 abbrev pub IsRecord : Record → Type 0
@@ -136,6 +145,7 @@ IsRecord (ChkptPages lsn begin pages) = IsLsn lsn × IsBefore lsn begin × AreDi
 IsRecord (ChkptTxns lsn begin txn state last undo_next) =
     IsLsn lsn × IsBefore lsn begin × IsTxn txn × IsBefore lsn last × IsBefore lsn undo_next
 IsRecord (EndChkpt lsn begin redo) = IsLsn lsn × IsBefore lsn begin × IsBefore lsn redo
+IsRecord (Extend lsn pages) = IsLsn lsn × IsPageCount pages
 
 -- the 64 bytes of a record
 abbrev pub record_bytes : Record → List ℕ
@@ -152,6 +162,7 @@ record_bytes (ChkptPages lsn begin pages) = ckpt_bytes CHKPT_PAGES begin (pages_
 record_bytes (ChkptTxns lsn begin txn state last undo_next) =
     ckpt_bytes CHKPT_TXNS begin (txn_body txn (code_of state) last undo_next) lsn
 record_bytes (EndChkpt lsn begin redo) = ckpt_bytes END_CHKPT begin (redo_body redo) lsn
+record_bytes (Extend lsn pages) = fields_bytes (fields_of (Extend lsn pages))
 
 -- the bytes are the one spelling of the record
 pub record SpellsRecord (r : Record) (bytes : List ℕ) : Type 0 where

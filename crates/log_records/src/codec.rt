@@ -4,17 +4,17 @@ ghost use Rattle.std.specs.Prelude.{◌≡◌, ◌↔◌, IfSome, Some, IsTrue};
 ghost use Rattle.log_records.specs.declared.record.Record.{Record};
 ghost use Rattle.page_core.specs.declared.change.Change.TheVariants.{Add, Set};
 ghost use Rattle.log_records.specs.declared.record.Record.TheVariants.{Comp, Update};
-ghost use Rattle.log_records.specs.Fields.{fields_of};
+ghost use Rattle.log_records.specs.Fields.{HasFields, fields_of};
 ghost use Rattle.log_records.specs.Record.{HasNoBefore, IsBefore, IsLsn, IsPageChange, IsRecord};
 ghost use Rattle.log_records.specs.Record.{AreDirtyPages, IsDirtyPage, IsOfCheckpoint};
-ghost use Rattle.log_records.specs.Record.{IsOfTransaction, IsTxn};
+ghost use Rattle.log_records.specs.Record.{IsPageCount, IsTxn};
 ghost use Rattle.log_records.specs.Record.{SpellsRecord, own_lsn, record_bytes};
 
 use crate::ckpt_codec::{begin_bytes, code, end_bytes, pages_bytes, pages_in, phase_of, txn_bytes};
 use crate::dirty_page::{DirtyPage, DirtyPages};
 use crate::fields::{
-    ABORT, ADD, BEGIN, BEGIN_CHKPT, CHKPT_PAGES, CHKPT_TXNS, COMMIT, COMP, END, END_CHKPT, Fields,
-    SET, UPDATE,
+    ABORT, ADD, BEGIN, BEGIN_CHKPT, CHKPT_PAGES, CHKPT_TXNS, COMMIT, COMP, END, END_CHKPT, EXTEND,
+    Fields, SET, UPDATE,
 };
 use crate::limits::{HEADER_BYTES, RECORD_BYTES};
 use crate::page_change::PageChange;
@@ -43,7 +43,8 @@ pub fn encode(record: &Record) -> [u8; RECORD_BYTES]
         | Record::Comp { .. }
         | Record::Commit { .. }
         | Record::Abort { .. }
-        | Record::End { .. } => Fields::of(record).write(),
+        | Record::End { .. }
+        | Record::Extend { .. } => Fields::of(record).write(),
     }
 }
 
@@ -124,12 +125,11 @@ fn is_same(a: &[u8; RECORD_BYTES], b: &[u8; RECORD_BYTES]) -> bool
     a == b
 }
 
-/// The record of a transaction that has these numbers, if one does.
+/// The record of a transaction, or the Extend, that has these numbers, if one does.
 #[inline(always)]
 fn record_of(fields: &Fields) -> Option<Record>
-    ensures found { IfSome result (λ r. IsOfTransaction r × IsRecord r
-        × (fields_of r ≡ fields.now)) }
-    ensures only { (r : Record) → IsOfTransaction r → IsRecord r → fields_of r ≡ fields.now
+    ensures found { IfSome result (λ r. HasFields r × IsRecord r × (fields_of r ≡ fields.now)) }
+    ensures only { (r : Record) → HasFields r → IsRecord r → fields_of r ≡ fields.now
         → result ≡ Some r }
 {
     let lsn = Lsn(fields.lsn);
@@ -144,6 +144,10 @@ fn record_of(fields: &Fields) -> Option<Record>
         (COMMIT, _) => if_spelled(Record::Commit { lsn, txn, prev }, fields),
         (ABORT, _) => if_spelled(Record::Abort { lsn, txn, prev }, fields),
         (END, _) => if_spelled(Record::End { lsn, txn, prev }, fields),
+        (EXTEND, _) => {
+            let pages = fields.page;
+            if_spelled(Record::Extend { lsn, pages }, fields)
+        }
         _ => None,
     }
 }
@@ -271,6 +275,7 @@ fn is_record(record: &Record) -> bool
         Record::EndChkpt { lsn, begin, redo } => {
             is_lsn(lsn) && is_before(lsn, begin) && is_before(lsn, redo)
         }
+        Record::Extend { lsn, pages } => is_lsn(lsn) && is_page_count(pages),
     }
 }
 
@@ -309,6 +314,13 @@ fn is_lsn(lsn: Lsn) -> bool
     ensures { IsTrue result ↔ IsLsn lsn }
 {
     lsn.0 >= HEADER_BYTES as u64 && lsn.0 % LSN_STEP == 0
+}
+
+/// Whether a volume may have so many pages.
+pub(crate) fn is_page_count(pages: u32) -> bool
+    ensures { IsTrue result ↔ IsPageCount pages }
+{
+    1 <= pages && pages <= MAX_PAGES
 }
 
 fn is_before(at: Lsn, lsn: Lsn) -> bool

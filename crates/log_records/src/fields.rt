@@ -8,7 +8,7 @@ use crate::record::Record;
 use page_core::field::{u16_at, u32_at, u64_at};
 use page_core::{Change, Lsn, TxnNo};
 
-/// The numbers of a transaction's record in the order of its bytes. A field that a kind does not
+/// The numbers of a transaction's record in the order of its bytes, or of an Extend. A field that a kind does not
 /// have is 0. Where a byte is followed by bytes that are always 0, the byte and these are one
 /// number.
 #[derive(Clone, Copy, PartialEq, Eq)]
@@ -55,6 +55,9 @@ pub const CHKPT_TXNS: u32 = 9;
 
 /// The kind of an EndChkpt.
 pub const END_CHKPT: u32 = 10;
+
+/// The kind of an Extend.
+pub const EXTEND: u32 = 11;
 
 /// The kind of a change that is a Set.
 pub const SET: u16 = 1;
@@ -121,7 +124,8 @@ impl Fields {
         bytes
     }
 
-    /// The numbers of a transaction's record; a checkpoint's record has none of them.
+    /// The numbers of a transaction's record, or of an Extend, whose page count stands where the
+    /// others name a page; a checkpoint's record has none of them.
     pub fn of(record: &Record) -> Fields
         ensures { result ≡ fields_of «record».now }
     {
@@ -169,6 +173,12 @@ impl Fields {
             | Record::ChkptPages { .. }
             | Record::ChkptTxns { .. }
             | Record::EndChkpt { .. } => NO_FIELDS,
+            Record::Extend { pages, .. } => Fields {
+                kind: EXTEND,
+                page: pages,
+                lsn,
+                ..NO_FIELDS
+            },
         }
     }
 

@@ -1,12 +1,13 @@
 //! The header of a log, which names its format and the page count of its volume.
 
-ghost use Rattle.std.specs.Prelude.{ℕ, ◌≡◌, ◌↔◌, take, IfSome, Some, IsTrue};
-ghost use Rattle.log_records.specs.Log.{HasHeader, IsPageCount, header_bytes, header_in};
+ghost use Rattle.std.specs.Prelude.{ℕ, ◌≡◌, ◌↔◌, IfSome, Some, IsTrue};
+ghost use Rattle.log_records.specs.Log.{HasHeader, header_bytes, header_in};
 ghost use Rattle.page_core.specs.declared.format.Format.{Format};
 
+use crate::codec::is_page_count;
 use crate::limits::HEADER_BYTES;
 use page_core::field::u32_at;
-use page_core::{Format, MAX_PAGES};
+use page_core::Format;
 
 /// The header of a new log of so many pages: 64 bytes, of the second format. With a count of 0 or
 /// above 65,536 no reader takes it for one.
@@ -26,36 +27,45 @@ fn header_in(format: Format, pages: u32) -> [u8; HEADER_BYTES]
     bytes
 }
 
-/// The page count of the header in front of these bytes, if there is one, of either format.
-pub fn page_count(bytes: &[u8]) -> Option<u32>
-    ensures found { IfSome result (λ pages. HasHeader pages bytes.now) }
-    ensures only { (format : Format) (pages : ℕ) → IsPageCount pages
-        → take HEADER_BYTES bytes.now ≡ header_in format pages → result ≡ Some pages }
+/// What the header of a log says.
+#[derive(Clone, Copy)]
+pub struct LogHeader {
+    pub format: Format,
+    /// How many pages the volume had when the log began.
+    pub pages: u32,
+}
+
+/// The header in front of these bytes, if there is one, of either format.
+pub fn log_header(bytes: &[u8]) -> Option<LogHeader>
+    ensures found { IfSome result (λ h. HasHeader h.format h.pages bytes.now) }
+    ensures only { (format : Format) (pages : ℕ) → HasHeader format pages bytes.now
+        → result ≡ Some (record { format = format; pages = pages }) }
 {
     if bytes.len() < HEADER_BYTES {
         return None;
     }
     let header = &bytes[..HEADER_BYTES];
     let pages = u32_at(header, 8);
-    if is_page_count(pages) && is_header(header, pages) {
-        Some(pages)
+    let format = format_of(header, pages)?;
+    if is_page_count(pages) {
+        Some(LogHeader { format, pages })
     } else {
         None
     }
 }
 
-fn is_page_count(pages: u32) -> bool
-    ensures { IsTrue result ↔ IsPageCount pages }
+/// The format in which these bytes are the header of a log of so many pages, if they are one.
+fn format_of(bytes: &[u8], pages: u32) -> Option<Format>
+    ensures found { IfSome result (λ format. bytes.now ≡ header_in format pages) }
+    ensures only { (format : Format) → bytes.now ≡ header_in format pages → result ≡ Some format }
 {
-    1 <= pages && pages <= MAX_PAGES
-}
-
-/// Whether the bytes are the header of a log of so many pages, in one of the formats.
-fn is_header(bytes: &[u8], pages: u32) -> bool
-    ensures { IsTrue result ↔ (format : Format) × (bytes.now ≡ header_in format pages) }
-{
-    is_same(bytes, &header_in(Format::Second, pages))
-        || is_same(bytes, &header_in(Format::First, pages))
+    if is_same(bytes, &header_in(Format::Second, pages)) {
+        Some(Format::Second)
+    } else if is_same(bytes, &header_in(Format::First, pages)) {
+        Some(Format::First)
+    } else {
+        None
+    }
 }
 
 fn is_same(a: &[u8], b: &[u8]) -> bool

@@ -7,8 +7,8 @@ ghost use Rattle.log_records.specs.Log.{Log, SpellsLog};
 
 use crate::ckpt_codec::{ACTIVE, ROLLING};
 use crate::fields::{
-    ABORT, ADD, BEGIN, BEGIN_CHKPT, CHKPT_PAGES, CHKPT_TXNS, COMMIT, COMP, END, END_CHKPT, SET,
-    UPDATE,
+    ABORT, ADD, BEGIN, BEGIN_CHKPT, CHKPT_PAGES, CHKPT_TXNS, COMMIT, COMP, END, END_CHKPT, EXTEND,
+    SET, UPDATE,
 };
 use crate::limits::{HEADER_BYTES, MAX_LOG_BYTES, MAX_OPEN, MAX_RECORDS, RECORD_BYTES};
 
@@ -46,6 +46,7 @@ pub fn kinds_have_these_numbers()
     ensures chkpt_pages { CHKPT_PAGES ≡ 8 }
     ensures chkpt_txns { CHKPT_TXNS ≡ 9 }
     ensures end_chkpt { END_CHKPT ≡ 10 }
+    ensures extend { EXTEND ≡ 11 }
     ensures set { SET ≡ 1 }
     ensures add { ADD ≡ 2 }
     ensures active { ACTIVE ≡ 1 }

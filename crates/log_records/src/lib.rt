@@ -10,6 +10,7 @@ mod header;
 mod laws;
 mod limits;
 mod page_change;
+mod page_count;
 mod page_count_laws;
 mod place;
 mod put;
@@ -24,13 +25,14 @@ pub use coverage_laws::{
     stored_pages_past_the_volume_are_formatted,
 };
 pub use dirty_page::{DirtyPage, DirtyPages};
-pub use header::{encode_header, page_count};
+pub use header::{LogHeader, encode_header, log_header};
 pub use laws::{
     kinds_have_these_numbers, logs_are_spelled_apart, logs_have_these_numbers,
     records_are_spelled_apart,
 };
 pub use limits::{HEADER_BYTES, MAX_LOG_BYTES, MAX_OPEN, MAX_RECORDS, RECORD_BYTES};
 pub use page_change::PageChange;
+pub use page_count::{count_behind, note_counts};
 pub use page_count_laws::{
     given_counts_say_the_page_count, page_counts_are_those_of_a_header,
     page_counts_below_an_lsn_are_of_the_log_cut_there, records_name_pages_of_the_volume,

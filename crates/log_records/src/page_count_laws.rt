@@ -4,9 +4,10 @@ ghost use Rattle.std.specs.Prelude.{ℕ, ◌≡◌, ◌-◌, ◌/◌, ◌<◌, �
 ghost use Rattle.page_core.specs.PageCounts.{count_below, last_count};
 ghost use Rattle.page_core.specs.declared.numbers.TheConstants.{LSN_STEP};
 ghost use Rattle.log_records.specs.declared.record.Record.{Record};
-ghost use Rattle.log_records.specs.Log.{AreWithin, IsLog, IsPageCount, Log, StandsAt, counts_of};
+ghost use Rattle.log_records.specs.Log.{AreWithin, IsLog, Log, StandsAt, counts_of};
 ghost use Rattle.log_records.specs.Log.{lsn_of, page_count, page_count_at, page_count_below};
 ghost use Rattle.log_records.specs.Log.{with_next};
+ghost use Rattle.log_records.specs.Record.{IsPageCount};
 
 /// A longer log has no smaller page count, and what comes behind a place changes nothing there.
 pub fn volumes_never_get_smaller()

@@ -4,24 +4,26 @@
 ghost use Rattle.std.specs.Prelude.{◌≡◌, ◌↔◌, length, IfSome, Some, IsTrue};
 ghost use Rattle.log_records.specs.declared.record.Record.{Record};
 ghost use Rattle.log_records.specs.Record.{record_bytes};
-ghost use Rattle.log_records.specs.Log.{IsWithin, StandsAt};
+ghost use Rattle.log_records.specs.Log.{IsOfFormat, IsWithin, StandsAt};
 
 use crate::codec::decode;
 use crate::limits::RECORD_BYTES;
 use crate::record::Record;
 use page_core::field::{u16_at, u32_at};
-use page_core::{Lsn, PageNo, SlotNo};
+use page_core::{Format, Lsn, PageNo, SlotNo};
 
-/// The record that these bytes are at this LSN of a log of so many pages, if they are one.
+/// The record that these bytes are at this LSN of a log of this format, where the volume has so many
+/// pages, if they are one.
 #[inline(always)]
-pub fn record_at(bytes: &[u8], at: Lsn, pages: u32) -> Option<Record>
+pub fn record_at(bytes: &[u8], at: Lsn, format: Format, pages: u32) -> Option<Record>
     requires { length bytes.now ≡ RECORD_BYTES }
-    ensures found { IfSome result (λ r. StandsAt pages at r × (bytes.now ≡ record_bytes r)) }
-    ensures only { (r : Record) → StandsAt pages at r → bytes.now ≡ record_bytes r
-        → result ≡ Some r }
+    ensures found { IfSome result (λ r. StandsAt pages at r × IsOfFormat format r
+        × (bytes.now ≡ record_bytes r)) }
+    ensures only { (r : Record) → StandsAt pages at r → IsOfFormat format r
+        → bytes.now ≡ record_bytes r → result ≡ Some r }
 {
     let record = decode(bytes.as_array().unwrap(), at)?;
-    if is_within(pages, &record) {
+    if is_within(pages, &record) && is_of_format(format, &record) {
         Some(record)
     } else {
         None
@@ -48,6 +50,17 @@ fn is_within(pages: u32, entry: &Record) -> bool
         | Record::End { .. }
         | Record::BeginChkpt { .. }
         | Record::ChkptTxns { .. }
-        | Record::EndChkpt { .. } => true,
+        | Record::EndChkpt { .. }
+        | Record::Extend { .. } => true,
+    }
+}
+
+/// Whether a log of this format may have the record.
+fn is_of_format(format: Format, record: &Record) -> bool
+    ensures { IsTrue result ↔ IsOfFormat format «record».now }
+{
+    match format {
+        Format::Second => true,
+        Format::First => !matches!(*record, Record::Extend { .. }),
     }
 }

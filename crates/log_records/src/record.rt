@@ -79,6 +79,12 @@ pub enum Record {
         begin: Lsn,
         redo: Lsn,
     },
+    /// The volume grows: from here on it has so many pages. The new ones are formatted. It is of no
+    /// transaction and of no checkpoint, and is never undone.
+    Extend {
+        lsn: Lsn,
+        pages: u32,
+    },
 }
 
 impl Record {
@@ -100,7 +106,8 @@ impl Record {
             | Record::BeginChkpt { lsn }
             | Record::ChkptPages { lsn, .. }
             | Record::ChkptTxns { lsn, .. }
-            | Record::EndChkpt { lsn, .. } => lsn,
+            | Record::EndChkpt { lsn, .. }
+            | Record::Extend { lsn, .. } => lsn,
         }
     }
 
@@ -128,7 +135,8 @@ impl Record {
             | Record::BeginChkpt { .. }
             | Record::ChkptPages { .. }
             | Record::ChkptTxns { .. }
-            | Record::EndChkpt { .. } => None,
+            | Record::EndChkpt { .. }
+            | Record::Extend { .. } => None,
         }
     }
 

@@ -12,10 +12,11 @@ use Rattle.log_records.specs.declared.limits.TheConstants.{MAX_LOG_BYTES}
 use Rattle.log_records.specs.declared.record.Record.{Record}
 use Rattle.log_records.specs.declared.record.Record.TheVariants.{Begin}
 use Rattle.log_records.specs.Record.{record_bytes}
-use Rattle.log_records.specs.Log.{Log, StandsAt, SpellsLog, lsn_of, page_count, page_count_at}
+use Rattle.log_records.specs.Log.{IsOfFormat, Log, StandsAt, SpellsLog, format_in, lsn_of, page_count, page_count_at}
+use Rattle.log_records.specs.PageCount.{GivesMore}
 use Rattle.log_history.specs.Linked.{IsLinked, MayFollow}
 use Rattle.log_store.specs.Fault.{BreaksChain, IsPlace, IsHeader, HasRecord, HasFault, IsFirstFault, LacksRecord, offset_of}
-use Rattle.log_records.proofs.Logs.{range_in, length-log, header_of_log, record_of_log, same_log, spells_cut}
+use Rattle.log_records.proofs.Logs.{format_in-take, format_of_log, range_in, length-log, header_of_log, record_of_log, same_log, spells_cut}
 
 -- a part of a beginning is a part of the bytes
 pub range_of_front : (bytes : List ℕ) (n a b : ℕ) → a ≤ b → b ≤ n → n ≤ length bytes
@@ -41,6 +42,12 @@ break_at bytes at b =
 pub record StartsWith (log : Log) (bytes : List ℕ) : Type 0 where
   pub spells : SpellsLog log (take (lsn_of (length log.records)) bytes)
   pub linked : IsLinked log.records
+
+-- they name its format
+starts_format : (log : Log) (bytes : List ℕ) → (starts : StartsWith log bytes) → format_in bytes ≡ starts.spells.format
+starts_format log bytes starts =
+    let end = lsn_of (length log.records) in
+    sym (format_in-take end bytes (omega arith)) ∙ format_of_log log (take end bytes) starts.spells
 
 -- they are as long as its bytes
 reaches : (log : Log) (bytes : List ℕ) → StartsWith log bytes → lsn_of (length log.records) ≤ length bytes
@@ -89,9 +96,11 @@ none_lacks log bytes starts at l =
           let stands : StandsAt (page_count_at log i) at r =
           subst (λ n. StandsAt (page_count_at log i) n r) (sym place)
           (starts.spells.valid.records i (Begin 0 0) below) in
+          let format : IsOfFormat (format_in bytes) r =
+          subst (λ f. IsOfFormat f r) (sym (starts_format log bytes starts)) (starts.spells.of_format i (Begin 0 0) below) in
           let spelled : slice_range bytes at (at + 64) ≡ record_bytes r =
           ap (λ n. slice_range bytes n (n + 64)) place ∙ stands_in_bytes log bytes starts i (Begin 0 0) below in
-          absurd (l.lacks (r, subst (λ n. StandsAt n at r) (sym count) stands, spelled))
+          absurd (l.lacks (r, subst (λ n. StandsAt n at r) (sym count) stands, format, spelled))
     ]
 
 -- no record of such a log breaks the chain
@@ -109,8 +118,13 @@ unbroken log bytes starts at b =
           same_record b.there r b.stands.valid (starts.spells.valid.records m b.there below).valid
           (sym b.spelled ∙ ap (λ (n : ℕ). slice_range bytes n (n + 64)) place
           ∙ stands_in_bytes log bytes starts m b.there below) in
-          absurd (b.breaks (subst (λ (l : Log). MayFollow l.records b.there) (sym cut)
-          (subst (MayFollow (take m log.records)) (sym there_is) (starts.linked m b.there below))))
+          let follows : MayFollow b.before.records b.there =
+          subst (λ (l : Log). MayFollow l.records b.there) (sym cut)
+          (subst (MayFollow (take m log.records)) (sym there_is) (starts.linked m b.there below)) in
+          let more : GivesMore (page_count b.before) b.there =
+          subst (λ (l : Log). GivesMore (page_count l) b.there) (sym cut)
+          (subst (GivesMore (page_count_at log m)) (sym there_is) (starts.spells.valid.grows m b.there below)) in
+          absurd (b.breaks (follows, more))
     ]
 
 has_header : (log : Log) (bytes : List ℕ) → StartsWith log bytes → IsHeader (take 64 bytes)

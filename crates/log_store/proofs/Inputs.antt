@@ -8,11 +8,11 @@ use Rattle.log_store.specs.declared.fault.LogReadFault.{LogReadFault}
 use Rattle.log_store.specs.declared.fault.LogReadFault.TheVariants.{OutOfMemory, BadHeader, BadRecord, BadChain, Torn}
 use Rattle.log_store.specs.declared.fault.LogReadFault.TheVariants.{ReadFault, TooLong}
 use Rattle.log_records.specs.declared.limits.TheConstants.{MAX_LOG_BYTES}
-use Rattle.log_records.specs.Log.{Log, SpellsLog}
+use Rattle.log_records.specs.Log.{IsOfFormat, Log, SpellsLog}
 use Rattle.log_history.specs.Linked.{IsLinked}
 use Rattle.log_store.specs.Fault.{BreaksChain, IsPlace, IsHeader, HasFault, IsFirstFault, IsHeld, LacksRecord}
 use Rattle.log_store.specs.Fault.{HoldsNoFault, Refuses, IsOutside, offset_of}
-use Rattle.log_records.proofs.Logs.{length-header, range_in}
+use Rattle.log_records.proofs.Logs.{format_in-append, length-header, range_in}
 use Rattle.log_store.proofs.Faults.{break_at, first_header, none_in_log}
 
 -- of a place without a record, within what was given
@@ -24,7 +24,12 @@ more_lacks given rest at l =
       whole = omega (arith, fits, length-append given rest);
       before = l.before;
       spells = subst (SpellsLog l.before) (sym (take-append-le at given rest (omega (arith, fits)))) l.spells;
-      lacks = λ has. l.lacks (has.0, has.1, sym (range_in given rest at (at + 64) (omega arith) fits) ∙ has.2);
+      lacks = λ has. l.lacks (
+        has.0,
+        has.1,
+        subst (λ f. IsOfFormat f has.0) (format_in-append given rest (let past = l.place.past_header in omega arith)) has.2,
+        sym (range_in given rest at (at + 64) (omega arith) fits) ∙ has.3,
+      );
     }
 
 less_lacks : (given rest : List ℕ) (at : ℕ) → at + 64 ≤ length given → LacksRecord (given ++ rest) at
@@ -34,7 +39,12 @@ less_lacks given rest at fits l = record {
   whole = fits;
   before = l.before;
   spells = subst (SpellsLog l.before) (take-append-le at given rest (omega (arith, fits))) l.spells;
-  lacks = λ has. l.lacks (has.0, has.1, range_in given rest at (at + 64) (omega arith) fits ∙ has.2);
+  lacks = λ has. l.lacks (
+    has.0,
+    has.1,
+    subst (λ f. IsOfFormat f has.0) (sym (format_in-append given rest (let past = l.place.past_header in omega arith))) has.2,
+    range_in given rest at (at + 64) (omega arith) fits ∙ has.3,
+  );
 }
 
 -- of a break of the chain there
@@ -48,6 +58,8 @@ more_breaks given rest at b =
       linked = b.linked;
       there = b.there;
       stands = b.stands;
+      of_format = subst (λ f. IsOfFormat f b.there)
+          (sym (format_in-append given rest (let past = b.place.past_header in omega arith))) b.of_format;
       spelled = range_in given rest at (at + 64) (omega arith) fits ∙ b.spelled;
       breaks = b.breaks;
     }
@@ -61,6 +73,8 @@ less_breaks given rest at fits b = record {
   linked = b.linked;
   there = b.there;
   stands = b.stands;
+  of_format = subst (λ f. IsOfFormat f b.there)
+      (format_in-append given rest (let past = b.place.past_header in omega arith)) b.of_format;
   spelled = sym (range_in given rest at (at + 64) (omega arith) fits) ∙ b.spelled;
   breaks = b.breaks;
 }

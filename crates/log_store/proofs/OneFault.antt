@@ -13,7 +13,7 @@ not_both : (bytes : List ℕ) (at : ℕ) → LacksRecord bytes at → BreaksChai
 not_both bytes at l b =
     let same : page_count b.before ≡ page_count l.before =
     ap page_count (same_log b.before l.before (take at bytes) b.spells l.spells) in
-    l.lacks (b.there, subst (λ n. StandsAt n at b.there) same b.stands, b.spelled)
+    l.lacks (b.there, subst (λ n. StandsAt n at b.there) same b.stands, b.of_format, b.spelled)
 
 -- at one offset lies one fault
 alike : (bytes : List ℕ) (a b : LogReadFault) → HasFault bytes a → HasFault bytes b → offset_of a ≡ offset_of b

@@ -1,12 +1,12 @@
 -- A log that is read record by record.
 use Rattle.std.proofs.Common.{◌≡◌, ℕ, ◌+◌, ◌-◌, ◌*◌, ◌^◌, ◌<◌, ◌≤◌, List, [], ◌∷◌, ◌++◌, length, take, drop, refl}
-use Rattle.std.proofs.Common.{sym, ap, subst, ◌∙◌, arith, inl, inr}
+use Rattle.std.proofs.Common.{sym, ap, subst, ◌∙◌, arith, inl, inr, get_or, below_more}
 use Rattle.std.specs.Prelude.{slice_range}
 use Rattle.std.specs.Prelude.{Option}
 use Rattle.std.specs.Io.KnownBytes.{Consumes}
 pub use Rattle.page_core.proofs.Inputs.{if_err, on_ok, of_rest, of_all}
 use Rattle.std.proofs.lemmas.Bool.{cases_lt}
-use Rattle.std.proofs.lemmas.List.{append_assoc, append-nil, nil_from_length, take_at, drop_at}
+use Rattle.std.proofs.lemmas.List.{append_assoc, append-nil, get_or_append_left, get_or_push, nil_from_length, take_all, take_at, drop_at}
 use Rattle.std.proofs.lemmas.List.{length-append, length_push, flat_map_more}
 use Rattle.std.proofs.KnownBytes.{Consumes-trans}
 use Rattle.log_store.specs.declared.fault.LogReadFault.{LogReadFault}
@@ -14,7 +14,10 @@ use Rattle.log_store.specs.declared.fault.LogReadFault.TheVariants.{OutOfMemory,
 use Rattle.log_store.specs.declared.fault.LogReadFault.TheVariants.{ReadFault, TooLong}
 use Rattle.log_records.specs.declared.record.Record.{Record}
 use Rattle.log_records.specs.Record.{record_bytes}
-use Rattle.log_records.specs.Log.{IsLog, IsPageCount, Log, StandsAt, SpellsLog, bytes_in, header_in, lsn_of, page_count}
+use Rattle.log_records.specs.Log.{IsLog, IsPageCount, Log, StandsAt, SpellsLog, bytes_in, format_in, header_in, lsn_of, page_count}
+use Rattle.log_records.specs.Log.{IsOfFormat}
+use Rattle.log_records.specs.PageCount.{GivesMore}
+use Rattle.log_store.specs.Fault.{MayComeBehind}
 use Rattle.page_core.specs.declared.format.Format.{Format}
 use Rattle.log_records.specs.Log.{with_next}
 use Rattle.log_history.specs.History.{IsMadeOf, Made}
@@ -22,7 +25,7 @@ use Rattle.log_history.specs.Linked.{IsLinked, MayFollow}
 use Rattle.log_store.specs.Fault.{IsFirstFault, Refuses, HoldsNoFault, GaveNoFault}
 use Rattle.log_store.specs.Scan.{HasTaken}
 use Rattle.log_records.proofs.Images.{length-redo_all}
-use Rattle.log_records.proofs.Logs.{length-log}
+use Rattle.log_records.proofs.Logs.{format_in-append, format_in-header, format_of_log, length-header, length-log}
 use Rattle.log_records.proofs.PageCounts.{page_count-is_count}
 use Rattle.log_store.proofs.Faults.{first_chain, first_record, first_too_long, first_torn, starts_with}
 use Rattle.log_records.proofs.Records.{record_length}
@@ -51,19 +54,23 @@ too_long log given more spells linked full some =
 
 bad_record : (log : Log) (given unit rest : List ℕ) → SpellsLog log given → IsLinked log.records
     → length log.records < 1048576 → length unit ≡ 64
-    → ((r : Record) → StandsAt (page_count log) (lsn_of (length log.records)) r → unit ≡ record_bytes r → ⊥)
+    → ((r : Record) → StandsAt (page_count log) (lsn_of (length log.records)) r → IsOfFormat (format_in given) r
+    → unit ≡ record_bytes r → ⊥)
     → IsFirstFault (given ++ (unit ++ rest)) (BadRecord (lsn_of (length log.records)))
 bad_record log given unit rest spells linked few wide none =
     first_record log (given ++ (unit ++ rest)) (starts_with log given (unit ++ rest) spells linked) few
     (omega (arith, length-log log given spells, length-append given (unit ++ rest), length-append unit rest))
-    (λ has. none has.0 has.1 (sym (next_range log given unit rest spells wide) ∙ has.2))
+    (λ has. none has.0 has.1
+    (subst (λ f. IsOfFormat f has.0) (format_in-append given (unit ++ rest) (omega (arith, length-log log given spells))) has.2)
+    (sym (next_range log given unit rest spells wide) ∙ has.3))
 
 -- the next record is one, and may not follow
 bad_chain : (log : Log) (r : Record) (given unit rest : List ℕ) → SpellsLog log given → IsLinked log.records
     → length log.records < 1048576
-    → StandsAt (page_count log) (lsn_of (length log.records)) r → unit ≡ record_bytes r → ¬ MayFollow log.records r
+    → StandsAt (page_count log) (lsn_of (length log.records)) r → IsOfFormat (format_in given) r
+    → unit ≡ record_bytes r → ¬ MayComeBehind log r
     → IsFirstFault (given ++ (unit ++ rest)) (BadChain (lsn_of (length log.records)))
-bad_chain log r given unit rest spells linked few stands e breaks =
+bad_chain log r given unit rest spells linked few stands of_format e breaks =
     let wide : length unit ≡ 64 = ap length e ∙ record_length.each r in
     let starts = starts_with log given (unit ++ rest) spells linked in
     first_chain log (given ++ (unit ++ rest)) starts few
@@ -74,6 +81,8 @@ bad_chain log r given unit rest spells linked few stands e breaks =
       linked = linked;
       there = r;
       stands = stands;
+      of_format = subst (λ f. IsOfFormat f r)
+          (sym (format_in-append given (unit ++ rest) (omega (arith, length-log log given spells)))) of_format;
       spelled = next_range log given unit rest spells wide ∙ e;
       breaks = breaks;
     })
@@ -81,11 +90,18 @@ bad_chain log r given unit rest spells linked few stands e breaks =
 -- ---- one record more
 
 pub spells_next : (log : Log) (r : Record) (given unit : List ℕ) → SpellsLog log given → length log.records < 1048576
-    → StandsAt (page_count log) (lsn_of (length log.records)) r → unit ≡ record_bytes r
+    → StandsAt (page_count log) (lsn_of (length log.records)) r → GivesMore (page_count log) r
+    → IsOfFormat (format_in given) r → unit ≡ record_bytes r
     → SpellsLog (with_next log (r ∷ [])) (given ++ unit)
-spells_next log r given unit spells few stands e = record {
-  valid = valid_next log r spells.valid few stands;
+spells_next log r given unit spells few stands more of_format e = record {
+  valid = valid_next log r spells.valid few stands more;
   format = spells.format;
+  of_format = λ i d lt.
+      below_more (λ n. IsOfFormat spells.format (get_or (log.records ++ r ∷ []) n d)) (length log.records)
+      (λ n below. rw (get_or_append_left log.records (r ∷ []) d n below) (spells.of_format n d below))
+      (rw (get_or_push log.records r d (length log.records) refl)
+      (subst (λ f. IsOfFormat f r) (format_of_log log given spells) of_format)) i
+      (omega (arith, length_push log.records r, lt));
   spelled = ap (λ (front : List ℕ). front ++ unit) spells.spelled
       ∙ ap (λ (end : List ℕ). bytes_in spells.format log ++ end) e
       ∙ flat_map_more record_bytes (header_in spells.format log.pages) log.records r;
@@ -96,22 +112,30 @@ spells_next log r given unit spells few stands e = record {
 -- nothing yet
 pub taken_none : {S : Type 0} (holds : S → Log → Type 0) (sink : S) (made : Made) (f : Format) (pages : ℕ)
     → IsPageCount pages → holds sink (record { pages = pages; records = [] }) → IsMadeOf (record { pages = pages; records = [] }) made
-    → HasTaken holds sink made 0 (header_in f pages)
+    → HasTaken holds f sink made 0 (header_in f pages)
 taken_none holds sink made f pages count held of = record {
   log = record { pages = pages; records = [] };
   held = held;
   spells = record {
-    valid = record { pages = count; count = omega arith; records = λ i d lt. absurd (omega arith) };
+    valid = record {
+      pages = count;
+      count = omega arith;
+      records = λ i d lt. absurd (omega arith);
+      grows = λ i d lt. absurd (omega arith);
+    };
     format = f;
+    of_format = λ i d lt. absurd (omega arith);
     spelled = sym (append-nil (header_in f pages));
   };
   linked = linked_none;
   made_of = of;
   count_is = refl;
+  format_is = format_in-header f pages (header_in f pages)
+      (take_all 64 (header_in f pages) (omega (arith, length-header f pages)));
 }
 
-module _ {S : Type 0} (holds : S → Log → Type 0) (sink : S) (made : Made) (count : ℕ) (given : List ℕ)
-    (taken : HasTaken holds sink made count given) where
+module _ {S : Type 0} (holds : S → Log → Type 0) (format : Format) (sink : S) (made : Made) (count : ℕ) (given : List ℕ)
+    (taken : HasTaken holds format sink made count given) where
   -- how many pages the log has
   pub pages_are : length made.pages ≡ page_count taken.log
   pages_are = ap length taken.made_of.pages ∙ length-redo_all taken.log.records (page_count taken.log)
@@ -128,21 +152,28 @@ module _ {S : Type 0} (holds : S → Log → Type 0) (sink : S) (made : Made) (c
       (subst (λ (n : ℕ). StandsAt (length made.pages) n r) place stands)
 
   pub valid_with : (r : Record) → count < 1048576 → StandsAt (length made.pages) (64 * (count + 1)) r
-      → IsLog (with_next taken.log (r ∷ []))
-  valid_with r few stands =
-      valid_next taken.log r taken.spells.valid (omega (arith, taken.count_is)) (stands_next r stands)
+      → GivesMore (page_count taken.log) r → IsLog (with_next taken.log (r ∷ []))
+  valid_with r few stands more =
+      valid_next taken.log r taken.spells.valid (omega (arith, taken.count_is)) (stands_next r stands) more
+
+  -- the bytes that were given reach past the header
+  long_given : 64 ≤ length given
+  long_given = omega (arith, length-log taken.log given taken.spells)
 
   pub taken_next : (after : S) (new : Made) (r : Record) (unit : List ℕ) → count < 1048576
-      → StandsAt (length made.pages) (64 * (count + 1)) r → unit ≡ record_bytes r → MayFollow taken.log.records r
+      → StandsAt (length made.pages) (64 * (count + 1)) r → GivesMore (page_count taken.log) r → IsOfFormat format r
+      → unit ≡ record_bytes r → MayFollow taken.log.records r
       → IsMadeOf (with_next taken.log (r ∷ [])) new → holds after (with_next taken.log (r ∷ []))
-      → HasTaken holds after new (count + 1) (given ++ unit)
-  taken_next after new r unit few stands e may of held = record {
+      → HasTaken holds format after new (count + 1) (given ++ unit)
+  taken_next after new r unit few stands more of_format e may of held = record {
     log = with_next taken.log (r ∷ []);
     held = held;
-    spells = spells_next taken.log r given unit taken.spells (omega (arith, taken.count_is)) (stands_next r stands) e;
+    spells = spells_next taken.log r given unit taken.spells (omega (arith, taken.count_is)) (stands_next r stands) more
+        (subst (λ f. IsOfFormat f r) (sym taken.format_is) of_format) e;
     linked = linked_push taken.log.records r taken.linked may;
     made_of = of;
     count_is = omega (arith, length_push taken.log.records r, taken.count_is);
+    format_is = format_in-append given unit long_given ∙ taken.format_is;
   }
 
   pub taken_too_long : (more : List ℕ) → 1048576 ≤ count → 0 < length more → IsFirstFault (given ++ more) TooLong
@@ -150,23 +181,24 @@ module _ {S : Type 0} (holds : S → Log → Type 0) (sink : S) (made : Made) (c
       too_long taken.log given more taken.spells taken.linked (omega (arith, taken.count_is)) some
 
   pub taken_bad_record : (unit rest : List ℕ) → count < 1048576 → length unit ≡ 64
-      → ((r : Record) → StandsAt (length made.pages) (64 * (count + 1)) r → unit ≡ record_bytes r → ⊥)
+      → ((r : Record) → StandsAt (length made.pages) (64 * (count + 1)) r → IsOfFormat format r → unit ≡ record_bytes r → ⊥)
       → IsFirstFault (given ++ (unit ++ rest)) (BadRecord (64 * (count + 1)))
   taken_bad_record unit rest few wide none =
       let place : lsn_of (length taken.log.records) ≡ 64 * (count + 1) = omega (arith, taken.count_is) in
       subst (λ (n : ℕ). IsFirstFault (given ++ (unit ++ rest)) (BadRecord n)) place
       (bad_record taken.log given unit rest taken.spells taken.linked (omega (arith, taken.count_is)) wide
-      (λ r stands e. none r (subst (λ (n : ℕ). StandsAt n (64 * (count + 1)) r) (sym pages_are)
-      (subst (λ (n : ℕ). StandsAt (page_count taken.log) n r) place stands)) e))
+      (λ r stands of_format e. none r (subst (λ (n : ℕ). StandsAt n (64 * (count + 1)) r) (sym pages_are)
+      (subst (λ (n : ℕ). StandsAt (page_count taken.log) n r) place stands))
+      (subst (λ f. IsOfFormat f r) taken.format_is of_format) e))
 
   pub taken_bad_chain : (r : Record) (unit rest : List ℕ) → count < 1048576 → StandsAt (length made.pages) (64 * (count + 1)) r
-      → unit ≡ record_bytes r → ¬ MayFollow taken.log.records r
+      → IsOfFormat format r → unit ≡ record_bytes r → ¬ MayComeBehind taken.log r
       → IsFirstFault (given ++ (unit ++ rest)) (BadChain (64 * (count + 1)))
-  taken_bad_chain r unit rest few stands e breaks =
+  taken_bad_chain r unit rest few stands of_format e breaks =
       let place : lsn_of (length taken.log.records) ≡ 64 * (count + 1) = omega (arith, taken.count_is) in
       subst (λ (n : ℕ). IsFirstFault (given ++ (unit ++ rest)) (BadChain n)) place
       (bad_chain taken.log r given unit rest taken.spells taken.linked (omega (arith, taken.count_is))
-      (stands_next r stands) e breaks)
+      (stands_next r stands) (subst (λ f. IsOfFormat f r) (sym taken.format_is) of_format) e breaks)
 
 -- ---- what follows the whole records
 

@@ -2,16 +2,18 @@
 use Rattle.std.proofs.Common.{◌≡◌, ℕ, ◌+◌, ◌*◌, ◌<◌, ◌≤◌, List, [], ◌∷◌, ◌++◌, length, take, refl, sym, ap, ◌∙◌, arith}
 use Rattle.std.proofs.Common.{subst, suc}
 use Rattle.std.specs.Prelude.{slice_get, Some}
-use Rattle.std.proofs.lemmas.List.{append-nil, length-append, length-take, take_all}
+use Rattle.std.proofs.lemmas.List.{append-nil, length-append, length-take, length_push, take-append-le, take_all}
 use Rattle.std.proofs.lemmas.Option.{get_or_from_slice_get, slice_get_within}
 use Rattle.std.proofs.Math.Seq.{take-suc}
 use Rattle.log_records.specs.declared.record.Record.{Record}
-use Rattle.log_records.specs.Log.{IsLog, IsPageCount, Log, SpellsLog, StandsAt, header_bytes, lsn_of, page_count, page_count_at, with_next}
+use Rattle.log_records.specs.Log.{IsLog, IsOfFormat, IsPageCount, Log, SpellsLog, StandsAt, format_in, header_bytes, lsn_of, page_count, page_count_at, with_next}
 use Rattle.log_records.specs.Record.{own_lsn, record_bytes}
 use Rattle.log_records.proofs.Records.{record_length}
 use Rattle.log_store.specs.WrittenLog.{HasRecordAt, IsWritten, written_log}
 use Rattle.log_store.proofs.Scans.{spells_next}
-use Rattle.log_records.proofs.Logs.{length-log, length-header}
+use Rattle.log_records.proofs.Logs.{format_in-append, format_in-header, format_in-take, length-log, length-header}
+use Rattle.log_records.specs.PageCount.{GivesMore, count_behind}
+use Rattle.log_history.proofs.AtEnd.{valid_next}
 use Rattle.page_core.specs.declared.format.Format.TheVariants.{Second}
 
 -- the forced end lies on the device
@@ -35,6 +37,7 @@ written_empty bytes pages room device count spelled =
       pages = count;
       count = omega arith;
       records = λ i d lt. absurd (omega arith);
+      grows = λ i d lt. absurd (omega arith);
     } in
     let whole : take 64 (bytes device) ≡ bytes device =
     take_all 64 (bytes device) (omega (arith, ap length spelled, length-header Second pages)) in
@@ -45,7 +48,37 @@ written_empty bytes pages room device count spelled =
         record {
           there = omega arith;
           end = refl;
-          stable = record { valid = valid; format = Second; spelled = whole ∙ spelled ∙ sym (append-nil (header_bytes pages)) };
+          stable = record {
+            valid = valid;
+            format = Second;
+            of_format = λ i d lt. absurd (omega arith);
+            spelled = whole ∙ spelled ∙ sym (append-nil (header_bytes pages));
+          };
+          second = format_in-header Second pages (bytes device) (whole ∙ spelled);
+        },
+      );
+    }
+
+-- a record is appended in memory
+pub written_push : {D : Type 0} (bytes : D → List ℕ) (pages : ℕ) (records : List Record) (forced room more : ℕ)
+    (device : D) (r : Record) → IsWritten bytes (written_log pages records forced room device)
+    → length records < 1048576 → StandsAt (count_behind pages records) (lsn_of (length records)) r
+    → GivesMore (count_behind pages records) r
+    → IsWritten bytes (written_log pages (records ++ r ∷ []) forced more device)
+written_push bytes pages records forced room more device r kept few stands grows =
+    let count = kept.forced.0 in
+    let known = kept.forced.1 in
+    let there : count ≤ length records = known.there in
+    record {
+      valid = valid_next (record { pages = pages; records = records }) r kept.valid few stands grows;
+      forced = (
+        count,
+        record {
+          there = omega (arith, there, length_push records r);
+          end = known.end;
+          stable = subst (λ (rs : List Record). SpellsLog (record { pages = pages; records = rs }) (take (lsn_of forced) (bytes device)))
+              (sym (take-append-le count records (r ∷ []) there)) known.stable;
+          second = known.second;
         },
       );
     }
@@ -83,6 +116,11 @@ module _ {D : Type 0} (bytes : D → List ℕ) (pages : ℕ) (records : List Rec
       subst (λ n. SpellsLog (record { pages = pages; records = take n records }) front) same known.stable in
       let many : length records ≤ 1048576 = kept.valid.count in
       let few : length (take forced records) ≡ forced = omega (arith, length-take forced records, within) in
+      let grows : GivesMore (page_count_at log forced) r =
+      subst (GivesMore (page_count_at log forced)) (get_or_from_slice_get records forced r r there)
+      (kept.valid.grows forced r within) in
+      let named : format_in front ≡ Second = format_in-take (lsn_of forced) (bytes device) (omega arith) ∙ known.second in
+      let second : IsOfFormat (format_in front) r = subst (λ f. IsOfFormat f r) (sym named) tt in
       let longer : take (forced + 1) records ≡ take forced records ++ r ∷ [] =
       ap (λ n. take n records) (let one : forced + 1 ≡ suc forced = omega arith in one) ∙ take-suc records forced r within
       ∙ ap (λ (x : Record). take forced records ++ x ∷ []) (get_or_from_slice_get records forced r r there) in
@@ -90,7 +128,7 @@ module _ {D : Type 0} (bytes : D → List ℕ) (pages : ℕ) (records : List Rec
       subst (λ (rs : List Record). SpellsLog (record { pages = pages; records = rs }) (bytes after)) (sym longer)
       (subst (SpellsLog (with_next first (r ∷ []))) (sym stored)
       (spells_next first r front (record_bytes r) before (let lt = within in omega (arith, few, many))
-      (subst (λ n. StandsAt (page_count first) (lsn_of n) r) (sym few) stands) refl)) in
+      (subst (λ n. StandsAt (page_count first) (lsn_of n) r) (sym few) stands) grows second refl)) in
       let whole : take (lsn_of (forced + 1)) (bytes after) ≡ bytes after =
       take_all (lsn_of (forced + 1)) (bytes after)
       (omega (arith, ap length stored, length-append front (record_bytes r), record_length.each r, length-log first front before, few)) in
@@ -102,6 +140,8 @@ module _ {D : Type 0} (bytes : D → List ℕ) (pages : ℕ) (records : List Rec
             there = (let lt = within in omega arith);
             end = refl;
             stable = subst (SpellsLog (record { pages = pages; records = take (forced + 1) records })) (sym whole) spelled;
+            second = ap format_in stored
+                ∙ format_in-append front (record_bytes r) (omega (arith, length-log first front before)) ∙ named;
           },
         );
       }

@@ -15,7 +15,9 @@ use Rattle.log_records.specs.declared.record.Record.{Record}
 use Rattle.log_records.specs.Record.{record_bytes}
 use Rattle.log_history.specs.Linked.{IsLinked, MayFollow}
 use Rattle.page_core.specs.declared.format.Format.{Format}
-use Rattle.log_records.specs.Log.{IsPageCount, Log, SpellsLog, StandsAt, header_in}
+use Rattle.log_records.specs.Log.{IsOfFormat, Log, SpellsLog, StandsAt, format_in, header_in}
+use Rattle.log_records.specs.PageCount.{GivesMore}
+use Rattle.log_records.specs.Record.{IsPageCount}
 use Rattle.log_records.specs.Log.{page_count}
 
 -- an offset at which a record may stand
@@ -29,10 +31,16 @@ abbrev pub IsHeader : List ℕ → Type 0
 IsHeader bytes =
     (format : Format) × (pages : ℕ) × IsPageCount pages × (bytes ≡ header_in format pages)
 
--- the 64 bytes at this offset are a record that may stand there, in a volume of so many pages
+-- the 64 bytes at this offset are a record that may stand there, in a volume of so many pages: one
+-- of the format that the bytes name
 abbrev pub HasRecord : List ℕ → ℕ → ℕ → Type 0
 HasRecord bytes at pages =
-    (r : Record) × StandsAt pages at r × (slice_range bytes at (at + RECORD_BYTES) ≡ record_bytes r)
+    (r : Record) × StandsAt pages at r × IsOfFormat (format_in bytes) r
+    × (slice_range bytes at (at + RECORD_BYTES) ≡ record_bytes r)
+
+-- the record may come behind this log: an Extend gives more pages than there are
+abbrev pub MayComeBehind : Log → Record → Type 0
+MayComeBehind log r = MayFollow log.records r × GivesMore (page_count log) r
 
 -- the bytes before this offset spell a log, and the 64 bytes there are no record that may stand
 -- behind it: none that names only pages of the volume as that log leaves it
@@ -51,8 +59,9 @@ pub record BreaksChain (bytes : List ℕ) (at : ℕ) : Type 0 where
   pub linked : IsLinked before.records
   pub there : Record
   pub stands : StandsAt (page_count before) at there
+  pub of_format : IsOfFormat (format_in bytes) there
   pub spelled : slice_range bytes at (at + RECORD_BYTES) ≡ record_bytes there
-  pub breaks : ¬ MayFollow before.records there
+  pub breaks : ¬ MayComeBehind before there
 
 -- the bytes have this fault
 abbrev pub HasFault : List ℕ → LogReadFault → Type 0

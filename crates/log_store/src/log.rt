@@ -5,14 +5,16 @@ ghost use Rattle.std.specs.Prelude.{Ok, Err};
 ghost use Rattle.std.specs.Prelude.{IfOk, IfErr, IfSome, OnOk, OnErr};
 ghost use Rattle.log_records.specs.declared.record.Record.{Record};
 ghost use Rattle.log_store.specs.Device.{KeepsFirst};
-ghost use Rattle.log_records.specs.Log.{IsLog, IsPageCount, StandsAt, header_bytes, lsn_of};
+ghost use Rattle.log_records.specs.Log.{IsLog, StandsAt, header_bytes, lsn_of};
+ghost use Rattle.log_records.specs.PageCount.{GivesMore};
+ghost use Rattle.log_records.specs.Record.{IsPageCount};
 ghost use Rattle.log_records.specs.Log.{page_count, with_next};
 ghost use Rattle.log_store.specs.Stores.{FailsAtNext, IsNextCall, StoresForced};
 ghost use Rattle.log_store.specs.WrittenLog.{EndsAtRecord, HasRecordAt, IsWritten, end_up_to};
 
 use crate::device::{DeviceFault, LogDevice};
 use crate::log_image::LogImage;
-use log_records::{MAX_RECORDS, RECORD_BYTES, Record, encode, encode_header};
+use log_records::{MAX_RECORDS, RECORD_BYTES, Record, count_behind, encode, encode_header};
 use page_core::{LSN_STEP, Lsn};
 use std::alloc::{AllocError, Global};
 use std::marker::Model;
@@ -24,6 +26,8 @@ use std::marker::Model;
 pub struct Log<D: LogDevice> {
     /// The page count that the header gives.
     pages: u32,
+    /// The page count behind all records.
+    count: u32,
     records: Vec<Record>,
     /// How many records are forced.
     forced: usize,
@@ -31,8 +35,9 @@ pub struct Log<D: LogDevice> {
 }
 
 impl<D: LogDevice> Model for Log<D> {
-    ghost use Rattle.std.specs.Prelude.{◌-◌, vec_len};
+    ghost use Rattle.std.specs.Prelude.{◌≡◌, ◌-◌, vec_len};
     ghost use Rattle.std.specs.Vec.{vec_capacity};
+    ghost use Rattle.log_records.specs.PageCount.{count_behind};
     ghost use Rattle.log_store.specs.WrittenLog.{WrittenLog, IsWritten, written_log};
 
     ghost Value = { WrittenLog D };
@@ -42,7 +47,8 @@ impl<D: LogDevice> Model for Log<D> {
 
     ghost invariant = { λ it.
         IsWritten D.bytes (written_log it.pages it.records.items it.forced
-        (vec_capacity it.records - vec_len it.records) it.device) };
+        (vec_capacity it.records - vec_len it.records) it.device)
+        × (it.count ≡ count_behind it.pages it.records.items) };
 }
 
 impl<D: LogDevice> Log<D> {
@@ -70,6 +76,7 @@ impl<D: LogDevice> Log<D> {
         match device.store(0, &encode_header(pages)) {
             Ok(()) => Ok(Log {
                 pages,
+                count: pages,
                 records: Vec::new(alloc),
                 forced: 0,
                 device,
@@ -93,6 +100,7 @@ impl<D: LogDevice> Log<D> {
     pub fn append(&mut self, next: Record)
         requires stands { StandsAt (page_count self.old.log)
             (lsn_of (length self.old.log.records)) next }
+        requires more { GivesMore (page_count self.old.log) next }
         requires few { length self.old.log.records < MAX_RECORDS }
         requires room { 0 < self.old.room }
 
@@ -103,6 +111,7 @@ impl<D: LogDevice> Log<D> {
         if self.records.push(next).is_err() {
             unreachable!();
         }
+        self.count = next.count_after(self.count);
     }
 
     /// Forces the log up to an LSN: stores each record that is not forced yet and stands at this
@@ -208,12 +217,11 @@ impl<D: LogDevice> Log<D> {
         &self.records
     }
 
-    /// How many pages the volume has behind all records. No record gives a count so far, so it is
-    /// that of the header.
+    /// How many pages the volume has behind all records.
     pub fn pages(&self) -> u32
         ensures { result ≡ page_count self.now.log }
     {
-        self.pages
+        self.count
     }
 
     /// The log's device.
@@ -233,11 +241,12 @@ impl<D: LogDevice> Log<D> {
     {
         let Log {
             pages,
+            count,
             records,
             forced: _,
             device,
         } = self;
-        (LogImage::from_records(pages, records), device)
+        (LogImage::from_parts(pages, count, records), device)
     }
 
     /// Forces the first record that is not forced.

@@ -1,10 +1,11 @@
 //! A whole log that was read, as a value.
 
-ghost use Rattle.std.specs.Prelude.{◌≡◌, length, take};
+ghost use Rattle.std.specs.Prelude.{◌≡◌, IfOk, length, take};
 ghost use Rattle.log_records.specs.Log.{IsLog, counts_of, lsn_of, page_count};
+ghost use Rattle.log_records.specs.PageCount.{count_behind};
 
 use crate::sink::RecordSink;
-use log_records::Record;
+use log_records::{Record, count_behind, note_counts};
 use page_core::{LSN_STEP, Lsn, PageCounts};
 use std::alloc::{AllocError, Global};
 use std::marker::Model;
@@ -13,18 +14,23 @@ use std::marker::Model;
 #[derive(Drop)]
 pub struct LogImage {
     pages: u32,
+    /// The page count behind all records.
+    count: u32,
     records: Vec<Record>,
 }
 
 impl Model for LogImage {
+    ghost use Rattle.std.specs.Prelude.{◌≡◌};
     ghost use Rattle.log_records.specs.Log.{IsLog, Log};
+    ghost use Rattle.log_records.specs.PageCount.{count_behind};
 
     ghost Value = { Log };
 
     ghost view = { λ image. record { pages = image.pages; records = image.records.items } };
 
     ghost invariant = { λ image.
-        IsLog (record { pages = image.pages; records = image.records.items }) };
+        IsLog (record { pages = image.pages; records = image.records.items })
+        × (image.count ≡ count_behind image.pages image.records.items) };
 }
 
 impl LogImage {
@@ -33,7 +39,25 @@ impl LogImage {
         requires { IsLog (record { pages = pages; records = records.items }) }
         ensures { result ≡ record { pages = pages; records = records.items } }
     {
-        LogImage { pages, records }
+        let count = count_behind(pages, &records);
+        LogImage {
+            pages,
+            count,
+            records,
+        }
+    }
+
+    /// The same where the page count behind all records is known.
+    pub(crate) fn from_parts(pages: u32, count: u32, records: Vec<Record>) -> LogImage
+        requires log { IsLog (record { pages = pages; records = records.items }) }
+        requires count { count ≡ count_behind pages records.items }
+        ensures { result ≡ record { pages = pages; records = records.items } }
+    {
+        LogImage {
+            pages,
+            count,
+            records,
+        }
     }
 
     /// The page count that its header gives.
@@ -44,20 +68,22 @@ impl LogImage {
         self.pages
     }
 
-    /// How many pages the volume has behind all records. No record gives a count so far, so it is
-    /// that of the header.
+    /// How many pages the volume has behind all records.
     pub fn page_count(&self) -> u32
         ensures count { result ≡ page_count self.now }
         ensures valid { IsLog self.now }
     {
-        self.pages
+        self.count
     }
 
-    /// The page counts of the volume, as the log goes on.
-    pub fn counts(&self, alloc: Global) -> PageCounts
-        ensures { result ≡ counts_of self.now }
+    /// The page counts of the volume, as the log goes on. An `Err` comes where memory for them is
+    /// refused.
+    pub fn counts(&self, alloc: Global) -> Result<PageCounts, AllocError>
+        ensures { IfOk result (λ counts. counts ≡ counts_of self.now) }
     {
-        PageCounts::new(alloc, self.pages)
+        let mut counts = PageCounts::new(alloc, self.pages);
+        note_counts(&mut counts, &self.records)?;
+        Ok(counts)
     }
 
     /// The records, the oldest first. The record at index i has LSN 64 * (i + 1).
@@ -80,6 +106,7 @@ impl LogImage {
         ensures { self.new ≡ record self.old { records = take count self.old.records } }
     {
         self.records.truncate(count);
+        self.count = count_behind(self.pages, &self.records);
     }
 
     /// Its parts: the page count that its header gives, and the records.
@@ -97,6 +124,7 @@ impl RecordSink for LogImage {
     fn start(alloc: Global, pages: u32) -> Result<LogImage, AllocError> {
         Ok(LogImage {
             pages,
+            count: pages,
             records: Vec::new(alloc),
         })
     }
@@ -108,6 +136,7 @@ impl RecordSink for LogImage {
         } else {
             self.records.extend_from_slice(next)?;
         }
+        self.count = count_behind(self.count, next);
         Ok(())
     }
 }

@@ -13,8 +13,8 @@ ghost use Rattle.log_store.specs.Scan.{HasAll, HasTaken};
 use crate::fault::LogReadFault;
 use crate::sink::RecordSink;
 use log_history::History;
-use log_records::{HEADER_BYTES, MAX_RECORDS, RECORD_BYTES, named_slot, page_count, record_at};
-use page_core::{LSN_STEP, Lsn, MAX_TURNS, Turn, keep_from, read_more, zeros};
+use log_records::{HEADER_BYTES, MAX_RECORDS, RECORD_BYTES, log_header, named_slot, record_at};
+use page_core::{Format, LSN_STEP, Lsn, MAX_TURNS, Turn, keep_from, read_more, zeros};
 use std::alloc::Global;
 use std::io::Read;
 
@@ -45,18 +45,19 @@ fn look_ahead(history: &History, bytes: &[u8]) -> u64 {
 /// Takes the next record, which stands behind the first `count`, if it may follow them.
 #[inline(always)]
 fn take_record<S: RecordSink>(
+    format: Format,
     sink: &mut S,
     history: &mut History,
     count: usize,
     bytes: &[u8],
 ) -> Result<(), LogReadFault>
     requires whole { length bytes.now ≡ RECORD_BYTES }
-    requires so_far { (given : List ℕ) × HasTaken S.holds sink.old history.old count given }
+    requires so_far { (given : List ℕ) × HasTaken S.holds format sink.old history.old count given }
     ensures ok { OnOk result ((given : List ℕ)
-        → HasTaken S.holds sink.old history.old count given
-        → HasTaken S.holds sink.new history.new (count + 1) (given ++ bytes.now)) }
+        → HasTaken S.holds format sink.old history.old count given
+        → HasTaken S.holds format sink.new history.new (count + 1) (given ++ bytes.now)) }
     ensures first { IfErr result (λ fault. (given rest : List ℕ)
-        → HasTaken S.holds sink.old history.old count given
+        → HasTaken S.holds format sink.old history.old count given
         → Refuses (given ++ (bytes.now ++ rest)) fault) }
     ensures of_bytes { IfErr result IsNoReadFault }
 {
@@ -65,7 +66,7 @@ fn take_record<S: RecordSink>(
     }
     let at = Lsn(LSN_STEP * (count as u64 + 1));
     let pages = history.pages().len() as u32;
-    let Some(record) = record_at(bytes, at, pages) else {
+    let Some(record) = record_at(bytes, at, format, pages) else {
         return Err(LogReadFault::BadRecord(at));
     };
     if !history.follow(&record)? {
@@ -77,18 +78,19 @@ fn take_record<S: RecordSink>(
 /// Takes the whole records among these bytes, which stand behind the first `count` records. What it
 /// answers says nothing, but a compiler must keep the looks ahead for it.
 fn take_records<S: RecordSink>(
+    format: Format,
     sink: &mut S,
     history: &mut History,
     count: usize,
     bytes: &[u8],
 ) -> Result<u64, LogReadFault>
-    requires { (given : List ℕ) × HasTaken S.holds sink.old history.old count given }
+    requires { (given : List ℕ) × HasTaken S.holds format sink.old history.old count given }
     ensures ok { OnOk result ((given : List ℕ)
-        → HasTaken S.holds sink.old history.old count given
-        → HasTaken S.holds sink.new history.new (count + length bytes.now / RECORD_BYTES)
+        → HasTaken S.holds format sink.old history.old count given
+        → HasTaken S.holds format sink.new history.new (count + length bytes.now / RECORD_BYTES)
         (given ++ take (RECORD_BYTES * (length bytes.now / RECORD_BYTES)) bytes.now)) }
     ensures first { IfErr result (λ fault. (given rest : List ℕ)
-        → HasTaken S.holds sink.old history.old count given
+        → HasTaken S.holds format sink.old history.old count given
         → Refuses (given ++ (bytes.now ++ rest)) fault) }
     ensures of_bytes { IfErr result IsNoReadFault }
 {
@@ -100,7 +102,7 @@ fn take_records<S: RecordSink>(
             seen ^= look_ahead(history, &bytes[RECORD_BYTES * i..RECORD_BYTES * end]);
         }
         let record = &bytes[RECORD_BYTES * i..RECORD_BYTES * i + RECORD_BYTES];
-        take_record(sink, history, count + i, record)?;
+        take_record(format, sink, history, count + i, record)?;
     }
     Ok(seen)
 }
@@ -134,23 +136,24 @@ fn read_header<R: Read>(reader: &mut R, header: &mut [u8]) -> Result<u32, LogRea
 /// Reads the records behind the header, to the input's end.
 fn read_records<R: Read, S: RecordSink>(
     reader: &mut R,
+    format: Format,
     scan: &mut Scan<S>,
     turns: u32,
     buffer: &mut [u8],
 ) -> Result<(), LogReadFault>
     requires room { 128 ≤ length buffer.old }
-    requires taken { (given : List ℕ) × HasTaken S.holds scan.old.sink scan.old.history 0 given }
+    requires taken { (given : List ℕ) × HasTaken S.holds format scan.old.sink scan.old.history 0 given }
     ensures known { StaysKnown (R.remaining reader.old) (R.remaining reader.new) }
     ensures end { OnOk result (IsAtEnd (R.remaining reader.new)) }
     ensures found { OnOk result ((given : List ℕ)
-        → HasTaken S.holds scan.old.sink scan.old.history 0 given
+        → HasTaken S.holds format scan.old.sink scan.old.history 0 given
         → (read : List ℕ) × (Consumes (R.remaining reader.old) (R.remaining reader.new) read
         × HasAll S.holds scan.new.sink scan.new.history (given ++ read))) }
     ensures first { IfErr result (λ fault. (given : List ℕ)
-        → HasTaken S.holds scan.old.sink scan.old.history 0 given
+        → HasTaken S.holds format scan.old.sink scan.old.history 0 given
         → IfSome (R.remaining reader.old) (λ rest. Refuses (given ++ rest) fault)) }
     ensures unread { IfErr result (λ fault. (given : List ℕ)
-        → HasTaken S.holds scan.old.sink scan.old.history 0 given
+        → HasTaken S.holds format scan.old.sink scan.old.history 0 given
         → GaveNoFault given (R.remaining reader.old) (R.remaining reader.new) fault) }
 {
     let mut filled = 0;
@@ -162,7 +165,7 @@ fn read_records<R: Read, S: RecordSink>(
             Turn::Failed => return Err(LogReadFault::ReadFault),
         }
         let bytes = &buffer[..filled];
-        let seen = take_records(&mut scan.sink, &mut scan.history, count, bytes)?;
+        let seen = take_records(format, &mut scan.sink, &mut scan.history, count, bytes)?;
         count += filled / RECORD_BYTES;
         filled = keep_rest(buffer, filled);
         buffer[filled] = (seen % 256) as u8;
@@ -225,14 +228,20 @@ pub fn scan_log<R: Read, S: RecordSink + Drop>(
 {
     let mut header = [0; HEADER_BYTES];
     let turns = read_header(reader, &mut header)?;
-    let Some(pages) = page_count(&header) else {
+    let Some(found) = log_header(&header) else {
         return Err(LogReadFault::BadHeader);
     };
     let mut buffer = zeros(alloc, BUFFER_BYTES)?;
     let mut scan = Scan {
-        sink: S::start(alloc, pages)?,
-        history: History::start(alloc, pages)?,
+        sink: S::start(alloc, found.pages)?,
+        history: History::start(alloc, found.pages)?,
     };
-    read_records(reader, &mut scan, MAX_TURNS - turns, &mut buffer)?;
+    read_records(
+        reader,
+        found.format,
+        &mut scan,
+        MAX_TURNS - turns,
+        &mut buffer,
+    )?;
     Ok(scan)
 }

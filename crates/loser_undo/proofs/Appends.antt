@@ -2,7 +2,7 @@
 use Rattle.std.proofs.Common.{◌≡◌, ◌+◌, ◌*◌, ◌≤◌, List, [], ◌∷◌, ◌++◌, length, arith}
 use Rattle.std.proofs.lemmas.List.{length_push}
 use Rattle.log_records.specs.declared.record.Record.{Record}
-use Rattle.log_records.specs.declared.record.Record.TheVariants.{Begin, Update, BeginChkpt, ChkptPages, ChkptTxns, EndChkpt}
+use Rattle.log_records.specs.declared.record.Record.TheVariants.{Begin, Update, BeginChkpt, ChkptPages, ChkptTxns, EndChkpt, Extend}
 use Rattle.log_history.specs.Linked.{IsLinked, MayFollow}
 use Rattle.log_history.specs.Transactions.{owed}
 use Rattle.log_history.proofs.Histories.{along_linked}
@@ -20,6 +20,7 @@ needs_few (BeginChkpt lsn) = omega arith
 needs_few (ChkptPages lsn begin pages) = omega arith
 needs_few (ChkptTxns lsn begin t state last undo) = omega arith
 needs_few (EndChkpt lsn begin redo) = omega arith
+needs_few (Extend lsn pages) = omega arith
 needs_few other = omega arith
 
 pub owed_few : (rs : List Record) → IsLinked rs → length rs + owed rs ≤ 3 * length rs

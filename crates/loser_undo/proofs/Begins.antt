@@ -7,7 +7,7 @@ use Rattle.std.proofs.lemmas.List.{append-nil, get_or_append_left, length-append
 use Rattle.std.proofs.lemmas.List.Elements.{Contains-append_left, Contains-push}
 use Rattle.log_records.specs.declared.record.Record.{Record}
 use Rattle.log_records.specs.declared.record.Record.TheVariants.{Begin, Update, Comp, Commit, Abort, End, BeginChkpt}
-use Rattle.log_records.specs.declared.record.Record.TheVariants.{ChkptPages, ChkptTxns, EndChkpt}
+use Rattle.log_records.specs.declared.record.Record.TheVariants.{ChkptPages, ChkptTxns, EndChkpt, Extend}
 use Rattle.log_records.specs.Log.{IsLog, Log, lsn_of}
 use Rattle.log_records.specs.Record.{own_lsn}
 use Rattle.log_history.specs.Checkpoint.{Checkpoint, IsCompleteCheckpoint, checkpoint_after, open_checkpoint}
@@ -29,6 +29,8 @@ begin_step rs (ChkptPages lsn begin pages) (Some c) has = Contains-append_left r
 begin_step rs (ChkptTxns lsn begin t state last undo) None has = tt
 begin_step rs (ChkptTxns lsn begin t state last undo) (Some c) has = Contains-append_left rs _ (BeginChkpt c.begin) has
 begin_step rs (EndChkpt lsn begin redo) o has = tt
+begin_step rs (Extend lsn pages) None has = tt
+begin_step rs (Extend lsn pages) (Some c) has = Contains-append_left rs _ (BeginChkpt c.begin) has
 begin_step rs (Begin lsn u) None has = tt
 begin_step rs (Begin lsn u) (Some c) has = Contains-append_left rs _ (BeginChkpt c.begin) has
 begin_step rs (Update lsn u prev page slot change) None has = tt

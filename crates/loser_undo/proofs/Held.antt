@@ -11,7 +11,7 @@ use Rattle.page_core.specs.declared.change.Change.{Change}
 use Rattle.log_records.specs.declared.limits.TheConstants.{MAX_OPEN}
 use Rattle.log_records.specs.declared.record.Record.{Record}
 use Rattle.log_records.specs.declared.record.Record.TheVariants.{Abort, Begin, BeginChkpt, ChkptPages, ChkptTxns, Commit}
-use Rattle.log_records.specs.declared.record.Record.TheVariants.{Comp, End, EndChkpt, Update}
+use Rattle.log_records.specs.declared.record.Record.TheVariants.{Comp, End, EndChkpt, Extend, Update}
 use Rattle.log_history.specs.Linked.{IsLinked, MayFollow}
 use Rattle.log_history.specs.Table.{TxnEntry, Table, compensated, entry_after, entry_of, noted, owed_by_entry, table_of}
 use Rattle.log_history.specs.Transactions.{begun, is_open, last_lsn, open_in, owed}
@@ -121,6 +121,7 @@ few_noted rs (BeginChkpt lsn) linked may few = few
 few_noted rs (ChkptPages lsn begin pages) linked may few = few
 few_noted rs (ChkptTxns lsn begin t state last undo) linked may few = few
 few_noted rs (EndChkpt lsn begin redo) linked may few = few
+few_noted rs (Extend lsn pages) linked may few = few
 
 pub few_losers : (rs : List Record) → IsLinked rs → length (losers_of rs) ≤ MAX_OPEN
 few_losers = along_linked (λ rs. length (losers_of rs) ≤ MAX_OPEN) (omega arith) (λ rs r linked may few.

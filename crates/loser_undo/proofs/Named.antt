@@ -13,7 +13,7 @@ use Rattle.std.proofs.lemmas.List.Folds.{list_any-append}
 use Rattle.std.proofs.lemmas.List.Sums.{fold-append}
 use Rattle.log_records.specs.declared.record.Record.{Record}
 use Rattle.log_records.specs.declared.record.Record.TheVariants.{Begin, Update, Comp, Commit, Abort, End, BeginChkpt}
-use Rattle.log_records.specs.declared.record.Record.TheVariants.{ChkptPages, ChkptTxns, EndChkpt}
+use Rattle.log_records.specs.declared.record.Record.TheVariants.{ChkptPages, ChkptTxns, EndChkpt, Extend}
 use Rattle.log_records.specs.Log.{Log, lsn_of}
 use Rattle.log_records.specs.Record.{own_lsn}
 use Rattle.log_history.specs.Checkpoint.{Checkpoint, IsCompleteCheckpoint, checkpoint_after, open_checkpoint}
@@ -39,6 +39,7 @@ unnamed (End lsn u prev) t some other same = eqb-false u t other same
 unnamed (BeginChkpt lsn) t some other same = some (sym same)
 unnamed (ChkptPages lsn begin pages) t some other same = some (sym same)
 unnamed (EndChkpt lsn begin redo) t some other same = some (sym same)
+unnamed (Extend lsn pages) t some other same = some (sym same)
 
 record IsLeft (before after : List Record) (t : ℕ) : Type 0 where
   still_open : is_open after t ≡ is_open before t
@@ -81,6 +82,7 @@ begin_below b (r ∷ p) o below all =
     step (ChkptTxns lsn begin t state last undo) None lt below = tt
     step (ChkptTxns lsn begin t state last undo) (Some c) lt below = below
     step (EndChkpt lsn begin redo) o lt below = tt
+    step (Extend lsn pages) o lt below = below
     step (Begin lsn u) o lt below = below
     step (Update lsn u prev page slot change) o lt below = below
     step (Comp lsn u prev undo page slot change) o lt below = below
@@ -103,6 +105,7 @@ entries_named N (r ∷ p) o has all =
     step (ChkptTxns lsn begin t state last undo) None it has = tt
     step (ChkptTxns lsn begin t state last undo) (Some c) it has = All-push N c.txns t has it
     step (EndChkpt lsn begin redo) o it has = tt
+    step (Extend lsn pages) o it has = has
     step (Begin lsn u) o it has = has
     step (Update lsn u prev page slot change) o it has = has
     step (Comp lsn u prev undo page slot change) o it has = has

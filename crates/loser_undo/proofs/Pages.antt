@@ -1,5 +1,6 @@
 -- The pages of a log after undo.
-use Rattle.std.proofs.Common.{◌≡◌, ℕ, ◌<◌, ◌++◌, List, get_or, length, map, sym, ap, ◌∙◌, arith}
+use Rattle.std.proofs.Common.{◌≡◌, ℕ, ◌<◌, ◌++◌, ◌∷◌, [], Bool, true, false, cond, List, get_or, length, map, refl, sym, ap, ◌∙◌, arith}
+use Rattle.std.specs.List.{fold}
 use Rattle.std.specs.Prelude.{slice_index}
 use Rattle.std.proofs.lemmas.List.{take-append-drop}
 use Rattle.page_core.specs.declared.page.Page.{Page}
@@ -11,9 +12,10 @@ use Rattle.log_records.proofs.Images.{length-redo_all, redo_all-append}
 use Rattle.log_history.specs.Linked.{IsLinked}
 use Rattle.log_history.proofs.Followed.{number_of_volume}
 use Rattle.loser_undo.specs.Recovery.{HasCommitted, IsWhole, Recovery, appended, undone}
-use Rattle.loser_undo.specs.Undo.{after_undo}
+use Rattle.loser_undo.specs.Undo.{LostChange, after_undo, comp_of, end_of, is_undone, lost_changes, spent, taken_back, with_comp, with_end}
 use Rattle.loser_undo.proofs.Valid.{log_comes_first, undone_number}
-use Rattle.log_records.proofs.PageCounts.{count_is_first}
+use Rattle.log_records.proofs.PageCounts.{count_behind-push}
+use Rattle.log_records.specs.PageCount.{count_behind}
 use Rattle.log_records.specs.Log.{page_count}
 
 -- the log, and then what undo appends
@@ -22,9 +24,32 @@ log_and_appended log =
     ap (λ xs. xs ++ appended log) (sym (log_comes_first log.records))
     ∙ take-append-drop (length log.records) (after_undo log.records)
 
--- undo leaves the page count as it is: no kind of record gives one so far
+-- ---- undo leaves the page count as it is: it appends no Extend
+
+count_taken_back : (pages : ℕ) (rs : List Record) (l : LostChange)
+    → count_behind pages (taken_back rs l) ≡ count_behind pages rs
+unfolding taken_back
+count_taken_back pages rs l = by (is_undone (with_comp rs l) l.txn)
+  where
+    after : count_behind pages (with_comp rs l) ≡ count_behind pages rs
+    after = count_behind-push pages rs (comp_of rs l)
+
+    by : (b : Bool) → count_behind pages (cond b (with_end (with_comp rs l) l.txn) (with_comp rs l)) ≡ count_behind pages rs
+    by true = count_behind-push pages (with_comp rs l) (end_of (with_comp rs l) l.txn) ∙ after
+    by false = after
+
+count_fold : {X : Type 0} (pages : ℕ) (f : List Record → X → List Record)
+    → ((rs : List Record) (x : X) → count_behind pages (f rs x) ≡ count_behind pages rs) → (rs : List Record) (xs : List X)
+    → count_behind pages (fold f rs xs) ≡ count_behind pages rs
+count_fold pages f same rs [] = refl
+count_fold pages f same rs (x ∷ xs) = count_fold pages f same (f rs x) xs ∙ same rs x
+
 pub undone_count : (log : Log) → page_count log ≡ page_count (record log { records = after_undo log.records })
-undone_count log = count_is_first log ∙ sym (count_is_first (record log { records = after_undo log.records }))
+unfolding after_undo
+undone_count log =
+    let ended = fold with_end log.records (spent log.records) in
+    sym (count_fold log.pages taken_back (count_taken_back log.pages) ended (lost_changes log.records)
+    ∙ count_fold log.pages with_end (λ rs t. count_behind-push log.pages rs (end_of rs t)) log.records (spent log.records))
 
 pub undone_whole : (r : Recovery) → IsWhole r → IsWhole (undone r)
 undone_whole r whole =

@@ -8,7 +8,7 @@ use Rattle.std.proofs.lemmas.Option.{same_Some}
 use Rattle.log_records.specs.declared.record.Record.{Record}
 use Rattle.log_records.specs.declared.record.Record.TheVariants.{Begin, Update, Comp, Commit}
 use Rattle.log_records.specs.declared.record.Record.TheVariants.{Abort, End, BeginChkpt}
-use Rattle.log_records.specs.declared.record.Record.TheVariants.{ChkptPages, ChkptTxns, EndChkpt}
+use Rattle.log_records.specs.declared.record.Record.TheVariants.{ChkptPages, ChkptTxns, EndChkpt, Extend}
 use Rattle.log_records.specs.Log.{IsLog, Log}
 use Rattle.log_records.specs.Record.{own_lsn}
 use Rattle.log_history.specs.declared.pending_change.PendingChange.{PendingChange}
@@ -73,6 +73,8 @@ was_open rs (ChkptTxns lsn begin t state last undo) linked may still =
     absurd (aside_own rs (ChkptTxns lsn begin t state last undo) linked may refl still)
 was_open rs (EndChkpt lsn begin redo) linked may still =
     absurd (aside_own rs (EndChkpt lsn begin redo) linked may refl still)
+was_open rs (Extend lsn pages) linked may still =
+    absurd (aside_own rs (Extend lsn pages) linked may refl still)
 
 -- the way back from an earlier record is as it was
 still_stack : (rs : List Record) (r : Record) (t at : ℕ) (s : List PendingChange)

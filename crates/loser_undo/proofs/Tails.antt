@@ -12,7 +12,7 @@ use Rattle.std.proofs.lemmas.Map.Views.{any-filter_same}
 use Rattle.std.proofs.Math.Bool.{or-false, or-true}
 use Rattle.log_records.specs.declared.record.Record.{Record}
 use Rattle.log_records.specs.declared.record.Record.TheVariants.{Begin, Update, Comp, Commit, Abort, End, BeginChkpt}
-use Rattle.log_records.specs.declared.record.Record.TheVariants.{ChkptPages, ChkptTxns, EndChkpt}
+use Rattle.log_records.specs.declared.record.Record.TheVariants.{ChkptPages, ChkptTxns, EndChkpt, Extend}
 use Rattle.log_records.specs.Record.{own_lsn}
 use Rattle.log_history.specs.Linked.{IsLinked, MayFollow}
 use Rattle.log_history.specs.Transactions.{begun, begun_by, is_last, is_open, last_or, open_in, txn_of}
@@ -185,6 +185,7 @@ told_step rs (BeginChkpt lsn) named linked may = aside_step rs (BeginChkpt lsn) 
 told_step rs (ChkptPages lsn begin pages) named linked may =
     aside_step rs (ChkptPages lsn begin pages) named linked refl refl refl
 told_step rs (EndChkpt lsn begin redo) named linked may = aside_step rs (EndChkpt lsn begin redo) named linked refl refl refl
+told_step rs (Extend lsn pages) named linked may = aside_step rs (Extend lsn pages) named linked refl refl refl
 
 -- ---- all of them
 

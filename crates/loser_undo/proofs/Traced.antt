@@ -12,7 +12,7 @@ use Rattle.std.proofs.lemmas.List.{reverse-append}
 use mathlib.Core.List.{reverse-cons}
 use Rattle.log_records.specs.declared.record.Record.{Record}
 use Rattle.log_records.specs.declared.record.Record.TheVariants.{Begin, Update, Comp, Commit, Abort, End, BeginChkpt}
-use Rattle.log_records.specs.declared.record.Record.TheVariants.{ChkptPages, ChkptTxns, EndChkpt}
+use Rattle.log_records.specs.declared.record.Record.TheVariants.{ChkptPages, ChkptTxns, EndChkpt, Extend}
 use Rattle.page_core.specs.declared.change.Change.{Change}
 use Rattle.log_records.specs.Log.{IsLog, Log, StandsAt, lsn_of}
 use Rattle.log_records.specs.Record.{own_lsn}
@@ -136,6 +136,7 @@ change_leads (BeginChkpt lsn) c is = cc
 change_leads (ChkptPages lsn begin pages) c is = cc
 change_leads (ChkptTxns lsn begin u state last undo) c is = cc
 change_leads (EndChkpt lsn begin redo) c is = cc
+change_leads (Extend lsn pages) c is = cc
 
 -- the search from behind the Update of the change that it meets first
 record IsBehind (rs : List Record) (t first : ℕ) (p : PendingChange) (ps : List PendingChange) : Type 0 where
@@ -309,6 +310,8 @@ own_traced rs (ChkptTxns lsn begin t state last undo) linked may placed at befor
     absurd (aside_own rs (ChkptTxns lsn begin t state last undo) linked may refl still)
 own_traced rs (EndChkpt lsn begin redo) linked may placed at before still =
     absurd (aside_own rs (EndChkpt lsn begin redo) linked may refl still)
+own_traced rs (Extend lsn pages) linked may placed at before still =
+    absurd (aside_own rs (Extend lsn pages) linked may refl still)
 
 traced_more : (rs : List Record) (r : Record) → IsLinked rs → MayFollow rs r → AreTraced rs → AreTraced (rs ++ r ∷ [])
 traced_more rs r linked may before placed t still =
@@ -404,6 +407,7 @@ goes_earlier pages at next (BeginChkpt lsn) stands goes = cc
 goes_earlier pages at next (ChkptPages lsn begin pages_found) stands goes = cc
 goes_earlier pages at next (ChkptTxns lsn begin u state last undo) stands goes = cc
 goes_earlier pages at next (EndChkpt lsn begin redo) stands goes = cc
+goes_earlier pages at next (Extend lsn count) stands goes = cc
 
 pub next_earlier : (log : Log) (at next : ℕ) (x : Record) → IsLog log → (r : Record) × StandsAtLsn log.records at r
     → ((r : Record) → StandsAtLsn log.records at r → x ≡ r) → way_back x ≡ Some next → next < at
@@ -432,6 +436,7 @@ comp_goes_earlier pages at prev (BeginChkpt lsn) stands comp = cc
 comp_goes_earlier pages at prev (ChkptPages lsn begin pages_found) stands comp = cc
 comp_goes_earlier pages at prev (ChkptTxns lsn begin u state last undo) stands comp = cc
 comp_goes_earlier pages at prev (EndChkpt lsn begin redo) stands comp = cc
+comp_goes_earlier pages at prev (Extend lsn count) stands comp = cc
 
 pub comp_earlier : (log : Log) (at prev : ℕ) (x : Record) → IsLog log → (r : Record) × StandsAtLsn log.records at r
     → ((r : Record) → StandsAtLsn log.records at r → x ≡ r) → before_comp x ≡ Some prev → prev < at

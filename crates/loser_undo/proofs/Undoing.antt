@@ -14,7 +14,8 @@ use Rattle.loser_undo.specs.Losers.{AreLosersOf}
 use Rattle.loser_undo.specs.Recovery.{appended}
 use Rattle.loser_undo.specs.Undo.{after_undo}
 use Rattle.loser_undo.specs.UndoRecords.{HasYielded, UndoView}
-use Rattle.log_records.proofs.PageCounts.{count_is_first, stands_in}
+use Rattle.log_records.proofs.PageCounts.{stands_in}
+use Rattle.loser_undo.proofs.Pages.{undone_count}
 use Rattle.log_records.specs.Log.{page_count}
 
 -- so far it has yielded these records, and these are the pages with their changes
@@ -80,8 +81,10 @@ module _ (log : Log) (start : List Page) (behind : List Record) (undo : UndoView
         let last = ap (λ (rs : List Record). get_or rs n r)
         (sym (append_assoc log.records behind (r ∷ [])))
         ∙ get_or-append_seam (log.records ++ behind) r [] r in
+        let goes : after_undo (log.records ++ (behind ++ r ∷ [])) ≡ after_undo log.records = more.goes_on in
         let long : page_count whole ≡ length pages =
-        count_is_first whole ∙ sym (count_is_first log) ∙ sym is.all
+        undone_count whole ∙ ap (λ (rs : List Record). page_count (record log { records = rs })) goes
+        ∙ sym (undone_count log) ∙ sym is.all
         ∙ sym (ap length is.made ∙ length-map start (λ page. image_from page behind)) in
         subst (λ (m : ℕ). IsWithin m r) long (subst (IsWithin (page_count whole)) last stands.within)
 
@@ -108,20 +111,21 @@ module _ (log : Log) (start : List Page) (behind : List Record) (undo : UndoView
 
 -- ---- the records are appended too
 
-abbrev pub log_of : List Page → List Record → Log
-log_of pages rs = record { pages = length pages; records = rs }
+abbrev pub log_of : ℕ → List Record → Log
+log_of first rs = record { pages = first; records = rs }
 
 pub record IsAppending (before : List Record) (start : List Page) (room : ℕ) (undo : UndoView) (records : List Record)
     (pages : List Page) (capacity : ℕ) : Type 0 where
+  pub first : ℕ
   pub behind : List Record
-  pub way : IsOnWay (log_of start before) start behind undo pages
+  pub way : IsOnWay (log_of first before) start behind undo pages
   pub appended : records ≡ before ++ behind
   pub capacity_is : capacity ≡ room
 
 pub next_fits : (before : List Record) (start : List Page) (room : ℕ) (undo new : UndoView) (records : List Record)
     (pages : List Page) (capacity : ℕ) (r : Record)
     → (is : IsAppending before start room undo records pages capacity)
-    → HasYielded (log_of start before) (is.behind ++ r ∷ []) new → length before + owed before ≤ room
+    → HasYielded (log_of is.first before) (is.behind ++ r ∷ []) new → length before + owed before ≤ room
     → length records < capacity
 next_fits before start room undo new records pages capacity r is more fits =
     let claims = more.room in
@@ -131,5 +135,5 @@ next_fits before start room undo new records pages capacity r is more fits =
       fits,
       is.capacity_is,
       ap (length {A = Record}) is.appended,
-      many (log_of start before) start is.behind undo pages is.way r new more,
+      many (log_of is.first before) start is.behind undo pages is.way r new more,
     )

@@ -26,7 +26,7 @@ use Rattle.loser_undo.specs.Undo.{with_end, taken_back}
 use Rattle.loser_undo.proofs.Committed.{committed_stays}
 use Rattle.loser_undo.proofs.Goes.{Finished, all_undone}
 use Rattle.log_records.specs.Log.{page_count}
-use Rattle.log_records.specs.PageCount.{count_behind}
+use Rattle.log_records.specs.PageCount.{GivesMore, count_behind}
 
 -- ---- all changes stay valid
 
@@ -98,11 +98,12 @@ record IsLogWithRoom (pages : ℕ) (rs : List Record) : Type 0 where
   room : claimed rs ≤ MAX_RECORDS
 
 grows : (pages : ℕ) (rs : List Record) (r : Record) → IsLogWithRoom pages rs
-    → claimed (rs ++ r ∷ []) ≤ claimed rs → StandsAt (count_behind pages rs) (lsn_of (length rs)) r → IsLogWithRoom pages (rs ++ r ∷ [])
-grows pages rs r has no_more stands =
+    → claimed (rs ++ r ∷ []) ≤ claimed rs → StandsAt (count_behind pages rs) (lsn_of (length rs)) r
+    → GivesMore (count_behind pages rs) r → IsLogWithRoom pages (rs ++ r ∷ [])
+grows pages rs r has no_more stands more =
     let room = has.room in
     record {
-      valid = valid_next (log_of pages rs) r has.valid (omega (arith, room, no_more, length_push rs r)) stands;
+      valid = valid_next (log_of pages rs) r has.valid (omega (arith, room, no_more, length_push rs r)) stands more;
       room = omega (arith, room, no_more);
     }
 
@@ -136,13 +137,13 @@ room_with_end : (pages : ℕ) (rs : List Record) (t : ℕ) → IsLinked rs → M
     → IsLogWithRoom pages (with_end rs t)
 room_with_end pages rs t linked may has =
     grows pages rs (end_of rs t) has (omega (arith, claimed_push rs (end_of rs t) linked may))
-    (end_stands (log_of pages rs) t has.valid linked may.0.still_open)
+    (end_stands (log_of pages rs) t has.valid linked may.0.still_open) tt
 
 room_with_comp : (pages : ℕ) (rs : List Record) (l : LostChange) → IsLinked rs → MayFollow rs (comp_of rs l)
     → last_of (pending rs l.txn) ≡ Some l.change → IsLogWithRoom pages rs → IsLogWithRoom pages (with_comp rs l)
 room_with_comp pages rs l linked may last has =
     grows pages rs (comp_of rs l) has (omega (arith, claimed_push rs (comp_of rs l) linked may))
-    (comp_stands (log_of pages rs) l has.valid linked may.0.still_open last)
+    (comp_stands (log_of pages rs) l has.valid linked may.0.still_open last) tt
 
 pub undone_fits : (log : Log) → IsLog log → IsLinked log.records → length log.records + owed log.records ≤ MAX_RECORDS
     → IsLog (record log { records = after_undo log.records })

@@ -39,6 +39,7 @@ use Rattle.loser_undo.proofs.Phases.{comp_follows, end_follows, rising_open}
 use Rattle.loser_undo.proofs.Rising.{IsRising, log_placed, lsns_rise}
 use Rattle.loser_undo.proofs.Valid.{comp_stands, end_stands}
 use Rattle.log_records.specs.Log.{page_count}
+use Rattle.log_records.specs.PageCount.{GivesMore}
 
 -- ---- lists
 
@@ -156,10 +157,11 @@ module _ (log : Log) (behind : List Record) (undo : UndoView) (has : HasYielded 
           }
 
   -- a record that may follow, and with which undo goes on to the same log
-  grown : (r : Record) (new : UndoView) → MayFollow rs r → StandsAt (page_count whole) (lsn_of (length rs)) r → needs r ≡ 0
+  grown : (r : Record) (new : UndoView) → MayFollow rs r → StandsAt (page_count whole) (lsn_of (length rs)) r
+      → GivesMore (page_count whole) r → needs r ≡ 0
       → after_undo (rs ++ r ∷ []) ≡ after_undo rs → new.losers ≡ losers_of (rs ++ r ∷ [])
       → new.count ≡ undo.count + 1 → HasYielded log (behind ++ r ∷ []) new
-  grown r new may stands none goes losers count =
+  grown r new may stands gives none goes losers count =
       let more : rs ++ r ∷ [] ≡ log.records ++ (behind ++ r ∷ []) = append_assoc log.records behind (r ∷ []) in
       let room = has.room in
       let fits = has.fits in
@@ -167,7 +169,7 @@ module _ (log : Log) (behind : List Record) (undo : UndoView) (has : HasYielded 
       let long = length_push rs r in
       record {
         valid = subst (λ (xs : List Record). IsLog (record log { records = xs })) more
-            (valid_next whole r has.valid (omega (arith, room, fits, few, long)) stands);
+            (valid_next whole r has.valid (omega (arith, room, fits, few, long)) stands gives);
         losers = subst (λ (xs : List Record). AreLosersOf xs new.losers) more (record {
           linked = linked_push rs r linked may;
           few = omega (arith, room, fits, few, long);
@@ -224,7 +226,7 @@ module _ (log : Log) (behind : List Record) (undo : UndoView) (has : HasYielded 
       (ap (λ es. slice_get es j) has.losers.made ∙ slice_get-map (entry_of rs) (open_in rs) j
       ∙ ap (option_map (entry_of rs)) listed))) in
       subst (λ (x : Record). HasYielded log (behind ++ x ∷ []) new) (sym is)
-      (grown (end_of rs t) new may (end_stands whole t has.valid linked it.still) refl (goes_end rs t _ linked at)
+      (grown (end_of rs t) new may (end_stands whole t has.valid linked it.still) tt refl (goes_end rs t _ linked at)
       (ap (λ (v : UndoView). v.losers) left ∙ removed undo.losers place e in_order there
       ∙ ap (filter (λ (x : TxnEntry). not (eqb x.txn t))) has.losers.made
       ∙ sym (end_of_losers rs (end_of rs t) (lsn_of (length rs)) t (last_lsn rs t) linked may refl))
@@ -303,7 +305,7 @@ module _ (log : Log) (behind : List Record) (undo : UndoView) (has : HasYielded 
       ∙ slice_get-map (entry_of rs) (open_in rs) j ∙ ap (option_map (entry_of rs)) listed)))) in
       let lsn = ap lsn_of has.count in
       subst (λ (x : Record). HasYielded log (behind ++ x ∷ []) new) (sym is)
-      (grown (comp_of rs l) new may (comp_stands whole l has.valid linked it.still last_is) refl
+      (grown (comp_of rs l) new may (comp_stands whole l has.valid linked it.still last_is) tt refl
       (goes_comp rs l lost.0 linked (log_placed whole has.valid) lost.1 none)
       (ap (λ (v : UndoView). v.losers) left
       ∙ changed (compensated (lsn_of undo.count)) undo.losers place e e in_order there

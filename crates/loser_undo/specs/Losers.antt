@@ -7,7 +7,7 @@ use Rattle.log_records.specs.declared.limits.TheConstants.{MAX_RECORDS}
 use Rattle.log_records.specs.declared.record.Record.{Record}
 use Rattle.log_records.specs.declared.record.Record.TheVariants.{Begin, Update, Comp, Commit, Abort}
 use Rattle.log_records.specs.declared.record.Record.TheVariants.{End, BeginChkpt, ChkptPages}
-use Rattle.log_records.specs.declared.record.Record.TheVariants.{ChkptTxns, EndChkpt}
+use Rattle.log_records.specs.declared.record.Record.TheVariants.{ChkptTxns, EndChkpt, Extend}
 use Rattle.log_records.specs.Log.{lsn_of}
 use Rattle.log_history.specs.declared.pending_change.PendingChange.{PendingChange}
 use Rattle.log_history.specs.Linked.{IsLinked}
@@ -49,6 +49,7 @@ way_back (BeginChkpt lsn) = None
 way_back (ChkptPages lsn begin pages) = None
 way_back (ChkptTxns lsn begin t state last undo_next) = None
 way_back (EndChkpt lsn begin redo) = None
+way_back (Extend lsn pages) = None
 
 -- from this LSN on the search meets these records, and then the Begin
 abbrev pub Leads : List Record → ℕ → ℕ → ℕ → List Record → Type 0
@@ -69,6 +70,7 @@ change_by (BeginChkpt lsn) = None
 change_by (ChkptPages lsn begin pages) = None
 change_by (ChkptTxns lsn begin t state last undo_next) = None
 change_by (EndChkpt lsn begin redo) = None
+change_by (Extend lsn pages) = None
 
 -- the PrevLSN of a Comp
 abbrev pub before_comp : Record → Option ℕ
@@ -82,6 +84,7 @@ before_comp (BeginChkpt lsn) = None
 before_comp (ChkptPages lsn begin pages) = None
 before_comp (ChkptTxns lsn begin t state last undo_next) = None
 before_comp (EndChkpt lsn begin redo) = None
+before_comp (Extend lsn pages) = None
 
 -- from this LSN on PrevLSN leads over Comps, of which these are the LSNs behind the first, to a
 -- record that is an Abort or is none

@@ -6,7 +6,7 @@ use Rattle.page_core.specs.Change.{undo_of}
 use Rattle.log_records.specs.declared.record.Record.{Record}
 use Rattle.log_records.specs.declared.record.Record.TheVariants.{Begin, Update, Comp, Commit, Abort}
 use Rattle.log_records.specs.declared.record.Record.TheVariants.{End, BeginChkpt, ChkptPages}
-use Rattle.log_records.specs.declared.record.Record.TheVariants.{ChkptTxns, EndChkpt}
+use Rattle.log_records.specs.declared.record.Record.TheVariants.{ChkptTxns, EndChkpt, Extend}
 use Rattle.log_records.specs.Log.{lsn_of}
 use Rattle.log_history.specs.declared.pending_change.PendingChange.{PendingChange}
 use Rattle.log_history.specs.Transactions.{is_open, last_lsn, open_in, pending}
@@ -37,6 +37,7 @@ lost_by rs (BeginChkpt lsn) = None
 lost_by rs (ChkptPages lsn begin pages) = None
 lost_by rs (ChkptTxns lsn begin txn state last undo_next) = None
 lost_by rs (EndChkpt lsn begin redo) = None
+lost_by rs (Extend lsn pages) = None
 
 -- the pending changes of all open transactions, the last first: LSNs rise along a log, so theirs
 -- fall

@@ -16,8 +16,8 @@ pub use redone::Redone;
 pub use tail::{OpenTxn, complete_checkpoints_begin_tails, open_at_end, open_by_tail};
 pub use undo_laws::{
     the_way_back_meets_the_stack, undo_commits_nothing, undo_fits_where_records_and_owed_ones_do,
-    undo_keeps_logs_linked, undo_leaves_none_open, undo_leaves_what_is_committed,
-    undo_only_appends, undo_takes_back_what_is_pending,
+    undo_keeps_logs_linked, undo_leaves_none_open, undo_leaves_the_page_count,
+    undo_leaves_what_is_committed, undo_only_appends, undo_takes_back_what_is_pending,
 };
 pub use undo_records::UndoRecords;
 pub use undone::{Undone, undo_all};

@@ -82,7 +82,10 @@ fn note(known: &mut Vec<OpenTxn>, next: &Record) -> Result<(), AllocError>
             take_out(known, txn);
             Ok(())
         }
-        Record::BeginChkpt { .. } | Record::ChkptPages { .. } | Record::EndChkpt { .. } => Ok(()),
+        Record::BeginChkpt { .. }
+        | Record::ChkptPages { .. }
+        | Record::EndChkpt { .. }
+        | Record::Extend { .. } => Ok(()),
     }
 }
 

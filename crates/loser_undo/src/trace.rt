@@ -56,7 +56,8 @@ fn way_back(met: &Record) -> Option<Lsn>
         | Record::BeginChkpt { .. }
         | Record::ChkptPages { .. }
         | Record::ChkptTxns { .. }
-        | Record::EndChkpt { .. } => None,
+        | Record::EndChkpt { .. }
+        | Record::Extend { .. } => None,
     }
 }
 
@@ -90,7 +91,8 @@ fn keep_change(found: &mut Vec<Pending>, met: &Record) -> Result<(), AllocError>
         | Record::BeginChkpt { .. }
         | Record::ChkptPages { .. }
         | Record::ChkptTxns { .. }
-        | Record::EndChkpt { .. } => {}
+        | Record::EndChkpt { .. }
+        | Record::Extend { .. } => {}
     }
     Ok(())
 }
@@ -147,7 +149,8 @@ fn before_comp(met: &Record) -> Option<Lsn>
         | Record::BeginChkpt { .. }
         | Record::ChkptPages { .. }
         | Record::ChkptTxns { .. }
-        | Record::EndChkpt { .. } => None,
+        | Record::EndChkpt { .. }
+        | Record::Extend { .. } => None,
     }
 }
 
@@ -164,6 +167,7 @@ fn is_abort(met: &Record) -> bool
         | Record::BeginChkpt { .. }
         | Record::ChkptPages { .. }
         | Record::ChkptTxns { .. }
-        | Record::EndChkpt { .. } => false,
+        | Record::EndChkpt { .. }
+        | Record::Extend { .. } => false,
     }
 }

@@ -7,7 +7,7 @@ ghost use Rattle.page_core.specs.declared.page.TheConstants.{SLOTS};
 ghost use Rattle.log_records.specs.declared.limits.TheConstants.{MAX_RECORDS};
 ghost use Rattle.log_records.specs.declared.record.Record.{Record};
 ghost use Rattle.log_records.specs.Image.{image};
-ghost use Rattle.log_records.specs.Log.{IsLog, Log};
+ghost use Rattle.log_records.specs.Log.{IsLog, Log, page_count};
 ghost use Rattle.log_history.specs.Committed.{committed};
 ghost use Rattle.log_history.specs.declared.pending_change.PendingChange.{PendingChange};
 ghost use Rattle.log_history.specs.Linked.{IsLinked, number_in};
@@ -41,6 +41,12 @@ pub fn undo_keeps_logs_linked()
 pub fn undo_leaves_none_open()
     ensures { (log : Log) → IsLog log → IsLinked log.records
         → open_in (after_undo log.records) ≡ [] }
+{}
+
+/// Undo leaves the page count of the volume as it is: it appends no Extend.
+pub fn undo_leaves_the_page_count()
+    ensures { (log : Log) → page_count (record log { records = after_undo log.records })
+        ≡ page_count log }
 {}
 
 /// What was committed stays, and nothing more is.

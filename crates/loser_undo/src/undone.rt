@@ -1,10 +1,10 @@
 //! Undoes a whole log.
 
-ghost use Rattle.std.specs.Prelude.{◌≡◌, ◌↔◌, ◌+◌, ◌<◌, ◌≤◌, drop, length, map, IfOk, IfErr};
+ghost use Rattle.std.specs.Prelude.{ℕ, ◌≡◌, ◌↔◌, ◌+◌, ◌<◌, ◌≤◌, drop, length, map, IfOk, IfErr};
 ghost use Rattle.std.specs.Prelude.{IsErrAnd, vec_capacity};
 ghost use Rattle.log_records.specs.declared.limits.TheConstants.{MAX_RECORDS};
 ghost use Rattle.log_records.specs.Image.{AreNumbered, image_from};
-ghost use Rattle.log_records.specs.Log.{IsLog};
+ghost use Rattle.log_records.specs.Log.{IsLog, page_count};
 ghost use Rattle.log_history.specs.Transactions.{owed};
 ghost use Rattle.loser_undo.specs.declared.fault.UndoFault.TheVariants.{LogFull};
 ghost use Rattle.loser_undo.specs.Losers.{AreLosersOf};
@@ -173,7 +173,8 @@ fn append_all(
     losers: Losers,
     mut pages: Vec<Page>,
 ) -> (Vec<Record>, Vec<Page>)
-    requires valid { IsLog (record { pages = length pages.items; records = records.items }) }
+    requires log { (first : ℕ) × (IsLog (record { pages = first; records = records.items })
+        × (page_count (record { pages = first; records = records.items }) ≡ length pages.items)) }
     requires losers { AreLosersOf records.items losers }
     requires room { length records.items + owed records.items ≤ MAX_RECORDS }
     requires fits { length records.items + owed records.items ≤ vec_capacity records }

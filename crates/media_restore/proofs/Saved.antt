@@ -57,7 +57,7 @@ of_log log master copies left =
       valid = valid;
       linked = subst (λ (k : Log). IsLinked k.records) (sym left.kept.made)
           (linked-take left.it.log.records left.retired.linked left.kept.count);
-      spelled = record { valid = valid; format = Second; spelled = refl };
+      spelled = record { valid = valid; format = Second; of_format = λ i d lt. tt; spelled = refl };
     }
 
 of_master : (log : Log) (master : Master) (copies : List CopyView) → AreLeft log master copies

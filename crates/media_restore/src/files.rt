@@ -145,8 +145,7 @@ fn restored<L: Read, M: Read, A: Read>(
 {
     let (kept, losers) = read_changes(alloc, log)?;
     read_master(master, &kept)?;
-    let counts = kept.counts(alloc);
-    let (pages, redo) = read_chain_pages(alloc, archives, &counts, kept.end())?;
+    let (pages, redo) = read_chain_pages(alloc, archives, kept.counts(), kept.end())?;
     recovered(rt, kept, losers, pages, redo)
 }
 

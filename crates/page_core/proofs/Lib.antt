@@ -1,6 +1,7 @@
-pub mod Pieces
-pub mod EightBytes
-pub mod Inputs
 pub mod Counts
+pub mod EightBytes
+pub mod Formats
+pub mod Inputs
 pub mod PageBytes
+pub mod Pieces
 pub mod Volumes

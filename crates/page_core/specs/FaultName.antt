@@ -47,6 +47,7 @@ fault_line name.RedoBeyondLog = codes "E39 RedoBeyondLog"
 fault_line name.PageBeyondLog = codes "E40 PageBeyondLog"
 fault_line name.Unsound = codes "E41 Unsound"
 fault_line name.NoSavepoint = codes "E42 NoSavepoint"
+fault_line name.NotLarger = codes "E43 NotLarger"
 
 -- the name, and a number behind it
 abbrev pub fault_line_with : FaultName → ℕ → List ℕ

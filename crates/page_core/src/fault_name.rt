@@ -49,6 +49,7 @@ pub enum FaultName {
     PageBeyondLog,
     Unsound,
     NoSavepoint,
+    NotLarger,
 }
 
 impl fmt::Display for FaultName {
@@ -113,6 +114,7 @@ impl FaultName {
             FaultName::PageBeyondLog => "E40 PageBeyondLog",
             FaultName::Unsound => "E41 Unsound",
             FaultName::NoSavepoint => "E42 NoSavepoint",
+            FaultName::NotLarger => "E43 NotLarger",
         }
     }
 }

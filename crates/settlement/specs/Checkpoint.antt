@@ -15,6 +15,7 @@ IsBegin (log.End lsn txn prev) = ⊥
 IsBegin (log.ChkptPages lsn begin pages) = ⊥
 IsBegin (log.ChkptTxns lsn begin txn state last undo_next) = ⊥
 IsBegin (log.EndChkpt lsn begin redo) = ⊥
+IsBegin (log.Extend lsn pages) = ⊥
 
 -- the EndChkpt of the checkpoint that began at this LSN, with this redo point
 abbrev pub IsEndOf : ℕ → ℕ → Record → Type 0
@@ -28,6 +29,7 @@ IsEndOf begin redo (log.End lsn txn prev) = ⊥
 IsEndOf begin redo (log.BeginChkpt lsn) = ⊥
 IsEndOf begin redo (log.ChkptPages lsn b pages) = ⊥
 IsEndOf begin redo (log.ChkptTxns lsn b txn state last undo_next) = ⊥
+IsEndOf begin redo (log.Extend lsn pages) = ⊥
 
 -- the log has such a record at this LSN, and it is forced
 pub record HasForced (rs : List Record) (forced_end lsn : ℕ) (IsSuch : Record → Type 0)

@@ -16,6 +16,7 @@ is_update (log.BeginChkpt lsn) = false
 is_update (log.ChkptPages lsn begin pages) = false
 is_update (log.ChkptTxns lsn begin txn state last undo_next) = false
 is_update (log.EndChkpt lsn begin redo) = false
+is_update (log.Extend lsn pages) = false
 
 -- how many changes were made, those that were taken back among them
 abbrev pub updates_in : List Record → ℕ

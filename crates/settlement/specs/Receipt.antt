@@ -51,6 +51,7 @@ step_of (log.BeginChkpt lsn) = None
 step_of (log.ChkptPages lsn begin pages) = None
 step_of (log.ChkptTxns lsn begin txn state last undo_next) = None
 step_of (log.EndChkpt lsn begin redo) = None
+step_of (log.Extend lsn pages) = None
 
 -- the record says that this transaction took this step
 abbrev pub IsStepOf : ℕ → TxnStep → Record → Type 0
@@ -69,6 +70,7 @@ IsUpdateOf txn page slot IsSuch (log.BeginChkpt lsn) = ⊥
 IsUpdateOf txn page slot IsSuch (log.ChkptPages lsn begin pages) = ⊥
 IsUpdateOf txn page slot IsSuch (log.ChkptTxns lsn begin t state last undo_next) = ⊥
 IsUpdateOf txn page slot IsSuch (log.EndChkpt lsn begin redo) = ⊥
+IsUpdateOf txn page slot IsSuch (log.Extend lsn pages) = ⊥
 
 -- the record is the one that the receipt speaks of
 abbrev pub IsRecordOf : Receipt → Record → Type 0

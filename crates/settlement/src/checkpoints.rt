@@ -75,7 +75,8 @@ fn is_begin(record: &Record) -> bool
         | Record::End { .. }
         | Record::ChkptPages { .. }
         | Record::ChkptTxns { .. }
-        | Record::EndChkpt { .. } => false,
+        | Record::EndChkpt { .. }
+        | Record::Extend { .. } => false,
     }
 }
 
@@ -112,6 +113,7 @@ fn is_end_of(begin: Lsn, redo: Lsn, record: &Record) -> bool
         | Record::End { .. }
         | Record::BeginChkpt { .. }
         | Record::ChkptPages { .. }
-        | Record::ChkptTxns { .. } => false,
+        | Record::ChkptTxns { .. }
+        | Record::Extend { .. } => false,
     }
 }

@@ -114,7 +114,8 @@ fn is_record_of(receipt: &Receipt, record: &Record) -> bool
             | Record::BeginChkpt { .. }
             | Record::ChkptPages { .. }
             | Record::ChkptTxns { .. }
-            | Record::EndChkpt { .. } => false,
+            | Record::EndChkpt { .. }
+            | Record::Extend { .. } => false,
         },
         Receipt::Stepped { txn, step, .. } => is_step_of(txn, step, record),
         Receipt::Read { .. } => false,
@@ -148,7 +149,8 @@ fn is_step_of(txn: TxnNo, step: TxnStep, record: &Record) -> bool
         | Record::BeginChkpt { .. }
         | Record::ChkptPages { .. }
         | Record::ChkptTxns { .. }
-        | Record::EndChkpt { .. } => false,
+        | Record::EndChkpt { .. }
+        | Record::Extend { .. } => false,
     }
 }
 

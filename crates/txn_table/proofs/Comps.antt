@@ -12,7 +12,7 @@ use Rattle.std.proofs.lemmas.List.Quantifiers.{all_pairs_push}
 use Rattle.log_records.specs.declared.record.Record.{Record}
 use Rattle.log_records.specs.declared.record.Record.TheVariants.{Begin, Update, Comp, Commit, Abort}
 use Rattle.log_records.specs.declared.record.Record.TheVariants.{End, BeginChkpt}
-use Rattle.log_records.specs.declared.record.Record.TheVariants.{ChkptPages, ChkptTxns, EndChkpt}
+use Rattle.log_records.specs.declared.record.Record.TheVariants.{ChkptPages, ChkptTxns, EndChkpt, Extend}
 use Rattle.log_records.specs.Log.{IsLog, Log, lsn_of}
 use Rattle.log_records.specs.Record.{own_lsn}
 use Rattle.log_history.specs.declared.pending_change.PendingChange.{PendingChange}
@@ -51,6 +51,7 @@ one_return rs (BeginChkpt lsn) = inl refl
 one_return rs (ChkptPages lsn begin pages) = inl refl
 one_return rs (ChkptTxns lsn begin t state last undo) = inl refl
 one_return rs (EndChkpt lsn begin redo) = inl refl
+one_return rs (Extend lsn pages) = inl refl
 
 pub rises_more : (rs : List Record) (r : Record) → own_lsn r ≡ lsn_of (length rs) → Rises rs → Rises (rs ++ r ∷ [])
 rises_more rs r own was = by (one_return rs r)

@@ -17,7 +17,7 @@ use Rattle.page_core.specs.declared.change.Change.{Change}
 use Rattle.log_records.specs.declared.record.Record.{Record}
 use Rattle.log_records.specs.declared.record.Record.TheVariants.{Begin, Update, Comp, Commit, Abort}
 use Rattle.log_records.specs.declared.record.Record.TheVariants.{End, BeginChkpt}
-use Rattle.log_records.specs.declared.record.Record.TheVariants.{ChkptPages, ChkptTxns, EndChkpt}
+use Rattle.log_records.specs.declared.record.Record.TheVariants.{ChkptPages, ChkptTxns, EndChkpt, Extend}
 use Rattle.log_records.specs.Log.{IsLog, Log, lsn_of}
 use Rattle.log_records.specs.Record.{own_lsn}
 use Rattle.log_history.specs.declared.pending_change.PendingChange.{PendingChange}
@@ -119,6 +119,7 @@ left_by_last rs (ChkptPages lsn begin pages) placed own =
 left_by_last rs (ChkptTxns lsn begin t state last undo) placed own =
     All-nil (IsLeftAt (rs ++ ChkptTxns lsn begin t state last undo ∷ []))
 left_by_last rs (EndChkpt lsn begin redo) placed own = All-nil (IsLeftAt (rs ++ EndChkpt lsn begin redo ∷ []))
+left_by_last rs (Extend lsn pages) placed own = All-nil (IsLeftAt (rs ++ Extend lsn pages ∷ []))
 
 pub left_more : (rs : List Record) (r : Record) → ArePlaced rs → own_lsn r ≡ lsn_of (length rs) → AreLeft rs
     → AreLeft (rs ++ r ∷ [])
@@ -414,6 +415,8 @@ own_going rs (ChkptTxns lsn begin t state last undo) linked may placed own befor
     absurd (of_none rs (ChkptTxns lsn begin t state last undo) linked may refl still)
 own_going rs (EndChkpt lsn begin redo) linked may placed own before still active =
     absurd (of_none rs (EndChkpt lsn begin redo) linked may refl still)
+own_going rs (Extend lsn pages) linked may placed own before still active =
+    absurd (of_none rs (Extend lsn pages) linked may refl still)
 
 pub going_more : (rs : List Record) (r : Record) → IsLinked rs → MayFollow rs r → AreGoing rs → AreGoing (rs ++ r ∷ [])
 going_more rs r linked may before placed =

@@ -1,4 +1,5 @@
 pub mod Ahead
+pub mod Beside
 pub mod Comps
 pub mod Going
 pub mod Owed

@@ -5,7 +5,7 @@ use Rattle.std.proofs.lemmas.List.{length_push, take_all}
 use Rattle.std.proofs.Math.Seq.{take-suc}
 use Rattle.log_records.specs.declared.record.Record.{Record}
 use Rattle.log_records.specs.declared.record.Record.TheVariants.{Begin, Update, Comp, Commit, Abort, End, BeginChkpt}
-use Rattle.log_records.specs.declared.record.Record.TheVariants.{ChkptPages, ChkptTxns, EndChkpt}
+use Rattle.log_records.specs.declared.record.Record.TheVariants.{ChkptPages, ChkptTxns, EndChkpt, Extend}
 use Rattle.log_history.specs.Linked.{IsLinked, MayFollow}
 use Rattle.std.specs.Prelude.{Option, Some, None, if◌then◌else◌}
 use Rattle.std.specs.Option.{option_map}
@@ -66,6 +66,9 @@ owed_step rs (ChkptTxns lsn begin t state last undo) linked may =
 owed_step rs (EndChkpt lsn begin redo) linked may =
     let r = EndChkpt lsn begin redo in
     omega (arith, claimed_aside rs r linked refl refl refl, length_push rs r)
+owed_step rs (Extend lsn pages) linked may =
+    let r = Extend lsn pages in
+    omega (arith, claimed_aside rs r linked refl refl refl, length_push rs r)
 
 needs_few : (r : Record) → needs r ≤ 3
 needs_few (Begin lsn t) = omega arith
@@ -78,6 +81,7 @@ needs_few (BeginChkpt lsn) = omega arith
 needs_few (ChkptPages lsn begin pages) = omega arith
 needs_few (ChkptTxns lsn begin t state last undo) = omega arith
 needs_few (EndChkpt lsn begin redo) = omega arith
+needs_few (Extend lsn pages) = omega arith
 
 claimed_few : (rs : List Record) → IsLinked rs → (n : ℕ) → n ≤ length rs → claimed (take n rs) ≤ 3 * n
 claimed_few rs linked zero within = omega arith

@@ -5,7 +5,7 @@ use Rattle.std.specs.Prelude.{Option, Some, None, if◌then◌else◌, IfSome, f
 use Rattle.std.specs.Option.{option_and_then, option_map, option_map_or}
 use Rattle.log_records.specs.declared.record.Record.{Record}
 use Rattle.log_records.specs.declared.record.Record.TheVariants.{Begin, Update, Comp, Commit, Abort, End, BeginChkpt}
-use Rattle.log_records.specs.declared.record.Record.TheVariants.{ChkptPages, ChkptTxns, EndChkpt}
+use Rattle.log_records.specs.declared.record.Record.TheVariants.{ChkptPages, ChkptTxns, EndChkpt, Extend}
 use Rattle.log_history.specs.Table.{TxnEntry, Table, entry_in, entry_of, table_of}
 use Rattle.log_history.specs.Transactions.{begun, is_open, last_of, pending, open_in}
 use Rattle.log_history.specs.TxnState.{state_of, next_in}
@@ -32,6 +32,7 @@ begun_few (BeginChkpt lsn ∷ rs) = let few = begun_few rs in omega arith
 begun_few (ChkptPages lsn begin pages ∷ rs) = let few = begun_few rs in omega arith
 begun_few (ChkptTxns lsn begin txn state last undo ∷ rs) = let few = begun_few rs in omega arith
 begun_few (EndChkpt lsn begin redo ∷ rs) = let few = begun_few rs in omega arith
+begun_few (Extend lsn pages ∷ rs) = let few = begun_few rs in omega arith
 
 -- the entry of an open transaction
 pub entry_is : (rs : List Record) (table : Table) (t : ℕ) → IsTableOf rs table → is_open rs t ≡ true

@@ -6,7 +6,7 @@ use Rattle.std.specs.Option.{option_to_list}
 use Rattle.log_records.specs.declared.record.Record.{Record}
 use Rattle.log_records.specs.declared.record.Record.TheVariants.{Begin, Update, Comp, Commit, Abort}
 use Rattle.log_records.specs.declared.record.Record.TheVariants.{End, BeginChkpt, ChkptPages}
-use Rattle.log_records.specs.declared.record.Record.TheVariants.{ChkptTxns, EndChkpt}
+use Rattle.log_records.specs.declared.record.Record.TheVariants.{ChkptTxns, EndChkpt, Extend}
 use Rattle.log_history.specs.Transactions.{is_rolling, pending, without_last}
 use Rattle.txn_table.specs.declared.returns.Return.{Return}
 
@@ -33,6 +33,7 @@ return_of before (BeginChkpt lsn) = None
 return_of before (ChkptPages lsn begin pages) = None
 return_of before (ChkptTxns lsn begin txn state last undo_next) = None
 return_of before (EndChkpt lsn begin redo) = None
+return_of before (Extend lsn pages) = None
 
 abbrev pub returns_from : List Record → List Record → List Return
 returns_from before [] = []

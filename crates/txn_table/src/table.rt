@@ -228,7 +228,8 @@ impl TxnTable {
             | Record::BeginChkpt { .. }
             | Record::ChkptPages { .. }
             | Record::ChkptTxns { .. }
-            | Record::EndChkpt { .. } => None,
+            | Record::EndChkpt { .. }
+            | Record::Extend { .. } => None,
         }
     }
 
@@ -271,6 +272,7 @@ impl TxnTable {
             Record::ChkptPages { .. } => self.owed,
             Record::ChkptTxns { .. } => self.owed,
             Record::EndChkpt { .. } => self.owed,
+            Record::Extend { .. } => self.owed,
         }
     }
 

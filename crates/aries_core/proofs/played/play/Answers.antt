@@ -10,6 +10,8 @@ use Rattle.aries_core.proofs.PageLaws.{written_of_run}
 use Rattle.aries_core.proofs.Plays.{by_device, by_store, call_on, left_sound, plays_push, run_push, tells_push}
 use Rattle.aries_core.proofs.Plays.{within_push}
 use Rattle.aries_core.proofs.played.play.Invariants.{given_storage}
+use Rattle.aries_core.proofs.CkptLaws.{new_is_sized}
+use Rattle.aries_core.specs.CkptReplies.{new_size}
 use Rattle.aries_core.proofs.played.play.Goals as goal
 
 pub loop-event-preserved : goal.loop-event-preserved
@@ -80,8 +82,9 @@ pub returns-clause-catalogue : goal.returns-clause-catalogue
 returns-clause-catalogue g c =
     let so_far = c.loop-event.invariant in
     let all : take c.loop-event.event-index c.args.events.now ≡ c.args.events.now = take_all _ _ (omega arith) in
-    copies_of_run (new_state c.args.setup.pages c.args.setup.frames) c.args.events.now c.loop-event.replies.items
-    c.loop-event.engine.state (rw all at so_far.run)
+    copies_of_run (new_state c.args.setup.pages c.args.setup.frames) (new_size c.args.setup.pages) c.args.events.now
+    c.loop-event.replies.items c.loop-event.engine.state
+    (new_is_sized c.args.setup.pages c.args.setup.frames) (rw all at so_far.run)
 
 pub loop-event-init : goal.loop-event-init
 loop-event-init g c = record {

@@ -17,6 +17,7 @@ given_storage g = record {
   device_failures = g.D.LogDevice.failures;
   gave = g.S.PageStore.gave;
   wrote = g.S.PageStore.wrote;
+  grew = g.S.PageStore.grew;
   stored = g.S.PageStore.stored;
   store_failures = g.S.PageStore.failures;
 }

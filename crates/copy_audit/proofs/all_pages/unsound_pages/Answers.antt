@@ -14,7 +14,7 @@ pub returns-in_err-told-clause-err : goal.returns-in_err-told-clause-err
 returns-in_err-told-clause-err g c =
     let image = c.in_ok-image.image in
     let of_log : IsOfLog (g.L.Read.remaining c.args.log.now) image = record {
-      valid = subst IsLog c.image.view_is c.image.invariant;
+      valid = subst IsLog c.image.view_is c.image.invariant.0;
       linked = c.in_ok-image.ensures.linked;
       spelled = c.in_ok-image.ensures.found;
     } in

@@ -14,7 +14,7 @@ pub returns-in_err-unsound-clause-err : goal.returns-in_err-unsound-clause-err
 returns-in_err-unsound-clause-err g c =
     let image = c.in_ok-image.image in
     let of_log : IsOfLog (g.L.Read.remaining c.args.log.now) image = record {
-      valid = subst IsLog c.image.view_is c.image.invariant;
+      valid = subst IsLog c.image.view_is c.image.invariant.0;
       linked = c.in_ok-image.ensures.linked;
       spelled = c.in_ok-image.ensures.found;
     } in
@@ -31,7 +31,7 @@ pub returns-in_err-unsound-clause-stops : goal.returns-in_err-unsound-clause-sto
 returns-in_err-unsound-clause-stops g c =
     let image = c.in_ok-image.image in
     let of_log : IsOfLog (g.L.Read.remaining c.args.log.now) image = record {
-      valid = subst IsLog c.image.view_is c.image.invariant;
+      valid = subst IsLog c.image.view_is c.image.invariant.0;
       linked = c.in_ok-image.ensures.linked;
       spelled = c.in_ok-image.ensures.found;
     } in
@@ -44,7 +44,7 @@ returns-in-Some-clause-err g c =
     let image = c.in_ok-image.image in
     let inputs = map g.A.Read.remaining c.args.archives.now in
     let of_log : IsOfLog (g.L.Read.remaining c.args.log.now) image = record {
-      valid = subst IsLog c.image.view_is c.image.invariant;
+      valid = subst IsLog c.image.view_is c.image.invariant.0;
       linked = c.in_ok-image.ensures.linked;
       spelled = c.in_ok-image.ensures.found;
     } in

@@ -98,11 +98,11 @@ returns-then-filled-gt0-clause-first g c = λ given taken.
     let width : length bytes ≡ filled = omega (arith, length-take filled c.read_more.new.buffer, c.in-More.ensures.0) in
     let further = read ++ take whole bytes in
     let pending = drop whole bytes in
-    let t : HasTaken g.S.RecordSink.holds c.take_records.new.sink c.take_records.new.history
+    let t : HasTaken g.S.RecordSink.holds c.args.format c.take_records.new.sink c.take_records.new.history
     (c.loop.count + filled / 64) (given ++ further) =
-    subst (HasTaken g.S.RecordSink.holds c.take_records.new.sink c.take_records.new.history
+    subst (HasTaken g.S.RecordSink.holds c.args.format c.take_records.new.sink c.take_records.new.history
     (c.loop.count + filled / 64)) (append_assoc given read (take whole bytes))
-    (subst (λ (k : ℕ). HasTaken g.S.RecordSink.holds c.take_records.new.sink c.take_records.new.history
+    (subst (λ (k : ℕ). HasTaken g.S.RecordSink.holds c.args.format c.take_records.new.sink c.take_records.new.history
     (c.loop.count + k / 64) ((given ++ read) ++ take (64 * (k / 64)) bytes)) width
     (c.in_ok-seen.ensures.ok (given ++ read) so_far.1.0)) in
     let count = t.count_is in
@@ -143,11 +143,11 @@ loop-preserved g c =
           let so_far = inv.so_far given first in
           let read = so_far.0 in
           let t = c.in_ok-seen.ensures.ok (given ++ read) so_far.1.0 in
-          let taken : HasTaken g.S.RecordSink.holds c.take_records.new.sink c.take_records.new.history
+          let taken : HasTaken g.S.RecordSink.holds c.args.format c.take_records.new.sink c.take_records.new.history
           (c.loop.count + filled / 64) (given ++ (read ++ take whole bytes)) =
-          subst (HasTaken g.S.RecordSink.holds c.take_records.new.sink c.take_records.new.history
+          subst (HasTaken g.S.RecordSink.holds c.args.format c.take_records.new.sink c.take_records.new.history
           (c.loop.count + filled / 64)) (append_assoc given read (take whole bytes))
-          (subst (λ (k : ℕ). HasTaken g.S.RecordSink.holds c.take_records.new.sink c.take_records.new.history
+          (subst (λ (k : ℕ). HasTaken g.S.RecordSink.holds c.args.format c.take_records.new.sink c.take_records.new.history
           (c.loop.count + k / 64) ((given ++ read) ++ take (64 * (k / 64)) bytes)) width t) in
           let both : read ++ bytes ≡ (read ++ take whole bytes)
           ++ take kept (set c.keep_rest-filled.new.buffer kept (c.in_ok-seen.seen % 256)) =

@@ -7,7 +7,7 @@ abbrev pub invariant-loop : goal.invariant-loop
 invariant-loop g l = record {
   short : l.filled < 64;
   few : 1048576 ≤ l.count → l.filled ≡ 0;
-  so_far : (given : List ℕ) → HasTaken g.S.RecordSink.holds l.fn.scan.sink l.fn.scan.history 0 given
-      → (read : List ℕ) × (HasTaken g.S.RecordSink.holds l.scan.sink l.scan.history l.count (given ++ read)
+  so_far : (given : List ℕ) → HasTaken g.S.RecordSink.holds l.format l.fn.scan.sink l.fn.scan.history 0 given
+      → (read : List ℕ) × (HasTaken g.S.RecordSink.holds l.format l.scan.sink l.scan.history l.count (given ++ read)
       × Consumes (g.R.Read.remaining l.fn.reader) (g.R.Read.remaining l.reader) (read ++ take l.filled l.buffer));
 }

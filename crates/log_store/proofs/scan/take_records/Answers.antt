@@ -51,8 +51,8 @@ loop-i-preserved g c = λ given taken.
     let made = c.take_record.new.history in
     let next = c.in_ok-take_record.ensures.ok (given ++ take (64 * i) bytes) (c.loop-i.invariant given taken) in
     let count : c.args.count + i + 1 ≡ c.args.count + (i + 1) = omega arith in
-    subst (λ (n : ℕ). HasTaken g.S.RecordSink.holds sink made n (given ++ take (64 * (i + 1)) bytes)) count
-    (subst (HasTaken g.S.RecordSink.holds sink made (c.args.count + i + 1))
+    subst (λ (n : ℕ). HasTaken g.S.RecordSink.holds c.args.format sink made n (given ++ take (64 * (i + 1)) bytes)) count
+    (subst (HasTaken g.S.RecordSink.holds c.args.format sink made (c.args.count + i + 1))
     (append_assoc given (take (64 * i) bytes) _ ∙ ap (λ (bs : List ℕ). given ++ bs) (further bytes i)) next)
 
 pub returns-clause-ok : goal.returns-clause-ok
@@ -60,7 +60,7 @@ returns-clause-ok g c = λ given taken.
     let bytes = c.args.bytes.now in
     let past = c.loop-i-test.false in
     let all : c.loop-i.i ≡ length bytes / 64 = omega (arith, c.loop-i.auto.i-end) in
-    subst (λ (n : ℕ). HasTaken g.S.RecordSink.holds c.loop-i.sink c.loop-i.history (c.args.count + n)
+    subst (λ (n : ℕ). HasTaken g.S.RecordSink.holds c.args.format c.loop-i.sink c.loop-i.history (c.args.count + n)
     (given ++ take (64 * n) bytes)) all (c.loop-i.invariant given taken)
 
 pub take_record-requires-clause-so_far : goal.take_record-requires-clause-so_far

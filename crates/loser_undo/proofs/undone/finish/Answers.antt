@@ -3,7 +3,6 @@ use Rattle.std.proofs.lemmas.List.{length-map}
 use Rattle.page_core.specs.Volume.{AreNumbered}
 use Rattle.log_records.specs.Image.{image_from}
 use Rattle.log_records.specs.Log.{IsLog, Log, page_count}
-use Rattle.log_records.proofs.PageCounts.{count_is_first}
 use Rattle.loser_undo.proofs.Pages.{undone_count}
 use Rattle.log_records.proofs.Images.{numbered-images}
 use Rattle.log_history.specs.Linked.{IsLinked}
@@ -12,11 +11,10 @@ use Rattle.loser_undo.specs.Undo.{after_undo}
 use Rattle.loser_undo.proofs.Valid.{undo_closes, undo_is_linked, undone_fits}
 use Rattle.loser_undo.proofs.undone.finish.Goals as goal
 
-pub append_all-records-requires-clause-valid : goal.append_all-records-requires-clause-valid
-append_all-records-requires-clause-valid c =
+pub append_all-records-requires-clause-log : goal.append_all-records-requires-clause-log
+append_all-records-requires-clause-log c =
     let is = c.requires.recovery in
-    subst (λ n. IsLog (record { pages = n; records = c.args.records.items }))
-    (sym (is.count ∙ count_is_first (record { pages = c.args.first_count; records = c.args.records.items }))) is.valid
+    (c.args.first_count, (is.valid, sym is.count))
 
 pub invariant_of-result : goal.invariant_of-result
 invariant_of-result c =

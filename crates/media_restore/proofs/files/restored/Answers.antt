@@ -56,10 +56,10 @@ returns-in_err-pages-clause-err g c =
       spelled = found.1.1.1.1.1;
     } in
     let of_master = c.in_ok-read_master.ensures.ok log found.1.0 found.1.1.1.0 in
-    let count = c.counts-counts.ensures log found.1.0 in
+    let count = c.counts.ensures log found.1.0 in
     let end = c.end.ensures ∙ ap (λ (k : Kept). lsn_of k.count) found.1.0 in
     let refused = subst (λ (n : PageCounts). AreNoChain n (end_of log) inputs lefts fault) count
-    (subst (λ (n : ℕ). AreNoChain c.counts-counts.result n inputs lefts fault) end c.in_err-pages.ensures.err) in
+    (subst (λ (n : ℕ). AreNoChain c.counts.result.now n inputs lefts fault) end c.in_err-pages.ensures.err) in
     let p = err_from_is_err_and c.from_residual-in_err-pages.result c.from_residual-in_err-pages.ensures.1 in
     rw (p.1, p.2) (of_the_archives log named of_log of_master (record {
       why = fault;
@@ -82,10 +82,10 @@ returns-in_err-pages-clause-stops g c =
       spelled = found.1.1.1.1.1;
     } in
     let of_master = c.in_ok-read_master.ensures.ok log found.1.0 found.1.1.1.0 in
-    let count = c.counts-counts.ensures log found.1.0 in
+    let count = c.counts.ensures log found.1.0 in
     let end = c.end.ensures ∙ ap (λ (k : Kept). lsn_of k.count) found.1.0 in
     let refused = subst (λ (n : PageCounts). AreNoChain n (end_of log) inputs lefts fault) count
-    (subst (λ (n : ℕ). AreNoChain c.counts-counts.result n inputs lefts fault) end c.in_err-pages.ensures.err) in
+    (subst (λ (n : ℕ). AreNoChain c.counts.result.now n inputs lefts fault) end c.in_err-pages.ensures.err) in
     let p = err_from_is_err_and c.from_residual-in_err-pages.result c.from_residual-in_err-pages.ensures.1 in
     rw (p.1, p.2) (the_archives log named of_log (c.read_changes.ensures.known, c.in_ok-kept.ensures.end) of_master
     c.in_ok-read_master.ensures.end fault refl refused)
@@ -97,10 +97,10 @@ recovered-requires-after_bounds g c = λ _ _.
     let pages = c.in_ok-pages.pages.items in
     let redo = c.in_ok-pages.redo in
     let inputs = map g.A.Read.remaining c.args.archives.now in
-    let count = c.counts-counts.ensures log found.1.0 in
+    let count = c.counts.ensures log found.1.0 in
     let end = c.end.ensures ∙ ap (λ (k : Kept). lsn_of k.count) found.1.0 in
     let read = subst (λ (n : PageCounts). IsChainRead n (end_of log) inputs pages redo) count
-    (subst (λ (n : ℕ). IsChainRead c.counts-counts.result n inputs pages redo) end c.in_ok-pages.ensures.ok) in (
+    (subst (λ (n : ℕ). IsChainRead c.counts.result.now n inputs pages redo) end c.in_ok-pages.ensures.ok) in (
       log,
       is_read log c.in_ok-kept.kept c.in_ok-kept.losers inputs pages redo found.1.1.1.1.0 found.1.1.1.0 found.1.0
           found.1.1.0 read,
@@ -125,10 +125,10 @@ returns-clause-ok g c =
       spelled = found.1.1.1.1.1;
     } in
     let of_master = c.in_ok-read_master.ensures.ok log found.1.0 found.1.1.1.0 in
-    let count = c.counts-counts.ensures log found.1.0 in
+    let count = c.counts.ensures log found.1.0 in
     let end = c.end.ensures ∙ ap (λ (k : Kept). lsn_of k.count) found.1.0 in
     let read = subst (λ (n : PageCounts). IsChainRead n (end_of log) inputs pages redo) count
-    (subst (λ (n : ℕ). IsChainRead c.counts-counts.result n inputs pages redo) end c.in_ok-pages.ensures.ok) in
+    (subst (λ (n : ℕ). IsChainRead c.counts.result.now n inputs pages redo) end c.in_ok-pages.ensures.ok) in
     let is = is_read log c.in_ok-kept.kept c.in_ok-kept.losers inputs pages redo found.1.1.1.1.0 found.1.1.1.0
     found.1.0 found.1.1.0 read in
     all_restored c.recovered.result files log c.in_ok-kept.kept c.in_ok-kept.losers named pages redo of_log of_master
@@ -153,10 +153,10 @@ returns-clause-err g c =
       spelled = found.1.1.1.1.1;
     } in
     let of_master = c.in_ok-read_master.ensures.ok log found.1.0 found.1.1.1.0 in
-    let count = c.counts-counts.ensures log found.1.0 in
+    let count = c.counts.ensures log found.1.0 in
     let end = c.end.ensures ∙ ap (λ (k : Kept). lsn_of k.count) found.1.0 in
     let read = subst (λ (n : PageCounts). IsChainRead n (end_of log) inputs pages redo) count
-    (subst (λ (n : ℕ). IsChainRead c.counts-counts.result n inputs pages redo) end c.in_ok-pages.ensures.ok) in
+    (subst (λ (n : ℕ). IsChainRead c.counts.result.now n inputs pages redo) end c.in_ok-pages.ensures.ok) in
     let is = is_read log c.in_ok-kept.kept c.in_ok-kept.losers inputs pages redo found.1.1.1.1.0 found.1.1.1.0
     found.1.0 found.1.1.0 read in
     log_is_full c.recovered.result files log c.in_ok-kept.kept c.in_ok-kept.losers named pages read.copies (record {

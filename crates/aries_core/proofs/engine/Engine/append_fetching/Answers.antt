@@ -110,7 +110,9 @@ came g c =
     let of_room = c.make_room-else-is_err-2.ensures.kept (log_of s) c.self.invariant.pool_of_log in
     let now = said c.fetch.result _ (sym c.is_err-2.ensures.value ∙ c.if-is_err-4.false) c.fetch.ensures.fetched
     (log_of s) (formatted p) of_room in
-    fetched_is stored it.log it.pool c.fetch.new.self media p (sym c.is_resident.ensures ∙ c.if-is_resident.false)
+    fetched_is stored it.log it.pool c.fetch.new.self media p
+    (omega (arith, c.requires.within, ap (λ v. volume_pages v.state) c.self.view_is, c.self.invariant.pool_of_log.pages))
+    (sym c.is_resident.ensures ∙ c.if-is_resident.false)
     (c.fetch.ensures.stored ∙ ap (λ (v : PoolView g.row.S.Denot). stored v.store) same)
     (c.fetch.ensures.frames ∙ ap (λ (v : PoolView g.row.S.Denot). v.frames) same)
     (c.fetch.ensures.states ∙ ap (λ (v : PoolView g.row.S.Denot). v.states) same)
@@ -171,13 +173,15 @@ returns-clause-asked g c =
     let stored = g.S.PageStore.stored in
     let gave = g.S.PageStore.gave in
     let wrote = g.S.PageStore.wrote in
+    let grew = g.S.PageStore.grew in
     let media = media_view it.master it.session it.vault.copies it.returns.made in
     let p = c.args.page in
     let new = engine_view stored c.append-2.new.self c.change.new.self media in
     let given = said c.fetch.result _ (sym c.is_err-2.ensures.value ∙ c.if-is_err-4.false) c.fetch.ensures.gave
     (formatted p) in
-    subst (λ (v : EngineView g.row.S.Denot g.row.D.Denot). Asks gave wrote (page_asked v.state p) v new) c.self.view_is
-    (asks_page stored gave wrote it.log it.pool c.make_room-else-is_err-2.new.self media new p
+    subst (λ (v : EngineView g.row.S.Denot g.row.D.Denot). Asks gave wrote grew (page_asked v.state p) v new) c.self.view_is
+    (asks_page stored gave wrote grew it.log it.pool c.make_room-else-is_err-2.new.self media new p
+    (omega (arith, c.requires.within, ap (λ v. volume_pages v.state) c.self.view_is, c.self.invariant.pool_of_log.pages))
     (sym c.is_resident.ensures ∙ c.if-is_resident.false) c.make_room-else-is_err-2.ensures.same
     (subst (λ (x : g.row.S.Denot). gave c.make_room-else-is_err-2.new.self.store p
     (Ok (get_or (stored c.make_room-else-is_err-2.new.self.store) p (formatted p))) x) (sym c.change.ensures.store) given))
@@ -188,11 +192,13 @@ returns-then-is_err-4-clause-failed g c = λ by_store.
     let stored = g.S.PageStore.stored in
     let gave = g.S.PageStore.gave in
     let wrote = g.S.PageStore.wrote in
+    let grew = g.S.PageStore.grew in
     let media = media_view it.master it.session it.vault.copies it.returns.made in
     let p = c.args.page in
     let new = engine_view stored c.make_room.new.self c.fetch.new.self media in
     let failed = why_failed c.fetch.result _ (sym c.is_err-2.ensures.value ∙ c.if-is_err-4.true) c.fetch.ensures.failed in
-    subst (λ (v : EngineView g.row.S.Denot g.row.D.Denot). FailsAsking gave wrote (page_asked v.state p) v new)
+    subst (λ (v : EngineView g.row.S.Denot g.row.D.Denot). FailsAsking gave wrote grew (page_asked v.state p) v new)
     c.self.view_is
-    (fails_asking stored gave wrote it.log it.pool c.make_room-else-is_err-2.new.self media new p
+    (fails_asking stored gave wrote grew it.log it.pool c.make_room-else-is_err-2.new.self media new p
+    (omega (arith, c.requires.within, ap (λ v. volume_pages v.state) c.self.view_is, c.self.invariant.pool_of_log.pages))
     (sym c.is_resident.ensures ∙ c.if-is_resident.false) c.make_room-else-is_err-2.ensures.same failed)

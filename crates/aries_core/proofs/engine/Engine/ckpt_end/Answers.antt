@@ -10,7 +10,9 @@ use Rattle.aries_core.specs.EngineState.{EngineView, engine_view}
 use Rattle.aries_core.specs.OpenCkpt.{media_view, view_of}
 use Rattle.aries_core.specs.Refusal.{refusal}
 use Rattle.aries_core.specs.Step.{Step}
-use Rattle.aries_core.proofs.CkptCalls.{ckpt_ended, ckpt_unforced}
+use Rattle.aries_core.proofs.CkptCalls.{ckpt_ended, ckpt_unforced, session_covered, whole_covered}
+use Rattle.std.proofs.Common.{arith, length}
+use Rattle.std.proofs.lemmas.List.{length-take}
 use Rattle.aries_core.proofs.engine.Engine.ckpt_end.Goals as goal
 
 pub invariant_of-self-in-Err-LogFault : goal.invariant_of-self-in-Err-LogFault
@@ -93,3 +95,20 @@ returns-in-Err-LogFault-clause-last_call g c =
       why = f.why;
       failed = f.failed;
     })
+
+pub finish-requires-clause-covered : goal.finish-requires-clause-covered
+finish-requires-clause-covered g c =
+    let it = c.self.inside in
+    let stored = g.S.PageStore.stored in
+    let ckpts = media_view it.master it.session it.vault.copies it.returns.made in
+    let v = gathered_ckpt c.in-Some-into_gathered.ckpt in
+    whole_covered stored it.log.log it.pool v c.self.invariant.pool_of_log
+    (omega (
+      arith,
+      c.self.invariant.fit.counted.stored,
+      c.self.invariant.pool_of_log.pages,
+      length-take (length it.pool.states) (stored it.pool.store),
+    ))
+    (session_covered stored (engine_view stored it.log it.pool ckpts).state it.txns it.pool ckpts v c.self.invariant
+    (ap (option_map view_of) (sym c.take.ensures.value ∙ c.in-Some.is)
+    ∙ ap Some (sym c.in-Some-into_gathered.ensures))).1

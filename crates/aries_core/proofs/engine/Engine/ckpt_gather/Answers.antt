@@ -9,7 +9,9 @@ use Rattle.aries_core.specs.Gather.{is_done, left_of}
 use Rattle.aries_core.specs.OpenCkpt.{media_view, view_of}
 use Rattle.aries_core.specs.Refusal.{refusal}
 use Rattle.aries_core.specs.Step.{Step, gather_answer}
-use Rattle.aries_core.proofs.CkptCalls.{ckpt_gathered, ckpt_same, gather_takes, session_covered}
+use Rattle.aries_core.proofs.CkptCalls.{ckpt_gathered, ckpt_same, gather_takes, session_covered, whole_covered}
+use Rattle.std.proofs.Common.{arith, length}
+use Rattle.std.proofs.lemmas.List.{length-take}
 use Rattle.aries_core.proofs.engine.Engine.ckpt_gather.Goals as goal
 use Rattle.aries_core.proofs.engine.Engine.ckpt_gather.Goals.{else-done, then-done}
 
@@ -18,6 +20,13 @@ gather-requires-clause-covered g c =
     let it = c.self.inside in
     let stored = g.S.PageStore.stored in
     let ckpts = media_view it.master it.session it.vault.copies it.returns.made in
+    whole_covered stored it.log.log it.pool (view_of c.in-Some.session) c.self.invariant.pool_of_log
+    (omega (
+      arith,
+      c.self.invariant.fit.counted.stored,
+      c.self.invariant.pool_of_log.pages,
+      length-take (length it.pool.states) (stored it.pool.store),
+    ))
     (session_covered stored (engine_view stored it.log it.pool ckpts).state it.txns it.pool ckpts
     (view_of c.in-Some.session) c.self.invariant (ap (option_map view_of) (sym c.take.ensures.value ∙ c.in-Some.is))).1
 

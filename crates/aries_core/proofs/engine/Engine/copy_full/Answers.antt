@@ -1,11 +1,10 @@
-use Rattle.std.proofs.Common.{◌∙◌, subst, sym}
+use Rattle.std.proofs.Common.{subst}
 use Rattle.std.specs.Prelude.{Ok}
 use Rattle.aries_core.specs.declared.event.Answer.TheVariants as answer
 use Rattle.aries_core.specs.declared.event.Event.TheVariants as event
 use Rattle.aries_core.specs.EngineState.{engine_view, with_copies}
 use Rattle.aries_core.specs.OpenCkpt.{media_view}
 use Rattle.aries_core.specs.Step.{Step}
-use Rattle.aries_core.proofs.CopySteps.{count_of_copy}
 use Rattle.aries_core.proofs.CopyCalls.{copies_kept, full_step}
 use Rattle.aries_core.proofs.engine.Engine.copy_full.Goals as goal
 use Rattle.aries_core.proofs.engine.Engine.copy_full.Given as given
@@ -22,10 +21,7 @@ full_made g c =
     let s = (engine_view g.S.PageStore.stored it.log it.pool
     (media_view it.master it.session it.vault.copies it.returns.made)).state in
     let ok = c.in_ok-open_full.ensures in
-    full_step s c.open_full.new.self.copies c.pages-pages.result c.in_ok-open_full.field-0
-    c.in-Some.master c.in-Some.is ok.ok
-    (c.pages-pages.ensures.states ∙ sym c.self.invariant.pool_of_log.pages ∙ count_of_copy s c.in-Some.master.begin)
-    ok.id ok.opened
+    full_step s c.open_full.new.self.copies c.in_ok-open_full.field-0 c.in-Some.master c.in-Some.is ok.ok ok.id ok.opened
 
 pub invariant_of-self-2 : goal.invariant_of-self-2
 invariant_of-self-2 g c =

@@ -6,7 +6,6 @@ use Rattle.aries_core.specs.declared.event.Event.TheVariants as event
 use Rattle.aries_core.specs.EngineState.{engine_view, with_copies}
 use Rattle.aries_core.specs.Step.{Step}
 use Rattle.aries_core.specs.OpenCkpt.{media_view}
-use Rattle.aries_core.proofs.CopySteps.{count_of_copy}
 use Rattle.aries_core.proofs.CopyCalls.{copies_kept, inc_step}
 use Rattle.aries_core.proofs.engine.Engine.copy_inc.Goals as goal
 use Rattle.aries_core.proofs.engine.Engine.copy_inc.Given as given
@@ -23,9 +22,9 @@ inc_made g c =
     let s = (engine_view g.S.PageStore.stored it.log it.pool
     (media_view it.master it.session it.vault.copies it.returns.made)).state in
     let ok = c.in_ok-open_inc.ensures in
-    inc_step s c.open_inc.new.self.copies c.args.parent c.pages-pages.result c.noted_begin-begin.result
+    inc_step s c.open_inc.new.self.copies c.args.parent c.noted_pages-pages.result c.noted_begin-begin.result
     c.noted_redo-redo.result c.in_ok-open_inc.field-0 ok.ok
-    (c.pages-pages.ensures.states ∙ sym c.self.invariant.pool_of_log.pages ∙ count_of_copy s c.noted_begin-begin.result)
+    (c.noted_pages-pages.ensures ∙ ap (λ v. option_map_or (λ p. p.pages) v.state.master 0) (sym c.self.view_is))
     (c.noted_begin-begin.ensures ∙ ap (λ v. option_map_or (λ p. p.begin) v.state.master 0) (sym c.self.view_is))
     (c.noted_redo-redo.ensures
     ∙ ap (λ v. option_map_or (λ p. p.redo) v.state.master 0) (sym c.self.view_is)) ok.id ok.opened

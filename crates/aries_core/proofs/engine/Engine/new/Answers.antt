@@ -29,7 +29,7 @@ invariant_of-result g c =
       pool_of_log =
           subst (λ (l : Log). IsPoolOf stored l c.in-Ok.pool) (sym c.in-Ok-new.ensures.empty)
           (c.in-Ok.ensures.empty n c.requires.formatted);
-      session_of_log = sym (ap (λ (l : Log). option_map (session_of pages_left)
+      session_of_log = sym (ap (λ (l : Log). option_map (session_of l pages_left)
           (open_checkpoint l.records)) c.in-Ok-new.ensures.empty);
       returns_of_log = c.new-in-Ok-new-2.ensures
           ∙ sym (ap (λ (l : Log). returns_of l.records) c.in-Ok-new.ensures.empty);

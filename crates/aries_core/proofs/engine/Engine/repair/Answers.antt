@@ -59,7 +59,7 @@ call g c =
           subst (λ (r : Result Lsn Refusal). Called stored it.log c.force_to.new.self it.txns it.pool c.repair.new.self
           media (event.Repair copy p) (reply_of (λ lsn. answer.Repaired lsn) r)) (sym w.result-is)
           (half_done stored it.log c.force_to.new.self it.txns it.pool c.repair.new.self media copy p q
-          c.self.invariant none now c.force_to.ensures.same forced
+          c.self.invariant none within now c.force_to.ensures.same forced
           w.in-Err.ensures.either w.in-Err.ensures.stays of_log)
     ]
 
@@ -87,6 +87,7 @@ returns-clause-asked g c =
     let stored = g.S.PageStore.stored in
     let gave = g.S.PageStore.gave in
     let wrote = g.S.PageStore.wrote in
+    let grew = g.S.PageStore.grew in
     let media = media_view it.master it.session it.vault.copies it.returns.made in
     let p = c.args.page in
     let now = engine_view stored it.log it.pool media in
@@ -97,14 +98,14 @@ returns-clause-asked g c =
     c.in_ok-rebuilt.ensures.rebuilt
     ∙ sym (ap (λ (v : EngineView g.row.S.Denot g.row.D.Denot). page_now v.state p) c.self.view_is) in
     subst (λ (v : EngineView g.row.S.Denot g.row.D.Denot). OnOk c.match-repair.result
-    (Asks gave wrote (asked v.state (event.Repair copy p)) v new)) c.self.view_is
+    (Asks gave wrote grew (asked v.state (event.Repair copy p)) v new)) c.self.view_is
     (elim c.match-repair.branch [
       | in-Ok w ↦
-          subst (λ (r : Result Lsn Refusal). OnOk r (Asks gave wrote (asked now.state (event.Repair copy p)) now new))
+          subst (λ (r : Result Lsn Refusal). OnOk r (Asks gave wrote grew (asked now.state (event.Repair copy p)) now new))
           (sym w.result-is)
           (subst (λ (x : Page). wrote it.pool.store p x (Ok tt) c.repair.new.self.store) same w.in-Ok.ensures.wrote)
       | in-Err w ↦
-          subst (λ (r : Result Lsn Refusal). OnOk r (Asks gave wrote (asked now.state (event.Repair copy p)) now new))
+          subst (λ (r : Result Lsn Refusal). OnOk r (Asks gave wrote grew (asked now.state (event.Repair copy p)) now new))
           (sym w.result-is) tt
     ])
 
@@ -114,6 +115,7 @@ returns-clause-failed g c =
     let stored = g.S.PageStore.stored in
     let gave = g.S.PageStore.gave in
     let wrote = g.S.PageStore.wrote in
+    let grew = g.S.PageStore.grew in
     let media = media_view it.master it.session it.vault.copies it.returns.made in
     let p = c.args.page in
     let now = engine_view stored it.log it.pool media in
@@ -124,14 +126,14 @@ returns-clause-failed g c =
     c.in_ok-rebuilt.ensures.rebuilt
     ∙ sym (ap (λ (v : EngineView g.row.S.Denot g.row.D.Denot). page_now v.state p) c.self.view_is) in
     subst (λ (v : EngineView g.row.S.Denot g.row.D.Denot). IfErr c.match-repair.result (λ why. IsByStore why
-    → FailsAsking gave wrote (asked v.state (event.Repair copy p)) v new)) c.self.view_is
+    → FailsAsking gave wrote grew (asked v.state (event.Repair copy p)) v new)) c.self.view_is
     (elim c.match-repair.branch [
       | in-Ok w ↦
           subst (λ (r : Result Lsn Refusal). IfErr r (λ why. IsByStore why
-          → FailsAsking gave wrote (asked now.state (event.Repair copy p)) now new)) (sym w.result-is) tt
+          → FailsAsking gave wrote grew (asked now.state (event.Repair copy p)) now new)) (sym w.result-is) tt
       | in-Err w ↦
           subst (λ (r : Result Lsn Refusal). IfErr r (λ why. IsByStore why
-          → FailsAsking gave wrote (asked now.state (event.Repair copy p)) now new)) (sym w.result-is)
+          → FailsAsking gave wrote grew (asked now.state (event.Repair copy p)) now new)) (sym w.result-is)
           (λ by_store. subst (λ (x : Page). (why : StoreFault) × wrote it.pool.store p x (Err why) c.repair.new.self.store)
           same (_, w.in-Err.ensures.wrote))
     ])

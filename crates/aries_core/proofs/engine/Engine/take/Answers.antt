@@ -17,6 +17,8 @@ use Rattle.buffer_pool.proofs.Fetching.{read_is}
 use Rattle.aries_core.specs.Asked.{Asks, a_page}
 use Rattle.aries_core.specs.EngineState.{EngineView}
 use Rattle.aries_core.proofs.Asks.{always}
+use Rattle.aries_core.proofs.PoolStates.{page_at}
+use Rattle.std.proofs.Common.{◌<◌, length}
 use Rattle.copy_coverage.proofs.LaterPages.{count_below-not_more}
 use Rattle.copy_coverage.specs.Copied.{copy_in}
 use Rattle.aries_core.proofs.Refusals.{take_passes}
@@ -45,12 +47,24 @@ take_made g c =
     let none : refusal s (event.Take c.args.copy c.args.page) ≡ None =
     subst (λ v. refusal v.state (event.Take c.args.copy c.args.page) ≡ None) (sym c.self.view_is)
     c.in_ok-find_takeable.ensures.free in
+    let passes = take_passes s c.args.copy c.args.page none in
+    let whole = (c.self.invariant.fit.copied.each c.args.copy passes.view (ap copy_in passes.is_read)).whole in
+    let within : c.args.page < length it.pool.states =
+    omega (
+      arith,
+      passes.within,
+      whole,
+      count_below-not_more (log_of s) passes.view.begin,
+      c.self.invariant.pool_of_log.pages,
+    ) in
     let same = c.make_room.ensures.copies in
     let page = c.in-Ok.stored in
     let answered = c.decide.ensures.answer ∙ ap (λ cs. answer_in cs (state_of cs c.args.copy) page) same in
     let made = c.decide.ensures.decided ∙ ap (λ cs. decided cs c.args.copy c.args.page page) same in
+    let read = page_at stored it.log it.pool media c.args.page within
+    ∙ sym (read_is (stored it.pool.store) c.args.page page (formatted c.args.page) c.in-Ok.ensures.found) in
     let step = take_step s c.decide.new.self.copies c.args.copy c.args.page page c.decide.result
-    (take_answer c.decide.result page) none c.in-Ok.ensures.found answered made refl in
+    (take_answer c.decide.result page) none read answered made refl in
     let reply : reply_of took_answer c.match-decide.result
     ≡ Ok (take_answer c.decide.result page) = elim c.match-decide.branch [
       | in-Taken w ↦ ap (reply_of took_answer) w.result-is ∙ ap (λ d. Ok (take_answer d page)) (sym w.in-Taken.is)
@@ -86,13 +100,30 @@ returns-clause-asked g c =
     let stored = g.S.PageStore.stored in
     let gave = g.S.PageStore.gave in
     let wrote = g.S.PageStore.wrote in
+    let grew = g.S.PageStore.grew in
     let p = c.args.page in
     let new = engine_view stored it.log c.stored.new.self
     (media_view it.master it.session c.decide.new.self.copies it.returns.made) in
+    let media = media_view it.master it.session it.vault.copies it.returns.made in
+    let s = (engine_view stored it.log it.pool media).state in
+    let none : refusal s (event.Take c.args.copy c.args.page) ≡ None =
+    subst (λ v. refusal v.state (event.Take c.args.copy c.args.page) ≡ None) (sym c.self.view_is)
+    c.in_ok-find_takeable.ensures.free in
+    let passes = take_passes s c.args.copy c.args.page none in
+    let whole = (c.self.invariant.fit.copied.each c.args.copy passes.view (ap copy_in passes.is_read)).whole in
+    let within : c.args.page < length it.pool.states =
+    omega (
+      arith,
+      passes.within,
+      whole,
+      count_below-not_more (log_of s) passes.view.begin,
+      c.self.invariant.pool_of_log.pages,
+    ) in
     always c.match-decide.result
-    (subst (λ (v : EngineView g.row.S.Denot g.row.D.Denot). Asks gave wrote (a_page p) v new) c.self.view_is
+    (subst (λ (v : EngineView g.row.S.Denot g.row.D.Denot). Asks gave wrote grew (a_page p) v new) c.self.view_is
     (subst (λ (x : Page). gave it.pool.store p (Ok x) c.stored.new.self.store)
-    (read_is (stored it.pool.store) p c.in-Ok.stored (formatted p) c.in-Ok.ensures.found) c.in-Ok.ensures.gave))
+    (read_is (stored it.pool.store) p c.in-Ok.stored (formatted p) c.in-Ok.ensures.found
+    ∙ sym (page_at stored it.log it.pool media p within)) c.in-Ok.ensures.gave))
 
 pub stored-requires : goal.stored-requires
 stored-requires g c =

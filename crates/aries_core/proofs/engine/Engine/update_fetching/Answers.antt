@@ -1,3 +1,4 @@
+use Rattle.aries_core.specs.EngineState.{appended, with_page}
 use Rattle.std.proofs.Common.{◌≡◌, ◌<◌, ◌++◌, ◌∷◌, [], ℕ, length, get_or, refl, sym, ap, subst, ◌∙◌, arith, false, true}
 use Rattle.std.specs.Prelude.{Result, Ok, Err, OnErr, OnOk, is_err}
 use Rattle.page_core.specs.declared.page.Page.{Page}
@@ -338,7 +339,13 @@ invariant_of-self-2 g c =
     ∙ c.requires.absent in
     let now = said c.fetch.result _ (sym c.is_err-3.ensures.value ∙ c.if-is_err-4.false) c.fetch.ensures.fetched
     (log_of s) (formatted p) of_room in
-    let came = fetched_is stored it.log it.pool c.fetch.new.self media p absent
+    let came = fetched_is stored it.log it.pool c.fetch.new.self media p
+    (omega (
+      arith,
+      (slot_passes c.args.self.now.state p c.args.slot c.requires.place).within,
+      ap (λ (v : EngineView g.row.S.Denot g.row.D.Denot). volume_pages v.state) c.self.view_is,
+      c.self.invariant.pool_of_log.pages,
+    )) absent
     (c.fetch.ensures.stored ∙ ap (λ (v : PoolView g.row.S.Denot). stored v.store) same)
     (c.fetch.ensures.frames ∙ ap (λ (v : PoolView g.row.S.Denot). v.frames) same)
     (c.fetch.ensures.states ∙ ap (λ (v : PoolView g.row.S.Denot). v.states) same)
@@ -366,6 +373,7 @@ returns-clause-asked g c =
     let stored = g.S.PageStore.stored in
     let gave = g.S.PageStore.gave in
     let wrote = g.S.PageStore.wrote in
+    let grew = g.S.PageStore.grew in
     let media = media_view it.master it.session it.vault.copies it.returns.made in
     let p = c.args.page in
     let absent : is_resident it.pool.resident p ≡ false =
@@ -374,8 +382,14 @@ returns-clause-asked g c =
     let new = engine_view stored c.append.new.self c.change.new.self media in
     let given = said c.fetch.result _ (sym c.is_err-3.ensures.value ∙ c.if-is_err-4.false) c.fetch.ensures.gave
     (formatted p) in
-    subst (λ (v : EngineView g.row.S.Denot g.row.D.Denot). Asks gave wrote (page_asked v.state p) v new) c.self.view_is
-    (asks_page stored gave wrote it.log it.pool c.make_room-else-is_err.new.self media new p absent
+    subst (λ (v : EngineView g.row.S.Denot g.row.D.Denot). Asks gave wrote grew (page_asked v.state p) v new) c.self.view_is
+    (asks_page stored gave wrote grew it.log it.pool c.make_room-else-is_err.new.self media new p
+    (omega (
+      arith,
+      (slot_passes c.args.self.now.state p c.args.slot c.requires.place).within,
+      ap (λ (v : EngineView g.row.S.Denot g.row.D.Denot). volume_pages v.state) c.self.view_is,
+      c.self.invariant.pool_of_log.pages,
+    )) absent
     c.make_room-else-is_err.ensures.same
     (subst (λ (x : g.row.S.Denot). gave c.make_room-else-is_err.new.self.store p
     (Ok (get_or (stored c.make_room-else-is_err.new.self.store) p (formatted p))) x) (sym c.change.ensures.store) given))
@@ -386,6 +400,7 @@ returns-then-is_err-4-clause-failed g c = λ by_store.
     let stored = g.S.PageStore.stored in
     let gave = g.S.PageStore.gave in
     let wrote = g.S.PageStore.wrote in
+    let grew = g.S.PageStore.grew in
     let media = media_view it.master it.session it.vault.copies it.returns.made in
     let p = c.args.page in
     let absent : is_resident it.pool.resident p ≡ false =
@@ -393,7 +408,83 @@ returns-then-is_err-4-clause-failed g c = λ by_store.
     c.requires.absent in
     let new = engine_view stored c.make_room.new.self c.fetch.new.self media in
     let failed = why_failed c.fetch.result _ (sym c.is_err-3.ensures.value ∙ c.if-is_err-4.true) c.fetch.ensures.failed in
-    subst (λ (v : EngineView g.row.S.Denot g.row.D.Denot). FailsAsking gave wrote (page_asked v.state p) v new)
+    subst (λ (v : EngineView g.row.S.Denot g.row.D.Denot). FailsAsking gave wrote grew (page_asked v.state p) v new)
     c.self.view_is
-    (fails_asking stored gave wrote it.log it.pool c.make_room-else-is_err.new.self media new p absent
+    (fails_asking stored gave wrote grew it.log it.pool c.make_room-else-is_err.new.self media new p
+    (omega (
+      arith,
+      (slot_passes c.args.self.now.state p c.args.slot c.requires.place).within,
+      ap (λ (v : EngineView g.row.S.Denot g.row.D.Denot). volume_pages v.state) c.self.view_is,
+      c.self.invariant.pool_of_log.pages,
+    )) absent
     c.make_room-else-is_err.ensures.same failed)
+
+pub returns-clause-ok : goal.returns-clause-ok
+returns-clause-ok g c =
+    let it = c.self.inside in
+    let stored = g.S.PageStore.stored in
+    let media = media_view it.master it.session it.vault.copies it.returns.made in
+    let s = (engine_view stored it.log it.pool media).state in
+    let number = number_in s.log c.args.page c.args.slot in
+    let r = update_record s c.args.txn c.args.page c.args.slot (with_before c.args.ahead number) in
+    let calls : Calls s r =
+    subst (λ (v : EngineView g.row.S.Denot g.row.D.Denot). Calls v.state (update_record v.state c.args.txn c.args.page
+    c.args.slot (with_before c.args.ahead (number_in v.state.log c.args.page c.args.slot)))) (sym c.self.view_is)
+    c.requires.called in
+    let fit = c.self.invariant.fit in
+    let come = comes s r fit calls in
+    let prev_is : c.args.prev ≡ last_lsn s.log c.args.txn =
+    c.requires.last ∙ ap (λ (v : EngineView g.row.S.Denot g.row.D.Denot). last_lsn v.state.log c.args.txn)
+    (sym c.self.view_is) in
+    let may = subst (λ n. MayUpdate s.log c.args.txn n c.args.page c.args.slot (with_before c.args.ahead number))
+    (sym prev_is) come.may_follow in
+    let noted : PendingChange = record {
+      lsn = c.end-lsn.result;
+      prev = c.args.prev;
+      page = c.args.page;
+      slot = c.args.slot;
+      change = c.args.ahead;
+    } in
+    let ahead : IsAhead s.log c.args.txn noted c.note_ahead.new.self =
+    said c.note_ahead.result _ (sym c.is_err-2.ensures.value ∙ c.if-is_err-3.false) c.note_ahead.ensures.ok s.log number
+    c.self.invariant.table_of_log may in
+    let of_room = c.make_room-else-is_err.ensures.kept (log_of s) c.self.invariant.pool_of_log in
+    let of_log = c.fetch.ensures.kept (log_of s) of_room in
+    let lsn_is : c.end-lsn.result ≡ end s =
+    c.end-lsn.ensures ∙ ap (λ (l : Log). lsn_of (length l.records)) c.make_room.ensures.same in
+    let number_is = ap (λ (q : Page). get_or q.slots c.slot.inside.0 0) (c.current.ensures.image (log_of s) of_log)
+    ∙ ap (λ (n : ℕ). get_or (image s.log c.args.page).slots n 0) c.slot.view_is in
+    let next_is = ap (λ n. Update n c.args.txn c.args.prev c.args.page c.args.slot c.with_number.result) lsn_is
+    ∙ ap (λ n. Update (end s) c.args.txn n c.args.page c.args.slot c.with_number.result) prev_is
+    ∙ ap (λ x. Update (end s) c.args.txn (last_lsn s.log c.args.txn) c.args.page c.args.slot x)
+    (c.with_number.ensures ∙ ap (with_before c.args.ahead) number_is) in
+    let p = c.args.page in
+    let next = Update c.end-lsn.result c.args.txn c.args.prev p c.args.slot c.with_number.result in
+    let comes_next = subst (λ (x : Record). Comes s x) (sym next_is) come in
+    let same = c.make_room-else-is_err.ensures.same in
+    let absent : is_resident it.pool.resident p ≡ false =
+    ap (λ (v : EngineView g.row.S.Denot g.row.D.Denot). is_resident v.state.resident p) c.self.view_is
+    ∙ c.requires.absent in
+    let now = said c.fetch.result _ (sym c.is_err-3.ensures.value ∙ c.if-is_err-4.false) c.fetch.ensures.fetched
+    (log_of s) (formatted p) of_room in
+    let came = fetched_is stored it.log it.pool c.fetch.new.self media p
+    (omega (
+      arith,
+      (slot_passes c.args.self.now.state p c.args.slot c.requires.place).within,
+      ap (λ (v : EngineView g.row.S.Denot g.row.D.Denot). volume_pages v.state) c.self.view_is,
+      c.self.invariant.pool_of_log.pages,
+    )) absent
+    (c.fetch.ensures.stored ∙ ap (λ (v : PoolView g.row.S.Denot). stored v.store) same)
+    (c.fetch.ensures.frames ∙ ap (λ (v : PoolView g.row.S.Denot). v.frames) same)
+    (c.fetch.ensures.states ∙ ap (λ (v : PoolView g.row.S.Denot). v.states) same)
+    (subst (λ (v : PoolView g.row.S.Denot). c.fetch.new.self.resident ≡ fetched v.frames
+    (is_clean it.log.log.records (written_of v.states)) v.resident (get_or (stored v.store) p (formatted p))) same now) in
+    let grown = appended_is stored it.log c.make_room.new.self c.append.new.self c.fetch.new.self c.change.new.self media
+    next c.make_room.ensures.same c.make_room.ensures.forced_end c.append.ensures.next c.append.ensures.forced_end
+    (ap (λ x. stored x) c.change.ensures.store) c.change.ensures.frames c.change.ensures.pages
+    c.change.ensures.written c.change.ensures.writing in
+    subst (λ (v : EngineView g.row.S.Denot g.row.D.Denot). (c.end-lsn.result ≡ end v.state)
+    × ((engine_view stored c.append.new.self c.change.new.self media).state
+    ≡ appended (with_page v.state p) (update_record v.state c.args.txn p c.args.slot
+    (with_before c.args.ahead (number_in v.state.log p c.args.slot))))) c.self.view_is
+    (lsn_is, grown ∙ ap (λ (t : EngineState). appended t next) came ∙ ap (appended (with_page s p)) next_is)

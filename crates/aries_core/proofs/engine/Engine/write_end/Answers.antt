@@ -70,6 +70,7 @@ returns-clause-asked g c =
     let stored = g.S.PageStore.stored in
     let gave = g.S.PageStore.gave in
     let wrote = g.S.PageStore.wrote in
+    let grew = g.S.PageStore.grew in
     let media = media_view it.master it.session it.vault.copies it.returns.made in
     let p = c.args.page in
     let now = engine_view stored it.log it.pool media in
@@ -81,14 +82,14 @@ returns-clause-asked g c =
     let below = (write_end_passes now.state p none).within in
     let within : p < length it.pool.states = omega arith in
     subst (λ (v : EngineView g.row.S.Denot g.row.D.Denot). OnOk c.match-write_end.result
-    (Asks gave wrote (asked v.state (event.WriteEnd p)) v new)) c.self.view_is
+    (Asks gave wrote grew (asked v.state (event.WriteEnd p)) v new)) c.self.view_is
     (elim c.match-write_end.branch [
       | in-Ok w ↦
-          subst (λ (r : Result Lsn Refusal). OnOk r (Asks gave wrote (asked now.state (event.WriteEnd p)) now new))
+          subst (λ (r : Result Lsn Refusal). OnOk r (Asks gave wrote grew (asked now.state (event.WriteEnd p)) now new))
           (sym w.result-is)
-          (asks_to_store stored gave wrote it.log it.pool media new p none within w.in-Ok.ensures.wrote)
+          (asks_to_store stored gave wrote grew it.log it.pool media new p none within w.in-Ok.ensures.wrote)
       | in-Err w ↦
-          subst (λ (r : Result Lsn Refusal). OnOk r (Asks gave wrote (asked now.state (event.WriteEnd p)) now new))
+          subst (λ (r : Result Lsn Refusal). OnOk r (Asks gave wrote grew (asked now.state (event.WriteEnd p)) now new))
           (sym w.result-is) tt
     ])
 
@@ -98,6 +99,7 @@ returns-clause-failed g c =
     let stored = g.S.PageStore.stored in
     let gave = g.S.PageStore.gave in
     let wrote = g.S.PageStore.wrote in
+    let grew = g.S.PageStore.grew in
     let media = media_view it.master it.session it.vault.copies it.returns.made in
     let p = c.args.page in
     let now = engine_view stored it.log it.pool media in
@@ -109,13 +111,13 @@ returns-clause-failed g c =
     let below = (write_end_passes now.state p none).within in
     let within : p < length it.pool.states = omega arith in
     subst (λ (v : EngineView g.row.S.Denot g.row.D.Denot). IfErr c.match-write_end.result (λ why. IsByStore why
-    → FailsAsking gave wrote (asked v.state (event.WriteEnd p)) v new)) c.self.view_is
+    → FailsAsking gave wrote grew (asked v.state (event.WriteEnd p)) v new)) c.self.view_is
     (elim c.match-write_end.branch [
       | in-Ok w ↦
           subst (λ (r : Result Lsn Refusal). IfErr r (λ why. IsByStore why
-          → FailsAsking gave wrote (asked now.state (event.WriteEnd p)) now new)) (sym w.result-is) tt
+          → FailsAsking gave wrote grew (asked now.state (event.WriteEnd p)) now new)) (sym w.result-is) tt
       | in-Err w ↦
           subst (λ (r : Result Lsn Refusal). IfErr r (λ why. IsByStore why
-          → FailsAsking gave wrote (asked now.state (event.WriteEnd p)) now new)) (sym w.result-is)
-          (λ by_store. fails_to_store stored gave wrote it.log it.pool media new p none within _ w.in-Err.ensures.failed)
+          → FailsAsking gave wrote grew (asked now.state (event.WriteEnd p)) now new)) (sym w.result-is)
+          (λ by_store. fails_to_store stored gave wrote grew it.log it.pool media new p none within _ w.in-Err.ensures.failed)
     ])

@@ -8,7 +8,7 @@ index_mut-requires c =
     let s = c.self.inside in
     let at =
     places s.last_writes.items s.rec_lsns s.images.items s.first_changes.items c.args.self.now
-    c.number.inside.0 c.args.image.number c.self.view_is c.self.invariant c.requires (c.number.view_is
+    c.number.inside.0 c.args.image.number c.self.view_is c.self.invariant.0 c.requires (c.number.view_is
     ∙ ap (λ (q : Page). q.number) c.page.ensures) in
     omega (arith, s.images.ok.0, at.in_images)
 
@@ -17,7 +17,7 @@ index_mut-requires-2 c =
     let s = c.self.inside in
     let at =
     places s.last_writes.items s.rec_lsns s.images.items s.first_changes.items c.args.self.now
-    c.number.inside.0 c.args.image.number c.self.view_is c.self.invariant c.requires (c.number.view_is
+    c.number.inside.0 c.args.image.number c.self.view_is c.self.invariant.0 c.requires (c.number.view_is
     ∙ ap (λ (q : Page). q.number) c.page.ensures) in
     omega (arith, s.first_changes.ok.0, at.in_firsts)
 
@@ -25,5 +25,5 @@ pub returns : goal.returns
 returns c =
     let s = c.self.inside in
     is_begun s.last_writes.items s.rec_lsns s.images.items s.first_changes.items c.args.self.now c.args.image.number
-    c.self.view_is c.requires c.self.invariant c.number.inside.0 c.args.image
+    c.self.view_is c.requires c.self.invariant.0 c.number.inside.0 c.args.image
     (c.number.view_is ∙ ap (λ (q : Page). q.number) c.page.ensures)

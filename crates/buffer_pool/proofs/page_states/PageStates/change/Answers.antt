@@ -9,14 +9,14 @@ note-requires c =
     let s = c.self.inside in
     let count =
     count_is s.last_writes.items s.rec_lsns s.images.items s.first_changes.items c.args.self.now c.self.view_is in
-    omega (arith, c.self.invariant.rec_lsn_count)
+    omega (arith, c.self.invariant.0.rec_lsn_count)
 
 pub index-requires : goal.index-requires
 index-requires c =
     let s = c.self.inside in
     let at =
     places s.last_writes.items s.rec_lsns s.images.items s.first_changes.items c.args.self.now
-    c.number.inside.0 c.args.number c.self.view_is c.self.invariant c.requires c.number.view_is in
+    c.number.inside.0 c.args.number c.self.view_is c.self.invariant.0 c.requires c.number.view_is in
     omega (arith, s.images.ok.0, at.in_images)
 
 pub index_mut-requires : goal.index_mut-requires
@@ -24,7 +24,7 @@ index_mut-requires c =
     let s = c.self.inside in
     let at =
     places s.last_writes.items s.rec_lsns s.images.items s.first_changes.items c.args.self.now
-    c.number.inside.0 c.args.number c.self.view_is c.self.invariant c.requires c.number.view_is in
+    c.number.inside.0 c.args.number c.self.view_is c.self.invariant.0 c.requires c.number.view_is in
     omega (arith, s.first_changes.ok.0, at.in_firsts)
 
 pub returns-then-is_some : goal.returns-then-is_some
@@ -37,13 +37,13 @@ returns-then-is_some c =
     let since = get_or s.first_changes.items n None in
     let at =
     places s.last_writes.items s.rec_lsns s.images.items s.first_changes.items c.args.self.now
-    m n c.self.view_is c.self.invariant c.requires c.number.view_is in
+    m n c.self.view_is c.self.invariant.0 c.requires c.number.view_is in
     let test : is_some (get_or s.images.items n None) ≡ true =
     ap is_some (sym
     (read_at s.images.items m n c.index.result.now None c.index.ensures at.in_images c.number.view_is))
     ∙ sym c.is_some.ensures ∙ c.if-is_some.true in
     is_changed s.last_writes.items s.rec_lsns s.images.items s.first_changes.items c.args.self.now n
-    c.self.view_is c.requires c.self.invariant lsn c.note.new.self (set s.first_changes.items m now)
+    c.self.view_is c.requires c.self.invariant.0 lsn c.note.new.self (set s.first_changes.items m now)
     c.note.ensures
     (put_at s.first_changes.items m n now
     (cond (is_some (get_or s.images.items n None)) (Some (unwrap_or since lsn)) since) c.number.view_is
@@ -61,13 +61,13 @@ returns-else-is_some c =
     let since = get_or s.first_changes.items n None in
     let at =
     places s.last_writes.items s.rec_lsns s.images.items s.first_changes.items c.args.self.now
-    m n c.self.view_is c.self.invariant c.requires c.number.view_is in
+    m n c.self.view_is c.self.invariant.0 c.requires c.number.view_is in
     let test : is_some (get_or s.images.items n None) ≡ false =
     ap is_some (sym
     (read_at s.images.items m n c.index.result.now None c.index.ensures at.in_images c.number.view_is))
     ∙ sym c.is_some.ensures ∙ c.if-is_some.false in
     is_changed s.last_writes.items s.rec_lsns s.images.items s.first_changes.items c.args.self.now n
-    c.self.view_is c.requires c.self.invariant lsn c.note.new.self s.first_changes.items c.note.ensures
+    c.self.view_is c.requires c.self.invariant.0 lsn c.note.new.self s.first_changes.items c.note.ensures
     (kept s.first_changes.items n
     (cond (is_some (get_or s.images.items n None)) (Some (unwrap_or since lsn)) since) None
     (ap (λ (b : Bool). cond b (Some (unwrap_or since lsn)) since) test))

@@ -12,7 +12,7 @@ index-requires c =
     let s = c.self.inside in
     let at =
     places s.last_writes.items s.rec_lsns s.images.items s.first_changes.items c.args.self.now
-    c.number.inside.0 c.args.number c.self.view_is c.self.invariant c.requires c.number.view_is in
+    c.number.inside.0 c.args.number c.self.view_is c.self.invariant.0 c.requires c.number.view_is in
     omega (arith, s.images.ok.0, at.in_images)
 
 -- what was read of the images
@@ -21,7 +21,7 @@ read c =
     let s = c.self.inside in
     let at =
     places s.last_writes.items s.rec_lsns s.images.items s.first_changes.items c.args.self.now
-    c.number.inside.0 c.args.number c.self.view_is c.self.invariant c.requires c.number.view_is in
+    c.number.inside.0 c.args.number c.self.view_is c.self.invariant.0 c.requires c.number.view_is in
     c.as_ref.ensures.value
     ∙ read_at s.images.items c.number.inside.0 c.args.number c.index.result.now None c.index.ensures at.in_images
     c.number.view_is
@@ -43,6 +43,6 @@ returns-clause-numbered c =
     let s = c.self.inside in
     let at =
     places s.last_writes.items s.rec_lsns s.images.items s.first_changes.items c.args.self.now
-    c.args.number c.args.number c.self.view_is c.self.invariant c.requires refl in
+    c.args.number c.args.number c.self.view_is c.self.invariant.0 c.requires refl in
     of_copied (λ q. q.number ≡ c.args.number) c.as_ref.result (get_or s.images.items c.args.number None) (read c)
-    (c.self.invariant.numbers c.args.number at.in_images)
+    (c.self.invariant.0.numbers c.args.number at.in_images)

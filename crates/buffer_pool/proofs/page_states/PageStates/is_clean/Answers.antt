@@ -15,9 +15,9 @@ returns c =
     c.has_none.ensures ∙ ap (λ (o : Option ℕ). is_none o) (elim (cases_lt n (length columns)) [
       | inl within ↦
           sym (ap (λ (x : PageState). x.rec_lsn) (state_is s.last_writes.items columns s.images.items
-          s.first_changes.items c.args.self.now n c.self.view_is (omega (arith, count, c.self.invariant.rec_lsn_count))))
+          s.first_changes.items c.args.self.now n c.self.view_is (omega (arith, count, c.self.invariant.0.rec_lsn_count))))
       | inr past ↦
           get_or_past columns n None past
           ∙ sym (ap (λ (x : PageState). x.rec_lsn)
-          (get_or_past c.args.self.now n unwritten (omega (arith, count, c.self.invariant.rec_lsn_count))))
+          (get_or_past c.args.self.now n unwritten (omega (arith, count, c.self.invariant.0.rec_lsn_count))))
     ])

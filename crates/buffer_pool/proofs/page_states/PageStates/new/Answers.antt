@@ -1,8 +1,13 @@
-use Rattle.buffer_pool.proofs.Columns.{is_new}
+use Rattle.std.proofs.Common.{◌∙◌, length, ap}
+use Rattle.buffer_pool.proofs.Columns.{length-states_of}
+use Rattle.buffer_pool.proofs.Grown.{new_states}
 use Rattle.buffer_pool.proofs.page_states.PageStates.new.Goals as goal
 
 pub returns : goal.returns
 returns c =
-    is_new c.args.count c.in_ok-vec.field-0.items c.in_ok-new.field-0 c.in_ok-empty_column.field-0.items
-    c.in_ok-empty_column-2.field-0.items (c.in_ok-vec.ensures.items_if_clones_equal (λ y e. e)) c.in_ok-new.ensures
-    c.in_ok-empty_column.ensures c.in_ok-empty_column-2.ensures
+    let written = c.in_ok-with_capacity.field-0.items in
+    new_states _ c.grow.new.self c.args.count
+    (length-states_of written c.in_ok-new.field-0 c.in_ok-with_capacity-2.field-0.items
+    c.in_ok-with_capacity-3.field-0.items
+    ∙ ap length c.in_ok-with_capacity.ensures.items)
+    c.grow.ensures

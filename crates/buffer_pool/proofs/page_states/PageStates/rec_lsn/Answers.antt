@@ -8,7 +8,7 @@ of-requires c =
     let s = c.self.inside in
     let count =
     count_is s.last_writes.items s.rec_lsns s.images.items s.first_changes.items c.args.self.now c.self.view_is in
-    omega (arith, c.self.invariant.rec_lsn_count)
+    omega (arith, c.self.invariant.0.rec_lsn_count)
 
 pub returns : goal.returns
 returns c =

@@ -24,7 +24,7 @@ returns-in_default-clause-covered g c =
 pub append-requires-clause-stands : goal.append-requires-clause-stands
 append-requires-clause-stands g c =
     let log = c.args.log.now.log in
-    let pages = c.in-Some.pages in
+    let pages = c.in-Some.dirty in
     let it = pool_more g.S.PageStore.stored log c.args.pool.now c.args.self c.phase.inside.from c.dirty_from.result
     pages
     c.requires.pool c.requires.ckpt c.requires.covered
@@ -40,7 +40,7 @@ pub behind-requires : goal.behind-requires
 behind-requires g c =
     let log = c.args.log.now.log in
     (pool_more g.S.PageStore.stored log c.args.pool.now c.args.self c.phase.inside.from c.dirty_from.result
-    c.in-Some.pages
+    c.in-Some.dirty
     c.requires.pool c.requires.ckpt c.requires.covered
     (c.phase.view_is ∙ ap (λ (v : CkptView ℕ). v.phase) c.self.view_is)
     (c.dirty_from.ensures log c.requires.pool) c.in-Some.is).fits
@@ -49,7 +49,7 @@ pub returns-in-Ok-clause-follows : goal.returns-in-Ok-clause-follows
 returns-in-Ok-clause-follows g c =
     let log = c.args.log.now.log in
     let it = pool_more g.S.PageStore.stored log c.args.pool.now c.args.self c.phase.inside.from c.dirty_from.result
-    c.in-Some.pages c.requires.pool c.requires.ckpt c.requires.covered
+    c.in-Some.dirty c.requires.pool c.requires.ckpt c.requires.covered
     (c.phase.view_is ∙ ap (λ (v : CkptView ℕ). v.phase) c.self.view_is)
     (c.dirty_from.ensures log c.requires.pool) c.in-Some.is in
     subst (λ (x : Gathering). IfSome x.next (MayFollow log.records)) (sym it.step) it.follows
@@ -58,7 +58,7 @@ pub returns-in-Err-clause-follows : goal.returns-in-Err-clause-follows
 returns-in-Err-clause-follows g c =
     let log = c.args.log.now.log in
     let it = pool_more g.S.PageStore.stored log c.args.pool.now c.args.self c.phase.inside.from c.dirty_from.result
-    c.in-Some.pages c.requires.pool c.requires.ckpt c.requires.covered
+    c.in-Some.dirty c.requires.pool c.requires.ckpt c.requires.covered
     (c.phase.view_is ∙ ap (λ (v : CkptView ℕ). v.phase) c.self.view_is)
     (c.dirty_from.ensures log c.requires.pool) c.in-Some.is in
     subst (λ (x : Gathering). IfSome x.next (MayFollow log.records)) (sym it.step) it.follows
@@ -66,7 +66,7 @@ returns-in-Err-clause-follows g c =
 pub returns-in-Ok-clause-ckpt : goal.returns-in-Ok-clause-ckpt
 returns-in-Ok-clause-ckpt g c =
     let log = c.args.log.now.log in
-    let pages = c.in-Some.pages in
+    let pages = c.in-Some.dirty in
     let it = pool_more g.S.PageStore.stored log c.args.pool.now c.args.self c.phase.inside.from c.dirty_from.result
     pages
     c.requires.pool c.requires.ckpt c.requires.covered
@@ -76,25 +76,27 @@ returns-in-Ok-clause-ckpt g c =
     ∙ ap (λ (n : ℕ). with_next log (ChkptPages n c.self.inside.begin pages ∷ [])) c.end-lsn.ensures
     ∙ ap (λ (v : CkptView ℕ). with_next log (ChkptPages (end_of log.records) v.begin pages ∷ [])) c.self.view_is in
     let redo = c.least_of.ensures ∙ ap (λ (v : CkptView ℕ). lowered v.redo (entries_of pages)) c.self.view_is in
-    let view : record { begin = c.self.inside.begin; redo = c.least_of.result; phase = in_pages c.behind.result }
+    let view : record { begin = c.self.inside.begin; pages = c.self.inside.pages; redo = c.least_of.result; phase = in_pages c.behind.result }
     ≡ past_pages pages (pages_ckpt c.args.self) = λ i. record {
       begin = (c.self.view_is i).begin;
+      pages = (c.self.view_is i).pages;
       redo = redo i;
       phase = in_pages (c.behind.ensures i);
     } in
-    subst (λ (l : Log). IsCkptOf l.records (record {
+    subst (λ (l : Log). IsCkptOf l (record {
       begin = c.self.inside.begin;
+      pages = c.self.inside.pages;
       redo = c.least_of.result;
       phase = in_pages c.behind.result;
     }))
     (sym logged)
-    (subst (IsCkptOf (with_next log (ChkptPages (end_of log.records) c.args.self.begin pages ∷ [])).records)
+    (subst (IsCkptOf (with_next log (ChkptPages (end_of log.records) c.args.self.begin pages ∷ [])))
     (sym view) it.kept)
 
 pub returns-in-Ok-clause-covered : goal.returns-in-Ok-clause-covered
 returns-in-Ok-clause-covered g c =
     let log = c.args.log.now.log in
-    let pages = c.in-Some.pages in
+    let pages = c.in-Some.dirty in
     let stored = g.S.PageStore.stored c.args.pool.now.store in
     let it = pool_more g.S.PageStore.stored log c.args.pool.now c.args.self c.phase.inside.from c.dirty_from.result
     pages
@@ -105,14 +107,16 @@ returns-in-Ok-clause-covered g c =
     ∙ ap (λ (n : ℕ). with_next log (ChkptPages n c.self.inside.begin pages ∷ [])) c.end-lsn.ensures
     ∙ ap (λ (v : CkptView ℕ). with_next log (ChkptPages (end_of log.records) v.begin pages ∷ [])) c.self.view_is in
     let redo = c.least_of.ensures ∙ ap (λ (v : CkptView ℕ). lowered v.redo (entries_of pages)) c.self.view_is in
-    let view : record { begin = c.self.inside.begin; redo = c.least_of.result; phase = in_pages c.behind.result }
+    let view : record { begin = c.self.inside.begin; pages = c.self.inside.pages; redo = c.least_of.result; phase = in_pages c.behind.result }
     ≡ past_pages pages (pages_ckpt c.args.self) = λ i. record {
       begin = (c.self.view_is i).begin;
+      pages = (c.self.view_is i).pages;
       redo = redo i;
       phase = in_pages (c.behind.ensures i);
     } in
     subst (λ (l : Log). AreCovered l.records stored (record {
       begin = c.self.inside.begin;
+      pages = c.self.inside.pages;
       redo = c.least_of.result;
       phase = in_pages c.behind.result;
     }))
@@ -125,7 +129,7 @@ pub returns-in-Err-clause-appends : goal.returns-in-Err-clause-appends
 returns-in-Err-clause-appends g c =
     let log = c.args.log.now.log in
     let it = pool_more g.S.PageStore.stored log c.args.pool.now c.args.self c.phase.inside.from c.dirty_from.result
-    c.in-Some.pages c.requires.pool c.requires.ckpt c.requires.covered
+    c.in-Some.dirty c.requires.pool c.requires.ckpt c.requires.covered
     (c.phase.view_is ∙ ap (λ (v : CkptView ℕ). v.phase) c.self.view_is)
     (c.dirty_from.ensures log c.requires.pool) c.in-Some.is in
     subst (λ (x : Gathering). IsSome x.next) (sym it.step) refl

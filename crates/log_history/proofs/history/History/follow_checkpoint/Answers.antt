@@ -2,6 +2,8 @@ use Rattle.std.proofs.Common.{◌∙◌, ap, subst, sym}
 use Rattle.log_history.specs.CheckpointTable.{MayNoteCheckpoint, noted_checkpoint}
 use Rattle.log_history.specs.History.{Made}
 use Rattle.log_history.specs.Table.{MayNote}
+use Rattle.log_records.proofs.GivenNone.{checkpoint_gives_none}
+use Rattle.log_records.proofs.PageCounts.{more-none}
 use Rattle.log_history.proofs.Followed.{after_checkpoint}
 use Rattle.log_history.proofs.history.History.follow_checkpoint.Goals as goal
 
@@ -16,6 +18,7 @@ returns-clause-taken c = λ yes.
         may_note_checkpoint = subst (λ (m : Made). MayNoteCheckpoint m.table m.checkpoints r) c.self.view_is
             (c.may_note-else-not-may_note.ensures.0 c.if-not-may_note-2.false);
         replaces = after.0;
+        more = more-none _ r (checkpoint_gives_none r c.requires.kind);
       },
       ap (λ t. let m : Made = record { table = old.txns; checkpoints = t; pages = old.pages.items } in m)
           c.in_ok-note.ensures.ok

@@ -11,14 +11,14 @@ use Rattle.log_store.proofs.log.Log.force_next.Goals as goal
 pub store-requires : goal.store-requires
 store-requires g c =
     let it = c.self.inside in
-    omega (arith, on_device g.D.LogDevice.bytes it.pages it.records.items it.forced _ it.device c.self.invariant)
+    omega (arith, on_device g.D.LogDevice.bytes it.pages it.records.items it.forced _ it.device c.self.invariant.0)
 
 pub returns-clause-stands : goal.returns-clause-stands
 returns-clause-stands g c =
     let it = c.self.inside in
     let bytes = g.D.LogDevice.bytes in
     let long : lsn_of it.forced ≤ length (bytes it.device) =
-    on_device bytes it.pages it.records.items it.forced _ it.device c.self.invariant in
+    on_device bytes it.pages it.records.items it.forced _ it.device c.self.invariant.0 in
     rw (← c.self.view_is) (keeps_stored _ _ _ _ _ c.offset_of.ensures long c.in_ok-store.ensures.stored)
 
 pub returns-clause-nothing_more : goal.returns-clause-nothing_more
@@ -26,7 +26,7 @@ returns-clause-nothing_more g c =
     let it = c.self.inside in
     let bytes = g.D.LogDevice.bytes in
     let long : lsn_of it.forced ≤ length (bytes it.device) =
-    on_device bytes it.pages it.records.items it.forced _ it.device c.self.invariant in
+    on_device bytes it.pages it.records.items it.forced _ it.device c.self.invariant.0 in
     omega (
       arith,
       length_stored _ _ _ _ _ c.offset_of.ensures long c.in_ok-store.ensures.stored,
@@ -46,10 +46,12 @@ read g c =
 pub invariant_of-self-2 : goal.invariant_of-self-2
 invariant_of-self-2 g c =
     let it = c.self.inside in
-    let bytes = g.D.LogDevice.bytes in
-    written_next bytes it.pages it.records.items it.forced _ it.device c.store.new.self c.self.invariant
-    c.index.result.now (read g c)
-    (rw (← c.offset_of.ensures, ← c.encode-next.ensures) c.in_ok-store.ensures.stored)
+    let bytes = g.D.LogDevice.bytes in (
+      written_next bytes it.pages it.records.items it.forced _ it.device c.store.new.self c.self.invariant.0
+          c.index.result.now (read g c)
+          (rw (← c.offset_of.ensures, ← c.encode-next.ensures) c.in_ok-store.ensures.stored),
+      c.self.invariant.1,
+    )
 
 pub returns-clause-called : goal.returns-clause-called
 returns-clause-called g c =
@@ -57,10 +59,10 @@ returns-clause-called g c =
     let bytes = g.D.LogDevice.bytes in
     rw (← c.self.view_is) (
       c.index.result.now,
-      next_there bytes it.pages it.records.items it.forced _ it.device it.device c.self.invariant c.index.result.now
+      next_there bytes it.pages it.records.items it.forced _ it.device it.device c.self.invariant.0 c.index.result.now
           (read g c),
       rw (
-        next_lsn bytes it.pages it.records.items it.forced _ it.device it.device c.self.invariant c.index.result.now
+        next_lsn bytes it.pages it.records.items it.forced _ it.device it.device c.self.invariant.0 c.index.result.now
             (read g c),
         ← c.offset_of.ensures,
         ← c.encode-next.ensures,

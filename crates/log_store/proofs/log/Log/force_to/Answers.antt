@@ -10,7 +10,7 @@ loop-init g c =
     let it = c.self.inside in
     let bytes = g.D.LogDevice.bytes in
     let long : lsn_of it.forced ≤ length (bytes it.device) =
-    on_device bytes it.pages it.records.items it.forced _ it.device c.self.invariant in
+    on_device bytes it.pages it.records.items it.forced _ it.device c.self.invariant.0 in
     rw (← c.self.view_is) (record {
       same = refl;
       forced = refl;

@@ -147,6 +147,16 @@ returns-in-EndChkpt c rs of may =
     let step = s.step in
     omega arith
 
+pub returns-in-Extend : goal.returns-in-Extend
+returns-in-Extend c rs of may =
+    let s =
+    table_step c.self.inside.open c.args.self.now c.self.inside.owed rs c.args.next.now _
+    c.self.view_is c.self.invariant of may c.in-Extend.is in
+    let before = s.before in
+    let few = s.few in
+    let step = s.step in
+    omega arith
+
 pub returns-in-Commit : goal.returns-in-Commit
 returns-in-Commit c rs of may =
     let s =

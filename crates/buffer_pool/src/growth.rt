@@ -1,0 +1,30 @@
+//! Columns of the table of the pages' states.
+
+ghost use Rattle.std.specs.Prelude.{◌≡◌, ◌-◌, ◌++◌, ◌≤◌, length, replicate, vec_capacity, None};
+
+use page_core::Lsn;
+
+/// Grows a column to `count` places, in room that was reserved: nothing is in those that are added.
+/// One that has as many stays as it is. It takes no memory.
+pub(crate) fn grow_column<T: Drop>(column: &mut Vec<Option<T>>, count: u32)
+    requires room { count ≤ vec_capacity column.old }
+    ensures grown { column.new.items
+        ≡ column.old.items ++ replicate (count - length column.old.items) None }
+    ensures room { vec_capacity column.new ≡ vec_capacity column.old }
+{
+    for place in column.len()..count as usize {
+        column.push_reserved(None);
+    }
+}
+
+/// The same of a column of LSNs: those that are added are 0.
+pub(crate) fn grow_lsns(column: &mut Vec<Lsn>, count: u32)
+    requires room { count ≤ vec_capacity column.old }
+    ensures grown { column.new.items
+        ≡ column.old.items ++ replicate (count - length column.old.items) 0 }
+    ensures room { vec_capacity column.new ≡ vec_capacity column.old }
+{
+    for place in column.len()..count as usize {
+        column.push_reserved(Lsn(0));
+    }
+}
