@@ -13,7 +13,6 @@ use Rattle.log_records.specs.Record.{change_of}
 use Rattle.log_history.proofs.AtEnd.{valid_next}
 use Rattle.log_records.proofs.GivenNone.{transaction_gives_none}
 use Rattle.log_records.proofs.PageCounts.{more-none}
-use Rattle.log_records.specs.Record.{IsOfTransaction}
 use Rattle.log_history.specs.Checkpoint.{Checkpoint, open_checkpoint}
 use Rattle.aries_core.specs.Gather.{Left}
 use Rattle.aries_core.proofs.GatherSteps.{begun_before, session_same}
@@ -36,12 +35,13 @@ valid_with s r fit come =
     valid_next (log_of s) r fit.valid (comes_few s r come) come.stands_at
     (more-none _ r (transaction_gives_none r come.of_transaction))
 
--- the session of the open checkpoint stays
-session_later : (s : EngineState) (r : Record) (left : Left) → IsFit s → IsOfTransaction r
+-- the session of the open checkpoint stays, where the record leaves that as it is
+pub session_later : (s : EngineState) (r : Record) (left : Left) → IsFit s
+    → open_checkpoint (s.log ++ r ∷ []) ≡ open_checkpoint s.log
     → option_map (session_of (with_next (log_of s) (r ∷ [])) left) (open_checkpoint (s.log ++ r ∷ []))
     ≡ option_map (session_of (log_of s) left) (open_checkpoint s.log)
-session_later s r left fit of =
-    ap (option_map (session_of (with_next (log_of s) (r ∷ [])) left)) (open_same s.log r of)
+session_later s r left fit same =
+    ap (option_map (session_of (with_next (log_of s) (r ∷ [])) left)) same
     ∙ by_open (open_checkpoint s.log) refl
   where
     by_open : (o : Option Checkpoint) → open_checkpoint s.log ≡ o
@@ -62,7 +62,7 @@ kept_next stored s old new pool after ckpts returns r kept come there noted chan
       table_of_log = record { linked = fit.linked; few = fit.valid.count; made = noted };
       pool_of_log = changed;
       session_of_log = kept.session_of_log
-          ∙ sym (session_later s r s.left kept.fit come.of_transaction);
+          ∙ sym (session_later s r s.left kept.fit (open_same s.log r come.of_transaction));
       returns_of_log = back;
     }
 

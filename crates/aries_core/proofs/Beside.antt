@@ -17,7 +17,7 @@ use Rattle.log_history.specs.Transactions.{last_of, pending}
 use Rattle.copy_coverage.proofs.Points.{begin_before_end, redo_before_end}
 use Rattle.fuzzy_ckpt.specs.declared.point.Point.{Point}
 use Rattle.fuzzy_ckpt.proofs.Covers.{all_later, all_written, behind_later, behind_written}
-use Rattle.fuzzy_ckpt.proofs.Opens.{ckpt_kept, open_before, open_same}
+use Rattle.fuzzy_ckpt.proofs.Opens.{ckpt_kept, open_before, open_grown, open_same}
 use Rattle.fuzzy_ckpt.specs.Ckpt.{AreCovered, IsCkptOf}
 use Rattle.aries_core.specs.declared.event.Answer.{Answer}
 use Rattle.aries_core.specs.declared.event.Event.{Event}
@@ -25,12 +25,14 @@ use Rattle.aries_core.specs.declared.event.Event.TheVariants as event
 use Rattle.aries_core.specs.declared.refusal.Refusal.{Refusal}
 use Rattle.aries_core.specs.declared.refusal.Refusal.TheVariants.{CommitUnsure, LogFault, OutOfMemory, StoreFault}
 use Rattle.aries_core.specs.Call.{record_for}
-use Rattle.aries_core.specs.EngineState.{EngineState, IsFit, IsGathering, IsMasterOf, effect, image_of, log_of, page_now}
+use Rattle.aries_core.specs.EngineState.{EngineState, IsFit, IsGathering, IsMasterOf, effect, end, image_of, log_of}
+use Rattle.aries_core.specs.EngineState.{page_now}
 use Rattle.aries_core.specs.Gather.{Left, session_of}
 use Rattle.aries_core.specs.Step.{Fails, Step}
 use Rattle.aries_core.proofs.Follows.{undo_has}
 use Rattle.aries_core.proofs.Gathers.{AreGathered}
 use Rattle.aries_core.proofs.GatherSteps.{session_same}
+use Rattle.aries_core.proofs.NoCounts.{IsNoGrowth}
 use Rattle.aries_core.proofs.Steps.{stored_or_not}
 use Rattle.aries_core.proofs.Writes.{Begins, Ends, Leaves, PageStep, Repairs, Repeats, repairs_newer}
 use Rattle.aries_core.proofs.StepsBack.{back_has, back_record_has}
@@ -119,30 +121,39 @@ keeps_ckpts old event (Ok answer) new beside step = answered old event new besid
 keeps_ckpts old event (Err why) new beside (inl both) = keeps old new old both.1 refl refl
 keeps_ckpts old event (Err why) new beside (inr both) = failed old event why new beside both.1
 
--- the record of such an event is one of a transaction
-pub of_transaction : (s : EngineState) (event : Event) (r : Record) → IsBeside event → record_for s event ≡ Some r
-    → IsOfTransaction r
-of_transaction s event.Begin r beside made = subst IsOfTransaction (same_Some _ _ made) tt
-of_transaction s (event.Set txn page slot number) r beside made = subst IsOfTransaction (same_Some _ _ made) tt
-of_transaction s (event.Add txn page slot amount) r beside made = subst IsOfTransaction (same_Some _ _ made) tt
-of_transaction s (event.Read page slot) r beside made = absurd (cc)
-of_transaction s event.CopyFull r beside made = absurd (cc)
-of_transaction s (event.CopyInc parent) r beside made = absurd (cc)
-of_transaction s (event.Take copy page) r beside made = absurd (cc)
-of_transaction s (event.Seal copy) r beside made = absurd (cc)
-of_transaction s (event.DropCopy copy) r beside made = absurd (cc)
-of_transaction s (event.Repair copy page) r beside made = absurd (cc)
-of_transaction s (event.Commit txn) r beside made = subst IsOfTransaction (same_Some _ _ made) tt
-of_transaction s (event.Abort txn) r beside made = subst IsOfTransaction (same_Some _ _ made) tt
-of_transaction s (event.UndoStep txn) r beside made = undo_has IsOfTransaction s txn r made (λ p last. tt) (λ last. tt)
-of_transaction s (event.Savepoint txn) r beside made = absurd (cc)
-of_transaction s (event.UndoTo txn at) r beside made = back_record_has IsOfTransaction s txn at r made (λ p last. tt)
-of_transaction s event.Force r beside made = absurd (cc)
-of_transaction s (event.WriteBegin page) r beside made = absurd (cc)
-of_transaction s (event.WriteEnd page) r beside made = absurd (cc)
-of_transaction s event.CkptBegin r beside made = absurd beside
-of_transaction s event.CkptGather r beside made = absurd beside
-of_transaction s event.CkptEnd r beside made = absurd beside
+-- the record of such an event is one of a transaction, where the volume does not grow
+pub of_transaction : (s : EngineState) (event : Event) (r : Record) → IsBeside event → IsNoGrowth event
+    → record_for s event ≡ Some r → IsOfTransaction r
+of_transaction s event.Begin r beside stays made = subst IsOfTransaction (same_Some _ _ made) tt
+of_transaction s (event.Set txn page slot number) r beside stays made = subst IsOfTransaction (same_Some _ _ made) tt
+of_transaction s (event.Add txn page slot amount) r beside stays made = subst IsOfTransaction (same_Some _ _ made) tt
+of_transaction s (event.Read page slot) r beside stays made = absurd (cc)
+of_transaction s event.CopyFull r beside stays made = absurd (cc)
+of_transaction s (event.CopyInc parent) r beside stays made = absurd (cc)
+of_transaction s (event.Take copy page) r beside stays made = absurd (cc)
+of_transaction s (event.Seal copy) r beside stays made = absurd (cc)
+of_transaction s (event.DropCopy copy) r beside stays made = absurd (cc)
+of_transaction s (event.Repair copy page) r beside stays made = absurd (cc)
+of_transaction s (event.Commit txn) r beside stays made = subst IsOfTransaction (same_Some _ _ made) tt
+of_transaction s (event.Abort txn) r beside stays made = subst IsOfTransaction (same_Some _ _ made) tt
+of_transaction s (event.UndoStep txn) r beside stays made = undo_has IsOfTransaction s txn r made (λ p last. tt) (λ last. tt)
+of_transaction s (event.Savepoint txn) r beside stays made = absurd (cc)
+of_transaction s (event.UndoTo txn at) r beside stays made = back_record_has IsOfTransaction s txn at r made (λ p last. tt)
+of_transaction s event.Force r beside stays made = absurd (cc)
+of_transaction s (event.WriteBegin page) r beside stays made = absurd (cc)
+of_transaction s (event.WriteEnd page) r beside stays made = absurd (cc)
+of_transaction s (event.Extend count) r beside stays made = absurd stays
+of_transaction s event.CkptBegin r beside stays made = absurd beside
+of_transaction s event.CkptGather r beside stays made = absurd beside
+of_transaction s event.CkptEnd r beside stays made = absurd beside
+
+-- it leaves the open checkpoint as it is
+pub open_stays : (s : EngineState) (event : Event) (r : Record) → IsBeside event → record_for s event ≡ Some r
+    → open_checkpoint (s.log ++ r ∷ []) ≡ open_checkpoint s.log
+open_stays s (event.Extend count) r beside made =
+    subst (λ (q : Record). open_checkpoint (s.log ++ q ∷ []) ≡ open_checkpoint s.log) (same_Some _ _ made)
+    (open_grown s.log (end s) count)
+open_stays s event r beside made = open_same s.log r (of_transaction s event r beside tt made)
 
 -- ---- what is stored
 

@@ -31,6 +31,7 @@ use Rattle.aries_core.proofs.Gathers.{AreGathered, PassesPages, PassesTxns, Take
 use Rattle.aries_core.proofs.Gathers.{closed_part, gather_case, pages_record, passes_pages, passes_txns, takes_pages}
 use Rattle.aries_core.proofs.Gathers.{takes_txn, txn_entry, was_done}
 use Rattle.aries_core.proofs.GatherSteps.{gathering_of, new_is_session, pages_gathered, pages_passed, txn_gathered, txns_passed}
+use Rattle.aries_core.proofs.NoCounts.{IsNoGrowth}
 use Rattle.aries_core.proofs.Refusals.{ckpt_end_passes, gather_passes}
 use Rattle.aries_core.proofs.Stands.{stands}
 use Rattle.aries_core.proofs.Steps.{Grows, Stays}
@@ -42,7 +43,7 @@ FitsCkpts s = CkptsFit (log_of s) s.stored s.left s.forced_end s.master
 ckpts_now : (s : EngineState) → IsFit s → FitsCkpts s
 ckpts_now s fit = record { gathered = fit.gathered; master = fit.master }
 
-forced_within : (s : EngineState) → IsFit s → s.forced_end ≤ lsn_of (length s.log)
+pub forced_within : (s : EngineState) → IsFit s → s.forced_end ≤ lsn_of (length s.log)
 forced_within s fit = let k = fit.forced.0 in let le = fit.forced.1 in let is = fit.forced.2 in omega arith
 
 -- the master with one more record
@@ -153,9 +154,9 @@ unforced_fit old new fit fails =
 -- ---- a step beside checkpoints
 
 beside_fit : (old : EngineState) (event : Event) (reply : Result Answer Refusal) (new : EngineState) → IsFit old
-    → EventFits event → IsBeside event → Forces old new → PageStep old new
+    → EventFits event → IsBeside event → IsNoGrowth event → Forces old new → PageStep old new
     → Stays old event reply new ⊎ Grows old event reply new → Step old event reply new → FitsCkpts new
-beside_fit old event reply new fit numbers beside forces pages kind step =
+beside_fit old event reply new fit numbers beside same forces pages kind step =
     let keeps = keeps_ckpts old event reply new beside step in
     let stored = ckpts_stored old new fit pages in
     let so_far : CkptsFit (log_of new) new.stored old.left old.forced_end old.master = elim kind [
@@ -163,7 +164,7 @@ beside_fit old event reply new fit numbers beside forces pages kind step =
       | inr grows ↦
           let r = grows.r in
           rw (grows.pages, grows.log) (ckpts_later (log_of old) r new.stored old.left old.forced_end old.master fit.valid fit.linked
-          (of_transaction old event r beside grows.made) (follows old event r fit grows.accepted grows.made)
+          (of_transaction old event r beside same grows.made) (follows old event r fit grows.accepted grows.made)
           (stands old event r fit numbers grows.accepted grows.made).lsn (forced_within old fit) stored)
     ] in
     rw (keeps.left, keeps.master) (record {
@@ -174,35 +175,35 @@ beside_fit old event reply new fit numbers beside forces pages kind step =
 -- ---- each step
 
 pub ckpts_fit : (old : EngineState) (event : Event) (reply : Result Answer Refusal) (new : EngineState) → IsFit old
-    → EventFits event → Forces old new → PageStep old new
+    → EventFits event → IsNoGrowth event → Forces old new → PageStep old new
     → Stays old event reply new ⊎ Grows old event reply new → Step old event reply new → FitsCkpts new
-ckpts_fit old event.CkptBegin (Ok answer) new fit numbers forces pages kind step =
+ckpts_fit old event.CkptBegin (Ok answer) new fit numbers same forces pages kind step =
     subst FitsCkpts (sym step.2) (record {
       gathered = begun_gathered (log_of old) old.stored;
       master = master_now old (begin_ckpt_record old) fit refl;
     })
 ckpts_fit old event.CkptGather
-    (Ok answer) new fit numbers forces pages kind step = gathered_fit old new fit step.0 step.2
-ckpts_fit old event.CkptEnd (Ok answer) new fit numbers forces pages kind step = ended_fit old new fit step.0 step.2
-ckpts_fit old event.CkptBegin (Err why) new fit numbers forces pages kind (inl both) =
+    (Ok answer) new fit numbers same forces pages kind step = gathered_fit old new fit step.0 step.2
+ckpts_fit old event.CkptEnd (Ok answer) new fit numbers same forces pages kind step = ended_fit old new fit step.0 step.2
+ckpts_fit old event.CkptBegin (Err why) new fit numbers same forces pages kind (inl both) =
     subst FitsCkpts (sym both.1) (ckpts_now old fit)
-ckpts_fit old event.CkptBegin (Err OutOfMemory) new fit numbers forces pages kind (inr both) =
+ckpts_fit old event.CkptBegin (Err OutOfMemory) new fit numbers same forces pages kind (inr both) =
     subst FitsCkpts (sym both.1.1) (ckpts_now old fit)
-ckpts_fit old event.CkptBegin (Err StoreFault) new fit numbers forces pages kind (inr both) = absurd both.1.0
-ckpts_fit old event.CkptBegin (Err why) new fit numbers forces pages kind (inr both) = absurd both.1
-ckpts_fit old event.CkptGather (Err why) new fit numbers forces pages kind (inl both) =
+ckpts_fit old event.CkptBegin (Err StoreFault) new fit numbers same forces pages kind (inr both) = absurd both.1.0
+ckpts_fit old event.CkptBegin (Err why) new fit numbers same forces pages kind (inr both) = absurd both.1
+ckpts_fit old event.CkptGather (Err why) new fit numbers same forces pages kind (inl both) =
     subst FitsCkpts (sym both.1) (ckpts_now old fit)
-ckpts_fit old event.CkptGather (Err OutOfMemory) new fit numbers forces pages kind (inr both) =
+ckpts_fit old event.CkptGather (Err OutOfMemory) new fit numbers same forces pages kind (inr both) =
     subst FitsCkpts (sym both.1.1) (ckpts_now old fit)
-ckpts_fit old event.CkptGather (Err StoreFault) new fit numbers forces pages kind (inr both) = absurd both.1.0
-ckpts_fit old event.CkptGather (Err why) new fit numbers forces pages kind (inr both) = absurd both.1
-ckpts_fit old event.CkptEnd (Err why) new fit numbers forces pages kind (inl both) =
+ckpts_fit old event.CkptGather (Err StoreFault) new fit numbers same forces pages kind (inr both) = absurd both.1.0
+ckpts_fit old event.CkptGather (Err why) new fit numbers same forces pages kind (inr both) = absurd both.1
+ckpts_fit old event.CkptEnd (Err why) new fit numbers same forces pages kind (inl both) =
     subst FitsCkpts (sym both.1) (ckpts_now old fit)
-ckpts_fit old event.CkptEnd (Err OutOfMemory) new fit numbers forces pages kind (inr both) =
+ckpts_fit old event.CkptEnd (Err OutOfMemory) new fit numbers same forces pages kind (inr both) =
     subst FitsCkpts (sym both.1.1) (ckpts_now old fit)
-ckpts_fit old event.CkptEnd (Err LogFault) new fit numbers forces pages kind
+ckpts_fit old event.CkptEnd (Err LogFault) new fit numbers same forces pages kind
     (inr both) = unforced_fit old new fit both.1
-ckpts_fit old event.CkptEnd (Err StoreFault) new fit numbers forces pages kind (inr both) = absurd both.1.0
-ckpts_fit old event.CkptEnd (Err why) new fit numbers forces pages kind (inr both) = absurd both.1
-ckpts_fit old event reply new fit numbers forces pages kind step =
-    beside_fit old event reply new fit numbers tt forces pages kind step
+ckpts_fit old event.CkptEnd (Err StoreFault) new fit numbers same forces pages kind (inr both) = absurd both.1.0
+ckpts_fit old event.CkptEnd (Err why) new fit numbers same forces pages kind (inr both) = absurd both.1
+ckpts_fit old event reply new fit numbers same forces pages kind step =
+    beside_fit old event reply new fit numbers tt same forces pages kind step

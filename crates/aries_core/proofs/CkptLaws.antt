@@ -8,7 +8,7 @@ use Rattle.log_records.specs.declared.record.Record.TheVariants as log
 use Rattle.log_records.specs.Coverage.{Covers}
 use Rattle.log_history.specs.Checkpoint.{Checkpoint, IsCompleteCheckpoint, open_checkpoint, redo_point}
 use Rattle.fuzzy_ckpt.specs.declared.point.Point.{Point}
-use Rattle.fuzzy_ckpt.proofs.Opens.{open_push, open_same}
+use Rattle.fuzzy_ckpt.proofs.Opens.{open_push}
 use Rattle.aries_core.specs.declared.event.Answer.{Answer}
 use Rattle.aries_core.specs.declared.event.Answer.TheVariants as answer
 use Rattle.aries_core.specs.declared.event.Event.{Event}
@@ -18,10 +18,11 @@ use Rattle.aries_core.specs.declared.refusal.Refusal.TheVariants.{CkptOpen, Gath
 use Rattle.aries_core.specs.declared.refusal.Refusal.TheVariants.{OutOfMemory, StoreFault}
 use Rattle.aries_core.specs.CkptReplies.{VolumeSize, gather_from, new_size, point_from, with_gather, with_point, with_size}
 use Rattle.aries_core.specs.EngineState.{EngineState, IsFit, IsMasterOf, begin_ckpt_record, effect, end, end_ckpt_record}
-use Rattle.aries_core.specs.EngineState.{log_of, new_state}
+use Rattle.aries_core.specs.EngineState.{extend_record, log_of, new_state}
 use Rattle.aries_core.specs.Call.{record_for}
 use Rattle.aries_core.proofs.Follows.{end_record_has, gather_record_has}
-use Rattle.aries_core.proofs.NoCounts.{call_gives_none}
+use Rattle.aries_core.proofs.Growth.{count_then, growth_failed}
+use Rattle.aries_core.proofs.NoCounts.{IsNoGrowth, call_gives_none}
 use Rattle.std.specs.Option.{option_map_or}
 use Rattle.log_records.specs.declared.record.Record.{Record}
 use Rattle.log_records.specs.Log.{Log, lsn_of, page_count, page_count_below, with_next}
@@ -36,7 +37,7 @@ use Rattle.aries_core.specs.Gather.{is_done}
 use Rattle.aries_core.specs.Refusal.{has_no_room, or_else, refused_if, refusal}
 use Rattle.aries_core.specs.Run.{Run}
 use Rattle.aries_core.specs.Step.{Fails, Step}
-use Rattle.aries_core.proofs.Beside.{IsBeside, keeps_ckpts, of_transaction}
+use Rattle.aries_core.proofs.Beside.{IsBeside, keeps_ckpts, of_transaction, open_stays}
 use Rattle.aries_core.proofs.Gathers.{PassesPages, PassesTxns, TakesPages, TakesTxn, WasDone, ckpt_end_is, closed_part}
 use Rattle.aries_core.proofs.Gathers.{gather_case, gather_has, passes_pages, passes_txns, takes_pages, takes_txn}
 use Rattle.aries_core.proofs.Gathers.{was_done}
@@ -263,23 +264,25 @@ begin_stays Q o (log.Abort lsn txn prev) not has = has
 begin_stays Q o (log.End lsn txn prev) not has = has
 begin_stays Q o (log.Extend lsn count) not has = has
 
+-- the page count at the begin of the open checkpoint, if one is
+abbrev IsBegunWith : EngineState → VolumeSize → Type 0
+IsBegunWith s size = IfSome (open_checkpoint s.log)
+    (λ c. (c.begin < end s) × (size.begun ≡ page_count_below (log_of s) c.begin))
+
 -- what a state with such a record more keeps
-sized_push : (old new : EngineState) (size : VolumeSize) (r : Record) → IsSized old size → BeginsNone r
-    → given_count r ≡ None → log_of new ≡ with_next (log_of old) (r ∷ []) → IsSized new size
-sized_push old new size r sized not none is =
+begun_push : (old new : EngineState) (size : VolumeSize) (r : Record) → IsSized old size → BeginsNone r
+    → log_of new ≡ with_next (log_of old) (r ∷ []) → IsBegunWith new size
+begun_push old new size r sized not is =
     let len = ap (λ (l : Log). length l.records) is in
     let longer : end old ≤ end new = omega (arith, len, length_push old.log r) in
-    record {
-      now = sized.now ∙ sym (ap page_count is ∙ page_count-same (log_of old) r none);
-      begun = subst (λ (l : Log). IfSome (open_checkpoint l.records)
-          (λ c. (c.begin < end new) × (size.begun ≡ page_count_below l c.begin))) (sym is)
-          (subst (λ (o : Option Checkpoint). IfSome o
-          (λ c. (c.begin < end new) × (size.begun ≡ page_count_below (with_next (log_of old) (r ∷ [])) c.begin)))
-          (sym (open_push old.log r))
-          (begin_stays
-          (λ n. (n < end new) × (size.begun ≡ page_count_below (with_next (log_of old) (r ∷ [])) n))
-          (open_checkpoint old.log) r not (later longer (open_checkpoint old.log) sized.begun)));
-    }
+    subst (λ (l : Log). IfSome (open_checkpoint l.records)
+    (λ c. (c.begin < end new) × (size.begun ≡ page_count_below l c.begin))) (sym is)
+    (subst (λ (o : Option Checkpoint). IfSome o
+    (λ c. (c.begin < end new) × (size.begun ≡ page_count_below (with_next (log_of old) (r ∷ [])) c.begin)))
+    (sym (open_push old.log r))
+    (begin_stays
+    (λ n. (n < end new) × (size.begun ≡ page_count_below (with_next (log_of old) (r ∷ [])) n))
+    (open_checkpoint old.log) r not (later longer (open_checkpoint old.log) sized.begun)))
   where
     later : end old ≤ end new → (o : Option Checkpoint)
         → IfSome o (λ c. (c.begin < end old) × (size.begun ≡ page_count_below (log_of old) c.begin))
@@ -291,6 +294,21 @@ sized_push old new size r sized not none is =
         let place : (c.begin - 1) / 64 ≤ length old.log = omega (arith, before) in
         (omega (arith, before, longer), has.1 ∙ sym (page_count_at-append (log_of old) (r ∷ []) ((c.begin - 1) / 64) place))
 
+sized_push : (old new : EngineState) (size : VolumeSize) (r : Record) → IsSized old size → BeginsNone r
+    → given_count r ≡ None → log_of new ≡ with_next (log_of old) (r ∷ []) → IsSized new size
+sized_push old new size r sized not none is = record {
+  now = sized.now ∙ sym (ap page_count is ∙ page_count-same (log_of old) r none);
+  begun = begun_push old new size r sized not is;
+}
+
+-- where the volume grows
+sized_grown : (old : EngineState) (size : VolumeSize) (count : ℕ) → refusal old (event.Extend count) ≡ None
+    → IsSized old size → IsSized (effect old (event.Extend count)).state (record size { now = count })
+sized_grown old size count none sized = record {
+  now = sym (count_then old count none);
+  begun = begun_push old (effect old (event.Extend count)).state size (extend_record old count) sized tt refl;
+}
+
 same_sized : (old new : EngineState) (size : VolumeSize) → IsSized old size → log_of new ≡ log_of old → IsSized new size
 same_sized old new size sized is = record {
   now = sized.now ∙ sym (ap page_count is);
@@ -298,22 +316,29 @@ same_sized old new size sized is = record {
       (λ c. (c.begin < lsn_of (length l.records)) × (size.begun ≡ page_count_below l c.begin))) (sym is) sized.begun;
 }
 
--- of an event that begins no checkpoint
+-- of an event that begins no checkpoint, and does not grow the volume
 abbrev NoBegin : Event → Type 0
 NoBegin event.CkptBegin = ⊥
+NoBegin (event.Extend count) = ⊥
 NoBegin other = Unit {0}
+
+no_growth : (event : Event) → NoBegin event → IsNoGrowth event
+no_growth (event.Extend count) not = not
+no_growth event not = tt
 
 record_begins_none : (s : EngineState) (event : Event) (r : Record) → NoBegin event → refusal s event ≡ None
     → record_for s event ≡ Some r → BeginsNone r
 record_begins_none s event.CkptBegin r not none made = absurd not
+record_begins_none s (event.Extend count) r not none made = absurd not
 record_begins_none s event.CkptGather r not none made =
     gather_record_has BeginsNone s r none made (λ c pages is finds. tt) (λ c t is finds. tt)
 record_begins_none s event.CkptEnd r not none made = end_record_has BeginsNone s r none made (λ c is done. tt)
-record_begins_none s event r not none made = not_begin r (of_transaction s event r tt made)
+record_begins_none s event r not none made = not_begin r (of_transaction s event r tt tt made)
 
 size_stays : (size : VolumeSize) (event : Event) (reply : Result Answer Refusal) → NoBegin event
     → with_size size event reply ≡ size
 size_stays size event.CkptBegin reply not = absurd not
+size_stays size (event.Extend count) reply not = absurd not
 size_stays size event reply not = refl
 
 sized_beside : (old : EngineState) (size : VolumeSize) (event : Event) (reply : Result Answer Refusal)
@@ -324,7 +349,7 @@ sized_beside old size event reply new not sized step =
       | inl stays ↦ same_sized old new size sized (λ i. record { pages = stays.pages i; records = stays.log i })
       | inr grows ↦
           sized_push old new size grows.r sized (record_begins_none old event grows.r not grows.accepted grows.made)
-          (call_gives_none old event grows.r grows.made) (λ i. record { pages = grows.pages i; records = grows.log i })
+          (call_gives_none old event grows.r (no_growth event not) grows.made) (λ i. record { pages = grows.pages i; records = grows.log i })
     ])
 
 sized_begun : (old : EngineState) (size : VolumeSize) → IsSized old size
@@ -347,6 +372,11 @@ sized_step old size event.CkptBegin (Err why) new sized (inl both) =
     subst (λ (s : EngineState). IsSized s size) (sym both.1) sized
 sized_step old size event.CkptBegin (Err why) new sized (inr both) =
     subst (λ (s : EngineState). IsSized s size) (sym (failed_begin old why new both.1)) sized
+sized_step old size (event.Extend count) (Ok reply) new sized step =
+    subst (λ (s : EngineState). IsSized s (record size { now = count })) (sym step.2)
+    (sized_grown old size count step.0 sized)
+sized_step old size (event.Extend count) (Err why) new sized step =
+    subst (λ (s : EngineState). IsSized s size) (sym (growth_failed old count why new step)) sized
 sized_step old size event reply new sized step = sized_beside old size event reply new tt sized step
 
 pub master_of_run : (old : EngineState) (size : VolumeSize) (events : List Event)
@@ -460,7 +490,7 @@ beside_tells old event reply new done beside tells step =
     let same : open_checkpoint new.log ≡ open_checkpoint old.log = elim (stays_or_grows old event reply new step) [
       | inl stays ↦ ap open_checkpoint stays.log
       | inr grows ↦
-          ap open_checkpoint grows.log ∙ open_same old.log grows.r (of_transaction old event grows.r beside grows.made)
+          ap open_checkpoint grows.log ∙ open_stays old event grows.r beside grows.made
     ] in
     λ some. ap is_done keeps.left ∙ tells (subst IsSome same some) ∙ sym (untold done event reply beside)
 

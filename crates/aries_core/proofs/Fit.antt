@@ -29,6 +29,7 @@ use Rattle.copy_coverage.specs.Copied.{AreCopied, copy_in}
 use Rattle.copy_coverage.proofs.Copied.{copied_later}
 use Rattle.aries_core.specs.declared.event.Answer.{Answer}
 use Rattle.aries_core.specs.declared.event.Event.{Event}
+use Rattle.aries_core.specs.declared.event.Event.TheVariants as event
 use Rattle.aries_core.specs.declared.refusal.Refusal.{Refusal}
 use Rattle.aries_core.specs.Call.{Calls}
 use Rattle.aries_core.specs.EngineState.{EngineState, HaveMaster, IsFit, appended, end, log_of, new_state, with_page}
@@ -41,30 +42,32 @@ use Rattle.aries_core.proofs.CkptFits.{FitsCkpts, ckpts_fit, master_now}
 use Rattle.aries_core.proofs.CopySteps.{copies_fit, noted_fit}
 use Rattle.aries_core.proofs.Follows.{follows}
 use Rattle.aries_core.proofs.Forces.{EndsAtRecord, Forces, forces}
-use Rattle.aries_core.proofs.Rooms.{room_grows}
+use Rattle.aries_core.proofs.Growth.{fit_of_growth, lsn_of_formatted}
+use Rattle.aries_core.proofs.Rooms.{room_grows, room_push}
 use Rattle.aries_core.proofs.Stands.{stands}
 use Rattle.aries_core.proofs.Steps.{Grows, Stays, grows_count, start, stays_count, stays_or_grows}
 use Rattle.aries_core.proofs.PageComes.{dirty_after, dirty_before, start_dirty, start_fit, start_held, start_images}
 use Rattle.aries_core.proofs.Writes.{GoesOn, PageStep, PagesFit, page_step, pages_fit}
 use Rattle.log_records.proofs.PageCounts.{count_behind-nil, more-none}
-use Rattle.aries_core.proofs.NoCounts.{call_gives_none}
+use Rattle.aries_core.proofs.NoCounts.{IsNoGrowth, call_gives_none}
 use Rattle.log_records.proofs.GivenNone.{page_count-same, transaction_gives_none}
 
 -- ---- after a step
 
 -- how the log goes on
-goes_on : (old : EngineState) (event : Event) (reply : Result Answer Refusal) (new : EngineState) → Forces old new
+goes_on : (old : EngineState) (event : Event) (reply : Result Answer Refusal) (new : EngineState) → IsNoGrowth event
+    → Forces old new
     → Stays old event reply new ⊎ Grows old event reply new → GoesOn old new
-goes_on old event reply new forces (inl stays) = record {
+goes_on old event reply new same forces (inl stays) = record {
   pages = stays.pages;
   count = stays_count old event reply new stays;
   rest = [];
   log = stays.log ∙ sym (append-nil old.log);
   no_less = forces.no_less;
 }
-goes_on old event reply new forces (inr grows) = record {
+goes_on old event reply new same forces (inr grows) = record {
   pages = grows.pages;
-  count = grows_count old event reply new grows;
+  count = grows_count old event reply new same grows;
   rest = grows.r ∷ [];
   log = grows.log;
   no_less = forces.no_less;
@@ -93,15 +96,6 @@ fit_stays old event reply new fit from step forced pages ckpts copied noted stay
   copied = copied;
   noted = noted;
 }
-
-room_push : (rs : List Record) (r : Record)
-    → ((n : ℕ) → n ≤ length rs → length (take n rs) + owed (take n rs) ≤ MAX_RECORDS)
-    → length (rs ++ r ∷ []) + owed (rs ++ r ∷ []) ≤ MAX_RECORDS → (n : ℕ) → n ≤ length (rs ++ r ∷ [])
-    → length (take n (rs ++ r ∷ [])) + owed (take n (rs ++ r ∷ [])) ≤ MAX_RECORDS
-room_push rs r room whole n le = elim (cases_lt (length rs) n) [
-  | inl all ↦ rw (take_all n (rs ++ r ∷ []) (omega (arith, length_push rs r))) whole
-  | inr part ↦ rw (take-append-le n rs (r ∷ []) part) (room n part)
-]
 
 forced_low : (s : EngineState) (r : Record) → IsFit s → own_lsn r ≡ end s → s.forced_end ≤ own_lsn r
 forced_low s r fit own =
@@ -167,11 +161,11 @@ fit_appended s r fit come there =
     }
 
 fit_grows : (old : EngineState) (event : Event) (reply : Result Answer Refusal) (new : EngineState) → IsFit old
-    → IsFit (start old event reply) → PageStep old new
+    → IsNoGrowth event → IsFit (start old event reply) → PageStep old new
     → EventFits event → EndsAtRecord new → PagesFit new → FitsCkpts new
     → AreCopied (log_of new) new.forced_end new.stored new.copies → HaveMaster new.master new.copies
     → Grows old event reply new → IsFit new
-fit_grows old event reply new fit from step numbers forced pages ckpts copied noted grows =
+fit_grows old event reply new fit same from step numbers forced pages ckpts copied noted grows =
     let r = grows.r in
     let may = follows old event r fit grows.accepted grows.made in
     let whole = room_grows old event r fit grows.accepted grows.made in
@@ -179,7 +173,7 @@ fit_grows old event reply new fit from step numbers forced pages ckpts copied no
     let at = stands old event r fit numbers grows.accepted grows.made in
     record {
       valid = rw (grows.pages, grows.log) (valid_next (log_of old) r fit.valid few at
-          (more-none _ r (call_gives_none old event r grows.made)));
+          (more-none _ r (call_gives_none old event r same grows.made)));
       linked = rw grows.log (linked_push old.log r fit.linked may);
       room = rw grows.log (room_push old.log r fit.room whole);
       forced = forced;
@@ -187,7 +181,7 @@ fit_grows old event reply new fit from step numbers forced pages ckpts copied no
       resident = rw (grows.log, grows.resident)
           (images_later old.log r (start old event reply).resident (start_images old event reply from));
       held = λ q lt dirty.
-          let within : q < volume_pages old = omega (arith, lt, grows_count old event reply new grows) in
+          let within : q < volume_pages old = omega (arith, lt, grows_count old event reply new same grows) in
           rw grows.resident (resident_later (start old event reply).resident r q
           ∙ start_dirty old event reply from r q fit within at grows.needs
           (ap (λ (rs : List Record). is_clean rs old.written q) (sym grows.log)
@@ -200,23 +194,28 @@ fit_grows old event reply new fit from step numbers forced pages ckpts copied no
       noted = noted;
     }
 
-pub fit_of_step : (old : EngineState) (event : Event) (reply : Result Answer Refusal) (new : EngineState) → IsFit old
-    → EventFits event → Step old event reply new → IsFit new
-fit_of_step old event reply new fit numbers step =
+fit_of_call : (old : EngineState) (event : Event) (reply : Result Answer Refusal) (new : EngineState) → IsFit old
+    → EventFits event → IsNoGrowth event → Step old event reply new → IsFit new
+fit_of_call old event reply new fit numbers same step =
     let forces = forces old event reply new fit.forced step in
     let kind = stays_or_grows old event reply new step in
-    let goes = goes_on old event reply new forces kind in
-    let stored = page_step old event reply new step in
+    let goes = goes_on old event reply new same forces kind in
+    let stored = page_step old event reply new same step in
     let pages = pages_fit old new fit goes stored in
-    let ckpts = ckpts_fit old event reply new fit numbers forces stored kind step in
+    let ckpts = ckpts_fit old event reply new fit numbers same forces stored kind step in
     let copied = copies_fit old event reply new fit numbers forces stored kind step in
     let noted = noted_fit old event reply new fit step in
     let from = start_fit old event reply new fit step in
     elim kind [
       | inl stays ↦ fit_stays old event reply new fit from stored forces.at_record pages ckpts copied noted stays
       | inr grows ↦
-          fit_grows old event reply new fit from stored numbers forces.at_record pages ckpts copied noted grows
+          fit_grows old event reply new fit same from stored numbers forces.at_record pages ckpts copied noted grows
     ]
+
+pub fit_of_step : (old : EngineState) (event : Event) (reply : Result Answer Refusal) (new : EngineState) → IsFit old
+    → EventFits event → Step old event reply new → IsFit new
+fit_of_step old (event.Extend count) reply new fit numbers step = fit_of_growth old count reply new fit step
+fit_of_step old event reply new fit numbers step = fit_of_call old event reply new fit numbers tt step
 
 pub fit_of_run : (old : EngineState) (events : List Event) (replies : List (Result Answer Refusal)) (new : EngineState)
     → IsFit old → All EventFits events → Run old events replies new → IsFit new
@@ -254,10 +253,6 @@ no_copies s = record {
 
 formatted_at : (pages p : ℕ) (d : Page) → p < pages → get_or (formatted_pages pages) p d ≡ formatted p
 formatted_at pages p d lt = get_or-map-range_with_len formatted 0 pages p p d lt (omega arith)
-
-lsn_of_formatted : (p : ℕ) → (formatted p).lsn ≡ 0
-unfolding formatted
-lsn_of_formatted p = refl
 
 get_or-replicate : {X : Type 0} (n : ℕ) (x : X) (i : ℕ) → get_or (replicate n x) i x ≡ x
 get_or-replicate zero x i = refl

@@ -54,6 +54,7 @@ failed old (event.Repair copy page) StoreFault new fails = elim fails [
   | inl kept ↦ same old new _ kept refl
   | inr stored ↦ same old new _ stored refl
 ]
+failed old (event.Extend count) StoreFault new fails = same old new _ fails refl
 failed old event StoreFault new fails = same old new _ fails.1 refl
 failed old event why new fails = absurd fails
 

@@ -10,6 +10,7 @@ pub mod CopyRefusals
 pub mod CopySteps
 pub mod CkptFits
 pub mod CkptLaws
+pub mod Extends
 pub mod FetchCalls
 pub mod Fit
 pub mod Follows
@@ -18,6 +19,7 @@ pub mod FrameCounts
 pub mod FullLog
 pub mod GatherSteps
 pub mod Gathers
+pub mod Growth
 mod NoCounts
 pub mod Numbers
 pub mod PageComes

@@ -81,6 +81,7 @@ answered old (event.DropCopy copy) answer new none given is = same_written old n
 answered old (event.Repair copy page) answer new none given is =
     ap (λ (s : EngineState). s.written) is
     ∙ ap (λ (a : Answer). with_write old.written (event.Repair copy page) (Ok a)) (sym given)
+answered old (event.Extend count) answer new none given is = ap (λ (s : EngineState). s.written) is
 answered old (event.Commit txn) answer new none given is = same_written old new _ is refl
 answered old (event.Abort txn) answer new none given is = same_written old new _ is refl
 answered old (event.UndoStep txn) answer new none given is = undo_written old txn new _ refl is
@@ -113,6 +114,7 @@ failed old (event.Repair copy page) StoreFault new fails = elim fails [
   | inl kept ↦ same_written old new _ kept refl
   | inr stored ↦ same_written old new _ stored refl
 ]
+failed old (event.Extend count) StoreFault new fails = same_written old new _ fails refl
 failed old event StoreFault new fails = same_written old new _ fails.1 refl
 failed old event why new fails = absurd fails
 

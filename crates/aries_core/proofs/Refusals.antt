@@ -1,5 +1,5 @@
 -- What an event that is not refused has passed.
-use Rattle.std.proofs.Common.{◌≡◌, ℕ, ◌+◌, ◌<◌, ◌≤◌, ◌⊎◌, Bool, true, false, ◌&&◌, not, length, refl, sym, ap, ◌∙◌, inl}
+use Rattle.std.proofs.Common.{◌≡◌, ℕ, ◌+◌, ◌<◌, ◌≤◌, ◌⊎◌, Bool, true, false, ◌&&◌, ◌||◌, not, length, refl, sym, ap, ◌∙◌, inl}
 use Rattle.std.proofs.Common.{inr, subst}
 use Rattle.std.specs.Prelude.{IfSome, Option, Some, None, IsSome, is_none, is_some, nat_le, nat_lt, List, if◌then◌else◌}
 use Rattle.std.specs.Option.{option_map, option_map_or, option_or}
@@ -10,7 +10,7 @@ use Rattle.page_core.specs.declared.change.ChangeKind.TheVariants as kind
 use Rattle.buffer_pool.specs.Frames.{is_full, is_resident}
 use Rattle.buffer_pool.specs.Pool.{is_clean}
 use Rattle.page_core.specs.declared.page.Page.{Page}
-use Rattle.page_core.specs.declared.page.TheConstants.{SLOTS}
+use Rattle.page_core.specs.declared.page.TheConstants.{MAX_PAGES, SLOTS}
 use Rattle.log_records.specs.declared.limits.TheConstants.{MAX_OPEN, MAX_RECORDS}
 use Rattle.log_records.specs.declared.record.Record.{Record}
 use Rattle.log_history.specs.Checkpoint.{Checkpoint, open_checkpoint}
@@ -31,7 +31,7 @@ use Rattle.aries_core.specs.declared.refusal.Refusal.{Refusal}
 use Rattle.aries_core.specs.declared.refusal.Refusal.TheVariants.{CkptOpen, CommitUnsure, GatherLeft, LogFull, NoCkpt}
 use Rattle.aries_core.specs.declared.refusal.Refusal.TheVariants.{NoMaster, NoTxn, PageDecided, NoWrite, NotDirty}
 use Rattle.aries_core.specs.declared.refusal.Refusal.TheVariants.{NotRolling, PageOut, SlotBusy, SlotOut, TooManyTxns}
-use Rattle.aries_core.specs.declared.refusal.Refusal.TheVariants.{NoSavepoint, PoolFull, TxnRolling, WriteBegun}
+use Rattle.aries_core.specs.declared.refusal.Refusal.TheVariants.{NoSavepoint, NotLarger, PoolFull, TxnRolling, WriteBegun}
 use Rattle.aries_core.specs.EngineState.{EngineState, gathered_record, image_of, page_needed, rec_lsn_of, taken_back}
 use Rattle.aries_core.specs.EngineState.{volume_pages}
 use Rattle.aries_core.specs.Gather.{Left, is_done, none_left, pages_left, txns_left}
@@ -428,6 +428,35 @@ ckpt_end_full s full =
       done = none_left_if_done s.left (not-false _ (not_refused _ _ rest.0));
       past = ltb-true _ _ (refused_so _ _ _ rest.1).0;
     }
+
+-- ---- growth
+
+-- the volume may have so many pages, which are more than it has
+pub record Extends (s : EngineState) (count : ℕ) : Type 0 where
+  pub more : volume_pages s < count
+  pub few : count ≤ MAX_PAGES
+  pub room : HasRoomFor s 1
+
+neither_holds : (a b : Bool) → (a || b) ≡ false → (a ≡ false) × (b ≡ false)
+neither_holds true b is = cc
+neither_holds false b is = (refl, is)
+
+pub extend_passes : (s : EngineState) (count : ℕ) → refusal s (event.Extend count) ≡ None → Extends s count
+extend_passes s count none =
+    let both = none_of_both _ _ none in
+    let tests = neither_holds _ _ (not_refused _ _ both.0) in
+    record {
+      more = leb-false _ _ tests.0;
+      few = ltb-false _ _ tests.1;
+      room = has_room s 1 _ both.1;
+    }
+
+pub extend_full : (s : EngineState) (count : ℕ) → refusal s (event.Extend count) ≡ Some LogFull
+    → MAX_RECORDS < length s.log + owed s.log + 1
+extend_full s count full =
+    let both = second_of_both (refused_if _ (NotLarger (volume_pages s))) _ LogFull
+    (not_of_one _ (NotLarger (volume_pages s)) LogFull (λ same. (cc))) full in
+    ltb-true _ _ (refused_so _ _ _ both.1).0
 
 -- ---- calls on copies
 

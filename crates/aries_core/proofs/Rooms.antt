@@ -1,8 +1,9 @@
 -- The log has room for its records and for those that open transactions may still need.
-use Rattle.std.proofs.Common.{◌≡◌, ℕ, ◌+◌, ◌<◌, ◌≤◌, false, ◌++◌, List, [], ◌∷◌, length, refl, sym, subst, ◌∙◌, arith}
+use Rattle.std.proofs.Common.{◌≡◌, ℕ, ◌+◌, ◌<◌, ◌≤◌, false, ◌++◌, List, [], ◌∷◌, length, refl, sym, subst, take, ◌∙◌, arith}
 use Rattle.std.proofs.Common.{inl, inr}
 use Rattle.std.specs.Prelude.{Some, None, Ok}
-use Rattle.std.proofs.lemmas.List.{length_push, take_all}
+use Rattle.std.proofs.lemmas.Bool.{cases_lt}
+use Rattle.std.proofs.lemmas.List.{length_push, take-append-le, take_all}
 use Rattle.std.proofs.lemmas.Option.{same_Some}
 use Rattle.page_core.specs.declared.change.Change.{Change}
 use Rattle.page_core.specs.declared.change.Change.TheVariants.{Set, Add}
@@ -17,7 +18,7 @@ use Rattle.aries_core.specs.declared.event.Event.{Event}
 use Rattle.aries_core.specs.declared.event.Event.TheVariants as event
 use Rattle.aries_core.specs.declared.refusal.Refusal.TheVariants.{LogFull}
 use Rattle.aries_core.specs.EngineState.{EngineState, IsFit, Outcome, begin_ckpt_record, effect, end, end_ckpt_record}
-use Rattle.aries_core.specs.EngineState.{next_txn, update_record}
+use Rattle.aries_core.specs.EngineState.{extend_record, next_txn, update_record}
 use Rattle.aries_core.specs.Refusal.{refusal}
 use Rattle.aries_core.proofs.Follows.{add_follows, end_record_has, follows, gather_record_has, none_is_not_some}
 use Rattle.aries_core.proofs.Follows.{set_follows, undo_has}
@@ -27,7 +28,7 @@ use Rattle.aries_core.proofs.Gathers.{was_done}
 use Rattle.aries_core.proofs.Refusals.{GatherIsFull, HasRoomFor, ckpt_begin_full, ckpt_end_full, gather_full}
 use Rattle.aries_core.proofs.Refusals.{active_not_full, begin_full, begin_passes, change_full, change_passes}
 use Rattle.aries_core.proofs.Refusals.{copy_not_full, ckpt_begin_passes, ckpt_end_passes, gather_passes, read_not_full}
-use Rattle.aries_core.proofs.Refusals.{back_not_full, undo_not_full, write_begin_not_full, write_end_not_full}
+use Rattle.aries_core.proofs.Refusals.{back_not_full, extend_full, extend_passes, undo_not_full, write_begin_not_full, write_end_not_full}
 use Rattle.aries_core.specs.Call.{record_for}
 use Rattle.aries_core.proofs.Steps.{stays_or_grows}
 use Rattle.aries_core.proofs.StepsBack.{back_record_has}
@@ -77,6 +78,8 @@ grows_within s event.CkptGather r fit none made =
     let room = (gather_passes s none).room r made in
     gather_record_has (λ (q : Record). HasRoomFor s (needs q)) s r none made (λ c pages is finds. room)
     (λ c t is finds. room)
+grows_within s (event.Extend count) r fit none made =
+    subst (λ (q : Record). HasRoomFor s (needs q)) (same_Some _ _ made) (extend_passes s count none).room
 grows_within s event.CkptEnd r fit none made =
     end_record_has (λ (q : Record). HasRoomFor s (needs q)) s r none made (λ c is done. (ckpt_end_passes s none).room)
 
@@ -85,6 +88,16 @@ pub room_grows : (s : EngineState) (event : Event) (r : Record) → IsFit s → 
 room_grows s event r fit none made =
     let within = grows_within s event r fit none made in
     omega (arith, claimed_push s.log r fit.linked (follows s event r fit none made))
+
+-- so each part of the log with it has room
+pub room_push : (rs : List Record) (r : Record)
+    → ((n : ℕ) → n ≤ length rs → length (take n rs) + owed (take n rs) ≤ MAX_RECORDS)
+    → length (rs ++ r ∷ []) + owed (rs ++ r ∷ []) ≤ MAX_RECORDS → (n : ℕ) → n ≤ length (rs ++ r ∷ [])
+    → length (take n (rs ++ r ∷ [])) + owed (take n (rs ++ r ∷ [])) ≤ MAX_RECORDS
+room_push rs r room whole n le = elim (cases_lt (length rs) n) [
+  | inl all ↦ rw (take_all n (rs ++ r ∷ []) (omega (arith, length_push rs r))) whole
+  | inr part ↦ rw (take-append-le n rs (r ∷ []) part) (room n part)
+]
 
 -- after an accepted call, whatever it is
 pub room_if_accepted : (s : EngineState) (event : Event) → IsFit s → refusal s event ≡ None
@@ -168,6 +181,8 @@ past_if_full s (event.WriteEnd page) fit full = absurd (write_end_not_full s pag
 past_if_full s event.CkptBegin fit full =
     aside_past s (begin_ckpt_record s) fit refl refl refl (ckpt_begin_full s full).1
 past_if_full s event.CkptGather fit full = gather_past s fit (gather_full s full)
+past_if_full s (event.Extend count) fit full =
+    aside_past s (extend_record s count) fit refl refl refl (extend_full s count full)
 past_if_full s event.CkptEnd fit full =
     let end = ckpt_end_full s full in
     subst IsPast (sym (ckpt_end_is s end.ckpt end.still_open))

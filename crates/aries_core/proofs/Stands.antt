@@ -28,7 +28,7 @@ use Rattle.log_history.proofs.AtEnd.{lsn_is_lsn, open_is_txn, undo_fits, undo_ha
 use Rattle.aries_core.proofs.GatherSteps.{end_ckpt_stands, pages_stand, txn_stand}
 use Rattle.aries_core.proofs.Numbers.{number_fits}
 use Rattle.aries_core.proofs.Refusals.{ChangePasses, active_passes, change_passes, ckpt_end_passes, gather_passes}
-use Rattle.aries_core.proofs.Refusals.{back_passes, undo_passes}
+use Rattle.aries_core.proofs.Refusals.{back_passes, extend_passes, undo_passes}
 use Rattle.aries_core.specs.Call.{record_for}
 use Rattle.aries_core.proofs.StepsBack.{back_record_has}
 use Rattle.log_records.proofs.PageCounts.{page_count-is_count}
@@ -168,6 +168,13 @@ stands s event.CkptGather r fit fits none made =
     let few : length s.log < MAX_RECORDS = omega arith in
     gather_record_has (StandsAtEnd s) s r none made (λ c pages is finds. pages_stand s c pages fit is finds few)
     (λ c t is finds. txn_stand s c t fit is finds few)
+stands s (event.Extend count) r fit fits none made =
+    let passes = extend_passes s count none in
+    subst (StandsAtEnd s) (same_Some _ _ made) (record {
+      lsn = refl;
+      valid = (end_is_lsn s fit, record { least = let more = passes.more in omega arith; most = passes.few });
+      within = tt;
+    })
 stands s event.CkptEnd r fit fits none made =
     let room = (ckpt_end_passes s none).room in
     end_record_has (StandsAtEnd s) s r none made (λ c is done. end_ckpt_stands s c fit is done (omega arith))

@@ -28,11 +28,12 @@ use Rattle.aries_core.specs.EngineState.{volume_pages}
 use Rattle.aries_core.specs.Refusal.{refusal}
 use Rattle.aries_core.specs.Step.{Fails, Step}
 use Rattle.aries_core.proofs.Gathers.{ckpt_end_has, closed_part, gather_has}
+use Rattle.aries_core.proofs.NoCounts.{IsNoGrowth}
 use Rattle.aries_core.proofs.Refusals.{WriteBegins, WriteEnds, repair_passes, write_begin_passes, write_end_passes}
 use Rattle.aries_core.proofs.Steps.{stored_or_not}
 use Rattle.aries_core.proofs.StepsBack.{back_has}
 
--- ---- the five things that a step may do to the pages
+-- ---- the five things that a step may do to the pages of a volume that does not grow
 
 -- it leaves them
 pub record LeavesPages (old new : EngineState) : Type 0 where
@@ -149,46 +150,47 @@ half_repaired old copy page new none is =
       forced = let forced_is = ap (λ (s : EngineState). s.forced_end) is in omega arith;
     })
 
-answered : (old : EngineState) (event : Event) (new : EngineState) → refusal old event ≡ None
+answered : (old : EngineState) (event : Event) (new : EngineState) → IsNoGrowth event → refusal old event ≡ None
     → new ≡ (effect old event).state → PageStep old new
-answered old event.Begin new none is = leaves old new _ is refl refl refl
-answered old (event.Set txn page slot number) new none is = leaves old new _ is refl refl refl
-answered old (event.Add txn page slot amount) new none is = leaves old new _ is refl refl refl
-answered old (event.Read page slot) new none is = leaves old new _ is refl refl refl
-answered old event.CopyFull new none is = leaves old new _ is refl refl refl
-answered old (event.CopyInc parent) new none is = leaves old new _ is refl refl refl
-answered old (event.Take copy page) new none is = leaves old new _ is refl refl refl
-answered old (event.Seal copy) new none is = leaves old new _ is refl refl refl
-answered old (event.DropCopy copy) new none is = leaves old new _ is refl refl refl
-answered old (event.Repair copy page) new none is = repaired old copy page new none is
-answered old (event.Commit txn) new none is = leaves old new _ is refl refl refl
-answered old (event.Abort txn) new none is = leaves old new _ is refl refl refl
-answered old (event.UndoStep txn) new none is = undo_leaves old txn new _ refl is
-answered old (event.Savepoint txn) new none is = leaves old new _ is refl refl refl
-answered old (event.UndoTo txn at) new none is =
+answered old event.Begin new stays none is = leaves old new _ is refl refl refl
+answered old (event.Set txn page slot number) new stays none is = leaves old new _ is refl refl refl
+answered old (event.Add txn page slot amount) new stays none is = leaves old new _ is refl refl refl
+answered old (event.Read page slot) new stays none is = leaves old new _ is refl refl refl
+answered old event.CopyFull new stays none is = leaves old new _ is refl refl refl
+answered old (event.CopyInc parent) new stays none is = leaves old new _ is refl refl refl
+answered old (event.Take copy page) new stays none is = leaves old new _ is refl refl refl
+answered old (event.Seal copy) new stays none is = leaves old new _ is refl refl refl
+answered old (event.DropCopy copy) new stays none is = leaves old new _ is refl refl refl
+answered old (event.Repair copy page) new stays none is = repaired old copy page new none is
+answered old (event.Commit txn) new stays none is = leaves old new _ is refl refl refl
+answered old (event.Abort txn) new stays none is = leaves old new _ is refl refl refl
+answered old (event.UndoStep txn) new stays none is = undo_leaves old txn new _ refl is
+answered old (event.Savepoint txn) new stays none is = leaves old new _ is refl refl refl
+answered old (event.UndoTo txn at) new stays none is =
     leaves old new _ is (back_has (λ s. s.stored ≡ old.stored) old txn at refl (λ p. refl))
     (back_has (λ s. s.written ≡ old.written) old txn at refl (λ p. refl))
     (back_has (λ s. s.writing ≡ old.writing) old txn at refl (λ p. refl))
-answered old event.Force new none is = leaves old new _ is refl refl refl
-answered old (event.WriteBegin page) new none is = begun old page new none is
-answered old (event.WriteEnd page) new none is = ended old page new none is
-answered old event.CkptBegin new none is = leaves old new _ is refl refl refl
-answered old event.CkptGather new none is =
+answered old event.Force new stays none is = leaves old new _ is refl refl refl
+answered old (event.WriteBegin page) new stays none is = begun old page new none is
+answered old (event.WriteEnd page) new stays none is = ended old page new none is
+answered old event.CkptBegin new stays none is = leaves old new _ is refl refl refl
+answered old event.CkptGather new stays none is =
     leaves old new _ is (gather_has (λ s. s.stored ≡ old.stored) old refl (λ left. refl) (λ r left. refl))
     (gather_has (λ s. s.written ≡ old.written) old refl (λ left. refl) (λ r left. refl))
     (gather_has (λ s. s.writing ≡ old.writing) old refl (λ left. refl) (λ r left. refl))
-answered old event.CkptEnd new none is =
+answered old (event.Extend count) new stays none is = absurd stays
+answered old event.CkptEnd new stays none is =
     leaves old new _ is (ckpt_end_has (λ s. s.stored ≡ old.stored) old refl (λ c. refl))
     (ckpt_end_has (λ s. s.written ≡ old.written) old refl (λ c. refl))
     (ckpt_end_has (λ s. s.writing ≡ old.writing) old refl (λ c. refl))
 
-failed : (old : EngineState) (event : Event) (why : Refusal) (new : EngineState) → refusal old event ≡ None
+failed : (old : EngineState) (event : Event) (why : Refusal) (new : EngineState) → IsNoGrowth event → refusal old event ≡ None
     → Fails old event why new → PageStep old new
-failed old event OutOfMemory new none fails = leaves old new old fails.1 refl refl refl
-failed old event.Force LogFault new none fails = leaves old new _ fails.reached.2 refl refl refl
-failed old (event.Commit txn) (CommitUnsure lsn) new none fails = leaves old new _ fails.1.reached.2 refl refl refl
-failed old (event.WriteBegin page) LogFault new none fails = leaves old new _ fails.reached.2 refl refl refl
-failed old (event.WriteEnd page) StoreFault new none fails =
+failed old event OutOfMemory new stays none fails = leaves old new old fails.1 refl refl refl
+failed old event.Force LogFault new stays none fails = leaves old new _ fails.reached.2 refl refl refl
+failed old (event.Commit txn) (CommitUnsure lsn) new stays none fails = leaves old new _ fails.1.reached.2 refl refl refl
+failed old (event.WriteBegin page) LogFault new stays none fails = leaves old new _ fails.reached.2 refl refl refl
+failed old (event.WriteEnd page) StoreFault new stays none fails =
     let ends = write_end_passes old page none in
     elim (stored_or_not old page new fails) [
       | inl same ↦ leaves old new old same refl refl refl
@@ -202,22 +204,23 @@ failed old (event.WriteEnd page) StoreFault new none fails =
             writing = ap (λ (s : EngineState). s.writing) stored.2;
           })
     ]
-failed old event.CkptEnd LogFault new none fails =
+failed old event.CkptEnd LogFault new stays none fails =
     leaves old new _ (closed_part old new fails).2.reached.2 refl refl refl
-failed old (event.Take copy page) StoreFault new none fails = leaves old new old fails refl refl refl
-failed old (event.Repair copy page) LogFault new none fails = leaves old new _ fails.reached.2 refl refl refl
-failed old (event.Repair copy page) StoreFault new none fails = elim fails [
+failed old (event.Take copy page) StoreFault new stays none fails = leaves old new old fails refl refl refl
+failed old (event.Repair copy page) LogFault new stays none fails = leaves old new _ fails.reached.2 refl refl refl
+failed old (event.Repair copy page) StoreFault new stays none fails = elim fails [
   | inl kept ↦ leaves old new _ kept refl refl refl
   | inr stored ↦ half_repaired old copy page new none stored
 ]
-failed old event StoreFault new none fails = leaves old new old fails.1 refl refl refl
-failed old event why new none fails = absurd fails
+failed old (event.Extend count) StoreFault new stays none fails = absurd stays
+failed old event StoreFault new stays none fails = leaves old new old fails.1 refl refl refl
+failed old event why new stays none fails = absurd fails
 
 pub page_step : (old : EngineState) (event : Event) (reply : Result Answer Refusal) (new : EngineState)
-    → Step old event reply new → PageStep old new
-page_step old event (Ok answer) new step = answered old event new step.0 step.2
-page_step old event (Err why) new (inl both) = leaves old new old both.1 refl refl refl
-page_step old event (Err why) new (inr both) = failed old event why new both.0 both.1
+    → IsNoGrowth event → Step old event reply new → PageStep old new
+page_step old event (Ok answer) new stays step = answered old event new stays step.0 step.2
+page_step old event (Err why) new stays (inl both) = leaves old new old both.1 refl refl refl
+page_step old event (Err why) new stays (inr both) = failed old event why new stays both.0 both.1
 
 -- ---- what holds of the pages after it
 

@@ -1,6 +1,6 @@
 //! The calls of the engine that take a fuzzy checkpoint in steps.
 
-ghost use Rattle.std.specs.Prelude.{ℕ, ◌≡◌, ◌<◌, ◌≤◌, Some, None, IfErr, OnOk};
+ghost use Rattle.std.specs.Prelude.{ℕ, ◌≡◌, ◌<◌, ◌≤◌, Some, None, IfErr, IfOk, OnOk};
 ghost use Rattle.aries_core.specs.EngineState.{end};
 ghost use Rattle.aries_core.specs.Refusal.{refusal};
 ghost use Rattle.aries_core.specs.Step.{FailsForcing, Forces};
@@ -73,6 +73,7 @@ impl<S: PageStore, D: LogDevice> Engine<S, D> {
     pub fn ckpt_end(&mut self) -> Result<Point, Refusal>
         ensures step { Step self.old.state event.CkptEnd
             (reply_of (λ p. answer.Point p.begin p.end p.redo) result) self.new.state }
+        ensures noted { IfOk result (λ p. self.new.state.master ≡ Some p) }
         ensures store { self.new.store ≡ self.old.store }
         ensures refused { IfErr result (λ why. ¬ IsByDevice why
             → self.new.device ≡ self.old.device) }

@@ -16,6 +16,7 @@ use Rattle.page_core.proofs.Volumes.{length-grown_to, numbered-grown_to}
 use Rattle.log_records.specs.Coverage.{AreStored, IsStored, IsWriting, rec_lsn}
 use Rattle.log_records.specs.Image.{image}
 use Rattle.log_records.specs.Log.{IsLog, Log, page_count, with_next}
+use Rattle.log_records.specs.declared.record.Record.{Record}
 use Rattle.log_records.specs.declared.record.Record.TheVariants.{Extend}
 use Rattle.log_records.proofs.Coverage.{image_is_clean}
 use Rattle.log_records.proofs.PageCounts.{page_count-push}
@@ -68,7 +69,7 @@ length-extended xs count x =
     length-append xs (replicate (count - length xs) x)
     ∙ ap (λ (k : ℕ). length xs + k) (length-replicate (count - length xs) x)
 
-map-extended : {X Y : Type 0} (f : X → Y) (xs : List X) (k : ℕ) (x : X)
+pub map-extended : {X Y : Type 0} (f : X → Y) (xs : List X) (k : ℕ) (x : X)
     → map f (xs ++ replicate k x) ≡ map f xs ++ replicate k (f x)
 map-extended f xs k x =
     map-append f xs (replicate k x) ∙ ap (λ ys. map f xs ++ ys) (copies k)
@@ -217,7 +218,7 @@ state_past log p valid past =
     }
 
 -- formatted pages are stored behind the others
-stored_grown : (log : Log) (stored : List Page) (count : ℕ) (written : List ℕ) (writing : List (Option Page)) → IsLog log
+pub stored_grown : (log : Log) (stored : List Page) (count : ℕ) (written : List ℕ) (writing : List (Option Page)) → IsLog log
     → page_count log ≤ length stored → length written ≤ length stored → length writing ≤ length stored
     → AreStored log.records stored written writing → AreStored log.records (grown_to count stored) written writing
 stored_grown log stored count written writing valid enough few_written few_writing are = record {
@@ -256,6 +257,18 @@ stored_grown log stored count written writing valid enough few_written few_writi
         get_or-append_right stored behind (length stored) p d refl past
         ∙ get_or-map-range_with_len formatted (length stored) left (p - length stored) p d low (omega arith)
         ∙ sym (image_past log p valid (omega arith))
+
+-- nothing was written of the pages behind them
+pub stored_extended : (rs : List Record) (stored : List Page) (written : List ℕ) (writing : List (Option Page)) (j k : ℕ)
+    → AreStored rs stored written writing
+    → AreStored rs stored (written ++ replicate j 0) (writing ++ replicate k None)
+stored_extended rs stored written writing j k are = record {
+  pages = λ p d lt.
+      subst (IsStored rs p (get_or stored p d)) (sym (extended_at written j p 0)) (are.pages p d lt);
+  images = λ p d lt.
+      subst (λ (o : Option Page). IfSome o (IsWriting rs p (get_or stored p d)))
+      (sym (extended_at writing k p None)) (are.images p d lt);
+}
 
 -- the store alone has grown
 pub pool_stored : {S : Type 0} (stored_in : S → List Page) (log : Log) (pool : PoolView S) (store : S) (count : ℕ)
@@ -322,24 +335,12 @@ pool_grown stored_in log pool lsn count more valid is =
         map-extended (λ (s : PageState). s.written) states k unwritten,
         map-extended (λ (s : PageState). s.writing) states k unwritten,
       ) (stored_later rs (next ∷ []) (stored_in pool.store) (written_of states ++ replicate k 0)
-          (writing_of states ++ replicate k None) (columns_later k is.stored));
+          (writing_of states ++ replicate k None)
+          (stored_extended rs (stored_in pool.store) (written_of states) (writing_of states) k k is.stored));
     }
   where
     most_is : (n m : ℕ) → n ≤ m → max n m ≡ m
     most_is n m le = max-eq_right le
-
-    columns_later : (k : ℕ)
-        → AreStored log.records (stored_in pool.store) (written_of pool.states) (writing_of pool.states)
-        → AreStored log.records (stored_in pool.store) (written_of pool.states ++ replicate k 0)
-        (writing_of pool.states ++ replicate k None)
-    columns_later k are = record {
-      pages = λ p d lt.
-          subst (IsStored log.records p (get_or (stored_in pool.store) p d))
-          (sym (extended_at (written_of pool.states) k p 0)) (are.pages p d lt);
-      images = λ p d lt.
-          subst (λ (o : Option Page). IfSome o (IsWriting log.records p (get_or (stored_in pool.store) p d)))
-          (sym (extended_at (writing_of pool.states) k p None)) (are.images p d lt);
-    }
 
 pub if_err : {T E : Type 0} (r : Result T E) (P : Type 0) → P → OnErr r P
 if_err (Ok x) P h = tt

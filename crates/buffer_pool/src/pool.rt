@@ -384,6 +384,7 @@ impl<S: PageStore> Pool<S> {
         requires few { count ≤ MAX_PAGES }
 
         ensures stored { IsGrown (S.stored self.old.store) (S.stored self.new.store) }
+        ensures enough { OnOk result (count ≤ length (S.stored self.new.store)) }
         ensures grown { OnOk result
             (self.new ≡ record (grown_pool count self.old) { store = self.new.store }) }
         ensures next { OnOk result ((log : Log) (lsn : ℕ) → IsPoolOf S.stored log self.old

@@ -9,7 +9,7 @@ use Rattle.log_history.proofs.Histories.{linked_push}
 use Rattle.log_history.proofs.Steps.{table_of_push}
 use Rattle.txn_table.specs.Returns.{returns_of}
 use Rattle.txn_table.specs.TxnTable.{IsTableOf}
-use Rattle.txn_table.proofs.Savepoints.{returns_push}
+use Rattle.txn_table.proofs.Stacks.{returns_push}
 
 pub table_kept : (rs : List Record) (lsn pages : ℕ) (table : Table) → length rs < MAX_RECORDS
     → IsTableOf rs table → IsTableOf (rs ++ Extend lsn pages ∷ []) table
