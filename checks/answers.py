@@ -28,6 +28,7 @@ from model.engine import MOST_FRAMES
 from model.log_format import ADD, BEGIN, MOST_RECORDS, RECORD_SIZE, UPDATE, Change, Record, lsn_of
 from model.samples import Draw
 from model.frame_rows import FRAME_ROWS
+from model.growth_rows import BY_ONE, GROWTH_AUDIT_ROWS, GROWTH_FILE_ROWS, GROWTH_ROWS
 from model.random_scripts import Script, bad_script, random_script
 from model.faulty_engine import committed_numbers, numbers_of
 from model.recovery import (Answer, answer_of, audit_files, encode_pages, fault_lines, redo_all, redo_file, restore_files,
@@ -238,6 +239,16 @@ def check_savepoint_rows(checker):
         checker.check(row.name, Answer(0, row.output()), run_words(Script(1, b"")), row.script())
 
 
+def check_growth_rows(checker):
+    saved = {row.name: check_row(checker, row) for row in [*GROWTH_ROWS, BY_ONE]}
+    for row in GROWTH_FILE_ROWS:
+        check_file_row(checker, row, saved[row.row])
+    for row in GROWTH_AUDIT_ROWS:
+        check_audit_row(checker, row, saved[row.row])
+    checker.check(f"{BY_ONE.name}, redo", answer_of(redo_file, saved[BY_ONE.name]["log"]), ["redo"],
+                  saved[BY_ONE.name]["log"])
+
+
 def check_ways(_):
     """The ways of the model to find a savepoint."""
     try:
@@ -393,8 +404,8 @@ def check_words(checker):
 
 # All of it
 
-CHECKS = {"rows": check_rows, "savepoint rows": check_savepoint_rows, "ways": check_ways, "longest": check_longest,
-          "devices": check_devices, "words": check_words}
+CHECKS = {"rows": check_rows, "savepoint rows": check_savepoint_rows, "growth rows": check_growth_rows,
+          "ways": check_ways, "longest": check_longest, "devices": check_devices, "words": check_words}
 
 
 def check_all(program, task):

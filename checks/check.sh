@@ -233,7 +233,7 @@ for log in "$examples"/*.log; do
 done
 check_words
 check_told "error: no command was given"
-grep -qx "This is imgcopy 0.1.0." "$work/err" || fail "the list of commands: it shows no version"
+grep -qx "This is imgcopy 0.2.0." "$work/err" || fail "the list of commands: it shows no version"
 check_words rerun
 check_told "error: unrecognized command 'rerun'"
 for word in help --help -h; do

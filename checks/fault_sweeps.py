@@ -26,6 +26,7 @@ from itertools import repeat
 
 from model import rows as model_rows
 from model.faulty_engine import Damage, Fault, FaultyEngine
+from model.growth_rows import GROWTH_ROWS
 from model.random_scripts import Script, random_script
 from model.recovery import Refusal
 from model.savepoint_rows import SAVEPOINT_ROWS
@@ -38,7 +39,7 @@ MOST_PAGES = 12
 MOST_SCRIPT_FRAMES = 8
 MOST_ROW_PAGES = 8
 MOST_SECONDS = 60
-ROWS = {"rows": model_rows.ROWS, "savepoint rows": SAVEPOINT_ROWS}
+ROWS = {"rows": model_rows.ROWS, "savepoint rows": SAVEPOINT_ROWS, "growth rows": GROWTH_ROWS}
 REFUSALS = ("E22 ", "E23 ", "E26 ")
 AS_EVER = {"E22": None, "E23": {"wbegin"}}  # after which refusals, of which calls, a call made again goes as ever
 
@@ -119,29 +120,30 @@ def sweep(player, name, script, frames):
 
 
 def mended(script, frames, damage):
-    """The script without its restore; then repairs of the damaged page from each complete copy, and a copy of all pages."""
+    """The script without its restore; then repairs of the damaged page from each complete copy, and a copy of all pages.
+    Also how many pages these are."""
     engine, _ = played(script, frames, damage=damage)
     lines = [" ".join([event.word, *map(str, event.numbers)]) for event in events_of(script)]
     lines += [f"wend {damage.page}"] if damage.page in engine.images else []
     lines += [f"repair {copy.number} {damage.page}" for copy in engine.complete_copies()]
     lines += ["ckpt", *["gather"] * (len(engine.dirty()) + len(engine.transactions.open) + 3), "endckpt", "full"]
     number = len(engine.copies) + 1
-    lines += [*(f"take {number} {page}" for page in range(script.pages)), f"seal {number}"]
-    return Script(script.pages, "".join(f"{line}\n" for line in lines).encode())
+    lines += [*(f"take {number} {page}" for page in range(engine.count)), f"seal {number}"]
+    return Script(script.pages, "".join(f"{line}\n" for line in lines).encode()), engine.count
 
 
 def damage_sweep(player, name, script, frames):
-    """Damages each page once so many calls of the store were made, and repairs it."""
+    """Damages each page that a new volume has once so many calls of the store were made, and repairs it."""
     counts, engine = Counter(), played(script, frames)[0]
     for calls in range(engine.store_calls + 1):
         for page in range(script.pages):
             damage = Damage(page, calls)
-            again = mended(script, frames, damage)
+            again, count = mended(script, frames, damage)
             complete = played(script, frames, damage=damage)[0].complete_copies()
             if not complete:
                 continue
             replies = check(player, name, again, frames, {"damage": damage})
-            if f"sealed {script.pages}" != replies[-1] or sum(reply.startswith("repaired") for reply in replies) < len(complete):
+            if f"sealed {count}" != replies[-1] or sum(reply.startswith("repaired") for reply in replies) < len(complete):
                 raise Failure(f"{name}, page {page} damaged from call {calls} on: it is not repaired")
             counts["damage"] += 1
     return counts

@@ -1,9 +1,9 @@
-"""Spoils logs in some 24,000 ways, and compares what a program answers to each with the definitions.
+"""Spoils logs in some 29,000 ways, and compares what a program answers to each with the definitions.
 
 usage: python3 -m checks.faults PROGRAM
 
-spoiled_logs.py has the logs: bytes changed, logs cut, fields at their bounds, records that may not follow those before
-them, and logs made one byte and one record too long. `Reader` says what each must give.
+spoiled_logs.py and growth_logs.py have the logs: bytes changed, logs cut, fields at their bounds, records that may not
+follow those before them, and logs made one byte and one record too long. `Reader` says what each must give.
 """
 
 import copy
@@ -18,8 +18,9 @@ from functools import lru_cache
 from itertools import repeat
 
 from model import spoiled_logs
+from model.growth_logs import growth_logs
 from model.log_format import (ABORT, HEADER_SIZE, LONGEST_LOG, MOST_RECORDS, RECORD_SIZE, History, decode_record,
-                              encode_header, fault_of_header, fault_of_record, page_count)
+                              encode_header, fault_of_header, fault_of_record, is_first_format, page_count)
 from model.recovery import fault_lines
 
 
@@ -49,9 +50,10 @@ class Reader:
         is_begun = self.history is not None and log.startswith(self.right)
         if not is_begun:
             self.history = History(read_header(log))
+        is_first = is_first_format(log)
         try:
             for at in range(self.history.end, len(log), RECORD_SIZE):
-                self.history.take(read_record(log[at:at + RECORD_SIZE], at, self.history))
+                self.history.take(read_record(log[at:at + RECORD_SIZE], at, self.history, is_first))
         finally:
             if len(self.right) != self.history.end or not is_begun:
                 self.right = log[:self.history.end]
@@ -63,16 +65,16 @@ def read_header(log):
     return page_count(log[:HEADER_SIZE])
 
 
-def read_record(data, at, history):
+def read_record(data, at, history, is_first):
     if at >= LONGEST_LOG:
         raise Fault("E34 TooLong")
     if len(data) < RECORD_SIZE:
         raise Fault(f"E32 Torn {at}")
-    return right_record(decode_record(data), at, history)
+    return right_record(decode_record(data), at, history, is_first)
 
 
-def right_record(record, at, history):
-    if fault_of_record(record, at, history.pages):
+def right_record(record, at, history, is_first=False):
+    if fault_of_record(record, at, history.pages, is_first):
         raise Fault(f"E31 BadRecord {at}")
     if history.fault(record):
         raise Fault(f"E35 BadChain {at}")
@@ -124,8 +126,9 @@ def describe(one_answer):
 def small_logs():
     """Each small log with its name."""
     for logs in (spoiled_logs.changed_bytes, spoiled_logs.cut_logs, spoiled_logs.formats,
-                 spoiled_logs.fields_at_bounds, spoiled_logs.chained_fields, spoiled_logs.moved_records, spoiled_logs.compensations,
-                 spoiled_logs.two_faults, spoiled_logs.drawn_logs, spoiled_logs.checkpoints):
+                 spoiled_logs.fields_at_bounds, spoiled_logs.chained_fields, spoiled_logs.moved_records,
+                 spoiled_logs.compensations, spoiled_logs.two_faults, spoiled_logs.drawn_logs, spoiled_logs.checkpoints,
+                 growth_logs):
         yield from logs()
     for name, log, marked in spoiled_logs.scenarios():
         wanted = reader.answer(log)

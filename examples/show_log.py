@@ -15,8 +15,8 @@ from pathlib import Path
 sys.path.insert(0, str(Path(__file__).resolve().parent.parent))
 
 from model import log_checkpoints
-from model.log_format import (ADD, HEADER_SIZE, KINDS, LONGEST_LOG, RECORD_SIZE, History, decode_record, fault_of_header,
-                              fault_of_record, page_count)
+from model.log_format import (ADD, EXTEND, HEADER_SIZE, KINDS, LONGEST_LOG, RECORD_SIZE, History, decode_record,
+                              fault_of_header, fault_of_record, is_first_format, page_count)
 
 
 class Fault(Exception):
@@ -26,9 +26,9 @@ class Fault(Exception):
 def show(log):
     pages = read_header(log[:HEADER_SIZE])
     print(f"0  header  {pages} page{'s' if pages > 1 else ''}")
-    history = History(pages)
+    history, is_first = History(pages), is_first_format(log)
     for at in range(HEADER_SIZE, len(log), RECORD_SIZE):
-        record = read_record(log[at:at + RECORD_SIZE], at, pages, history)
+        record = read_record(log[at:at + RECORD_SIZE], at, history, is_first)
         history.take(record)
         print(f"{at}  {describe(record)}")
 
@@ -40,13 +40,13 @@ def read_header(data):
     return page_count(data)
 
 
-def read_record(data, at, pages, history):
+def read_record(data, at, history, is_first):
     if at >= LONGEST_LOG:
         raise Fault(f"{at}  FAULT: the log is too long: no record may stand here")
     if len(data) < RECORD_SIZE:
         raise Fault(f"{at}  FAULT: the log is torn: {len(data)} bytes of this record are there")
     record = decode_record(data)
-    fault = fault_of_record(record, at, pages) or history.fault(record)
+    fault = fault_of_record(record, at, history.pages, is_first) or history.fault(record)
     if fault:
         raise Fault(f"{at}  FAULT: {fault}")
     return record
@@ -55,6 +55,8 @@ def read_record(data, at, pages, history):
 def describe(record):
     if record.kind in log_checkpoints.NAMES:
         return describe_checkpoint(record)
+    if record.kind == EXTEND:
+        return f"extend  {record.pages} pages"
     kind = KINDS[record.kind]
     parts = [f"txn {record.transaction}", kind.name]
     if kind.has_change:

@@ -26,8 +26,9 @@ class FileRow(NamedTuple):
         return files
 
     def volume(self):
-        """All rows that end well have one page."""
-        return bytes.fromhex(self.answer).ljust(512, b"\0")
+        """The answer tells all pages but for the zeros behind the last one."""
+        volume = bytes.fromhex(self.answer)
+        return volume + bytes(-len(volume) % 512)
 
 
 def in_first_format(row):

@@ -122,7 +122,9 @@ class Volume:
         self.slots += [[0] * SLOTS for _ in range(added)]
 
     def redo(self, record):
-        if record.kind in KINDS and KINDS[record.kind].has_change:
+        if record.kind == EXTEND:
+            self.grow(record.pages)
+        elif record.kind in KINDS and KINDS[record.kind].has_change:
             slots, slot = self.slots[record.change.page], record.change.slot
             slots[slot] = record.change.changed(slots[slot])
             self.lsns[record.change.page] = record.lsn
@@ -210,7 +212,7 @@ class History:
         self.end += RECORD_SIZE
         if record.kind == EXTEND:
             self.pages = record.pages
-            self.volume.grow(record.pages)
+            self.volume.redo(record)
             return
         if record.kind in log_checkpoints.NAMES:
             self.checkpoints.take(record)

@@ -13,7 +13,7 @@ from pathlib import Path
 from model.log_checkpoints import (ACTIVE, BEGIN_CHKPT, CHKPT_PAGES, CHKPT_TXNS, END_CHKPT, ROLLING,
                                    CheckpointRecord)
 from model.log_format import (ABORT, ADD, BEGIN, COMMIT, COMP, END, FIRST_MAGIC, MAGIC, NO_CHANGE, RECORD_SIZE, SET,
-                              SLOTS, UPDATE, Change, Record, Volume, encode_header, lsn_of)
+                              SLOTS, UPDATE, Change, Extend, Record, Volume, encode_header, lsn_of)
 
 
 class Log:
@@ -69,6 +69,10 @@ class Log:
         begins = [earlier.lsn for earlier in self.records if earlier.kind == BEGIN_CHKPT]
         begin = 0 if record.kind == BEGIN_CHKPT else begins[-1]
         self.records.append(record._replace(begin=begin, lsn=lsn))
+
+    def extend(self, pages):
+        """The volume has so many pages from there on. The count of the header stays."""
+        self.records.append(Extend(pages, lsn_of(len(self.records))))
 
     def encode(self, magic=MAGIC):
         return encode_header(self.pages, magic) + b"".join(record.encode() for record in self.records)
@@ -187,6 +191,21 @@ def checkpoint():
     return log
 
 
+def growth():
+    """A volume of one page that grows to three behind a checkpoint, and a checkpoint whose entry is on an added page."""
+    log = Log(pages=1)
+    log.checkpoint(CheckpointRecord(BEGIN_CHKPT))
+    log.checkpoint(CheckpointRecord(END_CHKPT, redo_point=64))
+    log.extend(3)
+    log.begin(1)
+    log.update(1, Change(page=2, slot=0, kind=SET, before=0, number=4))
+    log.commit(1)
+    log.checkpoint(CheckpointRecord(BEGIN_CHKPT))
+    log.checkpoint(CheckpointRecord(CHKPT_PAGES, entries=((2, 320),)))
+    log.checkpoint(CheckpointRecord(END_CHKPT, redo_point=320))
+    return log
+
+
 def bad_chain():
     """The log of four records whose last one names another record of its transaction, and its fault line."""
     log = four_records()
@@ -202,7 +221,8 @@ def torn():
 
 def main(folder):
     for name, log, magic in [("four_records", four_records(), MAGIC), ("interleaved", interleaved(), FIRST_MAGIC),
-                             ("rollback", rollback(), MAGIC), ("checkpoint", checkpoint(), MAGIC)]:
+                             ("rollback", rollback(), MAGIC), ("checkpoint", checkpoint(), MAGIC),
+                             ("growth", growth(), MAGIC)]:
         (folder / f"{name}.log").write_bytes(log.encode(magic))
         (folder / f"{name}.volume").write_bytes(volume_of(log))
     for name, (log, fault) in [("torn", torn()), ("bad_chain", bad_chain())]:

@@ -74,6 +74,11 @@ impl Chains {
         }
     }
 
+    /// The volume has so many pages from now on.
+    pub fn grow(&mut self, pages: usize) {
+        self.claims.grow(pages);
+    }
+
     /// A byte that says who holds a slot, so that it comes from memory; 0 where there is no such slot.
     #[inline]
     pub fn claim(&self, page: u16, slot: u8) -> u8 {

@@ -38,6 +38,10 @@ impl Claims {
         }
     }
 
+    pub fn grow(&mut self, pages: usize) {
+        self.bytes.resize(pages << SLOT_BITS, FREE);
+    }
+
     /// Takes the claim of a change, unless another transaction holds the slot against it.
     #[inline]
     pub fn take(&mut self, place: u32, seat: u8, kind: ChangeKind) -> Option<Held> {

@@ -1,6 +1,7 @@
 //! Image copies: how they are taken, written as archives, read again, and linked to a chain.
 
 use crate::engine::{lsn_of, Master};
+use crate::redo::Redo;
 use crate::replies::{Answer, Refusal, Reply};
 use crate::{
     formatted_volume, halves, is_one_of, word, Fault, Page, MOST_PAGES, PAGE_FORMAT, PAGE_SIZE,
@@ -48,7 +49,7 @@ pub struct Copies {
 }
 
 impl Copies {
-    pub fn open(&mut self, source: Source, master: Option<Master>, page_count: usize) -> Answer {
+    pub fn open(&mut self, source: Source, master: Option<Master>) -> Answer {
         let (parent, taken_from) = match source {
             Source::All => (0, 0),
             Source::After(parent) => (parent, self.complete(parent)?.redo),
@@ -63,8 +64,8 @@ impl Copies {
             begin: master.begin,
             redo: master.redo,
             state: State::Reading,
-            is_decided: vec![false; page_count],
-            left: page_count as u32,
+            is_decided: vec![false; master.page_count as usize],
+            left: master.page_count,
             taken: Vec::new(),
         });
         Ok(Reply::Copy(self.copies.len() as u32))
@@ -72,12 +73,13 @@ impl Copies {
 
     pub fn take(&mut self, copy: u32, page: u32, stored: &[Page]) -> Answer {
         let copy = self.reading(copy)?;
-        let stored = stored.get(page as usize).ok_or(Refusal::PageOut)?;
-        if copy.is_decided[page as usize] {
+        let is_decided = copy.is_decided.get_mut(page as usize);
+        let is_decided = is_decided.ok_or(Refusal::PageOut)?;
+        if std::mem::replace(is_decided, true) {
             return Err(Refusal::PageDecided);
         }
-        copy.is_decided[page as usize] = true;
         copy.left -= 1;
+        let stored = &stored[page as usize];
         let lsn = lsn_of(stored);
         if copy.parent != 0 && lsn < copy.taken_from {
             return Ok(Reply::Kept);
@@ -166,6 +168,7 @@ struct Header {
     page_count: u32,
     id: u32,
     parent: u32,
+    begin: u64,
     redo: u64,
     taken: u32,
 }
@@ -179,11 +182,12 @@ impl Chain {
         }
     }
 
-    /// Reads the next archive.
-    pub fn add(&mut self, archive: &[u8]) -> Result<(), Fault> {
+    /// Reads the next archive, whose copy has the pages that this log has below its begin LSN.
+    pub fn add(&mut self, archive: &[u8], log: &Redo) -> Result<(), Fault> {
         let header = read_header(archive).ok_or(Fault::BadArchive(0))?;
         let pages = check_pages(archive, &header)?;
-        if header.page_count as usize != self.pages.len() || header.parent != self.last {
+        let page_count = log.page_count_below(header.begin);
+        if header.page_count != page_count || header.parent != self.last {
             return Err(Fault::ChainBroken(header.id));
         }
         for page in pages {
@@ -220,6 +224,7 @@ fn read_header(archive: &[u8]) -> Option<Header> {
         page_count,
         id,
         parent,
+        begin,
         redo,
         taken,
     })

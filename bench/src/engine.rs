@@ -6,10 +6,12 @@ use crate::chains::ChangeKind;
 use crate::claims::{place, Claims, Held};
 use crate::copies::{Copies, Source};
 use crate::frames::Frames;
+use crate::records::Record;
 use crate::replies::{Answer, Refusal, Reply};
 use crate::{
-    formatted_volume, Page, ABORT, BEGIN, BEGIN_CHKPT, CHKPT_PAGES, CHKPT_TXNS, COMMIT, COMP, END,
-    END_CHKPT, FIRST_SLOT, HEADER_SIZE, MAGIC, MOST_OPEN, MOST_RECORDS, RECORD_SIZE, SLOTS, UPDATE,
+    formatted_volume, grow_volume, Page, ABORT, BEGIN, BEGIN_CHKPT, CHKPT_PAGES, CHKPT_TXNS,
+    COMMIT, COMP, END, END_CHKPT, EXTEND, FIRST_SLOT, HEADER_SIZE, MAGIC, MOST_OPEN, MOST_PAGES,
+    MOST_RECORDS, RECORD_SIZE, SLOTS, UPDATE,
 };
 use std::collections::HashMap;
 
@@ -48,6 +50,8 @@ enum Gather {
 
 struct Checkpoint {
     begin: u64,
+    /// How many pages the volume has at its begin.
+    page_count: u32,
     redo: u64,
     gather: Gather,
 }
@@ -58,6 +62,7 @@ pub struct Master {
     pub begin: u64,
     pub end: u64,
     pub redo: u64,
+    pub page_count: u32,
 }
 
 pub struct Engine {
@@ -221,6 +226,24 @@ impl Engine {
         Ok(Reply::Undid(lsn))
     }
 
+    /// The volume grows.
+    pub fn extend(&mut self, page_count: u32) -> Answer {
+        let present = self.pages.len() as u32;
+        if page_count <= present || page_count > MOST_PAGES {
+            return Err(Refusal::NotLarger(present));
+        }
+        self.need_room(1)?;
+        grow_volume(&mut self.stored, page_count);
+        grow_volume(&mut self.pages, page_count);
+        self.rec_lsns.resize(page_count as usize, NONE);
+        self.after_image.resize(page_count as usize, NONE);
+        self.frames.grow(page_count);
+        self.claims.grow(page_count as usize);
+        let mut record = Record::new(EXTEND, 0, 0);
+        record.put(24, &page_count.to_le_bytes());
+        Ok(Reply::Lsn(self.append(record)))
+    }
+
     pub fn force(&mut self) -> Answer {
         self.force_to(self.log.len() as u64 - RECORD_SIZE as u64);
         Ok(Reply::Forced(self.log.len() as u64))
@@ -261,6 +284,7 @@ impl Engine {
         let begin = self.append(Record::new(BEGIN_CHKPT, 0, 0));
         self.checkpoint = Some(Checkpoint {
             begin,
+            page_count: self.pages.len() as u32,
             redo: begin,
             gather: Gather::PagesFrom(0),
         });
@@ -330,19 +354,24 @@ impl Engine {
             return Err(Refusal::GatherLeft);
         }
         self.need_room(1)?;
-        let Checkpoint { begin, redo, .. } = *checkpoint;
+        let (begin, redo) = (checkpoint.begin, checkpoint.redo);
+        let page_count = checkpoint.page_count;
         let mut record = Record::new(END_CHKPT, 0, begin);
         record.put(24, &redo.to_le_bytes());
         let end = self.append(record);
         self.force_to(end);
         self.checkpoint = None;
-        self.master = Some(Master { begin, end, redo });
+        self.master = Some(Master {
+            begin,
+            end,
+            redo,
+            page_count,
+        });
         Ok(Reply::Point(begin, end, redo))
     }
 
     pub fn copy(&mut self, source: Source) -> Answer {
-        let page_count = self.pages.len();
-        self.copies.open(source, self.master, page_count)
+        self.copies.open(source, self.master)
     }
 
     pub fn take(&mut self, copy: u32, page: u32) -> Answer {
@@ -464,33 +493,4 @@ impl Engine {
 /// The LSN of a page.
 pub fn lsn_of(page: &Page) -> u64 {
     crate::word(&page[8..16])
-}
-
-/// The bytes of one record, but for its own LSN.
-struct Record([u8; RECORD_SIZE]);
-
-impl Record {
-    fn new(kind: u32, transaction: u32, previous: u64) -> Record {
-        let mut record = Record([0; RECORD_SIZE]);
-        record.put(0, &kind.to_le_bytes());
-        record.put(4, &transaction.to_le_bytes());
-        record.put(8, &previous.to_le_bytes());
-        record
-    }
-
-    fn put_change(&mut self, page: u32, slot: u8, kind: ChangeKind, before: u64, number: u64) {
-        let kind = match kind {
-            ChangeKind::Set => crate::SET,
-            ChangeKind::Add => crate::ADD,
-        };
-        self.put(24, &page.to_le_bytes());
-        self.put(28, &u16::from(slot).to_le_bytes());
-        self.put(30, &kind.to_le_bytes());
-        self.put(32, &before.to_le_bytes());
-        self.put(40, &number.to_le_bytes());
-    }
-
-    fn put(&mut self, at: usize, bytes: &[u8]) {
-        self.0[at..at + bytes.len()].copy_from_slice(bytes);
-    }
 }

@@ -1,13 +1,14 @@
 //! Which pages have a frame in memory, and which of them leaves it for another one.
 
 use crate::replies::Refusal;
+use crate::MOST_PAGES;
 use std::collections::BTreeMap;
 
 /// In the place of the fetch of a page that has no frame.
 const ABSENT: u64 = 0;
 
 pub struct Frames {
-    /// How many pages may be in memory at a time, if they are fewer than there are.
+    /// How many pages may be in memory at a time, if they are fewer than there may be.
     limit: Option<usize>,
     resident: usize,
     /// How many pages were fetched.
@@ -20,7 +21,7 @@ pub struct Frames {
 
 impl Frames {
     pub fn new(page_count: u32, limit: u32) -> Frames {
-        let is_limited = limit < page_count;
+        let is_limited = limit < MOST_PAGES;
         let count = if is_limited { page_count as usize } else { 0 };
         Frames {
             limit: is_limited.then_some(limit as usize),
@@ -28,6 +29,13 @@ impl Frames {
             fetches: 0,
             fetched: vec![ABSENT; count],
             clean: BTreeMap::new(),
+        }
+    }
+
+    /// The volume has so many pages from now on.
+    pub fn grow(&mut self, page_count: u32) {
+        if self.limit.is_some() {
+            self.fetched.resize(page_count as usize, ABSENT);
         }
     }
 

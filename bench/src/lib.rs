@@ -7,6 +7,7 @@ pub mod copies;
 pub mod engine;
 mod frames;
 pub mod random;
+mod records;
 pub mod redo;
 pub mod replies;
 pub mod script;
@@ -37,6 +38,7 @@ pub const BEGIN_CHKPT: u32 = 7;
 pub const CHKPT_PAGES: u32 = 8;
 pub const CHKPT_TXNS: u32 = 9;
 pub const END_CHKPT: u32 = 10;
+pub const EXTEND: u32 = 11;
 
 /// The kinds of changes, each with the zero behind it.
 pub const SET: u16 = 1;
@@ -103,12 +105,19 @@ pub fn fill(input: &mut impl Read, buffer: &mut [u8]) -> io::Result<usize> {
 }
 
 pub fn formatted_volume(page_count: u32) -> Vec<Page> {
-    let mut volume = vec![[0; PAGE_SIZE]; page_count as usize];
-    for (number, page) in (0u32..).zip(&mut volume) {
+    let mut volume = Vec::new();
+    grow_volume(&mut volume, page_count);
+    volume
+}
+
+/// Adds formatted pages, so that there are so many.
+pub fn grow_volume(volume: &mut Vec<Page>, page_count: u32) {
+    let present = volume.len();
+    volume.resize(page_count as usize, [0; PAGE_SIZE]);
+    for (number, page) in (present as u32..).zip(&mut volume[present..]) {
         page[0..4].copy_from_slice(&number.to_le_bytes());
         page[4..8].copy_from_slice(&PAGE_FORMAT.to_le_bytes());
     }
-    volume
 }
 
 /// Whether the first word of a header is one of these texts.

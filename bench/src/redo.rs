@@ -3,9 +3,9 @@
 use crate::chains::{Chains, Change, ChangeKind};
 use crate::checkpoints::{self, Checkpoints};
 use crate::{
-    fill, formatted_volume, halves, is_one_of, word, words, Fault, Page, ABORT, ADD, BEGIN,
-    BEGIN_CHKPT, COMMIT, COMP, END, FIRST_MAGIC, FIRST_SLOT, HEADER_SIZE, LONGEST_LOG, MAGIC,
-    MOST_PAGES, RECORD_SIZE, SET, SLOTS, UPDATE,
+    fill, formatted_volume, grow_volume, halves, is_one_of, word, words, Fault, Page, ABORT, ADD,
+    BEGIN, BEGIN_CHKPT, COMMIT, COMP, END, EXTEND, FIRST_MAGIC, FIRST_SLOT, HEADER_SIZE,
+    LONGEST_LOG, MAGIC, MOST_PAGES, RECORD_SIZE, SET, SLOTS, UPDATE,
 };
 use std::io::{self, Read};
 
@@ -46,14 +46,20 @@ impl From<io::Error> for Failure {
     }
 }
 
+/// What the header of a log says.
+struct Header {
+    page_count: u32,
+    /// A log of the first format has no Extend.
+    is_first: bool,
+}
+
 /// Reads a log by pieces, and keeps none of it.
 pub fn redo(mut log: impl Read) -> Result<Vec<Page>, Failure> {
     let mut header = [0; HEADER_SIZE];
     if fill(&mut log, &mut header)? < HEADER_SIZE {
         return Err(Fault::BadHeader.into());
     }
-    let page_count = read_header(&header).ok_or(Fault::BadHeader)?;
-    let mut redo = Redo::new(page_count);
+    let mut redo = Redo::new(read_header(&header).ok_or(Fault::BadHeader)?);
     let mut chunk = vec![0; CHUNK_SIZE];
     loop {
         let count = fill(&mut log, &mut chunk)?;
@@ -75,6 +81,9 @@ pub fn read(log: &[u8]) -> Result<Redo, Fault> {
 /// What the records until now leave.
 pub struct Redo {
     lsn: usize,
+    is_first: bool,
+    /// How many pages the volume has before the log, and after each Extend, by its LSN.
+    counts: Vec<(u64, u32)>,
     pub page_count: u32,
     pub volume: Vec<Page>,
     pub chains: Chains,
@@ -82,14 +91,23 @@ pub struct Redo {
 }
 
 impl Redo {
-    fn new(page_count: u32) -> Redo {
+    fn new(header: Header) -> Redo {
+        let page_count = header.page_count;
         Redo {
             lsn: HEADER_SIZE,
+            is_first: header.is_first,
+            counts: vec![(0, page_count)],
             page_count,
             volume: formatted_volume(page_count),
             chains: Chains::new(page_count as usize),
             checkpoints: Checkpoints::default(),
         }
+    }
+
+    /// How many pages the records below this LSN give the volume.
+    pub fn page_count_below(&self, lsn: u64) -> u32 {
+        let behind = self.counts.partition_point(|(extend, _)| *extend < lsn);
+        self.counts[behind.max(1) - 1].1
     }
 
     fn take_chunk(&mut self, chunk: &[u8]) -> Result<(), Fault> {
@@ -123,7 +141,12 @@ impl Redo {
             return Err(Fault::Torn(self.lsn));
         }
         if u32::from(bytes[0]) >= BEGIN_CHKPT {
-            return self.take_checkpoint(bytes);
+            let is_extend = u32::from(bytes[0]) == EXTEND && !self.is_first;
+            return if is_extend {
+                self.take_extend(bytes)
+            } else {
+                self.take_checkpoint(bytes)
+            };
         }
         let record =
             read_record(bytes, self.lsn, self.page_count).ok_or(Fault::BadRecord(self.lsn))?;
@@ -140,6 +163,22 @@ impl Redo {
         self.checkpoints
             .take(&record, lsn, &self.chains)
             .ok_or(Fault::BadChain(self.lsn))?;
+        self.lsn += RECORD_SIZE;
+        Ok(())
+    }
+
+    /// The volume grows.
+    #[inline(never)]
+    fn take_extend(&mut self, bytes: &[u8]) -> Result<(), Fault> {
+        let page_count = read_extend(bytes, self.lsn).ok_or(Fault::BadRecord(self.lsn))?;
+        if page_count <= self.page_count {
+            return Err(Fault::BadChain(self.lsn));
+        }
+        self.page_count = page_count;
+        self.counts.push((self.lsn as u64, page_count));
+        grow_volume(&mut self.volume, page_count);
+        self.chains.grow(page_count as usize);
+        self.checkpoints.note(None);
         self.lsn += RECORD_SIZE;
         Ok(())
     }
@@ -207,14 +246,27 @@ pub fn change_of(bytes: &[u8], page_count: u32) -> Option<Change> {
     is_change.then(change).flatten()
 }
 
-/// The page count, if these bytes are a header.
-fn read_header(header: &[u8; HEADER_SIZE]) -> Option<u32> {
+/// What the header says, if these bytes are one.
+fn read_header(header: &[u8; HEADER_SIZE]) -> Option<Header> {
     let [magic, page_count, rest @ ..] = words(header);
-    let page_count = u32::try_from(page_count).ok()?;
-    let is_header = is_one_of(magic, [MAGIC, FIRST_MAGIC])
-        && (1..=MOST_PAGES).contains(&page_count)
-        && rest == [0; 6];
-    is_header.then_some(page_count)
+    let page_count = page_count_of(page_count)?;
+    let is_header = is_one_of(magic, [MAGIC, FIRST_MAGIC]) && rest == [0; 6];
+    is_header.then_some(Header {
+        page_count,
+        is_first: header.starts_with(FIRST_MAGIC),
+    })
+}
+
+/// The page count of an Extend, if these bytes are one at this LSN.
+fn read_extend(bytes: &[u8], lsn: usize) -> Option<u32> {
+    let [head, previous, undo_next, page_count, rest @ .., own] = words(bytes);
+    let is_extend = [head, previous, undo_next, own] == [u64::from(EXTEND), 0, 0, lsn as u64];
+    page_count_of(page_count).filter(|_| is_extend && rest == [0; 3])
+}
+
+fn page_count_of(word: u64) -> Option<u32> {
+    let page_count = u32::try_from(word).ok()?;
+    (1..=MOST_PAGES).contains(&page_count).then_some(page_count)
 }
 
 /// The record, if these bytes are one at this LSN in a volume of this many pages.

@@ -45,6 +45,7 @@ pub enum Refusal {
     PagesLeft(u32),
     PoolFull,
     TooManyCopies,
+    NotLarger(u32),
 }
 
 pub type Answer = Result<Reply, Refusal>;
@@ -97,6 +98,7 @@ impl fmt::Display for Refusal {
             Refusal::PagesLeft(page) => write!(out, "E21 PagesLeft {page}"),
             Refusal::PoolFull => write!(out, "E24 PoolFull"),
             Refusal::TooManyCopies => write!(out, "E25 TooManyCopies"),
+            Refusal::NotLarger(present) => write!(out, "E43 NotLarger {present}"),
         }
     }
 }

@@ -1,7 +1,8 @@
 //! `generate_script --pages P --frames B --bytes N --shape SHAPE --seed S > script` writes a script of nearly N bytes for
 //! a volume of P pages, of which B may be in memory at a time. In the shape `accepted` nearly all of its events are
 //! accepted, and in the shape `refused` all but the first hundred are refused. The shape `scan` reads each page in turn,
-//! again and again. The shape `alternate` changes a page for each frame but one, and then reads two others in turn.
+//! again and again. The shape `alternate` changes a page for each frame but one, and then reads two others in turn. In the
+//! shape `growth` the volume grows page by page to the most that there may be, and each page is changed as it comes.
 
 use bench::random::Random;
 use bench::script::{Event, LONGEST_SCRIPT};
@@ -24,6 +25,7 @@ enum Shape {
     Refused,
     Scan,
     Alternate,
+    Growth,
 }
 
 struct Options {
@@ -38,7 +40,8 @@ fn main() -> ExitCode {
     let words: Vec<String> = std::env::args().skip(1).collect();
     let Some(options) = options_of(&words) else {
         eprintln!(
-            "usage: generate_script --pages P --frames B --bytes N --shape accepted|refused|scan|alternate --seed S > script"
+            "usage: generate_script --pages P --frames B --bytes N --shape SHAPE --seed S > script\n\
+             SHAPE is accepted, refused, scan, alternate or growth"
         );
         return ExitCode::from(1);
     };
@@ -75,6 +78,7 @@ fn options_of(words: &[String]) -> Option<Options> {
         "refused" => Shape::Refused,
         "scan" => Shape::Scan,
         "alternate" if frames < pages => Shape::Alternate,
+        "growth" => Shape::Growth,
         _ => return None,
     };
     Some(Options {
@@ -93,7 +97,7 @@ fn write_script(options: &Options) -> io::Result<()> {
     let mut written = match options.shape {
         Shape::Refused => write_holders(&mut out)?,
         Shape::Alternate => write_changes(&mut out, options.frames - 1)?,
-        Shape::Accepted | Shape::Scan => 0,
+        Shape::Accepted | Shape::Scan | Shape::Growth => 0,
     };
     for turn in 0.. {
         if written + LONGEST_LINE > options.bytes {
@@ -104,6 +108,7 @@ fn write_script(options: &Options) -> io::Result<()> {
             Shape::Accepted => format!("{}\n", workload.next_event().0),
             Shape::Scan => format!("read {} 0\n", turn % options.pages),
             Shape::Alternate => format!("read {} 0\n", options.frames - 1 + turn % 2),
+            Shape::Growth => growth_line(turn, options.pages),
         };
         out.write_all(line.as_bytes())?;
         written += line.len();
@@ -131,6 +136,17 @@ fn write_holders(out: &mut impl Write) -> io::Result<usize> {
     }
     out.write_all(lines.as_bytes())?;
     Ok(lines.len())
+}
+
+/// A transaction changes each page that is added, one after another. Once there are no more, the pages are read.
+fn growth_line(turn: u32, pages: u32) -> String {
+    let last = pages + turn.div_ceil(2);
+    match turn {
+        0 => format!("{}\n", Event::Begin),
+        _ if last > MOST_PAGES => format!("read {} 0\n", turn % MOST_PAGES),
+        _ if turn % 2 == 1 => format!("{}\n", Event::Extend(last)),
+        _ => format!("set 1 {} 0 1\n", last - 1),
+    }
 }
 
 fn refused_line(random: &mut Random, pages: u32) -> String {

@@ -49,7 +49,7 @@ fn run(log: &OsString, master: &OsString, archives: &[OsString]) -> Result<(), F
     }
     let mut chain = Chain::new(read.page_count);
     for archive in archives {
-        chain.add(&fs::read(archive)?)?;
+        chain.add(&fs::read(archive)?, &read)?;
     }
     let records = log.len() / RECORD_SIZE - 1;
     let owed: usize = read
