@@ -7,10 +7,11 @@ LIBRARY is refuse_memory.rs, built as a library for LD_PRELOAD, and CHECK_LIBRAR
 word it reads a log by `read_log` and tells what came of it, and each example log goes to it as in memory.py. With the
 word `play` it first makes calls of the engine, one by one and as a list, restores a copy, and makes a call again that
 was refused for want of memory: each has to get the reply that it has with all of its memory, and the pages have to be
-the same. With the word `share` it does so with a shared engine: a session, checkpoints, a flush pass, a copy by three
-workers, and the end of the run, which gives all back where it is refused. A begin that is refused may leave no record.
-With the word `workers` one of two workers of a copy meets a fault of the store: where the other one is refused memory,
-the answer has to be that of the lesser worker. It then reads an empty input, which needs no memory.
+the same. With the word `share` it does so with a shared engine: a session, checkpoints, a flush pass, a growth of the
+volume, a copy by three workers, and the end of the run, which gives all back where it is refused. A begin that is
+refused may leave no record. With the word `workers` one of two workers of a copy meets a fault of the store: where the
+other one is refused memory, the answer has to be that of the lesser worker. It then reads an empty input, which needs
+no memory.
 """
 
 import os

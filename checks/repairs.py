@@ -1,10 +1,11 @@
-"""Plays days of a shared engine on which the page that all sessions change is repaired meanwhile.
+"""Plays days of a shared engine on which a page is repaired meanwhile, and the volume grows.
 
 usage: python3 -m checks.repairs CHECK_LIBRARY [COUNT]
 
 CHECK_LIBRARY is the program of that crate, which plays a hundred days. It is run COUNT times, 10 where none is told. On
-each day four sessions, a flusher, a repairer and a copy by three workers are at work at once; the run has to be settled,
-and the copy has to restore what plain redo of the log makes. No clock ends a run.
+each day four sessions, a flusher, a repairer of the page that these change, one who adds four pages to the eight that
+there are, and a copy by three workers are at work at once; the run has to be settled, and the copy has to restore what
+plain redo of the log makes. No clock ends a run.
 """
 
 import shutil
@@ -39,7 +40,8 @@ def main(arguments):
             play(program, number)
     except (Failure, OSError) as failure:
         sys.exit(f"repairs.py: {failure}")
-    print(f"ok repairs: on each of {count * DAYS_OF_A_RUN} days a page was repaired in use, and the copies restore it")
+    days = count * DAYS_OF_A_RUN
+    print(f"ok repairs: on each of {days} days a page was repaired in use, four were added, and the copies restore all")
 
 
 if __name__ == "__main__":

@@ -1,4 +1,5 @@
-//! Days of a shared engine on which the page that all sessions change is repaired meanwhile.
+//! Days of a shared engine on which the page that all sessions change is repaired meanwhile, and the
+//! volume grows.
 
 ghost use Rattle.std.specs.Prelude.{◌≡◌};
 
@@ -24,8 +25,12 @@ const SETUP: Setup = Setup {
     frames: 8,
 };
 
-/// Those who work on a day: four have transactions, one writes pages, and one repairs a page.
-const HANDS: usize = 6;
+/// How many pages the volume has in the end.
+const GROWN: u32 = 12;
+
+/// Those who work on a day: four have transactions, one writes pages, one repairs a page, and one
+/// adds pages.
+const HANDS: usize = 7;
 
 /// How many transactions each of the four has, and the slot to which each adds 1.
 const ROUNDS: u64 = 50;
@@ -50,9 +55,29 @@ impl<G: Ledger> Hand<G> {
     /// Transactions that each add 1 to the slot.
     fn add(&mut self, rt: &impl Wait, shared: &Volume<G>) -> Result<(), Refusal> {
         for _ in 0..ROUNDS {
-            let (txn, _) = self.session.begin(rt, shared)?;
-            self.session.add(rt, shared, txn, PAGE, SLOT, 1)?;
-            self.session.commit(rt, shared, txn)?;
+            self.add_to(rt, shared, PAGE)?;
+        }
+        Ok(())
+    }
+
+    /// A transaction that adds 1 to the slot of a page.
+    fn add_to(
+        &mut self,
+        rt: &impl Wait,
+        shared: &Volume<G>,
+        page: PageNo,
+    ) -> Result<(), Refusal> {
+        let (txn, _) = self.session.begin(rt, shared)?;
+        self.session.add(rt, shared, txn, page, SLOT, 1)?;
+        self.session.commit(rt, shared, txn)?;
+        Ok(())
+    }
+
+    /// Grows the volume page by page, and changes each page that it adds.
+    fn grow(&mut self, rt: &impl Wait, shared: &Volume<G>) -> Result<(), Refusal> {
+        for page in SETUP.pages..GROWN {
+            shared.extend(rt, page + 1)?;
+            self.add_to(rt, shared, PageNo(page))?;
         }
         Ok(())
     }
@@ -96,6 +121,7 @@ fn work<G: Ledger + Send + Sync, R: Threads + Wait + Sync>(
                     hand.ended = match i {
                         0 => flush(rt, shared),
                         1 => repair(rt, shared),
+                        2 => hand.grow(rt, shared),
                         _ => hand.add(rt, shared),
                     };
                 },
@@ -106,18 +132,21 @@ fn work<G: Ledger + Send + Sync, R: Threads + Wait + Sync>(
     copied.ok()
 }
 
-/// Whether the pages are those that plain redo of the log makes, with the sum of the day.
+/// Whether the pages are those that plain redo of the log makes, with the sums of the day.
 fn are_redone(pages: &[Page], plain: &[Page]) -> bool {
-    let sum = (HANDS as u64 - 2) * ROUNDS;
+    let sum = (HANDS as u64 - 3) * ROUNDS;
     let is_summed = pages
         .iter()
         .any(|page| page.number == PAGE && page.slots[0] == sum);
-    pages == plain && is_summed
+    let are_added = pages
+        .iter()
+        .all(|page| page.number.0 < SETUP.pages || page.slots[0] == 1);
+    pages == plain && is_summed && are_added
 }
 
 /// Whether the second copy restores what the log says; None where memory is refused.
 fn restores(rt: &(impl Threads + Sync), alloc: Global, retired: Retired) -> Option<bool> {
-    let mut plain = formatted_pages(alloc, SETUP.pages).ok()?;
+    let mut plain = formatted_pages(alloc, GROWN).ok()?;
     for record in retired.log().records() {
         for page in plain.iter_mut() {
             record.redo_on(page);

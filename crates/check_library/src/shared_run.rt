@@ -109,6 +109,17 @@ fn checkpoint<G: Ledger>(rt: &impl Wait, shared: &Volume<G>, again: &mut bool) -
     pointed.ok()
 }
 
+/// Adds a page to the volume.
+fn grow<G: Ledger>(rt: &impl Wait, shared: &Volume<G>, again: &mut bool) -> Option<()> {
+    let count = SETUP.pages + 1;
+    let mut grown = shared.extend(rt, count);
+    if was_refused(&grown, again) {
+        grown = shared.extend(rt, count);
+    }
+    grown.ok()?;
+    Some(())
+}
+
 /// What a full copy of this id answers, with all pages.
 fn copied_as(number: u32) -> Work {
     Work::Copied {
@@ -232,6 +243,7 @@ fn run<G: Ledger + Send + Sync, R: Threads + Wait + Sync>(
     }
     flush(rt, &shared, again)?;
     let last = checkpoint(rt, &shared, again)?;
+    grow(rt, &shared, again)?;
     let (copied, number) = copy(rt, alloc, &shared, again)?;
     let (mut sessions, mut works) = match rooms(alloc) {
         Some(rooms) => rooms,

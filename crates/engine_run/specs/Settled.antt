@@ -4,6 +4,7 @@ use Rattle.std.specs.Prelude.{ℕ, ◌≡◌, ◌<◌, ◌++◌, ◌⊎◌, Bool
 use Rattle.std.specs.Prelude.{slice_index_or, Option, Some, None, IsSomeAnd}
 use Rattle.std.specs.List.{All, filter_map, sum_by}
 use Rattle.log_records.specs.declared.record.Record.{Record}
+use Rattle.log_records.specs.Log.{Log}
 use Rattle.copy_vault.specs.declared.copy_id.CopyKind.{CopyKind}
 use Rattle.copy_vault.specs.Copy.{CopyView, taken_count}
 use Rattle.copy_vault.specs.Vault.{CopyState, complete_of, state_of}
@@ -15,7 +16,7 @@ use Rattle.settlement.specs.Marks.{AreMarked}
 use Rattle.settlement.specs.Receipt.{times, written}
 use Rattle.settlement.specs.Session.{AllStand}
 use Rattle.settlement.specs.Sessions.{AreApart, AreWrongAt, all_receipts}
-use Rattle.aries_core.specs.EngineState.{EngineState}
+use Rattle.aries_core.specs.EngineState.{EngineState, log_of}
 use Rattle.engine_run.specs.declared.fault.SettleFault.{SettleFault}
 use Rattle.engine_run.specs.declared.fault.SettleFault.TheVariants.{OutOfMemory, Unsettled}
 use Rattle.engine_run.specs.declared.work.Work.{Work}
@@ -24,11 +25,11 @@ use Rattle.engine_run.specs.declared.work.Work.TheVariants.{Copied, Pointed}
 
 -- what a run leaves: its log, the LSN below which each record is forced, and its image copies
 pub record Evidence : Type 0 where
-  pub log : List Record
+  pub log : Log
   pub forced_end : ℕ
   pub copies : List CopyState
 
-abbrev pub evidence : List Record → ℕ → List CopyState → Evidence
+abbrev pub evidence : Log → ℕ → List CopyState → Evidence
 evidence log forced_end copies = record {
   log = log;
   forced_end = forced_end;
@@ -36,19 +37,20 @@ evidence log forced_end copies = record {
 }
 
 abbrev pub evidence_of : EngineState → Evidence
-evidence_of s = evidence s.log s.forced_end s.copies
+evidence_of s = evidence (log_of s) s.forced_end s.copies
 
 abbrev pub evidence_in : RetiredView → Evidence
-evidence_in it = evidence it.log.records it.forced_end it.copies
+evidence_in it = evidence it.log it.forced_end it.copies
 
 -- the copy is of this kind, with its parent, and took so many pages
 abbrev pub IsCopyWith : CopyKind → ℕ → CopyView → Type 0
 IsCopyWith kind taken copy = (copy.kind ≡ kind) × (taken_count copy.pages ≡ taken)
 
--- the log has the checkpoint of a Point, and the vault the complete copy
+-- the log has the checkpoint of a Point, with its redo point and page count, and the vault the
+-- complete copy
 abbrev pub WorkStands : Evidence → Work → Type 0
 WorkStands e (Pointed point) =
-    HasCheckpoint e.log e.forced_end point.begin point.end point.redo
+    HasCheckpoint e.log e.forced_end point.begin point.end point.redo point.pages
 WorkStands e (Copied id kind taken) =
     IsSomeAnd (complete_of (state_of e.copies id)) (IsCopyWith kind taken)
 
@@ -76,8 +78,8 @@ AddUp sessions rs = sum_by changes_in sessions ≡ updates_in rs
 -- each Point and copy; and nothing was answered twice
 pub record IsSettled (e : Evidence) (sessions : List (List Receipt)) (works : List Work)
     : Type 0 where
-  pub counted : AddUp sessions e.log
-  pub receipts : All (AllStand e.log e.forced_end) sessions
+  pub counted : AddUp sessions e.log.records
+  pub receipts : All (AllStand e.log.records e.forced_end) sessions
   pub work : All (WorkStands e) works
   pub lsns : AreApart (lsns_of sessions works)
   pub copies : AreApart (copies_of works)
@@ -113,11 +115,11 @@ IsWorkBad e marks given (Copied id kind taken) at =
 -- it; or it is 0, and a copy does not stand or comes twice
 abbrev pub IsWrongAt : Evidence → List (List Receipt) → List Work → ℕ → Type 0
 IsWrongAt e sessions works at =
-    ((¬ AddUp sessions e.log) × (at ≡ 0))
-    ⊎ (AddUp sessions e.log × (AreWrongAt e.log e.forced_end sessions at
+    ((¬ AddUp sessions e.log.records) × (at ≡ 0))
+    ⊎ (AddUp sessions e.log.records × (AreWrongAt e.log.records e.forced_end sessions at
     ⊎ IsWorkWrongAt e (written (all_receipts sessions)) works at))
 
 -- what a refusal tells: memory is asked for once the shares were compared
 abbrev pub IsFaultOf : Evidence → List (List Receipt) → List Work → SettleFault → Type 0
-IsFaultOf e sessions works OutOfMemory = AddUp sessions e.log
+IsFaultOf e sessions works OutOfMemory = AddUp sessions e.log.records
 IsFaultOf e sessions works (Unsettled at) = IsWrongAt e sessions works at

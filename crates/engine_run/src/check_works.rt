@@ -13,9 +13,8 @@ ghost use Rattle.engine_run.specs.Settled.{begin_of, copies_of, evidence};
 
 use crate::work::Work;
 use copy_vault::{CopyId, CopyKind, Vault};
-use log_records::Record;
 use page_core::Lsn;
-use settlement::mark_checkpoint;
+use settlement::{CountedLog, mark_checkpoint};
 
 /// Checks what checkpoints and copies answered. `marks` are those of the records that receipts
 /// speak of, and `given` those of ids of copies. An `Err` has the begin LSN of a Point that does
@@ -23,25 +22,25 @@ use settlement::mark_checkpoint;
 pub(crate) fn check_works(
     marks: &mut [bool],
     given: &mut [bool],
-    records: &[Record],
+    log: &CountedLog<'_>,
     forced_end: Lsn,
     vault: &Vault,
     works: &[Work],
 ) -> Result<(), Lsn>
-    requires lengths { length marks.old ≡ length records.now }
+    requires lengths { length marks.old ≡ length log.now.records }
     requires few { length vault.now.copies < length given.old }
     requires none { AreGiven given.old [] }
-    ensures ok { let e = evidence records.now forced_end vault.now.copies in
+    ensures ok { let e = evidence log.now forced_end vault.now.copies in
         OnOk result (All (WorkStands e) works.now) }
     ensures lsns { OnOk result ((lsns : List ℕ) → AreMarked marks.old lsns
         → AreApart (lsns ++ filter_map begin_of works.now)) }
     ensures copies { OnOk result (AreApart (copies_of works.now)) }
-    ensures err { let e = evidence records.now forced_end vault.now.copies in
+    ensures err { let e = evidence log.now forced_end vault.now.copies in
         IfErr result (λ at. (lsns : List ℕ) → AreMarked marks.old lsns
         → IsWorkWrongAt e lsns works.now at) }
 {
     for work in works {
-        if let Err(at) = check_work(marks, given, records, forced_end, vault, work) {
+        if let Err(at) = check_work(marks, given, log, forced_end, vault, work) {
             return Err(at);
         }
     }
@@ -52,20 +51,20 @@ pub(crate) fn check_works(
 fn check_work(
     marks: &mut [bool],
     given: &mut [bool],
-    records: &[Record],
+    log: &CountedLog<'_>,
     forced_end: Lsn,
     vault: &Vault,
     work: &Work,
 ) -> Result<(), Lsn>
-    requires lengths { length marks.old ≡ length records.now }
+    requires lengths { length marks.old ≡ length log.now.records }
     requires few { length vault.now.copies < length given.old }
-    ensures ok { let e = evidence records.now forced_end vault.now.copies in
+    ensures ok { let e = evidence log.now forced_end vault.now.copies in
         OnOk result (WorkStands e work.now) }
     ensures marked { OnOk result ((lsns : List ℕ) → AreMarked marks.old lsns
         → AreMarked marks.new (lsns ++ filter_map begin_of (work.now ∷ []))) }
     ensures given { OnOk result ((ids : List ℕ) → AreGiven given.old ids
         → AreGiven given.new (ids ++ copies_of (work.now ∷ []))) }
-    ensures err { let e = evidence records.now forced_end vault.now.copies in
+    ensures err { let e = evidence log.now forced_end vault.now.copies in
         IfErr result (IsWorkBad e marks.old given.old work.now) }
     ensures marks { length marks.new ≡ length marks.old }
     ensures ids { length given.new ≡ length given.old }
@@ -73,11 +72,12 @@ fn check_work(
     match *work {
         Work::Pointed(point) => {
             if mark_checkpoint(
-                records,
+                log,
                 forced_end,
                 point.begin,
                 point.end,
                 point.redo,
+                point.pages,
                 marks,
             ) {
                 Ok(())

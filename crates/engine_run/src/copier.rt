@@ -20,16 +20,6 @@ use std::thread;
 use std::thread::{Scope, Threads};
 
 impl<S: PageStore, D: LogDevice, G: Ledger> Shared<S, D, G> {
-    /// Opens a copy, and answers its id and the page count of the volume.
-    fn open_copy(&self, rt: &impl Wait, kind: &CopyKind) -> Result<(CopyId, u32), Refusal> {
-        let mut held = self.held.lock(rt);
-        let id = match *kind {
-            CopyKind::Full => held.copy_full()?,
-            CopyKind::Inc(parent) => held.copy_inc(parent)?,
-        };
-        Ok((id, held.pages()))
-    }
-
     /// What one worker does: it takes the pages that it claims, one hold a page, until none is left
     /// or a take is refused.
     fn take_claimed(
@@ -70,10 +60,13 @@ impl<S: PageStore, D: LogDevice, G: Ledger> Shared<S, D, G> {
 
 impl<S: PageStore + Send, D: LogDevice + Send, G: Ledger + Send + Sync> Shared<S, D, G> {
     /// Makes an image copy by so many workers, in threads of their own. The first hold opens the
-    /// copy; each page is one hold, and so is the end. Refusals are those of `Engine::copy_full` or
-    /// `Engine::copy_inc`; then `OutOfMemory`, also where a worker cannot be started; then the
-    /// refusal of the least-numbered worker that met one, or that of the end. After each of these
-    /// but the first the copy is dropped. All threads have ended then.
+    /// copy, which is of the pages that the volume had where its checkpoint began; each of these is
+    /// one hold, and so is the end. Pages that the volume grows by meanwhile are not taken.
+    ///
+    /// Refusals are those of `Engine::copy_full` or `Engine::copy_inc`; then `OutOfMemory`, also
+    /// where a worker cannot be started; then the refusal of the least-numbered worker that met
+    /// one, or that of the end. After each of these but the first the copy is dropped. All threads
+    /// have ended then.
     pub fn copy_with<R: Threads + Wait + Sync, H: HoldGate + Sync>(
         &self,
         rt: &R,
@@ -85,7 +78,8 @@ impl<S: PageStore + Send, D: LogDevice + Send, G: Ledger + Send + Sync> Shared<S
         requires { (1 ≤ workers) × (workers ≤ 64) }
         ensures { IfOk result (IsCopiedAs kind) }
     {
-        let (id, pages) = self.open_copy(rt, &kind)?;
+        let opened = self.held.lock(rt).open_copy(&kind);
+        let (id, pages) = opened?;
         let ended = match self.take_all(rt, alloc, (id, pages), workers, gate) {
             Ok(()) => self.held.lock(rt).seal(id),
             Err(why) => Err(why),
@@ -133,7 +127,7 @@ impl<S: PageStore + Send, D: LogDevice + Send, G: Ledger + Send + Sync> Shared<S
         true
     }
 
-    /// Has the workers take each page of the volume.
+    /// Has the workers take each page of the copy.
     fn take_all<R: Threads + Wait + Sync, H: HoldGate + Sync>(
         &self,
         rt: &R,

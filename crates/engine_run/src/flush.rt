@@ -8,7 +8,7 @@ use crate::shared::Shared;
 use crate::work::Work;
 use aries_core::{Gathered, Refusal};
 use log_store::LogDevice;
-use page_core::PageNo;
+use page_core::{MAX_PAGES, PageNo};
 use page_store::PageStore;
 use std::sync::Wait;
 use std::sync::ledger::Ledger;
@@ -16,11 +16,18 @@ use std::sync::ledger::Ledger;
 impl<S: PageStore, D: LogDevice, G: Ledger> Shared<S, D, G> {
     /// Writes each page that is dirty when its turn comes, in page order, by two holds: one that
     /// begins the write, and one that ends it. A page that is clean is passed over, and so is one
-    /// whose write another flusher ended; a write that another one has begun is ended. Any other
-    /// refusal ends the pass and is answered.
+    /// whose write another flusher ended; a write that another one has begun is ended. Pages that
+    /// the volume grows by meanwhile have their turn, too. Any other refusal ends the pass and is
+    /// answered.
     pub fn flush_pass(&self, rt: &impl Wait, gate: &impl HoldGate) -> Result<(), Refusal> {
-        let pages = self.held.lock(rt).pages();
-        for number in 0..pages {
+        let mut pages = 0;
+        for number in 0..MAX_PAGES {
+            if number >= pages {
+                pages = self.held.lock(rt).pages();
+            }
+            if number >= pages {
+                break;
+            }
             self.flush(rt, gate, PageNo(number))?;
         }
         Ok(())

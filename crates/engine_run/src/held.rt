@@ -81,10 +81,10 @@ impl<S: PageStore, D: LogDevice, G: Ledger> Held<S, D, G> {
             → self.new.engine.store ≡ self.old.engine.store }
         ensures store_refused { IfErr result (λ why. ¬ IsByStore why
             → self.new.engine.store ≡ self.old.engine.store) }
-        ensures asked { OnOk result (Asks S.gave S.wrote
+        ensures asked { OnOk result (Asks S.gave S.wrote S.grew
             (asked self.old.engine.state (event.Set txn page slot number)) self.old.engine
             self.new.engine) }
-        ensures failed { IfErr result (λ why. IsByStore why → FailsAsking S.gave S.wrote
+        ensures failed { IfErr result (λ why. IsByStore why → FailsAsking S.gave S.wrote S.grew
             (asked self.old.engine.state (event.Set txn page slot number)) self.old.engine
             self.new.engine) }
         ensures no_store_failure { OnOk result
@@ -117,10 +117,10 @@ impl<S: PageStore, D: LogDevice, G: Ledger> Held<S, D, G> {
             → self.new.engine.store ≡ self.old.engine.store }
         ensures store_refused { IfErr result (λ why. ¬ IsByStore why
             → self.new.engine.store ≡ self.old.engine.store) }
-        ensures asked { OnOk result (Asks S.gave S.wrote
+        ensures asked { OnOk result (Asks S.gave S.wrote S.grew
             (asked self.old.engine.state (event.Add txn page slot amount)) self.old.engine
             self.new.engine) }
-        ensures failed { IfErr result (λ why. IsByStore why → FailsAsking S.gave S.wrote
+        ensures failed { IfErr result (λ why. IsByStore why → FailsAsking S.gave S.wrote S.grew
             (asked self.old.engine.state (event.Add txn page slot amount)) self.old.engine
             self.new.engine) }
         ensures no_store_failure { OnOk result
@@ -147,10 +147,10 @@ impl<S: PageStore, D: LogDevice, G: Ledger> Held<S, D, G> {
             → self.new.engine.store ≡ self.old.engine.store }
         ensures store_refused { IfErr result (λ why. ¬ IsByStore why
             → self.new.engine.store ≡ self.old.engine.store) }
-        ensures asked { OnOk result (Asks S.gave S.wrote
+        ensures asked { OnOk result (Asks S.gave S.wrote S.grew
             (asked self.old.engine.state (event.Read page slot)) self.old.engine
             self.new.engine) }
-        ensures failed { IfErr result (λ why. IsByStore why → FailsAsking S.gave S.wrote
+        ensures failed { IfErr result (λ why. IsByStore why → FailsAsking S.gave S.wrote S.grew
             (asked self.old.engine.state (event.Read page slot)) self.old.engine
             self.new.engine) }
         ensures no_store_failure { OnOk result
@@ -203,10 +203,10 @@ impl<S: PageStore, D: LogDevice, G: Ledger> Held<S, D, G> {
             → self.new.engine.store ≡ self.old.engine.store }
         ensures store_refused { IfErr result (λ why. ¬ IsByStore why
             → self.new.engine.store ≡ self.old.engine.store) }
-        ensures asked { OnOk result (Asks S.gave S.wrote
+        ensures asked { OnOk result (Asks S.gave S.wrote S.grew
             (asked self.old.engine.state (event.UndoStep txn)) self.old.engine
             self.new.engine) }
-        ensures failed { IfErr result (λ why. IsByStore why → FailsAsking S.gave S.wrote
+        ensures failed { IfErr result (λ why. IsByStore why → FailsAsking S.gave S.wrote S.grew
             (asked self.old.engine.state (event.UndoStep txn)) self.old.engine
             self.new.engine) }
         ensures no_store_failure { OnOk result
@@ -236,10 +236,10 @@ impl<S: PageStore, D: LogDevice, G: Ledger> Held<S, D, G> {
             → self.new.engine.store ≡ self.old.engine.store }
         ensures store_refused { IfErr result (λ why. ¬ IsByStore why
             → self.new.engine.store ≡ self.old.engine.store) }
-        ensures asked { OnOk result (Asks S.gave S.wrote
+        ensures asked { OnOk result (Asks S.gave S.wrote S.grew
             (asked self.old.engine.state (event.UndoTo txn savepoint)) self.old.engine
             self.new.engine) }
-        ensures failed { IfErr result (λ why. IsByStore why → FailsAsking S.gave S.wrote
+        ensures failed { IfErr result (λ why. IsByStore why → FailsAsking S.gave S.wrote S.grew
             (asked self.old.engine.state (event.UndoTo txn savepoint)) self.old.engine
             self.new.engine) }
         ensures no_store_failure { OnOk result

@@ -1,6 +1,8 @@
-//! The calls of a shared engine that write pages, take checkpoints and make copies.
+//! The calls of a shared engine that write pages, take checkpoints and make copies, and that grow
+//! its volume.
 
-ghost use Rattle.std.specs.Prelude.{ℕ, ◌≡◌, ◌<◌, ◌≤◌, IfErr, IfOk, OnErr, OnOk};
+ghost use Rattle.std.specs.Prelude.{ℕ, ◌≡◌, ◌<◌, ◌≤◌, length, IfErr, IfOk, OnErr, OnOk};
+ghost use Rattle.copy_vault.specs.Vault.{pages_read, state_of};
 ghost use Rattle.aries_core.specs.Asked.{Asks, FailsAsking, asked};
 ghost use Rattle.aries_core.specs.EngineState.{end};
 ghost use Rattle.aries_core.specs.Step.{FailsForcing, Forces, IsByDevice, IsByStore, Step};
@@ -8,10 +10,11 @@ ghost use Rattle.aries_core.specs.Step.{reply_of};
 ghost use Rattle.aries_core.specs.Step.{gather_answer, took_answer};
 ghost use Rattle.aries_core.specs.declared.event.Answer.TheVariants as answer;
 ghost use Rattle.aries_core.specs.declared.event.Event.TheVariants as event;
+ghost use Rattle.engine_run.specs.Work.{copy_event};
 
 use crate::held::Held;
 use aries_core::{Gathered, Refusal, Took};
-use copy_vault::CopyId;
+use copy_vault::{CopyId, CopyKind};
 use fuzzy_ckpt::Point;
 use log_store::LogDevice;
 use page_core::{Lsn, PageNo};
@@ -67,10 +70,10 @@ impl<S: PageStore, D: LogDevice, G: Ledger> Held<S, D, G> {
         ensures device { self.new.engine.device ≡ self.old.engine.device }
         ensures refused { IfErr result (λ why. ¬ IsByStore why
             → self.new.engine.store ≡ self.old.engine.store) }
-        ensures asked { OnOk result (Asks S.gave S.wrote
+        ensures asked { OnOk result (Asks S.gave S.wrote S.grew
             (asked self.old.engine.state (event.WriteEnd page)) self.old.engine
             self.new.engine) }
-        ensures failed { IfErr result (λ why. IsByStore why → FailsAsking S.gave S.wrote
+        ensures failed { IfErr result (λ why. IsByStore why → FailsAsking S.gave S.wrote S.grew
             (asked self.old.engine.state (event.WriteEnd page)) self.old.engine
             self.new.engine) }
         ensures no_failure { OnOk result
@@ -143,6 +146,31 @@ impl<S: PageStore, D: LogDevice, G: Ledger> Held<S, D, G> {
         self.engine.copy_inc(parent)
     }
 
+    /// Begins an image copy of a kind, by `copy_full` or `copy_inc`, and answers its id and how
+    /// many pages it is of. The volume may have more.
+    pub(crate) fn open_copy(&mut self, kind: &CopyKind) -> Result<(CopyId, u32), Refusal>
+        ensures step { Step self.old.engine.state (copy_event kind.now)
+            (reply_of (λ a. answer.Copied a.0) result) self.new.engine.state }
+        ensures pages { IfOk result (λ a.
+            a.1 ≡ length (pages_read (state_of self.new.engine.state.copies a.0))) }
+    {
+        let id = match *kind {
+            CopyKind::Full => self.copy_full()?,
+            CopyKind::Inc(parent) => self.copy_inc(parent)?,
+        };
+        Ok((id, self.copy_pages(id)))
+    }
+
+    /// How many pages a copy is of that is being read, and 0 where there is none of this id.
+    fn copy_pages(&self, copy: CopyId) -> u32
+        ensures { result ≡ length (pages_read (state_of self.now.engine.state.copies copy)) }
+    {
+        match self.engine.copies().reading(copy) {
+            Some(reading) => reading.pages(),
+            None => 0,
+        }
+    }
+
     /// Has a copy decide of a page as it is stored, as `Engine::take` does.
     pub fn take(&mut self, copy: CopyId, page: PageNo) -> Result<Took, Refusal>
         ensures step { Step self.old.engine.state (event.Take copy page)
@@ -150,10 +178,10 @@ impl<S: PageStore, D: LogDevice, G: Ledger> Held<S, D, G> {
         ensures device { self.new.engine.device ≡ self.old.engine.device }
         ensures store_refused { IfErr result (λ why. ¬ IsByStore why
             → self.new.engine.store ≡ self.old.engine.store) }
-        ensures asked { OnOk result (Asks S.gave S.wrote
+        ensures asked { OnOk result (Asks S.gave S.wrote S.grew
             (asked self.old.engine.state (event.Take copy page)) self.old.engine
             self.new.engine) }
-        ensures failed { IfErr result (λ why. IsByStore why → FailsAsking S.gave S.wrote
+        ensures failed { IfErr result (λ why. IsByStore why → FailsAsking S.gave S.wrote S.grew
             (asked self.old.engine.state (event.Take copy page)) self.old.engine
             self.new.engine) }
         ensures no_store_failure { OnOk result
@@ -208,10 +236,10 @@ impl<S: PageStore, D: LogDevice, G: Ledger> Held<S, D, G> {
 
         ensures store_refused { IfErr result (λ why. ¬ IsByStore why
             → self.new.engine.store ≡ self.old.engine.store) }
-        ensures asked { OnOk result (Asks S.gave S.wrote
+        ensures asked { OnOk result (Asks S.gave S.wrote S.grew
             (asked self.old.engine.state (event.Repair copy page)) self.old.engine
             self.new.engine) }
-        ensures failed { IfErr result (λ why. IsByStore why → FailsAsking S.gave S.wrote
+        ensures failed { IfErr result (λ why. IsByStore why → FailsAsking S.gave S.wrote S.grew
             (asked self.old.engine.state (event.Repair copy page)) self.old.engine
             self.new.engine) }
         ensures no_store_failure { OnOk result
@@ -220,5 +248,27 @@ impl<S: PageStore, D: LogDevice, G: Ledger> Held<S, D, G> {
             → S.failures self.old.engine.store < S.failures self.new.engine.store) }
     {
         self.engine.repair(copy, page)
+    }
+
+    /// Grows the volume to so many pages, as `Engine::extend` does. An Extend is no change of a
+    /// session, so no share counts it.
+    pub fn extend(&mut self, count: u32) -> Result<Lsn, Refusal>
+        ensures step { Step self.old.engine.state (event.Extend count)
+            (reply_of answer.Logged result) self.new.engine.state }
+        ensures device { self.new.engine.device ≡ self.old.engine.device }
+        ensures store_refused { IfErr result (λ why. ¬ IsByStore why
+            → self.new.engine.store ≡ self.old.engine.store) }
+        ensures asked { OnOk result (Asks S.gave S.wrote S.grew
+            (asked self.old.engine.state (event.Extend count)) self.old.engine
+            self.new.engine) }
+        ensures failed { IfErr result (λ why. IsByStore why → FailsAsking S.gave S.wrote S.grew
+            (asked self.old.engine.state (event.Extend count)) self.old.engine
+            self.new.engine) }
+        ensures no_store_failure { OnOk result
+            (S.failures self.new.engine.store ≡ S.failures self.old.engine.store) }
+        ensures store_cause { IfErr result (λ why. IsByStore why
+            → S.failures self.old.engine.store < S.failures self.new.engine.store) }
+    {
+        self.engine.extend(count)
     }
 }

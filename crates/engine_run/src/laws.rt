@@ -45,8 +45,8 @@ pub fn a_free_lock_guards_a_fit_engine<S: PageStore, D: LogDevice, G: Ledger>(he
 /// what *settled* says.
 pub fn each_change_was_answered_once()
     ensures { (e : Evidence) (sessions : List (List Receipt)) (works : List Work)
-        → IsSettled e sessions works → (i : ℕ) (d : Record) → i < length e.log
-        → is_update (slice_index_or e.log i d) ≡ true
+        → IsSettled e sessions works → (i : ℕ) (d : Record) → i < length e.log.records
+        → is_update (slice_index_or e.log.records i d) ≡ true
         → times (lsn_of i) (changed (all_receipts sessions)) ≡ 1 }
 {}
 

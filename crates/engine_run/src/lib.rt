@@ -4,6 +4,7 @@
 mod check_sessions;
 mod check_works;
 mod copier;
+mod extend;
 mod fault;
 mod flush;
 mod gate;

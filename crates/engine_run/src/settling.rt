@@ -18,10 +18,10 @@ use crate::shared::Shared;
 use crate::work::Work;
 use copy_coverage::Retired;
 use copy_vault::Vault;
-use log_records::Record;
 use log_store::LogDevice;
 use page_core::Lsn;
 use page_store::PageStore;
+use settlement::CountedLog;
 use std::alloc::Global;
 use std::sync::ledger::Ledger;
 
@@ -57,10 +57,13 @@ impl<S: PageStore, D: LogDevice, G: Ledger> Held<S, D, G> {
         let Ok(room) = Room::new(alloc, log.pages(), records.len()) else {
             return Err(SettleFault::OutOfMemory);
         };
+        let Ok(counted) = CountedLog::new(alloc, log.header_pages(), records) else {
+            return Err(SettleFault::OutOfMemory);
+        };
         // A fit engine has no more copies than there are ids.
         let _end = self.engine.log_end();
         let copies = self.engine.copies();
-        match check_answers(room, records, log.forced_end(), copies, sessions, works) {
+        match check_answers(room, &counted, log.forced_end(), copies, sessions, works) {
             Ok(()) => Ok(()),
             Err(at) => Err(SettleFault::Unsettled(at)),
         }
@@ -70,20 +73,20 @@ impl<S: PageStore, D: LogDevice, G: Ledger> Held<S, D, G> {
 /// Checks what sessions, checkpoints and copies were answered against what a run left.
 fn check_answers<G: Ledger>(
     room: Room,
-    records: &[Record],
+    log: &CountedLog<'_>,
     forced_end: Lsn,
     vault: &Vault,
     sessions: &[Session<G>],
     works: &[Work],
 ) -> Result<(), Lsn>
-    requires log { AreOfVolume (length room.pages.items) records.now }
-    requires marks { room.marks.items ≡ replicate (length records.now) false }
+    requires log { AreOfVolume (length room.pages.items) log.now.records }
+    requires marks { room.marks.items ≡ replicate (length log.now.records) false }
     requires ids { room.copies.items ≡ replicate 1025 false }
     requires few { length vault.now.copies ≤ 1024 }
-    requires counted { AddUp sessions.now records.now }
-    ensures ok { let e = evidence records.now forced_end vault.now.copies in
+    requires counted { AddUp sessions.now log.now.records }
+    ensures ok { let e = evidence log.now forced_end vault.now.copies in
         OnOk result (IsSettled e sessions.now works.now) }
-    ensures err { let e = evidence records.now forced_end vault.now.copies in
+    ensures err { let e = evidence log.now forced_end vault.now.copies in
         IfErr result (IsWrongAt e sessions.now works.now) }
 {
     let Room {
@@ -92,10 +95,11 @@ fn check_answers<G: Ledger>(
         mut copies,
     } = room;
     let marks = marks.as_mut_slice();
+    let records = log.records();
     if let Err(at) = check_sessions(&mut pages, marks, records, forced_end, sessions) {
         return Err(at);
     }
-    if let Err(at) = check_works(marks, &mut copies, records, forced_end, vault, works) {
+    if let Err(at) = check_works(marks, &mut copies, log, forced_end, vault, works) {
         return Err(at);
     }
     Ok(())

@@ -224,6 +224,14 @@ impl<D: LogDevice> Log<D> {
         self.count
     }
 
+    /// The page count that the log's header gives: how many pages the volume had before the first
+    /// record.
+    pub fn header_pages(&self) -> u32
+        ensures { result ≡ self.now.log.pages }
+    {
+        self.pages
+    }
+
     /// The log's device.
     pub fn device(&self) -> &D
         ensures device { result.now ≡ self.now.device }

@@ -4,4 +4,5 @@ pub mod Marking
 pub mod Below
 pub mod Sessions
 pub mod Changed
+pub mod Counted
 pub mod Kept

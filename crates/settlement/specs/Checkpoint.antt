@@ -2,6 +2,7 @@
 use Rattle.std.specs.Prelude.{ℕ, ◌≡◌, ◌<◌, List}
 use Rattle.log_records.specs.declared.record.Record.{Record}
 use Rattle.log_records.specs.declared.record.Record.TheVariants as log
+use Rattle.log_records.specs.Log.{Log, page_count_below}
 use Rattle.settlement.specs.Receipt.{HasAt}
 
 abbrev pub IsBegin : Record → Type 0
@@ -38,7 +39,8 @@ pub record HasForced (rs : List Record) (forced_end lsn : ℕ) (IsSuch : Record 
   pub forced : lsn < forced_end
 
 -- the log has the BeginChkpt and the EndChkpt of this checkpoint, with its redo point, and both are
--- forced
-pub record HasCheckpoint (rs : List Record) (forced_end begin end redo : ℕ) : Type 0 where
-  pub begun : HasForced rs forced_end begin IsBegin
-  pub ended : HasForced rs forced_end end (IsEndOf begin redo)
+-- forced; and the volume had so many pages at the BeginChkpt
+pub record HasCheckpoint (log : Log) (forced_end begin end redo pages : ℕ) : Type 0 where
+  pub begun : HasForced log.records forced_end begin IsBegin
+  pub ended : HasForced log.records forced_end end (IsEndOf begin redo)
+  pub same_pages : pages ≡ page_count_below log begin

@@ -1,4 +1,5 @@
 pub mod Checkpoint
+pub mod CountedLog
 pub mod Counts
 pub mod Marks
 pub mod Receipt

@@ -8,31 +8,38 @@ ghost use Rattle.log_records.specs.Log.{lsn_of};
 ghost use Rattle.settlement.specs.Receipt.{times};
 ghost use Rattle.std.specs.Prelude.{IfSome, IfNone};
 
+use crate::counted_log::CountedLog;
 use crate::marks::index_of;
 use log_records::Record;
 use page_core::Lsn;
 
 /// Says whether the log has the BeginChkpt and the EndChkpt of a checkpoint, with this redo point
-/// and forced, and whether the BeginChkpt was not marked yet. If so, it is marked now.
+/// and forced, whether the volume had so many pages at the BeginChkpt, and whether that was not
+/// marked yet. If so, it is marked now.
 pub fn mark_checkpoint(
-    records: &[Record],
+    log: &CountedLog<'_>,
     forced_end: Lsn,
     begin: Lsn,
     end: Lsn,
     redo: Lsn,
+    pages: u32,
     marks: &mut [bool],
 ) -> bool
-    requires lengths { length marks.old ≡ length records.now }
-    ensures yes { result ≡ true → HasCheckpoint records.now forced_end begin end redo }
+    requires lengths { length marks.old ≡ length log.now.records }
+    ensures yes { result ≡ true → HasCheckpoint log.now forced_end begin end redo pages }
     ensures marked { result ≡ true → (lsns : List ℕ) → AreMarked marks.old lsns
         → AreMarked marks.new (lsns ++ begin ∷ []) }
-    ensures no { result ≡ false → (¬ HasCheckpoint records.now forced_end begin end redo)
+    ensures no { result ≡ false → (¬ HasCheckpoint log.now forced_end begin end redo pages)
         ⊎ ((lsns : List ℕ) → AreMarked marks.old lsns → 0 < times begin lsns) }
     ensures same_length { length marks.new ≡ length marks.old }
 {
+    let records = log.records();
     let Some(index) = begin_index(records, forced_end, begin) else {
         return false;
     };
+    if log.count_below(begin) != pages {
+        return false;
+    }
     if !has_end(records, forced_end, begin, redo, end) {
         return false;
     }

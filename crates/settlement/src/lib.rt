@@ -2,6 +2,7 @@
 #![tactic(auto)]
 
 mod checkpoints;
+mod counted_log;
 mod marks;
 mod order;
 mod reads;
@@ -9,6 +10,7 @@ mod receipt;
 mod session_check;
 
 pub use checkpoints::mark_checkpoint;
+pub use counted_log::CountedLog;
 pub use marks::mark_records;
 pub use order::check_order;
 pub use reads::check_reads;

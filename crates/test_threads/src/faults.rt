@@ -46,7 +46,7 @@ fn engine_over<G: Ledger, R: Wait + Abort + AllocGlobal>(
     };
     let device = MemDevice::new(rt.alloc(), 64).expect(rt, "a device");
     let shared = Volume::<G>::new(rt.alloc(), blank, setup, store, device).expect(rt, "an engine");
-    assert_eq!(rt; shared.checkpoint(rt, &OpenGate), Ok(first_point()));
+    assert_eq!(rt; shared.checkpoint(rt, &OpenGate), Ok(first_point(pages)));
     shared
 }
 
@@ -74,7 +74,7 @@ fn copy_again<G: Ledger + Send + Sync, R: Threads + Wait + Abort + AllocGlobal +
     let _ = settled(
         rt,
         Vec::new(rt.alloc()),
-        &[first_point(), full_copy(2)],
+        &[first_point(8), full_copy(2)],
         shared,
     );
 }
@@ -111,7 +111,7 @@ fn repair_page<G: Ledger + Send + Sync, R: Threads + Wait + Abort + AllocGlobal 
     assert_copy(rt, &shared, CopyKind::Full, 1, Err(Refusal::StoreFault));
     assert_eq!(rt; shared.repair(rt, CopyId(1), PageNo(0)), Ok(Lsn(256)));
     assert_copy(rt, &shared, CopyKind::Full, 1, Ok(copied(3, 2)));
-    let works = [first_point(), copied(1, 2), copied(3, 2)];
+    let works = [first_point(2), copied(1, 2), copied(3, 2)];
     let _ = settled(rt, only(rt, session), &works, shared);
 }
 

@@ -34,6 +34,11 @@ fn volume_of_one<G: Ledger, R: Wait + Abort + AllocGlobal>(
     (shared, session)
 }
 
+/// What a checkpoint of this volume answers.
+fn point_of_one(begin: u64, end: u64, redo: u64) -> Work {
+    pointed(begin, end, redo, 1)
+}
+
 /// Settles a run of one session.
 fn settle_one<G: Ledger>(
     rt: &(impl Abort + AllocGlobal),
@@ -86,8 +91,8 @@ fn change_behind_the_cursor<
     );
     gate.assert_opened(rt);
     assert_eq!(rt; lsn, Ok(Lsn(192)));
-    assert_eq!(rt; work, Ok(pointed(128, 320, 128)));
-    settle_one(rt, session, &[pointed(128, 320, 128)], shared);
+    assert_eq!(rt; work, Ok(point_of_one(128, 320, 128)));
+    settle_one(rt, session, &[point_of_one(128, 320, 128)], shared);
 }
 
 /// A change while its page is written: the second hold of a flush pass waits until page 0 was
@@ -112,8 +117,8 @@ fn change_during_a_write<G: Ledger + Send + Sync, R: Threads + Wait + Abort + Al
     assert_eq!(rt; lsn, Ok(Lsn(192)));
     assert_eq!(rt; pass, Ok(()));
     let work = shared.checkpoint(rt, &OpenGate);
-    assert_eq!(rt; work, Ok(pointed(256, 448, 192)));
-    settle_one(rt, session, &[pointed(256, 448, 192)], shared);
+    assert_eq!(rt; work, Ok(point_of_one(256, 448, 192)));
+    settle_one(rt, session, &[point_of_one(256, 448, 192)], shared);
 }
 
 /// What a repair of the page answers while a hold waits at the gate.
@@ -140,10 +145,10 @@ fn repair_during_a_write<G: Ledger + Send + Sync, R: Threads + Wait + Abort + Al
 {
     let alloc = rt.alloc();
     let (shared, mut session) = volume_of_one::<G, R>(rt, blank);
-    let point = pointed(128, 256, 128);
+    let point = point_of_one(128, 256, 128);
     assert_eq!(rt;
         shared.checkpoint(rt, &OpenGate),
-        Ok(pointed(128, 256, 128))
+        Ok(point_of_one(128, 256, 128))
     );
     let copy = shared.copy_with(rt, alloc, CopyKind::Full, 1, &OpenGate);
     assert_eq!(rt; copy, Ok(copied(1, 1)));
@@ -173,6 +178,44 @@ fn flush_at_gate<G: Ledger>(
     pass
 }
 
+/// The volume grows by a page while a hold waits at the gate, and that page is changed.
+fn grow_at_gate<G: Ledger>(
+    rt: &(impl Wait + Abort),
+    shared: &Volume<G>,
+    session: &mut Session<G>,
+    gate: &ClosedGate,
+) {
+    gate.wait_for_hold(rt);
+    let (grown, page) = (shared.extend(rt, 2), PageNo(1));
+    let changed = session.set(rt, shared, TxnNo(1), page, SlotNo(0), 5);
+    gate.open();
+    assert_eq!(rt; grown, Ok(Lsn(128)));
+    assert_eq!(rt; changed, Ok(Lsn(192)));
+}
+
+/// A page that is added during a flush pass has its turn in it: a checkpoint finds none dirty.
+fn flush_an_added_page<G: Ledger + Send + Sync, R: Threads + Wait + Abort + AllocGlobal + Sync>(
+    rt: &R,
+    blank: Blank,
+)
+    requires name { blank.name ≡ G.name }
+    requires parts { blank.parts ≡ G.parts }
+    requires sessions { blank.parts ≡ 65 }
+{
+    let (shared, mut session) = volume_of_one::<G, R>(rt, blank);
+    let gate = ClosedGate::new(1);
+    let (pass, _) = join(
+        rt,
+        || shared.flush_pass(rt, &gate),
+        || grow_at_gate(rt, &shared, &mut session, &gate),
+    );
+    gate.assert_opened(rt);
+    assert_eq!(rt; pass, Ok(()));
+    let work = shared.checkpoint(rt, &OpenGate);
+    assert_eq!(rt; work, Ok(pointed(256, 384, 256, 2)));
+    settle_one(rt, session, &[pointed(256, 384, 256, 2)], shared);
+}
+
 /// Two flush passes of one page: the second one ends the write that the first one has begun, and
 /// the first one finds no write. Neither is refused, and the page is clean then.
 fn flush_by_two<G: Ledger + Send + Sync, R: Threads + Wait + Abort + AllocGlobal + Sync>(
@@ -195,8 +238,8 @@ fn flush_by_two<G: Ledger + Send + Sync, R: Threads + Wait + Abort + AllocGlobal
     assert_eq!(rt; second, Ok(()));
     assert_eq!(rt; first, Ok(()));
     let work = shared.checkpoint(rt, &OpenGate);
-    assert_eq!(rt; work, Ok(pointed(192, 320, 192)));
-    settle_one(rt, session, &[pointed(192, 320, 192)], shared);
+    assert_eq!(rt; work, Ok(point_of_one(192, 320, 192)));
+    settle_one(rt, session, &[point_of_one(192, 320, 192)], shared);
 }
 
 /// What a checkpoint answers while a hold of another one waits at the gate.
@@ -229,9 +272,9 @@ fn checkpoint_by_two<G: Ledger + Send + Sync, R: Threads + Wait + Abort + AllocG
         || checkpoint_at_gate(rt, &shared, &gate),
     );
     gate.assert_opened(rt);
-    assert_eq!(rt; second, Ok(pointed(128, 256, 128)));
+    assert_eq!(rt; second, Ok(point_of_one(128, 256, 128)));
     assert_eq!(rt; first, Err(Refusal::NoCkpt));
-    settle_one(rt, session, &[pointed(128, 256, 128)], shared);
+    settle_one(rt, session, &[point_of_one(128, 256, 128)], shared);
 }
 
 /// A gate is told the page of each hold of a flush pass, and page 0 at each of a checkpoint.
@@ -242,7 +285,7 @@ fn tell_gates<G: Ledger, R: Wait + Abort + AllocGlobal>(rt: &R, blank: Blank)
 {
     let mut shared = volume::<G, R>(rt, blank, 4);
     let mut session = new_session(rt, &mut shared);
-    checkpoint(rt, &shared);
+    checkpoint(rt, &shared, 4);
     session.begin(rt, &shared).expect(rt, "begin");
     session
         .set(rt, &shared, TxnNo(1), PageNo(2), SlotNo(0), 5)
@@ -254,10 +297,10 @@ fn tell_gates<G: Ledger, R: Wait + Abort + AllocGlobal>(rt: &R, blank: Blank)
     let checking = CountingGate::new(rt, 1, 4);
     // It begins, finds no dirty page, records a transaction, finds no other one, and ends.
     let work = shared.checkpoint(rt, &checking);
-    assert_eq!(rt; work, Ok(pointed(320, 448, 320)));
+    assert_eq!(rt; work, Ok(pointed(320, 448, 320, 4)));
     checking.assert_pages(rt, &[5, 0, 0, 0]);
     checking.assert_workers(rt, &[5]);
-    let works = [first_point(), pointed(320, 448, 320)];
+    let works = [first_point(4), pointed(320, 448, 320, 4)];
     settle_one(rt, session, &works, shared);
 }
 
@@ -266,6 +309,11 @@ fn gate_rows(rt: HostRuntime) {
     change_behind_the_cursor::<Brand, HostRuntime>(&rt, Blank::new(65));
     change_during_a_write::<Brand, HostRuntime>(&rt, Blank::new(65));
     repair_during_a_write::<Brand, HostRuntime>(&rt, Blank::new(65));
+}
+
+#[test]
+fn a_page_that_is_added_has_its_turn(rt: HostRuntime) {
+    flush_an_added_page::<Brand, HostRuntime>(&rt, Blank::new(65));
 }
 
 #[test]

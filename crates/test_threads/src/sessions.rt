@@ -1,6 +1,6 @@
 //! Sessions, a flusher and a checkpointer of one engine, in threads.
 
-ghost use Rattle.std.specs.Prelude.{◌≡◌};
+ghost use Rattle.std.specs.Prelude.{◌≡◌, ◌≤◌};
 
 use crate::volume::{Volume, add_one, full_copy, new_session, settled, volume};
 use aries_core::{Refusal, SteppedBack, Undone};
@@ -85,6 +85,12 @@ fn repair<G: Ledger>(rt: &(impl Wait + Abort), shared: &Volume<G>) {
     }
 }
 
+/// Grows the volume from eight pages to twelve.
+fn grow<G: Ledger>(rt: &(impl Wait + Abort), shared: &Volume<G>) {
+    shared.extend(rt, 12).expect(rt, "extend");
+    assert_eq!(rt; shared.extend(rt, 12), Err(Refusal::NotLarger(12)));
+}
+
 /// A transaction that is taken back.
 fn roll_back<G: Ledger>(rt: &(impl Wait + Abort), shared: &Volume<G>, session: &mut Session<G>) {
     let (txn, _) = session.begin(rt, shared).expect(rt, "begin");
@@ -101,24 +107,69 @@ fn roll_back<G: Ledger>(rt: &(impl Wait + Abort), shared: &Volume<G>, session: &
     assert_eq!(rt; session.read(rt, shared, PageNo(6), SlotNo(0)), Ok(0));
 }
 
-/// Takes a checkpoint, before which every page was written.
-fn clean_checkpoint<G: Ledger>(rt: &(impl Wait + Abort), shared: &Volume<G>) -> Work {
+/// Takes a checkpoint of so many pages, before which every page was written.
+fn clean_checkpoint<G: Ledger>(
+    rt: &(impl Wait + Abort),
+    shared: &Volume<G>,
+    count: u32,
+) -> Work {
     match shared.checkpoint(rt, &OpenGate) {
-        Ok(Work::Pointed(Point { begin, end, redo })) => {
+        Ok(Work::Pointed(Point {
+            begin,
+            end,
+            redo,
+            pages,
+        })) => {
             assert_eq!(rt; redo, begin);
-            Work::Pointed(Point { begin, end, redo })
+            assert_eq!(rt; pages, count);
+            Work::Pointed(Point {
+                begin,
+                end,
+                redo,
+                pages,
+            })
         }
         _ => panic!(rt; "no checkpoint"),
     }
 }
 
+/// What is done on a day beside its sessions, its flusher and its copy.
+#[derive(Clone, Copy)]
+enum Beside {
+    Nothing,
+    /// A page is repaired, from an earlier copy.
+    Repairs,
+    /// The volume grows.
+    Growth,
+}
+
+impl Beside {
+    /// How many copies there are before all begin.
+    fn copies(self) -> u32
+        ensures { result ≤ 1 }
+    {
+        match self {
+            Beside::Repairs => 1,
+            Beside::Nothing | Beside::Growth => 0,
+        }
+    }
+
+    /// How many pages the volume has in the end.
+    fn pages(self) -> u32 {
+        match self {
+            Beside::Growth => 12,
+            Beside::Nothing | Beside::Repairs => 8,
+        }
+    }
+}
+
 /// Four sessions work at the same time, beside a flusher and a copy by three workers, and beside
-/// repairs of a page where there is an earlier copy.
+/// what else is done.
 fn work_together<G: Ledger + Send + Sync, R: Threads + Wait + Abort + AllocGlobal + Sync>(
     rt: &R,
     shared: &Volume<G>,
     workers: &mut [Session<G>],
-    has_copy: bool,
+    beside: Beside,
 ) -> Work {
     let (_, copied) = join(
         rt,
@@ -140,10 +191,10 @@ fn work_together<G: Ledger + Send + Sync, R: Threads + Wait + Abort + AllocGloba
             let (copied, _) = join(
                 rt,
                 || copy(rt, shared),
-                || {
-                    if has_copy {
-                        repair(rt, shared);
-                    }
+                || match beside {
+                    Beside::Nothing => {}
+                    Beside::Repairs => repair(rt, shared),
+                    Beside::Growth => grow(rt, shared),
                 },
             );
             copied
@@ -174,9 +225,9 @@ fn assert_slot(rt: &impl Abort, page: Option<&Page>, number: u64) {
     assert_eq!(rt; page.slots[0], number);
 }
 
-/// The pages that these records make of formatted ones.
-fn plain_pages(rt: &(impl Abort + AllocGlobal), records: &[Record]) -> Vec<Page> {
-    let mut plain = formatted_pages(rt.alloc(), 8).expect(rt, "memory for pages");
+/// The pages that these records make of so many formatted ones.
+fn plain_pages(rt: &(impl Abort + AllocGlobal), count: u32, records: &[Record]) -> Vec<Page> {
+    let mut plain = formatted_pages(rt.alloc(), count).expect(rt, "memory for pages");
     for record in records {
         for page in plain.iter_mut() {
             record.redo_on(page);
@@ -196,10 +247,11 @@ fn redone_of(rt: &(impl Abort + AllocGlobal + Threads + Sync), left: Retired) ->
     redone
 }
 
-/// Restores the volume from copy 1 and the whole log: each page is as plain redo of the log makes
-/// it, and has the sums of the day.
-fn assert_restored(rt: &(impl Abort + AllocGlobal + Threads + Sync), left: Retired) {
-    let plain = plain_pages(rt, left.log().records());
+/// Restores the volume of so many pages from copy 1, which has eight, and the whole log: each page
+/// is as plain redo of the log makes it, and has the sums of the day.
+fn assert_restored(rt: &(impl Abort + AllocGlobal + Threads + Sync), left: Retired, count: u32) {
+    assert_eq!(rt; left.log().page_count(), count);
+    let plain = plain_pages(rt, count, left.log().records());
     let redone = redone_of(rt, left);
     let pages = redone.pages();
     assert_eq!(rt; pages.len(), plain.len());
@@ -241,29 +293,30 @@ fn assert_receipts<G: Ledger>(rt: &impl Abort, workers: &[Session<G>]) {
     }
 }
 
-/// A run of five sessions, a flusher, two checkpoints and a copy, which is settled and restored;
-/// or of two copies, of which the first one is there before, and repairs a page.
+/// A run of five sessions, a flusher, two checkpoints and a copy, which is settled and restored; or
+/// of two copies, of which the first one is there before, and repairs a page; or on a volume that
+/// grows.
 fn day<G: Ledger + Send + Sync, R: Threads + Wait + Abort + AllocGlobal + Sync>(
     rt: &R,
     blank: Blank,
-    has_copy: bool,
+    beside: Beside,
 )
     requires name { blank.name ≡ G.name }
     requires parts { blank.parts ≡ G.parts }
     requires sessions { blank.parts ≡ 65 }
 {
     let (shared, mut workers) = engine_for_five::<G, R>(rt, blank);
-    let first = clean_checkpoint(rt, &shared);
-    if has_copy {
-        assert_eq!(rt; copy(rt, &shared), full_copy(1));
+    let first = clean_checkpoint(rt, &shared, 8);
+    for number in 1..=beside.copies() {
+        assert_eq!(rt; copy(rt, &shared), full_copy(number));
     }
-    let copied = work_together(rt, &shared, workers.as_mut_slice(), has_copy);
-    assert_eq!(rt; copied, full_copy(if has_copy { 2 } else { 1 }));
+    let copied = work_together(rt, &shared, workers.as_mut_slice(), beside);
+    assert_eq!(rt; copied, full_copy(beside.copies() + 1));
     end_the_day(rt, &shared, workers.as_mut_slice());
-    let last = clean_checkpoint(rt, &shared);
+    let last = clean_checkpoint(rt, &shared, beside.pages());
     assert_receipts(rt, workers.as_slice());
     let left = settled(rt, workers, &[first, full_copy(1), last], shared);
-    assert_restored(rt, left);
+    assert_restored(rt, left, beside.pages());
 }
 
 /// A session reads a slot again each time another one has changed it and committed.
@@ -291,13 +344,20 @@ fn a_session_reads_what_another_one_has_committed(rt: HostRuntime) {
 #[test]
 fn four_sessions_and_a_flusher_share_an_engine(rt: HostRuntime) {
     for _ in 0..8 {
-        day::<Brand, HostRuntime>(&rt, Blank::new(65), false);
+        day::<Brand, HostRuntime>(&rt, Blank::new(65), Beside::Nothing);
     }
 }
 
 #[test]
 fn a_page_is_repaired_beside_sessions(rt: HostRuntime) {
     for _ in 0..40 {
-        day::<Brand, HostRuntime>(&rt, Blank::new(65), true);
+        day::<Brand, HostRuntime>(&rt, Blank::new(65), Beside::Repairs);
+    }
+}
+
+#[test]
+fn a_volume_grows_beside_sessions(rt: HostRuntime) {
+    for _ in 0..40 {
+        day::<Brand, HostRuntime>(&rt, Blank::new(65), Beside::Growth);
     }
 }

@@ -8,8 +8,8 @@ use crate::volume::{
 };
 use aries_core::Refusal;
 use copy_vault::{CopyId, CopyKind};
-use engine_run::{Session, SettleFault, Unsettled, Work, settle};
-use page_core::{PageNo, SlotNo};
+use engine_run::{OpenGate, Session, SettleFault, Unsettled, Work, settle};
+use page_core::{Lsn, PageNo, SlotNo};
 use std::marker::Brand;
 use std::process::Abort;
 use std::sync::Wait;
@@ -61,7 +61,7 @@ fn engine_for_two<G: Ledger, R: Wait + Abort + AllocGlobal>(
     let mut shared = volume::<G, R>(rt, blank, 8);
     let mut first = new_session(rt, &mut shared);
     let mut second = new_session(rt, &mut shared);
-    checkpoint(rt, &shared);
+    checkpoint(rt, &shared, 8);
     add_one(rt, &shared, &mut first, PageNo(0));
     add_one(rt, &shared, &mut second, PageNo(0));
     (shared, first, second)
@@ -75,10 +75,10 @@ fn leave_one_out<G: Ledger, R: Wait + Abort + AllocGlobal>(rt: &R, blank: Blank)
 {
     let (shared, first, mut second) = engine_for_two::<G, R>(rt, blank);
     let run = (only(rt, first), shared);
-    let (mut sessions, shared) = assert_refused(rt, run, &[first_point()], "E28 Unsettled 0");
+    let (mut sessions, shared) = assert_refused(rt, run, &[first_point(8)], "E28 Unsettled 0");
     assert_eq!(rt; second.read(rt, &shared, PageNo(0), SlotNo(0)), Ok(2));
     sessions.push(second).expect(rt, "memory for a list");
-    let _ = settled(rt, sessions, &[first_point()], shared);
+    let _ = settled(rt, sessions, &[first_point(8)], shared);
 }
 
 /// Points and copies that do not stand, and those that come twice, are refused; then the run is
@@ -91,21 +91,43 @@ fn refuse_works<G: Ledger, R: Wait + Abort + AllocGlobal>(rt: &R, blank: Blank)
     let (shared, first, second) = engine_for_two::<G, R>(rt, blank);
     let sessions = vec![in rt.alloc(); second, first].expect(rt, "memory for a list");
     let run = (sessions, shared);
-    let run = assert_refused(rt, run, &[first_point(), full_copy(9)], "E28 Unsettled 0");
-    let run = assert_refused(rt, run, &[pointed(64, 128, 128)], "E28 Unsettled 64");
+    let run = assert_refused(rt, run, &[first_point(8), full_copy(9)], "E28 Unsettled 0");
+    let run = assert_refused(rt, run, &[pointed(64, 128, 128, 8)], "E28 Unsettled 64");
     let run = assert_refused(
         rt,
         run,
-        &[first_point(), pointed(128, 128, 64)],
+        &[first_point(8), pointed(128, 128, 64, 8)],
         "E28 Unsettled 128",
     );
     let (sessions, shared) = assert_refused(
         rt,
         run,
-        &[first_point(), first_point()],
+        &[first_point(8), first_point(8)],
         "E28 Unsettled 64",
     );
-    let _ = settled(rt, sessions, &[first_point()], shared);
+    let _ = settled(rt, sessions, &[first_point(8)], shared);
+}
+
+/// Points whose page counts are not those of the log where they began are refused, that before a
+/// growth of the volume and that behind it; then the run is settled.
+fn refuse_page_counts<G: Ledger, R: Wait + Abort + AllocGlobal>(rt: &R, blank: Blank)
+    requires name { blank.name ≡ G.name }
+    requires parts { blank.parts ≡ G.parts }
+    requires sessions { blank.parts ≡ 65 }
+{
+    let shared = volume::<G, R>(rt, blank, 8);
+    checkpoint(rt, &shared, 8);
+    assert_eq!(rt; shared.extend(rt, 8), Err(Refusal::NotLarger(8)));
+    assert_eq!(rt; shared.extend(rt, 12), Ok(Lsn(192)));
+    let last = shared.checkpoint(rt, &OpenGate);
+    assert_eq!(rt; last, Ok(pointed(256, 320, 256, 12)));
+    let run = (Vec::new(rt.alloc()), shared);
+    let works = [pointed(64, 128, 64, 12), pointed(256, 320, 256, 12)];
+    let run = assert_refused(rt, run, &works, "E28 Unsettled 64");
+    let works = [first_point(8), pointed(256, 320, 256, 8)];
+    let run = assert_refused(rt, run, &works, "E28 Unsettled 256");
+    let works = [pointed(256, 320, 256, 12), first_point(8)];
+    let _ = settled(rt, run.0, &works, run.1);
 }
 
 /// What an incremental copy on copy 1 answers. No page was written since, so the stored LSNs are
@@ -130,7 +152,7 @@ fn refuse_copies<G: Ledger + Send + Sync, R: Threads + Wait + Abort + AllocGloba
 {
     let shared = volume::<G, R>(rt, blank, 8);
     assert_copy(rt, &shared, CopyKind::Full, 3, Err(Refusal::NoMaster));
-    checkpoint(rt, &shared);
+    checkpoint(rt, &shared, 8);
     assert_copy(
         rt,
         &shared,
@@ -143,7 +165,7 @@ fn refuse_copies<G: Ledger + Send + Sync, R: Threads + Wait + Abort + AllocGloba
     let run = (Vec::new(rt.alloc()), shared);
     let works = [full_copy(1), second_copy(), full_copy(1)];
     let (sessions, shared) = assert_refused(rt, run, &works, "E28 Unsettled 0");
-    let works = [first_point(), full_copy(1), second_copy()];
+    let works = [first_point(8), full_copy(1), second_copy()];
     let _ = settled(rt, sessions, &works, shared);
 }
 
@@ -155,6 +177,11 @@ fn a_run_without_one_of_its_sessions_is_not_settled(rt: HostRuntime) {
 #[test]
 fn works_that_do_not_stand_are_refused(rt: HostRuntime) {
     refuse_works::<Brand, HostRuntime>(&rt, Blank::new(65));
+}
+
+#[test]
+fn points_of_another_page_count_are_refused(rt: HostRuntime) {
+    refuse_page_counts::<Brand, HostRuntime>(&rt, Blank::new(65));
 }
 
 #[test]

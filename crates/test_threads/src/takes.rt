@@ -4,11 +4,12 @@ ghost use Rattle.std.specs.Prelude.{◌≡◌};
 
 use crate::gates::{CountingGate, wait_until};
 use crate::volume::{
-    Volume, checkpoint, first_point, full_copy, new_session, only, settled, volume,
+    Volume, checkpoint, copied, first_point, full_copy, new_session, only, pointed, settled,
+    volume,
 };
 use copy_vault::CopyKind;
-use engine_run::{HoldGate, Session};
-use page_core::PageNo;
+use engine_run::{HoldGate, OpenGate, Session};
+use page_core::{Lsn, PageNo};
 use std::marker::Brand;
 use std::process::Abort;
 use std::sync::Wait;
@@ -75,7 +76,7 @@ fn copy_by_two<G: Ledger + Send + Sync, R: Threads + Wait + Abort + AllocGlobal 
     let alloc = rt.alloc();
     let mut shared = volume::<G, R>(rt, blank, 8);
     let mut session = new_session(rt, &mut shared);
-    checkpoint(rt, &shared);
+    checkpoint(rt, &shared, 8);
     let gate = TakesAtOnce::new(rt);
     let (copied, _) = join(
         rt,
@@ -86,8 +87,45 @@ fn copy_by_two<G: Ledger + Send + Sync, R: Threads + Wait + Abort + AllocGlobal 
     assert_eq!(rt; gate.late.load(Ordering::SeqCst), 0);
     gate.told.assert_pages(rt, &[1; 8]);
     gate.told.assert_each_worker(rt);
-    let works = [first_point(), full_copy(1)];
+    let works = [first_point(8), full_copy(1)];
     let _ = settled(rt, only(rt, session), &works, shared);
+}
+
+/// The volume grows behind a checkpoint: a copy is of the pages that there were before, and the
+/// workers of the next one, whose checkpoint came later, take all.
+fn copy_a_grown_volume<G: Ledger + Send + Sync, R: Threads + Wait + Abort + AllocGlobal + Sync>(
+    rt: &R,
+    blank: Blank,
+)
+    requires name { blank.name ≡ G.name }
+    requires parts { blank.parts ≡ G.parts }
+    requires sessions { blank.parts ≡ 65 }
+{
+    let alloc = rt.alloc();
+    let shared = volume::<G, R>(rt, blank, 8);
+    checkpoint(rt, &shared, 8);
+    assert_eq!(rt; shared.extend(rt, 12), Ok(Lsn(192)));
+    let gate = CountingGate::new(rt, 2, 12);
+    let first = shared.copy_with(rt, alloc, CopyKind::Full, 2, &gate);
+    assert_eq!(rt; first, Ok(full_copy(1)));
+    gate.assert_pages(rt, &[1, 1, 1, 1, 1, 1, 1, 1, 0, 0, 0, 0]);
+    let point = shared.checkpoint(rt, &OpenGate);
+    assert_eq!(rt; point, Ok(pointed(256, 320, 256, 12)));
+    let second = shared.copy_with(rt, alloc, CopyKind::Full, 2, &gate);
+    assert_eq!(rt; second, Ok(copied(2, 12)));
+    gate.assert_pages(rt, &[2, 2, 2, 2, 2, 2, 2, 2, 1, 1, 1, 1]);
+    let works = [
+        first_point(8),
+        full_copy(1),
+        pointed(256, 320, 256, 12),
+        copied(2, 12),
+    ];
+    let _ = settled(rt, Vec::new(alloc), &works, shared);
+}
+
+#[test]
+fn a_copy_takes_no_page_that_was_added_behind_it(rt: HostRuntime) {
+    copy_a_grown_volume::<Brand, HostRuntime>(&rt, Blank::new(65));
 }
 
 #[test]

@@ -101,22 +101,23 @@ pub(crate) fn add_one<G: Ledger>(
     session.commit(rt, shared, txn).expect(rt, "commit");
 }
 
-/// Takes the first checkpoint of an engine without records.
-pub(crate) fn checkpoint<G: Ledger>(rt: &(impl Wait + Abort), shared: &Volume<G>) {
+/// Takes the first checkpoint of an engine without records, over so many pages.
+pub(crate) fn checkpoint<G: Ledger>(rt: &(impl Wait + Abort), shared: &Volume<G>, pages: u32) {
     let work = shared.checkpoint(rt, &OpenGate);
-    assert_eq!(rt; work, Ok(first_point()));
+    assert_eq!(rt; work, Ok(first_point(pages)));
 }
 
 /// What that checkpoint answers.
-pub(crate) fn first_point() -> Work {
-    pointed(64, 128, 64)
+pub(crate) fn first_point(pages: u32) -> Work {
+    pointed(64, 128, 64, pages)
 }
 
-pub(crate) fn pointed(begin: u64, end: u64, redo: u64) -> Work {
+pub(crate) fn pointed(begin: u64, end: u64, redo: u64, pages: u32) -> Work {
     Work::Pointed(Point {
         begin: Lsn(begin),
         end: Lsn(end),
         redo: Lsn(redo),
+        pages,
     })
 }
 

@@ -12,7 +12,7 @@ use Rattle.engine_run.proofs.check_works.check_works.Goals as goal
 
 pub returns-in-Err-clause-err : goal.returns-in-Err-clause-err
 returns-in-Err-clause-err c = λ lsns m.
-    let e = evidence c.args.records.now c.args.forced_end c.args.vault.now.copies in
+    let e = evidence c.args.log.now c.args.forced_end c.args.vault.now.copies in
     let so_far = c.loop-work.invariant in
     wrong_work e c.loop-work.marks c.loop-work.given lsns c.args.works.now c.loop-work.work-index
     c.in-Err.at c.work-item.result c.loop-work-test.true c.work-item.is (so_far.marked lsns m)
@@ -20,7 +20,7 @@ returns-in-Err-clause-err c = λ lsns m.
 
 pub loop-work-preserved : goal.loop-work-preserved
 loop-work-preserved c =
-    let e = evidence c.args.records.now c.args.forced_end c.args.vault.now.copies in
+    let e = evidence c.args.log.now c.args.forced_end c.args.vault.now.copies in
     let works = c.args.works.now in
     let i = c.loop-work.work-index in
     let w = c.work-item.result in
@@ -51,7 +51,7 @@ loop-work-preserved c =
 
 pub returns-clause-ok : goal.returns-clause-ok
 returns-clause-ok c =
-    let e = evidence c.args.records.now c.args.forced_end c.args.vault.now.copies in
+    let e = evidence c.args.log.now c.args.forced_end c.args.vault.now.copies in
     let all = take_all c.loop-work.work-index c.args.works.now (omega arith) in
     subst (All (WorkStands e)) all c.loop-work.invariant.works
 

@@ -8,9 +8,9 @@ use Rattle.engine_run.proofs.check_works.check_works.Given as goal
 -- what was answered so far stands, and is marked
 abbrev pub invariant-loop-work : goal.invariant-loop-work
 invariant-loop-work l = record {
-  lengths : length l.marks ≡ length l.records;
+  lengths : length l.marks ≡ length l.log.records;
   few : length l.vault.copies < length l.given;
-  works : All (WorkStands (evidence l.records l.forced_end l.vault.copies))
+  works : All (WorkStands (evidence l.log l.forced_end l.vault.copies))
       (take l.work-index l.works);
   marked : (lsns : List ℕ) → AreMarked l.initial.marks lsns
       → AreMarked l.marks (lsns ++ filter_map begin_of (take l.work-index l.works));

@@ -4,5 +4,5 @@ use Rattle.engine_run.proofs.laws.each_change_was_answered_once.Goals as goal
 
 pub returns : goal.returns
 returns c = λ e sessions works settled i d within is.
-    one_receipt_each e.log e.forced_end sessions i d settled.counted settled.receipts
+    one_receipt_each e.log.records e.forced_end sessions i d settled.counted settled.receipts
     (records_apart e sessions works settled) within is

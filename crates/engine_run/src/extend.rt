@@ -1,0 +1,18 @@
+//! The growth of the volume of a shared engine.
+
+use crate::shared::Shared;
+use aries_core::Refusal;
+use log_store::LogDevice;
+use page_core::Lsn;
+use page_store::PageStore;
+use std::sync::Wait;
+use std::sync::ledger::Ledger;
+
+impl<S: PageStore, D: LogDevice, G: Ledger> Shared<S, D, G> {
+    /// Grows the volume to so many pages, by one hold, and answers the LSN of its Extend: what
+    /// `Engine::extend` does, while sessions, flushers and copies go on. Sessions may change the
+    /// added pages from then on. A copy has them where its checkpoint began after the growth.
+    pub fn extend(&self, rt: &impl Wait, count: u32) -> Result<Lsn, Refusal> {
+        self.held.lock(rt).extend(count)
+    }
+}
