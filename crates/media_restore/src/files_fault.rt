@@ -38,7 +38,7 @@ pub enum RestoreFault {
     /// What stands at this offset of an archive is misspelt, or the archive ends within it.
     BadArchive(u64),
     /// The archive of this copy is the first one that does not follow those before it, or has
-    /// another page count than the log. 0 where no archive is given.
+    /// another page count than the log has below its begin. 0 where no archive is given.
     ChainBroken(CopyId),
     /// Fewer or more pages follow in an archive than its header says.
     CountDiffers,

@@ -64,6 +64,7 @@ pub fn rebuild<S: PageStore + Drop, D: LogDevice + Drop>(
           device_failures = D.failures;
           gave = S.gave;
           wrote = S.wrote;
+          grew = S.grew;
           stored = S.stored;
           store_failures = S.failures;
         })
