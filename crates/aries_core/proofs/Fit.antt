@@ -12,8 +12,7 @@ use Rattle.buffer_pool.proofs.Pools.{images_later, resident_later}
 use Rattle.buffer_pool.specs.Frames.{IsResident}
 use Rattle.buffer_pool.specs.Pool.{is_clean}
 use Rattle.std.specs.List.{All}
-use Rattle.std.proofs.lemmas.Bool.{cases_lt}
-use Rattle.std.proofs.lemmas.List.{append-nil, length-replicate, length_push, take-append-le, take_all}
+use Rattle.std.proofs.lemmas.List.{append-nil, length-replicate, length_push, take_all}
 use Rattle.std.proofs.lemmas.List.Elements.{All-head, All-nil, All-tail}
 use Rattle.log_records.specs.declared.limits.TheConstants.{MAX_RECORDS}
 use Rattle.log_records.specs.declared.record.Record.{Record}

@@ -1,8 +1,8 @@
 -- The volume grows: an engine that was fit stays so.
-use Rattle.std.proofs.Common.{◌≡◌, ℕ, ◌-◌, ◌<◌, ◌≤◌, ◌++◌, List, [], ◌∷◌, length, get_or, map, refl, sym, ap, subst}
+use Rattle.std.proofs.Common.{◌≡◌, ℕ, ◌-◌, ◌<◌, ◌≤◌, ◌++◌, [], ◌∷◌, length, get_or, map, refl, sym, ap, subst}
 use Rattle.std.proofs.Common.{◌∙◌, arith, inl, inr, false, true≢false, replicate}
 use Rattle.std.specs.Prelude.{IfSome, Option, Some, None, Result, Ok, Err, is_none}
-use Rattle.std.specs.List.{All, range_with_len}
+use Rattle.std.specs.List.{range_with_len}
 use Rattle.std.proofs.Math.Nat.{max-eq_right}
 use Rattle.std.proofs.lemmas.Bool.{cases_lt}
 use Rattle.std.proofs.lemmas.List.{get_or_past, length_push}
@@ -12,7 +12,6 @@ use Rattle.page_core.specs.Page.{formatted}
 use Rattle.page_core.specs.Volume.{grown_to}
 use Rattle.page_core.proofs.Volumes.{length-grown_to}
 use Rattle.log_records.specs.declared.limits.TheConstants.{MAX_RECORDS}
-use Rattle.log_records.specs.declared.record.Record.{Record}
 use Rattle.log_records.specs.Coverage.{AreStored, rec_lsn}
 use Rattle.log_records.specs.Image.{image}
 use Rattle.log_records.specs.Log.{with_next}
@@ -35,7 +34,6 @@ use Rattle.copy_coverage.specs.Copied.{AreCopied}
 use Rattle.copy_coverage.proofs.Copied.{copied_later}
 use Rattle.copy_coverage.proofs.Growth.{copied_grown}
 use Rattle.aries_core.specs.declared.event.Answer.{Answer}
-use Rattle.aries_core.specs.declared.event.Event.{Event}
 use Rattle.aries_core.specs.declared.event.Event.TheVariants as event
 use Rattle.aries_core.specs.declared.refusal.Refusal.{Refusal}
 use Rattle.aries_core.specs.declared.refusal.Refusal.TheVariants.{OutOfMemory, StoreFault}

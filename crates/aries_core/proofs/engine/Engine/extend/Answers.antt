@@ -3,7 +3,7 @@ use Rattle.std.specs.Prelude.{None, Result, Ok, Err, OnErr, OnOk, is_err}
 use Rattle.std.proofs.lemmas.List.{length-take}
 use Rattle.log_records.specs.declared.record.Record.TheVariants.{Extend}
 use Rattle.log_records.specs.Log.{Log, lsn_of, with_next}
-use Rattle.buffer_pool.specs.Pool.{IsPoolOf, PoolView}
+use Rattle.buffer_pool.specs.Pool.{PoolView}
 use Rattle.page_store.specs.declared.store.StoreFault.{StoreFault}
 use Rattle.aries_core.specs.declared.event.Answer.TheVariants as answer
 use Rattle.aries_core.specs.declared.event.Event.TheVariants as event

@@ -1,4 +1,4 @@
-use Rattle.std.proofs.Common.{length, take, subst, arith}
+use Rattle.std.proofs.Common.{length, subst, arith}
 use Rattle.std.proofs.lemmas.List.{length-take}
 use Rattle.page_store.specs.Store.{IsGrown}
 use Rattle.aries_core.specs.EngineState.{EngineView}
