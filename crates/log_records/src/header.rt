@@ -6,8 +6,8 @@ ghost use Rattle.page_core.specs.declared.format.Format.{Format};
 
 use crate::codec::is_page_count;
 use crate::limits::HEADER_BYTES;
-use page_core::field::u32_at;
 use page_core::Format;
+use page_core::field::u32_at;
 
 /// The header of a new log of so many pages: 64 bytes, of the second format. With a count of 0 or
 /// above 65,536 no reader takes it for one.

@@ -108,18 +108,18 @@ fn roll_back<G: Ledger>(rt: &(impl Wait + Abort), shared: &Volume<G>, session: &
 }
 
 /// Takes a checkpoint of so many pages, before which every page was written.
-fn clean_checkpoint<G: Ledger>(
-    rt: &(impl Wait + Abort),
-    shared: &Volume<G>,
-    count: u32,
-) -> Work {
+fn clean_checkpoint<G: Ledger>(rt: &(impl Wait + Abort), shared: &Volume<G>, count: u32) -> Work {
     match shared.checkpoint(rt, &OpenGate) {
-        Ok(Work::Pointed(Point {
-            begin,
-            end,
-            redo,
-            pages,
-        })) => {
+        Ok(
+            Work::Pointed(
+                Point {
+                    begin,
+                    end,
+                    redo,
+                    pages,
+                },
+            ),
+        ) => {
             assert_eq!(rt; redo, begin);
             assert_eq!(rt; pages, count);
             Work::Pointed(Point {

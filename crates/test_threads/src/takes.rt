@@ -4,8 +4,7 @@ ghost use Rattle.std.specs.Prelude.{◌≡◌};
 
 use crate::gates::{CountingGate, wait_until};
 use crate::volume::{
-    Volume, checkpoint, copied, first_point, full_copy, new_session, only, pointed, settled,
-    volume,
+    Volume, checkpoint, copied, first_point, full_copy, new_session, only, pointed, settled, volume,
 };
 use copy_vault::CopyKind;
 use engine_run::{HoldGate, OpenGate, Session};

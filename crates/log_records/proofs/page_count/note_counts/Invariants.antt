@@ -6,5 +6,7 @@ use Rattle.log_records.proofs.page_count.note_counts.Given as goal
 
 abbrev pub invariant-loop-record : goal.invariant-loop-record
 invariant-loop-record l =
-    l.counts ≡ (record { first = l.fn.counts.first;
-      given = l.fn.counts.given ++ filter_map given_by (take l.record-index l.records) })
+    l.counts ≡ (record {
+      first = l.fn.counts.first;
+      given = l.fn.counts.given ++ filter_map given_by (take l.record-index l.records);
+    })
