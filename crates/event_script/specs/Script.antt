@@ -9,7 +9,7 @@ use Rattle.aries_core.specs.declared.event.Event.TheVariants.{UndoStep, Savepoin
 use Rattle.aries_core.specs.declared.event.Event.TheVariants.{WriteBegin, WriteEnd}
 use Rattle.aries_core.specs.declared.event.Event.TheVariants.{CkptBegin, CkptGather, CkptEnd}
 use Rattle.aries_core.specs.declared.event.Event.TheVariants.{CopyFull, CopyInc, Take, Seal}
-use Rattle.aries_core.specs.declared.event.Event.TheVariants.{DropCopy, Repair}
+use Rattle.aries_core.specs.declared.event.Event.TheVariants.{DropCopy, Repair, Extend}
 use Rattle.event_script.specs.declared.call.Args.{Args}
 use Rattle.event_script.specs.declared.call.Args.TheVariants.{Nothing, One, Two, Four}
 use Rattle.event_script.specs.declared.line.Line.{Line}
@@ -38,7 +38,7 @@ abbrev pub checkpoint_calls : List (List ℕ × Event)
 checkpoint_calls =
     (codes "ckpt", CkptBegin) ∷ (codes "gather", CkptGather) ∷ (codes "endckpt", CkptEnd) ∷ []
 
--- the calls of a transaction, of a page and of a copy
+-- the calls of a transaction, of a page, of a copy and of the volume
 abbrev pub txn_calls : List (List ℕ × (ℕ → Event))
 txn_calls =
     (codes "commit", Commit) ∷ (codes "abort", Abort) ∷ (codes "undo", UndoStep)
@@ -49,6 +49,9 @@ page_calls = (codes "wbegin", WriteBegin) ∷ (codes "wend", WriteEnd) ∷ []
 
 abbrev pub copy_calls : List (List ℕ × (ℕ → Event))
 copy_calls = (codes "inc", CopyInc) ∷ (codes "seal", Seal) ∷ (codes "drop", DropCopy) ∷ []
+
+abbrev pub volume_calls : List (List ℕ × (ℕ → Event))
+volume_calls = (codes "extend", Extend) ∷ []
 
 -- the calls of a page of a copy
 abbrev pub copied_page_calls : List (List ℕ × (ℕ → ℕ → Event))
@@ -98,7 +101,8 @@ call_of_one name number = do
   number ← in_u32 number
   or_else (called (entry_of txn_calls name) number)
       (or_else (called (entry_of page_calls name) number)
-      (called (entry_of copy_calls name) number))
+      (or_else (called (entry_of copy_calls name) number)
+      (called (entry_of volume_calls name) number)))
 
 -- a page and a slot
 abbrev pub read_of : ℕ → ℕ → Option Event

@@ -5,6 +5,7 @@ ghost use Rattle.event_script.specs.Script.{args_of, call_of, call_of_copied_pag
 ghost use Rattle.event_script.specs.Script.{call_of_one, call_of_two, called, change_of};
 ghost use Rattle.event_script.specs.Script.{checkpoint_calls, copy_calls, entry_of, page_calls};
 ghost use Rattle.event_script.specs.Script.{plain_calls, read_of, txn_calls, undo_to_of};
+ghost use Rattle.event_script.specs.Script.{volume_calls};
 ghost use Rattle.event_script.specs.Words.{words_of};
 
 use crate::number::number_of;
@@ -124,6 +125,16 @@ fn call_of_copy(name: &[u8], number: u32) -> Option<Event>
     }
 }
 
+fn call_of_volume(name: &[u8], number: u32) -> Option<Event>
+    ensures { result ≡ called (entry_of volume_calls name.now) number }
+{
+    if name == b"extend".as_slice() {
+        Some(Event::Extend(number))
+    } else {
+        None
+    }
+}
+
 fn call_of_one(name: &[u8], number: u64) -> Option<Event>
     ensures { result ≡ call_of_one name.now number }
 {
@@ -131,9 +142,12 @@ fn call_of_one(name: &[u8], number: u64) -> Option<Event>
     if let Some(event) = call_of_txn(name, number) {
         return Some(event);
     }
-    match call_of_page(name, number) {
+    if let Some(event) = call_of_page(name, number) {
+        return Some(event);
+    }
+    match call_of_copy(name, number) {
         Some(event) => Some(event),
-        None => call_of_copy(name, number),
+        None => call_of_volume(name, number),
     }
 }
 

@@ -1,8 +1,9 @@
 //! Why a record may not follow those before it, for a person: the log is read once more.
 
-use crate::headers::pages_of_log;
 use log_history::{OpenTransactions, TxnState};
-use log_records::{HEADER_BYTES, MAX_OPEN, MAX_RECORDS, RECORD_BYTES, Record, record_at};
+use log_records::{
+    HEADER_BYTES, MAX_OPEN, MAX_RECORDS, RECORD_BYTES, Record, log_header, record_at,
+};
 use page_core::{Lsn, PageNo, SlotNo, TxnNo};
 use std::alloc::Global;
 use std::fmt;
@@ -32,6 +33,8 @@ pub enum ChainReason {
     Pending(TxnNo),
     /// It does not go with the open checkpoint, or with there being none.
     Checkpoint,
+    /// It gives the volume so many pages, and there are so many.
+    NotLarger(u32, u32),
 }
 
 impl fmt::Display for ChainReason {
@@ -80,6 +83,12 @@ impl fmt::Display for ChainReason {
                 write!(f, "transaction {txn} has changes to take back")
             }
             ChainReason::Checkpoint => f.write_str("it does not go with the checkpoint"),
+            ChainReason::NotLarger(given, present) => {
+                write!(
+                    f,
+                    "it gives the volume {given} pages, but there are {present} already"
+                )
+            }
         }
     }
 }
@@ -89,25 +98,46 @@ pub fn chain_reason<R: Read + Drop>(alloc: Global, log: R, at: Lsn) -> Option<Ch
     let mut reader = BufReader::with_capacity(alloc, PIECE_BYTES, log).ok()?;
     let mut bytes = [0; RECORD_BYTES];
     reader.read_exact(&mut bytes).ok()?;
-    let pages = pages_of_log(&bytes)?;
+    let header = log_header(&bytes)?;
+    let mut pages = header.pages;
     let mut table = OpenTransactions::new(alloc);
     let mut lsn = HEADER_BYTES as u64;
     for _ in 0..MAX_RECORDS {
         reader.read_exact(&mut bytes).ok()?;
-        let record = record_at(&bytes, Lsn(lsn), pages)?;
+        let record = record_at(&bytes, Lsn(lsn), header.format, pages)?;
         if lsn == at.0 {
-            return Some(reason_behind(&table, &record));
+            return Some(reason_behind(&table, pages, &record));
         }
         if !table.note_if_may(&record).ok()? {
             return None;
         }
+        pages = record.count_after(pages);
         lsn = lsn.saturating_add(RECORD_BYTES as u64);
     }
     None
 }
 
-/// Why a record may not come behind those that made this table.
-fn reason_behind(table: &OpenTransactions, record: &Record) -> ChainReason {
+/// How many pages the volume of a log has below this LSN.
+pub fn pages_below<R: Read + Drop>(alloc: Global, log: R, end: Lsn) -> Option<u32> {
+    let mut reader = BufReader::with_capacity(alloc, PIECE_BYTES, log).ok()?;
+    let mut bytes = [0; RECORD_BYTES];
+    reader.read_exact(&mut bytes).ok()?;
+    let header = log_header(&bytes)?;
+    let mut pages = header.pages;
+    let mut lsn = HEADER_BYTES as u64;
+    for _ in 0..MAX_RECORDS {
+        if lsn >= end.0 || reader.read_exact(&mut bytes).is_err() {
+            break;
+        }
+        let record = record_at(&bytes, Lsn(lsn), header.format, pages)?;
+        pages = record.count_after(pages);
+        lsn = lsn.saturating_add(RECORD_BYTES as u64);
+    }
+    Some(pages)
+}
+
+/// Why a record may not come behind those that made this table and gave the volume so many pages.
+fn reason_behind(table: &OpenTransactions, pages: u32, record: &Record) -> ChainReason {
     match *record {
         Record::Begin { txn, .. } => {
             if table.open_count() >= MAX_OPEN {
@@ -154,6 +184,7 @@ fn reason_behind(table: &OpenTransactions, record: &Record) -> ChainReason {
         | Record::ChkptPages { .. }
         | Record::ChkptTxns { .. }
         | Record::EndChkpt { .. } => ChainReason::Checkpoint,
+        Record::Extend { pages: given, .. } => ChainReason::NotLarger(given, pages),
     }
 }
 

@@ -1,8 +1,9 @@
 //! What the header of a file says, for a person: the libraries tell nothing of a file that they
 //! refuse.
 
-use log_records::{HEADER_BYTES, log_header};
+use log_records::HEADER_BYTES;
 use page_core::field::{u32_at, u64_at};
+use page_core::{Format, Lsn};
 
 /// What a file is, by the text in front of it.
 #[derive(Clone, Copy)]
@@ -23,9 +24,12 @@ pub fn kind_of(header: &[u8; HEADER_BYTES]) -> Option<FileKind> {
     }
 }
 
-/// The page count that the header of a log gives, of either format.
-pub fn pages_of_log(header: &[u8; HEADER_BYTES]) -> Option<u32> {
-    Some(log_header(header)?.pages)
+/// The greatest number of a kind of record in a log of this format.
+pub fn last_kind(format: Format) -> u8 {
+    match format {
+        Format::First => 10,
+        Format::Second => 11,
+    }
 }
 
 /// What the header of an archive says.
@@ -34,6 +38,7 @@ pub struct ArchiveHeader {
     pub pages: u32,
     pub id: u32,
     pub parent: u32,
+    pub begin: Lsn,
     pub redo: u64,
     pub taken: u32,
 }
@@ -44,6 +49,7 @@ pub fn archive_header(header: &[u8; HEADER_BYTES]) -> ArchiveHeader {
         pages: u32_at(header, 8),
         id: u32_at(header, 12),
         parent: u32_at(header, 20),
+        begin: Lsn(u64_at(header, 24)),
         redo: u64_at(header, 32),
         taken: u32_at(header, 40),
     }

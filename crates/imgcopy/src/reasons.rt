@@ -1,10 +1,10 @@
 //! What is wrong with a file that was refused, for a person: the file is read once more.
 
-use crate::chain_reason::{ChainReason, chain_reason};
-use crate::headers::{ArchiveHeader, FileKind, archive_header, kind_of, pages_of_log};
+use crate::chain_reason::{ChainReason, chain_reason, pages_below};
+use crate::headers::{ArchiveHeader, FileKind, archive_header, kind_of, last_kind};
 use copy_audit::Unsound;
 use copy_vault::CopyId;
-use log_records::RECORD_BYTES;
+use log_records::{RECORD_BYTES, log_header};
 use media_restore::RestoreFault;
 use page_core::field::u64_at;
 use page_core::{Lsn, PAGE_BYTES, PageNo};
@@ -74,7 +74,7 @@ pub enum Reason {
     IncFirst(u32),
     /// The parent of the copy, and the copy before it.
     Parent(u32, u32),
-    /// The pages of the copy, and those of the log.
+    /// The pages of the copy, and those that the log has before the copy's checkpoint.
     Pages(u32, u32),
     /// As many pages follow as its length allows, and as many as its header says.
     Count(u64, u32),
@@ -116,7 +116,12 @@ impl fmt::Display for Reason {
                     "parent is copy {parent}, but copy {before} stands before it"
                 )
             }
-            Reason::Pages(copy, log) => write!(f, "has {copy} pages, but the log has {log}"),
+            Reason::Pages(copy, log) => {
+                write!(
+                    f,
+                    "has {copy} pages, but the log has {log} before its checkpoint"
+                )
+            }
             Reason::Count(there, said) => {
                 write!(
                     f,
@@ -258,8 +263,9 @@ fn reason_of_header(rt: &HostRuntime, name: &str, place: usize) -> Option<Reason
 }
 
 fn reason_of_record(rt: &HostRuntime, name: &str, at: Lsn) -> Option<Reason> {
+    let header = log_header(&bytes_at(rt, name, 0)?)?;
     let bytes = bytes_at(rt, name, at.0)?;
-    if bytes[0] == 0 || bytes[0] > 10 {
+    if bytes[0] == 0 || bytes[0] > last_kind(header.format) {
         return Some(Reason::Kind(bytes[0]));
     }
     let own = u64_at(&bytes, 56);
@@ -288,7 +294,6 @@ fn reason_of_master(rt: &HostRuntime, name: &str) -> Option<Reason> {
 fn reason_of_broken(rt: &HostRuntime, names: &Named<'_>, place: usize) -> Option<Reason> {
     let index = place.checked_sub(FIRST_ARCHIVE)?;
     let header = archive_at(rt, names.archives.get(index)?)?;
-    let log = pages_of_log(&bytes_at(rt, names.log, 0)?)?;
     let before = match index.checked_sub(1) {
         Some(index) => Some(archive_at(rt, names.archives.get(index)?)?.id),
         None => None,
@@ -297,8 +302,16 @@ fn reason_of_broken(rt: &HostRuntime, names: &Named<'_>, place: usize) -> Option
         None if header.parent != 0 => Some(Reason::IncFirst(header.parent)),
         Some(_) if header.parent == 0 => Some(Reason::FullBehind),
         Some(id) if header.parent != id => Some(Reason::Parent(header.parent, id)),
-        _ => Some(Reason::Pages(header.pages, log)),
+        _ => Some(Reason::Pages(header.pages, pages_before(rt, names.log, header.begin)?)),
     }
+}
+
+/// How many pages the volume of a log has before the record at this LSN.
+fn pages_before(rt: &HostRuntime, log: &str, lsn: Lsn) -> Option<u32> {
+    if !is_regular(rt, log) {
+        return None;
+    }
+    pages_below(rt.alloc(), fs::open(rt, log).ok()?, lsn)
 }
 
 fn reason_of_count(rt: &HostRuntime, name: &str) -> Option<Reason> {

@@ -1,9 +1,9 @@
 //! Audits of chains whose numbers were changed.
 
-use crate::bytes::{FORMATS, FULL, Head, archive, log, name_format, next};
+use crate::bytes::{FORMATS, FULL, Head, archive, grown_log, log, name_format, next};
 use copy_audit::{Sound, Unsound, audit};
 use copy_vault::CopyId;
-use page_core::PageNo;
+use page_core::{Lsn, PageNo};
 use std::alloc::Global;
 use std::process::Abort;
 use std::test::Fail;
@@ -15,9 +15,18 @@ fn audited(
     alloc: Global,
     pages: u64,
     members: &[(Head, u64, u64)],
+    formats: (u8, u8),
+) -> Result<Result<Sound, Unsound>, Fail> {
+    audited_by(alloc, log(alloc, pages)?, members, formats)
+}
+
+/// The same for this log.
+fn audited_by(
+    alloc: Global,
+    mut whole: Vec<u8>,
+    members: &[(Head, u64, u64)],
     (of_log, of_archives): (u8, u8),
 ) -> Result<Result<Sound, Unsound>, Fail> {
-    let mut whole = log(alloc, pages)?;
     name_format(&mut whole, of_log);
     let mut archives = Vec::new(alloc);
     for (head, lsn, slot) in members {
@@ -183,6 +192,57 @@ fn a_later_copy_may_have_an_older_page(rt: HostRuntime) -> Result<(), Fail> {
     assert_audit(&rt, alloc, &[one, older, three], Ok(Sound))?;
     // The second copy's page is not the chain's any more, but it is a member's.
     assert_audit(&rt, alloc, &[one, spoiled, three], unsound(2))
+}
+
+/// An incremental copy of so many pages, which began behind the growth of the volume.
+fn behind_growth(pages: u64) -> Head {
+    Head {
+        pages,
+        begin: 576,
+        ..next(2, 448)
+    }
+}
+
+/// Asserts what an audit says of these members, for a log that grows, in these formats.
+fn assert_grown(
+    rt: &impl Abort,
+    alloc: Global,
+    members: &[(Head, u64, u64)],
+    formats: (u8, u8),
+    wanted: Result<Sound, Unsound>,
+) -> Result<(), Fail> {
+    let found = audited_by(alloc, grown_log(alloc)?, members, formats)?;
+    assert_eq!(rt; found, wanted, "{formats:?}");
+    Ok(())
+}
+
+/// A copy has as many pages as there were below the LSN of its checkpoint. It may be of the first
+/// format, and the log may not.
+#[test]
+fn copies_of_a_volume_that_grew_are_audited(rt: HostRuntime) -> Result<(), Fail> {
+    let alloc = rt.alloc();
+    let one = (FULL, 128, 5);
+    let wide = Head {
+        pages: 2,
+        taken: 2,
+        ..FULL
+    };
+    let early = Head {
+        begin: 512,
+        ..behind_growth(2)
+    };
+    for format in FORMATS {
+        let formats = (b'2', format);
+        assert_grown(&rt, alloc, &[one], formats, Ok(Sound))?;
+        assert_grown(&rt, alloc, &[(wide, 128, 5)], formats, broken(1))?;
+        let two = [one, (behind_growth(2), 0, 0)];
+        assert_grown(&rt, alloc, &two, formats, Ok(Sound))?;
+        let two = [one, (behind_growth(1), 0, 0)];
+        assert_grown(&rt, alloc, &two, formats, broken(2))?;
+        assert_grown(&rt, alloc, &[one, (early, 0, 0)], formats, broken(2))?;
+    }
+    let no_record = Err(Unsound::BadRecord(Lsn(512)));
+    assert_grown(&rt, alloc, &[one], (b'1', b'2'), no_record)
 }
 
 #[test]

@@ -49,6 +49,9 @@ const END_CHKPT: [u64; 8] = [10, 192, 0, 128, 0, 0, 0, 384];
 
 const COMMIT: [u64; 8] = [HIGH + 4, 128, 0, 0, 0, 0, 0, 448];
 
+/// The volume grows to two pages.
+const EXTEND: [u64; 8] = [11, 0, 0, 2, 0, 0, 0, 512];
+
 /// A transaction changes page 0 at 128, a checkpoint stands at 192 to 384, and the transaction
 /// commits. The log ends at 512.
 pub(crate) fn log(alloc: Global, pages: u64) -> Result<Vec<u8>, Fail> {
@@ -67,10 +70,18 @@ pub(crate) fn log(alloc: Global, pages: u64) -> Result<Vec<u8>, Fail> {
     Ok(bytes)
 }
 
-/// The header of an archive of a volume of one page: its id, its parent (0 of a full copy), its
-/// checkpoint and redo point, and how many pages it took.
+/// The same log of one page, which then grows to two. It ends at 576.
+pub(crate) fn grown_log(alloc: Global) -> Result<Vec<u8>, Fail> {
+    let mut bytes = log(alloc, 1)?;
+    bytes.extend_from_slice(&bytes_of(alloc, &EXTEND)?)?;
+    Ok(bytes)
+}
+
+/// The header of an archive: the page count, its id, its parent (0 of a full copy), its checkpoint
+/// and redo point, and how many pages it took.
 #[derive(Clone, Copy)]
 pub(crate) struct Head {
+    pub(crate) pages: u64,
     pub(crate) id: u32,
     pub(crate) parent: u32,
     pub(crate) begin: u64,
@@ -86,7 +97,7 @@ pub(crate) fn archive(alloc: Global, head: Head, lsn: u64, slot: u64) -> Result<
         alloc,
         &[
             ARCHIVE,
-            u64::from(head.id) * HIGH + 1,
+            u64::from(head.id) * HIGH + head.pages,
             u64::from(head.parent) * HIGH + kind,
             head.begin,
             head.redo,
@@ -106,6 +117,7 @@ pub(crate) fn archive(alloc: Global, head: Head, lsn: u64, slot: u64) -> Result<
 
 /// The header of the full copy of one page.
 pub(crate) const FULL: Head = Head {
+    pages: 1,
     id: 1,
     parent: 0,
     begin: 192,
@@ -113,9 +125,10 @@ pub(crate) const FULL: Head = Head {
     taken: 1,
 };
 
-/// That of an incremental copy on the copy before it, which took no page.
+/// That of an incremental copy of one page, on the copy before it, which took no page.
 pub(crate) fn next(id: u32, redo: u64) -> Head {
     Head {
+        pages: 1,
         id,
         parent: id.saturating_sub(1),
         begin: redo.max(192),

@@ -8,6 +8,7 @@ mod checkpoints;
 mod copies;
 mod devices;
 mod frames;
+mod growth;
 mod repairs;
 mod rows;
 mod stores;
@@ -44,6 +45,14 @@ pub(crate) fn failing_store(rt: &(impl Abort + AllocGlobal), pages: u32, k: u64)
     ensures { result.pages ≡ formatted_pages pages }
 {
     FaultyStore::new(rt.alloc(), store_of(rt, pages), k).expect(rt, "memory for a store")
+}
+
+/// The same, but the call that fails does what it was asked for: it stores the page, or adds pages.
+pub(crate) fn late_store(rt: &(impl Abort + AllocGlobal), pages: u32, k: u64) -> FaultyStore
+    requires { IsPageCount pages }
+    ensures { result.pages ≡ formatted_pages pages }
+{
+    FaultyStore::late(rt.alloc(), store_of(rt, pages), k).expect(rt, "memory for a store")
 }
 
 /// Such a store, of which no call fails. This page is damaged once so many calls were made.
@@ -148,7 +157,7 @@ fn play_over(rt: &(impl Abort + AllocGlobal), k: u64, parts: &[&str]) {
     drop(played_on(rt, 1, store, device, &calls));
 }
 
-const REFUSALS: [(Refusal, &str); 26] = [
+const REFUSALS: [(Refusal, &str); 28] = [
     (Refusal::OutOfMemory, "E1 OutOfMemory"),
     (Refusal::NoTxn, "E2 NoTxn"),
     (Refusal::PageOut, "E3 PageOut"),
@@ -175,6 +184,8 @@ const REFUSALS: [(Refusal, &str); 26] = [
     (Refusal::PoolFull, "E24 PoolFull"),
     (Refusal::TooManyCopies, "E25 TooManyCopies"),
     (Refusal::CommitUnsure(Lsn(192)), "E26 CommitUnsure 192"),
+    (Refusal::NoSavepoint, "E42 NoSavepoint"),
+    (Refusal::NotLarger(7), "E43 NotLarger 7"),
 ];
 
 static FAULTS: [(PlayFault, &str); 2] = [

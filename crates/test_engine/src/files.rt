@@ -148,10 +148,10 @@ const FIVE_AT_128: Groups = Groups(
 const NONE_AT_448: Groups = Groups(&["0000000001000000 c001000000000000"], PAGE_BYTES);
 
 /// Files: a log, a master record and archives.
-type Files = (Groups, Groups, &'static [Groups]);
+pub(crate) type Files = (Groups, Groups, &'static [Groups]);
 
 /// Files, the line of the fault where they are restored, or no text, and what is written.
-type Restored = (Files, &'static str, Groups);
+pub(crate) type Restored = (Files, &'static str, Groups);
 
 /// What comes of a restore of these files to a writer.
 fn fault_of<W: Write>(
@@ -186,7 +186,7 @@ fn fault_of<W: Write>(
 }
 
 /// Asserts what comes of restores of files, and what is written.
-fn assert_each(rt: &(impl Abort + AllocGlobal + Threads + Sync), table: &[Restored]) {
+pub(crate) fn assert_each(rt: &(impl Abort + AllocGlobal + Threads + Sync), table: &[Restored]) {
     for (files, line, volume) in table {
         let mut written = Vec::new(rt.alloc());
         let fault = fault_of(rt, *files, &mut written);

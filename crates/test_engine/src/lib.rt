@@ -13,6 +13,8 @@ mod files;
 #[cfg(test)]
 mod groups;
 #[cfg(test)]
+mod growth;
+#[cfg(test)]
 mod recovery;
 #[cfg(test)]
 mod rows;

@@ -1,5 +1,7 @@
 //! Series of calls that several tests use, and parts that several of them share.
 
+pub(crate) mod growth;
+
 use crate::calls::Row;
 use std::process::Abort;
 

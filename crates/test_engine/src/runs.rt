@@ -5,6 +5,7 @@ ghost use Rattle.log_records.specs.Log.{IsPageCount};
 use crate::asserts::{same, same_at};
 use crate::calls::{Row, put_part, script_of};
 use crate::rows;
+use crate::rows::growth;
 use aries_core::Setup;
 use media_restore::{LoadFault, Refused};
 use page_core::MAX_PAGES;
@@ -58,7 +59,7 @@ const OF_TWO_PAGES: &str = "
 ";
 
 /// Rows, a restore after each with its lines, or none, and what comes of it.
-static RUNS: [(Row, &str, Result<(), FinishFault>); 28] = [
+static RUNS: [(Row, &str, Result<(), FinishFault>); 31] = [
     (rows::SUM_WRAPS, "", Ok(())),
     (rows::CHANGED_AFTER_A_COPY, OF_TWO_PAGES, Ok(())),
     (
@@ -146,6 +147,22 @@ static RUNS: [(Row, &str, Result<(), FinishFault>); 28] = [
         "restore 1 all -> page 0 lsn 960",
         Ok(()),
     ),
+    // The records that are kept are of one page, and then of three.
+    (
+        growth::GROWN_AFTER_A_COPY,
+        "restore 1 2 -> page 0 lsn 0",
+        Ok(()),
+    ),
+    (
+        growth::COPIED_AFTER_GROWTH,
+        "
+        restore 3 all -> page 0 lsn 0
+        page 1 lsn 0
+        page 2 lsn 320 0=4
+    ",
+        Ok(()),
+    ),
+    (growth::GROWN_TO_THE_MOST, "", Ok(())),
     (
         READ_BEFORE_A_RESTORE,
         "restore 1 all -> E19 CopyNotComplete",

@@ -86,7 +86,7 @@ const SUM_WRAPS: Groups = Groups(&[ONE_PAGE, BEGIN, SET_ONE, ADD_THE_MOST], 256)
 const VOLUME_OF_A_SUM: Groups = Groups(&["0000000001000000 c000000000000000"], 512);
 
 /// Asserts that a log gives a volume.
-fn assert_volume(rt: &(impl Abort + AllocGlobal), log: Groups, volume: Groups) {
+pub(crate) fn assert_volume(rt: &(impl Abort + AllocGlobal), log: Groups, volume: Groups) {
     let alloc = rt.alloc();
     let log = bytes_of(rt, log);
     let mut written = Vec::new(alloc);
@@ -124,7 +124,7 @@ fn assert_refused<R: Read>(rt: &(impl Abort + AllocGlobal), reader: &mut R, line
 }
 
 /// The same of some bytes.
-fn assert_no_log(rt: &(impl Abort + AllocGlobal), log: Groups, line: &str) {
+pub(crate) fn assert_no_log(rt: &(impl Abort + AllocGlobal), log: Groups, line: &str) {
     assert_refused(rt, &mut bytes_of(rt, log).as_slice(), line);
 }
 

@@ -1,7 +1,8 @@
 //! What no clause says: that each call succeeds, and what `read_log` reads from a device.
 
-ghost use Rattle.std.specs.Prelude.{◌≡◌, []};
+ghost use Rattle.std.specs.Prelude.{◌≡◌, [], None};
 ghost use Rattle.log_records.specs.Log.{StandsAt};
+ghost use Rattle.log_records.specs.PageCount.{given_count};
 
 use crate::asserts::{same, same_at};
 use log_records::{Record, encode_header};
@@ -13,7 +14,8 @@ use std::test::Fail;
 
 /// Transaction 1 begins.
 fn begin() -> Record
-    ensures { StandsAt 1 64 result }
+    ensures stands { StandsAt 1 64 result }
+    ensures none { given_count result ≡ None }
 {
     Record::Begin {
         lsn: Lsn(64),
@@ -23,7 +25,8 @@ fn begin() -> Record
 
 /// It sets slot 3 of page 0.
 fn update() -> Record
-    ensures { StandsAt 1 128 result }
+    ensures stands { StandsAt 1 128 result }
+    ensures none { given_count result ≡ None }
 {
     Record::Update {
         lsn: Lsn(128),
@@ -40,7 +43,8 @@ fn update() -> Record
 
 /// It commits.
 fn commit() -> Record
-    ensures { StandsAt 1 192 result }
+    ensures stands { StandsAt 1 192 result }
+    ensures none { given_count result ≡ None }
 {
     Record::Commit {
         lsn: Lsn(192),
@@ -54,7 +58,7 @@ fn records() -> [Record; 3] {
 }
 
 /// Puts these records into a log of one page that has none.
-#[tactic(auto, using(crate::proofs::NextLogs::count_is_of_header))]
+#[tactic(auto, using(crate::proofs::NextLogs::of_plain_records))]
 fn append_records<D: LogDevice>(log: &mut Log<D>) -> Result<(), AllocError>
     requires { log.old.log ≡ record { pages = 1; records = [] } }
 {

@@ -1,6 +1,7 @@
 //! What no clause says: the bytes of known logs, how a reader's failures are answered, and that
 //! each call succeeds.
 
+mod growth;
 mod readers;
 mod vectors;
 
@@ -113,7 +114,7 @@ fn a_compensation_record_has_its_bytes(rt: HostRuntime) {
     same(&rt, &decode(&bytes, Lsn(640)), &Some(comp));
     same(&rt, &encode(&comp), &bytes);
     let mut later = bytes;
-    later[0] = 11;
+    later[0] = 12;
     same(&rt, &decode(&later, Lsn(640)), &None);
 }
 

@@ -1,3 +1,5 @@
-//! Pages, slots, changes and their bytes.
+//! Pages, slots, changes and their bytes, and the page counts of a volume.
 
-pub use page_core::{BadPage, Change, Lsn, Page, PageNo, SlotNo, undo_of};
+pub use page_core::{
+    BadPage, Change, GivenCount, Lsn, Page, PageCounts, PageNo, SlotNo, undo_of,
+};

@@ -5,6 +5,7 @@ use crate::asserts::{same, same_at};
 use crate::calls::Row;
 use crate::groups::{Groups, assert_bytes};
 use crate::rows;
+use crate::rows::growth;
 use copy_vault::{ArchiveFault, CopyId, read_archive, write_archive};
 use std::process::Abort;
 
@@ -20,7 +21,7 @@ fn archive_of(rt: &(impl Abort + AllocGlobal), row: Row, copy: u32) -> Vec<u8> {
 }
 
 /// Copies of rows, and their bytes.
-static ARCHIVES: [(Row, u32, Groups); 3] = [
+static ARCHIVES: [(Row, u32, Groups); 4] = [
     // A full copy, of one formatted page.
     (
         rows::COPIED_WHEN_DIRTY,
@@ -54,6 +55,18 @@ static ARCHIVES: [(Row, u32, Groups); 3] = [
             &[
                 "41494d4741524332 0100000003000000 0200000002000000 8001000000000000 \
                8001000000000000",
+            ],
+            64,
+        ),
+    ),
+    // One that took none of the three pages that there were at its checkpoint.
+    (
+        growth::COPIED_AFTER_GROWTH,
+        3,
+        Groups(
+            &[
+                "41494d4741524332 0300000003000000 0200000001000000 c001000000000000 \
+               4001000000000000",
             ],
             64,
         ),

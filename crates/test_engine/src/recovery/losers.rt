@@ -9,9 +9,9 @@ use super::retired;
 use super::sweeps::assert_images;
 use crate::asserts::same_at;
 use crate::calls::Row;
-use crate::engine::{failing_device, failing_store, setup_of};
+use crate::engine::{failing_device, failing_store};
 use crate::rows;
-use aries_core::{Answer, Engine, Event};
+use aries_core::{Answer, Engine, Event, Setup};
 use copy_coverage::Retired;
 use log_history::Losers;
 use log_records::Record;
@@ -120,12 +120,13 @@ fn shifted(number: u64) -> u64 {
     twice ^ (twice << 17)
 }
 
-/// A call that a number stands for, of one of the last transactions. Many are refused.
+/// A call that a number stands for, of one of the last transactions, on a volume that has at most
+/// eight pages. Many are refused.
 fn event_of(number: u64, begun: u32) -> Event {
     let txn = TxnNo(begun.saturating_sub(((number >> 8) % 6) as u32));
-    let page = PageNo(((number >> 16) % 4) as u32);
+    let page = PageNo(((number >> 16) % 8) as u32);
     let slot = SlotNo(((number >> 24) % 2) as u16);
-    match number % 16 {
+    match number % 17 {
         0 | 1 => Event::Begin,
         2..=6 => Event::Add {
             txn,
@@ -144,6 +145,7 @@ fn event_of(number: u64, begun: u32) -> Event {
         11 | 12 => Event::UndoStep(txn),
         13 => Event::CkptBegin,
         14 => Event::CkptGather,
+        15 => Event::Extend(((number >> 32) % 9) as u32),
         _ => Event::CkptEnd,
     }
 }
@@ -152,7 +154,11 @@ fn event_of(number: u64, begun: u32) -> Event {
 fn random_retired(rt: &(impl Abort + AllocGlobal), seed: u64) -> Retired {
     let store = failing_store(rt, 4, 0);
     let device = failing_device(rt, 400, 0);
-    let mut engine = Engine::new(rt.alloc(), setup_of(4), store, device)
+    let setup = Setup {
+        pages: 4,
+        frames: 8,
+    };
+    let mut engine = Engine::new(rt.alloc(), setup, store, device)
         .ok()
         .expect(rt, "an engine");
     for event in [

@@ -1,21 +1,27 @@
 //! Each call of the store and of the log's device fails in turn. Each copy that is then complete is
 //! restored from every log that a crash may leave.
 
+ghost use Rattle.std.specs.Prelude.{◌≡◌};
+ghost use Rattle.log_records.specs.Log.{IsPageCount};
+ghost use Rattle.page_core.specs.Volume.{formatted_pages};
+
 use super::{redone_of, undone_of};
 use crate::asserts::same_at;
 use crate::calls::{Calls, Row, calls_of};
-use crate::engine::{failing_device, failing_store, setup_of};
+use crate::engine::{failing_device, failing_store, late_store, setup_of};
 use crate::rows;
+use crate::rows::growth;
 use aries_core::{Engine, Refusal, Reply};
 use copy_coverage::Retired;
 use copy_vault::CopyId;
 use log_records::Record;
 use page_core::{Page, PageNo, TxnNo};
 use page_redo::redo_page;
+use page_store::FaultyStore;
 use std::process::Abort;
 use std::thread::Threads;
 
-static SWEPT: [Row; 8] = [
+static SWEPT: [Row; 9] = [
     rows::COPIED_WHEN_DIRTY,
     rows::COPIED_BEHIND_THE_CURSOR,
     rows::COPIED_AFTER_A_CHANGED_WRITE,
@@ -24,15 +30,18 @@ static SWEPT: [Row; 8] = [
     rows::ADDED_AND_SET,
     rows::CHAIN,
     rows::TWO_COPIES_OF_ONE_PARENT,
+    growth::COPIED_AFTER_GROWTH,
 ];
 
-/// How a row is called: which call of the store fails, and which one of the log's device, counted
-/// from 1, where 0 is none; and whether a call of the engine is made again that was refused for it.
+/// How a row is called: which call of the store fails, and whether it fails late; which call of the
+/// log's device fails, each counted from 1, where 0 is none; and whether a call of the engine is
+/// made again that was refused for it.
 #[derive(Clone, Copy)]
 struct Sweep<'a> {
     row: Row,
     calls: &'a Calls,
     store: u64,
+    is_late: bool,
     device: u64,
     again: bool,
 }
@@ -45,10 +54,22 @@ fn is_fault(reply: Reply) -> bool {
     )
 }
 
+/// The store of a row that is called so.
+fn store_of(rt: &(impl Abort + AllocGlobal), pages: u32, sweep: Sweep<'_>) -> FaultyStore
+    requires { IsPageCount pages }
+    ensures { result.pages ≡ formatted_pages pages }
+{
+    if sweep.is_late {
+        late_store(rt, pages, sweep.store)
+    } else {
+        failing_store(rt, pages, sweep.store)
+    }
+}
+
 /// What an engine leaves that was called so, and whether the store or the device failed at a call.
 fn run(rt: &(impl Abort + AllocGlobal), sweep: Sweep<'_>) -> (Retired, bool) {
     let pages = sweep.row.pages(rt);
-    let store = failing_store(rt, pages, sweep.store);
+    let store = store_of(rt, pages, sweep);
     let device = failing_device(rt, sweep.calls.events.len(), sweep.device);
     let mut engine = Engine::new(rt.alloc(), setup_of(pages), store, device)
         .ok()
@@ -107,17 +128,41 @@ fn assert_committed(rt: &impl Abort, pages: &[Page], log: &[Record]) {
     }
 }
 
-/// Restores a copy over these first records of the log, and asserts its pages after redo and after
-/// undo.
+/// How many pages a log gives a volume that began with so many.
+fn pages_of(pages: u32, log: &[Record]) -> usize {
+    let mut count = pages;
+    for record in log {
+        if let Record::Extend { pages, .. } = *record {
+            count = pages;
+        }
+    }
+    count as usize
+}
+
+/// Restores a copy over these first records of the log of a volume that began with so many pages,
+/// and asserts its pages after redo and after undo.
 fn assert_restored(
     rt: &(impl Abort + AllocGlobal + Threads + Sync),
+    pages: u32,
     retired: Retired,
     copy: u32,
     kept: &[Record],
 ) {
     let redone = redone_of(rt, retired, copy, kept.len());
+    same_at(
+        rt,
+        &redone.pages().len(),
+        &pages_of(pages, kept),
+        &kept.len(),
+    );
     assert_images(rt, redone.pages(), kept);
     let undone = undone_of(rt, redone);
+    same_at(
+        rt,
+        &undone.pages().len(),
+        &pages_of(pages, kept),
+        &kept.len(),
+    );
     assert_images(rt, undone.pages(), undone.records());
     assert_committed(rt, undone.pages(), kept);
     drop(undone);
@@ -134,7 +179,7 @@ fn assert_each_cut(
     for cut in 0..records.len() + 1 {
         if 64 * (cut as u64 + 1) >= retired.forced_end().0 {
             let (again, _) = run(rt, sweep);
-            assert_restored(rt, again, copy, &records[..cut]);
+            assert_restored(rt, sweep.row.pages, again, copy, &records[..cut]);
         }
     }
 }
@@ -155,6 +200,7 @@ fn restore_each(rt: &(impl Abort + AllocGlobal + Threads + Sync), sweep: Sweep<'
 #[derive(Clone, Copy)]
 enum Part {
     Store,
+    StoreLate,
     Device,
 }
 
@@ -165,14 +211,16 @@ fn sweep_rows(rt: &(impl Abort + AllocGlobal + Threads + Sync), part: Part) {
         let calls = calls_of(rt, row.parts);
         for again in [false, true] {
             for k in 1..100 {
-                let (store, device) = match part {
-                    Part::Store => (k, 0),
-                    Part::Device => (0, k + 1),
+                let (store, is_late, device) = match part {
+                    Part::Store => (k, false, 0),
+                    Part::StoreLate => (k, true, 0),
+                    Part::Device => (0, false, k + 1),
                 };
                 let sweep = Sweep {
                     row: *row,
                     calls: &calls,
                     store,
+                    is_late,
                     device,
                     again,
                 };
@@ -187,6 +235,11 @@ fn sweep_rows(rt: &(impl Abort + AllocGlobal + Threads + Sync), part: Part) {
 #[test]
 fn each_call_of_the_store_fails(rt: HostRuntime) {
     sweep_rows(&rt, Part::Store);
+}
+
+#[test]
+fn each_call_of_the_store_fails_late(rt: HostRuntime) {
+    sweep_rows(&rt, Part::StoreLate);
 }
 
 #[test]

@@ -6,7 +6,7 @@ use event_script::{LineFault, ReplyLine, ScriptFault};
 use page_core::{Lsn, TxnNo};
 
 /// Scripts of one event, and what they say.
-pub(super) static CALLS: [(&str, &str); 21] = [
+pub(super) static CALLS: [(&str, &str); 22] = [
     ("begin", "[Begin] None"),
     (
         "set 4294967295 65536 65535 18446744073709551615",
@@ -51,6 +51,7 @@ pub(super) static CALLS: [(&str, &str); 21] = [
         "repair 7 65536",
         "[Repair { copy: CopyId(7), page: PageNo(65536) }] None",
     ),
+    ("extend 4294967295", "[Extend(4294967295)] None"),
 ];
 
 /// Scripts with a restore, and without one.
@@ -69,7 +70,7 @@ pub(super) static RESTORES: [(&str, &str); 5] = [
 ];
 
 /// Scripts of one line, each with the number of its first bad line, and what is wrong with it.
-pub(super) static BAD_LINES: [(&str, u64, LineFault); 28] = [
+pub(super) static BAD_LINES: [(&str, u64, LineFault); 31] = [
     (" ", 1, LineFault::NoCall),
     ("start", 1, LineFault::UnknownCall),
     ("Begin", 1, LineFault::UnknownCall),
@@ -95,6 +96,9 @@ pub(super) static BAD_LINES: [(&str, u64, LineFault); 28] = [
     ("repair 1", 1, LineFault::WordCount(2)),
     ("repair 1 4294967296", 1, LineFault::BadNumber),
     ("mend 1 0", 1, LineFault::UnknownCall),
+    ("extend", 1, LineFault::WordCount(1)),
+    ("extend 1 2", 1, LineFault::WordCount(1)),
+    ("extend 4294967296", 1, LineFault::BadNumber),
     ("restore 1", 1, LineFault::WordCount(2)),
     ("restore 1 some", 1, LineFault::BadNumber),
     ("restore 4294967296 all", 1, LineFault::BadNumber),
@@ -127,7 +131,7 @@ pub(super) static BAD_SCRIPTS: [(&str, u64, LineFault); 5] = [
 
 const LSN: Lsn = Lsn(640);
 
-pub(super) const REPLIES: [(ReplyLine, &str); 21] = [
+pub(super) const REPLIES: [(ReplyLine, &str); 22] = [
     (
         ReplyLine(Ok(Answer::Began {
             txn: TxnNo(2),
@@ -162,6 +166,7 @@ pub(super) const REPLIES: [(ReplyLine, &str); 21] = [
     (ReplyLine(Ok(Answer::Repaired(LSN))), "repaired 640"),
     (ReplyLine(Err(Refusal::SlotBusy(TxnNo(1)))), "E5 SlotBusy 1"),
     (ReplyLine(Err(Refusal::NoSavepoint)), "E42 NoSavepoint"),
+    (ReplyLine(Err(Refusal::NotLarger(3))), "E43 NotLarger 3"),
 ];
 
 pub(super) static FAULTS: [(ScriptFault, &str); 4] = [

@@ -14,7 +14,7 @@ pub(crate) const SECOND_FORMAT: u64 = 0x4149_4d47_4c4f_4732;
 /// The page count of a header, as the eight bytes behind its magic.
 const NO_PAGES: u64 = 0;
 
-const ONE_PAGE: u64 = 0x0100_0000_0000_0000;
+pub(crate) const ONE_PAGE: u64 = 0x0100_0000_0000_0000;
 
 const TWO_PAGES: u64 = 0x0200_0000_0000_0000;
 
@@ -105,7 +105,7 @@ pub(crate) fn header_of_2_pages() -> [u64; 8] {
     header_of(SECOND_FORMAT, TWO_PAGES)
 }
 
-fn header_of(format: u64, pages: u64) -> [u64; 8] {
+pub(crate) fn header_of(format: u64, pages: u64) -> [u64; 8] {
     [format, pages, 0, 0, 0, 0, 0, 0]
 }
 

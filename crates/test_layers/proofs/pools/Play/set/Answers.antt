@@ -1,4 +1,4 @@
-use Rattle.std.proofs.Common.{rules, ◌≡◌, ℕ, ◌+◌, ◌*◌, ◌<◌, ◌≤◌, length, List, [], ◌∷◌, ◌++◌, arith}
+use Rattle.std.proofs.Common.{rules, ◌≡◌, ℕ, ◌+◌, ◌*◌, ◌<◌, ◌≤◌, length, List, [], ◌∷◌, ◌++◌, refl, arith}
 use Rattle.std.proofs.lemmas.List.{length_push}
 use Rattle.page_core.specs.declared.change.Change.TheVariants.{Set}
 use Rattle.log_records.specs.declared.record.Record.{Record}
@@ -21,7 +21,7 @@ invariant_of-self g c =
     let stands : StandsAt (page_count log) (lsn_of (length log.records)) next = search rules in
     let more : length (log.records ++ next ∷ [])
     ≡ c.self.inside.records + 1 = omega (arith, length_push log.records next, count) in
-    let valid : IsLog (with_next log (next ∷ [])) = next_is_log log next old (omega arith) stands in
+    let valid : IsLog (with_next log (next ∷ [])) = next_is_log log next old (omega arith) stands refl in
     (with_next log (next ∷ []), (c.change.ensures.kept log c.self.invariant.1.0 valid, more))
 
 pub change-requires-clause-next : goal.change-requires-clause-next
@@ -35,4 +35,4 @@ change-requires-clause-next g c =
     let old : IsLog log = search rules in
     let most : page_count log ≤ 65536 = (page_count-is_count log old).most in
     let stands : StandsAt (page_count log) (lsn_of (length log.records)) next = search rules in
-    (log, (c.self.invariant.1.0, next_is_log log next old (omega arith) stands))
+    (log, (c.self.invariant.1.0, next_is_log log next old (omega arith) stands refl))
