@@ -33,3 +33,12 @@ keeps_longer m n old mid new le first then =
       there = omega arith;
       same = sym (take-take m n new le) ∙ ap (take m) then.same ∙ take-take m n mid le ∙ first.same;
     }
+
+-- fewer of them stay too
+pub keeps_fewer : (m n : ℕ) (old new : List ℕ) → m ≤ n → KeepsFirst n old new → KeepsFirst m old new
+keeps_fewer m n old new le keeps =
+    let long = keeps.there in
+    record {
+      there = omega arith;
+      same = sym (take-take m n new le) ∙ ap (take m) keeps.same ∙ take-take m n old le;
+    }

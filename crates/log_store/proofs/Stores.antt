@@ -1,7 +1,7 @@
 -- The calls of a device by which a log is forced, one after another.
 use Rattle.std.proofs.Common.{ℕ, ◌≡◌, ◌+◌, ◌-◌, ◌/◌, ◌≤◌, ◌++◌, List, [], ◌∷◌, take, drop, slice_range}
-use Rattle.std.proofs.Common.{arith, refl, ap, subst, ◌∙◌, suc, slice_index_or, slice_get, Some}
-use Rattle.std.specs.Prelude.{Result, Ok, Err, OnErr}
+use Rattle.std.proofs.Common.{arith, refl, ap, subst, ◌∙◌, inl, inr, suc, slice_index_or, slice_get, Some}
+use Rattle.std.specs.Prelude.{◌⊎◌, Result, Ok, Err, OnErr, OnOk}
 use Rattle.log_store.specs.declared.device.DeviceFault.{DeviceFault}
 use Rattle.std.proofs.lemmas.List.{get_or-drop, length-drop}
 use Rattle.std.proofs.lemmas.Option.{get_or_from_slice_get, slice_get_within}
@@ -94,6 +94,32 @@ fails_at_next called old now new why so_far (r, there, call) same end = record {
   why = why;
   failed = call;
 }
+
+-- it failed so of another log with the same records and forced end
+pub fails_same : {D : Type 0} (called : StoreCall D) (old a b : WrittenLog D) → FailsAtNext called old a
+    → b.log ≡ a.log → b.forced_end ≡ a.forced_end → b.device ≡ a.device → FailsAtNext called old b
+fails_same called old a b fails same end device = record {
+  before_fault = fails.before_fault;
+  stored = rw (same, end) fails.stored;
+  next = fails.next;
+  there = rw (same, end) fails.there;
+  why = fails.why;
+  failed = rw device fails.failed;
+}
+
+-- ---- answers
+
+pub either : {T E : Type 0} (r : Result T E) (P Q : Type 0) → OnOk r P → OnErr r Q → P ⊎ Q
+either (Ok x) P Q ok err = inl ok
+either (Err e) P Q ok err = inr err
+
+pub if_ok : {T E : Type 0} (r : Result T E) (P Q : Type 0) → (P → Q) → OnOk r P → OnOk r Q
+if_ok (Ok x) P Q f h = f h
+if_ok (Err e) P Q f h = tt
+
+pub if_err : {T E : Type 0} (r : Result T E) (P Q : Type 0) → (P → Q) → OnErr r P → OnErr r Q
+if_err (Ok x) P Q f h = tt
+if_err (Err e) P Q f h = f h
 
 pub on_err : {T E : Type 0} (r : Result T E) (P : Type 0) → P → OnErr r P
 on_err (Ok x) P h = tt

@@ -9,7 +9,8 @@ use Rattle.log_records.specs.declared.record.Record.{Record}
 use Rattle.log_records.specs.Log.{IsLog, IsOfFormat, IsPageCount, Log, SpellsLog, StandsAt, format_in, header_bytes, lsn_of, page_count, page_count_at, with_next}
 use Rattle.log_records.specs.Record.{own_lsn, record_bytes}
 use Rattle.log_records.proofs.Records.{record_length}
-use Rattle.log_store.specs.WrittenLog.{HasRecordAt, IsWritten, written_log}
+use Rattle.log_store.specs.Device.{KeepsFirst}
+use Rattle.log_store.specs.WrittenLog.{HasRecordAt, IsWritten, WrittenLog, first_records, written_log}
 use Rattle.log_store.proofs.Scans.{spells_next}
 use Rattle.log_records.proofs.Logs.{format_in-append, format_in-header, format_in-take, length-log, length-header}
 use Rattle.log_records.specs.PageCount.{GivesMore, count_behind}
@@ -79,6 +80,30 @@ written_push bytes pages records forced room more device r kept few stands grows
           stable = subst (λ (rs : List Record). SpellsLog (record { pages = pages; records = rs }) (take (lsn_of forced) (bytes device)))
               (sym (take-append-le count records (r ∷ []) there)) known.stable;
           second = known.second;
+        },
+      );
+    }
+
+-- a device keeps its first bytes, up to the forced end
+pub written_kept : {D : Type 0} (bytes : D → List ℕ) (it : WrittenLog D) (after : D) (room : ℕ) → IsWritten bytes it
+    → KeepsFirst it.forced_end (bytes it.device) (bytes after)
+    → IsWritten bytes (record it { room = room; device = after })
+written_kept bytes it after room kept keeps =
+    let count = kept.forced.0 in
+    let known = kept.forced.1 in
+    let n = it.forced_end in
+    let named : format_in (bytes after) ≡ Second =
+    sym (format_in-take n (bytes after) (omega (arith, known.end))) ∙ ap format_in keeps.same
+    ∙ format_in-take n (bytes it.device) (omega (arith, known.end)) ∙ known.second in
+    record {
+      valid = kept.valid;
+      forced = (
+        count,
+        record {
+          there = known.there;
+          end = known.end;
+          stable = subst (SpellsLog (first_records count it.log)) (sym keeps.same) known.stable;
+          second = named;
         },
       );
     }

@@ -1,7 +1,9 @@
 -- The calls of a device by which a log is forced.
-use Rattle.std.specs.Prelude.{ℕ, ◌≡◌, ◌-◌, ◌/◌, List, [], ◌∷◌, Result, Ok, Err, slice_range}
+use Rattle.std.specs.Prelude.{ℕ, ◌≡◌, ◌<◌, ◌-◌, ◌/◌, ◌⊎◌, List, [], ◌∷◌, Result, Ok, Err}
+use Rattle.std.specs.Prelude.{slice_range}
 use Rattle.page_core.specs.declared.numbers.TheConstants.{LSN_STEP}
 use Rattle.log_records.specs.declared.record.Record.{Record}
+use Rattle.log_records.specs.Log.{header_bytes}
 use Rattle.log_records.specs.Record.{own_lsn, record_bytes}
 use Rattle.log_store.specs.declared.device.DeviceFault.{DeviceFault}
 use Rattle.log_store.specs.WrittenLog.{HasRecordAt, WrittenLog}
@@ -10,6 +12,11 @@ use Rattle.log_store.specs.WrittenLog.{HasRecordAt, WrittenLog}
 -- answered, and the device after it
 abbrev pub StoreCall : Type 0 → Type 1
 StoreCall D = D → ℕ → List ℕ → Result Unit DeviceFault → D → Type 0
+
+-- what a device says of one call of `sync`: the device before it, what it answered, and the device
+-- after it
+abbrev pub SyncCall : Type 0 → Type 1
+SyncCall D = D → Result Unit DeviceFault → D → Type 0
 
 -- each of these records was stored at its LSN, in order, by one call for each, and no other call
 -- was made
@@ -44,3 +51,49 @@ abbrev pub IsNextCall : {D : Type 0} → StoreCall D → WrittenLog D → Result
 IsNextCall called old result new =
     (r : Record) × HasRecordAt old.log old.forced_end r
     × called old.device (own_lsn r) (record_bytes r) result new
+
+-- ---- a force: its stores, and then one sync
+
+-- the records from the old forced end up to the new one were stored so, and then one call synced
+-- them all; where there are none, no call was made
+pub data Forced {D : Type 0} (called : StoreCall D) (synced : SyncCall D) (old new : WrittenLog D)
+    : Type 0 where
+  nothing : new.forced_end ≡ old.forced_end → new.device ≡ old.device → Forced called synced old new
+  in_one_sync : (stored : D) → old.forced_end < new.forced_end → StoresForced called old new stored
+      → synced stored (Ok tt) new.device → Forced called synced old new
+
+-- a store failed; then one call synced what was stored before it, and none was made where that is
+-- nothing
+pub record SyncsStored {D : Type 0} (synced : SyncCall D) (old new : WrittenLog D) (failed : D)
+    : Type 0 where
+  pub nothing : new.forced_end ≡ old.forced_end → new.device ≡ failed
+  pub stored : old.forced_end < new.forced_end → synced failed (Ok tt) new.device
+
+-- a force that failed: a store did, so that the records before it count as forced once they are
+-- synced; or their sync did, so that no record more counts as forced, whatever was stored
+pub data ForceFails {D : Type 0} (called : StoreCall D) (synced : SyncCall D)
+    (old new : WrittenLog D) : Type 0 where
+  at_a_store : (failed : D) → FailsAtNext called old (record new { device = failed })
+      → SyncsStored synced old new failed → ForceFails called synced old new
+  at_the_sync : (reached : WrittenLog D) (why : DeviceFault) → reached.log ≡ new.log
+      → old.forced_end < reached.forced_end
+      → StoresForced called old reached reached.device ⊎ FailsAtNext called old reached
+      → synced reached.device (Err why) new.device → new.forced_end ≡ old.forced_end
+      → ForceFails called synced old new
+
+-- ---- the header
+
+-- the header of a new log was stored by one call, and synced by one
+pub record StoresHeader {D : Type 0} (called : StoreCall D) (synced : SyncCall D) (pages : ℕ)
+    (device new : D) : Type 0 where
+  pub stored : D
+  pub store : called device 0 (header_bytes pages) (Ok tt) stored
+  pub sync : synced stored (Ok tt) new
+
+-- one of these two calls failed, and none was made after it
+pub data HeaderFails {D : Type 0} (called : StoreCall D) (synced : SyncCall D) (pages : ℕ)
+    (device left : D) : Type 0 where
+  at_the_store : (why : DeviceFault) → called device 0 (header_bytes pages) (Err why) left
+      → HeaderFails called synced pages device left
+  at_the_sync : (stored : D) (why : DeviceFault) → called device 0 (header_bytes pages) (Ok tt) stored
+      → synced stored (Err why) left → HeaderFails called synced pages device left

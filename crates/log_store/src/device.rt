@@ -1,6 +1,6 @@
 //! The device that stores a log: stable storage, in the words of ARIES.
 
-ghost use Rattle.std.specs.Prelude.{ℕ, ◌≡◌, ◌+◌, ◌<◌, ◌≤◌, ◌++◌, List, length, take, OnOk, OnErr};
+ghost use Rattle.std.specs.Prelude.{ℕ, ◌≡◌, ◌+◌, ◌<◌, ◌≤◌, ◌++◌, List, length, min, take, OnOk, OnErr};
 ghost use Rattle.std.specs.Prelude.{Result};
 ghost use Rattle.log_store.specs.Device.{KeepsFirst};
 ghost use Rattle.log_store.specs.declared.device.DeviceFault.{DeviceFault};
@@ -19,11 +19,18 @@ pub trait LogDevice {
     /// say that it always holds.
     ghost called: { Self → ℕ → List ℕ → Result Unit DeviceFault → Self → Type 0 };
 
+    /// What one call of `sync` did: the device before it, what it answered, and the device after it.
+    /// As with `called`, there is no other way to show it than to make the call.
+    ghost synced: { Self → Result Unit DeviceFault → Self → Type 0 };
+
+    /// How many of its first bytes last: they outlast a loss of power, and a call that fails.
+    ghost lasting: { Self → ℕ };
+
     /// How often the device has failed: a number that contracts alone see. It has no last value.
     ghost failures: { Self → ℕ };
 
-    /// Where its stores may fail: none that ends before this offset does. It never changes, and is
-    /// 0 where any store may fail.
+    /// Where its stores may fail: none that ends before this offset does, and no sync of fewer bytes.
+    /// It never changes, and is 0 where any call may fail.
     ghost fails_from: { Self → ℕ };
 
     /// Replaces all bytes of the device from an offset on by these bytes.
@@ -40,11 +47,33 @@ pub trait LogDevice {
         ensures no_failure { OnOk result (failures self.new ≡ failures self.old) }
         ensures failure { OnErr result (failures self.old < failures self.new) }
 
+        // The bytes before the offset last as they did.
+        ensures lasting { min from (lasting self.old) ≤ lasting self.new }
+
         ensures same_bound { fails_from self.new ≡ fails_from self.old }
         ensures past_bound { OnErr result (fails_from self.old ≤ from + length next.now) };
+
+    /// Waits until all bytes of the device last. A device in memory, whose bytes end with the
+    /// program, has nothing to wait for.
+    ///
+    /// An `Err` comes where the device fails, and of nothing else. The bytes that lasted stand even
+    /// then, and still last. Of the others nothing is said: they may be gone.
+    fn sync(&mut self) -> Result<(), DeviceFault>
+        ensures same { OnOk result (bytes self.new ≡ bytes self.old) }
+        ensures all { OnOk result (length (bytes self.new) ≤ lasting self.new) }
+        ensures kept { OnErr result
+            (KeepsFirst (lasting self.old) (bytes self.old) (bytes self.new)) }
+        ensures lasting { OnErr result (lasting self.old ≤ lasting self.new) }
+
+        ensures synced { synced self.old result self.new }
+        ensures no_failure { OnOk result (failures self.new ≡ failures self.old) }
+        ensures failure { OnErr result (failures self.old < failures self.new) }
+
+        ensures same_bound { fails_from self.new ≡ fails_from self.old }
+        ensures past_bound { OnErr result (fails_from self.old ≤ length (bytes self.old)) };
 }
 
-/// The device failed. `LogDevice::store` says what is on it then.
+/// The device failed. `LogDevice` says of each call what is on it then.
 #[derive(Clone, Copy, Debug, PartialEq, Eq)]
 pub struct DeviceFault;
 

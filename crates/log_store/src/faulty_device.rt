@@ -1,6 +1,6 @@
 //! A device that fails at one call, to test what stands on a device.
 
-ghost use Rattle.std.specs.Prelude.{◌≡◌, ◌≤◌, false, length, true};
+ghost use Rattle.std.specs.Prelude.{◌≡◌, ◌≤◌, false, length, true, Ok};
 ghost use Rattle.log_store.specs.FaultyDevice.{FaultyStores, after_fault};
 
 use crate::device::{DeviceFault, LogDevice};
@@ -79,6 +79,10 @@ impl LogDevice for FaultyDevice {
 
     ghost called = { λ old from next result new. FaultyStores old from next new result };
 
+    ghost synced = { λ old result new. (result ≡ Ok tt) × (new ≡ old) };
+
+    ghost lasting = { λ faulty. length faulty.memory.bytes };
+
     ghost failures = { λ faulty. faulty.memory.failures };
 
     ghost fails_from = { λ _. 0 };
@@ -97,5 +101,12 @@ impl LogDevice for FaultyDevice {
             return Err(self.fail_store(from, next));
         }
         self.device.store(from, next)
+    }
+
+    /// There is nothing to wait for, so this is no call that fails.
+    fn sync(&mut self) -> Result<(), DeviceFault>
+        ensures idle { (result ≡ Ok tt) × (self.new ≡ self.old) }
+    {
+        Ok(())
     }
 }

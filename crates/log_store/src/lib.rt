@@ -12,6 +12,7 @@ mod mem_device;
 mod read;
 mod scan;
 mod sink;
+mod stored_log;
 
 pub use device::{DeviceFault, LogDevice};
 pub use fault::LogReadFault;

@@ -1,7 +1,6 @@
 //! A log on a device, which callers append to and force.
 
-ghost use Rattle.std.specs.Prelude.{ℕ, ◌≡◌, ◌+◌, ◌-◌, ◌*◌, ◌<◌, ◌≤◌, [], ◌∷◌, length, max, Some};
-ghost use Rattle.std.specs.Prelude.{Ok, Err};
+ghost use Rattle.std.specs.Prelude.{ℕ, ◌≡◌, ◌<◌, ◌≤◌, [], ◌∷◌, length, max, Some};
 ghost use Rattle.std.specs.Prelude.{IfOk, IfErr, IfSome, OnOk, OnErr};
 ghost use Rattle.log_records.specs.declared.record.Record.{Record};
 ghost use Rattle.log_store.specs.Device.{KeepsFirst};
@@ -9,54 +8,43 @@ ghost use Rattle.log_records.specs.Log.{IsLog, StandsAt, header_bytes, lsn_of};
 ghost use Rattle.log_records.specs.PageCount.{GivesMore};
 ghost use Rattle.log_records.specs.Record.{IsPageCount};
 ghost use Rattle.log_records.specs.Log.{page_count, with_next};
-ghost use Rattle.log_store.specs.Stores.{FailsAtNext, IsNextCall, StoresForced};
+ghost use Rattle.log_store.specs.Stores.{ForceFails, Forced, HeaderFails, StoresHeader};
 ghost use Rattle.log_store.specs.WrittenLog.{EndsAtRecord, HasRecordAt, IsWritten, end_up_to};
 
 use crate::device::{DeviceFault, LogDevice};
 use crate::log_image::LogImage;
-use log_records::{MAX_RECORDS, RECORD_BYTES, Record, count_behind, encode, encode_header};
-use page_core::{LSN_STEP, Lsn};
+use crate::stored_log::StoredLog;
+use log_records::{MAX_RECORDS, Record};
+use page_core::Lsn;
 use std::alloc::{AllocError, Global};
 use std::marker::Model;
 
 /// A log that callers append to and force to a device. It has all of its records in memory, and the
-/// first of them on its device too. These are forced: they outlast every later call and every later
-/// fault.
+/// first of them on its device too. These are forced: they last there, and outlast every later call
+/// and every later fault.
 #[derive(Drop)]
 pub struct Log<D: LogDevice> {
-    /// The page count that the header gives.
-    pages: u32,
-    /// The page count behind all records.
-    count: u32,
-    records: Vec<Record>,
-    /// How many records are forced.
-    forced: usize,
-    device: D,
+    /// All that is stored is synced.
+    stored: StoredLog<D>,
 }
 
 impl<D: LogDevice> Model for Log<D> {
-    ghost use Rattle.std.specs.Prelude.{◌≡◌, ◌-◌, vec_len};
-    ghost use Rattle.std.specs.Vec.{vec_capacity};
-    ghost use Rattle.log_records.specs.PageCount.{count_behind};
-    ghost use Rattle.log_store.specs.WrittenLog.{WrittenLog, IsWritten, written_log};
+    ghost use Rattle.std.specs.Prelude.{◌≤◌};
+    ghost use Rattle.log_store.specs.WrittenLog.{WrittenLog};
 
     ghost Value = { WrittenLog D };
 
-    ghost view = { λ it. written_log it.pages it.records.items it.forced
-        (vec_capacity it.records - vec_len it.records) it.device };
+    ghost view = { λ it. it.stored };
 
-    ghost invariant = { λ it.
-        IsWritten D.bytes (written_log it.pages it.records.items it.forced
-        (vec_capacity it.records - vec_len it.records) it.device)
-        × (it.count ≡ count_behind it.pages it.records.items) };
+    ghost invariant = { λ it. it.stored.forced_end ≤ D.lasting it.stored.device };
 }
 
 impl<D: LogDevice> Log<D> {
     /// A log without records, of a volume of so many pages. Its header is stored by one call of
-    /// the device.
+    /// the device, and synced by one.
     ///
-    /// An `Err` comes where this call fails. It hands the device back.
-    pub fn new(alloc: Global, pages: u32, mut device: D) -> Result<Log<D>, (DeviceFault, D)>
+    /// An `Err` comes where one of these calls fails. It hands the device back.
+    pub fn new(alloc: Global, pages: u32, device: D) -> Result<Log<D>, (DeviceFault, D)>
         requires { IsPageCount pages }
 
         ensures empty { IfOk result (λ it. it.log ≡ record { pages = pages; records = [] }) }
@@ -64,25 +52,17 @@ impl<D: LogDevice> Log<D> {
         ensures header { IfOk result (λ it. D.bytes it.device ≡ header_bytes pages) }
 
         ensures called { IfOk result (λ it.
-            D.called device 0 (header_bytes pages) (Ok tt) it.device) }
+            StoresHeader D.called D.synced pages device it.device) }
         ensures no_failure { IfOk result (λ it. D.failures it.device ≡ D.failures device) }
-        ensures one_call { IfErr result (λ e.
-            D.called device 0 (header_bytes pages) (Err e.0) e.1) }
+        ensures last_call { IfErr result (λ e. HeaderFails D.called D.synced pages device e.1) }
         ensures failure { IfErr result (λ e. D.failures device < D.failures e.1) }
 
         ensures same_bound { IfOk result (λ it. D.fails_from it.device ≡ D.fails_from device) }
         ensures past_bound { OnErr result (D.fails_from device ≤ 64) }
     {
-        match device.store(0, &encode_header(pages)) {
-            Ok(()) => Ok(Log {
-                pages,
-                count: pages,
-                records: Vec::new(alloc),
-                forced: 0,
-                device,
-            }),
-            Err(fault) => Err((fault, device)),
-        }
+        Ok(Log {
+            stored: StoredLog::new(alloc, pages, device)?,
+        })
     }
 
     /// Makes room for one record more. An `Err` comes where it is refused. The log stays as it is.
@@ -92,7 +72,7 @@ impl<D: LogDevice> Log<D> {
         ensures forced_end { self.new.forced_end ≡ self.old.forced_end }
         ensures device { self.new.device ≡ self.old.device }
     {
-        self.records.reserve(1)
+        self.stored.make_room()
     }
 
     /// Appends a record in memory; `force_to` and `force` bring it to the device. It takes no
@@ -108,17 +88,16 @@ impl<D: LogDevice> Log<D> {
         ensures forced_end { self.new.forced_end ≡ self.old.forced_end }
         ensures device { self.new.device ≡ self.old.device }
     {
-        if self.records.push(next).is_err() {
-            unreachable!();
-        }
-        self.count = next.count_after(self.count);
+        self.stored.append(next);
     }
 
     /// Forces the log up to an LSN: stores each record that is not forced yet and stands at this
-    /// LSN or before it, in order, by one call of the device for each. It takes no memory.
+    /// LSN or before it, in order, by one call of the device for each, and then syncs them all by
+    /// one. It takes no memory.
     ///
-    /// An `Err` comes where one of these calls fails, and ends them. The records that were stored
-    /// before it are forced, and what was forced before this call stands.
+    /// An `Err` comes where one of these calls fails. Where a store fails, none is made after it;
+    /// the records before it are synced, if there are any, and are forced then. Where the sync
+    /// fails, no record more is forced. What was forced before this call stands.
     pub fn force_to(&mut self, lsn: Lsn) -> Result<(), DeviceFault>
         ensures same { self.new.log ≡ self.old.log }
         ensures rising { self.old.forced_end ≤ self.new.forced_end }
@@ -132,22 +111,23 @@ impl<D: LogDevice> Log<D> {
             → length (D.bytes self.new.device) ≡ self.new.forced_end) }
         ensures idle { OnOk result (self.new.forced_end ≡ self.old.forced_end
             → self.new.device ≡ self.old.device) }
-        ensures called { OnOk result (StoresForced D.called self.old self.new self.new.device) }
+        ensures called { OnOk result (Forced D.called D.synced self.old self.new) }
         ensures no_failure { OnOk result (D.failures self.new.device ≡ D.failures self.old.device) }
 
         ensures short { OnErr result (self.new.forced_end < end_up_to self.old.log lsn) }
-        ensures last_call { OnErr result (FailsAtNext D.called self.old self.new) }
+        ensures last_call { OnErr result (ForceFails D.called D.synced self.old self.new) }
         ensures failure { OnErr result (D.failures self.old.device < D.failures self.new.device) }
 
         ensures same_bound { D.fails_from self.new.device ≡ D.fails_from self.old.device }
         ensures past_bound { OnErr result (D.fails_from self.old.device
             ≤ end_up_to self.old.log lsn) }
     {
-        let count = self.records.len().min((lsn.0 / LSN_STEP) as usize);
-        for _ in self.forced..count {
-            self.force_next()?;
+        let forced = self.stored.count();
+        let done = self.stored.store_to(lsn);
+        if self.stored.count() > forced {
+            self.stored.sync(forced)?;
         }
-        Ok(())
+        done
     }
 
     /// Forces the whole log. Its calls of the device and its `Err` are those of `force_to`.
@@ -163,21 +143,22 @@ impl<D: LogDevice> Log<D> {
             → length (D.bytes self.new.device) ≡ self.new.forced_end) }
         ensures idle { OnOk result (self.new.forced_end ≡ self.old.forced_end
             → self.new.device ≡ self.old.device) }
-        ensures called { OnOk result (StoresForced D.called self.old self.new self.new.device) }
+        ensures called { OnOk result (Forced D.called D.synced self.old self.new) }
         ensures no_failure { OnOk result (D.failures self.new.device ≡ D.failures self.old.device) }
 
         ensures short { OnErr result (self.new.forced_end < lsn_of (length self.old.log.records)) }
-        ensures last_call { OnErr result (FailsAtNext D.called self.old self.new) }
+        ensures last_call { OnErr result (ForceFails D.called D.synced self.old self.new) }
         ensures failure { OnErr result (D.failures self.old.device < D.failures self.new.device) }
 
         ensures same_bound { D.fails_from self.new.device ≡ D.fails_from self.old.device }
         ensures past_bound { OnErr result (D.fails_from self.old.device
             ≤ lsn_of (length self.old.log.records)) }
     {
-        let end = offset_of(self.records.len());
-        let done = self.force_to(Lsn(end));
+        let end = self.end();
+        let done = self.force_to(end);
         // What the log keeps holds of it now, and is seen where it is read.
-        prove!(self.forced <= self.records.len());
+        let all = self.forced_end() <= end;
+        prove!(all);
         done
     }
 
@@ -187,26 +168,23 @@ impl<D: LogDevice> Log<D> {
         ensures found { IfSome result (HasRecordAt self.now.log lsn) }
         ensures only { (r : Record) → HasRecordAt self.now.log lsn r → result ≡ Some r }
     {
-        let index = (lsn.0 / LSN_STEP).checked_sub(1)?;
-        if lsn.0 % LSN_STEP != 0 {
-            return None;
-        }
-        self.records.get(index as usize).copied()
+        self.stored.get(lsn)
     }
 
     /// The LSN after the last record: where the next record will stand.
     pub fn end(&self) -> Lsn
         ensures { result ≡ lsn_of (length self.now.log.records) }
     {
-        Lsn(offset_of(self.records.len()))
+        self.stored.end()
     }
 
-    /// The LSN after the last forced record. Each record below it is on the device.
+    /// The LSN after the last forced record. Each record below it lasts on the device.
     pub fn forced_end(&self) -> Lsn
         ensures end { result ≡ self.now.forced_end }
         ensures within { result ≤ lsn_of (length self.now.log.records) }
+        ensures lasts { result ≤ D.lasting self.now.device }
     {
-        Lsn(offset_of(self.forced))
+        self.stored.stored_end()
     }
 
     /// The records, the oldest first. The record at index i has LSN 64 * (i + 1).
@@ -214,14 +192,14 @@ impl<D: LogDevice> Log<D> {
         ensures records { result.now ≡ self.now.log.records }
         ensures valid { IsLog self.now.log }
     {
-        &self.records
+        self.stored.records()
     }
 
     /// How many pages the volume has behind all records.
     pub fn pages(&self) -> u32
         ensures { result ≡ page_count self.now.log }
     {
-        self.count
+        self.stored.pages()
     }
 
     /// The page count that the log's header gives: how many pages the volume had before the first
@@ -229,7 +207,7 @@ impl<D: LogDevice> Log<D> {
     pub fn header_pages(&self) -> u32
         ensures { result ≡ self.now.log.pages }
     {
-        self.pages
+        self.stored.header_pages()
     }
 
     /// The log's device.
@@ -237,8 +215,9 @@ impl<D: LogDevice> Log<D> {
         ensures device { result.now ≡ self.now.device }
         // It begins with the header and the forced records.
         ensures kept { IsWritten D.bytes self.now }
+        ensures lasts { self.now.forced_end ≤ D.lasting self.now.device }
     {
-        &self.device
+        self.stored.device()
     }
 
     /// The log as a value, with all of its records, and the device. It is not written any more.
@@ -246,46 +225,9 @@ impl<D: LogDevice> Log<D> {
         ensures log { result.0 ≡ self.log }
         ensures device { result.1 ≡ self.device }
         ensures kept { IsWritten D.bytes self }
+        ensures lasts { self.forced_end ≤ D.lasting self.device }
     {
-        let Log {
-            pages,
-            count,
-            records,
-            forced: _,
-            device,
-        } = self;
-        (LogImage::from_parts(pages, count, records), device)
+        let Log { stored } = self;
+        stored.into_parts()
     }
-
-    /// Forces the first record that is not forced.
-    fn force_next(&mut self) -> Result<(), DeviceFault>
-        requires { self.old.forced_end < lsn_of (length self.old.log.records) }
-
-        ensures same { self.new.log ≡ self.old.log }
-        ensures stands { KeepsFirst self.old.forced_end
-            (D.bytes self.old.device) (D.bytes self.new.device) }
-        ensures called { IsNextCall D.called self.old result self.new.device }
-        ensures forced { OnOk result (self.new.forced_end ≡ self.old.forced_end + 64) }
-        ensures nothing_more { OnOk result (length (D.bytes self.new.device)
-            ≡ self.new.forced_end) }
-        ensures no_failure { OnOk result (D.failures self.new.device ≡ D.failures self.old.device) }
-        ensures not_forced { OnErr result (self.new.forced_end ≡ self.old.forced_end) }
-        ensures failure { OnErr result (D.failures self.old.device < D.failures self.new.device) }
-        ensures same_bound { D.fails_from self.new.device ≡ D.fails_from self.old.device }
-        ensures past_bound { OnErr result (D.fails_from self.old.device
-            ≤ self.old.forced_end + 64) }
-    {
-        let next = encode(&self.records[self.forced]);
-        self.device.store(offset_of(self.forced), &next)?;
-        self.forced += 1;
-        Ok(())
-    }
-}
-
-/// Where the record at an index stands, in bytes.
-fn offset_of(index: usize) -> u64
-    requires { index ≤ MAX_RECORDS }
-    ensures { result ≡ lsn_of index }
-{
-    LSN_STEP * (index as u64 + 1)
 }

@@ -1,6 +1,6 @@
 //! A device in memory.
 
-ghost use Rattle.std.specs.Prelude.{◌≡◌, ◌+◌, ◌*◌, ◌≤◌, [], length, IfOk};
+ghost use Rattle.std.specs.Prelude.{◌≡◌, ◌+◌, ◌*◌, ◌≤◌, [], length, IfOk, Ok};
 ghost use Rattle.page_core.specs.declared.numbers.TheConstants.{LSN_STEP};
 ghost use Rattle.log_store.specs.MemDevice.{Stores, empty_memory, after_failure};
 
@@ -74,6 +74,10 @@ impl LogDevice for MemDevice {
 
     ghost called = { λ old from next result new. Stores old from next new result };
 
+    ghost synced = { λ old result new. (result ≡ Ok tt) × (new ≡ old) };
+
+    ghost lasting = { λ device. length device.bytes };
+
     ghost failures = { λ device. device.failures };
 
     ghost fails_from = { λ device. device.room + 1 };
@@ -91,6 +95,13 @@ impl LogDevice for MemDevice {
         self.bytes.truncate(from);
         // There is room for these bytes, so this takes no memory.
         self.bytes.extend_from_slice(next).unwrap();
+        Ok(())
+    }
+
+    /// There is nothing to wait for.
+    fn sync(&mut self) -> Result<(), DeviceFault>
+        ensures idle { (result ≡ Ok tt) × (self.new ≡ self.old) }
+    {
         Ok(())
     }
 }

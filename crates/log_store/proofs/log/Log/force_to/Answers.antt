@@ -1,64 +1,83 @@
-use Rattle.std.proofs.Common.{◌+◌, ◌≤◌, length, refl, ◌∙◌, arith}
-use Rattle.log_records.specs.Log.{lsn_of}
-use Rattle.log_store.proofs.Devices.{keeps_all, keeps_longer}
-use Rattle.log_store.proofs.Stores.{fails_at_next, forced_push, none_between, on_err}
-use Rattle.log_store.proofs.WrittenLogs.{on_device}
+use Rattle.std.proofs.Common.{◌≡◌, ◌<◌, refl, sym, subst, ◌∙◌, arith}
+use Rattle.std.specs.Prelude.{OnErr, OnOk}
+use Rattle.log_records.specs.Log.{Log}
+use Rattle.log_store.specs.Stores.{FailsAtNext, ForceFails, Forced, StoresForced, at_a_store, at_the_sync, in_one_sync}
+use Rattle.log_store.specs.WrittenLog.{IsWritten, WrittenLog}
+use Rattle.log_store.proofs.Stores.{either, fails_same, if_err, if_ok, on_err}
+use Rattle.log_store.proofs.WrittenLogs.{written_kept}
 use Rattle.log_store.proofs.log.Log.force_to.Goals as goal
 
-pub loop-init : goal.loop-init
-loop-init g c =
-    let it = c.self.inside in
+pub sync-requires-clause-kept : goal.sync-requires-clause-kept
+sync-requires-clause-kept g c =
+    let old = c.self.inside.stored in
+    let new = c.store_to-done.new.self in
     let bytes = g.D.LogDevice.bytes in
-    let long : lsn_of it.forced ≤ length (bytes it.device) =
-    on_device bytes it.pages it.records.items it.forced _ it.device c.self.invariant.0 in
-    rw (← c.self.view_is) (record {
-      same = refl;
-      forced = refl;
-      rising = omega arith;
-      most = omega arith;
-      stands = keeps_all (lsn_of it.forced) (bytes it.device) long;
-      nothing_more = λ more. absurd (omega (arith, more));
-      idle = λ same. refl;
-      reached = record { first = it.forced; next = it.forced; order = omega arith; from = refl; to = refl };
-      called = rw (none_between it.records.items (lsn_of it.forced)) refl;
-      no_failure = refl;
-      same_bound = refl;
-    })
+    subst (λ n. IsWritten bytes (record new { forced_end = n })) c.count-forced.ensures.end
+    (subst (λ (l : Log). IsWritten bytes (record new { log = l; forced_end = old.forced_end })) (sym c.store_to-done.ensures.same)
+    (written_kept bytes old new.device new.room c.count-forced.ensures.kept c.store_to-done.ensures.stands))
 
-pub returns-in_err-force_next-clause-stands : goal.returns-in_err-force_next-clause-stands
-returns-in_err-force_next-clause-stands g c =
-    keeps_longer _ _ _ _ _ c.loop.invariant.rising c.loop.invariant.stands c.force_next.ensures.stands
-
-pub loop-preserved : goal.loop-preserved
-loop-preserved g c =
-    let so_far = c.loop.invariant in
-    let next = c.in_ok-force_next.ensures in
-    let at = so_far.reached in
-    record {
-      same = next.same ∙ so_far.same;
-      forced = omega (arith, next.forced, so_far.forced);
-      rising = omega (arith, next.forced, so_far.rising);
-      most = omega (arith, next.forced, so_far.forced);
-      stands = keeps_longer _ _ _ _ _ so_far.rising so_far.stands next.stands;
-      nothing_more = λ more. next.nothing_more;
-      idle = λ same. absurd (omega (arith, same, next.forced, so_far.rising));
-      reached = record {
-        first = at.first;
-        next = at.next + 1;
-        order = let o = at.order in omega arith;
-        from = at.from;
-        to = let t = at.to in omega (arith, next.forced);
-      };
-      called =
-          forced_push g.D.LogDevice.called _ c.loop.self c.force_next.new.self at so_far.called next.called next.same
-          next.forced;
-      no_failure = next.no_failure ∙ so_far.no_failure;
-      same_bound = next.same_bound ∙ so_far.same_bound;
-    }
-
-pub returns-in_err-force_next-clause-last_call : goal.returns-in_err-force_next-clause-last_call
-returns-in_err-force_next-clause-last_call g c =
-    let next = c.in_err-force_next.ensures in
+pub returns-in_err-sync-clause-last_call : goal.returns-in_err-sync-clause-last_call
+returns-in_err-sync-clause-last_call g c =
+    let old = c.self.inside.stored in
+    let reached = c.store_to-done.new.self in
+    let called = g.D.LogDevice.called in
+    let synced = g.D.LogDevice.synced in
+    let more : old.forced_end < reached.forced_end =
+    omega (arith, c.count.ensures.end, c.count-forced.ensures.end, c.if-count-forced.true) in
     on_err c.from_residual.result _
-    (fails_at_next g.D.LogDevice.called c.args.self.now c.loop.self c.force_next.new.self _
-    c.loop.invariant.called next.called next.same next.not_forced)
+    (subst (λ (v : WrittenLog g.row.D.Denot). ForceFails called synced v c.sync.new.self) c.self.view_is
+    (at_the_sync reached _ (sym c.sync.ensures.same) more
+    (either c.store_to-done.result _ _ c.store_to-done.ensures.called c.store_to-done.ensures.last_call)
+    c.in_err-sync.ensures.synced (c.in_err-sync.ensures.back ∙ sym c.count-forced.ensures.end)))
+
+pub returns-in_ok-sync-clause-called : goal.returns-in_ok-sync-clause-called
+returns-in_ok-sync-clause-called g c =
+    let old = c.self.inside.stored in
+    let reached = c.store_to-done.new.self in
+    let new = c.sync.new.self in
+    let called = g.D.LogDevice.called in
+    let synced = g.D.LogDevice.synced in
+    let more : old.forced_end < new.forced_end =
+    omega (arith, c.count.ensures.end, c.count-forced.ensures.end, c.if-count-forced.true, c.in_ok-sync.ensures.end) in
+    subst (λ (v : WrittenLog g.row.D.Denot). OnOk c.store_to-done.result (Forced called synced v new)) c.self.view_is
+    (if_ok c.store_to-done.result (StoresForced called old reached reached.device) (Forced called synced old new)
+    (λ stored. in_one_sync reached.device more (rw (c.sync.ensures.same, c.in_ok-sync.ensures.end) stored)
+    c.in_ok-sync.ensures.synced) c.store_to-done.ensures.called)
+
+pub returns-in_ok-sync-clause-last_call : goal.returns-in_ok-sync-clause-last_call
+returns-in_ok-sync-clause-last_call g c =
+    let old = c.self.inside.stored in
+    let reached = c.store_to-done.new.self in
+    let new = c.sync.new.self in
+    let called = g.D.LogDevice.called in
+    let synced = g.D.LogDevice.synced in
+    let more : old.forced_end < new.forced_end =
+    omega (arith, c.count.ensures.end, c.count-forced.ensures.end, c.if-count-forced.true, c.in_ok-sync.ensures.end) in
+    subst (λ (v : WrittenLog g.row.D.Denot). OnErr c.store_to-done.result (ForceFails called synced v new)) c.self.view_is
+    (if_err c.store_to-done.result (FailsAtNext called old reached) (ForceFails called synced old new)
+    (λ fails. at_a_store reached.device
+    (fails_same called old reached (record new { device = reached.device }) fails c.sync.ensures.same
+    c.in_ok-sync.ensures.end refl)
+    (record { nothing = λ same. absurd (omega (arith, same, more)); stored = λ some. c.in_ok-sync.ensures.synced }))
+    c.store_to-done.ensures.last_call)
+
+pub returns-else-count-forced-clause-last_call : goal.returns-else-count-forced-clause-last_call
+returns-else-count-forced-clause-last_call g c =
+    let old = c.self.inside.stored in
+    let reached = c.store_to-done.new.self in
+    let called = g.D.LogDevice.called in
+    let synced = g.D.LogDevice.synced in
+    let none : reached.forced_end ≡ old.forced_end =
+    omega (
+      arith,
+      c.count.ensures.end,
+      c.count-forced.ensures.end,
+      c.if-count-forced.false,
+      c.store_to-done.ensures.rising,
+    ) in
+    subst (λ (v : WrittenLog g.row.D.Denot). OnErr c.store_to-done.result (ForceFails called synced v reached))
+    c.self.view_is
+    (if_err c.store_to-done.result (FailsAtNext called old reached) (ForceFails called synced old reached)
+    (λ fails. at_a_store reached.device fails
+    (record { nothing = λ same. refl; stored = λ some. absurd (omega (arith, some, none)) }))
+    c.store_to-done.ensures.last_call)

@@ -1,9 +1,9 @@
-use Rattle.std.proofs.Common.{◌≡◌, ◌<◌, ◌≤◌, length, max}
+use Rattle.std.proofs.Common.{◌≡◌, ◌<◌, ◌≤◌, length, max, min}
 use Rattle.log_store.specs.Device.{KeepsFirst}
 use Rattle.log_records.specs.Log.{lsn_of}
 use Rattle.log_store.specs.Stores.{StoresForced}
 use Rattle.log_store.proofs.Stores.{Reached}
-use Rattle.log_store.proofs.log.Log.force_to.Given as goal
+use Rattle.log_store.proofs.stored_log.StoredLog.store_to.Given as goal
 
 abbrev pub invariant-loop : goal.invariant-loop
 invariant-loop g l = record {
@@ -13,6 +13,8 @@ invariant-loop g l = record {
   most : l.self.forced_end ≤ max l.initial.self.forced_end (lsn_of l.count);
   stands : KeepsFirst l.initial.self.forced_end (g.D.LogDevice.bytes l.initial.self.device)
       (g.D.LogDevice.bytes l.self.device);
+  lasting : min l.initial.self.forced_end (g.D.LogDevice.lasting l.initial.self.device)
+      ≤ g.D.LogDevice.lasting l.self.device;
   nothing_more : l.initial.self.forced_end < l.self.forced_end
       → length (g.D.LogDevice.bytes l.self.device) ≡ l.self.forced_end;
   idle : l.self.forced_end ≡ l.initial.self.forced_end → l.self.device ≡ l.initial.self.device;

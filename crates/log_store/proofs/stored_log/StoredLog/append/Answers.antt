@@ -6,7 +6,7 @@ use Rattle.log_records.specs.PageCount.{GivesMore, count_after, count_behind}
 use Rattle.log_records.proofs.PageCounts.{count_behind-push}
 use Rattle.log_store.specs.WrittenLog.{IsWritten, WrittenLog, written_log}
 use Rattle.log_store.proofs.WrittenLogs.{written_push}
-use Rattle.log_store.proofs.log.Log.append.Goals as goal
+use Rattle.log_store.proofs.stored_log.StoredLog.append.Goals as goal
 
 pub invariant_of-self : goal.invariant_of-self
 invariant_of-self g c =
@@ -22,8 +22,8 @@ invariant_of-self g c =
     (sym c.self.view_is) c.requires.stands in
     let more : GivesMore (count_behind it.pages it.records.items) next =
     subst (λ (v : WrittenLog g.row.D.Denot). GivesMore (page_count v.log) next) (sym c.self.view_is) c.requires.more in (
-      subst (λ (rs : List Record). IsWritten bytes (written_log it.pages rs it.forced room it.device)) (sym pushed)
-          (written_push bytes it.pages it.records.items it.forced _ room it.device next c.self.invariant.0 few stands more),
+      subst (λ (rs : List Record). IsWritten bytes (written_log it.pages rs it.stored room it.device)) (sym pushed)
+          (written_push bytes it.pages it.records.items it.stored _ room it.device next c.self.invariant.0 few stands more),
       c.count_after-self-inside.ensures ∙ ap (λ n. count_after n next) c.self.invariant.1
           ∙ sym (count_behind-push it.pages it.records.items next)
           ∙ ap (count_behind it.pages) (sym pushed),
