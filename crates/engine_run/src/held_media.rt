@@ -108,6 +108,7 @@ impl<S: PageStore, D: LogDevice, G: Ledger> Held<S, D, G> {
     pub fn ckpt_end(&mut self) -> Result<Point, Refusal>
         ensures step { Step self.old.engine.state event.CkptEnd
             (reply_of (λ p. answer.Point p.begin p.end p.redo) result) self.new.engine.state }
+        ensures noted { IfOk result (λ p. self.new.engine.state.master ≡ Some p) }
         ensures store { self.new.engine.store ≡ self.old.engine.store }
         ensures refused { IfErr result (λ why. ¬ IsByDevice why
             → self.new.engine.device ≡ self.old.engine.device) }
