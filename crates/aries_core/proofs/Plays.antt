@@ -1,5 +1,5 @@
 -- A run that goes on by one step, and what its replies tell of the device.
-use Rattle.std.proofs.Common.{◌≡◌, ◌⊎◌, ℕ, ◌+◌, ◌-◌, ◌/◌, ◌<◌, ◌≤◌, ◌++◌, List, [], ◌∷◌, length, take, drop, refl, sym, ap, subst, ◌∙◌, arith}
+use Rattle.std.proofs.Common.{◌≡◌, ◌⊎◌, ℕ, ◌+◌, ◌<◌, ◌≤◌, ◌++◌, List, [], ◌∷◌, length, refl, ap, subst, ◌∙◌, arith}
 use Rattle.std.proofs.Common.{inl, inr}
 use Rattle.std.specs.Prelude.{Result, Ok, Err, All, Any, IfErr, OnOk}
 use Rattle.std.proofs.lemmas.List.{length_push}
@@ -10,7 +10,6 @@ use Rattle.aries_core.specs.declared.event.Event.{Event}
 use Rattle.aries_core.specs.declared.refusal.Refusal.{Refusal}
 use Rattle.aries_core.specs.declared.refusal.Refusal.TheVariants.{CommitUnsure, LogFault, StoreFault}
 use Rattle.log_records.specs.Log.{lsn_of}
-use Rattle.log_records.specs.declared.record.Record.{Record}
 use Rattle.log_store.specs.Stores.{StoreCall, SyncCall, nothing}
 use Rattle.page_store.specs.Store.{GrowCall, ReadCall, WriteCall}
 use Rattle.aries_core.specs.Asked.{Asks, FailsAsking, asked}
