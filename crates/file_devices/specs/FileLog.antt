@@ -1,10 +1,10 @@
 -- What is known of a log's file, by the calls that were made of it.
 use Rattle.std.specs.Prelude.{ℕ, ◌≡◌, ◌+◌, ◌-◌, ◌⊎◌, min, List, [], ◌∷◌, ◌++◌, length, take, drop}
-use Rattle.std.specs.Prelude.{replicate, fold, if◌then◌else◌, Result, OnOk, OnErr, is_ok}
+use Rattle.std.specs.Prelude.{replicate, fold, if◌then◌else◌, Result, OnOk, OnErr}
 use Rattle.file_devices.specs.declared.calls.FileCall.{FileCall}
 use Rattle.file_devices.specs.declared.calls.Request.{Request}
 use Rattle.file_devices.specs.declared.calls.Request.TheVariants.{Read, SetLen, Sync, Write}
-use Rattle.file_devices.specs.Calls.{call, done, failed}
+use Rattle.file_devices.specs.Calls.{done, failed}
 use Rattle.log_store.specs.declared.device.DeviceFault.{DeviceFault}
 
 -- the bytes that a file has from its first one on, and how many of the first ones last
@@ -61,6 +61,8 @@ pub record Stores (old : List FileCall) (from : ℕ) (next : List ℕ) (result :
   pub err : OnErr result ((new ≡ old ++ failed (SetLen from) ∷ [])
       ⊎ (new ≡ old ++ done (SetLen from) ∷ failed (Write from next) ∷ []))
 
--- what comes of a sync: the file was asked to sync, once, and answered so
-abbrev pub Syncs : List FileCall → Result Unit DeviceFault → List FileCall → Type 0
-Syncs old result new = new ≡ old ++ call Sync (is_ok result) ∷ []
+-- what comes of a sync: the file was asked to sync, once, and for nothing else
+pub record Syncs (old : List FileCall) (result : Result Unit DeviceFault) (new : List FileCall)
+    : Type 0 where
+  pub ok : OnOk result (new ≡ old ++ done Sync ∷ [])
+  pub err : OnErr result (new ≡ old ++ failed Sync ∷ [])

@@ -47,12 +47,12 @@ pub data FormatFails (pages : List Page) (calls : List FileCall) : Type 0 where
 -- what comes of a look at a page: the file was asked for as many bytes as a page has, at its place,
 -- and for nothing else; it tells whether the file gave them and they are the page's
 pub record Looks (old : List FileCall) (page : Page) (result : Bool) (new : List FileCall) : Type 0
-    where
-  pub given : List ℕ
-  pub is_done : Bool
-  pub count : length given ≡ PAGE_BYTES
-  pub calls : new ≡ old ++ call (Read (PAGE_BYTES * page.number) given) is_done ∷ []
-  pub same : IsTrue result ↔ (IsTrue is_done × (given ≡ page_bytes page))
+  where
+    pub given : List ℕ
+    pub is_done : Bool
+    pub count : length given ≡ PAGE_BYTES
+    pub calls : new ≡ old ++ call (Read (PAGE_BYTES * page.number) given) is_done ∷ []
+    pub same : IsTrue result ↔ (IsTrue is_done × (given ≡ page_bytes page))
 
 -- what comes of a read: the file is looked at, and the stored page is answered just where the file
 -- has it

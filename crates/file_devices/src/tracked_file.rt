@@ -6,11 +6,10 @@ ghost use Rattle.file_devices.specs.declared.calls.Request.TheVariants.{Read, Se
 
 use crate::calls::{Calls, Request, SliceSnapshot};
 use std::error::Error;
-use std::fmt;
 use std::fs::File;
-use std::io;
 use std::marker::Model;
 use std::os::unix::fs::FileExt;
+use std::{fmt, io};
 
 /// A file, and what it was asked to do since it was given. No clause can say what a file does, so
 /// each method has one call of it, and the note of that call.
