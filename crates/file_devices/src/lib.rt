@@ -4,6 +4,8 @@
 mod calls;
 mod file_log;
 mod file_store;
+#[cfg(test)]
+mod tests;
 mod tracked_file;
 
 pub use file_log::FileLog;
