@@ -65,6 +65,7 @@ fn a_file_that_cannot_be_written_is_refused(rt: HostRuntime) -> Result<(), Fail>
 }
 
 /// Page 1 with a number in slot 3.
+#[tactic(auto, unfolding(page_core::specs::Page::formatted))]
 fn changed_page() -> Page
     ensures { result.number ≡ 1 }
 {
