@@ -7,6 +7,7 @@ use log_store::{DeviceFault, LogDevice};
 use page_core::{Change, Lsn, Page, PageNo, SlotNo};
 use page_store::{MemStore, PageStore, StoreFault};
 use std::fs::File;
+use std::io::ErrorKind;
 use std::os::unix::fs::FileExt;
 use std::path::PathBuf;
 use std::test::Fail;
@@ -56,7 +57,10 @@ fn a_log_is_cut_before_it_is_stored(rt: HostRuntime) -> Result<(), Fail> {
 fn a_file_that_cannot_be_written_is_refused(rt: HostRuntime) -> Result<(), Fail> {
     let place = own_place(&rt, "locked")?;
     let _ = file_of(&rt, &place, b"bytes")?;
-    assert!(rt; FileLog::new(fs::open(&rt, place.as_path())?).is_err());
+    let refused = FileLog::new(fs::open(&rt, place.as_path())?);
+    let why = refused.err().ok_or("the file was emptied")?;
+    assert_eq!(rt; why.error.kind(), ErrorKind::InvalidInput);
+    assert!(rt; format!(in rt.alloc(); "{why}")? == format!(in rt.alloc(); "{}", why.error)?);
     let pages = MemStore::new(rt.alloc(), 1)?;
     assert!(rt; FileStore::new(fs::open(&rt, place.as_path())?, pages).is_err());
     assert!(rt; fs::read(&rt, place.as_path())?.as_slice() == b"bytes".as_slice());
