@@ -1,5 +1,5 @@
 -- A run that goes on by one step, and what its replies tell of the device.
-use Rattle.std.proofs.Common.{◌≡◌, ◌⊎◌, ℕ, ◌+◌, ◌-◌, ◌/◌, ◌<◌, ◌≤◌, ◌++◌, List, [], ◌∷◌, length, take, drop, refl, sym, ap, subst, ◌∙◌, arith}
+use Rattle.std.proofs.Common.{◌≡◌, ◌⊎◌, ℕ, ◌+◌, ◌<◌, ◌≤◌, ◌++◌, List, [], ◌∷◌, length, refl, ap, subst, ◌∙◌, arith}
 use Rattle.std.proofs.Common.{inl, inr}
 use Rattle.std.specs.Prelude.{Result, Ok, Err, All, Any, IfErr, OnOk}
 use Rattle.std.proofs.lemmas.List.{length_push}
@@ -10,8 +10,7 @@ use Rattle.aries_core.specs.declared.event.Event.{Event}
 use Rattle.aries_core.specs.declared.refusal.Refusal.{Refusal}
 use Rattle.aries_core.specs.declared.refusal.Refusal.TheVariants.{CommitUnsure, LogFault, StoreFault}
 use Rattle.log_records.specs.Log.{lsn_of}
-use Rattle.log_records.specs.declared.record.Record.{Record}
-use Rattle.log_store.specs.Stores.{StoreCall, StoresEach, records_between}
+use Rattle.log_store.specs.Stores.{StoreCall, SyncCall, nothing}
 use Rattle.page_store.specs.Store.{GrowCall, ReadCall, WriteCall}
 use Rattle.aries_core.specs.Asked.{Asks, FailsAsking, asked}
 use Rattle.aries_core.specs.EngineState.{EngineState, EngineView, end, new_state}
@@ -150,39 +149,26 @@ same_end old (event.Take copy page) new other (inr both) = ap (λ (s : EngineSta
 same_end old (event.Extend count) new other (inr both) = ap (λ (s : EngineState). s.forced_end) both.1
 same_end old event new other (inr both) = ap (λ (s : EngineState). s.forced_end) both.1.1
 
--- where nothing more is forced and the device is as it was, each record that is forced was stored
-none_between : (rs : List Record) (lsn : ℕ) → records_between rs lsn lsn ≡ []
-none_between rs lsn =
-    let none : lsn / 64 - 1 - (lsn / 64 - 1) ≡ 0 = omega arith in
-    ap (λ (n : ℕ). take n (drop (lsn / 64 - 1) rs)) none
-
-forces_none : {S D : Type 0} (called : StoreCall D) (old new : EngineView S D)
-    → new.state.forced_end ≡ old.state.forced_end → new.device ≡ old.device → Forces called old new
-forces_none called old new same device =
-    let none : records_between new.state.log old.state.forced_end new.state.forced_end ≡ [] =
-    ap (records_between new.state.log old.state.forced_end) same
-    ∙ none_between new.state.log old.state.forced_end in
-    subst (λ (rs : List Record). StoresEach called old.device rs new.device) (sym none) device
-
 at_repair : (event : Event) → IsAtRepair event StoreFault ⊎ (¬ IsAtRepair event StoreFault)
 at_repair (event.Repair copy page) = inl tt
 at_repair event = inr (λ h. h)
 
-calls_device : {S D : Type 0} (called : StoreCall D) (call : Event) (old new : EngineView S D)
+calls_device : {S D : Type 0} (called : StoreCall D) (synced : SyncCall D) (call : Event) (old new : EngineView S D)
     (reply : Result Answer Refusal) → Step old.state call reply new.state
     → IfErr reply (λ why. ¬ IsByDevice why → ¬ IsAtRepair call why → new.device ≡ old.device)
-    → OnOk reply (Forces called old new) → IfErr reply (λ why. IsAtRepair call why → Forces called old new)
-    → IfErr reply (λ why. IsByDevice why → FailsForcing called old new)
-    → CallsDevice called old reply new
-calls_device called call old new (Ok answer) step refused ok first failed = ok
-calls_device called call old new (Err LogFault) step refused ok first failed = failed tt
-calls_device called call old new (Err (CommitUnsure lsn)) step refused ok first failed = failed tt
-calls_device called call old new (Err StoreFault) step refused ok first failed = elim (at_repair call) [
+    → OnOk reply (Forces called synced old new)
+    → IfErr reply (λ why. IsAtRepair call why → Forces called synced old new)
+    → IfErr reply (λ why. IsByDevice why → FailsForcing called synced old new)
+    → CallsDevice called synced old reply new
+calls_device called synced call old new (Ok answer) step refused ok first failed = ok
+calls_device called synced call old new (Err LogFault) step refused ok first failed = failed tt
+calls_device called synced call old new (Err (CommitUnsure lsn)) step refused ok first failed = failed tt
+calls_device called synced call old new (Err StoreFault) step refused ok first failed = elim (at_repair call) [
   | inl repair ↦ first repair
   | inr other ↦
-      forces_none called old new (same_end old.state call new.state other step) (refused (λ h. h) other)
+      nothing (same_end old.state call new.state other step) (refused (λ h. h) other)
 ]
-calls_device called call old new (Err other) step refused ok first failed = refused (λ h. h) (by_event call)
+calls_device called synced call old new (Err other) step refused ok first failed = refused (λ h. h) (by_event call)
   where
     by_event : (event : Event) → ¬ IsAtRepair event other
     by_event (event.Repair copy page) = λ h. h
@@ -201,8 +187,9 @@ calls_store gave wrote grew event old new (Err other) ok refused failed = refuse
 pub call_on : {S D : Type 0} (on : Storage S D) (old : EngineView S D) (event : Event)
     (reply : Result Answer Refusal) (new : EngineView S D) → Step old.state event reply new.state
     → IfErr reply (λ why. ¬ IsByDevice why → ¬ IsAtRepair event why → new.device ≡ old.device)
-    → OnOk reply (Forces on.called old new) → IfErr reply (λ why. IsAtRepair event why → Forces on.called old new)
-    → IfErr reply (λ why. IsByDevice why → FailsForcing on.called old new)
+    → OnOk reply (Forces on.called on.synced old new)
+    → IfErr reply (λ why. IsAtRepair event why → Forces on.called on.synced old new)
+    → IfErr reply (λ why. IsByDevice why → FailsForcing on.called on.synced old new)
     → IfErr reply (λ why. ¬ IsByDevice why → on.device_failures new.device ≡ on.device_failures old.device)
     → OnOk reply (on.device_failures new.device ≡ on.device_failures old.device)
     → IfErr reply (λ why. IsByDevice why → on.device_failures old.device < on.device_failures new.device)
@@ -216,7 +203,7 @@ call_on on old event reply new step same called first last sound none cause ok s
     stored = record {
       step = step;
       stored = stored;
-      device = calls_device on.called event old new reply step same called first last;
+      device = calls_device on.called on.synced event old new reply step same called first last;
       store = calls_store on.gave on.wrote on.grew event old new reply ok store_same failed;
       device_told = counts IsByDevice on.device_failures old.device new.device reply sound none cause;
       store_told = counts IsByStore on.store_failures old.store new.store reply

@@ -21,7 +21,7 @@ use Rattle.buffer_pool.specs.Pool.{write_ended}
 use Rattle.buffer_pool.specs.Pool.{writing_of, written_of}
 use Rattle.log_records.specs.Coverage.{rec_lsn}
 use Rattle.log_store.specs.WrittenLog.{WrittenLog, end_up_to}
-use Rattle.copy_vault.specs.Vault.{CopyState}
+use Rattle.copy_vault.specs.Vault.{CopyState, complete_refusal, state_of}
 use Rattle.aries_core.specs.declared.event.Event.TheVariants as event
 use Rattle.aries_core.specs.declared.refusal.Refusal.TheVariants.{NoWrite, NotDirty, PageOut, WriteBegun}
 use Rattle.aries_core.specs.EngineState.{MediaView, EngineState, begun_write, ended_write, engine_view, forced_through}
@@ -65,6 +65,14 @@ end_idle s p within idle = rw (lt-leb (volume_pages s) p within, none_by_some (i
 pub end_may : (s : EngineState) (p : ℕ) → p < volume_pages s → is_some (image_of s p) ≡ true
     → refusal s (event.WriteEnd p) ≡ None
 end_may s p within begun = rw (lt-leb (volume_pages s) p within, none_by_some (image_of s p) true begun) refl
+
+pub repair_begun : (s : EngineState) (copy p : ℕ) → complete_refusal (state_of s.copies copy) ≡ None
+    → p < volume_pages s → is_some (image_of s p) ≡ true → refusal s (event.Repair copy p) ≡ Some WriteBegun
+repair_begun s copy p whole within begun = rw (whole, lt-leb (volume_pages s) p within, begun) refl
+
+pub repair_may : (s : EngineState) (copy p : ℕ) → complete_refusal (state_of s.copies copy) ≡ None
+    → p < volume_pages s → is_some (image_of s p) ≡ false → refusal s (event.Repair copy p) ≡ None
+repair_may s copy p whole within idle = rw (whole, lt-leb (volume_pages s) p within, idle) refl
 
 -- ---- a page
 

@@ -28,7 +28,7 @@ use Rattle.copy_vault.specs.Vault.{seal_refusal, state_of}
 use Rattle.aries_core.specs.declared.event.Event.{Event}
 use Rattle.aries_core.specs.declared.event.Event.TheVariants as event
 use Rattle.aries_core.specs.declared.refusal.Refusal.{Refusal}
-use Rattle.aries_core.specs.declared.refusal.Refusal.TheVariants.{CkptOpen, CommitUnsure, GatherLeft, LogFull, NoCkpt}
+use Rattle.aries_core.specs.declared.refusal.Refusal.TheVariants.{CkptOpen, CommitUnsure, GatherLeft, LogFault, LogFull, NoCkpt}
 use Rattle.aries_core.specs.declared.refusal.Refusal.TheVariants.{NoMaster, NoTxn, PageDecided, NoWrite, NotDirty}
 use Rattle.aries_core.specs.declared.refusal.Refusal.TheVariants.{NotRolling, PageOut, SlotBusy, SlotOut, TooManyTxns}
 use Rattle.aries_core.specs.declared.refusal.Refusal.TheVariants.{NoSavepoint, NotLarger, PoolFull, TxnRolling, WriteBegun}
@@ -173,6 +173,13 @@ one_of_both false false a b why some = absurd (cc)
 pub commit_not_unsure : (s : EngineState) (txn lsn : ℕ) → active_refusal s txn ≡ Some (CommitUnsure lsn) → ⊥
 commit_not_unsure s txn lsn some =
     elim (one_of_both (not (is_open s.log txn)) (is_rolling s.log txn) NoTxn TxnRolling (CommitUnsure lsn) some) [
+      | inl same ↦ (cc)
+      | inr same ↦ (cc)
+    ]
+
+pub commit_not_by_device : (s : EngineState) (txn : ℕ) → active_refusal s txn ≡ Some LogFault → ⊥
+commit_not_by_device s txn some =
+    elim (one_of_both (not (is_open s.log txn)) (is_rolling s.log txn) NoTxn TxnRolling LogFault some) [
       | inl same ↦ (cc)
       | inr same ↦ (cc)
     ]

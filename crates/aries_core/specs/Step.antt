@@ -4,7 +4,7 @@ use Rattle.std.specs.Prelude.{Err, false}
 use Rattle.buffer_pool.specs.Frames.{is_resident}
 use Rattle.log_records.specs.Log.{lsn_of}
 use Rattle.log_history.specs.Checkpoint.{open_checkpoint}
-use Rattle.log_store.specs.Stores.{FailsAtNext, StoreCall, StoresForced}
+use Rattle.log_store.specs.Stores.{ForceFails, Forced, StoreCall, SyncCall}
 use Rattle.log_store.specs.WrittenLog.{WrittenLog, end_up_to}
 use Rattle.aries_core.specs.declared.event.Answer.{Answer}
 use Rattle.aries_core.specs.declared.event.Answer.TheVariants as answer
@@ -43,13 +43,17 @@ written_log_of it = record {
 }
 
 -- each record between the two forced ends was stored in order, by one call of the device for each,
--- and no other call was made
-abbrev pub Forces : {S D : Type 0} → StoreCall D → EngineView S D → EngineView S D → Type 0
-Forces called old new = StoresForced called (written_log_of old) (written_log_of new) new.device
+-- then one call synced them, and no other call was made
+abbrev pub Forces : {S D : Type 0} → StoreCall D → SyncCall D → EngineView S D → EngineView S D
+    → Type 0
+Forces called synced old new = Forced called synced (written_log_of old) (written_log_of new)
 
--- they were stored so, then the call of the next record failed, and none was made after it
-abbrev pub FailsForcing : {S D : Type 0} → StoreCall D → EngineView S D → EngineView S D → Type 0
-FailsForcing called old new = FailsAtNext called (written_log_of old) (written_log_of new)
+-- a store of one of them failed, and those before it were synced; or their sync did, and none of
+-- them counts as forced
+abbrev pub FailsForcing : {S D : Type 0} → StoreCall D → SyncCall D → EngineView S D → EngineView S D
+    → Type 0
+FailsForcing called synced old new =
+    ForceFails called synced (written_log_of old) (written_log_of new)
 
 -- the image that was to be stored is, or the old page stays
 abbrev pub MayBeStored : ℕ → EngineState → EngineState → Type 0

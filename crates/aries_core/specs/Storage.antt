@@ -1,9 +1,7 @@
 -- Calls of an engine on the page store and on the log's device that it was given.
 use Rattle.std.specs.Prelude.{ℕ, ◌≡◌, ◌<◌, List, [], ◌∷◌, Result, Ok, Err}
 use Rattle.page_core.specs.declared.page.Page.{Page}
-use Rattle.log_records.specs.Log.{header_bytes}
-use Rattle.log_store.specs.declared.device.DeviceFault.{DeviceFault}
-use Rattle.log_store.specs.Stores.{StoreCall}
+use Rattle.log_store.specs.Stores.{HeaderFails, StoreCall, StoresHeader, SyncCall}
 use Rattle.log_store.specs.WrittenLog.{IsWritten}
 use Rattle.page_store.specs.Store.{GrowCall, IsGrown, ReadCall, WriteCall}
 use Rattle.aries_core.specs.declared.event.Answer.{Answer}
@@ -16,11 +14,12 @@ use Rattle.aries_core.specs.Asked.{Asks, FailsAsking, asked}
 use Rattle.aries_core.specs.Step.{FailsForcing, Forces, IsByDevice, IsByStore, Step, TellsOfFault}
 use Rattle.aries_core.specs.Step.{written_log_of}
 
--- what contracts see of a store and of a device: what one call of the device did, the bytes on it,
--- what one read, one write and one growth of the store did, the stored pages, and how often each of the two has
--- failed
+-- what contracts see of a store and of a device: what one store and one sync of the device did, the
+-- bytes on it; what one read, one write and one growth of the store did, the stored pages; and how
+-- often each of the two has failed
 pub record Storage (S D : Type 0) : Type 1 where
   pub called : StoreCall D
+  pub synced : SyncCall D
   pub bytes : D → List ℕ
   pub device_failures : D → ℕ
   pub gave : ReadCall S
@@ -36,15 +35,15 @@ pub record IsStoredOn {S D : Type 0} (on : Storage S D) (it : EngineView S D) : 
   pub records : IsWritten on.bytes (written_log_of it)
 
 -- which calls of the device a call of the engine makes: where it is answered, or the store failed,
--- one for each record that is forced by it; at a fault of the device so many, and then one that
--- fails; else none
-abbrev pub CallsDevice : {S D : Type 0} → StoreCall D → EngineView S D → Result Answer Refusal
-    → EngineView S D → Type 0
-CallsDevice called old (Ok answer) new = Forces called old new
-CallsDevice called old (Err LogFault) new = FailsForcing called old new
-CallsDevice called old (Err (CommitUnsure lsn)) new = FailsForcing called old new
-CallsDevice called old (Err StoreFault) new = Forces called old new
-CallsDevice called old (Err other) new = new.device ≡ old.device
+-- one for each record that is forced by it, and one sync; at a fault of the device these as far as
+-- one that fails; else none
+abbrev pub CallsDevice : {S D : Type 0} → StoreCall D → SyncCall D → EngineView S D
+    → Result Answer Refusal → EngineView S D → Type 0
+CallsDevice called synced old (Ok answer) new = Forces called synced old new
+CallsDevice called synced old (Err LogFault) new = FailsForcing called synced old new
+CallsDevice called synced old (Err (CommitUnsure lsn)) new = FailsForcing called synced old new
+CallsDevice called synced old (Err StoreFault) new = Forces called synced old new
+CallsDevice called synced old (Err other) new = new.device ≡ old.device
 
 -- which calls of the store a call of the engine makes: where it is answered, the one that asks what
 -- it has to ask, or none if that is nothing; where the store failed, that call, which failed; else
@@ -63,7 +62,7 @@ pub record CallOn {S D : Type 0} (on : Storage S D) (old : EngineView S D) (even
     (reply : Result Answer Refusal) (new : EngineView S D) : Type 0 where
   pub step : Step old.state event reply new.state
   pub stored : IsStoredOn on new
-  pub device : CallsDevice on.called old reply new
+  pub device : CallsDevice on.called on.synced old reply new
   pub store : CallsStore on.gave on.wrote on.grew event old reply new
   pub device_told : TellsOfFault IsByDevice
       (on.device_failures old.device) reply (on.device_failures new.device)
@@ -79,14 +78,14 @@ RunOn on old (event ∷ events) (reply ∷ replies) new =
 RunOn on old [] (reply ∷ replies) new = ⊥
 RunOn on old (event ∷ events) [] new = ⊥
 
--- a new engine on this store, which was not called, and on this device, which was called once, for
--- the log's header
+-- a new engine on this store, which was not called, and on this device, which was called twice: the
+-- log's header was stored and synced
 pub record IsNewOn {S D : Type 0} (on : Storage S D) (pages frames : ℕ) (store : S) (device : D)
     (it : EngineView S D) : Type 0 where
   pub state : it.state ≡ new_state pages frames
   pub stored : IsStoredOn on it
   pub given : it.store ≡ store
-  pub header : on.called device 0 (header_bytes pages) (Ok tt) it.device
+  pub header : StoresHeader on.called on.synced pages device it.device
   pub no_failure : on.device_failures it.device ≡ on.device_failures device
 
 -- a new engine of so many pages and frames, on this store and this device, gives these replies to
@@ -98,10 +97,9 @@ pub record PlaysOn {S D : Type 0} (on : Storage S D) (pages frames : ℕ) (store
   pub made : IsNewOn on pages frames store device first
   pub run : RunOn on first events replies last
 
--- no engine is made on this device: it was called once, for the log's header, failed, and is left
--- so
-pub record FailsAtHeader {D : Type 0} (called : StoreCall D) (failures : D → ℕ) (pages : ℕ)
-    (device left : D) : Type 0 where
-  pub why : DeviceFault
-  pub failed : called device 0 (header_bytes pages) (Err why) left
+-- no engine is made on this device: it failed where the log's header was stored or synced, and is
+-- left so
+pub record FailsAtHeader {D : Type 0} (called : StoreCall D) (synced : SyncCall D)
+    (failures : D → ℕ) (pages : ℕ) (device left : D) : Type 0 where
+  pub failed : HeaderFails called synced pages device left
   pub more : failures device < failures left

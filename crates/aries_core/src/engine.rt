@@ -75,11 +75,12 @@ impl<S: PageStore, D: LogDevice> Model for Engine<S, D> {
 }
 
 impl<S: PageStore + Drop, D: LogDevice + Drop> Engine<S, D> {
-    ghost use Rattle.log_records.specs.Log.{header_bytes};
+    ghost use Rattle.log_store.specs.Stores.{StoresHeader};
     ghost use Rattle.aries_core.specs.Storage.{FailsAtHeader};
 
     /// An engine over a formatted volume, with a log without records, whose header is stored by one
-    /// call of the device. No page is in memory yet. The store is not called but for its count.
+    /// call of the device and synced by one. No page is in memory yet. The store is not called but
+    /// for its count.
     ///
     /// A fault hands the device back: where memory ran out, it was not called. The store is dropped
     /// then.
@@ -97,11 +98,11 @@ impl<S: PageStore + Drop, D: LogDevice + Drop> Engine<S, D> {
             it.state ≡ new_state setup.pages setup.frames) }
         ensures store { IfOk result (λ it. it.store ≡ store) }
         ensures header { IfOk result (λ it.
-            D.called device 0 (header_bytes setup.pages) (Ok tt) it.device) }
+            StoresHeader D.called D.synced setup.pages device it.device) }
         ensures no_failure { IfOk result (λ it. D.failures it.device ≡ D.failures device) }
         ensures untouched { IfErr result (λ e. e.0 ≡ PlayFault.OutOfMemory → e.1 ≡ device) }
         ensures cause { IfErr result (λ e. e.0 ≡ PlayFault.LogFault
-            → FailsAtHeader D.called D.failures setup.pages device e.1) }
+            → FailsAtHeader D.called D.synced D.failures setup.pages device e.1) }
         ensures same_bound { IfOk result (λ it. D.fails_from it.device ≡ D.fails_from device) }
         ensures past_bound { IfErr result (λ e. e.0 ≡ PlayFault.LogFault
             → D.fails_from device ≤ 64) }
@@ -132,11 +133,11 @@ impl<S: PageStore, D: LogDevice> Engine<S, D> {
         ensures device { LeavesDevice event → self.new.device ≡ self.old.device }
         ensures refused { IfErr result (λ why. ¬ IsByDevice why → ¬ IsAtRepair event why
             → self.new.device ≡ self.old.device) }
-        ensures called { OnOk result (Forces D.called self.old self.new) }
+        ensures called { OnOk result (Forces D.called D.synced self.old self.new) }
         ensures forced_first { IfErr result (λ why. IsAtRepair event why
-            → Forces D.called self.old self.new) }
+            → Forces D.called D.synced self.old self.new) }
         ensures last_call { IfErr result (λ why. IsByDevice why
-            → FailsForcing D.called self.old self.new) }
+            → FailsForcing D.called D.synced self.old self.new) }
         ensures sound { IfErr result (λ why. ¬ IsByDevice why
             → D.failures self.new.device ≡ D.failures self.old.device) }
         ensures no_failure { OnOk result
@@ -331,9 +332,9 @@ impl<S: PageStore, D: LogDevice> Engine<S, D> {
         ensures store { self.new.store ≡ self.old.store }
         ensures refused { IfErr result (λ why. ¬ IsUnsure why
             → self.new.device ≡ self.old.device) }
-        ensures called { OnOk result (Forces D.called self.old self.new) }
+        ensures called { OnOk result (Forces D.called D.synced self.old self.new) }
         ensures last_call { IfErr result (λ why. IsUnsure why
-            → FailsForcing D.called self.old self.new) }
+            → FailsForcing D.called D.synced self.old self.new) }
         ensures no_failure { OnOk result
             (D.failures self.new.device ≡ D.failures self.old.device) }
         ensures cause { IfErr result (λ why. IsUnsure why
@@ -370,8 +371,8 @@ impl<S: PageStore, D: LogDevice> Engine<S, D> {
         ensures step { Step self.old.state event.Force (reply_of answer.Forced result)
             self.new.state }
         ensures store { self.new.store ≡ self.old.store }
-        ensures called { OnOk result (Forces D.called self.old self.new) }
-        ensures last_call { OnErr result (FailsForcing D.called self.old self.new) }
+        ensures called { OnOk result (Forces D.called D.synced self.old self.new) }
+        ensures last_call { OnErr result (FailsForcing D.called D.synced self.old self.new) }
         ensures no_failure { OnOk result
             (D.failures self.new.device ≡ D.failures self.old.device) }
         ensures cause { OnErr result (D.failures self.old.device < D.failures self.new.device) }
@@ -397,8 +398,8 @@ impl<S: PageStore, D: LogDevice> Engine<S, D> {
         ensures ok { OnOk result (self.new.state ≡ forced_to self.old.state (end self.old.state)) }
         ensures store { self.new.store ≡ self.old.store }
         ensures err { OnErr result (ForcedPart (end self.old.state) self.old.state self.new.state) }
-        ensures called { OnOk result (Forces D.called self.old self.new) }
-        ensures last_call { OnErr result (FailsForcing D.called self.old self.new) }
+        ensures called { OnOk result (Forces D.called D.synced self.old self.new) }
+        ensures last_call { OnErr result (FailsForcing D.called D.synced self.old self.new) }
         ensures no_failure { OnOk result
             (D.failures self.new.device ≡ D.failures self.old.device) }
         ensures cause { OnErr result

@@ -28,9 +28,9 @@ impl<S: PageStore, D: LogDevice> Engine<S, D> {
         ensures store { self.new.store ≡ self.old.store }
         ensures refused { IfErr result (λ why. ¬ IsByDevice why
             → self.new.device ≡ self.old.device) }
-        ensures called { OnOk result (Forces D.called self.old self.new) }
+        ensures called { OnOk result (Forces D.called D.synced self.old self.new) }
         ensures last_call { IfErr result (λ why. IsByDevice why
-            → FailsForcing D.called self.old self.new) }
+            → FailsForcing D.called D.synced self.old self.new) }
         ensures no_failure { OnOk result
             (D.failures self.new.device ≡ D.failures self.old.device) }
         ensures cause { IfErr result (λ why. IsByDevice why

@@ -61,6 +61,7 @@ pub fn play<S: PageStore + Drop, D: LogDevice + Drop>(
     ensures played { IfOk result (λ it. PlaysOn
         (record {
           called = D.called;
+          synced = D.synced;
           bytes = D.bytes;
           device_failures = D.failures;
           gave = S.gave;
@@ -92,7 +93,7 @@ pub fn play<S: PageStore + Drop, D: LogDevice + Drop>(
 
     ensures untouched { IfErr result (λ e. e.0 ≡ PlayFault.OutOfMemory → e.1 ≡ device) }
     ensures cause { IfErr result (λ e. e.0 ≡ PlayFault.LogFault
-        → FailsAtHeader D.called D.failures setup.pages device e.1) }
+        → FailsAtHeader D.called D.synced D.failures setup.pages device e.1) }
     ensures header_fits { IfErr result (λ e. e.0 ≡ PlayFault.LogFault
         → D.fails_from device ≤ 64) }
 {

@@ -31,11 +31,11 @@ impl<S: PageStore, D: LogDevice> Engine<S, D> {
             (reply_of answer.Repaired result) self.new.state }
         ensures refused { IfErr result (λ why. ¬ IsByDevice why → ¬ IsByStore why
             → self.new.device ≡ self.old.device) }
-        ensures called { OnOk result (Forces D.called self.old self.new) }
+        ensures called { OnOk result (Forces D.called D.synced self.old self.new) }
         ensures forced_first { IfErr result (λ why. IsByStore why
-            → Forces D.called self.old self.new) }
+            → Forces D.called D.synced self.old self.new) }
         ensures last_call { IfErr result (λ why. IsByDevice why
-            → FailsForcing D.called self.old self.new) }
+            → FailsForcing D.called D.synced self.old self.new) }
         ensures no_failure { OnOk result
             (D.failures self.new.device ≡ D.failures self.old.device) }
         ensures sound { IfErr result (λ why. ¬ IsByDevice why

@@ -77,7 +77,7 @@ Commands:
   help     Print this help, or that of a command
 
 For the arguments of a command, try 'imgcopy help <COMMAND>'.
-This is imgcopy 0.1.0.
+This is imgcopy 0.2.0.
 ";
 
 /// Why the words give no command. Its `Display` is the whole text for the user, with its last line

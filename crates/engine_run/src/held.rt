@@ -170,9 +170,9 @@ impl<S: PageStore, D: LogDevice, G: Ledger> Held<S, D, G> {
         ensures store { self.new.engine.store ≡ self.old.engine.store }
         ensures refused { IfErr result (λ why. ¬ IsUnsure why
             → self.new.engine.device ≡ self.old.engine.device) }
-        ensures called { OnOk result (Forces D.called self.old.engine self.new.engine) }
+        ensures called { OnOk result (Forces D.called D.synced self.old.engine self.new.engine) }
         ensures last_call { IfErr result (λ why. IsUnsure why
-            → FailsForcing D.called self.old.engine self.new.engine) }
+            → FailsForcing D.called D.synced self.old.engine self.new.engine) }
         ensures no_failure { OnOk result
             (D.failures self.new.engine.device ≡ D.failures self.old.engine.device) }
         ensures cause { IfErr result (λ why. IsUnsure why

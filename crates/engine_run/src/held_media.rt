@@ -27,8 +27,8 @@ impl<S: PageStore, D: LogDevice, G: Ledger> Held<S, D, G> {
         ensures step { Step self.old.engine.state event.Force (reply_of answer.Forced result)
             self.new.engine.state }
         ensures store { self.new.engine.store ≡ self.old.engine.store }
-        ensures called { OnOk result (Forces D.called self.old.engine self.new.engine) }
-        ensures last_call { OnErr result (FailsForcing D.called self.old.engine self.new.engine) }
+        ensures called { OnOk result (Forces D.called D.synced self.old.engine self.new.engine) }
+        ensures last_call { OnErr result (FailsForcing D.called D.synced self.old.engine self.new.engine) }
         ensures no_failure { OnOk result
             (D.failures self.new.engine.device ≡ D.failures self.old.engine.device) }
         ensures cause { OnErr result
@@ -48,9 +48,9 @@ impl<S: PageStore, D: LogDevice, G: Ledger> Held<S, D, G> {
         ensures store { self.new.engine.store ≡ self.old.engine.store }
         ensures refused { IfErr result (λ why. ¬ IsByDevice why
             → self.new.engine.device ≡ self.old.engine.device) }
-        ensures called { OnOk result (Forces D.called self.old.engine self.new.engine) }
+        ensures called { OnOk result (Forces D.called D.synced self.old.engine self.new.engine) }
         ensures last_call { IfErr result (λ why. IsByDevice why
-            → FailsForcing D.called self.old.engine self.new.engine) }
+            → FailsForcing D.called D.synced self.old.engine self.new.engine) }
         ensures no_failure { OnOk result
             (D.failures self.new.engine.device ≡ D.failures self.old.engine.device) }
         ensures cause { IfErr result (λ why. IsByDevice why
@@ -108,12 +108,13 @@ impl<S: PageStore, D: LogDevice, G: Ledger> Held<S, D, G> {
     pub fn ckpt_end(&mut self) -> Result<Point, Refusal>
         ensures step { Step self.old.engine.state event.CkptEnd
             (reply_of (λ p. answer.Point p.begin p.end p.redo) result) self.new.engine.state }
+        ensures noted { IfOk result (λ p. self.new.engine.state.master ≡ Some p) }
         ensures store { self.new.engine.store ≡ self.old.engine.store }
         ensures refused { IfErr result (λ why. ¬ IsByDevice why
             → self.new.engine.device ≡ self.old.engine.device) }
-        ensures called { OnOk result (Forces D.called self.old.engine self.new.engine) }
+        ensures called { OnOk result (Forces D.called D.synced self.old.engine self.new.engine) }
         ensures last_call { IfErr result (λ why. IsByDevice why
-            → FailsForcing D.called self.old.engine self.new.engine) }
+            → FailsForcing D.called D.synced self.old.engine self.new.engine) }
         ensures no_failure { OnOk result
             (D.failures self.new.engine.device ≡ D.failures self.old.engine.device) }
         ensures cause { IfErr result (λ why. IsByDevice why
@@ -218,11 +219,11 @@ impl<S: PageStore, D: LogDevice, G: Ledger> Held<S, D, G> {
             (reply_of answer.Repaired result) self.new.engine.state }
         ensures refused { IfErr result (λ why. ¬ IsByDevice why → ¬ IsByStore why
             → self.new.engine.device ≡ self.old.engine.device) }
-        ensures called { OnOk result (Forces D.called self.old.engine self.new.engine) }
+        ensures called { OnOk result (Forces D.called D.synced self.old.engine self.new.engine) }
         ensures forced_first { IfErr result (λ why. IsByStore why
-            → Forces D.called self.old.engine self.new.engine) }
+            → Forces D.called D.synced self.old.engine self.new.engine) }
         ensures last_call { IfErr result (λ why. IsByDevice why
-            → FailsForcing D.called self.old.engine self.new.engine) }
+            → FailsForcing D.called D.synced self.old.engine self.new.engine) }
         ensures no_failure { OnOk result
             (D.failures self.new.engine.device ≡ D.failures self.old.engine.device) }
         ensures sound { IfErr result (λ why. ¬ IsByDevice why

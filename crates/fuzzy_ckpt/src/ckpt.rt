@@ -1,6 +1,6 @@
 //! The sessions of a fuzzy checkpoint.
 
-ghost use Rattle.log_store.specs.Stores.{FailsAtNext, StoresForced};
+ghost use Rattle.log_store.specs.Stores.{ForceFails, Forced};
 ghost use Rattle.std.specs.Prelude.{ℕ, ◌≡◌, ◌+◌, ◌<◌, ◌≤◌, ◌↔◌, List, [], ◌∷◌, length, min, true};
 ghost use Rattle.std.specs.Prelude.{IfOk, IfErr, IfSome, IsSome, IsSomeAnd, IsTrue, OnOk, OnErr};
 ghost use Rattle.std.specs.List.{fold};
@@ -307,11 +307,11 @@ impl Ckpt<Gathered> {
             ≡ with_next log.old.log (end_record log.old.log.records self ∷ [])) }
         ensures follows { MayFollow log.old.log.records (end_record log.old.log.records self) }
 
-        ensures called { OnOk result (StoresForced D.called log.old log.new log.new.device) }
+        ensures called { OnOk result (Forced D.called D.synced log.old log.new) }
 
         ensures failed { IfErr result (FailsAs log.old log.new self) }
         ensures last_call { IfErr result (λ why. IsLogFault why
-            → FailsAtNext D.called log.old log.new) }
+            → ForceFails D.called D.synced log.old log.new) }
         ensures no_failure { OnOk result (D.failures log.new.device ≡ D.failures log.old.device) }
         ensures cause { IfErr result (λ why. IsLogFault why
             → D.failures log.old.device < D.failures log.new.device) }

@@ -92,19 +92,7 @@ fails_at_next called old now new why so_far (r, there, call) same end = record {
   next = r;
   there = rw (same, end) there;
   why = why;
-  failed = call;
-}
-
--- it failed so of another log with the same records and forced end
-pub fails_same : {D : Type 0} (called : StoreCall D) (old a b : WrittenLog D) → FailsAtNext called old a
-    → b.log ≡ a.log → b.forced_end ≡ a.forced_end → b.device ≡ a.device → FailsAtNext called old b
-fails_same called old a b fails same end device = record {
-  before_fault = fails.before_fault;
-  stored = rw (same, end) fails.stored;
-  next = fails.next;
-  there = rw (same, end) fails.there;
-  why = fails.why;
-  failed = rw device fails.failed;
+  fault = call;
 }
 
 -- ---- answers

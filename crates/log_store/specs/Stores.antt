@@ -3,7 +3,7 @@ use Rattle.std.specs.Prelude.{ℕ, ◌≡◌, ◌<◌, ◌-◌, ◌/◌, ◌⊎�
 use Rattle.std.specs.Prelude.{slice_range}
 use Rattle.page_core.specs.declared.numbers.TheConstants.{LSN_STEP}
 use Rattle.log_records.specs.declared.record.Record.{Record}
-use Rattle.log_records.specs.Log.{header_bytes}
+use Rattle.log_records.specs.Log.{Log, header_bytes}
 use Rattle.log_records.specs.Record.{own_lsn, record_bytes}
 use Rattle.log_store.specs.declared.device.DeviceFault.{DeviceFault}
 use Rattle.log_store.specs.WrittenLog.{HasRecordAt, WrittenLog}
@@ -36,14 +36,20 @@ StoresForced called old new device =
     StoresEach called old.device (records_between new.log.records old.forced_end new.forced_end)
     device
 
--- they were stored so; then the call of the next record failed, and no call was made after it
-pub record FailsAtNext {D : Type 0} (called : StoreCall D) (old new : WrittenLog D) : Type 0 where
+-- of a log: its records from one LSN up to another were stored so; then the call of the next one
+-- failed, and no call was made after it
+pub record FailsAtStore {D : Type 0} (called : StoreCall D) (log : Log) (from to : ℕ) (old failed : D)
+    : Type 0 where
   pub before_fault : D
-  pub stored : StoresForced called old new before_fault
+  pub stored : StoresEach called old (records_between log.records from to) before_fault
   pub next : Record
-  pub there : HasRecordAt new.log new.forced_end next
+  pub there : HasRecordAt log to next
   pub why : DeviceFault
-  pub failed : called before_fault (own_lsn next) (record_bytes next) (Err why) new.device
+  pub fault : called before_fault (own_lsn next) (record_bytes next) (Err why) failed
+
+abbrev pub FailsAtNext : {D : Type 0} → StoreCall D → WrittenLog D → WrittenLog D → Type 0
+FailsAtNext called old new =
+    FailsAtStore called new.log old.forced_end new.forced_end old.device new.device
 
 -- one call was made, that of the first record that is not forced
 abbrev pub IsNextCall : {D : Type 0} → StoreCall D → WrittenLog D → Result Unit DeviceFault → D
@@ -54,32 +60,43 @@ IsNextCall called old result new =
 
 -- ---- a force: its stores, and then one sync
 
--- the records from the old forced end up to the new one were stored so, and then one call synced
--- them all; where there are none, no call was made
-pub data Forced {D : Type 0} (called : StoreCall D) (synced : SyncCall D) (old new : WrittenLog D)
-    : Type 0 where
-  nothing : new.forced_end ≡ old.forced_end → new.device ≡ old.device → Forced called synced old new
-  in_one_sync : (stored : D) → old.forced_end < new.forced_end → StoresForced called old new stored
-      → synced stored (Ok tt) new.device → Forced called synced old new
+-- the records from one LSN up to another were stored so, and then one call synced them all; where
+-- there are none, no call was made
+pub data ForcesBetween {D : Type 0} (called : StoreCall D) (synced : SyncCall D)
+    (records : List Record) (from to : ℕ) (old new : D) : Type 0 where
+  nothing : to ≡ from → new ≡ old → ForcesBetween called synced records from to old new
+  in_one_sync : (stored : D) → from < to
+      → StoresEach called old (records_between records from to) stored
+      → synced stored (Ok tt) new → ForcesBetween called synced records from to old new
 
 -- a store failed; then one call synced what was stored before it, and none was made where that is
 -- nothing
-pub record SyncsStored {D : Type 0} (synced : SyncCall D) (old new : WrittenLog D) (failed : D)
+pub record SyncsStored {D : Type 0} (synced : SyncCall D) (from to : ℕ) (failed new : D)
     : Type 0 where
-  pub nothing : new.forced_end ≡ old.forced_end → new.device ≡ failed
-  pub stored : old.forced_end < new.forced_end → synced failed (Ok tt) new.device
+  pub none : to ≡ from → new ≡ failed
+  pub some : from < to → synced failed (Ok tt) new
 
 -- a force that failed: a store did, so that the records before it count as forced once they are
 -- synced; or their sync did, so that no record more counts as forced, whatever was stored
-pub data ForceFails {D : Type 0} (called : StoreCall D) (synced : SyncCall D)
-    (old new : WrittenLog D) : Type 0 where
-  at_a_store : (failed : D) → FailsAtNext called old (record new { device = failed })
-      → SyncsStored synced old new failed → ForceFails called synced old new
-  at_the_sync : (reached : WrittenLog D) (why : DeviceFault) → reached.log ≡ new.log
-      → old.forced_end < reached.forced_end
-      → StoresForced called old reached reached.device ⊎ FailsAtNext called old reached
-      → synced reached.device (Err why) new.device → new.forced_end ≡ old.forced_end
-      → ForceFails called synced old new
+pub data FailsBetween {D : Type 0} (called : StoreCall D) (synced : SyncCall D) (log : Log)
+    (from to : ℕ) (old new : D) : Type 0 where
+  at_a_store : (failed : D) → FailsAtStore called log from to old failed
+      → SyncsStored synced from to failed new → FailsBetween called synced log from to old new
+  at_the_sync : (end : ℕ) (reached : D) (why : DeviceFault) → from < end
+      → StoresEach called old (records_between log.records from end) reached
+      ⊎ FailsAtStore called log from end old reached
+      → synced reached (Err why) new → to ≡ from → FailsBetween called synced log from to old new
+
+-- the log was forced from the old forced end up to the new one
+abbrev pub Forced : {D : Type 0} → StoreCall D → SyncCall D → WrittenLog D → WrittenLog D → Type 0
+Forced called synced old new = ForcesBetween called synced new.log.records old.forced_end
+    new.forced_end old.device new.device
+
+-- it was forced so far, and then a call of the device failed
+abbrev pub ForceFails : {D : Type 0} → StoreCall D → SyncCall D → WrittenLog D → WrittenLog D
+    → Type 0
+ForceFails called synced old new = FailsBetween called synced new.log old.forced_end new.forced_end
+    old.device new.device
 
 -- ---- the header
 

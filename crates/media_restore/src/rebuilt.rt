@@ -60,6 +60,7 @@ pub fn rebuild<S: PageStore + Drop, D: LogDevice + Drop>(
         × PlaysOn
         (record {
           called = D.called;
+          synced = D.synced;
           bytes = D.bytes;
           device_failures = D.failures;
           gave = S.gave;
@@ -78,7 +79,7 @@ pub fn rebuild<S: PageStore + Drop, D: LogDevice + Drop>(
 
     ensures untouched { IfErr result (λ e. e.0 ≡ PlayFault.OutOfMemory → e.1 ≡ device) }
     ensures cause { IfErr result (λ e. e.0 ≡ PlayFault.LogFault
-        → FailsAtHeader D.called D.failures setup.pages device e.1) }
+        → FailsAtHeader D.called D.synced D.failures setup.pages device e.1) }
     ensures header_fits { IfErr result (λ e. e.0 ≡ PlayFault.LogFault
         → D.fails_from device ≤ 64) }
 {

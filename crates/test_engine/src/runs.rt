@@ -59,7 +59,7 @@ const OF_TWO_PAGES: &str = "
 ";
 
 /// Rows, a restore after each with its lines, or none, and what comes of it.
-static RUNS: [(Row, &str, Result<(), FinishFault>); 31] = [
+static RUNS: [(Row, &str, Result<(), FinishFault>); 32] = [
     (rows::SUM_WRAPS, "", Ok(())),
     (rows::CHANGED_AFTER_A_COPY, OF_TWO_PAGES, Ok(())),
     (
@@ -159,6 +159,15 @@ static RUNS: [(Row, &str, Result<(), FinishFault>); 31] = [
         restore 3 all -> page 0 lsn 0
         page 1 lsn 0
         page 2 lsn 320 0=4
+    ",
+        Ok(()),
+    ),
+    (
+        growth::GROWN_DURING_A_CHECKPOINT,
+        "
+        restore 1 all -> page 0 lsn 0
+        page 1 lsn 0
+        page 2 lsn 256 0=4
     ",
         Ok(()),
     ),

@@ -23,7 +23,7 @@ count_is_of_header pages = count_behind-nil pages
 pub count_stays : (log : Log) (r : Record) → given_count r ≡ None → page_count (with_next log (r ∷ [])) ≡ page_count log
 count_stays log r none = page_count-push log r ∙ count_after-none (page_count log) r none
 
-gives_more : (count : ℕ) (r : Record) → given_count r ≡ None → GivesMore count r
+pub gives_more : (count : ℕ) (r : Record) → given_count r ≡ None → GivesMore count r
 gives_more count r none = more-none count r none
 
 pub ruleset of_plain_records = (count_is_of_header, count_stays, gives_more)

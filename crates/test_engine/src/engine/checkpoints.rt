@@ -116,6 +116,7 @@ const POINT: Point = Point {
     begin: Lsn(192),
     end: Lsn(384),
     redo: Lsn(128),
+    pages: 1,
 };
 
 #[test]

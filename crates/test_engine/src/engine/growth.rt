@@ -6,10 +6,15 @@ ghost use Rattle.page_core.specs.Volume.{formatted_pages};
 
 use super::rows::assert_row;
 use super::{called, called_on, device_of, failing_store, late_store, played_on};
-use crate::calls::calls_of;
+use crate::asserts::same;
+use crate::calls::{Row, calls_of};
 use crate::groups::{Groups, assert_bytes};
 use crate::rows;
-use crate::rows::growth::{COPIED_AFTER_GROWTH, GROWN_AFTER_A_COPY, GROWN_TO_THE_MOST};
+use crate::rows::growth::{
+    COPIED_AFTER_GROWTH, GROWN_AFTER_A_COPY, GROWN_DURING_A_CHECKPOINT, GROWN_TO_THE_MOST,
+};
+use fuzzy_ckpt::Point;
+use page_core::Lsn;
 use page_store::FaultyStore;
 use std::process::Abort;
 
@@ -17,6 +22,7 @@ use std::process::Abort;
 fn a_volume_grows(rt: HostRuntime) {
     assert_row(&rt, GROWN_AFTER_A_COPY);
     assert_row(&rt, COPIED_AFTER_GROWTH);
+    assert_row(&rt, GROWN_DURING_A_CHECKPOINT);
     assert_row(&rt, GROWN_TO_THE_MOST);
 }
 
@@ -42,6 +48,37 @@ fn an_extend_has_its_bytes(rt: HostRuntime) {
     assert_bytes(&rt, bytes.get(192..256).unwrap_or(&[]), EXTEND);
     assert_bytes(&rt, bytes.get(512..576).unwrap_or(&[]), GATHERED);
     drop(engine);
+}
+
+/// Rows, and their last checkpoints.
+const POINTS: [(Row, Point); 2] = [
+    (
+        COPIED_AFTER_GROWTH,
+        Point {
+            begin: Lsn(448),
+            end: Lsn(576),
+            redo: Lsn(320),
+            pages: 3,
+        },
+    ),
+    (
+        GROWN_DURING_A_CHECKPOINT,
+        Point {
+            begin: Lsn(64),
+            end: Lsn(448),
+            redo: Lsn(64),
+            pages: 1,
+        },
+    ),
+];
+
+#[test]
+fn a_checkpoint_has_the_page_count_at_its_begin(rt: HostRuntime) {
+    for (row, point) in &POINTS {
+        let engine = called(&rt, 1, row.parts);
+        same(&rt, &engine.master(), &Some(*point));
+        drop(engine);
+    }
 }
 
 /// The volume is as before where the store fails. Then the same growth, or a smaller one, is as it

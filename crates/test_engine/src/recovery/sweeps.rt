@@ -21,7 +21,7 @@ use page_store::FaultyStore;
 use std::process::Abort;
 use std::thread::Threads;
 
-static SWEPT: [Row; 9] = [
+static SWEPT: [Row; 10] = [
     rows::COPIED_WHEN_DIRTY,
     rows::COPIED_BEHIND_THE_CURSOR,
     rows::COPIED_AFTER_A_CHANGED_WRITE,
@@ -31,6 +31,7 @@ static SWEPT: [Row; 9] = [
     rows::CHAIN,
     rows::TWO_COPIES_OF_ONE_PARENT,
     growth::COPIED_AFTER_GROWTH,
+    growth::GROWN_DURING_A_CHECKPOINT,
 ];
 
 /// How a row is called: which call of the store fails, and whether it fails late; which call of the

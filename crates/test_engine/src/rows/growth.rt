@@ -43,6 +43,30 @@ pub(crate) const COPIED_AFTER_GROWTH: Row = Row {
     ],
 };
 
+/// The volume grows behind the begin of a checkpoint, which has a page that was added. A copy of that
+/// checkpoint has just the page that there was at its begin.
+pub(crate) const GROWN_DURING_A_CHECKPOINT: Row = Row {
+    pages: 1,
+    parts: &[
+        "
+        ckpt -> lsn 64
+        extend 3 -> lsn 128
+        begin -> began 1 at 192
+        set 1 2 0 4 -> lsn 256
+        gather -> more
+        gather -> more
+        gather -> more
+        gather -> done
+        endckpt -> point 64 448 64
+        full -> copy 1
+        take 1 1 -> E3 PageOut
+        take 1 0 -> taken 0
+        seal 1 -> sealed 1
+        commit 1 -> lsn 512
+    ",
+    ],
+};
+
 /// A volume grows to as many pages as there may be, and no further.
 pub(crate) const GROWN_TO_THE_MOST: Row = Row {
     pages: 1,

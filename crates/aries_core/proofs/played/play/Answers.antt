@@ -1,4 +1,5 @@
 use Rattle.std.proofs.Common.{refl, rules, ◌≡◌, ◌<◌, ◌+◌, length, [], ◌∷◌, ◌++◌, arith, take, take_all, subst, sym, ap, ◌∙◌}
+use Rattle.std.specs.Prelude.{Result, Ok, Err, IfErr, IsErrAnd}
 use Rattle.std.proofs.lemmas.List.{length-take, take_more}
 use Rattle.aries_core.specs.declared.event.Event.{Event}
 use Rattle.aries_core.specs.EngineState.{IsFit, EngineView, new_state}
@@ -115,3 +116,12 @@ returns-clause-played g c =
     let so_far = c.loop-event.invariant in
     let all : take c.loop-event.event-index c.args.events.now ≡ c.args.events.now = take_all _ _ (omega arith) in
     rw all at so_far.on
+
+-- what is said of an error that was handed on
+handed_on : {T E : Type 0} (r : Result T E) (e : E) (Q : E → Type 0) → IsErrAnd r (λ f. f ≡ e) → Q e → IfErr r Q
+handed_on (Ok x) e Q is h = tt
+handed_on (Err f) e Q is h = subst Q (sym is) h
+
+pub returns-in_err-engine-clause-cause : goal.returns-in_err-engine-clause-cause
+returns-in_err-engine-clause-cause g c =
+    handed_on c.from_residual.result c.in_err-engine.field-0.0 _ c.from_residual.ensures.1 c.in_err-engine.ensures.cause

@@ -13,6 +13,7 @@ use Rattle.aries_core.proofs.played.play.Given as goal
 abbrev pub given_storage : (g : goal.Over) → Storage g.row.S.Denot g.row.D.Denot
 given_storage g = record {
   called = g.D.LogDevice.called;
+  synced = g.D.LogDevice.synced;
   bytes = g.D.LogDevice.bytes;
   device_failures = g.D.LogDevice.failures;
   gave = g.S.PageStore.gave;

@@ -1,5 +1,8 @@
 use Rattle.std.proofs.Common.{◌≡◌, Bool, List, [], false, inr, sym, subst, replicate, rules}
+use Rattle.std.specs.List.{All}
+use Rattle.log_records.specs.declared.record.Record.{Record}
 use Rattle.settlement.specs.Receipt.{written}
+use Rattle.settlement.specs.Session.{AllStand}
 use Rattle.settlement.specs.Sessions.{all_receipts}
 use Rattle.engine_run.specs.Given.{AreGiven}
 use Rattle.engine_run.proofs.Works.{fresh_ids}
@@ -21,7 +24,9 @@ returns-in-Err-check_works-clause-err g c =
 pub returns-clause-ok : goal.returns-clause-ok
 returns-clause-ok g c = record {
   counted = c.requires.counted;
-  receipts = c.in_default.ensures.ok;
+  receipts =
+      subst (λ (rs : List Record). All (AllStand rs c.args.forced_end) c.args.sessions.now)
+      c.records-records.ensures c.in_default.ensures.ok;
   work = c.in_default-check_works.ensures.ok;
   lsns =
       c.in_default-check_works.ensures.lsns (written (all_receipts c.args.sessions.now))

@@ -1,14 +1,34 @@
-use Rattle.std.proofs.Common.{◌≡◌, ◌+◌, ◌<◌, ◌++◌, List, [], ℕ, length, take, sym, ap, subst, ◌∙◌, arith}
+use Rattle.std.proofs.Common.{◌≡◌, ◌+◌, ◌<◌, ◌++◌, List, [], ℕ, length, take, refl, sym, ap, subst, ◌∙◌, arith}
 use Rattle.std.specs.List.{flat_map}
 use Rattle.std.specs.Io.KnownBytes.{Appends}
 use Rattle.std.proofs.KnownBytes.{Appends-trans}
 use Rattle.std.proofs.lemmas.List.{append-nil, length-append}
-use Rattle.log_records.specs.Log.{header_bytes, log_bytes}
+use Rattle.log_records.specs.Log.{IsLog, Log, SpellsLog, header_bytes, log_bytes}
 use Rattle.log_records.specs.Record.{record_bytes}
 use Rattle.page_core.specs.declared.format.Format.TheVariants.{Second}
 use Rattle.log_records.proofs.Logs.{length-header}
 use Rattle.page_core.proofs.Pieces.{into}
 use Rattle.saved_files.proofs.log_file.write_log.Goals as goal
+
+spelled : (log : Log) → IsLog log → SpellsLog log (log_bytes log)
+spelled log valid = record {
+  valid = valid;
+  format = Second;
+  of_format = λ i d lt. tt;
+  spelled = refl;
+}
+
+pub returns-in_default-clause-spelled : goal.returns-in_default-clause-spelled
+returns-in_default-clause-spelled g c = spelled c.args.log.now c.pages.ensures.valid
+
+pub returns-in-Err-clause-spelled : goal.returns-in-Err-clause-spelled
+returns-in-Err-clause-spelled g c = spelled c.args.log.now c.pages.ensures.valid
+
+pub returns-in-Err-write_records-clause-spelled : goal.returns-in-Err-write_records-clause-spelled
+returns-in-Err-write_records-clause-spelled g c = spelled c.args.log.now c.pages.ensures.valid
+
+pub returns-clause-spelled : goal.returns-clause-spelled
+returns-clause-spelled g c = spelled c.args.log.now c.pages.ensures.valid
 
 pub returns-in-Err-write_records-clause-err : goal.returns-in-Err-write_records-clause-err
 returns-in-Err-write_records-clause-err g c =

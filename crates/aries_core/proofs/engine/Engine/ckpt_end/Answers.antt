@@ -87,14 +87,10 @@ returns-in-Err-LogFault-clause-last_call g c =
     let by_device : IsLogFault c.in-Err-LogFault.field-0 =
     subst IsLogFault (sym c.in-Err-LogFault.field-0-is) tt in
     let f = c.in-Err-LogFault.ensures.last_call by_device in
-    rw (← c.self.view_is) (λ (u : Unit {0}). record {
-      before_fault = f.before_fault;
-      stored = f.stored;
-      next = f.next;
-      there = f.there;
-      why = f.why;
-      failed = f.failed;
-    })
+    rw (← c.self.view_is) (λ (u : Unit {0}). f)
+
+pub returns-clause-called : goal.returns-clause-called
+returns-clause-called g c = rw (← c.self.view_is) c.in-Ok.ensures.called
 
 pub finish-requires-clause-covered : goal.finish-requires-clause-covered
 finish-requires-clause-covered g c =

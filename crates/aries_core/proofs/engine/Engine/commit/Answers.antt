@@ -1,6 +1,7 @@
 use Rattle.std.proofs.Common.{◌≡◌, refl, ap, ◌∙◌}
 use Rattle.aries_core.specs.declared.event.Event.TheVariants as event
-use Rattle.aries_core.specs.EngineState.{EngineView, end}
+use Rattle.log_records.specs.declared.record.Record.{Record}
+use Rattle.aries_core.specs.EngineState.{EngineState, EngineView, appended, end}
 use Rattle.aries_core.proofs.engine.Engine.commit.Goals as goal
 
 pub append-requires-clause-called : goal.append-requires-clause-called
@@ -15,3 +16,18 @@ append-requires-clause-called g c =
       accepted = c.in_ok-prev.ensures.active;
       made = rw (lsn, prev) refl;
     }
+
+-- the Commit is appended in memory, so the forced end and the device are as before
+same_end : {S D : Type 0} (old mid : EngineView S D) (r : Record) → mid.state ≡ appended old.state r
+    → mid.state.forced_end ≡ old.state.forced_end
+same_end old mid r is = ap (λ (s : EngineState). s.forced_end) is
+
+pub returns-in-Ok-clause-called : goal.returns-in-Ok-clause-called
+returns-in-Ok-clause-called g c =
+    let end = same_end c.args.self.now c.append.new.self _ c.in_ok-append.ensures.ok in
+    rw (end, c.append.ensures.device) at c.in-Ok.ensures.called
+
+pub returns-in-Err-clause-last_call : goal.returns-in-Err-clause-last_call
+returns-in-Err-clause-last_call g c = λ fault.
+    let end = same_end c.args.self.now c.append.new.self _ c.in_ok-append.ensures.ok in
+    rw (end, c.append.ensures.device) at c.in-Err.ensures.last_call

@@ -8,3 +8,6 @@ invariant_of-self g c =
     force_kept g.S.PageStore.stored it.log c.force.new.self it.txns it.pool
     (media_view it.master it.session it.vault.copies it.returns.made)
     c.self.invariant c.force.ensures.same c.force.ensures.rising c.force.ensures.at_record
+
+pub returns-clause-last_call : goal.returns-clause-last_call
+returns-clause-last_call g c = rw (← c.self.view_is) c.force.ensures.last_call

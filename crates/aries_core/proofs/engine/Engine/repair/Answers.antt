@@ -1,5 +1,5 @@
 use Rattle.std.proofs.Common.{◌≡◌, ◌∙◌, ◌<◌, length, ap, subst, sym, arith}
-use Rattle.std.specs.Prelude.{IfErr, None, Result, Ok, Err, OnOk, is_err, false}
+use Rattle.std.specs.Prelude.{IfErr, None, Result, Ok, Err, OnErr, OnOk, is_err, false, true}
 use Rattle.page_core.specs.declared.numbers.Lsn.{Lsn}
 use Rattle.page_core.specs.declared.page.Page.{Page}
 use Rattle.log_records.specs.Image.{image}
@@ -8,7 +8,7 @@ use Rattle.aries_core.specs.declared.event.Event.TheVariants as event
 use Rattle.aries_core.specs.declared.refusal.Refusal.{Refusal}
 use Rattle.aries_core.specs.EngineState.{EngineView, engine_view, log_of, page_now}
 use Rattle.aries_core.specs.Refusal.{refusal}
-use Rattle.aries_core.specs.Step.{IsByStore, Step, reply_of}
+use Rattle.aries_core.specs.Step.{Forces, IsByStore, Step, reply_of}
 use Rattle.aries_core.specs.Asked.{Asks, FailsAsking, asked}
 use Rattle.page_store.specs.declared.store.StoreFault.{StoreFault}
 use Rattle.aries_core.specs.OpenCkpt.{media_view}
@@ -137,3 +137,26 @@ returns-clause-failed g c =
           (λ by_store. subst (λ (x : Page). (why : StoreFault) × wrote it.pool.store p x (Err why) c.repair.new.self.store)
           same (_, w.in-Err.ensures.wrote))
     ])
+
+-- and what one says that is
+failing : {T E : Type 0} (r : Result T E) (P : Type 0) → is_err r ≡ true → OnErr r P → P
+failing (Ok x) P err h = cc
+failing (Err e) P err h = h
+
+pub returns-then-is_err-clause-last_call : goal.returns-then-is_err-clause-last_call
+returns-then-is_err-clause-last_call g c =
+    let fails = failing c.force_to.result _ (sym c.is_err.ensures.value ∙ c.if-is_err.true) c.force_to.ensures.last_call in
+    rw (← c.self.view_is) (λ (u : Unit {0}). fails)
+
+if_err : {T E : Type 0} (r : Result T E) (Q : E → Type 0) (P : Type 0) → P → IfErr r (λ why. Q why → P)
+if_err (Ok x) Q P h = tt
+if_err (Err e) Q P h = λ q. h
+
+pub returns-clause-forced_first : goal.returns-clause-forced_first
+returns-clause-forced_first g c =
+    let forced = said c.force_to.result _ (sym c.is_err.ensures.value ∙ c.if-is_err.false) c.force_to.ensures.called in
+    if_err c.match-repair.result IsByStore _
+    (subst (λ (v : EngineView g.row.S.Denot g.row.D.Denot). Forces g.D.LogDevice.called g.D.LogDevice.synced v
+    (engine_view g.S.PageStore.stored c.force_to.new.self c.repair.new.self
+    (media_view c.self.inside.master c.self.inside.session c.self.inside.vault.copies c.self.inside.returns.made)))
+    c.self.view_is forced)

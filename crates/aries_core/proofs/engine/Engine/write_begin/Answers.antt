@@ -27,14 +27,12 @@ failed (Err e) P err h = h
 pub returns-then-is_err-clause-last_call : goal.returns-then-is_err-clause-last_call
 returns-then-is_err-clause-last_call g c =
     let f = failed c.force_to.result _ (sym c.is_err.ensures.value ∙ c.if-is_err.true) c.force_to.ensures.last_call in
-    rw (← c.self.view_is) (λ (u : Unit {0}). record {
-      before_fault = f.before_fault;
-      stored = f.stored;
-      next = f.next;
-      there = f.there;
-      why = f.why;
-      failed = f.failed;
-    })
+    rw (← c.self.view_is) (λ (u : Unit {0}). f)
+
+pub returns-clause-called : goal.returns-clause-called
+returns-clause-called g c =
+    let ok = sym c.is_err.ensures.value ∙ c.if-is_err.false in
+    rw (← c.self.view_is) (said c.force_to.result _ ok c.force_to.ensures.called)
 
 -- a page of which a write begins is dirty, so it is in memory
 pub image_of-requires : goal.image_of-requires

@@ -54,3 +54,11 @@ returns-in-Ok-clause-order g c =
     (sym c.end_of-lsn.ensures.end)
     (subst (λ (v : CkptView Gathered). (v.redo ≤ v.begin) × (v.begin < end_of log.records)) (sym c.self.view_is)
     (end_order log c.args.self c.end_of-lsn.ensures.valid c.requires.ckpt))
+
+pub returns-in-Ok-clause-called : goal.returns-in-Ok-clause-called
+returns-in-Ok-clause-called g c =
+    rw (c.append.ensures.forced_end, c.append.ensures.device) at c.in-Ok.ensures.called
+
+pub returns-in-Err-clause-last_call : goal.returns-in-Err-clause-last_call
+returns-in-Err-clause-last_call g c = λ fault.
+    rw (c.append.ensures.forced_end, c.append.ensures.device) at c.in-Err.ensures.last_call

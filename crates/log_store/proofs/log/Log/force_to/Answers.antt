@@ -3,7 +3,7 @@ use Rattle.std.specs.Prelude.{OnErr, OnOk}
 use Rattle.log_records.specs.Log.{Log}
 use Rattle.log_store.specs.Stores.{FailsAtNext, ForceFails, Forced, StoresForced, at_a_store, at_the_sync, in_one_sync}
 use Rattle.log_store.specs.WrittenLog.{IsWritten, WrittenLog}
-use Rattle.log_store.proofs.Stores.{either, fails_same, if_err, if_ok, on_err}
+use Rattle.log_store.proofs.Stores.{either, if_err, if_ok, on_err}
 use Rattle.log_store.proofs.WrittenLogs.{written_kept}
 use Rattle.log_store.proofs.log.Log.force_to.Goals as goal
 
@@ -26,8 +26,10 @@ returns-in_err-sync-clause-last_call g c =
     omega (arith, c.count.ensures.end, c.count-forced.ensures.end, c.if-count-forced.true) in
     on_err c.from_residual.result _
     (subst (λ (v : WrittenLog g.row.D.Denot). ForceFails called synced v c.sync.new.self) c.self.view_is
-    (at_the_sync reached _ (sym c.sync.ensures.same) more
-    (either c.store_to-done.result _ _ c.store_to-done.ensures.called c.store_to-done.ensures.last_call)
+    (at_the_sync reached.forced_end reached.device _ more
+    (rw c.sync.ensures.same
+    (either c.store_to-done.result (StoresForced called old reached reached.device) (FailsAtNext called old reached)
+    c.store_to-done.ensures.called c.store_to-done.ensures.last_call))
     c.in_err-sync.ensures.synced (c.in_err-sync.ensures.back ∙ sym c.count-forced.ensures.end)))
 
 pub returns-in_ok-sync-clause-called : goal.returns-in_ok-sync-clause-called
@@ -55,10 +57,8 @@ returns-in_ok-sync-clause-last_call g c =
     omega (arith, c.count.ensures.end, c.count-forced.ensures.end, c.if-count-forced.true, c.in_ok-sync.ensures.end) in
     subst (λ (v : WrittenLog g.row.D.Denot). OnErr c.store_to-done.result (ForceFails called synced v new)) c.self.view_is
     (if_err c.store_to-done.result (FailsAtNext called old reached) (ForceFails called synced old new)
-    (λ fails. at_a_store reached.device
-    (fails_same called old reached (record new { device = reached.device }) fails c.sync.ensures.same
-    c.in_ok-sync.ensures.end refl)
-    (record { nothing = λ same. absurd (omega (arith, same, more)); stored = λ some. c.in_ok-sync.ensures.synced }))
+    (λ fails. at_a_store reached.device (rw (c.sync.ensures.same, c.in_ok-sync.ensures.end) fails)
+    (record { none = λ same. absurd (omega (arith, same, more)); some = λ lt. c.in_ok-sync.ensures.synced }))
     c.store_to-done.ensures.last_call)
 
 pub returns-else-count-forced-clause-last_call : goal.returns-else-count-forced-clause-last_call
@@ -79,5 +79,5 @@ returns-else-count-forced-clause-last_call g c =
     c.self.view_is
     (if_err c.store_to-done.result (FailsAtNext called old reached) (ForceFails called synced old reached)
     (λ fails. at_a_store reached.device fails
-    (record { nothing = λ same. refl; stored = λ some. absurd (omega (arith, some, none)) }))
+    (record { none = λ same. refl; some = λ lt. absurd (omega (arith, lt, none)) }))
     c.store_to-done.ensures.last_call)
