@@ -1,5 +1,5 @@
 -- How many calls of a file failed, after some calls more.
-use Rattle.std.proofs.Common.{◌≡◌, ◌+◌, ◌<◌, List, [], ◌∷◌, ◌++◌, ap, ◌∙◌, arith, inl, inr}
+use Rattle.std.proofs.Common.{◌≡◌, ◌+◌, ◌<◌, List, ◌++◌, ap, ◌∙◌, arith, inl, inr}
 use Rattle.std.specs.Prelude.{◌⊎◌, cond, not}
 use Rattle.std.proofs.lemmas.List.Sums.{sum_by-append}
 use Rattle.file_devices.specs.Calls.{failed_count}

@@ -49,14 +49,14 @@ abbrev pub after_call : Known → FileCall → Known
 after_call known call =
     if call.is_done then after_done known call.request else after_failed known call.request
 
--- what is known after these calls, of which the first one is to cut the file to nothing
+-- what is known after these calls, of which the first one cut the file to nothing
 abbrev pub known_of : List FileCall → Known
 known_of calls = fold after_call (record { bytes = []; lasting = 0 }) calls
 
 -- what comes of a store: the file was asked to be cut at the offset, and then to have the bytes
 -- there; where the first failed it was asked for no more
-pub record Stores (old : List FileCall) (from : ℕ) (next : List ℕ) (result : Result Unit DeviceFault)
-    (new : List FileCall) : Type 0 where
+pub record Stores (old : List FileCall) (from : ℕ) (next : List ℕ)
+    (result : Result Unit DeviceFault) (new : List FileCall) : Type 0 where
   pub ok : OnOk result (new ≡ old ++ done (SetLen from) ∷ done (Write from next) ∷ [])
   pub err : OnErr result ((new ≡ old ++ failed (SetLen from) ∷ [])
       ⊎ (new ≡ old ++ done (SetLen from) ∷ failed (Write from next) ∷ []))

@@ -1,6 +1,7 @@
 -- A page store on a file.
 use Rattle.std.specs.Prelude.{ℕ, ◌≡◌, ◌+◌, ◌-◌, ◌*◌, ◌↔◌, Bool, IsTrue, List, [], ◌∷◌, ◌++◌, length}
-use Rattle.std.specs.Prelude.{map, take, slice_get, slice_set, Some, Result, IfOk, OnOk, OnErr, is_ok}
+use Rattle.std.specs.Prelude.{map, take, slice_get, slice_set, Some}
+use Rattle.std.specs.Prelude.{Result, IfOk, OnOk, OnErr, is_ok}
 use Rattle.std.specs.List.{range_with_len}
 use Rattle.page_core.specs.declared.page.Page.{Page}
 use Rattle.page_core.specs.declared.page.TheConstants.{PAGE_BYTES}
@@ -68,8 +69,8 @@ pub record FileReads (old : FiledPages) (number : ℕ) (result : Result Page Sto
 
 -- what comes of a write: the file was asked to have the page at its place, and for nothing else; it
 -- counts as stored just where the file answered so
-pub record FileWrites (old : FiledPages) (number : ℕ) (page : Page) (result : Result Unit StoreFault)
-    (new : FiledPages) : Type 0 where
+pub record FileWrites (old : FiledPages) (number : ℕ) (page : Page)
+    (result : Result Unit StoreFault) (new : FiledPages) : Type 0 where
   pub calls : new.calls ≡ old.calls ++ call (page_write page) (is_ok result) ∷ []
   pub stored : OnOk result (new.pages ≡ slice_set old.pages number page)
   pub kept : OnErr result (new.pages ≡ old.pages)

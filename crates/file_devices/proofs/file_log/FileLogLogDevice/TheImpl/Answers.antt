@@ -1,4 +1,4 @@
-use Rattle.std.proofs.Common.{◌≡◌, ◌≤◌, [], ◌∷◌, length, ap, refl, ◌∙◌, arith}
+use Rattle.std.proofs.Common.{[], ◌∷◌, length, ap, refl, ◌∙◌, arith}
 use Rattle.std.proofs.lemmas.Result.{on_err_weaker, on_ok_weaker}
 use Rattle.file_devices.specs.Calls.{done, failed}
 use Rattle.file_devices.specs.FileLog.{known_of}
