@@ -1,0 +1,74 @@
+//! A log's device on a file.
+
+ghost use Rattle.std.specs.Prelude.{◌≡◌, ◌≤◌, [], ◌∷◌, length, IfOk, IfErr};
+ghost use Rattle.file_devices.specs.Calls.{done, failed, failed_count};
+ghost use Rattle.file_devices.specs.FileLog.{Stores, Syncs, known_of};
+ghost use Rattle.file_devices.specs.declared.calls.Request.TheVariants.{SetLen};
+
+use crate::tracked_file::{FailedFile, TrackedFile};
+use log_store::{DeviceFault, LogDevice};
+use std::fs::File;
+use std::marker::Model;
+
+/// A log's device on a file. Contracts see the calls that were made of the file, and what is known
+/// of it then: what it has where each call did what the file answered.
+#[derive(Drop)]
+pub struct FileLog {
+    file: TrackedFile,
+}
+
+impl Model for FileLog {
+    ghost use Rattle.std.specs.Prelude.{List};
+    ghost use Rattle.file_devices.specs.declared.calls.FileCall.{FileCall};
+
+    ghost Value = { List FileCall };
+
+    ghost view = { λ it. it.file };
+}
+
+impl FileLog {
+    /// A device on a file, which is emptied. The file is open for writing, and not for appending.
+    ///
+    /// An `Err` comes where it cannot be emptied.
+    pub fn new(file: File) -> Result<FileLog, FailedFile>
+        ensures emptied { IfOk result (λ log. log ≡ done (SetLen 0) ∷ []) }
+        ensures not_emptied { IfErr result (λ why. why ≡ failed (SetLen 0) ∷ []) }
+    {
+        let mut file = TrackedFile::new(file);
+        match file.set_len(0) {
+            Ok(()) => Ok(FileLog { file }),
+            Err(error) => Err(FailedFile::new(error, file)),
+        }
+    }
+}
+
+impl LogDevice for FileLog {
+    ghost bytes = { λ calls. (known_of calls).bytes };
+
+    ghost called = { λ old from next result new. Stores old from next result new };
+
+    ghost synced = { λ old result new. Syncs old result new };
+
+    ghost lasting = { λ calls. (known_of calls).lasting };
+
+    ghost failures = { λ calls. failed_count calls };
+
+    ghost fails_from = { λ _. 0 };
+
+    /// The file is cut first: what stands behind may be records of an older log, whose LSNs are
+    /// right. It takes no memory.
+    fn store(&mut self, from: u64, next: &[u8]) -> Result<(), DeviceFault>
+        requires { from ≤ length (known_of self.old).bytes }
+        ensures exact { Stores self.old from next.now result self.new }
+    {
+        self.file.set_len(from).map_err(|_| DeviceFault)?;
+        self.file.write_at(from, next).map_err(|_| DeviceFault)
+    }
+
+    /// It takes no memory.
+    fn sync(&mut self) -> Result<(), DeviceFault>
+        ensures exact { Syncs self.old result self.new }
+    {
+        self.file.sync().map_err(|_| DeviceFault)
+    }
+}

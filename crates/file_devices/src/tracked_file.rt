@@ -1,0 +1,120 @@
+//! A file of the system, of which contracts know what it was asked to do.
+
+ghost use Rattle.std.specs.Prelude.{◌≡◌, [], ◌∷◌, ◌++◌, is_ok};
+ghost use Rattle.file_devices.specs.Calls.{call};
+ghost use Rattle.file_devices.specs.declared.calls.Request.TheVariants.{Read, SetLen, Sync, Write};
+
+use crate::calls::{Calls, Request, SliceSnapshot};
+use std::error::Error;
+use std::fs::File;
+use std::marker::Model;
+use std::os::unix::fs::FileExt;
+use std::{fmt, io};
+
+/// A file, and what it was asked to do since it was given. No clause can say what a file does, so
+/// each method has one call of it, and the note of that call.
+#[derive(Drop)]
+pub(crate) struct TrackedFile {
+    file: File,
+    calls: Calls,
+}
+
+impl Model for TrackedFile {
+    ghost use Rattle.std.specs.Prelude.{List};
+    ghost use Rattle.file_devices.specs.declared.calls.FileCall.{FileCall};
+    ghost use Rattle.file_devices.specs.Calls.{calls_of};
+
+    ghost Value = { List FileCall };
+
+    ghost view = { λ it. calls_of it.calls };
+}
+
+impl TrackedFile {
+    /// A file of which nothing was asked yet.
+    pub fn new(file: File) -> TrackedFile
+        ensures { result ≡ [] }
+    {
+        TrackedFile {
+            file,
+            calls: Calls::None,
+        }
+    }
+
+    /// Cuts the file, or fills it up with zero bytes, so that it has so many bytes.
+    pub fn set_len(&mut self, len: u64) -> io::Result<()>
+        ensures { self.new ≡ self.old ++ call (SetLen len) (is_ok result) ∷ [] }
+    {
+        let answer = self.file.set_len(len);
+        self.calls.note(Request::SetLen(len), answer.is_ok());
+        answer
+    }
+
+    /// Writes bytes over those of the file from an offset on.
+    pub fn write_at(&mut self, at: u64, bytes: &[u8]) -> io::Result<()>
+        ensures { self.new ≡ self.old ++ call (Write at bytes.now) (is_ok result) ∷ [] }
+    {
+        let answer = self.file.write_all_at(bytes, at);
+        let bytes = SliceSnapshot::of(bytes);
+        self.calls
+            .note(Request::Write { at, bytes }, answer.is_ok());
+        answer
+    }
+
+    /// Fills the buffer with the bytes of the file from an offset on.
+    pub fn read_at(&mut self, at: u64, buffer: &mut [u8]) -> io::Result<()>
+        ensures { self.new ≡ self.old ++ call (Read at buffer.new) (is_ok result) ∷ [] }
+    {
+        let answer = self.file.read_exact_at(buffer, at);
+        let bytes = SliceSnapshot::of(buffer);
+        self.calls.note(Request::Read { at, bytes }, answer.is_ok());
+        answer
+    }
+
+    /// Waits until all that was written to the file lasts.
+    pub fn sync(&mut self) -> io::Result<()>
+        ensures { self.new ≡ self.old ++ call Sync (is_ok result) ∷ [] }
+    {
+        let answer = self.file.sync_data();
+        self.calls.note(Request::Sync, answer.is_ok());
+        answer
+    }
+}
+
+/// A file on which no device could be made, since a call of it failed. It is closed with this.
+#[derive(Drop)]
+pub struct FailedFile {
+    /// Why it failed, as the system tells it.
+    pub error: io::Error,
+    file: TrackedFile,
+}
+
+impl Model for FailedFile {
+    ghost use Rattle.std.specs.Prelude.{List};
+    ghost use Rattle.file_devices.specs.declared.calls.FileCall.{FileCall};
+
+    ghost Value = { List FileCall };
+
+    ghost view = { λ it. it.file };
+}
+
+impl FailedFile {
+    pub(crate) fn new(error: io::Error, file: TrackedFile) -> FailedFile
+        ensures { result ≡ file }
+    {
+        FailedFile { error, file }
+    }
+}
+
+impl fmt::Debug for FailedFile {
+    fn fmt<W: fmt::Write>(&self, f: &mut fmt::Formatter<W>) -> fmt::Result {
+        fmt::Debug::fmt(&self.error, f)
+    }
+}
+
+impl fmt::Display for FailedFile {
+    fn fmt<W: fmt::Write>(&self, f: &mut fmt::Formatter<W>) -> fmt::Result {
+        fmt::Display::fmt(&self.error, f)
+    }
+}
+
+impl Error for FailedFile {}
