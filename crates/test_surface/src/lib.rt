@@ -6,6 +6,7 @@ pub mod of_aries_core;
 pub mod of_buffer_pool;
 pub mod of_copy_vault;
 pub mod of_engine_run;
+pub mod of_file_devices;
 pub mod of_fuzzy_ckpt;
 pub mod of_log_store;
 pub mod of_loser_undo;

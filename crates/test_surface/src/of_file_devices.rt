@@ -1,0 +1,3 @@
+//! Devices on files.
+
+pub use file_devices::{FailedFile, FileLog, FileStore};
