@@ -195,7 +195,7 @@ fn a_later_copy_may_have_an_older_page(rt: HostRuntime) -> Result<(), Fail> {
 }
 
 /// An incremental copy of so many pages, which began behind the growth of the volume.
-fn behind_growth(pages: u64) -> Head {
+fn behind_growth(pages: u32) -> Head {
     Head {
         pages,
         begin: 576,

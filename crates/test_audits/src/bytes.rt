@@ -81,7 +81,7 @@ pub(crate) fn grown_log(alloc: Global) -> Result<Vec<u8>, Fail> {
 /// and redo point, and how many pages it took.
 #[derive(Clone, Copy)]
 pub(crate) struct Head {
-    pub(crate) pages: u64,
+    pub(crate) pages: u32,
     pub(crate) id: u32,
     pub(crate) parent: u32,
     pub(crate) begin: u64,
@@ -97,7 +97,7 @@ pub(crate) fn archive(alloc: Global, head: Head, lsn: u64, slot: u64) -> Result<
         alloc,
         &[
             ARCHIVE,
-            u64::from(head.id) * HIGH + head.pages,
+            u64::from(head.id) * HIGH + u64::from(head.pages),
             u64::from(head.parent) * HIGH + kind,
             head.begin,
             head.redo,
