@@ -83,11 +83,11 @@ def behind(records):
     """Each call that appends a record, behind so many more records. So each comes where the log has to grow. The last
     restore keeps a record too few, but where a call was refused."""
     return Script(f"each record behind {records} more", 2, f"""
-        {joined("begin", *["add 1 0 0 1"] * records)}
+        {joined("begin", *["add 1 0 0 1"] * records)}; extend 3
         begin; set 2 1 0 5; add 2 1 1 7; abort 2; abort 2; undo 2; undo 2; undo 2; undo 2
-        {CHECKPOINT}; full; full; {takes(1, 1, 0)}
+        {CHECKPOINT}; full; full; {takes(1, 2, 1, 0)}
         begin; add 3 1 0 1; commit 3; begin; add 4 1 0 1; abort 1; undo 1; add 4 1 1 1; undo 1; add 4 0 0 1
-        """, f"restore 1 {records + 14}")
+        """, f"restore 1 {records + 15}")
 
 
 SCRIPTS = [ROLLBACK, ONE_SLOT, OPEN_CHECKPOINT, CHAIN, MANY, *map(behind, range(8))]
