@@ -58,6 +58,7 @@ def check_strict(program, day):
                       (b"x" * 40 + b" 1", f"unknown call `{'x' * 40}`"),
                       ("ö".encode() * 41, f"unknown call `{'ö' * 40}...`"), (b"x" * 60000, f"unknown call `{'x' * 40}...`"),
                       (b"set 1 0 5", "`set` takes 4 numbers, and 3 stand here"),
+                      (b"extend", "`extend` takes 1 number, and 0 stand here"),
                       (b"force\nbegin 1", "`begin` takes 0 numbers, and 1 stands here"),
                       (b"restore 1", "`restore` takes 2 words, and 1 stands here"),
                       (b"commit x", "a number is misspelled or too large"), (b"  ", "it has spaces alone")):
@@ -214,6 +215,31 @@ def check_reasons(program):
     program.check(done, "redo of a pipe", 2, b"", (EXAMPLES / "bad_chain.fault").read_text())
 
 
+def check_growth(program):
+    """The same of a log that ends with a growth, and of a copy with another page count than it has."""
+    log = (program.folder / "log").read_bytes()
+    pages, end = int.from_bytes(log[8:12], "little"), len(log)
+
+    def grown(name, count, format=b"2"):
+        extend = b"\x0b" + bytes(23) + count.to_bytes(4, "little") + bytes(28) + end.to_bytes(8, "little")
+        (program.folder / name).write_bytes(log[:7] + format + log[8:] + extend)
+        return name
+
+    copy = bytearray((program.folder / "copy-1").read_bytes())
+    copy[8:12] = copy[40:44] = (pages + 1).to_bytes(4, "little")
+    (program.folder / "wide").write_bytes(copy)
+    for words, status, line, why in (
+            ([grown("grown", pages + 1), "copy-1"], 0, "sound", ""),
+            ([grown("same", pages), "copy-1"], 2, f"E35 BadChain {end}",
+             f"same (log): it gives the volume {pages} pages, but there are {pages} already"),
+            ([grown("old", pages + 1, b"1"), "copy-1"], 2, f"E31 BadRecord {end}",
+             "old (log): kind 11 is that of no record"),
+            (["grown", "wide"], 1, "E37 ChainBroken 1",
+             f"wide (image copy): has {pages + 1} pages, but the log has {pages} before its checkpoint")):
+        program.check(program.run("audit", *words), f"audit {' '.join(words)}", status, f"{line}\n".encode(),
+                      why and f"imgcopy: {why}\n")
+
+
 def main(arguments):
     try:
         if len(arguments) != 1:
@@ -232,6 +258,7 @@ def main(arguments):
             check_audits(program)
             check_many_pages(program)
             check_reasons(program)
+            check_growth(program)
     except (Failure, OSError, subprocess.SubprocessError) as failure:
         sys.exit(f"operator.py: {failure}")
     print(f"ok operator: the options and the lines for a person are as expected, {program.checks} times")
