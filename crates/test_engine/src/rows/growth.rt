@@ -43,8 +43,8 @@ pub(crate) const COPIED_AFTER_GROWTH: Row = Row {
     ],
 };
 
-/// The volume grows behind the begin of a checkpoint, which has a page that was added. A copy of that
-/// checkpoint has just the page that there was at its begin.
+/// The volume grows behind the begin of a checkpoint, which has a page that was added. A copy of
+/// that checkpoint has just the page that there was at its begin.
 pub(crate) const GROWN_DURING_A_CHECKPOINT: Row = Row {
     pages: 1,
     parts: &[
