@@ -10,7 +10,8 @@
 #                 that what the documents name is there
 # make plants     tries the few wrong bodies that the gate leaves out, since it would prove their crates for them alone
 # make bench      measures the program beside a plain Rust program, prints a table, and draws bench/times.svg; if rt is
-#                 used, it then measures copies of a shared engine by many workers, and draws bench/copies.svg
+#                 used, it then measures copies of a shared engine by many workers, and draws bench/copies.svg, and
+#                 commits on files beside those of SQLite, where sqlite3 is there
 # make examples   makes the example logs and their expected answers again
 # make contracts  makes docs/CONTRACTS.md again, from the sources
 # make install    puts the program, its manual page, the guide, the formats, and the scripts that show a log and a page
@@ -66,6 +67,9 @@ ifeq ($(GIVEN),)
 	@tools/build.sh bench_copies
 	@python3 bench/copies.py build/bench_copies $(ROUNDS) bench/copies.svg > build/copies.md
 	@cat build/copies.md
+	@tools/build.sh bench_commits
+	@python3 bench/commits.py build/bench_commits $(ROUNDS) > build/commits.md
+	@cat build/commits.md
 endif
 
 examples: need-python3

@@ -247,11 +247,11 @@ for word in help --help -h; do
 done
 check_refused "error: unrecognized" "'verify'" "$call" verify
 ! grep -q "a similar command" "$work/err" || fail "the words 'verify': a similar command is named"
-for pair in ru/run rerun/run resotre/restore reed/redo audt/audit hlep/help; do
+for pair in ru/run rerun/run resotre/restore reed/redo audt/audit hlep/help opne/open; do
     check_refused "error: unrecognized" "'${pair%/*}'" "a similar command exists: '${pair#*/}'" "${pair%/*}"
     check_refused "error: unrecognized" "'${pair%/*}'" "a similar command exists: '${pair#*/}'" help "${pair%/*}"
 done
-for command in redo run restore audit; do
+for command in redo run open restore audit; do
     check_words "$command" --help
     cp "$work/err" "$work/wanted.err"
     for rest in "" extra; do
@@ -278,6 +278,14 @@ check_refused "error: " "--pages <N>" "$run" run --frames=1
 check_refused "error: " "'--sync'" "$run" run --pages=1 --sync=1
 check_refused Play "65536 if not given" "$run" run --help
 check_refused Play --save "$run" run --help
+open='Usage: imgcopy open'
+check_refused "error: " "<FOLDER>" "$open" open
+for pages in --pages=0 --pages=65537 --pages=x --pages=; do
+    check_refused "error: " "--pages <N>" --help open folder "$pages"
+done
+check_refused "error: " "--frames <B>" --help open folder --frames=0
+check_refused "error: " "'extra'" "$open" open folder extra
+check_refused Open FOLDER "$open" open -h
 restore='Usage: imgcopy restore'
 check_refused "error: " "<MASTER>" "$restore" restore log
 check_refused Write ARCHIVE "$restore" restore -h

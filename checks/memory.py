@@ -3,9 +3,11 @@
 usage: python3 -m checks.memory PROGRAM LIBRARY
 
 LIBRARY is refuse_memory.rs, built as a library for LD_PRELOAD. Each example log goes to `PROGRAM redo` with its first
-allocation refused, then with its second, and so on until none is left to refuse. So do wrong words, and an audit of the
-files of the day. A run that is refused one has to say so, to write nothing and to end with status 2; or it does without,
-and answers as ever. An audit says it on standard output, but for the memory of the program's words, before it begins.
+allocation refused, then with its second, and so on until none is left to refuse. So do wrong words, an audit of the
+files of the day, and a restore of them with its log. A run that is refused one has to say so, to write nothing and to end
+with status 2; or it does without, and answers as ever. An audit says it on standard output, but for the memory of the
+program's words, before it begins. A restore that cannot make the file of its log for want of memory, or put it in place
+behind the volume, says so of that file.
 """
 
 import os
@@ -18,12 +20,14 @@ from pathlib import Path
 from typing import NamedTuple
 
 from checks.answers import WRONG_WORDS
-from model.recovery import fault_lines
+from model.recovery import encode_log, encode_pages, fault_lines, read_log, restore_files, undo_records
 from model.scripts import run as run_script
 
 EXAMPLES = Path(__file__).resolve().parent.parent / "examples"
 OUT_OF_MEMORY = (2, b"", b"E1 OutOfMemory\n")
 AUDIT_OUT_OF_MEMORY = (2, b"E1 OutOfMemory\n", b"")
+NOT_MADE = (2, b"", b"E29 WriteFault 0\n")
+OLD_LOG = b"an older log"
 
 
 class Failure(Exception):
@@ -48,12 +52,31 @@ def cases(program):
         yield case._replace(answer=answer)
 
 
-def audit_case(folder):
+def audit_case(folder, files):
     """An audit of the files that the script of the day saves, which are put into this folder."""
-    for name, data in run_script((EXAMPLES / "day.script").read_bytes(), 3).files.items():
+    for name, data in files.items():
         (folder / name).write_bytes(data)
     names = [str(folder / name) for name in ("log", "copy-1", "copy-2", "copy-3")]
     return Case(["audit", *names], Path(os.devnull), (0, b"sound\n", b""))
+
+
+def check_restore(program, library, folder, files):
+    """A restore of these files, which are in this folder. Its log takes the place of an older one, or that one stays."""
+    archives = ["copy-1", "copy-2", "copy-3"]
+    pages, records = read_log(files["log"])
+    volume = encode_pages(restore_files(files["log"], files["master"], [files[name] for name in archives]))
+    after, place = encode_log(records + undo_records(records), pages), folder / "after"
+    words = ["restore", "--log-out", str(place), *(str(folder / name) for name in ("log", "master", *archives))]
+    place.write_bytes(OLD_LOG)
+    for number, answer, _ in refuse_each(program, library, Case(words, Path(os.devnull), ())):
+        if answer not in ((0, volume, b""), OUT_OF_MEMORY, NOT_MADE, (2, volume, NOT_MADE[2])):
+            raise Failure(f"a restore with its log: without allocation {number} the answer is {str(answer)[:80]}")
+        if place.read_bytes() != (OLD_LOG if answer[0] else after) or list(folder.glob("after.*")):
+            raise Failure(f"a restore with its log: without allocation {number} another log has its name, or one is left")
+        place.write_bytes(OLD_LOG)
+    if answer[0]:
+        raise Failure("a restore with its log is refused that has all of its memory")
+    return number - 1
 
 
 def run(program, case, environment):
@@ -105,7 +128,9 @@ def main(arguments):
         program, library = program_and_library(arguments)
         total = sum(check(program, library, case) for case in cases(program))
         with tempfile.TemporaryDirectory() as folder:
-            total += check(program, library, audit_case(Path(folder)), OUT_OF_MEMORY, AUDIT_OUT_OF_MEMORY)
+            files = run_script((EXAMPLES / "day.script").read_bytes(), 3).files
+            total += check(program, library, audit_case(Path(folder), files), OUT_OF_MEMORY, AUDIT_OUT_OF_MEMORY)
+            total += check_restore(program, library, Path(folder), files)
         if total == 0:
             raise Failure("no allocation was refused")
     except (Failure, OSError) as failure:

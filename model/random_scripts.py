@@ -29,15 +29,17 @@ class Script(NamedTuple):
 
 
 class Play:
-    """An engine that is played as its script is made."""
+    """An engine that is played as its script is made: a new one, or one that is given."""
 
-    def __init__(self, seed):
+    def __init__(self, seed, engine=None):
         self.draw = draw = Draw(seed)
         self.way_back = [0.05, 0.2, 0.5][seed // 2 % 3] if seed % 2 else 0
         self.pages = draw.one_of([1, 1, 2, 2, 3, 4, 5, 7, 9, 13, 40]) if seed % 200 else 3000
         few = seed % 3 == 0 and self.pages <= MOST_PAGES_FEW
         self.frames = 1 + seed // 3 % min(MOST_FEW_FRAMES, self.pages) if few else MOST_FRAMES
-        self.engine = Engine(self.pages, self.frames)
+        if engine is not None:
+            self.pages, self.frames = engine.count, engine.frames
+        self.engine = engine or Engine(self.pages, self.frames)
         self.events = []
         slots = draw.one_of([1, 1, 2, 3, 8])
         self.places = [(self.page(), draw.one_of([0, 1, 3, 61, draw.below(SLOTS)])) for _ in range(slots)]
@@ -230,10 +232,9 @@ def actors(play):
             *([actor, None, draw.one_of([1, 3, 9])] for actor in chosen)]
 
 
-def random_script(seed):
-    play = Play(seed)
-    draw = play.draw
-    turns = []
+def take_turns(play):
+    """Has the actors of a play take turns, until there are as many events as are drawn."""
+    draw, turns = play.draw, []
     entries = actors(play)
     for entry in entries:
         turns += [entry] * entry[2]
@@ -244,6 +245,12 @@ def random_script(seed):
         entry = draw.one_of(turns)
         event = entry[0].send(entry[1])
         entry[1] = play.say(event) if event else None
+
+
+def random_script(seed):
+    play = Play(seed)
+    draw = play.draw
+    take_turns(play)
     end_checkpoint(play)
     finish_copies(play)
     last = restore_line(play)

@@ -2,7 +2,8 @@
 # usage: bank.sh BANK IMGCOPY FOLDER
 # Plays a day of a bank on the engine for many threads, if its program BANK is built, says what each of its lines is, and
 # compares what it restores with sums that are made without it. Its files are saved into FOLDER. Where IMGCOPY is built,
-# that audits and restores them. Ends with status 0 where all of it is as expected, or the program BANK is not built.
+# that audits and restores them; then the bank works on files in FOLDER/killed, is killed, and is restored, too. Ends with
+# status 0 where all of it is as expected, or the program BANK is not built.
 set -u
 cd "$(dirname "$0")/.." || exit 1
 
@@ -12,6 +13,46 @@ fail() {
 }
 
 [ $# -eq 3 ] || fail "three arguments are wanted, two programs and a folder"
+# The pages of accounts of a volume, and what they have together.
+accounts_of() {
+    for page in 0 1 2 3 4 5 6 7; do
+        python3 examples/show_page.py "$1" "$page" || fail "the volume has no page $page"
+    done
+}
+
+sum_of() {
+    sed 's/page .* lsn [0-9]* //' "$1" | tr ' ' '\n' | awk -F= '{ sum += $2 } END { print sum }'
+}
+
+# The bank on files is killed once a second copy is in place, and restored. A record that the kill left torn is cut off.
+play_killed() {
+    local there=$folder/killed torn commit
+    mkdir "$there" || fail "$there cannot be made"
+    echo "The same bank on files, with no end to its transfers. It is killed as soon as two copies are in place:"
+    echo "\$ bank --files $there 7 5 3 2 1000000"
+    "$bank" --files "$there" 7 5 3 2 1000000 > "$folder/told" &
+    for ((look = 0; look < 600; look++)); do
+        ! grep -q '^copy 2 on 1$' "$folder/told" || break
+        sleep 0.1
+    done
+    kill -9 $!
+    wait $! 2> /dev/null
+    commit=$(sed -n 's/^committed \([0-9]*\) .*/\1/p' "$folder/told" | sort -n | tail -n 1)
+    echo "It has acknowledged $(grep -c '^committed' "$folder/told") transfers, the last one with the Commit at $commit."
+    cd "$there" || fail "there is no folder $there"
+    torn=$("$imgcopy" audit log copy-1 copy-2 2> /dev/null | sed -n 's/^E3[12] [A-Za-z]* \([0-9]*\)$/\1/p')
+    [ -z "$torn" ] || truncate -s "$torn" log || fail "the log cannot be cut"
+    [ "$commit" -lt "$(wc -c < log)" ] || fail "a commit that was acknowledged is not in the log"
+    echo "\$ cd $there; imgcopy audit log copy-1 copy-2"
+    "$imgcopy" audit log copy-1 copy-2 || fail "audit ended with status $?"
+    echo "\$ imgcopy restore -o restored log master copy-1 copy-2"
+    "$imgcopy" restore -o restored log master copy-1 copy-2 || fail "restore ended with status $?"
+    cd "$OLDPWD" || exit 1
+    accounts_of "$there/restored" > "$folder/pages"
+    echo "All accounts of the restored volume: $(sum_of "$folder/pages")"
+    [ "$(sum_of "$folder/pages")" = "$sum" ] || fail "the restored accounts have another sum"
+}
+
 folder=$3 sum=6400000
 echo
 if ! command -v "$1" > /dev/null; then
@@ -50,15 +91,14 @@ if [ -n "$imgcopy" ]; then
     echo "\$ imgcopy restore log master copy-1 copy-2 > volume"
     "$imgcopy" restore log master copy-1 copy-2 > volume || fail "restore ended with status $?"
     cd "$OLDPWD" || exit 1
-    for page in 0 1 2 3 4 5 6 7; do
-        python3 examples/show_page.py "$folder/volume" "$page" || fail "the volume has no page $page"
-    done > "$folder/pages"
+    accounts_of "$folder/volume" > "$folder/pages"
     sed 's/ [0-9]*=/ /g; s/ lsn [0-9]*/:/' "$folder/pages" | diff - <(grep '^page ' "$folder/lines") \
         || fail "the volume has other balances"
     cat "$folder/pages"
-    restored=$(sed 's/page .* lsn [0-9]* //' "$folder/pages" | tr ' ' '\n' | awk -F= '{ sum += $2 } END { print sum }')
-    [ "$restored" = "$sum" ] || fail "the restored accounts have $restored"
-    echo "All accounts of the restored volume: $restored"
+    echo "All accounts of the restored volume: $(sum_of "$folder/pages")"
+    [ "$(sum_of "$folder/pages")" = "$sum" ] || fail "the restored accounts have another sum"
+    echo
+    play_killed
     echo
 fi
 exec python3 -m checks.bank "$bank" ${imgcopy:+"$imgcopy"} 1 7

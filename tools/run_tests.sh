@@ -91,6 +91,42 @@ bank() {
     python3 -m checks.bank "$bank" "$program"
 }
 
+bank_kills() {
+    "$is_gate" || tools/build.sh demo_bank || return
+    python3 -m checks.bank_kills "$bank" "$program"
+}
+
+bank_losses() {
+    "$is_gate" || tools/build.sh demo_bank || return
+    preload file_calls checks.bank_losses "$bank" "$program"
+}
+
+bank_faults() {
+    "$is_gate" || tools/build.sh demo_bank || return
+    preload file_calls checks.bank_faults "$bank" "$program"
+}
+
+bank_memory() {
+    "$is_gate" || tools/build.sh demo_bank || return
+    preload refuse_memory checks.bank_refusals bank_memory "$bank" "$program"
+}
+
+bank_threads() {
+    "$is_gate" || tools/build.sh demo_bank || return
+    preload few_threads checks.bank_refusals bank_threads "$bank" "$program"
+}
+
+bank_rot() {
+    "$is_gate" || tools/build.sh demo_bank || return
+    python3 -m checks.bank_rot "$bank" "$program"
+}
+
+# A file system in a file is made and mounted there, which needs root.
+bank_disks() {
+    "$is_gate" || tools/build.sh demo_bank || return
+    python3 -m checks.bank_disks "$bank" "$program"
+}
+
 run_checks() {
     check contracts python3 -- python3 tools/contracts.py --check
     check documents python3 -- python3 tools/check_docs.py
@@ -100,7 +136,10 @@ run_checks() {
     check run_memory "$program" python3 rustc -- refuse_memory checks.run_memory "$program"
     check unsaved "$program" python3 -- python3 -m checks.unsaved "$program"
     check operator "$program" python3 -- python3 -m checks.operator "$program"
+    check log_out "$program" python3 -- python3 -m checks.log_out "$program"
     check guide "$program" python3 -- python3 -m checks.guide "$program"
+    check open_cases "$program" python3 -- python3 -m checks.open_cases "$program"
+    check open_kills "$program" python3 -- python3 -m checks.open_kills "$program"
     check saves_at_once "$program" python3 -- python3 -m checks.saves_at_once "$program"
     check frames "$program" python3 -- python3 -m checks.few_frames "$program"
     check faults "$program" python3 -- python3 -m checks.faults "$program"
@@ -111,8 +150,20 @@ run_checks() {
         check repairs "$program" rt python3 -- repairs
         check fault_sweeps "$program" rt python3 -- fault_sweeps
         check bank "$program" rt python3 -- bank
+        check bank_kills "$program" rt python3 -- bank_kills
+        check bank_losses "$program" rt python3 rustc -- bank_losses
+        check bank_faults "$program" rt python3 rustc -- bank_faults
+        check bank_memory "$program" rt python3 rustc -- bank_memory
+        check bank_threads "$program" rt python3 rustc -- bank_threads
+        check bank_rot "$program" rt python3 -- bank_rot
+        if python3 -m checks.bank_disks --can; then
+            check bank_disks "$program" rt python3 -- bank_disks
+        else
+            skip bank_disks "no file system can be made and mounted here"
+        fi
     else
-        for name in library_memory few_threads repairs fault_sweeps bank; do
+        for name in library_memory few_threads repairs fault_sweeps bank bank_kills bank_losses bank_faults bank_memory \
+            bank_threads bank_rot bank_disks; do
             skip "$name" "it has rt prove another program"
         done
     fi

@@ -29,6 +29,7 @@ pub mod PoolStates
 pub mod Refusals
 pub mod Repairs
 pub mod Residents
+pub mod Resuming
 pub mod Retires
 pub mod Returned
 pub mod Rooms

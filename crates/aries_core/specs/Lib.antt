@@ -10,6 +10,7 @@ pub mod Gather
 pub mod OpenCkpt
 pub mod Refusal
 pub mod Repair
+pub mod Resumed
 pub mod Run
 pub mod Step
 pub mod Storage

@@ -1,7 +1,9 @@
 //! The engine's calls that make image copies while other calls change and write the pages.
 
-ghost use Rattle.std.specs.Prelude.{◌≡◌, ◌<◌, Some, None, IfErr, OnOk};
+ghost use Rattle.std.specs.Prelude.{◌≡◌, ◌<◌, Some, None, IfErr, IfOk, OnOk};
 ghost use Rattle.std.specs.Option.{option_map_or};
+ghost use Rattle.copy_vault.specs.CopyWrite.{LeavesCopy, WritesCopy};
+ghost use Rattle.copy_vault.specs.Vault.{IsOfId, OpenRefuses, complete, complete_refusal, state_of};
 ghost use Rattle.aries_core.specs.Asked.{Asks, FailsAsking, asked};
 ghost use Rattle.aries_core.specs.Refusal.{refusal};
 ghost use Rattle.aries_core.specs.Step.{IsByStore, Step, reply_of, took_answer};
@@ -11,10 +13,11 @@ ghost use Rattle.aries_core.specs.declared.event.Event.TheVariants as event;
 use crate::engine::Engine;
 use crate::event::Took;
 use crate::refusal::Refusal;
-use copy_vault::{CopyId, Decision};
+use copy_vault::{CopyFault, CopyId, CopyWriteFault, Decision, LentCopy};
 use log_store::LogDevice;
 use page_core::{Lsn, PageNo};
 use page_store::PageStore;
+use std::io::Write;
 
 impl<S: PageStore, D: LogDevice> Engine<S, D> {
     /// Begins a full image copy (ARIES, section 8), and answers its id. The copy notes the begin
@@ -103,6 +106,31 @@ impl<S: PageStore, D: LogDevice> Engine<S, D> {
         ensures device { self.new.device ≡ self.old.device }
     {
         Ok(self.vault.drop_open(copy)?)
+    }
+
+    /// Lends a complete copy, which can then be read and written while the engine goes on. It is no
+    /// event, and changes nothing. Refusals in order: `NoCopy`, `CopyNotComplete`, `OutOfMemory`.
+    pub fn lend_copy(&mut self, copy: CopyId) -> Result<LentCopy, CopyFault>
+        ensures ok { IfOk result (λ lent.
+            state_of self.old.state.copies copy ≡ complete lent) }
+        ensures kept { IfOk result (λ lent. IsOfId self.old.state.copies copy lent) }
+        ensures err { IfErr result
+            (OpenRefuses (complete_refusal (state_of self.old.state.copies copy))) }
+        ensures same { self.new ≡ self.old }
+    {
+        self.vault.lend(self.alloc, copy)
+    }
+
+    /// Writes the archive of a complete copy, as `write_archive` of copy_vault does. It is no event,
+    /// and changes nothing. Refusals in order: `NoCopy`, `CopyNotComplete`; then the faults of
+    /// `write_archive`. The writer is not flushed.
+    pub fn write_copy<W: Write>(&self, copy: CopyId, writer: &mut W) -> Result<(), CopyWriteFault>
+        ensures ok { OnOk result (WritesCopy self.now.state.copies copy (W.contents writer.old)
+            (W.contents writer.new)) }
+        ensures err { IfErr result (LeavesCopy self.now.state.copies copy (W.contents writer.old)
+            (W.contents writer.new)) }
+    {
+        self.vault.write_copy(self.alloc, copy, writer)
     }
 
     /// The begin LSN of the last complete checkpoint.

@@ -16,6 +16,7 @@ mod played;
 mod readers;
 mod refusal;
 mod repair;
+mod resume;
 mod retire;
 mod rollbacks;
 mod setup;
@@ -40,4 +41,5 @@ pub use laws::{
 };
 pub use played::{Played, play};
 pub use refusal::Refusal;
+pub use resume::Legacy;
 pub use setup::{PlayFault, Setup};

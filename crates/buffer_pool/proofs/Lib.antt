@@ -7,6 +7,7 @@ pub mod Holes
 pub mod PageSets
 pub mod Pools
 pub mod Repaired
+pub mod Resumed
 pub mod Sought
 pub mod States
 pub mod Taken

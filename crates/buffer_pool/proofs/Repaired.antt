@@ -130,7 +130,7 @@ state_idle log p s lsn is idle =
     let none : s.since ≡ None = is.since ∙ ap (option_and_then (λ x. rec_lsn log.records p x.lsn)) idle in
     ap (λ (o : Option ℕ). record { written = lsn; rec_lsn = o; writing = None; since = None }) none
 
-state_repaired : (log : Log) (p : ℕ) → IsLog log → IsStateOf log p (stored_as_now (image log.records p).lsn)
+pub state_repaired : (log : Log) (p : ℕ) → IsLog log → IsStateOf log p (stored_as_now (image log.records p).lsn)
 state_repaired log p valid = record {
   written = image_below log p valid;
   image = tt;

@@ -129,6 +129,10 @@ write_ended state lsn = record {
 abbrev pub stored_as_now : ℕ → PageState
 stored_as_now lsn = record unwritten { written = lsn }
 
+-- the states of pages that are stored as they are now
+abbrev pub stored_states : List Page → List PageState
+stored_states pages = map (λ (page : Page). stored_as_now page.lsn) pages
+
 -- ---- calls of a pool
 
 -- a new pool of so many pages and frames: no page is resident
@@ -144,6 +148,17 @@ new_pool store pages frames = record {
 -- and one with a frame for each page: all are resident, as they are formatted
 abbrev pub whole_pool : {S : Type 0} → S → ℕ → PoolView S
 whole_pool store pages = record (new_pool store pages pages) { resident = formatted_pages pages }
+
+-- a pool of so many frames over a store of pages that are as their log makes them: none is
+-- resident, and none is dirty
+abbrev pub clean_pool : {S : Type 0} → S → List Page → ℕ → PoolView S
+clean_pool store pages frames = record {
+  store = store;
+  frames = frames;
+  room = 0;
+  resident = [];
+  states = stored_states pages;
+}
 
 -- the states of the pages of a volume that has grown to so many: those that were added are unwritten
 abbrev pub grown_states : ℕ → List PageState → List PageState

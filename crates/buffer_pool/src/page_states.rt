@@ -6,14 +6,14 @@ ghost use Rattle.std.specs.Option.{option_copied, unwrap_or};
 ghost use Rattle.log_records.specs.Coverage.{entries_of, next_dirty};
 ghost use Rattle.buffer_pool.specs.PageStates.{AreClean, IsFirstDirty, dirty_in};
 ghost use Rattle.buffer_pool.specs.Pool.{changed, grown_states, is_clean_in, state_in, unwritten};
-ghost use Rattle.buffer_pool.specs.Pool.{write_begun};
+ghost use Rattle.buffer_pool.specs.Pool.{stored_states, write_begun};
 ghost use Rattle.buffer_pool.specs.Pool.{write_ended};
 
 use crate::growth::{grow_column, grow_lsns};
 use crate::page_image::PageImage;
 use crate::rec_lsns::RecLsns;
 use log_records::{DirtyPage, DirtyPages};
-use page_core::{Lsn, MAX_PAGES, PageNo};
+use page_core::{Lsn, MAX_PAGES, Page, PageNo};
 use std::alloc::{AllocError, Global};
 use std::marker::Model;
 
@@ -60,6 +60,19 @@ impl PageStates {
             first_changes: Vec::with_capacity(alloc, MAX_PAGES as usize)?,
         };
         states.grow(count);
+        Ok(states)
+    }
+
+    /// The states of pages that are stored as they are, and were not changed since, with room as
+    /// `new` makes it.
+    pub(crate) fn stored(alloc: Global, pages: &[Page]) -> Result<PageStates, AllocError>
+        requires { length pages.now ≤ MAX_PAGES }
+        ensures { IfOk result (λ states. states ≡ stored_states pages.now) }
+    {
+        let mut states = PageStates::new(alloc, pages.len() as u32)?;
+        for (index, page) in pages.iter().enumerate() {
+            states.end_write(PageNo(index as u32), page.lsn);
+        }
         Ok(states)
     }
 

@@ -7,15 +7,16 @@ ghost use Rattle.std.specs.List.{Contains};
 ghost use Rattle.page_core.specs.declared.page.Page.{Page};
 ghost use Rattle.page_core.specs.declared.page.TheConstants.{MAX_PAGES};
 ghost use Rattle.page_core.specs.Volume.{AreNumbered, formatted_pages};
-ghost use Rattle.log_records.specs.Image.{image, with_record};
-ghost use Rattle.log_records.specs.Log.{IsLog, IsPageCount, Log, with_next};
+ghost use Rattle.log_records.specs.Image.{image, redo_all, with_record};
+ghost use Rattle.log_records.specs.Log.{IsLog, IsPageCount, Log, page_count, with_next};
 ghost use Rattle.log_records.specs.Coverage.{dirty, entries_of, next_dirty};
 ghost use Rattle.log_records.specs.PageCount.{given_count};
 ghost use Rattle.log_records.specs.Record.{change_of};
 ghost use Rattle.log_records.specs.declared.record.Record.TheVariants.{Extend};
 ghost use Rattle.page_store.specs.Store.{IsGrown, StoresOrKeeps};
 ghost use Rattle.buffer_pool.specs.Frames.{IsResident, fetched, is_full, is_resident};
-ghost use Rattle.buffer_pool.specs.Pool.{IsPoolOf, grown_pool, is_clean, new_pool, stored_as_now};
+ghost use Rattle.buffer_pool.specs.Pool.{IsPoolOf, clean_pool, grown_pool, is_clean, new_pool};
+ghost use Rattle.buffer_pool.specs.Pool.{stored_as_now};
 ghost use Rattle.buffer_pool.specs.Pool.{state_at};
 ghost use Rattle.buffer_pool.specs.Pool.{whole_pool};
 ghost use Rattle.buffer_pool.specs.Pool.{with_state, write_begun, write_ended, writing_of};
@@ -81,7 +82,33 @@ impl<S: PageStore + Drop> Pool<S> {
         })
     }
 
-    /// A pool over such a store that has a frame for each page. All pages are resident, as they
+    /// A pool of so many frames over a store of pages that are as a log makes them, for a volume
+    /// that goes on where it ended. No page is resident, and none is dirty. It calls nothing of the
+    /// store but its count. `AllocError` comes where memory is refused. The store is dropped then.
+    pub fn resume(
+        alloc: Global,
+        store: S,
+        pages: &[Page],
+        frames: u32,
+    ) -> Result<Pool<S>, AllocError>
+        requires { S.stored store ≡ pages.now }
+
+        ensures clean { IfOk result (λ pool. pool ≡ clean_pool store pages.now frames) }
+        ensures of_log { IfOk result (λ pool. (log : Log) → IsLog log
+            → pages.now ≡ redo_all log.records (page_count log) → IsPoolOf S.stored log pool) }
+    {
+        let _count = store.pages();
+        let states = PageStates::stored(alloc, pages)?;
+        let held = Frames::new(alloc, frames)?;
+        Ok(Pool {
+            store,
+            limit: frames,
+            frames: held,
+            states,
+        })
+    }
+
+    /// A pool over a formatted store, with a frame for each page. All pages are resident, as they
     /// are formatted. Memory and calls of the store are as for `new`.
     pub fn whole(alloc: Global, store: S) -> Result<Pool<S>, AllocError>
         requires { (n : ℕ) × (IsPageCount n × (S.stored store ≡ formatted_pages n)) }

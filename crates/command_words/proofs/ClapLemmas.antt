@@ -13,7 +13,7 @@ use Rattle.clap.specs.declared.error.kind.ErrorKind.TheVariants as kind
 use Rattle.clap.proofs.CallerReads.{signed_reads}
 use Rattle.clap.proofs.OnLiterals.{clap_on_literals}
 use Rattle.command_words.specs.Command.{ExplainsRead, IsFramesRead, IsRead, Names, PassesFrames, apps, audit_app}
-use Rattle.command_words.specs.Command.{redo_into_app, restore_app, run_app}
+use Rattle.command_words.specs.Command.{open_app, redo_into_app, restore_app, run_app}
 use Rattle.command_words.specs.declared.command.UsageFault.{UsageFault}
 use Rattle.command_words.specs.declared.command.UsageFault.TheVariants.{BadArguments, OutOfMemory}
 
@@ -109,6 +109,10 @@ help_of_redo = refl
 pub help_of_run : fault_of run_app (codes "run" ∷ codes "--help" ∷ []) ≡ kind.DisplayHelp ∷ []
 unfolding clap_on_literals
 help_of_run = refl
+
+pub help_of_open : fault_of open_app (codes "open" ∷ codes "--help" ∷ []) ≡ kind.DisplayHelp ∷ []
+unfolding clap_on_literals
+help_of_open = refl
 
 pub help_of_restore : fault_of restore_app (codes "restore" ∷ codes "--help" ∷ []) ≡ kind.DisplayHelp ∷ []
 unfolding clap_on_literals

@@ -9,10 +9,10 @@ use Rattle.std.proofs.lemmas.Option.{none-some, same_Some}
 use Rattle.clap.specs.Words.{App, Text, fault_of}
 use Rattle.command_words.specs.Command.{IsRedo, IsTaken, IsTakenBy, IsUnknown, Names, apps, audit_app, redo_app}
 use Rattle.command_words.specs.Command.{AsksForHelp, Explains, ExplainsRead, ExplainsUnknown, Gives}
-use Rattle.command_words.specs.Command.{read_as, redo_into_app, restore_app, run_app}
+use Rattle.command_words.specs.Command.{open_app, read_as, redo_into_app, restore_app, run_app}
 use Rattle.clap.specs.declared.error.kind.ErrorKind.TheVariants.{DisplayHelp}
 use Rattle.command_words.specs.declared.command.Command.{Command}
-use Rattle.command_words.specs.declared.command.Command.TheVariants.{Audit, Redo, RedoInto, Restore, Run}
+use Rattle.command_words.specs.declared.command.Command.TheVariants.{Audit, Open, Redo, RedoInto, Restore, Run}
 use Rattle.command_words.specs.declared.command.UsageFault.{UsageFault}
 use Rattle.command_words.specs.declared.command.UsageFault.TheVariants.{BadArguments, HelpAsked, MisspelledCommand}
 use Rattle.command_words.specs.declared.command.UsageFault.TheVariants.{NoCommand, OutOfMemory, UnknownCommand}
@@ -25,17 +25,23 @@ first_word f (y ∷ ys) x word is same = ap Some (ap f (sym (same_Some _ _ is)) 
 pub taken_among : (words : List Text) → IsTaken words
     → IsTakenBy words redo_app
     ⊎ (IsTakenBy words run_app ⊎ (IsTakenBy words restore_app
-    ⊎ (IsTakenBy words audit_app ⊎ IsTakenBy words redo_into_app)))
+    ⊎ (IsTakenBy words audit_app ⊎ (IsTakenBy words redo_into_app ⊎ IsTakenBy words open_app))))
 taken_among words (zero, app, lt, at, by) = inl (subst (IsTakenBy words) (sym at) by)
 taken_among words (suc zero, app, lt, at, by) = inr (inl (subst (IsTakenBy words) (sym at) by))
 taken_among words (suc (suc zero), app, lt, at, by) = inr (inr (inl (subst (IsTakenBy words) (sym at) by)))
 taken_among words (suc (suc (suc zero)), app, lt, at, by) = inr (inr (inr (inl (subst (IsTakenBy words) (sym at) by))))
 taken_among words (suc (suc (suc (suc zero))), app, lt, at, by) =
-    inr (inr (inr (inr (subst (IsTakenBy words) (sym at) by))))
-taken_among words (suc (suc (suc (suc (suc k)))), app, lt, at, by) = absurd (omega arith)
+    inr (inr (inr (inr (inl (subst (IsTakenBy words) (sym at) by)))))
+taken_among words (suc (suc (suc (suc (suc zero)))), app, lt, at, by) =
+    inr (inr (inr (inr (inr (subst (IsTakenBy words) (sym at) by)))))
+taken_among words (suc (suc (suc (suc (suc (suc k))))), app, lt, at, by) = absurd (omega arith)
 
 pub same_name : (words : List Text) (a b : App) → Names words a → Names words b → length a.top.name ≡ length b.top.name
 same_name words a b p q = ap length (same_Some _ _ (sym p ∙ q))
+
+pub other_letters : (words : List Text) (a b : App) → Names words a → Names words b
+    → (get_or a.top.name 0 0 ≡ get_or b.top.name 0 0 → ⊥) → ⊥
+other_letters words a b p q apart = apart (ap (λ (text : Text). get_or text 0 0) (same_Some _ _ (sym p ∙ q)))
 
 pub taken_run : (words : List Text) → Names words run_app → IsTaken words → fault_of run_app words ≡ []
 taken_run words named taken = elim (taken_among words taken) [
@@ -46,7 +52,10 @@ taken_run words named taken = elim (taken_among words taken) [
       | inl one ↦ absurd (let e : 3 ≡ 7 = same_name words run_app restore_app named one.0 in omega arith)
       | inr one ↦ elim one [
         | inl last ↦ absurd (let e : 3 ≡ 5 = same_name words run_app audit_app named last.0 in omega arith)
-        | inr last ↦ absurd (let e : 3 ≡ 4 = same_name words run_app redo_into_app named last.0 in omega arith)
+        | inr last ↦ elim last [
+          | inl into ↦ absurd (let e : 3 ≡ 4 = same_name words run_app redo_into_app named into.0 in omega arith)
+          | inr into ↦ absurd (let e : 3 ≡ 4 = same_name words run_app open_app named into.0 in omega arith)
+        ]
       ]
     ]
   ]
@@ -61,7 +70,10 @@ taken_restore words named taken = elim (taken_among words taken) [
       | inl one ↦ one.1
       | inr one ↦ elim one [
         | inl last ↦ absurd (let e : 7 ≡ 5 = same_name words restore_app audit_app named last.0 in omega arith)
-        | inr last ↦ absurd (let e : 7 ≡ 4 = same_name words restore_app redo_into_app named last.0 in omega arith)
+        | inr last ↦ elim last [
+          | inl into ↦ absurd (let e : 7 ≡ 4 = same_name words restore_app redo_into_app named into.0 in omega arith)
+          | inr into ↦ absurd (let e : 7 ≡ 4 = same_name words restore_app open_app named into.0 in omega arith)
+        ]
       ]
     ]
   ]
@@ -76,7 +88,28 @@ taken_audit words named taken = elim (taken_among words taken) [
       | inl one ↦ absurd (let e : 5 ≡ 7 = same_name words audit_app restore_app named one.0 in omega arith)
       | inr one ↦ elim one [
         | inl last ↦ last.1
-        | inr last ↦ absurd (let e : 5 ≡ 4 = same_name words audit_app redo_into_app named last.0 in omega arith)
+        | inr last ↦ elim last [
+          | inl into ↦ absurd (let e : 5 ≡ 4 = same_name words audit_app redo_into_app named into.0 in omega arith)
+          | inr into ↦ absurd (let e : 5 ≡ 4 = same_name words audit_app open_app named into.0 in omega arith)
+        ]
+      ]
+    ]
+  ]
+]
+
+pub taken_open : (words : List Text) → Names words open_app → IsTaken words → fault_of open_app words ≡ []
+taken_open words named taken = elim (taken_among words taken) [
+  | inl by ↦ absurd (other_letters words open_app redo_app named by.0 (λ e. let it : 111 ≡ 114 = e in omega arith))
+  | inr by ↦ elim by [
+    | inl it ↦ absurd (let e : 4 ≡ 3 = same_name words open_app run_app named it.0 in omega arith)
+    | inr it ↦ elim it [
+      | inl one ↦ absurd (let e : 4 ≡ 7 = same_name words open_app restore_app named one.0 in omega arith)
+      | inr one ↦ elim one [
+        | inl last ↦ absurd (let e : 4 ≡ 5 = same_name words open_app audit_app named last.0 in omega arith)
+        | inr last ↦ elim last [
+          | inl into ↦ absurd (other_letters words open_app redo_into_app named into.0 (λ e. let it : 111 ≡ 114 = e in omega arith))
+          | inr into ↦ into.1
+        ]
       ]
     ]
   ]
@@ -91,8 +124,9 @@ only_by words app (Err fault) takes only = λ taken. only (takes taken)
 
 -- no command takes words whose first is the name of none
 pub unnamed : (words : List Text) (name : Text) → slice_get words 0 ≡ Some name → (name ≡ codes "redo" → ⊥)
-    → (name ≡ codes "run" → ⊥) → (name ≡ codes "restore" → ⊥) → (name ≡ codes "audit" → ⊥) → IsTaken words → ⊥
-unnamed words name first not-redo not-run not-restore not-audit taken = elim (taken_among words taken) [
+    → (name ≡ codes "run" → ⊥) → (name ≡ codes "open" → ⊥) → (name ≡ codes "restore" → ⊥) → (name ≡ codes "audit" → ⊥)
+    → IsTaken words → ⊥
+unnamed words name first not-redo not-run not-open not-restore not-audit taken = elim (taken_among words taken) [
   | inl by ↦ not-redo (same_Some _ _ (sym first ∙ by.0))
   | inr by ↦ elim by [
     | inl it ↦ not-run (same_Some _ _ (sym first ∙ it.0))
@@ -100,7 +134,10 @@ unnamed words name first not-redo not-run not-restore not-audit taken = elim (ta
       | inl one ↦ not-restore (same_Some _ _ (sym first ∙ one.0))
       | inr one ↦ elim one [
         | inl last ↦ not-audit (same_Some _ _ (sym first ∙ last.0))
-        | inr last ↦ not-redo (same_Some _ _ (sym first ∙ last.0))
+        | inr last ↦ elim last [
+          | inl into ↦ not-redo (same_Some _ _ (sym first ∙ into.0))
+          | inr into ↦ not-open (same_Some _ _ (sym first ∙ into.0))
+        ]
       ]
     ]
   ]
@@ -113,10 +150,10 @@ not_of_redo words name first other (inl is) = other (same_Some _ _ (sym first �
 not_of_redo words name first other (inr is) = other (same_Some _ _ (sym first ∙ ap (λ w. slice_get w 0) is))
 
 -- a first word that is neither a command's name nor a call for help
-pub unknown : (name : Text) → (name ≡ codes "redo" → ⊥) → (name ≡ codes "run" → ⊥) → (name ≡ codes "restore" → ⊥)
-    → (name ≡ codes "audit" → ⊥) → (name ≡ codes "help" → ⊥) → (name ≡ codes "--help" → ⊥) → (name ≡ codes "-h" → ⊥)
+pub unknown : (name : Text) → (name ≡ codes "redo" → ⊥) → (name ≡ codes "run" → ⊥) → (name ≡ codes "open" → ⊥)
+    → (name ≡ codes "restore" → ⊥) → (name ≡ codes "audit" → ⊥) → (name ≡ codes "help" → ⊥) → (name ≡ codes "--help" → ⊥) → (name ≡ codes "-h" → ⊥)
     → IsUnknown name
-unknown name not-redo not-run not-restore not-audit not-help not-long not-short = (
+unknown name not-redo not-run not-open not-restore not-audit not-help not-long not-short = (
   λ k app lt. none k app lt,
   λ asks. elim asks [
     | inl is ↦ not-help is
@@ -130,7 +167,8 @@ unknown name not-redo not-run not-restore not-audit not-help not-long not-short 
     none (suc (suc zero)) app lt same = not-restore (sym same)
     none (suc (suc (suc zero))) app lt same = not-audit (sym same)
     none (suc (suc (suc (suc zero)))) app lt same = not-redo (sym same)
-    none (suc (suc (suc (suc (suc k))))) app lt same = absurd (omega arith)
+    none (suc (suc (suc (suc (suc zero))))) app lt same = not-open (sym same)
+    none (suc (suc (suc (suc (suc (suc k)))))) app lt same = absurd (omega arith)
 
 -- ---- `help NAME`, read as `NAME --help`
 
@@ -180,11 +218,19 @@ not_help name command is first help =
 pub audit_not_help : (name : Text) → name ≡ codes "audit" → name ≡ codes "help" → ⊥
 audit_not_help name is help = absurd (let e : 5 ≡ 4 = ap length (sym is ∙ help) in omega arith)
 
+no_o : (letter : ℕ) → letter ≡ 111 → letter ≡ 104 → ⊥
+no_o letter o h = omega arith
+
+-- and `open` begins with an o
+pub open_not_help : (name : Text) → name ≡ codes "open" → name ≡ codes "help" → ⊥
+open_not_help name is help = no_o (get_or (codes "open") 0 0) refl (first_letters name (codes "open") (codes "help") is help)
+
 gives_taken : (words : List Text) (command : Command) → Gives words command → IsTaken words
 gives_taken words Redo gives = (0, redo_app, lit< tt, refl, gives)
 gives_taken words (RedoInto output) gives = (4, redo_into_app, lit< tt, refl, gives.0)
 gives_taken words (Run pages frames save strict) gives = (1, run_app, lit< tt, refl, gives.0)
-gives_taken words (Restore log master archives output) gives = (2, restore_app, lit< tt, refl, gives.0)
+gives_taken words (Open folder pages frames) gives = (5, open_app, lit< tt, refl, gives.0)
+gives_taken words (Restore log master archives output log_output) gives = (2, restore_app, lit< tt, refl, gives.0)
 gives_taken words (Audit log archives master all) gives = (3, audit_app, lit< tt, refl, gives.0)
 
 -- words in which clap finds a fault give no command

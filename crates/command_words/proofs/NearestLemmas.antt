@@ -32,16 +32,18 @@ more_than_two least far is le = omega arith
 below : (k five count : ℕ) → k < five → five ≤ count → k < count
 below k five count lt le = omega arith
 
--- the names behind five references, by their places
-pub named_at : {X : Type 0} (now : X → Text) (a b c d e x : X) (i : ℕ) → now a ≡ codes "redo" → now b ≡ codes "run"
-    → now c ≡ codes "restore" → now d ≡ codes "audit" → now e ≡ codes "help" → i < 5
-    → (other : Text) → get_or names i other ≡ now (get_or (a ∷ b ∷ c ∷ d ∷ e ∷ []) i x)
-named_at now a b c d e x zero is-a is-b is-c is-d is-e lt other = sym is-a
-named_at now a b c d e x (suc zero) is-a is-b is-c is-d is-e lt other = sym is-b
-named_at now a b c d e x (suc (suc zero)) is-a is-b is-c is-d is-e lt other = sym is-c
-named_at now a b c d e x (suc (suc (suc zero))) is-a is-b is-c is-d is-e lt other = sym is-d
-named_at now a b c d e x (suc (suc (suc (suc zero)))) is-a is-b is-c is-d is-e lt other = sym is-e
-named_at now a b c d e x (suc (suc (suc (suc (suc i))))) is-a is-b is-c is-d is-e lt other = absurd (omega arith)
+-- the names behind six references, by their places
+pub named_at : {X : Type 0} (now : X → Text) (a b c d e f x : X) (i : ℕ) → now a ≡ codes "redo" → now b ≡ codes "run"
+    → now c ≡ codes "open" → now d ≡ codes "restore" → now e ≡ codes "audit" → now f ≡ codes "help" → i < 6
+    → (other : Text) → get_or names i other ≡ now (get_or (a ∷ b ∷ c ∷ d ∷ e ∷ f ∷ []) i x)
+named_at now a b c d e f x zero is-a is-b is-c is-d is-e is-f lt other = sym is-a
+named_at now a b c d e f x (suc zero) is-a is-b is-c is-d is-e is-f lt other = sym is-b
+named_at now a b c d e f x (suc (suc zero)) is-a is-b is-c is-d is-e is-f lt other = sym is-c
+named_at now a b c d e f x (suc (suc (suc zero))) is-a is-b is-c is-d is-e is-f lt other = sym is-d
+named_at now a b c d e f x (suc (suc (suc (suc zero)))) is-a is-b is-c is-d is-e is-f lt other = sym is-e
+named_at now a b c d e f x (suc (suc (suc (suc (suc zero))))) is-a is-b is-c is-d is-e is-f lt other = sym is-f
+named_at now a b c d e f x (suc (suc (suc (suc (suc (suc i)))))) is-a is-b is-c is-d is-e is-f lt other =
+    absurd (omega arith)
 
 -- a name that is nearer than those before it
 pub nearer : {X : Type 0} (now : X → Text) (word : Text) (best new : Option X) (least now_least count far : ℕ) (name : X)

@@ -18,9 +18,10 @@ use Rattle.clap.specs.Faults.{bundle_fault, bundle_step_fault, flag_word_fault, 
 use Rattle.clap.specs.Faults.{step_fault}
 use Rattle.clap.specs.declared.error.kind.ErrorKind.{ErrorKind}
 use Rattle.clap.proofs.OnLiterals.{clap_on_literals}
-use Rattle.command_words.specs.Command.{Gives, IsRedo, IsTaken, Names, audit_app, redo_app, redo_into_app, restore_app}
+use Rattle.command_words.specs.Command.{Gives, IsRedo, IsTaken, Names, audit_app, open_app, redo_app, redo_into_app}
+use Rattle.command_words.specs.Command.{restore_app}
 use Rattle.command_words.specs.Command.{run_app}
-use Rattle.command_words.proofs.NameLemmas.{same_name, taken_among}
+use Rattle.command_words.proofs.NameLemmas.{other_letters, same_name, taken_among}
 use Rattle.command_words.specs.declared.command.Command.{Command}
 use Rattle.command_words.specs.declared.command.Command.TheVariants.{Redo}
 use Rattle.command_words.specs.declared.command.UsageFault.{UsageFault}
@@ -173,7 +174,10 @@ taken_redo_into words named other taken = elim (taken_among words taken) [
       | inl one ↦ absurd (let e : 4 ≡ 7 = same_name words redo_into_app restore_app named one.0 in omega arith)
       | inr one ↦ elim one [
         | inl last ↦ absurd (let e : 4 ≡ 5 = same_name words redo_into_app audit_app named last.0 in omega arith)
-        | inr last ↦ last.1
+        | inr last ↦ elim last [
+          | inl into ↦ into.1
+          | inr into ↦ absurd (other_letters words redo_into_app open_app named into.0 (λ e. let it : 114 ≡ 111 = e in omega arith))
+        ]
       ]
     ]
   ]

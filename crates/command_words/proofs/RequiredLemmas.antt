@@ -15,9 +15,9 @@ use Rattle.clap.specs.declared.builder.command.Command.TheViews.{out-Command as 
 use Rattle.clap.specs.declared.parser.matches.ArgMatches.{ArgMatches}
 use Rattle.clap.proofs.CallerLemmas.{added_plain, required_in_chain}
 use Rattle.clap.proofs.CallerReads.{required_reads}
-use Rattle.command_words.specs.Command.{AsksForFiles, AsksForLog, AsksForOutput, AsksForPages, PassesCount, PassesFrames}
+use Rattle.command_words.specs.Command.{AsksForLog, AsksForOutput, AsksForPages, PassesCount, PassesFrames}
 use Rattle.command_words.specs.Command.{IsMadeOf, PassesPages, all_rule, archive_rule, audited_master_rule, count_parser, frames_rule}
-use Rattle.command_words.specs.Command.{log_rule, master_rule, output_rule, pages_rule, save_rule, strict_rule}
+use Rattle.command_words.specs.Command.{log_rule, output_rule, pages_rule, save_rule, strict_rule}
 use Rattle.command_words.proofs.OptionalLemmas.{passed_if_given}
 
 -- a command with one more argument, as clap reads it
@@ -26,11 +26,11 @@ pub app_with : (old new : Parser) (a : Arg) (app : App) (rule : Rule) → AddsAr
 app_with old new a app rule added local same is =
     added.shape local ∙ (ap (λ x. with_rule x (rule_of a)) same ∙ ap (with_rule app) is)
 
-same_length : (x y : List ℕ) → bytes_eq x y ≡ true → length x ≡ length y
+pub same_length : (x y : List ℕ) → bytes_eq x y ≡ true → length x ≡ length y
 same_length x y same = ap length ((bytes_eq-Decides x y).0 same)
 
 -- ids of four lengths are four ids
-four_apart : (a b c d : Arg) → (length a.id.now ≡ length b.id.now → ⊥) → (length a.id.now ≡ length c.id.now → ⊥)
+pub four_apart : (a b c d : Arg) → (length a.id.now ≡ length b.id.now → ⊥) → (length a.id.now ≡ length c.id.now → ⊥)
     → (length a.id.now ≡ length d.id.now → ⊥) → (length b.id.now ≡ length c.id.now → ⊥)
     → (length b.id.now ≡ length d.id.now → ⊥) → (length c.id.now ≡ length d.id.now → ⊥)
     → HasDistinctIds (a ∷ b ∷ c ∷ d ∷ [])
@@ -182,32 +182,6 @@ frames_passed cmd m it p =
     (λ auto. fit.3 (elim auto [ inl h ↦ inl (sym same-now ∙ h) | inr h ↦ inr (sym same-now ∙ h) ]))
     (ap (λ x. x.value_parser) elem ∙ at.y_is.parser count_parser it.frames_parsed))
 
-files_apart : (cmd : Parser) (it : AsksForFiles cmd)
-    → HasDistinctIds (it.log ∷ it.master ∷ it.archive ∷ it.output ∷ [])
-files_apart cmd it =
-    let log : length it.log.id.now ≡ 3 = ap (λ r. length r.id) it.log_is in
-    let master : length it.master.id.now ≡ 6 = ap (λ r. length r.id) it.master_is in
-    let archive : length it.archive.id.now ≡ 7 = ap (λ r. length r.id) it.archive_is in
-    let output : length it.output.id.now ≡ 4 = ap (λ r. length r.id) it.output_is in
-    four_apart it.log it.master it.archive it.output (λ same. omega arith) (λ same. omega arith) (λ same. omega arith)
-    (λ same. omega arith) (λ same. omega arith) (λ same. omega arith)
-
-pub log_given : (cmd : Parser) (m : ArgMatches) → AsksForFiles cmd → IsParsedFrom cmd m
-    → is_some (first_value (found_of m) (codes "log")) ≡ true
-log_given cmd m it p =
-    let made = it.made in
-    subst (λ id. is_some (first_value (found_of m) id) ≡ true) (ap (λ r. r.id) it.log_is)
-    (required_in_chain made.start cmd (it.log ∷ it.master ∷ it.archive ∷ it.output ∷ []) 0 it.log m made.chain made.no_arguments
-    made.no_groups made.no_globals made.keeps made.fit (files_apart cmd it) (lit< tt) it.log_required p)
-
-pub master_given : (cmd : Parser) (m : ArgMatches) → AsksForFiles cmd → IsParsedFrom cmd m
-    → is_some (first_value (found_of m) (codes "master")) ≡ true
-master_given cmd m it p =
-    let made = it.made in
-    subst (λ id. is_some (first_value (found_of m) id) ≡ true) (ap (λ r. r.id) it.master_is)
-    (required_in_chain made.start cmd (it.log ∷ it.master ∷ it.archive ∷ it.output ∷ []) 1 it.master m made.chain made.no_arguments
-    made.no_groups made.no_globals made.keeps made.fit (files_apart cmd it) (lit< tt) it.master_required p)
-
 audited_apart : (cmd : Parser) (it : AsksForLog cmd) → HasDistinctIds (it.log ∷ it.archive ∷ it.master ∷ it.all ∷ [])
 audited_apart cmd it =
     let log : length it.log.id.now ≡ 3 = ap (λ r. length r.id) it.log_is in
@@ -238,7 +212,7 @@ output_given cmd m it p =
 
 -- ---- a command that is made of its arguments
 
-all_fit : (a b c d : Arg) → FitsChain a → FitsChain b → FitsChain c → FitsChain d → (k : ℕ) (e : Arg)
+pub all_fit : (a b c d : Arg) → FitsChain a → FitsChain b → FitsChain c → FitsChain d → (k : ℕ) (e : Arg)
     → k < length (a ∷ b ∷ c ∷ d ∷ []) → FitsChain (slice_index_or (a ∷ b ∷ c ∷ d ∷ []) k e)
 all_fit a b c d fit-a fit-b fit-c fit-d zero e lt = fit-a
 all_fit a b c d fit-a fit-b fit-c fit-d (suc zero) e lt = fit-b
@@ -288,27 +262,6 @@ asks_for_pages start one two three cmd a b c d args groups globals negates fit-a
       required = value;
       pages_parsed = parser-a;
       frames_parsed = parser-b;
-    }
-
-pub asks_for_files : (start one two three cmd : Parser) (a b c d : Arg) → args_of start ≡ [] → groups_of start ≡ []
-    → (fields_of start).has_globals ≡ false → (fields_of start).subcommand_negates_reqs ≡ false
-    → FitsChain a → FitsChain b → FitsChain c → FitsChain d → rule_of a ≡ log_rule → rule_of b ≡ master_rule
-    → rule_of c ≡ archive_rule → rule_of d ≡ output_rule → TakesValue a → TakesValue b
-    → AddsArg start a one → AddsArg one b two → AddsArg two c three → AddsArg three d cmd → AsksForFiles cmd
-asks_for_files start one two three cmd a b c d args groups globals negates fit-a fit-b fit-c fit-d rule-a rule-b rule-c
-    rule-d value-a value-b first second third fourth = record {
-      log = a;
-      master = b;
-      archive = c;
-      output = d;
-      made = made_of_four start one two three cmd a b c d args groups globals negates fit-a fit-b fit-c fit-d first second
-          third fourth;
-      log_is = rule-a;
-      master_is = rule-b;
-      archive_is = rule-c;
-      output_is = rule-d;
-      log_required = value-a;
-      master_required = value-b;
     }
 
 pub asks_for_log : (start one two three cmd : Parser) (a b c d : Arg) → args_of start ≡ [] → groups_of start ≡ []

@@ -1,6 +1,6 @@
 -- Which words give which command, and why others give none.
 use Rattle.std.specs.Prelude.{◌≡◌, ◌≢◌, ◌⊎◌, ◌≤◌, ℕ, List, [], ◌∷◌, None, Option, IsSomeAnd, Some}
-use Rattle.std.specs.Prelude.{codes}
+use Rattle.std.specs.Prelude.{IfSome, codes}
 use Rattle.std.specs.Prelude.{◌<◌, Bool, false, if◌then◌else◌, length, map, nat_eq, option_map, pos}
 use Rattle.std.specs.Prelude.{slice_get, true, unwrap_or}
 use Rattle.std.specs.List.{All, Any}
@@ -20,7 +20,7 @@ use Rattle.clap.specs.declared.builder.value_parser.ValueParser.TheVariants.{Sig
 use Rattle.clap.specs.declared.parser.matches.Found.{Found}
 use Rattle.strsim.specs.Edits.{levenshtein_row}
 use Rattle.command_words.specs.declared.command.Command.{Command}
-use Rattle.command_words.specs.declared.command.Command.TheVariants.{Audit, Redo, RedoInto}
+use Rattle.command_words.specs.declared.command.Command.TheVariants.{Audit, Open, Redo, RedoInto}
 use Rattle.command_words.specs.declared.command.Command.TheVariants.{Restore, Run}
 use Rattle.command_words.specs.declared.command.UsageFault.{UsageFault}
 use Rattle.command_words.specs.declared.command.UsageFault.TheVariants.{BadArguments, HelpAsked}
@@ -107,12 +107,21 @@ archive_rule = record (new_rule (codes "archive")) {
   value_names = 1;
 }
 
--- `restore [-o FILE] LOG MASTER [ARCHIVE]...`
+-- a file that the log after undo goes into
+abbrev pub log_output_rule : Rule
+log_output_rule = record (new_rule (codes "log_into")) {
+  long = Some (codes "log-out");
+  action = Some Set;
+  value_names = 1;
+}
+
+-- `restore [-o FILE] [--log-out FILE] LOG MASTER [ARCHIVE]...`
 abbrev pub restore_app : App
 restore_app = with_rule
-    (with_rule (with_rule (with_rule (new_app (codes "restore")) log_rule) master_rule)
+    (with_rule (with_rule (with_rule (with_rule (new_app (codes "restore")) log_rule) master_rule)
     archive_rule)
-    output_rule
+    output_rule)
+    log_output_rule
 
 abbrev pub audited_master_rule : Rule
 audited_master_rule = record (new_rule (codes "master")) {
@@ -133,9 +142,30 @@ audit_app = with_rule
     (with_rule (with_rule (with_rule (new_app (codes "audit")) log_rule) archive_rule)
     audited_master_rule) all_rule
 
+abbrev pub folder_rule : Rule
+folder_rule = record (new_rule (codes "dir")) {
+  action = Some Set;
+  value_names = 1;
+  required = true;
+}
+
+-- a number of pages that may be left out
+abbrev pub told_pages_rule : Rule
+told_pages_rule = record (new_rule (codes "pages")) {
+  long = Some (codes "pages");
+  action = Some Set;
+  value_names = 1;
+  parser = Some count_parser;
+}
+
+-- `open FOLDER [--pages N] [--frames B]`
+abbrev pub open_app : App
+open_app = with_rule
+    (with_rule (with_rule (new_app (codes "open")) folder_rule) told_pages_rule) frames_rule
+
 -- each command, as clap reads it; `redo` is read in two ways
 abbrev pub apps : List App
-apps = redo_app ∷ run_app ∷ restore_app ∷ audit_app ∷ redo_into_app ∷ []
+apps = redo_app ∷ run_app ∷ restore_app ∷ audit_app ∷ redo_into_app ∷ open_app ∷ []
 
 -- the first word is the name of the command
 abbrev pub Names : List Text → App → Type 0
@@ -159,6 +189,13 @@ abbrev pub IsFramesRead : Option Text → ℕ → Type 0
 IsFramesRead None frames = frames ≡ 65536
 IsFramesRead (Some text) frames = IsRead (Some text) frames
 
+-- the number of pages that the text says, or none where there is no text
+abbrev pub IsPagesRead : Option Text → Option ℕ → Type 0
+IsPagesRead None None = Unit {0}
+IsPagesRead None (Some pages) = ⊥
+IsPagesRead (Some text) None = ⊥
+IsPagesRead (Some text) (Some pages) = IsRead (Some text) pages
+
 -- what the text of a flag says of it; without it there is none
 abbrev pub IsFlag : Option Text → Bool → Type 0
 IsFlag text given = (text ≡ None → given ≡ false) × (text ≡ Some (codes "true") → given ≡ true)
@@ -174,11 +211,16 @@ Gives words (Run pages frames save strict) = let rows = matches_of run_app words
     × IsFramesRead (one_of (codes "frames") rows) frames
     × (option_map (λ name. name.now) save ≡ first_of (codes "save") rows)
     × IsFlag (one_of (codes "is_strict") rows) strict
-Gives words (Restore log master archives output) = let rows = matches_of restore_app words in
+Gives words (Open folder pages frames) = let rows = matches_of open_app words in
+    IsTakenBy words open_app × (first_of (codes "dir") rows ≡ Some folder.now)
+    × IsPagesRead (one_of (codes "pages") rows) pages
+    × IsFramesRead (one_of (codes "frames") rows) frames
+Gives words (Restore log master archives output log_output) = let rows = matches_of restore_app words in
     IsTakenBy words restore_app × (first_of (codes "log") rows ≡ Some log.now)
     × (first_of (codes "master") rows ≡ Some master.now)
     × (map (λ name. name.now) archives.items ≡ unwrap_or (all_of (codes "archive") rows) [])
     × (option_map (λ name. name.now) output ≡ first_of (codes "into") rows)
+    × (option_map (λ name. name.now) log_output ≡ first_of (codes "log_into") rows)
 Gives words (Audit log archives master all) = let rows = matches_of audit_app words in
     IsTakenBy words audit_app × (first_of (codes "log") rows ≡ Some log.now)
     × (map (λ name. name.now) archives.items ≡ unwrap_or (all_of (codes "archive") rows) [])
@@ -191,7 +233,9 @@ HasCounts Redo = Unit {0}
 HasCounts (RedoInto output) = Unit {0}
 HasCounts (Run pages frames save strict) =
     (1 ≤ pages) × (pages ≤ 65536) × (1 ≤ frames) × (frames ≤ 65536)
-HasCounts (Restore log master archives output) = Unit {0}
+HasCounts (Open folder pages frames) =
+    IfSome pages (λ n. (1 ≤ n) × (n ≤ 65536)) × (1 ≤ frames) × (frames ≤ 65536)
+HasCounts (Restore log master archives output log_output) = Unit {0}
 HasCounts (Audit log archives master all) = Unit {0}
 
 -- clap builds the command of these arguments, one after another
@@ -219,17 +263,32 @@ pub record AsksForPages (command : Parser) : Type 0 where
   pub pages_parsed : pages.value_parser ≡ Some count_parser
   pub frames_parsed : frames.value_parser ≡ Some count_parser
 
--- two files are required, and then more may be named, and one for the output
+-- a folder is required, and then the number of pages and the number of frames may be told
+pub record AsksForFolder (command : Parser) : Type 0 where
+  pub folder : Arg
+  pub pages : Arg
+  pub frames : Arg
+  pub made : IsMadeOf command (folder ∷ pages ∷ frames ∷ [])
+  pub folder_is : rule_of folder ≡ folder_rule
+  pub pages_is : rule_of pages ≡ told_pages_rule
+  pub frames_is : rule_of frames ≡ frames_rule
+  pub required : TakesValue folder
+  pub pages_parsed : pages.value_parser ≡ Some count_parser
+  pub frames_parsed : frames.value_parser ≡ Some count_parser
+
+-- two files are required, and then more may be named, and one for each output
 pub record AsksForFiles (command : Parser) : Type 0 where
   pub log : Arg
   pub master : Arg
   pub archive : Arg
   pub output : Arg
-  pub made : IsMadeOf command (log ∷ master ∷ archive ∷ output ∷ [])
+  pub log_output : Arg
+  pub made : IsMadeOf command (log ∷ master ∷ archive ∷ output ∷ log_output ∷ [])
   pub log_is : rule_of log ≡ log_rule
   pub master_is : rule_of master ≡ master_rule
   pub archive_is : rule_of archive ≡ archive_rule
   pub output_is : rule_of output ≡ output_rule
+  pub log_output_is : rule_of log_output ≡ log_output_rule
   pub log_required : TakesValue log
   pub master_required : TakesValue master
 
@@ -262,6 +321,11 @@ PassesCount found name = (text : Text) × (one_text found name ≡ Some (without
 abbrev pub PassesPages : Found → Type 0
 PassesPages found = PassesCount found (codes "pages")
 
+-- the number of pages is there, or it was not given
+abbrev pub PassesToldPages : Found → Type 0
+PassesToldPages found =
+    (one_text found (codes "pages") ≡ None) ⊎ PassesCount found (codes "pages")
+
 -- the number of frames is there, or it was not given
 abbrev pub PassesFrames : Found → Type 0
 PassesFrames found =
@@ -281,7 +345,8 @@ IsUnknown name = All (λ app. app.top.name ≢ name) apps × (AsksForHelp name �
 
 -- the names that a user may have meant
 abbrev pub names : List Text
-names = codes "redo" ∷ codes "run" ∷ codes "restore" ∷ codes "audit" ∷ codes "help" ∷ []
+names = codes "redo" ∷ codes "run" ∷ codes "open" ∷ codes "restore" ∷ codes "audit"
+    ∷ codes "help" ∷ []
 
 -- how many characters are put in, taken out or replaced to make the name out of the word
 abbrev pub edits : Text → Text → ℕ

@@ -7,9 +7,9 @@ ghost use Rattle.command_words.specs.Command.{AsksForFiles, AsksForLog, AsksForO
 ghost use Rattle.command_words.specs.Command.{AsksForPages, ExplainsRead, Names, PassesFrames};
 ghost use Rattle.command_words.specs.Command.{PassesPages, all_rule, archive_rule, audit_app};
 ghost use Rattle.command_words.specs.Command.{audited_master_rule, count_parser, frames_rule};
-ghost use Rattle.command_words.specs.Command.{log_rule, master_rule, output_rule, pages_rule};
-ghost use Rattle.command_words.specs.Command.{redo_app, redo_into_app, restore_app, run_app};
-ghost use Rattle.command_words.specs.Command.{save_rule, strict_rule};
+ghost use Rattle.command_words.specs.Command.{log_output_rule, log_rule, master_rule, output_rule};
+ghost use Rattle.command_words.specs.Command.{pages_rule, redo_app, redo_into_app, restore_app};
+ghost use Rattle.command_words.specs.Command.{run_app, save_rule, strict_rule};
 ghost use Rattle.command_words.specs.declared.command.UsageFault.TheVariants.{OutOfMemory};
 
 use crate::command::UsageFault;
@@ -110,8 +110,9 @@ const REDO_USAGE: &str = "imgcopy redo < LOG > VOLUME\n       imgcopy redo -o <F
 
 const RUN_USAGE: &str = "imgcopy run --pages <N> [OPTIONS] < SCRIPT";
 
-const RESTORE_USAGE: &str = "imgcopy restore <LOG> <MASTER> <ARCHIVE>... > VOLUME\n       \
-    imgcopy restore -o <FILE> <LOG> <MASTER> <ARCHIVE>...";
+const RESTORE_USAGE: &str =
+    "imgcopy restore [--log-out <FILE>] <LOG> <MASTER> <ARCHIVE>... > VOLUME\n       \
+    imgcopy restore -o <FILE> [--log-out <FILE>] <LOG> <MASTER> <ARCHIVE>...";
 
 const AUDIT_USAGE: &str = "imgcopy audit [OPTIONS] <LOG> <ARCHIVE>...";
 
@@ -159,7 +160,8 @@ fn restore_command<'a>(alloc: Global) -> Result<clap::Command<'a>, AllocError>
         .arg(log_arg(alloc))?
         .arg(master_arg(alloc))?
         .arg(archive_arg(alloc))?
-        .arg(output_arg(alloc))
+        .arg(output_arg(alloc))?
+        .arg(log_output_arg(alloc))
 }
 
 fn audit_command<'a>(alloc: Global) -> Result<clap::Command<'a>, AllocError>
@@ -191,7 +193,7 @@ fn pages_arg<'a>(alloc: Global) -> Arg<'a>
         .value_parser(clap::value_parser!(u32).range(1..=65_536))
 }
 
-fn frames_arg<'a>(alloc: Global) -> Arg<'a>
+pub(crate) fn frames_arg<'a>(alloc: Global) -> Arg<'a>
     ensures rule { rule_of result ≡ frames_rule }
     ensures fits { FitsChain result }
     ensures parser { result.value_parser ≡ Some count_parser }
@@ -234,6 +236,17 @@ fn output_arg<'a>(alloc: Global) -> Arg<'a>
         .long("output")
         .value_name("FILE")
         .help("Write the volume to this file, which is put in place once it is whole and synced")
+        .action(ArgAction::Set)
+}
+
+fn log_output_arg<'a>(alloc: Global) -> Arg<'a>
+    ensures rule { rule_of result ≡ log_output_rule }
+    ensures fits { FitsChain result }
+{
+    Arg::new(alloc, "log_into")
+        .long("log-out")
+        .value_name("FILE")
+        .help("Write the log to this file, too, with the records that undo appends")
         .action(ArgAction::Set)
 }
 

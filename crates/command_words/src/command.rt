@@ -16,6 +16,7 @@ ghost use Rattle.clap.specs.declared.error.kind.ErrorKind.TheVariants as kind;
 use crate::arguments::{
     audit_matches, redo_into_matches, redo_matches, restore_matches, run_matches,
 };
+use crate::open_words::open_of;
 use clap::ArgMatches;
 use clap::error::ErrorKind;
 use page_core::FaultName;
@@ -42,13 +43,22 @@ pub enum Command<'a> {
         save: Option<&'a str>,
         strict: bool,
     },
+    /// To open the database in this folder, with memory for so many pages at a time. A new one has
+    /// so many pages. Each is 1 to 65,536.
+    Open {
+        folder: &'a str,
+        pages: Option<u32>,
+        frames: u32,
+    },
     /// To restore a volume of these files: the log, its master record, and the archives of a chain
-    /// of copies, the full one first. The volume goes into the output, if one is named.
+    /// of copies, the full one first. The volume goes into the output, if one is named, and so does
+    /// the log after undo.
     Restore {
         log: &'a str,
         master: &'a str,
         archives: Vec<&'a str>,
         output: Option<&'a str>,
+        log_output: Option<&'a str>,
     },
     /// To audit a chain of copies against a log: the log, and the archives of the chain, the full
     /// one first, and then the master record, if one is named. All unsound pages are told, or the
@@ -62,9 +72,9 @@ pub enum Command<'a> {
 }
 
 /// As many frames as a volume has pages at most, so that no page has to leave memory.
-const DEFAULT_FRAMES: u32 = 65_536;
+pub(crate) const DEFAULT_FRAMES: u32 = 65_536;
 
-const NAMES: [&str; 5] = ["redo", "run", "restore", "audit", "help"];
+const NAMES: [&str; 6] = ["redo", "run", "open", "restore", "audit", "help"];
 
 const HELP: &str = "\
 Usage: imgcopy <COMMAND>
@@ -72,6 +82,7 @@ Usage: imgcopy <COMMAND>
 Commands:
   redo     Write the volume that the log on standard input makes
   run      Play the script on standard input on a formatted volume
+  open     Open the database in a folder, and answer the lines of standard input
   restore  Write the volume that a log and image copies restore
   audit    Check that a chain of image copies restores what the log says
   help     Print this help, or that of a command
@@ -144,6 +155,7 @@ pub fn command_of<'a, S: AsStr>(
     match name.as_str() {
         "redo" => redo_of(alloc, words),
         "run" => run_of(alloc, words),
+        "open" => open_of(alloc, words),
         "restore" => restore_of(alloc, words),
         "audit" => audit_of(alloc, words),
         "help" => match words.get(1) {
@@ -163,6 +175,7 @@ fn help_of<'a>(alloc: Global, name: &'a str) -> Result<Command<'a>, UsageFault<'
     match name {
         "redo" => redo_into_of(alloc, &["redo", "--help"]),
         "run" => run_of(alloc, &["run", "--help"]),
+        "open" => open_of(alloc, &["open", "--help"]),
         "restore" => restore_of(alloc, &["restore", "--help"]),
         "audit" => audit_of(alloc, &["audit", "--help"]),
         "help" | "--help" | "-h" => Err(UsageFault::HelpAsked),
@@ -287,7 +300,7 @@ fn pages_in(matches: &ArgMatches<'_>) -> u32
     matches.get_one::<u32>("pages").unwrap()
 }
 
-fn frames_in(matches: &ArgMatches<'_>) -> u32
+pub(crate) fn frames_in(matches: &ArgMatches<'_>) -> u32
     requires { PassesFrames (found_of matches.now) }
     ensures least { 1 ≤ result }
     ensures most { result ≤ 65536 }
@@ -311,11 +324,13 @@ fn restore_of<'a, S: AsStr>(alloc: Global, words: &'a [S]) -> Result<Command<'a>
     let master = value_in(&matches, "master");
     let archives = archives_in(alloc, &matches)?;
     let output = matches.get_str("into");
+    let log_output = matches.get_str("log_into");
     Ok(Command::Restore {
         log,
         master,
         archives,
         output,
+        log_output,
     })
 }
 
@@ -341,7 +356,7 @@ fn audit_of<'a, S: AsStr>(alloc: Global, words: &'a [S]) -> Result<Command<'a>, 
     })
 }
 
-fn value_in<'a>(matches: &ArgMatches<'a>, id: &str) -> &'a str
+pub(crate) fn value_in<'a>(matches: &ArgMatches<'a>, id: &str) -> &'a str
     requires { is_some (first_value (found_of matches.now) id.now) ≡ true }
     ensures { first_value (found_of matches.now) id.now ≡ Some result.now }
 {

@@ -3,6 +3,7 @@
 
 mod arguments;
 mod command;
+mod open_words;
 mod words;
 
 pub use command::{Command, UsageFault, command_of};

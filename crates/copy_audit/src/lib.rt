@@ -7,6 +7,7 @@ mod chain_audit;
 mod found;
 mod laws;
 mod members;
+mod page_audit;
 mod trace;
 mod unsound;
 
@@ -16,4 +17,5 @@ pub use laws::{
     a_part_of_an_audited_chain_is_audited, an_audited_chain_is_called_sound,
     an_unsound_chain_is_not_audited,
 };
+pub use page_audit::is_sound;
 pub use unsound::Unsound;

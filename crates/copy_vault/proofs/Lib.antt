@@ -1,3 +1,4 @@
+pub mod Added
 pub mod ArchiveReads
 pub mod ArchiveSteps
 pub mod ChainEnds

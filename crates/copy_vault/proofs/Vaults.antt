@@ -7,7 +7,7 @@ use Rattle.std.proofs.lemmas.Bool.{cases_lt}
 use Rattle.std.proofs.lemmas.List.{length-set, length-map, map-set, map-append, get_or-set_same, get_or-set_other}
 use Rattle.std.proofs.lemmas.List.{get_or_append_left, get_or_push, length_push}
 use Rattle.std.proofs.lemmas.List.{get_or_default, set-get_or}
-use Rattle.std.specs.Prelude.{Result, Ok, Err, OnOk, OnErr, None, IsSome}
+use Rattle.std.specs.Prelude.{Result, Ok, Err, IfOk, OnOk, OnErr, None, IsSome}
 use Rattle.page_core.specs.declared.page.Page.{Page}
 use Rattle.copy_vault.specs.declared.copy_id.Decision.{Decision}
 use Rattle.copy_vault.specs.declared.fault.CopyFault.{CopyFault}
@@ -285,6 +285,14 @@ drop_keeps entries k old new (Ok none) vault lt is fine gone same =
     (state_at entries k ∙ ap state_in here ∙ was.1)) (subst (IsOfVault copies (k + 1)) (sym gone) tt)
 drop_keeps entries k old new (Err fault) vault lt is fine gone same =
     subst IsVault (sym (ap (slice_set entries k) (same ∙ is) ∙ set-get_or entries k old)) vault
+
+pub kept_lent : (copies : List CopyState) (id : ℕ) (e : VaultEntry) (r : Result CopyView CopyFault)
+    → IsOfVault copies id e → IfOk r (λ copy. state_in e ≡ complete copy) → IfOk r (IsOfId copies id)
+kept_lent copies id (entry.Reading it) (Ok copy) h is = cc
+kept_lent copies id (entry.Complete other) (Ok copy) h is =
+    let same : other ≡ copy = cc in subst (IsOfId copies id) same h
+kept_lent copies id entry.Dropped (Ok copy) h is = cc
+kept_lent copies id e (Err fault) h is = tt
 
 -- ---- a new copy
 

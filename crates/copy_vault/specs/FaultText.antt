@@ -10,6 +10,8 @@ use Rattle.copy_vault.specs.declared.chain_fault.ChainFault.{ChainFault}
 use Rattle.copy_vault.specs.declared.chain_fault.ChainFault.TheVariants as chain
 use Rattle.copy_vault.specs.declared.chain_read_fault.ChainReadFault.{ChainReadFault}
 use Rattle.copy_vault.specs.declared.chain_read_fault.ChainReadFault.TheVariants as read
+use Rattle.copy_vault.specs.declared.copy_write_fault.CopyWriteFault.{CopyWriteFault}
+use Rattle.copy_vault.specs.declared.copy_write_fault.CopyWriteFault.TheVariants.{Archive, Refused}
 use Rattle.copy_vault.specs.declared.fault.CopyFault.{CopyFault}
 use Rattle.copy_vault.specs.declared.fault.CopyFault.TheVariants as copy
 
@@ -30,6 +32,10 @@ line_of_copy copy.CopyNotOpen = fault_line name.CopyNotOpen
 line_of_copy copy.CopyNotComplete = fault_line name.CopyNotComplete
 line_of_copy (copy.PagesLeft page) = fault_line_with name.PagesLeft page
 line_of_copy copy.TooManyCopies = fault_line name.TooManyCopies
+
+abbrev pub line_of_copy_write : CopyWriteFault → List ℕ
+line_of_copy_write (Refused fault) = line_of_copy fault
+line_of_copy_write (Archive fault) = line_of_write fault
 
 abbrev pub line_of_chain : ChainFault → List ℕ
 line_of_chain chain.OutOfMemory = fault_line name.OutOfMemory

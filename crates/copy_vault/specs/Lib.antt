@@ -1,3 +1,4 @@
+pub mod Added
 pub mod Archive
 pub mod ArchiveFault
 pub mod ArchiveRead
@@ -7,8 +8,10 @@ pub mod ChainEach
 pub mod ChainRead
 pub mod ChainReading
 pub mod Copy
+pub mod CopyWrite
 pub mod FaultText
 pub mod HeldDecisions
+pub mod KeptCopy
 pub mod Lent
 pub mod Reading
 pub mod Slots

@@ -1,6 +1,7 @@
 //! Image copies of a volume, open and complete; the vault that keeps them; and their archives.
 #![tactic(auto)]
 
+mod add_fault;
 mod archive_cursor;
 mod archive_fault;
 mod archive_laws;
@@ -12,10 +13,12 @@ mod chain_read_fault;
 mod chain_reader;
 mod complete;
 mod copy_id;
+mod copy_write_fault;
 mod cursors;
 mod fault;
 mod header;
 mod header_codec;
+mod lent_copy;
 mod pages;
 mod places;
 mod read;
@@ -25,6 +28,7 @@ mod slots;
 mod vault;
 mod write;
 
+pub use add_fault::AddFault;
 pub use archive_fault::{ArchiveFault, ArchiveWriteFault};
 pub use archive_laws::{
     an_archive_has_no_fault, archives_have_these_numbers, bytes_have_one_fault,
@@ -38,7 +42,9 @@ pub use chain_read_fault::ChainReadFault;
 pub use chain_reader::ChainReader;
 pub use complete::CompleteCopy;
 pub use copy_id::{CopyId, CopyKind, Decision, MAX_COPIES};
+pub use copy_write_fault::CopyWriteFault;
 pub use fault::CopyFault;
+pub use lent_copy::LentCopy;
 pub use read::read_archive;
 pub use reading::ReadingCopy;
 pub use vault::Vault;

@@ -1,9 +1,13 @@
 //! The vault, which keeps the image copies of a volume.
 
-ghost use Rattle.std.specs.Prelude.{◌≡◌, ◌+◌, ◌<◌, [], length, IfOk, IfErr, OnOk, OnErr};
+ghost use Rattle.std.specs.Prelude.{◌≡◌, ◌+◌, ◌<◌, ◌≤◌, ◌++◌, [], false, length, replicate, IfOk};
+ghost use Rattle.std.specs.Prelude.{IfErr};
+ghost use Rattle.std.specs.Prelude.{OnOk, OnErr, vec_capacity, vec_len};
 ghost use Rattle.std.specs.Prelude.{IfSome, IsSome, Some, None};
 ghost use Rattle.std.specs.Option.{option_map, option_map_or};
+ghost use Rattle.copy_vault.specs.Added.{AddRefuses, add_refusal, lacks_parent, with_copy};
 ghost use Rattle.copy_vault.specs.Chain.{IsChain, IsChainOf};
+ghost use Rattle.copy_vault.specs.CopyWrite.{LeavesCopy, WritesCopy};
 ghost use Rattle.copy_vault.specs.Reading.{ReadingView};
 ghost use Rattle.copy_vault.specs.Vault.{CopyState, HasRoomForPage, OpenRefuses, answer_in};
 ghost use Rattle.copy_vault.specs.Vault.{complete};
@@ -14,15 +18,21 @@ ghost use Rattle.copy_vault.specs.Vault.{HasParent, IsOfVault, IsOfId, since_of,
 ghost use Rattle.copy_vault.specs.Vault.{state_of};
 ghost use Rattle.copy_vault.specs.Vault.{WaitsFor, sealed_in, taken_in, without};
 ghost use Rattle.copy_vault.specs.declared.copy_id.CopyKind.TheVariants.{Full, Inc};
+ghost use Rattle.copy_vault.specs.declared.copy_id.TheConstants.{MAX_COPIES};
 ghost use Rattle.copy_vault.specs.declared.vault.VaultEntry.TheVariants as entry;
 
+use crate::add_fault::AddFault;
 use crate::chain::Chain;
 use crate::complete::CompleteCopy;
 use crate::copy_id::{CopyId, CopyKind, Decision, MAX_COPIES};
+use crate::copy_write_fault::CopyWriteFault;
 use crate::fault::CopyFault;
+use crate::lent_copy::{KeptCopy, LentCopy};
 use crate::reading::{CopyStart, ReadingCopy};
+use crate::write::write_archive;
 use page_core::{Lsn, Page, PageNo};
 use std::alloc::{AllocError, Global};
+use std::io::Write;
 use std::marker::Model;
 use std::mem;
 
@@ -30,7 +40,7 @@ use std::mem;
 #[derive(Drop)]
 pub enum VaultEntry {
     Reading(ReadingCopy),
-    Complete(CompleteCopy),
+    Complete(KeptCopy),
     Dropped,
 }
 
@@ -52,7 +62,7 @@ impl VaultEntry {
             VaultEntry::Reading(copy) => match copy.seal() {
                 Ok(copy) => {
                     let taken = copy.taken();
-                    *self = VaultEntry::Complete(copy);
+                    *self = VaultEntry::Complete(KeptCopy::new(copy));
                     Ok(taken)
                 }
                 Err(mut copy) => {
@@ -63,6 +73,26 @@ impl VaultEntry {
                     Err(CopyFault::PagesLeft(page))
                 }
             },
+        }
+    }
+
+    /// Lends the copy.
+    fn lend(&mut self, alloc: Global) -> Result<LentCopy, CopyFault>
+        ensures ok { IfOk result (λ copy. state_in self.old ≡ complete copy) }
+        ensures err { IfErr result (OpenRefuses (complete_refusal (state_in self.old))) }
+        ensures same { self.new ≡ self.old }
+    {
+        match mem::replace(self, VaultEntry::Dropped) {
+            VaultEntry::Dropped => Err(CopyFault::NoCopy),
+            VaultEntry::Reading(copy) => {
+                *self = VaultEntry::Reading(copy);
+                Err(CopyFault::CopyNotComplete)
+            }
+            VaultEntry::Complete(copy) => {
+                let (copy, lent) = copy.lend(alloc);
+                *self = VaultEntry::Complete(copy);
+                Ok(lent?)
+            }
         }
     }
 
@@ -81,6 +111,18 @@ impl VaultEntry {
                 Ok(())
             }
         }
+    }
+}
+
+/// Adds entries of so many dropped copies, for which there is room.
+fn push_dropped(entries: &mut Vec<VaultEntry>, count: usize)
+    requires room { vec_len entries.old + count ≤ vec_capacity entries.old }
+    ensures items { entries.new.items ≡ entries.old.items ++ replicate count entry.Dropped }
+    ensures len { vec_len entries.new ≡ vec_len entries.old + count }
+    ensures capacity { vec_capacity entries.new ≡ vec_capacity entries.old }
+{
+    for _ in 0..count {
+        entries.push_reserved(VaultEntry::Dropped);
     }
 }
 
@@ -189,6 +231,52 @@ impl Vault {
         Ok(id)
     }
 
+    /// Adds a complete copy that was there in an older life of the volume, under its own id. Ids
+    /// that are passed over count as dropped. Refusals in order: `IdGiven`, `TooManyCopies`,
+    /// `NoParent`, `OutOfMemory`. They hand the copy back.
+    pub fn add(&mut self, copy: CompleteCopy) -> Result<(), (CompleteCopy, AddFault)>
+        ensures added { OnOk result (self.new.copies ≡ with_copy self.old.copies copy) }
+        ensures ok { OnOk result (add_refusal self.old.copies copy ≡ None) }
+        ensures err { IfErr result (λ e. AddRefuses (add_refusal self.old.copies copy) e.1) }
+        ensures back { IfErr result (λ e. e.0 ≡ copy) }
+        ensures same { OnErr result (self.new.copies ≡ self.old.copies) }
+    {
+        if let Err(fault) = self.check(&copy) {
+            return Err((copy, fault));
+        }
+        let skipped = copy.id().0 as usize - 1 - self.entries.len();
+        if self.entries.reserve(skipped + 1).is_err() {
+            return Err((copy, AddFault::OutOfMemory));
+        }
+        push_dropped(&mut self.entries, skipped);
+        self.entries
+            .push_reserved(VaultEntry::Complete(KeptCopy::new(copy)));
+        Ok(())
+    }
+
+    /// Whether a copy may be added.
+    fn check(&self, copy: &CompleteCopy) -> Result<(), AddFault>
+        ensures ok { OnOk result (add_refusal self.now.copies copy.now ≡ None) }
+        ensures err { IfErr result (λ fault. add_refusal self.now.copies copy.now ≡ Some fault) }
+        ensures behind { OnOk result (length self.now.copies < copy.now.id) }
+        ensures few { OnOk result (copy.now.id ≤ MAX_COPIES) }
+        ensures parent { OnOk result (lacks_parent self.now.copies copy.now.kind ≡ false) }
+    {
+        let id = copy.id().0;
+        if id as usize <= self.entries.len() {
+            return Err(AddFault::IdGiven);
+        }
+        if id > MAX_COPIES {
+            return Err(AddFault::TooManyCopies);
+        }
+        if let CopyKind::Inc(parent) = copy.kind()
+            && self.complete(parent).is_none()
+        {
+            return Err(AddFault::NoParent);
+        }
+        Ok(())
+    }
+
     /// The copy of this id, if it is being read.
     pub fn reading(&self, id: CopyId) -> Option<&ReadingCopy>
         ensures { option_map (λ it. it.now.copy) result ≡ reading_of (state_of self.now.copies id) }
@@ -204,7 +292,7 @@ impl Vault {
         ensures { option_map (λ copy. copy.now) result ≡ complete_of (state_of self.now.copies id) }
     {
         match self.entry(id) {
-            Some(VaultEntry::Complete(copy)) => Some(copy),
+            Some(VaultEntry::Complete(copy)) => Some(copy.get()),
             _ => None,
         }
     }
@@ -251,10 +339,46 @@ impl Vault {
             complete_refusal (state_of self.now.copies id) ≡ Some fault) }
     {
         match self.entry(id) {
-            Some(VaultEntry::Complete(copy)) => Ok(copy),
+            Some(VaultEntry::Complete(copy)) => Ok(copy.get()),
             Some(VaultEntry::Reading(_)) => Err(CopyFault::CopyNotComplete),
             _ => Err(CopyFault::NoCopy),
         }
+    }
+
+    /// Lends the copy of this id, which has to be complete. Refusals in order: `NoCopy`,
+    /// `CopyNotComplete`, `OutOfMemory`. Only the first time takes memory, and never as much as the
+    /// pages of the copy.
+    pub fn lend(&mut self, alloc: Global, id: CopyId) -> Result<LentCopy, CopyFault>
+        ensures ok { IfOk result (λ copy. state_of self.old.copies id ≡ complete copy) }
+        ensures kept { IfOk result (λ copy. IsOfId self.old.copies id copy) }
+        ensures err { IfErr result
+            (OpenRefuses (complete_refusal (state_of self.old.copies id))) }
+        ensures same { self.new ≡ self.old }
+    {
+        let Some(index) = self.index_of(id) else {
+            return Err(CopyFault::NoCopy);
+        };
+        let entry = &mut self.entries[index];
+        entry.lend(alloc)
+    }
+
+    /// Writes the archive of the copy of this id, which has to be complete, as `write_archive` does.
+    /// Refusals in order: `NoCopy`, `CopyNotComplete`; then the faults of `write_archive`. The
+    /// writer is not flushed.
+    pub fn write_copy<W: Write>(
+        &self,
+        alloc: Global,
+        id: CopyId,
+        writer: &mut W,
+    ) -> Result<(), CopyWriteFault>
+        ensures ok { OnOk result (WritesCopy self.now.copies id (W.contents writer.old)
+            (W.contents writer.new)) }
+        ensures err { IfErr result (LeavesCopy self.now.copies id (W.contents writer.old)
+            (W.contents writer.new)) }
+    {
+        let copy = self.complete_copy(id)?;
+        write_archive(alloc, copy, writer)?;
+        Ok(())
     }
 
     /// What is kept of the copy of this id.

@@ -4,6 +4,34 @@ ghost use Rattle.std.specs.Prelude.{◌≤◌, IfSome};
 
 /// What the words of the command line ask for.
 #[derive(Drop)]
+pub enum Command<'a> {
+    /// A day in memory.
+    Memory(Call<'a>),
+    /// A day on files in this folder, in which each teller makes so many transfers.
+    Files {
+        folder: &'a str,
+        case: Case,
+        transfers: u32,
+    },
+}
+
+impl<'a> Command<'a> {
+    pub fn of(words: &'a [String]) -> Option<Command<'a>> {
+        match words {
+            [option, folder, rest @ .., transfers] if option.as_str() == "--files" => {
+                Some(Command::Files {
+                    folder: folder.as_str(),
+                    case: Case::of(rest)?,
+                    transfers: count_of(transfers.as_str(), MOST_TRANSFERS)?,
+                })
+            }
+            _ => Some(Command::Memory(Call::of(words)?)),
+        }
+    }
+}
+
+/// A day in memory, and what is done with it.
+#[derive(Drop)]
 pub struct Call<'a> {
     pub case: Case,
     /// Also how many pages were changed behind each copy is told, which hangs on the schedule.
@@ -13,7 +41,7 @@ pub struct Call<'a> {
 }
 
 impl<'a> Call<'a> {
-    pub fn of(words: &'a [String]) -> Option<Call<'a>> {
+    fn of(words: &'a [String]) -> Option<Call<'a>> {
         let (tells_behind, words) = match words {
             [option, rest @ ..] if option.as_str() == "--behind" => (true, rest),
             _ => (false, words),
@@ -55,6 +83,9 @@ pub struct Workers {
 const MOST_TELLERS: u32 = 32;
 
 const MOST_WORKERS: u32 = 64;
+
+/// How many transfers a teller may make on files.
+const MOST_TRANSFERS: u32 = 1_000_000;
 
 impl Workers {
     fn of(word: &str) -> Option<Workers> {

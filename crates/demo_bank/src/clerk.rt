@@ -1,38 +1,29 @@
 //! Those who work at the bank, each in a thread of its own.
 
 use crate::accounts::{ACCOUNT_PAGES, ACCOUNTS, OPENING, PAGES, place_of};
+use crate::acknowledged::Acknowledged;
 use crate::case::Workers;
 use crate::draws::{Draws, Transfer};
-use crate::watch::{Pace, Watch, Which};
+use crate::halt::Halt;
+use crate::watch::Watch;
 use aries_core::{Refusal, Undone};
-use copy_vault::{CopyId, CopyKind};
 use engine_run::{HoldGate, MAX_SESSIONS, Session, Shared, Work};
-use log_store::MemDevice;
+use log_store::LogDevice;
 use page_core::{PageNo, SlotNo, TxnNo};
-use page_store::MemStore;
+use page_store::PageStore;
 use std::alloc::Global;
 use std::sync::Wait;
 use std::sync::ledger::Ledger;
 use std::thread;
-use std::thread::Threads;
 
-pub type Bank<G> = Shared<MemStore, MemDevice, G>;
+/// A bank: a shared engine over this store and this device.
+pub type Bank<S, D, G> = Shared<S, D, G>;
 
-/// How many transfers a teller makes, how many passes a flusher, and how many checkpoints are
-/// taken.
-pub const TRANSFERS: u32 = 200;
-
-/// How many of them are made before a teller waits for the copies to begin.
-const BEFORE_FULL: u32 = 100;
-
-pub const BEFORE_INCREMENTAL: u32 = 150;
-
-const PASSES: u32 = 20;
-
-const CHECKPOINTS: u32 = 8;
+/// How often a call is made at most that is refused each time.
+pub const MOST_TRIES: u32 = 1_000;
 
 /// Has others come first before each hold of a flush pass or a checkpoint.
-struct Polite;
+pub struct Polite;
 
 impl HoldGate for Polite {
     fn before(&self, _worker: u32, _page: PageNo) {
@@ -40,11 +31,29 @@ impl HoldGate for Polite {
     }
 }
 
+/// One who helps a clerk whose call was refused.
+pub trait Helper {
+    /// Whether the clerk may go on. An `Err` says why it may not.
+    fn may_go_on(&self) -> Result<(), Halt>;
+
+    /// Does something about the refusal of a call on this page, at which the store has failed so
+    /// many times before. Then it may be made again. Where nothing can be done, the clerk ends.
+    fn help<S: PageStore, D: LogDevice, G: Ledger, R: Wait>(
+        &self,
+        rt: &R,
+        bank: &Bank<S, D, G>,
+        page: PageNo,
+        why: Refusal,
+        faults: u32,
+    ) -> Result<(), Halt>;
+}
+
 /// Where the clerks work.
 #[derive(Drop)]
-pub struct Office<'a, G: Ledger> {
-    pub bank: &'a Bank<G>,
+pub struct Office<'a, S: PageStore, D: LogDevice, G: Ledger, H: Helper> {
+    pub bank: &'a Bank<S, D, G>,
     pub watch: &'a Watch,
+    pub helper: &'a H,
 }
 
 /// What a clerk does.
@@ -56,8 +65,21 @@ pub enum Duty {
     Flusher,
     /// Takes checkpoints.
     Checkpointer,
-    /// Makes a full copy and an incremental one on it, each by so many workers.
+    /// Makes full copies and incremental ones on them, each by so many workers.
     Copier { full: Workers, incremental: Workers },
+}
+
+/// A call of a session that needs a page in memory.
+#[derive(Clone, Copy)]
+pub enum PageCall {
+    /// The transaction puts this number into the slot.
+    Set(TxnNo, u64),
+    /// The transaction adds this number to that in the slot.
+    Add(TxnNo, u64),
+    /// Reads the slot.
+    Read,
+    /// Takes the last change of the transaction back, which is on the page, or ends it.
+    UndoStep(TxnNo),
 }
 
 /// One who works at the bank, with what it was answered.
@@ -66,12 +88,16 @@ pub struct Clerk<G: Ledger> {
     pub duty: Duty,
     pub session: Session<G>,
     pub works: Vec<Work>,
-    pub ended: Result<(), Refusal>,
+    pub ended: Result<(), Halt>,
 }
 
 impl<G: Ledger> Clerk<G> {
     /// A clerk of this duty, with a session of its own. `TooManyTxns` stands for too many sessions.
-    pub fn hire(alloc: Global, bank: &mut Bank<G>, duty: Duty) -> Result<Clerk<G>, Refusal> {
+    pub fn hire<S: PageStore + Drop, D: LogDevice + Drop>(
+        alloc: Global,
+        bank: &mut Bank<S, D, G>,
+        duty: Duty,
+    ) -> Result<Clerk<G>, Refusal> {
         if bank.sessions() >= MAX_SESSIONS {
             return Err(Refusal::TooManyTxns);
         }
@@ -83,200 +109,170 @@ impl<G: Ledger> Clerk<G> {
         })
     }
 
-    /// Opens each account, and each reserve, in one transaction.
-    pub fn open_accounts(&mut self, rt: &impl Wait, bank: &Bank<G>) -> Result<(), Refusal> {
-        let (txn, _) = self.session.begin(rt, bank)?;
-        for account in 0..ACCOUNTS {
-            let (page, slot) = place_of(account);
-            self.session.set(rt, bank, txn, page, slot, OPENING)?;
-        }
-        for page in ACCOUNT_PAGES..PAGES {
-            self.session
-                .set(rt, bank, txn, PageNo(page), SlotNo(0), OPENING)?;
-        }
-        self.session.commit(rt, bank, txn)?;
-        Ok(())
-    }
-
-    /// Begins the next transfer, and does not end it. Every second one has not come to its account.
-    pub fn leave_open(
+    /// Makes a call once.
+    fn call<S: PageStore, D: LogDevice>(
         &mut self,
         rt: &impl Wait,
-        office: &Office<'_, G>,
-        has_come: bool,
-    ) -> Result<(), Refusal> {
-        if let Duty::Teller(draws) = &mut self.duty {
-            let transfer = draws.transfer();
-            let (txn, _) = self.session.begin(rt, office.bank)?;
-            self.take_from(rt, office, txn, &transfer)?;
-            if has_come {
-                self.give_to(rt, office, txn, &transfer)?;
+        bank: &Bank<S, D, G>,
+        page: PageNo,
+        slot: SlotNo,
+        call: &PageCall,
+    ) -> Result<Option<Undone>, Refusal> {
+        match call {
+            PageCall::Set(txn, number) => {
+                self.session.set(rt, bank, *txn, page, slot, *number)?;
+            }
+            PageCall::Add(txn, number) => {
+                self.session.add(rt, bank, *txn, page, slot, *number)?;
+            }
+            PageCall::Read => {
+                self.session.read(rt, bank, page, slot)?;
+            }
+            PageCall::UndoStep(txn) => {
+                return Ok(Some(self.session.undo_step(rt, bank, *txn)?));
             }
         }
-        Ok(())
+        Ok(None)
     }
 
-    fn pay(
+    /// Makes a call, and makes it again where it was refused and somebody could help.
+    pub fn ask<S: PageStore, D: LogDevice, H: Helper>(
         &mut self,
         rt: &impl Wait,
-        office: &Office<'_, G>,
+        office: &Office<'_, S, D, G, H>,
+        page: PageNo,
+        slot: SlotNo,
+        call: &PageCall,
+    ) -> Result<Option<Undone>, Halt> {
+        let mut faults = 0u32;
+        for _ in 0..MOST_TRIES {
+            office.helper.may_go_on()?;
+            let why = match self.call(rt, office.bank, page, slot, call) {
+                Ok(answer) => return Ok(answer),
+                Err(why) => why,
+            };
+            office.helper.help(rt, office.bank, page, why, faults)?;
+            if why == Refusal::StoreFault {
+                faults = faults.saturating_add(1);
+            }
+        }
+        Ok(self.call(rt, office.bank, page, slot, call)?)
+    }
+
+    /// Opens each account, and each reserve, in one transaction.
+    pub fn open_accounts<S: PageStore, D: LogDevice, H: Helper>(
+        &mut self,
+        rt: &impl Wait,
+        office: &Office<'_, S, D, G, H>,
+    ) -> Result<Acknowledged, Halt> {
+        let (txn, _) = self.session.begin(rt, office.bank)?;
+        let call = PageCall::Set(txn, OPENING);
+        for account in 0..ACCOUNTS {
+            let (page, slot) = place_of(account);
+            self.ask(rt, office, page, slot, &call)?;
+        }
+        for page in ACCOUNT_PAGES..PAGES {
+            self.ask(rt, office, PageNo(page), SlotNo(0), &call)?;
+        }
+        Ok(Acknowledged::commit(&mut self.session, rt, office.bank, txn)?)
+    }
+
+    /// Adds to an account, modulo 2^64.
+    pub fn pay<S: PageStore, D: LogDevice, H: Helper>(
+        &mut self,
+        rt: &impl Wait,
+        office: &Office<'_, S, D, G, H>,
         txn: TxnNo,
         account: u32,
         amount: u64,
-    ) -> Result<(), Refusal> {
+    ) -> Result<(), Halt> {
         let (page, slot) = place_of(account);
         let behind = office.watch.before_change(page);
-        self.session.add(rt, office.bank, txn, page, slot, amount)?;
+        self.ask(rt, office, page, slot, &PageCall::Add(txn, amount))?;
         office.watch.after_change(page, behind);
         Ok(())
     }
 
-    fn take_from(
+    /// Takes the money of a transfer out of one account.
+    pub fn take_from<S: PageStore, D: LogDevice, H: Helper>(
         &mut self,
         rt: &impl Wait,
-        office: &Office<'_, G>,
+        office: &Office<'_, S, D, G, H>,
         txn: TxnNo,
         transfer: &Transfer,
-    ) -> Result<(), Refusal> {
+    ) -> Result<(), Halt> {
         let amount = transfer.amount.wrapping_neg();
         self.pay(rt, office, txn, transfer.from, amount)
     }
 
-    fn give_to(
+    /// Adds it to the other one.
+    pub fn give_to<S: PageStore, D: LogDevice, H: Helper>(
         &mut self,
         rt: &impl Wait,
-        office: &Office<'_, G>,
+        office: &Office<'_, S, D, G, H>,
         txn: TxnNo,
         transfer: &Transfer,
-    ) -> Result<(), Refusal> {
+    ) -> Result<(), Halt> {
         self.pay(rt, office, txn, transfer.to, transfer.amount)
     }
 
-    /// Moves money, looks at what is left, and commits, or takes it back.
-    fn transfer(
+    /// Moves money, looks at what is left, and commits, or takes it back. The answer is the
+    /// acknowledgement of the commit, if there was one.
+    pub fn transfer<S: PageStore, D: LogDevice, H: Helper>(
         &mut self,
         rt: &impl Wait,
-        office: &Office<'_, G>,
+        office: &Office<'_, S, D, G, H>,
         transfer: &Transfer,
-    ) -> Result<(), Refusal> {
-        let bank = office.bank;
-        let (txn, _) = self.session.begin(rt, bank)?;
+    ) -> Result<Option<Acknowledged>, Halt> {
+        office.helper.may_go_on()?;
+        let (txn, _) = self.session.begin(rt, office.bank)?;
         self.take_from(rt, office, txn, transfer)?;
         let (page, slot) = place_of(transfer.from);
-        self.session.read(rt, bank, page, slot)?;
+        self.ask(rt, office, page, slot, &PageCall::Read)?;
         self.give_to(rt, office, txn, transfer)?;
-        if !transfer.is_taken_back {
-            self.session.commit(rt, bank, txn)?;
-            return Ok(());
+        office.helper.may_go_on()?;
+        if transfer.is_taken_back {
+            self.take_back(rt, office, txn, transfer)?;
+            return Ok(None);
         }
-        self.session.abort(rt, bank, txn)?;
-        for _ in 0..3 {
-            if let Undone::Ended(_) = self.session.undo_step(rt, bank, txn)? {
+        let commit = Acknowledged::commit(&mut self.session, rt, office.bank, txn)?;
+        Ok(Some(commit))
+    }
+
+    /// Takes both changes of a transfer back, the last one first, and ends its transaction.
+    fn take_back<S: PageStore, D: LogDevice, H: Helper>(
+        &mut self,
+        rt: &impl Wait,
+        office: &Office<'_, S, D, G, H>,
+        txn: TxnNo,
+        transfer: &Transfer,
+    ) -> Result<(), Halt> {
+        self.session.abort(rt, office.bank, txn)?;
+        for account in [transfer.to, transfer.from, transfer.from] {
+            let (page, slot) = place_of(account);
+            let done = self.ask(rt, office, page, slot, &PageCall::UndoStep(txn))?;
+            if let Some(Undone::Ended(_)) = done {
                 break;
             }
         }
         Ok(())
     }
 
-    /// Makes transfers, some of them once the full copy is read, and some once the incremental one
-    /// is. Others come first before each next one.
-    fn transfers(
-        &mut self,
-        rt: &impl Wait,
-        office: &Office<'_, G>,
-        mut draws: Draws,
-    ) -> Result<(), Refusal> {
-        for made in 0..TRANSFERS {
-            if made == BEFORE_FULL {
-                office.watch.wait_for(Which::Full);
-            }
-            if made == BEFORE_INCREMENTAL {
-                office.watch.wait_for(Which::Incremental);
-            }
-            let transfer = draws.transfer();
-            self.transfer(rt, office, &transfer)?;
-            office.watch.note_transfer();
-            thread::yield_now();
-        }
-        self.duty = Duty::Teller(draws);
-        Ok(())
-    }
-
-    /// Takes checkpoints, and keeps what they answer.
-    fn checkpoint(&mut self, rt: &impl Wait, bank: &Bank<G>) -> Result<(), Refusal> {
-        for _ in 0..CHECKPOINTS {
-            let work = bank.checkpoint(rt, &Polite)?;
-            self.keep(work)?;
-        }
-        Ok(())
-    }
-
-    fn keep(&mut self, work: Work) -> Result<(), Refusal> {
+    /// Keeps what a checkpoint or a copy answered.
+    pub fn keep(&mut self, work: Work) -> Result<(), Refusal> {
         match self.works.push(work) {
             Ok(()) => Ok(()),
             Err(_) => Err(Refusal::OutOfMemory),
         }
     }
-
-    /// Gives the first account of each page 1 of what the last account has.
-    fn share_out(&mut self, rt: &impl Wait, office: &Office<'_, G>) -> Result<(), Refusal> {
-        let bank = office.bank;
-        let (txn, _) = self.session.begin(rt, bank)?;
-        for page in 0..ACCOUNT_PAGES {
-            self.pay(rt, office, txn, ACCOUNTS - 1, 1u64.wrapping_neg())?;
-            self.session.add(rt, bank, txn, PageNo(page), SlotNo(0), 1)?;
-        }
-        self.session.commit(rt, bank, txn)?;
-        Ok(())
-    }
-}
-
-impl<G: Ledger + Send + Sync> Clerk<G> {
-    /// Does what is its duty.
-    pub fn work<R: Threads + Wait + Sync>(
-        &mut self,
-        rt: &R,
-        alloc: Global,
-        office: &Office<'_, G>,
-    ) {
-        let duty = self.duty;
-        self.ended = match duty {
-            Duty::Teller(draws) => self.transfers(rt, office, draws),
-            Duty::Flusher => flush(rt, office.bank, PASSES),
-            Duty::Checkpointer => self.checkpoint(rt, office.bank),
-            Duty::Copier { full, incremental } => self.copy(rt, alloc, office, full, incremental),
-        };
-    }
-
-    /// Makes a full copy, and one on it. In between it changes each page of accounts, and sees to
-    /// it that the change is stored, by a second pass where another one had begun a write before
-    /// it.
-    fn copy<R: Threads + Wait + Sync>(
-        &mut self,
-        rt: &R,
-        alloc: Global,
-        office: &Office<'_, G>,
-        full: Workers,
-        incremental: Workers,
-    ) -> Result<(), Refusal> {
-        let bank = office.bank;
-        let mut pace = Pace {
-            watch: office.watch,
-            which: Which::Full,
-        };
-        let first = bank.copy_with(rt, alloc, CopyKind::Full, full.count(), &pace)?;
-        self.keep(first)?;
-        self.share_out(rt, office)?;
-        flush(rt, bank, 2)?;
-        pace.which = Which::Incremental;
-        let kind = CopyKind::Inc(CopyId(1));
-        let second = bank.copy_with(rt, alloc, kind, incremental.count(), &pace)?;
-        self.keep(second)
-    }
 }
 
 /// Writes the pages that are dirty, so often.
-pub fn flush<G: Ledger>(rt: &impl Wait, bank: &Bank<G>, passes: u32) -> Result<(), Refusal> {
+pub fn flush<S: PageStore, D: LogDevice, G: Ledger>(
+    rt: &impl Wait,
+    bank: &Bank<S, D, G>,
+    passes: u32,
+) -> Result<(), Refusal> {
     for _ in 0..passes {
         bank.flush_pass(rt, &Polite)?;
     }

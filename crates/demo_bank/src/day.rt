@@ -1,4 +1,4 @@
-//! A day of the bank, up to its crash.
+//! A day of the bank in memory, up to its crash.
 
 ghost use Rattle.std.specs.Prelude.{◌≡◌};
 
@@ -7,12 +7,14 @@ use crate::case::Case;
 use crate::clerk::{Bank, Clerk, Duty, Office, flush};
 use crate::draws::Draws;
 use crate::fault::Fault;
+use crate::halt::Halt;
+use crate::in_memory::{MemBank, MemOffice, NoHelp};
 use crate::watch::{Watch, Which};
-use aries_core::{Refusal, Setup};
+use aries_core::Setup;
 use copy_coverage::Retired;
 use engine_run::{OpenGate, Session, Work, settle};
-use log_store::MemDevice;
-use page_store::MemStore;
+use log_store::{LogDevice, MemDevice};
+use page_store::{MemStore, PageStore};
 use std::alloc::{AllocError, Global};
 use std::sync::Wait;
 use std::sync::ledger::{Blank, Ledger};
@@ -23,7 +25,7 @@ use std::thread::Threads;
 const RECORDS: usize = 65_536;
 
 /// Opens the bank: a shared engine over formatted pages.
-fn open_bank<G: Ledger>(alloc: Global, blank: Blank) -> Result<Bank<G>, Fault>
+fn open_bank<G: Ledger>(alloc: Global, blank: Blank) -> Result<MemBank<G>, Fault>
     requires name { blank.name ≡ G.name }
     requires parts { blank.parts ≡ G.parts }
     requires sessions { blank.parts ≡ 65 }
@@ -34,14 +36,28 @@ fn open_bank<G: Ledger>(alloc: Global, blank: Blank) -> Result<Bank<G>, Fault>
     };
     let store = MemStore::new(alloc, PAGES)?;
     let device = MemDevice::new(alloc, RECORDS)?;
-    Ok(Bank::<G>::new(alloc, blank, setup, store, device)?)
+    Ok(MemBank::<G>::new(alloc, blank, setup, store, device)?)
+}
+
+/// Hires a teller for each row.
+pub fn hire_tellers<S: PageStore + Drop, D: LogDevice + Drop, G: Ledger>(
+    alloc: Global,
+    bank: &mut Bank<S, D, G>,
+    case: &Case,
+    clerks: &mut Vec<Clerk<G>>,
+) -> Result<(), Fault> {
+    for row in 0..case.tellers {
+        let duty = Duty::Teller(Draws::new(case.seed, row));
+        clerks.push(Clerk::hire(alloc, bank, duty)?)?;
+    }
+    Ok(())
 }
 
 /// All who work there: the copier first, so that its copies begin soon; then the tellers, and one
 /// of each other duty.
 fn clerks_of<G: Ledger>(
     alloc: Global,
-    bank: &mut Bank<G>,
+    bank: &mut MemBank<G>,
     case: &Case,
 ) -> Result<Vec<Clerk<G>>, Fault> {
     let mut clerks = Vec::new(alloc);
@@ -50,10 +66,7 @@ fn clerks_of<G: Ledger>(
         incremental: case.incremental,
     };
     clerks.push(Clerk::hire(alloc, bank, copier)?)?;
-    for row in 0..case.tellers {
-        let duty = Duty::Teller(Draws::new(case.seed, row));
-        clerks.push(Clerk::hire(alloc, bank, duty)?)?;
-    }
+    hire_tellers(alloc, bank, case, &mut clerks)?;
     for duty in [Duty::Flusher, Duty::Checkpointer] {
         clerks.push(Clerk::hire(alloc, bank, duty)?)?;
     }
@@ -64,10 +77,16 @@ fn clerks_of<G: Ledger>(
 fn open_accounts<G: Ledger>(
     rt: &impl Wait,
     alloc: Global,
-    bank: &mut Bank<G>,
+    bank: &mut MemBank<G>,
+    watch: &Watch,
 ) -> Result<Clerk<G>, Fault> {
     let mut first = Clerk::hire(alloc, bank, Duty::Checkpointer)?;
-    first.open_accounts(rt, bank)?;
+    let office = Office {
+        bank,
+        watch,
+        helper: &NoHelp,
+    };
+    first.open_accounts(rt, &office)?;
     flush(rt, bank, 1)?;
     let work = bank.checkpoint(rt, &OpenGate)?;
     first.works.push(work)?;
@@ -75,7 +94,7 @@ fn open_accounts<G: Ledger>(
 }
 
 /// What the clerks were answered: their sessions, their checkpoints and their copies.
-fn answers_of<G: Ledger>(
+pub fn answers_of<G: Ledger>(
     alloc: Global,
     clerks: Vec<Clerk<G>>,
 ) -> Result<(Vec<Session<G>>, Vec<Work>), AllocError> {
@@ -91,7 +110,7 @@ fn answers_of<G: Ledger>(
 }
 
 /// The first refusal that a clerk met.
-fn first_refusal<G: Ledger>(clerks: &[Clerk<G>]) -> Result<(), Refusal> {
+fn first_refusal<G: Ledger>(clerks: &[Clerk<G>]) -> Result<(), Halt> {
     for clerk in clerks {
         clerk.ended?;
     }
@@ -101,9 +120,9 @@ fn first_refusal<G: Ledger>(clerks: &[Clerk<G>]) -> Result<(), Refusal> {
 /// Has each teller begin a transfer. In every second one the money does not come to its account.
 fn leave_open<G: Ledger>(
     rt: &impl Wait,
-    office: &Office<'_, G>,
+    office: &MemOffice<'_, G>,
     clerks: &mut [Clerk<G>],
-) -> Result<(), Refusal> {
+) -> Result<(), Halt> {
     let mut has_come = true;
     for clerk in clerks.iter_mut() {
         if let Duty::Teller(_) = clerk.duty {
@@ -134,9 +153,9 @@ pub fn day<G: Ledger + Send + Sync, R: Threads + Wait + Sync>(
     requires sessions { blank.parts ≡ 65 }
 {
     let mut bank = open_bank::<G>(alloc, blank)?;
-    let first = open_accounts(rt, alloc, &mut bank)?;
-    let mut clerks = clerks_of(alloc, &mut bank, case)?;
     let watch = Watch::new(alloc, case.tellers)?;
+    let first = open_accounts(rt, alloc, &mut bank, &watch)?;
+    let mut clerks = clerks_of(alloc, &mut bank, case)?;
     let count = clerks.len();
     if count > 0 {
         thread::for_each_mut(
@@ -147,6 +166,7 @@ pub fn day<G: Ledger + Send + Sync, R: Threads + Wait + Sync>(
                 let office = Office {
                     bank: &bank,
                     watch: &watch,
+                    helper: &NoHelp,
                 };
                 clerk.work(rt, alloc, &office)
             },
@@ -156,6 +176,7 @@ pub fn day<G: Ledger + Send + Sync, R: Threads + Wait + Sync>(
     let office = Office {
         bank: &bank,
         watch: &watch,
+        helper: &NoHelp,
     };
     leave_open(rt, &office, &mut clerks)?;
     clerks.push(first)?;

@@ -1,5 +1,6 @@
 //! Why a case comes to no end.
 
+use crate::halt::{FileTrouble, Halt};
 use aries_core::{PlayFault, Refusal};
 use copy_vault::CopyFault;
 use engine_run::SettleFault;
@@ -18,6 +19,10 @@ pub enum Fault {
     Play(#[from] PlayFault),
     #[error(transparent)]
     Call(#[from] Refusal),
+    #[error(transparent)]
+    Halt(#[from] Halt),
+    #[error(transparent)]
+    File(#[from] FileTrouble),
     #[error(transparent)]
     Copy(#[from] CopyFault),
     #[error("{0}")]

@@ -1,32 +1,49 @@
 //! Sessions of a shared engine move money between accounts, beside a flusher, a checkpointer and
-//! image copies; then a crash takes a part of the log, and the accounts are restored from the
-//! copies.
+//! image copies. In memory a crash then takes a part of the log, and the accounts are restored from
+//! the copies; on files each thing that lasts is told once it does.
 #![tactic(auto)]
 
 mod accounts;
+mod acknowledged;
 mod books;
 mod case;
 mod clerk;
 mod day;
+mod day_files;
 mod draws;
 mod fault;
+mod file_day;
+mod hall;
+mod halt;
+mod in_memory;
+mod line;
+mod on_files;
+mod put;
+#[cfg(test)]
+mod tests;
 mod watch;
 
 use books::lines_of;
-use case::Call;
+use case::{Call, Command};
 use command_words::words_of;
+use copy_coverage::Retired;
 use day::day;
 use fault::Fault;
+use file_day::{Plan, file_day};
+use halt::{FileTrouble, Halt, Place};
 use saved_files::save_files;
+use std::fs::File;
 use std::marker::Brand;
 use std::process::ExitCode;
 use std::sync::Wait;
 use std::sync::ledger::Blank;
 use std::thread::Threads;
+use std::{fs, io};
 use system_files::{Notes, SystemFolder};
 
 const USAGE: &str = "usage: demo_bank [--behind] [--save FOLDER] \
-    SEED TELLERS FULL_WORKERS INCREMENTAL_WORKERS";
+    SEED TELLERS FULL_WORKERS INCREMENTAL_WORKERS\n       \
+    demo_bank --files FOLDER SEED TELLERS FULL_WORKERS INCREMENTAL_WORKERS TRANSFERS";
 
 /// Plays a case, saves its files, if they are to be saved, and tells in lines what was restored.
 fn play<R: Threads + Wait + Sync>(
@@ -44,33 +61,109 @@ fn play<R: Threads + Wait + Sync>(
     lines_of(rt, alloc, case, settled, call.tells_behind)
 }
 
-fn main(rt: HostRuntime) -> ExitCode {
-    let Ok(words) = words_of(&rt) else {
-        return ExitCode::from(2);
-    };
-    let Some(call) = Call::of(words.as_slice()) else {
-        let _ = rt.eprintln(USAGE);
-        return ExitCode::from(2);
-    };
+/// Plays a day in memory, and prints its lines.
+fn play_in_memory<R: Threads + Wait + Sync>(
+    rt: &R,
+    files: &HostRuntime,
+    call: &Call<'_>,
+) -> ExitCode {
     let notes = Notes::new();
-    match play(&rt, &rt, &call, &notes) {
-        Ok(text) => match rt.print(&text) {
+    match play(rt, files, call, &notes) {
+        Ok(text) => match files.print(&text) {
             Ok(()) => ExitCode::SUCCESS,
             Err(error) => {
-                let _ = eprintln!(rt; "demo_bank: standard output: {error}");
+                let _ = eprintln!(files; "demo_bank: standard output: {error}");
                 ExitCode::FAILURE
             }
         },
         Err(fault) => {
-            let _ = rt.eprintln(&fault);
+            let _ = files.eprintln(&fault);
             if let (Fault::Save(_), Some(folder), Some(error)) = (
                 &fault,
                 call.save,
                 notes.error(),
             ) {
-                let _ = eprintln!(rt; "demo_bank: {folder}: {error}");
+                let _ = eprintln!(files; "demo_bank: {folder}: {error}");
             }
             ExitCode::FAILURE
+        }
+    }
+}
+
+/// Files that stand for the standard streams, where these are closed: else a file of the day would
+/// get the number of one, and what is printed would go into it.
+fn held(files: &HostRuntime) -> [io::Result<File>; 3] {
+    [
+        fs::open(files, "/dev/null"),
+        fs::open(files, "/dev/null"),
+        fs::open(files, "/dev/null"),
+    ]
+}
+
+/// Plays a day on files.
+fn play_in<R: Threads + Wait + Sync>(rt: &R, plan: &Plan<'_>) -> Result<Retired, Fault> {
+    let retired = file_day::<Brand, R>(rt, Blank::new(65), plan)?;
+    Ok(retired)
+}
+
+/// The same, which prints its lines by itself.
+fn play_on_files<R: Threads + Wait + Sync>(rt: &R, plan: &Plan<'_>) -> ExitCode {
+    let _held = held(plan.files);
+    match play_in(rt, plan) {
+        Ok(_) => ExitCode::SUCCESS,
+        Err(fault) => {
+            tell_fault(plan.files, plan.folder, &fault);
+            ExitCode::FAILURE
+        }
+    }
+}
+
+/// Tells why a day on files has ended early, in one line.
+fn tell_fault(files: &HostRuntime, folder: &str, fault: &Fault) {
+    let _ = match fault {
+        Fault::File(trouble) | Fault::Halt(Halt::Unkept(trouble)) => {
+            tell_trouble(files, folder, trouble)
+        }
+        _ => eprintln!(files; "demo_bank: {fault}"),
+    };
+}
+
+fn tell_trouble(files: &HostRuntime, folder: &str, trouble: &FileTrouble) -> io::Result<()> {
+    let place = trouble.place;
+    match place {
+        Place::Output => eprintln!(files; "demo_bank: standard output: {trouble}"),
+        _ => eprintln!(files; "demo_bank: {folder}{place}: {trouble}"),
+    }
+}
+
+fn main(rt: HostRuntime) -> ExitCode {
+    let words = match words_of(&rt) {
+        Ok(words) => words,
+        Err(fault) => {
+            let _ = rt.eprintln(&fault);
+            return ExitCode::from(2);
+        }
+    };
+    match Command::of(words.as_slice()) {
+        Some(Command::Memory(call)) => play_in_memory(&rt, &rt, &call),
+        Some(
+            Command::Files {
+                folder,
+                case,
+                transfers,
+            },
+        ) => {
+            let plan = Plan {
+                files: &rt,
+                folder,
+                case: &case,
+                transfers,
+            };
+            play_on_files(&rt, &plan)
+        }
+        None => {
+            let _ = rt.eprintln(USAGE);
+            ExitCode::from(2)
         }
     }
 }

@@ -1,7 +1,7 @@
 //! Which pages were changed after a copy had taken them, and before it was sealed.
 
 use crate::accounts::PAGES;
-use crate::clerk::{BEFORE_INCREMENTAL, TRANSFERS};
+use crate::in_memory::{BEFORE_INCREMENTAL, TRANSFERS};
 use engine_run::HoldGate;
 use page_core::PageNo;
 use std::alloc::{AllocError, Global};
@@ -154,6 +154,16 @@ impl Watch {
     /// A transfer was made.
     pub fn note_transfer(&self) {
         self.made.fetch_add(1, Ordering::SeqCst);
+    }
+
+    /// How many tellers there are.
+    pub fn tellers(&self) -> u64 {
+        self.tellers as u64
+    }
+
+    /// How many transfers were made.
+    pub fn made(&self) -> u64 {
+        self.made.load(Ordering::SeqCst)
     }
 
     /// Waits until a worker has come for the first page of this copy, and not for ever.

@@ -1,3 +1,4 @@
+pub mod CopyWrite
 pub mod Given
 pub mod Held
 pub mod Laws

@@ -2,6 +2,7 @@
 //! its volume.
 
 ghost use Rattle.std.specs.Prelude.{ℕ, ◌≡◌, ◌<◌, ◌≤◌, length, IfErr, IfOk, OnErr, OnOk};
+ghost use Rattle.copy_vault.specs.Vault.{IsOfId, OpenRefuses, complete, complete_refusal};
 ghost use Rattle.copy_vault.specs.Vault.{pages_read, state_of};
 ghost use Rattle.aries_core.specs.Asked.{Asks, FailsAsking, asked};
 ghost use Rattle.aries_core.specs.EngineState.{end};
@@ -14,7 +15,7 @@ ghost use Rattle.engine_run.specs.Work.{copy_event};
 
 use crate::held::Held;
 use aries_core::{Gathered, Refusal, Took};
-use copy_vault::{CopyId, CopyKind};
+use copy_vault::{CopyFault, CopyId, CopyKind, LentCopy};
 use fuzzy_ckpt::Point;
 use log_store::LogDevice;
 use page_core::{Lsn, PageNo};
@@ -211,6 +212,18 @@ impl<S: PageStore, D: LogDevice, G: Ledger> Held<S, D, G> {
         ensures device { self.new.engine.device ≡ self.old.engine.device }
     {
         self.engine.drop_copy(copy)
+    }
+
+    /// Lends a complete copy, as `Engine::lend_copy` does. It is no event, and changes nothing.
+    pub fn lend_copy(&mut self, copy: CopyId) -> Result<LentCopy, CopyFault>
+        ensures ok { IfOk result (λ lent.
+            state_of self.old.engine.state.copies copy ≡ complete lent) }
+        ensures kept { IfOk result (λ lent. IsOfId self.old.engine.state.copies copy lent) }
+        ensures err { IfErr result
+            (OpenRefuses (complete_refusal (state_of self.old.engine.state.copies copy))) }
+        ensures same { self.new ≡ self.old }
+    {
+        self.engine.lend_copy(copy)
     }
 
     /// Stores a page anew, from a complete copy and the log, as `Engine::repair` does.

@@ -4,6 +4,7 @@
 mod check_sessions;
 mod check_works;
 mod copier;
+mod copy_writer;
 mod extend;
 mod fault;
 mod flush;

@@ -5,7 +5,7 @@ use Rattle.std.specs.List.{fold}
 use Rattle.std.proofs.lemmas.List.{append-nil, drop_all, length-append, length-replicate, length-take, take-take}
 use Rattle.std.proofs.lemmas.List.Sums.{fold-append}
 use Rattle.file_devices.specs.Calls.{done, failed}
-use Rattle.file_devices.specs.FileLog.{Known, Stores, after_call, after_done, after_failed, known_of, with_len}
+use Rattle.file_devices.specs.FileLog.{Known, Stores, after_call, after_done, after_failed, known_of, learned, with_len}
 use Rattle.file_devices.specs.declared.calls.FileCall.{FileCall}
 use Rattle.file_devices.specs.declared.calls.Request.{Request}
 use Rattle.file_devices.specs.declared.calls.Request.TheVariants.{Read, SetLen, Sync, Write}
@@ -22,6 +22,11 @@ pub known_of-append : (calls more : List FileCall)
 known_of-append calls more = fold-append after_call (record { bytes = []; lasting = 0 }) calls more
 
 -- ---- what lasts is there
+
+-- no less is known after a read
+learned_long : (known : List ℕ) (at : ℕ) (given : List ℕ) → length known ≤ length (learned known at given)
+learned_long [] at given = omega arith
+learned_long (byte ∷ bytes) at given = omega arith
 
 lasting_done : (known : Known) (request : Request) → known.lasting ≤ length known.bytes
     → (after_done known request).lasting ≤ length (after_done known request).bytes
@@ -41,7 +46,7 @@ lasting_done known (Write at bytes) there =
       length-take at known.bytes,
       length-replicate {A = ℕ} (at - length known.bytes) 0,
     )
-lasting_done known (Read at bytes) there = there
+lasting_done known (Read at bytes) there = omega (arith, there, learned_long known.bytes at bytes)
 lasting_done known Sync there = omega arith
 
 lasting_failed : (known : Known) (request : Request) → known.lasting ≤ length known.bytes

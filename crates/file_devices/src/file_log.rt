@@ -2,8 +2,8 @@
 
 ghost use Rattle.std.specs.Prelude.{◌≡◌, ◌≤◌, [], ◌∷◌, length, IfOk, IfErr};
 ghost use Rattle.file_devices.specs.Calls.{done, failed, failed_count};
-ghost use Rattle.file_devices.specs.FileLog.{Stores, Syncs, known_of};
-ghost use Rattle.file_devices.specs.declared.calls.Request.TheVariants.{SetLen};
+ghost use Rattle.file_devices.specs.FileLog.{ResumeFails, Stores, Syncs, known_of};
+ghost use Rattle.file_devices.specs.declared.calls.Request.TheVariants.{Read, SetLen, Sync};
 
 use crate::tracked_file::{FailedFile, TrackedFile};
 use log_store::{DeviceFault, LogDevice};
@@ -36,6 +36,32 @@ impl FileLog {
     {
         let mut file = TrackedFile::new(file);
         match file.set_len(0) {
+            Ok(()) => Ok(FileLog { file }),
+            Err(error) => Err(FailedFile::new(error, file)),
+        }
+    }
+}
+
+impl FileLog {
+    /// A device on a file that has a log already. It fills the buffer with the first bytes of the
+    /// file, of which nothing more is known, and waits until they last. The first store behind a
+    /// part of them cuts off the others. The file is open for reading and writing, and not for
+    /// appending.
+    ///
+    /// An `Err` comes where the file has fewer bytes than the buffer, or cannot be read or synced.
+    pub fn resume(file: File, buffer: &mut [u8]) -> Result<FileLog, FailedFile>
+        ensures calls { IfOk result (λ log.
+            log ≡ done (Read 0 buffer.new) ∷ done Sync ∷ []) }
+        ensures bytes { IfOk result (λ log. (known_of log).bytes ≡ buffer.new) }
+        ensures lasts { IfOk result (λ log. (known_of log).lasting ≡ length buffer.new) }
+        ensures failed { IfErr result (ResumeFails buffer.new) }
+        ensures length { length buffer.new ≡ length buffer.old }
+    {
+        let mut file = TrackedFile::new(file);
+        if let Err(error) = file.read_at(0, buffer) {
+            return Err(FailedFile::new(error, file));
+        }
+        match file.sync() {
             Ok(()) => Ok(FileLog { file }),
             Err(error) => Err(FailedFile::new(error, file)),
         }

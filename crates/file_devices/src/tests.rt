@@ -54,6 +54,31 @@ fn a_log_is_cut_before_it_is_stored(rt: HostRuntime) -> Result<(), Fail> {
 }
 
 #[test]
+fn a_log_goes_on_in_its_file(rt: HostRuntime) -> Result<(), Fail> {
+    let place = own_place(&rt, "resumed")?;
+    let file = file_of(&rt, &place, b"first last, and what a crash has torn")?;
+    let mut front = [0; 10];
+    let mut log = FileLog::resume(file, &mut front)?;
+    assert!(rt; front == *b"first last");
+    log.store(10, b" of all")?;
+    log.sync()?;
+    let stored = fs::read(&rt, place.as_path())?;
+    assert!(rt; stored.as_slice() == b"first last of all".as_slice());
+    fs::remove_file(&rt, place.as_path())?;
+    Ok(())
+}
+
+#[test]
+fn a_file_that_is_shorter_than_its_log_is_refused(rt: HostRuntime) -> Result<(), Fail> {
+    let place = own_place(&rt, "short")?;
+    let mut front = [0; 10];
+    let refused = FileLog::resume(file_of(&rt, &place, b"first")?, &mut front);
+    assert!(rt; refused.is_err());
+    fs::remove_file(&rt, place.as_path())?;
+    Ok(())
+}
+
+#[test]
 fn a_file_that_cannot_be_written_is_refused(rt: HostRuntime) -> Result<(), Fail> {
     let place = own_place(&rt, "locked")?;
     let _ = file_of(&rt, &place, b"bytes")?;

@@ -2,6 +2,7 @@ pub mod Beside
 pub mod Covers
 pub mod Dirty
 pub mod Ends
+pub mod LastCkpts
 pub mod Leasts
 pub mod Opens
 pub mod PagesSteps

@@ -1,3 +1,4 @@
 pub mod Answers
 pub mod Ckpt
+pub mod LogCheckpoints
 pub mod Steps

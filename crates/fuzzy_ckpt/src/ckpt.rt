@@ -21,7 +21,8 @@ ghost use Rattle.log_history.specs.TxnState.{state_of};
 ghost use Rattle.log_store.specs.WrittenLog.{EndsAtRecord};
 ghost use Rattle.buffer_pool.specs.Pool.{IsPoolOf, written_of};
 ghost use Rattle.txn_table.specs.TxnTable.{IsTableOf};
-ghost use Rattle.fuzzy_ckpt.specs.Ckpt.{AllCover, AreCovered, IsCkptOf, gathered_ckpt, pages_ckpt};
+ghost use Rattle.fuzzy_ckpt.specs.Ckpt.{AllCover, AreCovered, IsCkptOf, gathered, gathered_ckpt};
+ghost use Rattle.fuzzy_ckpt.specs.Ckpt.{pages_ckpt};
 ghost use Rattle.fuzzy_ckpt.specs.Ckpt.{txns_ckpt};
 ghost use Rattle.fuzzy_ckpt.specs.Steps.{HasRoomForStep, end_of, end_record, last_page, new_ckpt};
 ghost use Rattle.fuzzy_ckpt.specs.Steps.{pages_step, txn_record, txns_step, with_step};
@@ -273,6 +274,40 @@ impl Ckpt<Txns> {
 }
 
 impl Ckpt<Gathered> {
+    /// One that begins here, in a volume of so many pages, and has nothing yet.
+    pub(crate) fn begun(begin: Lsn, pages: u32) -> Ckpt<Gathered>
+        ensures { gathered_ckpt result
+            ≡ record { begin = begin; pages = pages; redo = begin; phase = gathered } }
+    {
+        Ckpt {
+            begin,
+            pages,
+            redo: begin,
+            phase: Gathered,
+        }
+    }
+
+    /// The same with these dirty pages more.
+    pub(crate) fn with_pages(self, dirty: DirtyPages) -> Ckpt<Gathered>
+        ensures { gathered_ckpt result ≡ record (gathered_ckpt self) {
+          redo = fold (λ least e. min least e.rec_lsn) self.redo (entries_of dirty);
+        } }
+    {
+        Ckpt {
+            begin: self.begin,
+            pages: self.pages,
+            redo: least_of(self.redo, dirty),
+            phase: Gathered,
+        }
+    }
+
+    /// The page count of the volume at its begin.
+    pub(crate) fn pages_at_begin(&self) -> u32
+        ensures { result ≡ self.now.pages }
+    {
+        self.pages
+    }
+
     /// Ends the checkpoint: appends its EndChkpt with the redo point, and forces the log through
     /// it. The pool says which pages are stored; this call reads none. The master record is for the
     /// caller to set, once this has answered `Ok`.

@@ -1,16 +1,15 @@
 //! Lines for a person on standard error, behind the line of a fault.
 
-use crate::bad_line::BadLine;
 use crate::reasons::{
     Named, Reason, reason_of_audit, reason_of_restore, tell_beyond, tell_unsound, what_stands,
 };
-use crate::shown::Shown;
 use copy_audit::Unsound;
 use copy_coverage::Retired;
 use copy_vault::{CopyId, MAX_COPIES};
 use event_script::{MAX_SCRIPT_BYTES, ScriptFault};
 use media_restore::RestoreFault;
 use saved_files::{SaveFault, SavedName};
+use script_advice::{BadLine, Shown};
 use script_run::RunFault;
 use std::alloc::{AllocError, Global};
 use std::io::ErrorKind;

@@ -1,19 +1,18 @@
 //! The program: its words, its input and output, and its status.
 #![tactic(auto)]
 
-ghost use Rattle.std.specs.Prelude.{◌≡◌, ◌⊎◌, IfErr, OnOk};
+ghost use Rattle.std.specs.Prelude.{◌≡◌, ◌⊎◌, IfErr, IfSome, OnOk};
 ghost use Rattle.std.specs.Process.{exit_status};
 ghost use Rattle.buffer_pool.specs.Pool.{IsFrameCount};
 ghost use Rattle.log_records.specs.Log.{IsPageCount};
-ghost use Rattle.script_run.specs.Status.{status_of_audit, status_of_finish, status_of_restore};
+ghost use Rattle.script_run.specs.Status.{status_of_audit, status_of_finish};
 
 mod advice;
-mod bad_line;
 mod chain_reason;
 mod headers;
 mod output;
 mod reasons;
-mod shown;
+mod restores;
 mod strict;
 
 use advice::{
@@ -25,11 +24,11 @@ use command_words::{Command, command_of, words_of};
 use copy_audit::{Sound, Unsound};
 use copy_vault::CopyId;
 use event_script::MAX_SCRIPT_BYTES;
-use media_restore::RestoreFault;
-use output::{Output, tell_noted};
+use output::{Output, put_in_place, tell_output};
 use page_core::{FaultName, PageNo};
 use reasons::{Named, tell_redo};
-use saved_files::{audit_files, check_master, restore_volume, save_files, unsound_pages};
+use restores::{Outputs, restore};
+use saved_files::{audit_files, check_master, save_files, unsound_pages};
 use script_run::{
     FAULT_STATUS, FinishFault, REFUSED_STATUS, Ran, RunFault, audit_status, finish_script,
     refused_status, restore_status, run_script,
@@ -41,6 +40,7 @@ use std::process::ExitCode;
 use std::thread::Threads;
 use strict::{Kept, Refusals, Tallied, line_of_call};
 use system_files::{Noted, Notes, SystemFiles, SystemFolder};
+use volume_folder::{OpenCall, open_folder};
 use volume_redo::{Fault, redo_stream};
 
 /// How many bytes of a script are kept at most, to show a bad line.
@@ -63,11 +63,26 @@ fn main(rt: HostRuntime) -> ExitCode {
             },
         ) => run(&rt, &rt, Setup { pages, frames }, save, strict),
         Ok(
+            Command::Open {
+                folder,
+                pages,
+                frames,
+            },
+        ) => {
+            let call = OpenCall {
+                folder,
+                pages,
+                frames,
+            };
+            open(&rt, &rt, &call)
+        }
+        Ok(
             Command::Restore {
                 log,
                 master,
                 archives,
                 output,
+                log_output,
             },
         ) => {
             let names = Named {
@@ -75,7 +90,11 @@ fn main(rt: HostRuntime) -> ExitCode {
                 master: Some(master),
                 archives: &archives,
             };
-            restore(&rt, &rt, &names, master, output)
+            let outputs = Outputs {
+                volume: output,
+                log: log_output,
+            };
+            restore(&rt, &rt, &names, master, outputs)
         }
         Ok(
             Command::Audit {
@@ -137,26 +156,8 @@ fn redo_into(rt: &HostRuntime, path: &str) -> ExitCode {
     status
 }
 
-/// Puts a volume in place that was written whole.
-fn put_in_place(rt: &HostRuntime, path: &str, output: Output<'_>, notes: &Notes) -> ExitCode {
-    match output.put() {
-        Ok(()) => ExitCode::SUCCESS,
-        Err(_) => {
-            tell_noted(rt, path, notes);
-            ExitCode::from(FAULT_STATUS)
-        }
-    }
-}
-
-/// Says why a file of the output could not be written.
-fn tell_output(rt: &impl Eprint, path: &str, notes: &Notes) {
-    if let Some(error) = notes.error() {
-        let _ = eprintln!(rt; "imgcopy: {path}: {error}");
-    }
-}
-
 /// No volume is written to a terminal.
-fn refused_terminal(rt: &impl Eprint) -> ExitCode
+pub(crate) fn refused_terminal(rt: &impl Eprint) -> ExitCode
     ensures { exit_status result ≡ 2 }
 {
     let _ = eprintln!(rt; "{} 0", FaultName::WriteFault);
@@ -245,78 +246,16 @@ fn finish(rt: &HostRuntime, threads: &(impl Threads + Sync), ran: Ran, save: Opt
     status
 }
 
-/// Restores a volume from files.
-fn restore(
-    rt: &HostRuntime,
-    threads: &(impl Threads + Sync),
-    names: &Named<'_>,
-    master: &str,
-    path: Option<&str>,
-) -> ExitCode {
-    if let Some(path) = path {
-        return restore_into(rt, threads, names, master, path);
+/// Opens a database, and answers the lines of standard input.
+fn open(rt: &HostRuntime, threads: &(impl Threads + Sync), call: &OpenCall<'_>) -> ExitCode
+    requires pages { IfSome call.now.pages IsPageCount }
+    requires frames { IsFrameCount call.now.frames }
+{
+    if open_folder(rt, threads, call) {
+        ExitCode::SUCCESS
+    } else {
+        ExitCode::from(FAULT_STATUS)
     }
-    if rt.stdout().is_terminal() {
-        return refused_terminal(rt);
-    }
-    let (notes, output) = (Notes::new(), Notes::new());
-    let files = SystemFiles {
-        files: rt,
-        notes: &notes,
-    };
-    let done = restore_volume(
-        &files,
-        threads,
-        rt.alloc(),
-        names.log,
-        master,
-        names.archives,
-        &mut noted(io::writer(rt), &output),
-    );
-    let status = status_of_files(rt, &done);
-    match &done {
-        Err(RestoreFault::WriteFault(_)) => tell_unwritten(rt, &output),
-        Err(fault) => tell_input(rt, names, fault, &notes),
-        Ok(()) => {}
-    }
-    status
-}
-
-/// The same, into a file.
-fn restore_into(
-    rt: &HostRuntime,
-    threads: &(impl Threads + Sync),
-    names: &Named<'_>,
-    master: &str,
-    path: &str,
-) -> ExitCode {
-    let (notes, written) = (Notes::new(), Notes::new());
-    let Some(mut output) = Output::begin(rt, path, &written) else {
-        return ExitCode::from(FAULT_STATUS);
-    };
-    let files = SystemFiles {
-        files: rt,
-        notes: &notes,
-    };
-    let done = restore_volume(
-        &files,
-        threads,
-        rt.alloc(),
-        names.log,
-        master,
-        names.archives,
-        &mut output.file,
-    );
-    let Err(fault) = &done else {
-        return put_in_place(rt, path, output, &written);
-    };
-    let status = status_of_files(rt, &done);
-    match fault {
-        RestoreFault::WriteFault(_) => tell_output(rt, path, &written),
-        fault => tell_input(rt, names, fault, &notes),
-    }
-    output.drop_file();
-    status
 }
 
 /// Audits a chain of copies against a log, and the master record first, if one is named.
@@ -431,20 +370,6 @@ fn told(rt: &impl Eprint, fault: &impl Display) -> ExitCode
     ExitCode::from(FAULT_STATUS)
 }
 
-/// Tells why a volume is not restored from files, and answers the program's status.
-fn status_of_files(rt: &impl Eprint, done: &Result<(), RestoreFault>) -> ExitCode
-    ensures done { OnOk done.now (exit_status result ≡ 0) }
-    ensures fault { IfErr done.now (λ fault. exit_status result ≡ status_of_restore fault) }
-{
-    match done {
-        Ok(()) => ExitCode::SUCCESS,
-        Err(fault) => {
-            let _ = rt.eprintln(fault);
-            ExitCode::from(restore_status(fault))
-        }
-    }
-}
-
 /// Writes a text that ends with its own line break to standard error, and answers the status of a
 /// fault.
 fn told_whole(rt: &impl Eprint, text: &impl Display) -> ExitCode
@@ -467,7 +392,7 @@ fn status_of(rt: &impl Eprint, done: &Result<(), Fault>) -> ExitCode
 }
 
 /// A standard stream of which it is noted why a call failed.
-fn noted<'a, F>(stream: F, notes: &'a Notes) -> Noted<'a, F> {
+pub(crate) fn noted<'a, F>(stream: F, notes: &'a Notes) -> Noted<'a, F> {
     Noted {
         file: stream,
         notes,

@@ -1,11 +1,13 @@
-//! The file that `redo -o` and `restore -o` write. It has a name of its own until it is put in
-//! place.
+//! The files that `redo -o`, `restore -o` and `restore --log-out` write. Each has a name of its own
+//! until it is put in place.
 
 use page_core::FaultName;
 use saved_files::{Folder, make_beside};
+use script_run::FAULT_STATUS;
 use std::fs::File;
 use std::io::ErrorKind;
-use std::path::Path;
+use std::path::{Path, PathBuf};
+use std::process::ExitCode;
 use std::{fs, io};
 use system_files::{Noted, Notes, SystemFolder};
 
@@ -48,6 +50,11 @@ impl<'a> Output<'a> {
         }
     }
 
+    /// Syncs the file, which has no other name yet.
+    pub fn sync(&mut self) -> io::Result<()> {
+        self.folder.sync(self.beside.as_str(), &mut self.file)
+    }
+
     /// Puts the file in place: it is synced and renamed, and its folder synced.
     pub fn put(self) -> io::Result<()> {
         let Output {
@@ -88,8 +95,26 @@ fn placed<'a>(
     folder.rename(beside, name)
 }
 
+/// Puts a file in place that was written whole, and answers the program's status.
+pub fn put_in_place(rt: &HostRuntime, path: &str, output: Output<'_>, notes: &Notes) -> ExitCode {
+    match output.put() {
+        Ok(()) => ExitCode::SUCCESS,
+        Err(_) => {
+            tell_noted(rt, path, notes);
+            ExitCode::from(FAULT_STATUS)
+        }
+    }
+}
+
+/// Says why a file of the output could not be written.
+pub fn tell_output(rt: &impl Eprint, path: &str, notes: &Notes) {
+    if let Some(error) = notes.error() {
+        let _ = eprintln!(rt; "imgcopy: {path}: {error}");
+    }
+}
+
 /// Tells that an output cannot be written, and why.
-fn tell(rt: &impl Eprint, path: &str, why: &impl std::fmt::Display) {
+pub fn tell(rt: &impl Eprint, path: &str, why: &impl std::fmt::Display) {
     let _ = eprintln!(rt; "{} 0", FaultName::WriteFault);
     let _ = eprintln!(rt; "imgcopy: {path}: {why}");
 }
@@ -116,6 +141,32 @@ fn named<'a>(folder: &'a str, name: &'a str) -> Option<(&'a str, &'a str)> {
         return None;
     }
     Some((folder, name))
+}
+
+/// Whether two paths are of one place: the same name in the same folder.
+pub fn is_one_place(rt: &HostRuntime, one: &str, other: &str) -> bool {
+    let Some((folder, name)) = parts_of(one) else {
+        return false;
+    };
+    let Some((other_folder, other_name)) = parts_of(other) else {
+        return false;
+    };
+    name == other_name && is_one_folder(rt, folder, other_folder)
+}
+
+/// A folder that is not there is no other one: it cannot be opened later either.
+fn is_one_folder(rt: &HostRuntime, one: &str, other: &str) -> bool {
+    if one == other {
+        return true;
+    }
+    match (canonical(rt, one), canonical(rt, other)) {
+        (Ok(one), Ok(other)) => one.as_path() == other.as_path(),
+        _ => false,
+    }
+}
+
+fn canonical(rt: &HostRuntime, folder: &str) -> io::Result<PathBuf> {
+    Path::new(folder).canonicalize(rt)
 }
 
 /// Nothing stands there, or a regular file: no folder, device or link is replaced.

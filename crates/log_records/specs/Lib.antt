@@ -1,8 +1,10 @@
+pub mod Changing
 pub mod CkptBytes
 pub mod Coverage
 pub mod DirtyPage
 pub mod Fields
 pub mod Image
+pub mod Kinds
 pub mod Least
 pub mod Log
 pub mod PageCount

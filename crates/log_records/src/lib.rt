@@ -38,7 +38,7 @@ pub use page_count_laws::{
     page_counts_below_an_lsn_are_of_the_log_cut_there, records_name_pages_of_the_volume,
     volumes_never_get_smaller,
 };
-pub use place::{named_slot, record_at};
+pub use place::{named_slot, record_at, step_at, update_at};
 pub use record::Record;
 pub use txn_phase::TxnPhase;
 pub use volume::redo_on_its_page;

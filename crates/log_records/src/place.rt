@@ -1,12 +1,14 @@
 //! The place of a record in a log: its LSN is its byte offset, and the pages that it names belong
 //! to the volume.
 
-ghost use Rattle.std.specs.Prelude.{◌≡◌, ◌↔◌, length, IfSome, Some, IsTrue};
+ghost use Rattle.std.specs.Prelude.{ℕ, ◌≡◌, ◌↔◌, length, IfSome, Some, IsTrue};
+ghost use Rattle.page_core.specs.declared.format.Format.{Format};
 ghost use Rattle.log_records.specs.declared.record.Record.{Record};
-ghost use Rattle.log_records.specs.Record.{record_bytes};
+ghost use Rattle.log_records.specs.Kinds.{IsStep, IsUpdate};
+ghost use Rattle.log_records.specs.Record.{IsRecord, own_lsn, record_bytes};
 ghost use Rattle.log_records.specs.Log.{IsOfFormat, IsWithin, StandsAt};
 
-use crate::codec::decode;
+use crate::codec::{decode, decode_step, decode_update};
 use crate::limits::RECORD_BYTES;
 use crate::record::Record;
 use page_core::field::{u16_at, u32_at};
@@ -28,6 +30,36 @@ pub fn record_at(bytes: &[u8], at: Lsn, format: Format, pages: u32) -> Option<Re
     } else {
         None
     }
+}
+
+/// The Update that these bytes are at this LSN of a log whose volume has so many pages, if they are
+/// one. Most of a log is Updates: a reader that asks for them by themselves tests the kind once.
+#[inline(always)]
+pub fn update_at(bytes: &[u8], at: Lsn, pages: u32) -> Option<Record>
+    requires { length bytes.now ≡ RECORD_BYTES }
+    ensures found { IfSome result (λ r. StandsAt pages at r
+        × ((format : Format) → IsOfFormat format r) × (bytes.now ≡ record_bytes r)) }
+    ensures only { (r : Record) → IsUpdate r → StandsAt pages at r → bytes.now ≡ record_bytes r
+        → result ≡ Some r }
+{
+    let record = decode_update(bytes.as_array().unwrap(), at)?;
+    if is_within(pages, &record) {
+        Some(record)
+    } else {
+        None
+    }
+}
+
+/// The same of a Begin, a Commit, an Abort or an End, which name no page.
+#[inline(always)]
+pub fn step_at(bytes: &[u8], at: Lsn) -> Option<Record>
+    requires { length bytes.now ≡ RECORD_BYTES }
+    ensures found { IfSome result (λ r. ((pages : ℕ) → StandsAt pages at r)
+        × ((format : Format) → IsOfFormat format r) × (bytes.now ≡ record_bytes r)) }
+    ensures only { (r : Record) → IsStep r → own_lsn r ≡ at → IsRecord r
+        → bytes.now ≡ record_bytes r → result ≡ Some r }
+{
+    decode_step(bytes.as_array().unwrap(), at)
 }
 
 /// The page and the slot that these bytes name, if they are a record that changes one. It looks at

@@ -10,9 +10,9 @@ use Rattle.log_records.specs.Log.{IsLog, IsOfFormat, IsPageCount, Log, SpellsLog
 use Rattle.log_records.specs.Record.{own_lsn, record_bytes}
 use Rattle.log_records.proofs.Records.{record_length}
 use Rattle.log_store.specs.Device.{KeepsFirst}
-use Rattle.log_store.specs.WrittenLog.{HasRecordAt, IsWritten, WrittenLog, first_records, written_log}
+use Rattle.log_store.specs.WrittenLog.{HasRecordAt, HoldsLog, IsWritten, WrittenLog, first_records, written_log}
 use Rattle.log_store.proofs.Scans.{spells_next}
-use Rattle.log_records.proofs.Logs.{format_in-append, format_in-header, format_in-take, length-log, length-header}
+use Rattle.log_records.proofs.Logs.{format_in-append, format_in-header, format_in-take, format_of_log, length-log, length-header}
 use Rattle.log_records.specs.PageCount.{GivesMore, count_behind}
 use Rattle.log_history.proofs.AtEnd.{valid_next}
 use Rattle.page_core.specs.declared.format.Format.TheVariants.{Second}
@@ -29,6 +29,35 @@ on_device bytes pages records forced room device kept =
     let long : length front ≡ 64 * (length (take count records) + 1) =
     length-log (record { pages = pages; records = take count records }) front known.stable in
     omega (arith, length-take (lsn_of forced) (bytes device), length-take count records)
+
+-- a log that its device holds
+pub written_held : {D : Type 0} (bytes : D → List ℕ) (log : Log) (count room : ℕ) (device : D) → IsLog log
+    → count ≡ length log.records → HoldsLog bytes log device
+    → IsWritten bytes (written_log log.pages log.records count room device)
+written_held bytes log n room device valid counted holds =
+    let count = length log.records in
+    let all : take count log.records ≡ log.records = take_all count log.records (omega arith) in
+    let spells : SpellsLog log (take (lsn_of count) (bytes device)) = record {
+      valid = valid;
+      format = Second;
+      of_format = λ i d lt. tt;
+      spelled = holds;
+    } in
+    record {
+      valid = valid;
+      forced = (
+        count,
+        record {
+          there = omega arith;
+          end = ap lsn_of counted;
+          stable = subst (λ (rs : List Record). SpellsLog (record { pages = log.pages; records = rs })
+              (take (lsn_of n) (bytes device))) (sym all)
+              (subst (λ k. SpellsLog log (take (lsn_of k) (bytes device))) (sym counted) spells);
+          second = sym (format_in-take (lsn_of count) (bytes device) (omega arith))
+              ∙ format_of_log log (take (lsn_of count) (bytes device)) spells;
+        },
+      );
+    }
 
 -- a log without records, whose device has the header and nothing else
 pub written_empty : {D : Type 0} (bytes : D → List ℕ) (pages room : ℕ) (device : D) → IsPageCount pages

@@ -1,7 +1,7 @@
 -- A log that is written: its records, and what of them its device has.
 use Rattle.std.specs.Prelude.{ℕ, ◌≡◌, ◌/◌, ◌≤◌, List, length, take, min, slice_get, Some}
 use Rattle.log_records.specs.declared.record.Record.{Record}
-use Rattle.log_records.specs.Log.{Log, IsLog, SpellsLog, format_in, lsn_of}
+use Rattle.log_records.specs.Log.{Log, IsLog, SpellsLog, format_in, log_bytes, lsn_of}
 use Rattle.page_core.specs.declared.numbers.TheConstants.{LSN_STEP}
 use Rattle.page_core.specs.declared.format.Format.TheVariants.{Second}
 
@@ -39,6 +39,11 @@ pub record AreForced {D : Type 0} (bytes : D → List ℕ) (it : WrittenLog D) (
 pub record IsWritten {D : Type 0} (bytes : D → List ℕ) (it : WrittenLog D) : Type 0 where
   pub valid : IsLog it.log
   pub forced : (count : ℕ) × AreForced bytes it count
+
+-- a device begins with the spelling of a log, in the second format
+abbrev pub HoldsLog : {D : Type 0} → (D → List ℕ) → Log → D → Type 0
+HoldsLog bytes log device =
+    take (lsn_of (length log.records)) (bytes device) ≡ log_bytes log
 
 -- the log has this record at this LSN
 pub record HasRecordAt (log : Log) (lsn : ℕ) (r : Record) : Type 0 where

@@ -9,7 +9,8 @@ ghost use Rattle.log_records.specs.PageCount.{GivesMore};
 ghost use Rattle.log_records.specs.Record.{IsPageCount};
 ghost use Rattle.log_records.specs.Log.{page_count, with_next};
 ghost use Rattle.log_store.specs.Stores.{ForceFails, Forced, HeaderFails, StoresHeader};
-ghost use Rattle.log_store.specs.WrittenLog.{EndsAtRecord, HasRecordAt, IsWritten, end_up_to};
+ghost use Rattle.log_store.specs.WrittenLog.{EndsAtRecord, HasRecordAt, HoldsLog, IsWritten};
+ghost use Rattle.log_store.specs.WrittenLog.{end_up_to};
 
 use crate::device::{DeviceFault, LogDevice};
 use crate::log_image::LogImage;
@@ -63,6 +64,22 @@ impl<D: LogDevice> Log<D> {
         Ok(Log {
             stored: StoredLog::new(alloc, pages, device)?,
         })
+    }
+
+    /// A log that goes on where an older one ended: its device has all of it, behind which there may
+    /// be anything, and all of it is forced. The device is not called. The first force cuts off
+    /// what stands behind.
+    pub fn resume(image: LogImage, device: D) -> Log<D>
+        requires holds { HoldsLog D.bytes image device }
+        requires lasts { lsn_of (length image.records) ≤ D.lasting device }
+
+        ensures log { result.log ≡ image }
+        ensures forced_end { result.forced_end ≡ lsn_of (length image.records) }
+        ensures device { result.device ≡ device }
+    {
+        Log {
+            stored: StoredLog::resume(image, device),
+        }
     }
 
     /// Makes room for one record more. An `Err` comes where it is refused. The log stays as it is.

@@ -6,14 +6,18 @@ ghost use Rattle.std.specs.Io.KnownBytes.{Consumes, IsAtEnd};
 ghost use Rattle.page_core.specs.Input.{StaysKnown};
 ghost use Rattle.log_history.specs.History.{IsMadeOf};
 ghost use Rattle.log_history.specs.Linked.{IsLinked};
-ghost use Rattle.log_records.specs.Log.{IsLog, Log, SpellsLog};
+ghost use Rattle.log_records.specs.Log.{IsLog, IsOfFormat, Log, SpellsLog, StandsAt};
+ghost use Rattle.log_records.specs.Record.{record_bytes};
 ghost use Rattle.log_store.specs.Fault.{Refuses, GaveNoFault, IsNoReadFault};
 ghost use Rattle.log_store.specs.Scan.{HasAll, HasTaken};
 
 use crate::fault::LogReadFault;
 use crate::sink::RecordSink;
 use log_history::History;
-use log_records::{HEADER_BYTES, MAX_RECORDS, RECORD_BYTES, log_header, named_slot, record_at};
+use log_records::{
+    HEADER_BYTES, MAX_RECORDS, RECORD_BYTES, Record, log_header, named_slot, record_at, step_at,
+    update_at,
+};
 use page_core::{Format, LSN_STEP, Lsn, MAX_TURNS, Turn, keep_from, read_more, zeros};
 use std::alloc::Global;
 use std::io::Read;
@@ -42,6 +46,35 @@ fn look_ahead(history: &History, bytes: &[u8]) -> u64 {
     seen
 }
 
+/// Takes a record, which stands behind the first `count`, if it may follow them. It is asked of the
+/// most frequent kinds by themselves: then the compiler knows the kind, and looks at it once.
+#[inline(always)]
+fn take_found<S: RecordSink>(
+    sink: &mut S,
+    history: &mut History,
+    count: usize,
+    found: &Record,
+) -> Result<(), LogReadFault>
+    requires room { count < MAX_RECORDS }
+    requires stands { StandsAt (length history.old.pages) (LSN_STEP * (count + 1)) found.now }
+    requires so_far { (format : Format) × (given : List ℕ)
+        × HasTaken S.holds format sink.old history.old count given }
+    ensures ok { OnOk result ((format : Format) (given : List ℕ) → IsOfFormat format found.now
+        → HasTaken S.holds format sink.old history.old count given
+        → HasTaken S.holds format sink.new history.new (count + 1)
+        (given ++ record_bytes found.now)) }
+    ensures first { IfErr result (λ fault. (format : Format) (given rest : List ℕ)
+        → IsOfFormat format found.now
+        → HasTaken S.holds format sink.old history.old count given
+        → Refuses (given ++ (record_bytes found.now ++ rest)) fault) }
+    ensures of_bytes { IfErr result IsNoReadFault }
+{
+    if !history.follow(found)? {
+        return Err(LogReadFault::BadChain(Lsn(LSN_STEP * (count as u64 + 1))));
+    }
+    Ok(sink.take(&[*found])?)
+}
+
 /// Takes the next record, which stands behind the first `count`, if it may follow them.
 #[inline(always)]
 fn take_record<S: RecordSink>(
@@ -66,13 +99,16 @@ fn take_record<S: RecordSink>(
     }
     let at = Lsn(LSN_STEP * (count as u64 + 1));
     let pages = history.pages().len() as u32;
-    let Some(record) = record_at(bytes, at, format, pages) else {
+    if let Some(update) = update_at(bytes, at, pages) {
+        return take_found(sink, history, count, &update);
+    }
+    if let Some(step) = step_at(bytes, at) {
+        return take_found(sink, history, count, &step);
+    }
+    let Some(other) = record_at(bytes, at, format, pages) else {
         return Err(LogReadFault::BadRecord(at));
     };
-    if !history.follow(&record)? {
-        return Err(LogReadFault::BadChain(at));
-    }
-    Ok(sink.take(&[record])?)
+    take_found(sink, history, count, &other)
 }
 
 /// Takes the whole records among these bytes, which stand behind the first `count` records. What it

@@ -11,7 +11,8 @@ ghost use Rattle.log_records.specs.Record.{IsPageCount};
 ghost use Rattle.log_records.specs.Log.{page_count, with_next};
 ghost use Rattle.log_store.specs.Stores.{FailsAtNext, HeaderFails, IsNextCall, StoresForced};
 ghost use Rattle.log_store.specs.Stores.{StoresHeader};
-ghost use Rattle.log_store.specs.WrittenLog.{EndsAtRecord, HasRecordAt, IsWritten, end_up_to};
+ghost use Rattle.log_store.specs.WrittenLog.{EndsAtRecord, HasRecordAt, HoldsLog, IsWritten};
+ghost use Rattle.log_store.specs.WrittenLog.{end_up_to};
 
 use crate::device::{DeviceFault, LogDevice};
 use crate::log_image::LogImage;
@@ -86,6 +87,24 @@ impl<D: LogDevice> StoredLog<D> {
             stored: 0,
             device,
         })
+    }
+
+    /// A log that its device has already, with all of its records. The device is not called.
+    pub fn resume(image: LogImage, device: D) -> StoredLog<D>
+        requires { HoldsLog D.bytes image device }
+        ensures log { result.log ≡ image }
+        ensures forced_end { result.forced_end ≡ lsn_of (length image.records) }
+        ensures device { result.device ≡ device }
+    {
+        let count = image.page_count();
+        let (pages, records) = image.into_parts();
+        StoredLog {
+            pages,
+            count,
+            stored: records.len(),
+            records,
+            device,
+        }
     }
 
     /// Makes room for one record more. An `Err` comes where it is refused. The log stays as it is.

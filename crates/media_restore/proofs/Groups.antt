@@ -1,34 +1,34 @@
--- A volume that is written a group of pages after another.
+-- What is written a group of items after another.
 use Rattle.std.proofs.Common.{◌≡◌, ℕ, ◌+◌, ◌-◌, List, ◌++◌, take, drop, refl, sym, ap, ◌∙◌, arith}
+use Rattle.std.specs.List.{flat_map}
 use Rattle.std.proofs.lemmas.List.{append_assoc, take-append-drop}
 use Rattle.std.proofs.lemmas.List.Concat.{flat_map-append}
-use Rattle.page_core.specs.declared.page.Page.{Page}
-use Rattle.page_core.specs.Page.{page_bytes, volume_bytes}
 use Rattle.page_core.proofs.Pieces.{grow}
 
--- the pages of a group
-abbrev pub group : List Page → ℕ → ℕ → List Page
-group pages first count = take (first + count - first) (drop first pages)
+-- the items of a group
+abbrev pub group : {X : Type 0} → List X → ℕ → ℕ → List X
+group items first count = take (first + count - first) (drop first items)
 
-front : (pages : List Page) (first count : ℕ) → take first pages ++ group pages first count ≡ take (first + count) pages
-front pages first count = grow pages (take first pages) (group pages first count) first (first + count)
+front : {X : Type 0} (items : List X) (first count : ℕ)
+    → take first items ++ group items first count ≡ take (first + count) items
+front items first count = grow items (take first items) (group items first count) first (first + count)
     (omega arith) refl refl
 
--- the bytes of the pages so far and of the group are those of the pages up to its end
-pub further : (pages : List Page) (first count : ℕ)
-    → volume_bytes (take first pages) ++ volume_bytes (group pages first count)
-    ≡ volume_bytes (take (first + count) pages)
-further pages first count =
-    sym (flat_map-append page_bytes (take first pages) (group pages first count))
-    ∙ ap volume_bytes (front pages first count)
+-- the bytes of the items so far and of the group are those of the items up to its end
+pub further : {X : Type 0} (piece : X → List ℕ) (items : List X) (first count : ℕ)
+    → flat_map piece (take first items) ++ flat_map piece (group items first count)
+    ≡ flat_map piece (take (first + count) items)
+further piece items first count =
+    sym (flat_map-append piece (take first items) (group items first count))
+    ∙ ap (flat_map piece) (front items first count)
 
--- and with the pages behind it those of all
-pub whole : (pages : List Page) (first count : ℕ)
-    → volume_bytes (take first pages) ++ (volume_bytes (group pages first count)
-    ++ volume_bytes (drop (first + count) pages)) ≡ volume_bytes pages
-whole pages first count =
-    sym (append_assoc (volume_bytes (take first pages)) (volume_bytes (group pages first count))
-    (volume_bytes (drop (first + count) pages)))
-    ∙ ap (λ (bs : List ℕ). bs ++ volume_bytes (drop (first + count) pages)) (further pages first count)
-    ∙ sym (flat_map-append page_bytes (take (first + count) pages) (drop (first + count) pages))
-    ∙ ap volume_bytes (take-append-drop (first + count) pages)
+-- and with the items behind it those of all
+pub whole : {X : Type 0} (piece : X → List ℕ) (items : List X) (first count : ℕ)
+    → flat_map piece (take first items) ++ (flat_map piece (group items first count)
+    ++ flat_map piece (drop (first + count) items)) ≡ flat_map piece items
+whole piece items first count =
+    sym (append_assoc (flat_map piece (take first items)) (flat_map piece (group items first count))
+    (flat_map piece (drop (first + count) items)))
+    ∙ ap (λ (bs : List ℕ). bs ++ flat_map piece (drop (first + count) items)) (further piece items first count)
+    ∙ sym (flat_map-append piece (take (first + count) items) (drop (first + count) items))
+    ∙ ap (flat_map piece) (take-append-drop (first + count) items)

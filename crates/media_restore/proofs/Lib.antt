@@ -8,3 +8,4 @@ pub mod Restored
 mod Saved
 mod SavedFaults
 mod Undoing
+mod WithLog

@@ -87,7 +87,7 @@ pub of_read : (log : Log) (inputs : List (Option (List ℕ))) (pages : List Page
 of_read log inputs pages redo read = record { spelled = read.spelled; fit = read.fit; within = read.within }
 
 -- where redo made the log's volume, undo leaves what was committed
-sound_of : (log : Log) (master : Master) (pages it : List Page) → IsLog log → IsLinked log.records
+pub sound_of : (log : Log) (master : Master) (pages it : List Page) → IsLog log → IsLinked log.records
     → it ≡ map (λ page. image_from page (appended log)) pages → pages ≡ redo_all log.records (page_count log)
     → AreSound log it
 sound_of log master pages it valid linked made whole =
@@ -97,7 +97,7 @@ sound_of log master pages it valid linked made whole =
       committed = subst (HasCommitted log.records) (sym made) (undone_committed r valid linked whole);
     }
 
-pub restored_of : (files : Files) (log : Log) (master : Master) (pages : List Page) (redo : ℕ) (it : List Page)
+unfoldable pub restored_of : (files : Files) (log : Log) (master : Master) (pages : List Page) (redo : ℕ) (it : List Page)
     → IsOfLog files.log log → IsOfMaster files.master log.records master
     → IsChainRead (counts_of log) (end_of log) files.archives pages redo → most_records log ≤ MAX_RECORDS
     → it ≡ map (λ page. image_from page (appended log)) (map (λ page. resume page log.records redo) pages)
@@ -182,7 +182,7 @@ no_chain chain.ReadFault done e = cc
 no_chain chain.RedoBeyondLog done e = cc
 no_chain (chain.PageBeyondLog page) done e = cc
 
-no_write : (files : Files) (done : ℕ) → ¬ Refused files (WriteFault done)
+pub no_write : (files : Files) (done : ℕ) → ¬ Refused files (WriteFault done)
 no_write files done (of_the_log refused) = no_log refused.why done refused.same
 no_write files done (of_the_master log is refused) = refused
 no_write files done (of_the_archives log master is named refused) = no_chain refused.why done refused.same

@@ -2,6 +2,7 @@ pub mod Fault
 pub mod Files
 pub mod FilesArchives
 pub mod FilesFault
+pub mod FilesLog
 pub mod FilesStop
 pub mod Load
 pub mod MasterCheck

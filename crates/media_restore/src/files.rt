@@ -24,7 +24,7 @@ use std::io::{Read, Write};
 use std::thread::Threads;
 
 /// How many pages are written at once.
-const BUFFER_PAGES: usize = 512;
+pub(crate) const BUFFER_PAGES: usize = 512;
 
 /// Restores a volume from files (ARIES, section 8), and writes its bytes. It reads a log, its
 /// master record and the archives of a chain of copies, the full one first, redoes the log over the

@@ -6,13 +6,16 @@ mod copy_load;
 mod fault;
 mod files;
 mod files_fault;
+mod files_log;
 mod files_master;
 mod loaded;
+mod log_output;
 mod master_check;
 mod master_laws;
 mod rebuilt;
 mod saved_laws;
 mod volume_output;
+mod with_log_fault;
 
 pub use audit_laws::an_audited_chain_restores_the_log;
 pub use copy_audit::{Sound, Unsound, audit};
@@ -20,7 +23,9 @@ pub use copy_load::load;
 pub use fault::{LoadFault, RedoFault, Refused};
 pub use files::restore_files;
 pub use files_fault::RestoreFault;
+pub use files_log::restore_with_log;
 pub use loaded::Loaded;
+pub use log_output::{write_log, written_logs_are_read_again};
 pub use master_check::check_master;
 pub use master_laws::masters_have_one_fault;
 pub use rebuilt::{Rebuilt, rebuild, recover};
@@ -28,3 +33,4 @@ pub use saved_laws::{
     saved_files_are_right, saved_files_restore_what_was_committed, what_is_left_can_be_saved,
 };
 pub use volume_output::write_volume;
+pub use with_log_fault::WithLogFault;

@@ -1,15 +1,14 @@
 -- A file that is made beside its name, and put in its place.
-use Rattle.std.proofs.Common.{◌≡◌, ◌∙◌, ℕ, ◌+◌, ◌<◌, inl, inr, List, [], ◌++◌, length, Bool, true, false, true≢false, refl, sym, ap, subst, arith}
+use Rattle.std.proofs.Common.{◌≡◌, ◌∙◌, ℕ, ◌+◌, inl, inr, List, [], ◌++◌, length, Bool, true, false, true≢false, refl, sym, ap, subst, arith}
 use Rattle.std.proofs.Common.{length-append}
 use Rattle.std.specs.Prelude.{◌≢◌, ◌⊎◌, codes, decimal, Option, Some, None, Result, Ok, Err, OnOk, OnErr}
 use Rattle.std.specs.Str.{bytes_eq}
 use Rattle.std.proofs.lemmas.Slice.Eq.{bytes_eq-Decides}
 use Rattle.saved_files.specs.declared.put_fault.PutFault.{PutFault}
 use Rattle.saved_files.specs.declared.put_fault.PutFault.TheVariants.{Unmade, Unwritten, Unplaced}
-use Rattle.saved_files.specs.FileFault.{IsOfNoByte}
 use Rattle.saved_files.specs.Filled.{IsFilled, IsHow, IsUnplaced, LeavesFill}
 use Rattle.saved_files.specs.Folder.{Changes, Entries, IsBeside, IsMade, IsRemoved, IsRenamed, IsSame, IsSynced}
-use Rattle.saved_files.specs.Folder.{KeepsBeside, KeepsOthers, Puts, PutsOrKeeps, RenamesOrKeeps, absent, stored, unsynced}
+use Rattle.saved_files.specs.Folder.{KeepsBeside, KeepsOthers, Puts, RenamesOrKeeps, absent}
 use Rattle.saved_files.specs.PutFault.{IsOfSource, LeavesPut, Writing, bytes_by}
 
 -- ---- what is known of a folder

@@ -22,7 +22,7 @@ const MOST_UNFINISHED: u32 = 1_000;
 /// beside the name, as `NAME.unfinished-1`, or with the next number where something has that name.
 /// It is then synced, and renamed: so at a fault the name has the old file or the new one, whole.
 /// The names of the folder are not synced.
-pub(crate) fn put_file<F: Folder, S: Source>(
+pub fn put_in_place<F: Folder, S: Source>(
     folder: &mut F,
     alloc: Global,
     name: &str,

@@ -9,7 +9,7 @@ ghost use Rattle.saved_files.specs.Saved.{name_of, parts_of};
 use crate::file_fault::FileFault;
 use crate::folder::Folder;
 use crate::put_fault::PutFault;
-use crate::put_file::{fault_of, put_file};
+use crate::put_file::{fault_of, put_in_place};
 use crate::save_fault::SaveFault;
 use crate::saved_name::SavedName;
 use crate::source::Source;
@@ -95,7 +95,7 @@ fn save_file<F: Folder, S: Source<Fault = FileFault> + Drop>(
         let why = PutFault::Unmade(FileFault::OutOfMemory);
         return Err(SaveFault::Unsaved(file, why));
     };
-    match put_file(folder, alloc, name.as_str(), &mut source) {
+    match put_in_place(folder, alloc, name.as_str(), &mut source) {
         Ok(()) => Ok(()),
         Err(why) => Err(SaveFault::Unsaved(file, why)),
     }

@@ -16,7 +16,7 @@ use std::alloc::Global;
 use std::io::Write;
 
 /// What a file is made of: it writes the bytes.
-pub(crate) trait Source {
+pub trait Source {
     /// Why its bytes could not all be written.
     type Fault;
 

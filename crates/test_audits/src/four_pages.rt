@@ -81,6 +81,22 @@ const LAST: [[u64; 8]; 4] = [
     [4 * HIGH + 2, 1_408, 0, SET + 2 * HIGH, 0, 6, 0, 1_472],
 ];
 
+/// What undo appends: it takes back the changes of transaction 4, the last one first, and ends it.
+const UNDO: [[u64; 8]; 3] = [
+    [4 * HIGH + 3, 1_472, 1_408, SET + 2 * HIGH, 0, 0, 0, 1_536],
+    [
+        4 * HIGH + 3,
+        1_536,
+        1_344,
+        ADD + 61 * HIGH + 2,
+        0,
+        u64::MAX - 99,
+        0,
+        1_600,
+    ],
+    [4 * HIGH + 6, 1_600, 0, 0, 0, 0, 0, 1_664],
+];
+
 /// A change of a slot of a page, by the record with this LSN.
 #[derive(Clone, Copy)]
 struct Made {
@@ -174,6 +190,13 @@ fn log(alloc: Global) -> Result<Vec<u8>, Fail> {
     push_records(&mut bytes, &THIRD)?;
     push_records(&mut bytes, &THIRD_CHECKPOINT)?;
     push_records(&mut bytes, &LAST)?;
+    Ok(bytes)
+}
+
+/// The log with what undo appends.
+pub(crate) fn log_after_undo(alloc: Global) -> Result<Vec<u8>, Fail> {
+    let mut bytes = log(alloc)?;
+    push_records(&mut bytes, &UNDO)?;
     Ok(bytes)
 }
 

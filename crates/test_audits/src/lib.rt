@@ -8,7 +8,11 @@ mod bytes;
 #[cfg(test)]
 mod four_pages;
 #[cfg(test)]
+mod narrow;
+#[cfg(test)]
 mod readers;
+#[cfg(test)]
+mod restore_logs;
 #[cfg(test)]
 mod restore_order;
 #[cfg(test)]

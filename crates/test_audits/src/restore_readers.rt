@@ -5,10 +5,9 @@ use crate::bytes::name_format;
 use crate::four_pages::{
     Inputs, OF_FULL, OF_LOG, OF_MASTER, OF_SECOND, OF_THIRD, files, only, restored, slices, volume,
 };
+use crate::narrow::Narrow;
 use crate::readers::Trouble;
 use media_restore::RestoreFault;
-use std::io;
-use std::io::{ErrorKind, Write};
 use std::process::Abort;
 use std::test::Fail;
 use std::thread::Threads;
@@ -190,31 +189,6 @@ fn a_second_archive_is_interrupted_without_end(rt: HostRuntime) -> Result<(), Fa
 #[test]
 fn a_third_archive_is_interrupted_without_end(rt: HostRuntime) -> Result<(), Fail> {
     assert_interrupted(&rt, OF_THIRD)
-}
-
-/// Takes so many bytes at a call, and so many in all. Then it fails, or takes nothing.
-#[derive(Drop)]
-struct Narrow {
-    held: Vec<u8>,
-    step: usize,
-    room: usize,
-    fails: bool,
-}
-
-impl Write for Narrow {
-    fn write(&mut self, buf: &[u8]) -> io::Result<usize> {
-        let left = self.room.saturating_sub(self.held.len());
-        if left == 0 && self.fails {
-            return Err(ErrorKind::Other.into());
-        }
-        let count = buf.len().min(self.step).min(left);
-        self.held.extend_from_slice(&buf[..count])?;
-        Ok(count)
-    }
-
-    fn flush(&mut self) -> io::Result<()> {
-        Ok(())
-    }
 }
 
 /// Asserts what a writer with so much room has of the volume, and what is answered.

@@ -2,6 +2,7 @@
 
 use crate::asserts::same;
 use copy_vault::{ArchiveFault, ArchiveWriteFault, ChainFault, ChainReadFault, CopyFault, CopyId};
+use log_front::FrontFault;
 use log_store::LogReadFault;
 use page_core::{Lsn, PageNo};
 use std::alloc::AllocGlobal;
@@ -25,6 +26,13 @@ fn faults_of_a_log_have_lines(rt: HostRuntime) -> Result<(), Fail> {
     prints(&rt, &LogReadFault::ReadFault, "E33 ReadFault")?;
     prints(&rt, &LogReadFault::TooLong, "E34 TooLong")?;
     prints(&rt, &LogReadFault::BadChain(Lsn(192)), "E35 BadChain 192")
+}
+
+#[test]
+fn faults_of_a_front_have_lines(rt: HostRuntime) -> Result<(), Fail> {
+    prints(&rt, &FrontFault::OutOfMemory, "E1 OutOfMemory")?;
+    prints(&rt, &FrontFault::BadHeader, "E30 BadHeader")?;
+    prints(&rt, &FrontFault::ReadFault, "E33 ReadFault")
 }
 
 #[test]

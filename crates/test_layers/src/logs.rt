@@ -1,6 +1,7 @@
 //! What no clause says: the bytes of known logs, how a reader's failures are answered, and that
 //! each call succeeds.
 
+mod fronts;
 mod growth;
 mod readers;
 mod vectors;

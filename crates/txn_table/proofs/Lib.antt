@@ -2,6 +2,7 @@ pub mod Ahead
 pub mod Beside
 pub mod Comps
 pub mod Going
+pub mod NextRecords
 pub mod Owed
 pub mod Savepoints
 pub mod Searches

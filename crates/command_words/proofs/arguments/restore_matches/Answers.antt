@@ -1,7 +1,7 @@
 use Rattle.std.proofs.Common.{lit<, refl}
 use Rattle.command_words.specs.Command.{restore_app}
 use Rattle.command_words.proofs.ClapLemmas.{for_memory, matched, passed_up, taken}
-use Rattle.command_words.proofs.RequiredLemmas.{log_given, master_given}
+use Rattle.command_words.proofs.RestoreLemmas.{log_given, master_given}
 use Rattle.command_words.proofs.arguments.restore_matches.Goals as goal
 
 pub returns-in_err-try_get_matches_from-clause-only :

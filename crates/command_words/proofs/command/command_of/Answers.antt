@@ -1,8 +1,8 @@
 use Rattle.std.proofs.Common.{Some, ap, inr, map, refl, ◌∙◌}
-use Rattle.command_words.specs.Command.{audit_app, restore_app, run_app}
+use Rattle.command_words.specs.Command.{audit_app, open_app, restore_app, run_app}
 use Rattle.command_words.proofs.NameLemmas.{first_word, not_of_redo, only_by, taken_audit, taken_restore}
 use Rattle.command_words.proofs.NameLemmas.{audit_not_help, help_explains, not_help, read_as_they_stand, read_explains}
-use Rattle.command_words.proofs.NameLemmas.{taken_run}
+use Rattle.command_words.proofs.NameLemmas.{open_not_help, taken_open, taken_run}
 use Rattle.command_words.proofs.NameLemmas.{unknown, unknown_explains, unnamed}
 use Rattle.command_words.proofs.command.command_of.Goals as goal
 
@@ -12,6 +12,13 @@ returns-in-run-clause-only g c =
     let first = first_word g.S.AsStr.text c.args.words.now c.in-Some.name.now c.as_str.result.now
     c.in-Some.ensures.value c.as_str.ensures in
     only_by words run_app c.run_of.result (taken_run words (first ∙ ap Some c.in-run.is)) c.run_of.ensures.only
+
+pub returns-in-open-clause-only : goal.returns-in-open-clause-only
+returns-in-open-clause-only g c =
+    let words = map g.S.AsStr.text c.args.words.now in
+    let first = first_word g.S.AsStr.text c.args.words.now c.in-Some.name.now c.as_str.result.now
+    c.in-Some.ensures.value c.as_str.ensures in
+    only_by words open_app c.open_of.result (taken_open words (first ∙ ap Some c.in-open.is)) c.open_of.ensures.only
 
 pub returns-in-restore-clause-only : goal.returns-in-restore-clause-only
 returns-in-restore-clause-only g c =
@@ -34,6 +41,12 @@ returns-in-run-clause-redo g c =
     c.in-Some.ensures.value c.as_str.ensures in
     λ redo. absurd (not_of_redo _ c.as_str.result.now first c.in-run.not-redo redo)
 
+pub returns-in-open-clause-redo : goal.returns-in-open-clause-redo
+returns-in-open-clause-redo g c =
+    let first = first_word g.S.AsStr.text c.args.words.now c.in-Some.name.now c.as_str.result.now
+    c.in-Some.ensures.value c.as_str.ensures in
+    λ redo. absurd (not_of_redo _ c.as_str.result.now first c.in-open.not-redo redo)
+
 pub returns-in-restore-clause-redo : goal.returns-in-restore-clause-redo
 returns-in-restore-clause-redo g c =
     let first = first_word g.S.AsStr.text c.args.words.now c.in-Some.name.now c.as_str.result.now
@@ -51,7 +64,7 @@ returns-in_default-as_str-clause-only g c =
     let first = first_word g.S.AsStr.text c.args.words.now c.in-Some.name.now c.as_str.result.now
     c.in-Some.ensures.value c.as_str.ensures in
     λ taken. absurd (unnamed _ c.as_str.result.now first c.in_default-as_str.not-redo c.in_default-as_str.not-run
-    c.in_default-as_str.not-restore c.in_default-as_str.not-audit taken)
+    c.in_default-as_str.not-open c.in_default-as_str.not-restore c.in_default-as_str.not-audit taken)
 
 pub returns-in_default-as_str-clause-redo : goal.returns-in_default-as_str-clause-redo
 returns-in_default-as_str-clause-redo g c =
@@ -70,6 +83,12 @@ run_of-requires g c =
     let first = first_word g.S.AsStr.text c.args.words.now c.in-Some.name.now c.as_str.result.now
     c.in-Some.ensures.value c.as_str.ensures in
     first ∙ ap Some c.in-run.is
+
+pub open_of-requires : goal.open_of-requires
+open_of-requires g c =
+    let first = first_word g.S.AsStr.text c.args.words.now c.in-Some.name.now c.as_str.result.now
+    c.in-Some.ensures.value c.as_str.ensures in
+    first ∙ ap Some c.in-open.is
 
 pub restore_of-requires : goal.restore_of-requires
 restore_of-requires g c =
@@ -97,6 +116,13 @@ returns-in-run-clause-explained g c =
     read_explains (map g.S.AsStr.text c.args.words.now) _ c.run_of.result (read_as_they_stand _ c.as_str.result.now first
     (not_help _ _ c.in-run.is refl)) c.run_of.ensures.explained
 
+pub returns-in-open-clause-explained : goal.returns-in-open-clause-explained
+returns-in-open-clause-explained g c =
+    let first = first_word g.S.AsStr.text c.args.words.now c.in-Some.name.now c.as_str.result.now
+    c.in-Some.ensures.value c.as_str.ensures in
+    read_explains (map g.S.AsStr.text c.args.words.now) _ c.open_of.result (read_as_they_stand _ c.as_str.result.now first
+    (open_not_help _ c.in-open.is)) c.open_of.ensures.explained
+
 pub returns-in-restore-clause-explained : goal.returns-in-restore-clause-explained
 returns-in-restore-clause-explained g c =
     let first = first_word g.S.AsStr.text c.args.words.now c.in-Some.name.now c.as_str.result.now
@@ -116,7 +142,7 @@ returns-in_default-as_str-clause-explained g c =
     let first = first_word g.S.AsStr.text c.args.words.now c.in-Some.name.now c.as_str.result.now
     c.in-Some.ensures.value c.as_str.ensures in
     let unknown_word = unknown c.as_str.result.now c.in_default-as_str.not-redo c.in_default-as_str.not-run
-    c.in_default-as_str.not-restore c.in_default-as_str.not-audit c.in_default-as_str.not-help
+    c.in_default-as_str.not-open c.in_default-as_str.not-restore c.in_default-as_str.not-audit c.in_default-as_str.not-help
     c.in_default-as_str.not-text c.in_default-as_str.not-text-2 in
     unknown_explains (map g.S.AsStr.text c.args.words.now) _ c.fault_of_unknown.result first c.in_default-as_str.not-help
     (c.fault_of_unknown.ensures unknown_word)

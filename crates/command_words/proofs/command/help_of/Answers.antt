@@ -1,7 +1,7 @@
 use Rattle.std.proofs.Common.{IfErr, [], codes, refl, subst, sym, ◌∷◌}
-use Rattle.command_words.specs.Command.{ExplainsRead, audit_app, redo_into_app, restore_app, run_app}
-use Rattle.command_words.proofs.ClapLemmas.{help_of_audit, help_of_redo, help_of_restore, help_of_run}
-use Rattle.command_words.proofs.NameLemmas.{help_gives_none, taken_audit, taken_restore, taken_run}
+use Rattle.command_words.specs.Command.{ExplainsRead, audit_app, open_app, redo_into_app, restore_app, run_app}
+use Rattle.command_words.proofs.ClapLemmas.{help_of_audit, help_of_open, help_of_redo, help_of_restore, help_of_run}
+use Rattle.command_words.proofs.NameLemmas.{help_gives_none, taken_audit, taken_open, taken_restore, taken_run}
 use Rattle.command_words.proofs.RedoLemmas.{help_is_other, taken_redo_into}
 use Rattle.command_words.proofs.command.help_of.Goals as goal
 
@@ -25,6 +25,16 @@ pub returns-in-run-clause-explained : goal.returns-in-run-clause-explained
 returns-in-run-clause-explained c =
     subst (λ name. IfErr c.run_of.result (ExplainsRead (name ∷ codes "--help" ∷ []))) (sym c.in-run.is)
     c.run_of.ensures.explained
+
+pub returns-in-open-clause-refused : goal.returns-in-open-clause-refused
+returns-in-open-clause-refused c =
+    let words = codes "open" ∷ codes "--help" ∷ [] in
+    help_gives_none words open_app c.open_of.result c.open_of.ensures.ok (taken_open words refl) help_of_open
+
+pub returns-in-open-clause-explained : goal.returns-in-open-clause-explained
+returns-in-open-clause-explained c =
+    subst (λ name. IfErr c.open_of.result (ExplainsRead (name ∷ codes "--help" ∷ []))) (sym c.in-open.is)
+    c.open_of.ensures.explained
 
 pub returns-in-restore-clause-refused : goal.returns-in-restore-clause-refused
 returns-in-restore-clause-refused c =

@@ -1,4 +1,4 @@
-use Rattle.std.proofs.Common.{ap, codes, refl, sym, ◌∙◌}
+use Rattle.std.proofs.Common.{ap, codes, refl, ◌∙◌}
 use Rattle.std.specs.Str.{bytes_eq}
 use Rattle.command_words.proofs.RedoLemmas.{one_word, two_words}
 use Rattle.command_words.proofs.command.is_redo.Goals as goal

@@ -16,4 +16,6 @@ returns-clause-ok g c =
       c.in_ok-archives.ensures ∙ ap (λ (o : Option (List Text)). unwrap_or o [])
           (raw_values-rows found (codes "archive") ∙ ap (all_of (codes "archive")) rows),
       c.get_str-output.ensures ∙ (first_value-rows found (codes "into") ∙ ap (first_of (codes "into")) rows),
+      c.get_str-log_output.ensures
+          ∙ (first_value-rows found (codes "log_into") ∙ ap (first_of (codes "log_into")) rows),
     )

@@ -9,15 +9,15 @@ returns-in-7-clause-only c =
 
 pub returns-in-8-clause-only : goal.returns-in-8-clause-only
 returns-in-8-clause-only c =
-    pages_answers c.args.bytes.now c.args.at c.u64_at.result c.u32_at.result c.pages_in.result c.if_written-in-8.result
-    c.in-8.is c.u32_at.ensures.only c.u64_at.ensures.only c.pages_in.ensures c.if_written-in-8.ensures.only
+    pages_answers c.args.bytes.now c.args.at c.u64_at.result c.u32_at.result c.pages_in-pages.result
+    c.if_written-in-8.result c.in-8.is c.u32_at.ensures.only c.u64_at.ensures.only c.pages_in-pages.ensures c.if_written-in-8.ensures.only
 
 pub returns-in-9-clause-only : goal.returns-in-9-clause-only
 returns-in-9-clause-only c =
     txns_answers c.args.bytes.now c.args.at c.u64_at.result c.u32_at.result c.u32_at-in-9.result c.u32_at-in-9-2.result
-    c.phase_of.result c.u64_at-in-9.result c.u64_at-in-9-2.result c.if_written-in-9.result c.in-9.is
+    c.phase_of-state.result c.u64_at-in-9.result c.u64_at-in-9-2.result c.if_written-in-9.result c.in-9.is
     c.u32_at.ensures.only c.u64_at.ensures.only c.u32_at-in-9.ensures.only c.u32_at-in-9-2.ensures.only
-    c.phase_of.ensures c.u64_at-in-9.ensures.only c.u64_at-in-9-2.ensures.only c.if_written-in-9.ensures.only
+    c.phase_of-state.ensures c.u64_at-in-9.ensures.only c.u64_at-in-9-2.ensures.only c.if_written-in-9.ensures.only
 
 pub returns-in-10-clause-only : goal.returns-in-10-clause-only
 returns-in-10-clause-only c =

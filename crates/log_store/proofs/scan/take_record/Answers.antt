@@ -1,11 +1,33 @@
-use Rattle.std.proofs.Common.{rules, ℕ, ◌+◌, ◌*◌, List, sym, ap, subst, arith, length}
+use Rattle.std.proofs.Common.{◌≡◌, ℕ, ◌+◌, ◌*◌, ◌++◌, List, sym, ap, subst, arith, length}
+use Rattle.std.specs.Prelude.{IfErr, Result}
 use Rattle.std.proofs.lemmas.List.{length-append}
 use Rattle.page_core.specs.declared.page.Page.{Page}
-use Rattle.log_records.specs.Log.{IsWithin, StandsAt, page_count}
-use Rattle.log_history.proofs.Followed.{gives_more, made_next, may_come, may_follow}
-use Rattle.log_store.proofs.Scans.{pages_are, pages_fit, taken_bad_chain, taken_bad_record, taken_next, taken_too_long}
-use Rattle.log_store.proofs.Scans.{valid_with}
+use Rattle.page_core.specs.declared.format.Format.{Format}
+use Rattle.log_records.specs.declared.record.Record.{Record}
+use Rattle.log_records.specs.Log.{IsOfFormat, Log, StandsAt}
+use Rattle.log_records.specs.Record.{record_bytes}
+use Rattle.log_history.specs.History.{Made}
+use Rattle.log_store.specs.declared.fault.LogReadFault.{LogReadFault}
+use Rattle.log_store.specs.Fault.{Refuses}
+use Rattle.log_store.specs.Scan.{HasTaken}
+use Rattle.log_store.proofs.Scans.{if_err, pages_fit, taken_bad_record, taken_too_long}
 use Rattle.log_store.proofs.scan.take_record.Goals as goal
+
+-- the fault of a record that these bytes spell
+first_of : {S T : Type 0} (holds : S → Log → Type 0) (format : Format) (sink : S) (made : Made) (count : ℕ)
+    (r : Record) (bytes : List ℕ) (answer : Result T LogReadFault) → IsOfFormat format r → bytes ≡ record_bytes r
+    → IfErr answer (λ fault. (f : Format) (given rest : List ℕ) → IsOfFormat f r → HasTaken holds f sink made count given
+    → Refuses (given ++ (record_bytes r ++ rest)) fault)
+    → IfErr answer (λ fault. (given rest : List ℕ) → HasTaken holds format sink made count given
+    → Refuses (given ++ (bytes ++ rest)) fault)
+first_of holds format sink made count r bytes answer of_format e first =
+    if_err answer
+    (λ fault. (f : Format) (given rest : List ℕ) → IsOfFormat f r → HasTaken holds f sink made count given
+    → Refuses (given ++ (record_bytes r ++ rest)) fault)
+    (λ fault. (given rest : List ℕ) → HasTaken holds format sink made count given
+    → Refuses (given ++ (bytes ++ rest)) fault)
+    (λ fault said. λ given rest taken. subst (λ (bs : List ℕ). Refuses (given ++ (bs ++ rest)) fault) (sym e)
+    (said format given rest of_format taken)) first
 
 pub returns-then-count-ge-MAX_RECORDS-clause-first : goal.returns-then-count-ge-MAX_RECORDS-clause-first
 returns-then-count-ge-MAX_RECORDS-clause-first g c = λ given rest taken.
@@ -21,64 +43,32 @@ overflow_cast-pages g c = omega (
       c.requires.so_far.1,
 )
 
-pub follow-requires-clause-within : goal.follow-requires-clause-within
-follow-requires-clause-within g c =
-    subst (λ (pages : List Page). IsWithin (length pages) c.in-Some.record) c.pages.ensures
-    c.in-Some.ensures.found.0.within
-
-pub returns-in_default-clause-first : goal.returns-in_default-clause-first
-returns-in_default-clause-first g c = λ given rest taken.
+pub returns-in_default-record_at-clause-first : goal.returns-in_default-record_at-clause-first
+returns-in_default-record_at-clause-first g c = λ given rest taken.
     taken_bad_record g.S.RecordSink.holds c.args.format c.args.sink.now c.args.history.now c.args.count given taken
-    c.args.bytes.now rest (omega arith) c.requires.whole (λ r stands of_format e. cc (c.in_default.ensures.only r
+    c.args.bytes.now rest (omega arith) c.requires.whole (λ r stands of_format e.
+    cc (c.in_default-record_at.ensures.only r
     (subst (λ (pages : List Page). StandsAt (length pages) (64 * (c.args.count + 1)) r) (sym c.pages.ensures) stands) of_format e))
 
-pub returns-then-not-branch-clause-first : goal.returns-then-not-branch-clause-first
-returns-then-not-branch-clause-first g c = λ given rest taken.
-    let r = c.in-Some.record in
-    let made = c.args.history.now in
-    let stands : StandsAt (length made.pages) (64 * (c.args.count + 1)) r =
-    subst (λ (pages : List Page). StandsAt (length pages) (64 * (c.args.count + 1)) r) c.pages.ensures c.in-Some.ensures.found.0 in
-    let within : IsWithin (page_count taken.log) r = subst (λ (n : ℕ). IsWithin n r)
-    (pages_are g.S.RecordSink.holds c.args.format c.args.sink.now made c.args.count given taken) stands.within in
-    taken_bad_chain g.S.RecordSink.holds c.args.format c.args.sink.now made c.args.count given taken r
-    c.args.bytes.now rest
-    (omega arith)
-    stands c.in-Some.ensures.found.1 c.in-Some.ensures.found.2
-    (λ may. let yes = c.in_ok-follow.ensures.refused (may_come taken.log made r taken.made_of
-    taken.spells.valid c.in-Some.ensures.found.0.valid within may.1 may.0) in
-    absurd (search rules))
+pub take_found-requires-in-Some-step_at-clause-stands : goal.take_found-requires-in-Some-step_at-clause-stands
+take_found-requires-in-Some-step_at-clause-stands g c =
+    c.in-Some-step_at.ensures.found.0 (length c.args.history.now.pages)
 
-pub take-requires : goal.take-requires
-take-requires g c =
-    let taken = c.requires.so_far.1 in (
-      taken.log,
-      (
-        taken.held,
-        valid_with g.S.RecordSink.holds c.args.format c.args.sink.now c.args.history.now c.args.count c.requires.so_far.0
-            taken c.in-Some.record (omega arith)
-            (subst (λ (pages : List Page). StandsAt (length pages) (64 * (c.args.count + 1)) c.in-Some.record) c.pages.ensures
-            c.in-Some.ensures.found.0)
-            (gives_more taken.log c.args.history.now c.in-Some.record taken.made_of
-            (c.in_ok-follow.ensures.taken (search rules)).0),
-      ),
-    )
+pub returns-in-Some-clause-first : goal.returns-in-Some-clause-first
+returns-in-Some-clause-first g c =
+    let found = c.in-Some.ensures.found in
+    first_of g.S.RecordSink.holds c.args.format c.args.sink.now c.args.history.now c.args.count c.in-Some.update
+    c.args.bytes.now c.take_found.result (found.1 c.args.format) found.2 c.take_found.ensures.first
 
-pub returns-clause-ok : goal.returns-clause-ok
-returns-clause-ok g c = λ given taken.
-    let r = c.in-Some.record in
-    let old = c.args.history.now in
-    let new = c.follow.new.self in
-    let stands : StandsAt (length old.pages) (64 * (c.args.count + 1)) r =
-    subst (λ (pages : List Page). StandsAt (length pages) (64 * (c.args.count + 1)) r) c.pages.ensures c.in-Some.ensures.found.0 in
-    let within : IsWithin (page_count taken.log) r = subst (λ (n : ℕ). IsWithin n r)
-    (pages_are g.S.RecordSink.holds c.args.format c.args.sink.now old c.args.count given taken) stands.within in
-    let said = c.in_ok-follow.ensures.taken (search rules) in
-    let may = may_follow taken.log old r taken.made_of taken.spells.valid
-    c.in-Some.ensures.found.0.valid within said.0 in
-    let more = gives_more taken.log old r taken.made_of said.0 in
-    let valid = valid_with g.S.RecordSink.holds c.args.format c.args.sink.now old c.args.count given
-    taken r (omega arith) stands more in
-    taken_next g.S.RecordSink.holds c.args.format c.args.sink.now old c.args.count given taken c.take.new.self new r
-    c.args.bytes.now (omega arith) stands more c.in-Some.ensures.found.1 c.in-Some.ensures.found.2 may
-    (made_next taken.log old new r taken.linked taken.made_of taken.spells.valid more may said.1)
-    (c.in_ok-take.ensures taken.log taken.held valid)
+pub returns-in-Some-step_at-clause-first : goal.returns-in-Some-step_at-clause-first
+returns-in-Some-step_at-clause-first g c =
+    let found = c.in-Some-step_at.ensures.found in
+    first_of g.S.RecordSink.holds c.args.format c.args.sink.now c.args.history.now c.args.count c.in-Some-step_at.step
+    c.args.bytes.now c.take_found-in-Some-step_at.result (found.1 c.args.format) found.2
+    c.take_found-in-Some-step_at.ensures.first
+
+pub returns-clause-first : goal.returns-clause-first
+returns-clause-first g c =
+    let found = c.in-Some-record_at.ensures.found in
+    first_of g.S.RecordSink.holds c.args.format c.args.sink.now c.args.history.now c.args.count
+    c.in-Some-record_at.other c.args.bytes.now c.take_found-2.result found.1 found.2 c.take_found-2.ensures.first

@@ -2,7 +2,7 @@ use Rattle.std.proofs.Common.{◌+◌, ◌-◌, ◌<◌, ◌≤◌, ◌++◌, �
 use Rattle.std.specs.Io.KnownBytes.{Appends}
 use Rattle.std.proofs.KnownBytes.{Appends-trans}
 use Rattle.std.proofs.lemmas.List.{length-append, length-take, length-drop}
-use Rattle.page_core.specs.Page.{volume_bytes}
+use Rattle.page_core.specs.Page.{page_bytes, volume_bytes}
 use Rattle.page_core.proofs.Pieces.{into}
 use Rattle.media_restore.proofs.Groups.{group, further, whole}
 use Rattle.media_restore.proofs.volume_output.write_volume.Goals as goal
@@ -21,7 +21,7 @@ returns-in-Err-clause-within g c =
       arith,
       part,
       c.loop-first.invariant.count,
-      ap length (whole pages first count),
+      ap length (whole page_bytes pages first count),
       length-append one (two ++ three),
       length-append two three,
     )
@@ -43,7 +43,7 @@ returns-in-Err-clause-err g c =
     (take c.in-Err.part bs)) bytes c.in-Err.ensures.err in
     subst (Appends (g.W.Write.contents c.args.writer.now) (g.W.Write.contents c.write_out.new.writer))
     (into one two three c.loop-first.done c.in-Err.part c.loop-first.invariant.count part
-    ∙ ap (take (c.loop-first.done + c.in-Err.part)) (whole pages first count))
+    ∙ ap (take (c.loop-first.done + c.in-Err.part)) (whole page_bytes pages first count))
     (Appends-trans _ _ _ one (take c.in-Err.part two) c.loop-first.invariant.written sent)
 
 pub loop-first-preserved : goal.loop-first-preserved
@@ -64,7 +64,7 @@ loop-first-preserved g c =
         arith,
         c.loop-first.invariant.count,
         c.put_pages-filled.ensures.count,
-        ap length (further pages first count),
+        ap length (further page_bytes pages first count),
         length-append one two,
       );
       small = omega (
@@ -75,6 +75,6 @@ loop-first-preserved g c =
         length-drop first pages,
       );
       written = subst (Appends (g.W.Write.contents c.args.writer.now) (g.W.Write.contents c.write_out.new.writer))
-          (further pages first count)
+          (further page_bytes pages first count)
           (Appends-trans _ _ _ one two c.loop-first.invariant.written sent);
     }

@@ -1,0 +1,259 @@
+"""Tries `imgcopy open` on folders that hold something of each kind, and with lines of each kind.
+
+usage: python3 -m checks.open_cases PROGRAM
+
+What is refused is left as it is: a log with no header, or of the first format, or of another page count; a folder without
+a log, but with what only a log leaves; a folder that another one has open, or that is not there; one where no page count
+was told. A log that was cut off before it had its header is made anew. Of copies: each reason why one is not taken up,
+and that a file whose name would be given again gets another name. Of lines: bad ones, long ones, a last one without a
+line feed, and those that are answered while more of them come. Then streams that fail.
+"""
+
+import os
+import subprocess
+import sys
+import tempfile
+from pathlib import Path
+
+from checks.bank_files import Failure, program_of
+from model.log_format import encode_header
+from model.recovery import ARCHIVE, ARCHIVE_MAGIC, FULL, INCREMENTAL, Page
+
+MOST_SECONDS = 60
+CHECKPOINT = b"ckpt\ngather\ngather\ngather\nendckpt\n"
+FULL_COPY = b"full\ntake 1 0\ntake 1 1\nseal 1\n"
+NOT_THERE = "No such file or directory (os error 2)"
+
+
+class Program:
+    def __init__(self, path, place):
+        self.path, self.place, self.checks, self.folders = path, place, 0, 0
+
+    def folder(self, **files):
+        """A new folder with these files."""
+        self.folders += 1
+        folder = self.place / f"f{self.folders}"
+        folder.mkdir()
+        for name, data in files.items():
+            (folder / name.replace("_", "-")).write_bytes(data)
+        return folder
+
+    def run(self, folder, *words, data=b"", **streams):
+        source = {} if "stdin" in streams else {"input": data}
+        return subprocess.run([self.path, "open", folder, *words], **source, timeout=MOST_SECONDS,
+                              **{"stdout": subprocess.PIPE, "stderr": subprocess.PIPE} | streams)
+
+    def check(self, what, done, status, out, *lines):
+        said = done.stderr.decode(errors="replace")
+        wanted = status, None if out is None else out.encode(), "".join(f"{line}\n" for line in lines)
+        if (done.returncode, done.stdout, said) != wanted:
+            raise Failure(f"{what}: status {done.returncode}, {done.stdout!r:.300}, standard error {said!r:.500}")
+        self.checks += 1
+
+    def refuse(self, what, folder, words, *lines):
+        """The folder is refused, with these lines, and nothing in it is touched."""
+        before = contents(folder)
+        self.check(what, self.run(folder, *words), 2, "", *lines)
+        if contents(folder) != before:
+            raise Failure(f"{what}: the folder was {sorted(before)}, and is {sorted(contents(folder))}")
+
+
+def contents(folder):
+    return {path.name: path.read_bytes() for path in folder.iterdir() if path.is_file()} if folder.is_dir() else {}
+
+
+def check_new(program):
+    folder = program.folder()
+    program.refuse("a new database without a count", folder, [],
+                   f"imgcopy: {folder}: there is no log: name the page count of a new database by --pages")
+    program.check("a new database", program.run(folder, "--pages", "4"), 0, "new: 4 pages\n")
+    program.check("again", program.run(folder), 0, "restarted: log cut at 64, 0 transactions taken back, 0 records\n")
+    program.refuse("another count", folder, ["--pages", "5"],
+                   f"imgcopy: {folder}/log: it was made with 4 pages, and --pages says 5")
+    program.check("the same count", program.run(folder, "--pages", "4"), 0,
+                  "restarted: log cut at 64, 0 transactions taken back, 0 records\n")
+    for data in (b"", b"AIMGLOG2", bytes(63), bytes(64)):
+        folder = program.folder(log=data)
+        program.check(f"a log of {len(data)} bytes", program.run(folder, "--pages", "1"), 0, "new: 1 page\n")
+        if contents(folder)["log"] != encode_header(1):
+            raise Failure(f"a log of {len(data)} bytes was not made anew")
+    missing = program.place / "missing"
+    program.refuse("a folder that is not there", missing, ["--pages", "1"], "E29 WriteFault 0",
+                   f"imgcopy: {missing}: {NOT_THERE}")
+
+
+def check_refusals(program):
+    for what, data in (("other bytes", b"x" * 64), ("a text", b"a text of another program\n" * 9),
+                       ("an archive", ARCHIVE_MAGIC + bytes(56)), ("a log of the first format", encode_header(2, b"AIMGLOG1")), ("no pages", encode_header(0)),
+                       ("65 zero bytes", bytes(65))):
+        folder = program.folder(log=data)
+        program.refuse(f"{what} as the log", folder, ["--pages", "2"], "E30 BadHeader",
+                       f"imgcopy: {folder}/log: it has no header of a log of format 2")
+    for files, name in (({"copy_3": b"", "copy_12": b""}, "copy-3"), ({"master": b""}, "master"),
+                        ({"volume": b""}, "volume"), ({"log": b"", "copy_1": b"x"}, "copy-1"), ({"log": bytes(64), "master": b"x"}, "master")):
+        folder = program.folder(**files)
+        program.refuse(f"{sorted(files)} and no log", folder, ["--pages", "2"], "E33 ReadFault",
+                       f"imgcopy: {folder}/{name}: this is there, but no log")
+    folder = program.folder()
+    (folder / "log").mkdir()
+    program.refuse("a folder as the log", folder, ["--pages", "2"], "E33 ReadFault",
+                   f"imgcopy: {folder}/log: Is a directory (os error 21)")
+    folder = program.folder()
+    os.mkfifo(folder / "log")
+    program.refuse("a pipe as the log", folder, ["--pages", "2"], "E33 ReadFault",
+                   f"imgcopy: {folder}/log: this is no regular file")
+    folder = program.folder()
+    (folder / "volume").mkdir()
+    (folder / "log").touch()
+    program.check("a folder as the volume", program.run(folder, "--pages", "2"), 2, "", "E22 StoreFault",
+                  f"imgcopy: {folder}/volume: Is a directory (os error 21)")
+
+
+def check_claim(program):
+    folder = program.folder()
+    words = [program.path, "open", folder, "--pages", "2"]
+    first = subprocess.Popen(words, stdin=subprocess.PIPE, stdout=subprocess.PIPE)
+    if first.stdout.readline() != b"new: 2 pages\n":
+        raise Failure("the first one is not open")
+    program.refuse("a folder that is open", folder, [], "E29 WriteFault 0",
+                   f"imgcopy: {folder}: another one has this folder open")
+    for line, reply in ((b"begin\n", b"began 1 at 64\n"), (b"se", b""),
+                        (b"t 1 0 0 5\nread 0 0\n", b"lsn 128\nvalue 5\n")):
+        first.stdin.write(line)
+        first.stdin.flush()
+        given = b"".join(first.stdout.readline() for _ in range(reply.count(b"\n")))
+        if given != reply:
+            raise Failure(f"{line!r} is answered by {given!r}")
+    first.kill()
+    first.communicate()
+    program.check("a folder whose owner was killed", program.run(folder, data=b"read 0 0\n"), 0,
+                  "restarted: log cut at 64, 0 transactions taken back, 0 records\nvalue 0\n")
+
+
+def archive(pages=2, number=1, parent=0, begin=64, redo=64, taken=None, bodies=None):
+    bodies = [Page(page).encode() for page in range(pages)] if bodies is None else bodies
+    header = ARCHIVE.pack(ARCHIVE_MAGIC, pages, number, INCREMENTAL if parent else FULL, parent, begin, redo,
+                          len(bodies) if taken is None else taken)
+    return header + b"".join(bodies)
+
+
+def check_copies(program):
+    base = program.folder()
+    script = b"begin\nset 1 0 0 5\ncommit 1\nwbegin 0\nwend 0\n" + CHECKPOINT + FULL_COPY
+    done = program.run(base, "--pages", "2", data=script)
+    files = contents(base)
+    if done.returncode != 0 or done.stderr or sorted(files) != ["copy-1", "log", "master", "volume"]:
+        raise Failure(f"a database with a copy: {done!r:.300}")
+    log, copy, begin = files["log"], files["copy-1"], 256
+    other = bytearray(copy)
+    other[64 + 16] ^= 1
+    reasons = [
+        (b"", "no archive begins like this"), (copy[:-1], "no page of the archive stands at 576"),
+        (copy[:576], "it has not as many pages as its header says"),
+        (copy + b"x", "it has not as many pages as its header says"),
+        (archive(number=2), "it is copy 2"), (archive(begin=64 * 99), "it did not begin in this log"),
+        (archive(pages=3), "it did not begin in this log"), (bytes(other), "page 0 is not what the log made of it"),
+        (archive(begin=begin, redo=begin), "page 0 is not what the log made of it"),
+    ]
+    line = "restarted: log cut at 384, 0 transactions taken back, 5 records\n"
+    for data, why in reasons:
+        folder = program.folder(log=log, copy_1=data)
+        program.check(f"a copy: {why}", program.run(folder), 0, line, f"imgcopy: {folder}/copy-1: {why}",
+                      f"imgcopy: {folder}/copy-1: it is now copy-1.refused")
+        if (folder / "copy-1").exists() or (folder / "copy-1.refused").read_bytes() != data:
+            raise Failure(f"a copy: {why}: it has not its other name")
+    folder = program.folder(log=log, copy_1=copy, copy_2=archive(number=2, parent=1, bodies=[]),
+                            copy_4=archive(number=4, parent=3, bodies=[]), copy_2000=copy)
+    (folder / "copy-4.refused").touch()
+    program.check("a chain", program.run(folder, data=b"inc 2\n"), 0, line + "copy 3\n",
+                  f"imgcopy: {folder}/copy-4: the copy that it stands on was not taken up",
+                  f"imgcopy: {folder}/copy-2000: it is copy 1",
+                  f"imgcopy: {folder}/copy-4: it is now copy-4.refused-2")
+    folder = program.folder(log=log, copy_1=b"spoiled", copy_3=archive(number=3, begin=begin, redo=64))
+    program.check("a spoiled copy below a sound one", program.run(folder, data=b"full\n"), 0, line + "copy 4\n",
+                  f"imgcopy: {folder}/copy-1: no archive begins like this")
+    if (folder / "copy-1").read_bytes() != b"spoiled":
+        raise Failure("a spoiled copy whose id is not given again has another name")
+    folder = program.folder(log=log)
+    os.mkfifo(folder / "copy-1")
+    (folder / "copy-2").mkdir()
+    (folder / "copy-3").symlink_to("nowhere")
+    program.check("copies that are no files", program.run(folder), 0, line,
+                  f"imgcopy: {folder}/copy-1: this is no regular file",
+                  f"imgcopy: {folder}/copy-2: this is no regular file", f"imgcopy: {folder}/copy-3: {NOT_THERE}",
+                  *(f"imgcopy: {folder}/copy-{number}: it is now copy-{number}.refused" for number in (1, 2, 3)))
+    folder = program.folder(log=log, copy_1=copy)
+    for name in ("copy-2.unfinished-1", "master.unfinished-7", "copy-1.unfinished", "log.unfinished-1"):
+        (folder / name).touch()
+    program.check("unfinished files", program.run(folder), 0, line)
+    if sorted(contents(folder)) != ["copy-1", "copy-1.unfinished", "log", "log.unfinished-1", "master", "volume"]:
+        raise Failure(f"unfinished files: {sorted(contents(folder))}")
+    check_unwritten(program, log, copy)
+
+
+def check_unwritten(program, log, copy):
+    """Where a copy or a master record cannot be put in place, that is told, and the database goes on."""
+    folder = program.folder(log=log)
+    (folder / "master").mkdir()
+    (folder / "master" / "x").touch()
+    script = FULL_COPY + b"inc 1\ntake 2 0\ntake 2 1\nseal 2\n"
+    (folder / "copy-2.refused").touch()
+    done = program.run(folder, data=script)
+    said = done.stderr.decode()
+    if done.returncode != 0 or not said.startswith(f"imgcopy: {folder}/master: not written: "):
+        raise Failure(f"a folder as the master record: {done.returncode}, {said!r:.300}")
+    wanted = ["copy-1", "copy-2", "copy-2.refused", "log", "volume"]
+    if sorted(contents(folder)) != wanted or contents(folder)["copy-1"] != copy:
+        raise Failure(f"the copies of a folder without a master record: {sorted(contents(folder))}")
+    program.checks += 1
+
+
+def check_lines(program):
+    folder = program.folder()
+    long = b"#" * 1024
+    lines = [b"begin", b"", b"# a line", b"  set  1 0 0 5  ", b"\r", b"begin 1", long, long + b"#", b"x" * 100_000,
+             b"commit 1\r", b"\xff", b"restore 1 all", b"  ", b"\x1b[2J", b"read 0 0"]
+    errors = ["line 6: `begin` takes 0 numbers, and 1 stands here", "line 8: over 1024 bytes", "line 9: over 1024 bytes",
+              "line 11: not UTF-8", "line 12: an open database has no `restore`", "line 13: it has spaces alone",
+              "line 14: unknown call `\\u{1b}[2J`"]
+    program.check("lines of each kind", program.run(folder, "--pages", "1", data=b"\n".join(lines)), 0,
+                  "new: 1 page\nbegan 1 at 64\nlsn 128\nlsn 192\nvalue 5\n", *(f"imgcopy: {error}" for error in errors))
+    many = b"read 0 0\n" * 2_000
+    program.check("many lines", program.run(folder, data=many), 0,
+                  "restarted: log cut at 256, 0 transactions taken back, 3 records\n" + "value 5\n" * 2_000)
+    done = program.run(folder, "--frames", "1", data=b"begin\nset 2 0 0 6\nread 0 0\n")
+    program.check("a change", done, 0,
+                  "restarted: log cut at 256, 0 transactions taken back, 3 records\nbegan 2 at 256\nlsn 320\nvalue 6\n")
+
+
+def check_streams(program):
+    folder = program.folder()
+    with open("/dev/full", "wb") as full:
+        program.check("an output that is full", program.run(folder, "--pages", "1", stdout=full), 2, None,
+                      "E29 WriteFault 0", "imgcopy: standard output: No space left on device (os error 28)")
+    source = os.open(folder, os.O_RDONLY)
+    program.check("an input that cannot be read", program.run(folder, stdin=source), 2,
+                  "restarted: log cut at 64, 0 transactions taken back, 0 records\n", "imgcopy: input",
+                  "imgcopy: standard input: Is a directory (os error 21)")
+    os.close(source)
+    done = subprocess.run(["sh", "-c", f'exec "{program.path}" open "{folder}" <&- >&- 2>&-'], timeout=MOST_SECONDS)
+    if done.returncode != 2 or contents(folder)["log"] != encode_header(1):
+        raise Failure(f"closed streams: status {done.returncode}, and a log of {len(contents(folder)['log'])} bytes")
+    program.checks += 1
+
+
+def main(arguments):
+    try:
+        if len(arguments) != 1:
+            raise Failure("usage: python3 -m checks.open_cases PROGRAM")
+        with tempfile.TemporaryDirectory() as place:
+            program = Program(program_of(arguments[0]), Path(place))
+            for check in (check_new, check_refusals, check_claim, check_copies, check_lines, check_streams):
+                check(program)
+    except (Failure, OSError, subprocess.SubprocessError) as failure:
+        sys.exit(f"open_cases.py: {failure}")
+    print(f"ok open_cases: {program.checks} folders and inputs of each kind are answered as they should be")
+
+
+if __name__ == "__main__":
+    main(sys.argv[1:])

@@ -1,0 +1,94 @@
+//! An engine that goes on where an older one was lost.
+
+ghost use Rattle.std.specs.Prelude.{◌≡◌, ◌≤◌, length, IfErr, IfOk};
+ghost use Rattle.std.specs.Option.{option_map};
+ghost use Rattle.buffer_pool.specs.Pool.{IsFrameCount};
+ghost use Rattle.fuzzy_ckpt.specs.Ckpt.{gathered_ckpt};
+ghost use Rattle.fuzzy_ckpt.specs.LogCheckpoints.{IsLastPoint};
+ghost use Rattle.log_records.specs.Image.{redo_all};
+ghost use Rattle.log_records.specs.Log.{lsn_of, page_count};
+ghost use Rattle.log_store.specs.WrittenLog.{HoldsLog};
+ghost use Rattle.aries_core.specs.OpenCkpt.{view_of};
+ghost use Rattle.aries_core.specs.Resumed.{IsLeftBy, MayResume, resumed_state};
+
+use crate::engine::Engine;
+use crate::open_ckpt::OpenCkpt;
+use buffer_pool::Pool;
+use copy_vault::Vault;
+use fuzzy_ckpt::{Ckpt, Gathered, LogCheckpoints, checkpoints_of};
+use log_store::{Log, LogDevice, LogImage};
+use page_core::Page;
+use page_store::PageStore;
+use std::alloc::Global;
+use txn_table::{TablesFault, tables_of};
+
+/// What an older engine left: a log in which no transaction is open any more, and the image copies
+/// that are at hand.
+#[derive(Drop)]
+pub struct Legacy {
+    pub log: LogImage,
+    /// The copies. Each is complete or dropped.
+    pub vault: Vault,
+}
+
+impl<S: PageStore + Drop, D: LogDevice + Drop> Engine<S, D> {
+    /// An engine that goes on where an older one was lost, over a store that has these pages, in
+    /// order of their numbers, as the log makes them, and a device that has the log. No page is in
+    /// memory, and none is dirty. The master is the log's last complete checkpoint. If a checkpoint
+    /// is open, its gather has ended, and it may be ended: each page is stored, and no transaction
+    /// is open. Of the store only its count is asked, and the device is not called.
+    ///
+    /// A fault comes where memory is refused, or the log lacks room: behind one of its records there
+    /// is no room to take back what is open there. No engine makes such a log. Store, device and
+    /// what was left are dropped then.
+    pub fn resume(
+        alloc: Global,
+        legacy: Legacy,
+        pages: &[Page],
+        frames: u32,
+        store: S,
+        device: D,
+    ) -> Result<Engine<S, D>, TablesFault>
+        requires frames { IsFrameCount frames }
+        requires may { MayResume legacy.log legacy.vault.copies }
+        requires pages { pages.now ≡ redo_all legacy.log.records (page_count legacy.log) }
+        requires stored { S.stored store ≡ pages.now }
+        requires holds { HoldsLog D.bytes legacy.log device }
+        requires lasts { lsn_of (length legacy.log.records) ≤ D.lasting device }
+
+        ensures state { IfOk result (λ it. it.state
+            ≡ resumed_state legacy.log frames it.state.master legacy.vault.copies) }
+        ensures master { IfOk result (λ it.
+            IsLastPoint legacy.log legacy.log.records it.state.master) }
+        ensures store { IfOk result (λ it. it.store ≡ store) }
+        ensures device { IfOk result (λ it. it.device ≡ device) }
+        ensures fault { IfErr result (IsLeftBy legacy.log) }
+    {
+        let Legacy { log, vault } = legacy;
+        let (txns, returns) = tables_of(alloc, log.records())?;
+        let Ok(pool) = Pool::resume(alloc, store, pages, frames) else {
+            return Err(TablesFault::OutOfMemory);
+        };
+        let LogCheckpoints { last, open } = checkpoints_of(&log);
+        Ok(Engine {
+            log: Log::resume(log, device),
+            txns,
+            returns,
+            pool,
+            master: last,
+            session: session_of(open),
+            vault,
+            alloc,
+        })
+    }
+}
+
+/// An open checkpoint whose gather has ended, as an engine has it.
+fn session_of(open: Option<Ckpt<Gathered>>) -> Option<OpenCkpt>
+    ensures { option_map view_of result ≡ option_map gathered_ckpt «open» }
+{
+    match open {
+        Some(ckpt) => Some(OpenCkpt::Gathered(ckpt)),
+        None => None,
+    }
+}

@@ -1,0 +1,56 @@
+//! What is said of a commit that was answered.
+
+ghost use Rattle.std.specs.Prelude.{◌≡◌, [], ◌∷◌, ◌++◌, IfOk, OnErr};
+ghost use Rattle.settlement.specs.declared.receipt.Receipt.TheVariants.{Stepped};
+ghost use Rattle.settlement.specs.declared.receipt.TxnStep.TheVariants as step;
+
+use crate::clerk::Bank;
+use aries_core::Refusal;
+use engine_run::Session;
+use log_store::LogDevice;
+use page_core::{Lsn, TxnNo};
+use page_store::PageStore;
+use std::fmt;
+use std::marker::Model;
+use std::sync::Wait;
+use std::sync::ledger::Ledger;
+
+/// The acknowledgement of a commit. There is none without a commit that was answered, since only
+/// `commit` makes one. Its text is the LSN of the Commit.
+#[derive(Drop)]
+pub struct Acknowledged {
+    lsn: Lsn,
+}
+
+impl Model for Acknowledged {
+    ghost use Rattle.std.specs.Prelude.{ℕ};
+
+    ghost Value = { ℕ };
+
+    ghost view = { λ it. it.lsn };
+}
+
+impl Acknowledged {
+    /// Commits a transaction, and acknowledges it. The session has the receipt of just this commit
+    /// then. A commit that is refused leaves no receipt, and is not acknowledged.
+    pub fn commit<S: PageStore, D: LogDevice, G: Ledger>(
+        session: &mut Session<G>,
+        rt: &impl Wait,
+        bank: &Bank<S, D, G>,
+        txn: TxnNo,
+    ) -> Result<Acknowledged, Refusal>
+        ensures receipt { IfOk result (λ it.
+            session.new ≡ session.old ++ Stepped it txn step.Commit ∷ []) }
+        ensures refused { OnErr result (session.new ≡ session.old) }
+    {
+        let lsn = session.commit(rt, bank, txn)?;
+        Ok(Acknowledged { lsn })
+    }
+}
+
+impl fmt::Display for Acknowledged {
+    fn fmt<W: fmt::Write>(&self, f: &mut fmt::Formatter<W>) -> fmt::Result {
+        let lsn = self.lsn.0;
+        write!(f, "{lsn}")
+    }
+}

@@ -1,0 +1,126 @@
+-- Undo's records, appended to a log one after another, and forced.
+use Rattle.std.proofs.Common.{ℕ, ◌≡◌, ◌+◌, ◌*◌, ◌<◌, ◌≤◌, List, [], ◌∷◌, ◌++◌, append_assoc, get_or, length, take, refl, ap, subst, sym, ◌∙◌, arith}
+use Rattle.std.proofs.lemmas.List.{get_or_push, length-take, length_push, take_all}
+use Rattle.log_records.specs.declared.limits.TheConstants.{MAX_RECORDS}
+use Rattle.log_records.specs.declared.record.Record.{Record}
+use Rattle.log_records.specs.Log.{IsLog, Log, SpellsLog, StandsAt, bytes_in, log_bytes, lsn_of, page_count, page_count_at, with_next}
+use Rattle.log_records.specs.PageCount.{GivesMore}
+use Rattle.log_records.proofs.Logs.{format_in-take, format_of_log, length-log}
+use Rattle.log_records.proofs.PageCounts.{page_count_at-all, page_count_at-append}
+use Rattle.log_store.specs.Device.{KeepsFirst}
+use Rattle.log_store.specs.WrittenLog.{HoldsLog, IsWritten, WrittenLog, first_records}
+use Rattle.loser_undo.specs.Recovery.{appended}
+use Rattle.loser_undo.specs.UndoRecords.{HasYielded, UndoView}
+use Rattle.loser_undo.proofs.Pages.{log_and_appended}
+use Rattle.page_core.specs.declared.format.Format.{Format}
+use Rattle.page_core.specs.declared.format.Format.TheVariants.{Second}
+use Rattle.engine_restart.specs.Restart.{HasLasting, undone_log}
+
+-- a record behind a log may stand there
+pub record MayBeAppended (log : Log) (r : Record) : Type 0 where
+  pub stands : StandsAt (page_count log) (lsn_of (length log.records)) r
+  pub more : GivesMore (page_count log) r
+  pub few : length log.records < MAX_RECORDS
+
+pub may_append : (log : Log) (r : Record) → IsLog (with_next log (r ∷ [])) → MayBeAppended log r
+may_append log r valid =
+    let rs = log.records in
+    let n = length rs in
+    let long = length_push rs r in
+    let there : n < length (rs ++ r ∷ []) = omega (arith, long) in
+    let most = valid.count in
+    let count : page_count_at (with_next log (r ∷ [])) n ≡ page_count log =
+    page_count_at-append log (r ∷ []) n (omega arith) ∙ page_count_at-all log n (omega arith) in
+    let last : get_or (rs ++ r ∷ []) n r ≡ r = get_or_push rs r r n refl in
+    record {
+      stands = subst (λ (m : ℕ). StandsAt m (lsn_of n) r) count
+          (subst (StandsAt (page_count_at (with_next log (r ∷ [])) n) (lsn_of n)) last (valid.records n r there));
+      more = subst (λ (m : ℕ). GivesMore m r) count
+          (subst (GivesMore (page_count_at (with_next log (r ∷ [])) n)) last (valid.grows n r there));
+      few = omega (arith, long, most);
+    }
+
+-- so far undo has yielded these records, which stand behind the log
+pub record AreAppended (image : Log) (undo : UndoView) (log : Log) : Type 0 where
+  pub behind : List Record
+  pub has : HasYielded image behind undo
+  pub log_is : log ≡ with_next image behind
+
+module _ (image : Log) (undo new : UndoView) (log : Log) (r : Record) (are : AreAppended image undo log)
+    (more : HasYielded image (are.behind ++ r ∷ []) new) where
+  with_record_is : with_next log (r ∷ []) ≡ with_next image (are.behind ++ r ∷ [])
+  with_record_is =
+      ap (λ (l : Log). with_next l (r ∷ [])) are.log_is
+      ∙ ap (λ (rs : List Record). record image { records = rs }) (append_assoc image.records are.behind (r ∷ []))
+
+  pub next_may : MayBeAppended log r
+  next_may = may_append log r (subst IsLog (sym with_record_is) more.valid)
+
+  pub next_appended : (after : Log) → after ≡ with_next log (r ∷ []) → AreAppended image new after
+  next_appended after is = record {
+    behind = are.behind ++ r ∷ [];
+    has = more;
+    log_is = is ∙ with_record_is;
+  }
+
+  -- the log would be longer, and still not too long
+  pub counted : (undo.count < new.count) × (new.count ≤ MAX_RECORDS)
+  counted =
+      let many = ap (length {A = Record}) (sym (append_assoc image.records are.behind (r ∷ [])))
+      ∙ length_push (image.records ++ are.behind) r in
+      let before = are.has.count in
+      let after = more.count in
+      let room = more.room in
+      let fits = more.fits in
+      (omega (arith, before, after, many), omega (arith, after, room, fits))
+
+pub all_appended : (image : Log) (behind : List Record) (log : Log) → log ≡ with_next image behind
+    → behind ≡ appended image → log ≡ undone_log image
+all_appended image behind log is all =
+    is ∙ ap (λ (rs : List Record). record image { records = rs })
+    (ap (λ (xs : List Record). image.records ++ xs) all ∙ log_and_appended image)
+
+-- a device has all of a log that is forced
+pub held : {D : Type 0} (bytes : D → List ℕ) (it : WrittenLog D) → IsWritten bytes it
+    → it.forced_end ≡ lsn_of (length it.log.records) → HoldsLog bytes it.log it.device
+held bytes it kept all =
+    let count = kept.forced.0 in
+    let known = kept.forced.1 in
+    let front = take it.forced_end (bytes it.device) in
+    let end = known.end in
+    let same : count ≡ length it.log.records = omega (arith, end, all) in
+    let whole : first_records count it.log ≡ it.log =
+    ap (λ (rs : List Record). record it.log { records = rs }) (take_all count it.log.records (omega (arith, same))) in
+    let spells : SpellsLog it.log front = subst (λ (l : Log). SpellsLog l front) whole known.stable in
+    let second : spells.format ≡ Second =
+    sym (format_of_log it.log front spells) ∙ format_in-take it.forced_end (bytes it.device) (omega (arith, all))
+    ∙ known.second in
+    subst (λ (k : ℕ). take k (bytes it.device) ≡ log_bytes it.log) all
+    (spells.spelled ∙ ap (λ (f : Format). bytes_in f it.log) second)
+
+pub has_lasting : {D : Type 0} (bytes : D → List ℕ) (lasting : D → ℕ) (it : WrittenLog D) (log : Log) (device : D)
+    → IsWritten bytes it → it.forced_end ≡ lsn_of (length it.log.records) → it.forced_end ≤ lasting it.device
+    → log ≡ it.log → device ≡ it.device → HasLasting bytes lasting log device
+has_lasting bytes lasting it log device kept all lasts log_is device_is =
+    subst (λ (l : Log). HasLasting bytes lasting l device) (sym log_is)
+    (subst (HasLasting bytes lasting it.log) (sym device_is) (record {
+      holds = held bytes it kept all;
+      lasts = subst (λ (n : ℕ). n ≤ lasting it.device) all lasts;
+    }))
+
+-- the log lies on its device, which keeps it as long as nobody calls it
+pub stays : {D : Type 0} (bytes : D → List ℕ) (log : Log) (old new : D) → IsLog log → HoldsLog bytes log old
+    → new ≡ old → KeepsFirst (lsn_of (length log.records)) (bytes old) (bytes new)
+stays bytes log old new valid holds same =
+    let n = lsn_of (length log.records) in
+    let front = take n (bytes old) in
+    let spells : SpellsLog log front = record {
+      valid = valid;
+      format = Second;
+      of_format = λ i d lt. tt;
+      spelled = holds;
+    } in
+    let long : length front ≡ 64 * (length log.records + 1) = length-log log front spells in
+    let short = length-take n (bytes old) in
+    let there : n ≤ length (bytes old) = omega (arith, long, short) in
+    subst (λ d. KeepsFirst n (bytes old) (bytes d)) (sym same) (record { there = there; same = refl })

@@ -1,0 +1,4 @@
+pub mod Added
+pub mod Chained
+pub mod Found
+pub mod Restart

@@ -1,0 +1,48 @@
+-- A log that is taken up where an engine was lost, and what is there then.
+use Rattle.std.specs.Prelude.{ℕ, ◌≡◌, ◌<◌, ◌≤◌, List, [], length}
+use Rattle.page_core.specs.FaultName.{fault_line}
+use Rattle.page_core.specs.declared.fault_name.FaultName.TheVariants as name
+use Rattle.page_core.specs.declared.page.Page.{Page}
+use Rattle.log_records.specs.Image.{redo_all}
+use Rattle.log_records.specs.Log.{Log, lsn_of, page_count}
+use Rattle.log_store.specs.WrittenLog.{HoldsLog}
+use Rattle.loser_undo.specs.Undo.{after_undo}
+use Rattle.copy_vault.specs.Vault.{CopyState}
+use Rattle.aries_core.specs.Resumed.{MayResume}
+use Rattle.engine_restart.specs.declared.fault.RestartFault.{RestartFault}
+use Rattle.engine_restart.specs.declared.fault.RestartFault.TheVariants.{LogFault, LogFull}
+use Rattle.engine_restart.specs.declared.fault.RestartFault.TheVariants.{OutOfMemory}
+
+-- the log with the records of undo
+abbrev pub undone_log : Log → Log
+undone_log log = record log { records = after_undo log.records }
+
+-- a device has all of a log, and all of it lasts
+pub record HasLasting {D : Type 0} (bytes : D → List ℕ) (lasting : D → ℕ) (log : Log) (device : D)
+    : Type 0 where
+  pub holds : HoldsLog bytes log device
+  pub lasts : lsn_of (length log.records) ≤ lasting device
+
+-- a log in which no transaction is open, the pages that it makes, and the copies that are at hand
+pub record RestartedView : Type 0 where
+  pub log : Log
+  pub pages : List Page
+  pub copies : List CopyState
+
+-- an engine may go on from there
+pub record IsRestarted (it : RestartedView) : Type 0 where
+  pub may : MayResume it.log it.copies
+  pub pages : it.pages ≡ redo_all it.log.records (page_count it.log)
+
+-- why a restart stops, and what it has made of the device: memory ran out, or the log lacks room for
+-- undo's records, and the device was not called; or it failed
+abbrev pub IsStopped : {D : Type 0} → (D → ℕ) → D → RestartFault → D → Type 0
+IsStopped failures old OutOfMemory new = new ≡ old
+IsStopped failures old LogFull new = new ≡ old
+IsStopped failures old LogFault new = failures old < failures new
+
+-- what is printed of a fault
+abbrev pub line_of : RestartFault → List ℕ
+line_of OutOfMemory = fault_line name.OutOfMemory
+line_of LogFull = fault_line name.LogFull
+line_of LogFault = fault_line name.LogFault

@@ -1,0 +1,23 @@
+//! Restart: takes back what was open when an engine was lost, and goes on with its log.
+#![tactic(auto)]
+
+mod add;
+mod add_fault;
+mod copy_check;
+mod fault;
+mod found;
+mod found_fault;
+mod from_log;
+mod losers;
+mod restarted;
+mod store;
+mod undo_on_log;
+
+pub use add_fault::AddCopyFault;
+pub use fault::RestartFault;
+pub use found::log_in;
+pub use found_fault::FoundFault;
+pub use from_log::restart;
+pub use restarted::Restarted;
+pub use store::store_of;
+pub use undo_on_log::take_back;

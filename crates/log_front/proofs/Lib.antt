@@ -1,0 +1,5 @@
+pub mod Cuts
+pub mod Forced
+pub mod Fronts
+pub mod Pieces
+pub mod Scanned

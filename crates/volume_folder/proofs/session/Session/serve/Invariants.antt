@@ -1,0 +1,4 @@
+use Rattle.volume_folder.proofs.session.Session.serve.Given as goal
+
+abbrev pub invariant-loop-number : goal.invariant-loop-number
+invariant-loop-number g l = g.F.Folder.is_claimed l.self.folder

@@ -1,0 +1,13 @@
+-- The copies that are taken up.
+use Rattle.std.specs.Prelude.{ℕ, ◌≡◌}
+use Rattle.copy_vault.specs.Added.{with_copy}
+use Rattle.copy_vault.specs.Copy.{CopyView}
+use Rattle.engine_restart.specs.Added.{MayAdd}
+use Rattle.engine_restart.specs.Restart.{RestartedView}
+
+-- a copy of this id that the log and the copies so far allow is there, behind them
+pub record IsTakenUp (old new : RestartedView) (id : ℕ) : Type 0 where
+  pub copy : CopyView
+  pub of_id : copy.id ≡ id
+  pub may : MayAdd old.log old.copies copy
+  pub added : new.copies ≡ with_copy old.copies copy

@@ -1,0 +1,118 @@
+//! Reads lines one at a time, as they come.
+
+ghost use Rattle.std.specs.Prelude.{◌<◌, vec_len};
+
+use page_core::{Turn, read_more, zeros};
+use std::alloc::{AllocError, Global};
+use std::io::Read;
+
+/// How many bytes a line has at most.
+pub(crate) const MOST_LINE: usize = 1_024;
+
+/// How many bytes a reader is asked for at once.
+const PIECE_BYTES: usize = 4_096;
+
+/// What comes next.
+#[derive(Clone, Copy, Debug, PartialEq, Eq)]
+pub(crate) enum NextLine {
+    /// A line of so many bytes, which `LineReader::line` has.
+    Line(usize),
+    /// A line of more than 1,024 bytes. All of it was read.
+    TooLong,
+    End,
+    /// The reader failed. What it gave of a line before is no line.
+    Failed,
+}
+
+/// What the reader gives next.
+enum NextByte {
+    Byte(u8),
+    End,
+    Failed,
+}
+
+/// Reads lines. It asks for more bytes only where it has no whole line, so a line is there as soon
+/// as it was written.
+#[derive(Drop)]
+pub(crate) struct LineReader<R> {
+    reader: R,
+    piece: Vec<u8>,
+    next: usize,
+    filled: usize,
+    line: Vec<u8>,
+    ghost has_room: { 0 < vec_len piece },
+}
+
+impl<R: Read + Drop> LineReader<R> {
+    pub fn new(alloc: Global, reader: R) -> Result<LineReader<R>, AllocError> {
+        Ok(LineReader {
+            reader,
+            piece: zeros(alloc, PIECE_BYTES)?,
+            next: 0,
+            filled: 0,
+            line: zeros(alloc, MOST_LINE)?,
+        })
+    }
+
+    /// The first bytes of the line that was read last.
+    pub fn line(&self, len: usize) -> &[u8] {
+        self.line.as_slice().get(..len).unwrap_or(&[])
+    }
+
+    /// Reads the next line, to its line feed or to the input's end.
+    pub fn next_line(&mut self) -> NextLine {
+        let mut len = 0usize;
+        let mut is_long = false;
+        for _ in 0..u64::MAX {
+            match self.next_byte() {
+                NextByte::Byte(b'\n') => return line_of(len, is_long),
+                NextByte::Byte(byte) => is_long = !self.put(&mut len, byte) || is_long,
+                NextByte::End if len == 0 => return NextLine::End,
+                NextByte::End => return line_of(len, is_long),
+                NextByte::Failed => return NextLine::Failed,
+            }
+        }
+        NextLine::Failed
+    }
+
+    /// Puts a byte behind the first ones of the line, if there is room.
+    fn put(&mut self, len: &mut usize, byte: u8) -> bool {
+        match self.line.get_mut(*len) {
+            Some(place) => {
+                *place = byte;
+                *len = len.saturating_add(1);
+                true
+            }
+            None => false,
+        }
+    }
+
+    fn next_byte(&mut self) -> NextByte {
+        for _ in 0..u64::MAX {
+            if self.next < self.filled
+                && let Some(byte) = self.piece.get(self.next)
+            {
+                let byte = *byte;
+                self.next += 1;
+                return NextByte::Byte(byte);
+            }
+            match read_more(&mut self.reader, &mut self.piece, 0) {
+                Turn::More(count) => {
+                    self.next = 0;
+                    self.filled = count;
+                }
+                Turn::End => return NextByte::End,
+                Turn::Failed => return NextByte::Failed,
+            }
+        }
+        NextByte::Failed
+    }
+}
+
+fn line_of(len: usize, is_long: bool) -> NextLine {
+    if is_long {
+        NextLine::TooLong
+    } else {
+        NextLine::Line(len)
+    }
+}
