@@ -21,5 +21,5 @@ module _ (records : List Record) (i : ℕ) (r : Record) (table : Table) (linked 
   is_noted new is =
       is ∙ ap (λ (t : Table). noted t r) made
       ∙ sym (table_of_push (take i records) r (linked-take records linked i)
-          (next_follows records i r linked lt at))
+      (next_follows records i r linked lt at))
       ∙ ap table_of (sym (with_next records i r lt at))

@@ -2,8 +2,10 @@
 
 ghost use Rattle.std.specs.Prelude.{◌≡◌, ◌≤◌};
 
-use crate::volume::{Volume, add_one, assert_copy, checkpoint, first_point, full_copy};
-use crate::volume::{new_session, only, settled, volume};
+use crate::volume::{
+    Volume, add_one, assert_copy, checkpoint, first_point, full_copy, new_session, only, settled,
+    volume,
+};
 use copy_vault::{ArchiveWriteFault, CopyFault, CopyId, CopyKind, CopyWriteFault, write_archive};
 use engine_run::{OpenGate, Session, Work};
 use page_core::PageNo;
@@ -58,10 +60,7 @@ impl Write for Short {
 }
 
 /// The archive of copy 1, by a writer that asks for the lock.
-fn asked_archive<G: Ledger>(
-    rt: &(impl Wait + Abort + AllocGlobal),
-    shared: &Volume<G>,
-) -> Vec<u8> {
+fn asked_archive<G: Ledger>(rt: &(impl Wait + Abort + AllocGlobal), shared: &Volume<G>) -> Vec<u8> {
     let mut writer = Asking {
         rt,
         shared,
@@ -119,11 +118,7 @@ fn write_beside<G: Ledger + Send + Sync, R: Threads + Wait + Abort + AllocGlobal
 }
 
 /// Changes each page in turn, in transactions of their own.
-fn add_often<G: Ledger>(
-    rt: &(impl Wait + Abort),
-    shared: &Volume<G>,
-    session: &mut Session<G>,
-) {
+fn add_often<G: Ledger>(rt: &(impl Wait + Abort), shared: &Volume<G>, session: &mut Session<G>) {
     for round in 0..40 {
         add_one(rt, shared, session, PageNo(round % 8));
     }

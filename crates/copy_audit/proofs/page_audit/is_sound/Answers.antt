@@ -14,5 +14,5 @@ returns-then-past c =
       λ reaches. c.reaches.ensures.reaches rs page.number page past seen c.requires.numbers c.requires.log reaches
           c.if-past.true,
       if_not_no c.reaches.result
-      (c.reaches.ensures.lacks rs page.number page past seen c.requires.numbers c.requires.log),
+          (c.reaches.ensures.lacks rs page.number page past seen c.requires.numbers c.requires.log),
     )

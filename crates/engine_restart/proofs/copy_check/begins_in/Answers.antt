@@ -11,8 +11,7 @@ returns-then-pages-below c =
     let copy = c.args.copy.now in
     let below_is : c.below.result ≡ count_below (counts_of log) copy.begin =
     c.below.ensures ∙ ap (λ (k : PageCounts). count_below k c.begin-begin.result) c.in_ok-counts.ensures
-    ∙ ap (count_below (counts_of log)) c.begin-begin.ensures in
-    (
+    ∙ ap (count_below (counts_of log)) c.begin-begin.ensures in (
       λ e. cc,
       λ is.
           let same : c.pages.result ≡ c.below.result =
@@ -26,8 +25,7 @@ returns c =
     let below_is : c.below.result ≡ count_below (counts_of log) c.begin-begin.result =
     c.below.ensures ∙ ap (λ (k : PageCounts). count_below k c.begin-begin.result) c.in_ok-counts.ensures in
     let lt : c.begin-begin.result < c.end.result =
-    omega (arith, c.if-begin-end.false, c.begin.view_is, c.end-else-not-is_point.view_is) in
-    (
+    omega (arith, c.if-begin-end.false, c.begin.view_is, c.end-else-not-is_point.view_is) in (
       λ yes. begins log c.args.copy.now c.begin-begin.result c.redo.result c.end.result c.pages.result c.below.result
           c.requires.valid c.begin-begin.ensures c.redo.ensures (c.is_point.ensures.0 c.if-not-is_point.false) lt
           c.end.ensures c.pages.ensures.count (omega (arith, c.if-pages-below.false)) below_is
