@@ -17,17 +17,17 @@ use Rattle.aries_core.specs.declared.event.Event.{Event}
 use Rattle.aries_core.specs.declared.event.Event.TheVariants as event
 use Rattle.aries_core.specs.declared.refusal.Refusal.{Refusal}
 use Rattle.aries_core.specs.AnsweredCommits.{AnsweredCommit, StandsIn, answered_commit, answered_commits}
-use Rattle.aries_core.specs.EngineState.{EngineState, end, log_of, new_state}
+use Rattle.aries_core.specs.EngineState.{EngineState, IsFit, end, log_of, new_state}
 use Rattle.aries_core.specs.Run.{Run}
 use Rattle.aries_core.specs.Step.{Step}
 use Rattle.aries_core.proofs.Forces.{EndsAtRecord, forces}
-use Rattle.aries_core.proofs.Runs.{commit_is_forced, forced_end_from, log_of_run}
+use Rattle.aries_core.proofs.Runs.{commit_is_forced, forced_end_from, forced_end_of_run, log_of_run}
 
 -- the Commit stands in the log, and is forced
-abbrev IsForcedIn : EngineState → AnsweredCommit → Type 0
+abbrev pub IsForcedIn : EngineState → AnsweredCommit → Type 0
 IsForcedIn s commit = StandsIn s.log commit × (commit.lsn < s.forced_end)
 
-longer : (rs more : List Record) (commit : AnsweredCommit) → StandsIn rs commit → StandsIn (rs ++ more) commit
+pub longer : (rs more : List Record) (commit : AnsweredCommit) → StandsIn rs commit → StandsIn (rs ++ more) commit
 longer rs more commit stands = record {
   place = stands.place;
   within = omega (arith, stands.within, length-append rs more);
@@ -75,6 +75,20 @@ all_forced old (event ∷ events) (reply ∷ replies) new ends run =
 all_forced old [] (reply ∷ replies) new ends run = absurd run
 all_forced old (event ∷ events) [] new ends run = absurd run
 
+pub forced_later : (old : EngineState) (events : List Event) (replies : List (Result Answer Refusal)) (new : EngineState)
+    → IsFit old → Run old events replies new → All (IsForcedIn new) (answered_commits events replies)
+forced_later old events replies new fit run = all_forced old events replies new fit.forced run
+
+-- what was forced before a run is so after it
+pub stays_forced : (old : EngineState) (events : List Event) (replies : List (Result Answer Refusal)) (new : EngineState)
+    (commit : AnsweredCommit) → IsFit old → Run old events replies new → IsForcedIn old commit → IsForcedIn new commit
+stays_forced old events replies new commit fit run (stands, below) =
+    let grown = log_of_run old events replies new run in
+    let no_less = forced_end_of_run old events replies new fit run in (
+      subst (λ (rs : List Record). StandsIn rs commit) (sym grown.1) (longer old.log grown.0 commit stands),
+      omega (arith, below, no_less),
+    )
+
 pub commits_are_forced : (pages frames : ℕ) (events : List Event) (replies : List (Result Answer Refusal))
     (new : EngineState) → Run (new_state pages frames) events replies new
     → All (λ commit. StandsIn new.log commit × (commit.lsn < new.forced_end)) (answered_commits events replies)
@@ -82,7 +96,7 @@ commits_are_forced pages frames events replies new run =
     all_forced (new_state pages frames) events replies new (0, omega arith, refl) run
 
 -- a record below the forced end is among those that are kept
-stays_kept : (s : EngineState) (kept : Log) (commit : AnsweredCommit) → IsKeptOf (log_of s) s.forced_end kept
+pub stays_kept : (s : EngineState) (kept : Log) (commit : AnsweredCommit) → IsKeptOf (log_of s) s.forced_end kept
     → IsForcedIn s commit → StandsIn kept.records commit
 stays_kept s kept commit is (stands, below) =
     let past : stands.place < is.count = omega (arith, stands.at_lsn, below, is.forced) in

@@ -12,7 +12,7 @@ ghost use Rattle.log_history.specs.Transactions.{is_open, last_lsn, owed};
 ghost use Rattle.log_history.specs.Work.{work};
 ghost use Rattle.copy_coverage.specs.Kept.{IsKeptOf};
 ghost use Rattle.aries_core.specs.Accepted.{accepted};
-ghost use Rattle.aries_core.specs.AnsweredCommits.{StandsIn, answered_commits};
+ghost use Rattle.aries_core.specs.AnsweredCommits.{AnsweredCommit, StandsIn, answered_commits};
 ghost use Rattle.aries_core.specs.EngineState.{EngineState, IsFit, effect, log_of, new_state};
 ghost use Rattle.aries_core.specs.EngineState.{page_now, rec_lsn_of};
 ghost use Rattle.aries_core.specs.EngineState.{volume_pages};
@@ -108,6 +108,24 @@ pub fn answered_commits_are_kept()
         (new : EngineState) (kept : Log) → Run (new_state pages frames) events replies new
         → IsKeptOf (log_of new) new.forced_end kept
         → All (StandsIn kept.records) (answered_commits events replies) }
+{}
+
+/// So it is of an engine that goes on from an older one; and what stood forced in its log before its
+/// first call still does, and is in each log that a crash may leave.
+pub fn later_commits_are_kept()
+    ensures forced { (old : EngineState) (events : List Event)
+        (replies : List (Result Answer Refusal))
+        (new : EngineState) → IsFit old → Run old events replies new
+        → All (λ commit. StandsIn new.log commit × (commit.lsn < new.forced_end))
+        (answered_commits events replies) }
+    ensures older { (old : EngineState) (events : List Event)
+        (replies : List (Result Answer Refusal))
+        (new : EngineState) (commit : AnsweredCommit) → IsFit old → Run old events replies new
+        → StandsIn old.log commit × (commit.lsn < old.forced_end)
+        → StandsIn new.log commit × (commit.lsn < new.forced_end) }
+    ensures kept { (s : EngineState) (kept : Log) (commit : AnsweredCommit)
+        → IsKeptOf (log_of s) s.forced_end kept
+        → StandsIn s.log commit × (commit.lsn < s.forced_end) → StandsIn kept.records commit }
 {}
 
 /// At CommitUnsure the Commit stands at the end of the log, not counted as forced, and its

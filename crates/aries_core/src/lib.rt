@@ -35,9 +35,9 @@ pub use event::{Answer, Event, Gathered, Reply, SteppedBack, Took, Undone};
 pub use laws::{
     a_new_engine_is_fit, a_refusal_changes_nothing, an_answered_commit_is_forced,
     an_unsure_commit_ends_its_transaction, answered_commits_are_kept, engines_stay_fit,
-    log_full_is_exact, log_shows_the_accepted_calls, pages_in_memory_are_few_and_distinct,
-    replies_are_determined, stored_pages_cover_their_rec_lsn, the_forced_end_never_falls,
-    the_log_only_grows, the_written_lsns_are_those_answered,
+    later_commits_are_kept, log_full_is_exact, log_shows_the_accepted_calls,
+    pages_in_memory_are_few_and_distinct, replies_are_determined, stored_pages_cover_their_rec_lsn,
+    the_forced_end_never_falls, the_log_only_grows, the_written_lsns_are_those_answered,
 };
 pub use played::{Played, play};
 pub use refusal::Refusal;
