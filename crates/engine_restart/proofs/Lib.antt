@@ -4,5 +4,6 @@ pub mod Beginnings
 pub mod Checking
 pub mod Counting
 pub mod Founds
+pub mod Lives
 pub mod Restarts
 pub mod Stands

@@ -3,6 +3,7 @@
 ghost use Rattle.std.specs.Prelude.{◌≡◌, IfErr, IfOk};
 ghost use Rattle.buffer_pool.specs.Pool.{IsFrameCount};
 ghost use Rattle.fuzzy_ckpt.specs.LogCheckpoints.{IsLastPoint};
+ghost use Rattle.engine_restart.specs.Lives.{GoesOnFrom};
 ghost use Rattle.engine_restart.specs.Restart.{HasLasting, IsRestarted};
 ghost use Rattle.aries_core.specs.Resumed.{IsLeftBy, MayResume, resumed_state};
 
@@ -93,9 +94,14 @@ impl Restarted {
             IsLastPoint self.log self.log.records it.state.master) }
         ensures store { IfOk result (λ it. it.store ≡ store) }
         ensures device { IfOk result (λ it. it.device ≡ device) }
+        ensures goes_on { IfOk result (λ it. GoesOnFrom self.log it.state) }
         ensures fault { IfErr result (IsLeftBy self.log) }
     {
         let Restarted { log, pages, vault } = self;
-        Engine::resume(alloc, Legacy { log, vault }, &pages, frames, store, device)
+        let legacy = Legacy { log, vault };
+        let engine = Engine::resume(alloc, legacy, &pages, frames, store, device)?;
+        // An engine is fit, which one of its calls tells.
+        let _end = engine.log_end();
+        Ok(engine)
     }
 }

@@ -1,9 +1,10 @@
 -- What a settled run tells.
-use Rattle.std.proofs.Common.{ℕ, ◌≡◌, List, [], take, arith, refl, subst, sym, inl, inr}
+use Rattle.std.proofs.Common.{ℕ, ◌≡◌, ◌≤◌, ◌++◌, List, [], take, arith, refl, subst, sym, inl, inr}
 use Rattle.std.proofs.Common.{IsSomeAnd}
 use Rattle.std.specs.List.{All, filter_map}
+use Rattle.std.proofs.lemmas.List.{get_or_append_left, length-append}
 use Rattle.std.proofs.lemmas.List.Elements.{All-weaker}
-use Rattle.log_records.specs.Log.{Log}
+use Rattle.log_records.specs.Log.{Log, lsn_of}
 use Rattle.copy_vault.specs.Copy.{CopyView}
 use Rattle.copy_vault.specs.declared.copy_id.CopyKind.TheVariants.{Full}
 use Rattle.copy_vault.specs.Vault.{CopyState, complete, complete_of, dropped, reading, state_of}
@@ -17,23 +18,29 @@ use Rattle.settlement.specs.Session.{AllStand}
 use Rattle.settlement.specs.Sessions.{AreApart, IsCommitIn, all_receipts}
 use Rattle.settlement.proofs.Kept.{commits_kept, own_write}
 use Rattle.settlement.proofs.Marking.{times-append}
+use Rattle.settlement.proofs.Sessions.{times_all}
 use Rattle.engine_run.specs.declared.work.Work.{Work}
 use Rattle.engine_run.specs.declared.work.Work.TheVariants.{Copied, Pointed}
 use Rattle.engine_run.specs.Laws.{IsRestoredBy, ReadsItsOwn}
-use Rattle.engine_run.specs.Settled.{Evidence, IsSettled, IsWrongAt, WorkStands, begin_of, evidence_in}
+use Rattle.engine_run.specs.Settled.{Evidence, IsSettled, IsWrongAt, WorkStands, begin_of, evidence_in, lsns_of}
 
 -- the records of receipts have LSNs that differ
-pub records_apart : (e : Evidence) (sessions : List (List Receipt)) (works : List Work)
-    → IsSettled e sessions works → AreApart (written (all_receipts sessions))
-records_apart e sessions works settled x =
+pub records_apart : (began : ℕ) (e : Evidence) (sessions : List (List Receipt)) (works : List Work)
+    → IsSettled began e sessions works → AreApart (written (all_receipts sessions))
+records_apart began e sessions works settled x =
     let both = times-append x (written (all_receipts sessions)) (filter_map begin_of works) in
     let few = settled.lsns x in
     omega arith
 
-pub commits_told : (left : RetiredView) (sessions : List (List Receipt)) (works : List Work)
-    (kept : Log) → IsSettled (evidence_in left) sessions works
+-- what holds of each holds of those that come first
+pub of_first : (P : ℕ → Type 0) (xs ys : List ℕ) → All P (xs ++ ys) → All P xs
+of_first P xs ys all k d lt =
+    subst P (get_or_append_left xs ys d k lt) (all k d (omega (arith, lt, length-append xs ys)))
+
+pub commits_told : (began : ℕ) (left : RetiredView) (sessions : List (List Receipt)) (works : List Work)
+    (kept : Log) → IsSettled began (evidence_in left) sessions works
     → IsKeptOf left.log left.forced_end kept → All (All (IsCommitIn kept.records)) sessions
-commits_told left sessions works kept settled is_kept =
+commits_told began left sessions works kept settled is_kept =
     let rs = left.log.records in
     let of_log : All (All (IsCommitIn (take is_kept.count rs))) sessions =
     All-weaker (AllStand rs left.forced_end) (All (IsCommitIn (take is_kept.count rs)))
@@ -41,10 +48,10 @@ commits_told left sessions works kept settled is_kept =
     settled.receipts in
     subst (λ (lg : Log). All (All (IsCommitIn lg.records)) sessions) (sym is_kept.made) of_log
 
-pub reads_told : (left : RetiredView) (sessions : List (List Receipt)) (works : List Work)
-    → IsRetired left → IsSettled (evidence_in left) sessions works
+pub reads_told : (began : ℕ) (left : RetiredView) (sessions : List (List Receipt)) (works : List Work)
+    → IsRetired left → IsSettled began (evidence_in left) sessions works
     → All (ReadsItsOwn left.log.records) sessions
-reads_told left sessions works retired settled =
+reads_told began left sessions works retired settled =
     let rs = left.log.records in
     All-weaker (AllStand rs left.forced_end) (ReadsItsOwn rs)
     (λ xs stand j k d before within is reads.
@@ -68,35 +75,38 @@ restored_by left kept restores (Copied id kind taken) stands =
     let found = found_complete (state_of left.copies id) _ stands in
     (found.0, found.1, restores id found.0 found.1)
 
-pub copies_told : (left : RetiredView) (sessions : List (List Receipt)) (works : List Work)
-    (kept : Log) → IsSettled (evidence_in left) sessions works
+pub copies_told : (began : ℕ) (left : RetiredView) (sessions : List (List Receipt)) (works : List Work)
+    (kept : Log) → IsSettled began (evidence_in left) sessions works
     → ((id : ℕ) (copy : CopyView) → state_of left.copies id ≡ complete copy
     → Restores left.copies copy kept.records)
     → All (IsRestoredBy left.copies kept.records) works
-copies_told left sessions works kept settled restores =
+copies_told began left sessions works kept settled restores =
     All-weaker (WorkStands (evidence_in left))
     (IsRestoredBy left.copies kept.records) (restored_by left kept restores) works
     settled.work
 
-pub wrong_told : (e : Evidence) (sessions : List (List Receipt)) (works : List Work) (at : ℕ)
-    → IsWrongAt e sessions works at → IsSettled e sessions works → ⊥
-wrong_told e sessions works at (inl (differ, none)) settled = differ settled.counted
-wrong_told e sessions works at (inr (added, inl (inl bad))) settled =
+pub wrong_told : (began : ℕ) (e : Evidence) (sessions : List (List Receipt)) (works : List Work) (at : ℕ)
+    → IsWrongAt began e sessions works at → IsSettled began e sessions works → ⊥
+wrong_told began e sessions works at (inl (differ, none)) settled = differ settled.counted
+wrong_told began e sessions works at (inr (added, inl old)) settled =
+    let low = times_all (λ lsn. lsn_of began ≤ lsn) at (lsns_of sessions works) settled.newer old.there in
+    absurd (omega (arith, low, old.below))
+wrong_told began e sessions works at (inr (added, inr (inl (inl bad)))) settled =
     let some : Receipt = Read 0 0 0 0 in
     bad.bad some
     (settled.receipts bad.session [] bad.session_within bad.index some bad.index_within)
-wrong_told e sessions works at (inr (added, inl (inr two))) settled =
-    let few = records_apart e sessions works settled at in
+wrong_told began e sessions works at (inr (added, inr (inl (inr two)))) settled =
+    let few = records_apart began e sessions works settled at in
     absurd (omega arith)
-wrong_told e sessions works at (inr (added, inr (inl bad))) settled =
+wrong_told began e sessions works at (inr (added, inr (inr (inl bad)))) settled =
     let some : Work = Copied 0 Full 0 in
     bad.bad some (settled.work bad.index some bad.within)
-wrong_told e sessions works at (inr (added, inr (inr (inl two)))) settled =
+wrong_told began e sessions works at (inr (added, inr (inr (inr (inl two))))) settled =
     let few = settled.lsns at in
     absurd (omega arith)
-wrong_told e sessions works at (inr (added, inr (inr (inr (none, inl bad))))) settled =
+wrong_told began e sessions works at (inr (added, inr (inr (inr (inr (none, inl bad)))))) settled =
     let some : Work = Copied 0 Full 0 in
     bad.bad some (settled.work bad.index some bad.within)
-wrong_told e sessions works at (inr (added, inr (inr (inr (none, inr (id, two)))))) settled =
+wrong_told began e sessions works at (inr (added, inr (inr (inr (inr (none, inr (id, two))))))) settled =
     let few = settled.copies id in
     absurd (omega arith)

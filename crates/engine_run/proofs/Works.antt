@@ -2,11 +2,12 @@
 use Rattle.std.proofs.Common.{ℕ, ◌≡◌, ◌≢◌, ◌+◌, ◌<◌, ◌≤◌, ◌++◌, ◌⊎◌, Bool, true, false, List, [], ◌∷◌}
 use Rattle.std.proofs.Common.{length, take, drop, replicate, slice_index_or, slice_set, arith, refl, sym}
 use Rattle.std.proofs.Common.{◌∙◌, ap, subst, if◌then◌else◌, eqb, inl, inr, Option, Some, None}
-use Rattle.std.specs.List.{filter_map}
+use Rattle.std.specs.List.{All, filter_map}
 use Rattle.std.proofs.lemmas.Bool.Decides.{eqb_tells}
 use Rattle.std.proofs.lemmas.List.{get_or_default, get_or-set_other, get_or-set_same}
 use Rattle.std.proofs.lemmas.List.{take-append-drop, take_more}
-use Rattle.std.proofs.lemmas.List.Elements.{filter_map-append}
+use Rattle.std.proofs.lemmas.List.Elements.{All-append, All-cons, All-nil, filter_map-append}
+use Rattle.fuzzy_ckpt.specs.declared.point.Point.{Point}
 use Rattle.settlement.specs.Marks.{AreMarked}
 use Rattle.settlement.specs.Receipt.{times}
 use Rattle.settlement.specs.Sessions.{AreApart}
@@ -71,7 +72,7 @@ named_more name works i d within =
     ap (filter_map name) (take_more works i d within)
     ∙ filter_map-append name (take i works) (slice_index_or works i d ∷ [])
 
-times_named : (name : Work → Option ℕ) (x n : ℕ) (works : List Work)
+pub times_named : (name : Work → Option ℕ) (x n : ℕ) (works : List Work)
     → times x (filter_map name (take n works)) ≤ times x (filter_map name works)
 times_named name x n works =
     let both : times x (filter_map name works) ≡ times x (filter_map name (take n works)) + times x (filter_map name (drop n works)) =
@@ -134,3 +135,32 @@ wrong_work e marks given lsns works i at (Copied id kind taken) within is m g (p
             refl (again (copies_of (take i works)) g),
       ),
     ))
+
+-- ---- the LSNs of Points, none of which is below a bound
+
+-- that of a Point is among those of all
+pub begin_there : (works : List Work) (i at : ℕ) (w : Work) → i < length works → w ≡ slice_index_or works i w
+    → filter_map begin_of (w ∷ []) ≡ at ∷ [] → 0 < times at (filter_map begin_of works)
+begin_there works i at w within is one =
+    let before = filter_map begin_of (take i works) in
+    let both : times at (filter_map begin_of (take (i + 1) works)) ≡ times at before + 1 =
+    ap (times at) (named_more begin_of works i w within)
+    ∙ ap (λ (v : Work). times at (before ++ filter_map begin_of (v ∷ []))) (sym is)
+    ∙ ap (λ (xs : List ℕ). times at (before ++ xs)) one
+    ∙ times-append at before (at ∷ [])
+    ∙ ap (λ (n : ℕ). times at before + n) (times_one at) in
+    let part = times_named begin_of at (i + 1) works in
+    omega arith
+
+pub newer_one : (P : ℕ → Type 0) (w : Work) → ((point : Point) → w ≡ Pointed point → P point.begin)
+    → All P (filter_map begin_of (w ∷ []))
+newer_one P (Pointed point) each = All-cons P point.begin [] (each point refl) (All-nil P)
+newer_one P (Copied id kind taken) each = All-nil P
+
+pub newer_more : (P : ℕ → Type 0) (works : List Work) (i : ℕ) (w : Work) → i < length works
+    → w ≡ slice_index_or works i w → All P (filter_map begin_of (take i works))
+    → All P (filter_map begin_of (w ∷ [])) → All P (filter_map begin_of (take (i + 1) works))
+newer_more P works i w within is so_far one =
+    subst (All P) (sym (named_more begin_of works i w within))
+    (All-append P (filter_map begin_of (take i works)) (filter_map begin_of (slice_index_or works i w ∷ [])) so_far
+    (subst (λ (v : Work). All P (filter_map begin_of (v ∷ []))) is one))

@@ -1,10 +1,10 @@
 -- When a run is settled: all that its sessions, checkpoints and copies were answered stands in what
 -- it left.
-use Rattle.std.specs.Prelude.{ℕ, ◌≡◌, ◌<◌, ◌++◌, ◌⊎◌, Bool, List, length}
+use Rattle.std.specs.Prelude.{ℕ, ◌≡◌, ◌+◌, ◌<◌, ◌≤◌, ◌++◌, ◌⊎◌, Bool, List, length, take}
 use Rattle.std.specs.Prelude.{slice_index_or, Option, Some, None, IsSomeAnd}
 use Rattle.std.specs.List.{All, filter_map, sum_by}
 use Rattle.log_records.specs.declared.record.Record.{Record}
-use Rattle.log_records.specs.Log.{Log}
+use Rattle.log_records.specs.Log.{Log, lsn_of}
 use Rattle.copy_vault.specs.declared.copy_id.CopyKind.{CopyKind}
 use Rattle.copy_vault.specs.Copy.{CopyView, taken_count}
 use Rattle.copy_vault.specs.Vault.{CopyState, complete_of, state_of}
@@ -70,15 +70,23 @@ lsns_of sessions works = written (all_receipts sessions) ++ filter_map begin_of 
 abbrev pub copies_of : List Work → List ℕ
 copies_of works = filter_map copy_of works
 
--- the changes of the sessions are as many as the log has
-abbrev pub AddUp : List (List Receipt) → List Record → Type 0
-AddUp sessions rs = sum_by changes_in sessions ≡ updates_in rs
+-- the changes of the first records, which were there before, and those of the sessions are as many
+-- as the log has
+abbrev pub AddUp : ℕ → List (List Receipt) → List Record → Type 0
+AddUp began sessions rs =
+    updates_in (take began rs) + sum_by changes_in sessions ≡ updates_in rs
 
--- the shares of the sessions add up to the changes of the log; each receipt stands, and so does
--- each Point and copy; and nothing was answered twice
-pub record IsSettled (e : Evidence) (sessions : List (List Receipt)) (works : List Work)
-    : Type 0 where
-  pub counted : AddUp sessions e.log.records
+-- none of the records that were answered was there before
+abbrev pub AreNewer : ℕ → List (List Receipt) → List Work → Type 0
+AreNewer began sessions works = All (λ lsn. lsn_of began ≤ lsn) (lsns_of sessions works)
+
+-- the log had so many records when the sessions began. The shares of the sessions add up to the
+-- changes that it has got since; each receipt stands, and so does each Point and copy; none of their
+-- records is older; and nothing was answered twice
+pub record IsSettled (began : ℕ) (e : Evidence) (sessions : List (List Receipt))
+    (works : List Work) : Type 0 where
+  pub counted : AddUp began sessions e.log.records
+  pub newer : AreNewer began sessions works
   pub receipts : All (AllStand e.log.records e.forced_end) sessions
   pub work : All (WorkStands e) works
   pub lsns : AreApart (lsns_of sessions works)
@@ -110,16 +118,23 @@ IsWorkBad e marks given (Copied id kind taken) at =
     (at ≡ 0) × ((¬ WorkStands e (Copied id kind taken))
     ⊎ ((ids : List ℕ) → AreGiven given ids → 0 < times id ids))
 
+-- a receipt or Point has this LSN, of a record that was there before
+pub record IsOlderAt (began : ℕ) (sessions : List (List Receipt)) (works : List Work) (at : ℕ)
+    : Type 0 where
+  pub below : at < lsn_of began
+  pub there : 0 < times at (lsns_of sessions works)
+
 -- what an LSN names where a run is not settled. The shares are looked at first: where they do not
--- add up, it is 0. Else it is that of a receipt or Point that does not stand, or of two that have
--- it; or it is 0, and a copy does not stand or comes twice
-abbrev pub IsWrongAt : Evidence → List (List Receipt) → List Work → ℕ → Type 0
-IsWrongAt e sessions works at =
-    ((¬ AddUp sessions e.log.records) × (at ≡ 0))
-    ⊎ (AddUp sessions e.log.records × (AreWrongAt e.log.records e.forced_end sessions at
+-- add up, it is 0. Else it is that of a receipt or Point whose record is older than its sessions, or
+-- that does not stand, or of two that have it; or it is 0, and a copy does not stand or comes twice
+abbrev pub IsWrongAt : ℕ → Evidence → List (List Receipt) → List Work → ℕ → Type 0
+IsWrongAt began e sessions works at =
+    ((¬ AddUp began sessions e.log.records) × (at ≡ 0))
+    ⊎ (AddUp began sessions e.log.records × (IsOlderAt began sessions works at
+    ⊎ AreWrongAt e.log.records e.forced_end sessions at
     ⊎ IsWorkWrongAt e (written (all_receipts sessions)) works at))
 
 -- what a refusal tells: memory is asked for once the shares were compared
-abbrev pub IsFaultOf : Evidence → List (List Receipt) → List Work → SettleFault → Type 0
-IsFaultOf e sessions works OutOfMemory = AddUp sessions e.log.records
-IsFaultOf e sessions works (Unsettled at) = IsWrongAt e sessions works at
+abbrev pub IsFaultOf : ℕ → Evidence → List (List Receipt) → List Work → SettleFault → Type 0
+IsFaultOf began e sessions works OutOfMemory = AddUp began sessions e.log.records
+IsFaultOf began e sessions works (Unsettled at) = IsWrongAt began e sessions works at

@@ -1,9 +1,9 @@
 //! Whether the shares of sessions add up to the changes of a log, and their receipts stand in it.
 
-ghost use Rattle.std.specs.Prelude.{◌≡◌, false, true, length, replicate, IfErr, OnOk};
-ghost use Rattle.std.specs.List.{All};
+ghost use Rattle.std.specs.Prelude.{◌≡◌, drop, false, true, length, replicate, IfErr, OnOk};
+ghost use Rattle.std.specs.List.{All, sum_by};
 ghost use Rattle.settlement.specs.Volume.{AreOfVolume};
-ghost use Rattle.settlement.specs.Counts.{updates_in};
+ghost use Rattle.settlement.specs.Counts.{changes_in, updates_in};
 ghost use Rattle.settlement.specs.Marks.{AreMarked};
 ghost use Rattle.settlement.specs.Receipt.{written};
 ghost use Rattle.settlement.specs.Session.{AllStand};
@@ -16,12 +16,20 @@ use page_core::{Lsn, Page};
 use settlement::check_session;
 use std::sync::ledger::Ledger;
 
-/// Whether the shares of the sessions add up to the changes of the log.
-pub(crate) fn add_up<G: Ledger>(sessions: &[Session<G>], records: &[Record]) -> bool
-    ensures yes { result ≡ true → AddUp sessions.now records.now }
-    ensures no { result ≡ false → ¬ AddUp sessions.now records.now }
+/// Whether the shares of the sessions add up to the changes of the log behind its first records.
+pub(crate) fn add_up<G: Ledger>(began: u32, sessions: &[Session<G>], records: &[Record]) -> bool
+    ensures yes { result ≡ true → AddUp began sessions.now records.now }
+    ensures no { result ≡ false → ¬ AddUp began sessions.now records.now }
 {
-    let mut left = update_count(records);
+    changes_are(sessions, update_count(behind(began, records)))
+}
+
+/// Whether the sessions have made so many changes.
+fn changes_are<G: Ledger>(sessions: &[Session<G>], count: usize) -> bool
+    ensures yes { result ≡ true → sum_by changes_in sessions.now ≡ count }
+    ensures no { result ≡ false → ¬ (sum_by changes_in sessions.now ≡ count) }
+{
+    let mut left = count;
     for session in sessions {
         let Some(rest) = left.checked_sub(session.changes()) else {
             return false;
@@ -31,14 +39,25 @@ pub(crate) fn add_up<G: Ledger>(sessions: &[Session<G>], records: &[Record]) -> 
     left == 0
 }
 
-/// How many changes a log has.
-fn update_count(records: &[Record]) -> usize
+/// How many changes these records have.
+pub(crate) fn update_count(records: &[Record]) -> usize
     ensures { result ≡ updates_in records.now }
 {
     records
         .iter()
         .filter(|record| matches!(record, Record::Update { .. }))
         .count()
+}
+
+/// The records behind the first ones.
+fn behind(began: u32, records: &[Record]) -> &[Record]
+    ensures { result.now ≡ drop began records.now }
+{
+    if began as usize <= records.len() {
+        &records[began as usize..]
+    } else {
+        &[]
+    }
 }
 
 /// Checks the receipts of all sessions against the log, and marks the records that they speak of.

@@ -38,10 +38,9 @@ impl<S: PageStore, D: LogDevice, G: Ledger> Model for Held<S, D, G> {
 }
 
 impl<S: PageStore, D: LogDevice, G: Ledger> Held<S, D, G> {
-    /// An engine whose log has no change yet, and a book that has counted none.
+    /// An engine, and a book that has counted the changes of its log.
     pub fn new(engine: Engine<S, D>, book: Book<G>) -> Held<S, D, G>
-        requires none { updates_in engine.state.log ≡ 0 }
-        requires empty { book.total ≡ 0 }
+        requires counted { book.total ≡ updates_in engine.state.log }
         ensures engine { result.engine ≡ engine }
     {
         Held { engine, book }

@@ -1,6 +1,6 @@
 //! What a settled run tells, for readers of the contracts.
 
-ghost use Rattle.std.specs.Prelude.{ℕ, ◌≡◌, ◌<◌, true, List, length, slice_index_or};
+ghost use Rattle.std.specs.Prelude.{ℕ, ◌≡◌, ◌<◌, ◌≤◌, true, List, length, slice_index_or};
 ghost use Rattle.std.specs.List.{All};
 ghost use Rattle.log_records.specs.declared.record.Record.{Record};
 ghost use Rattle.log_records.specs.Log.{Log, lsn_of};
@@ -40,35 +40,37 @@ pub fn a_free_lock_guards_a_fit_engine<S: PageStore, D: LogDevice, G: Ledger>(he
     a_complete_copy_restores();
 }
 
-/// The changes in the log are those that were answered, each once: one receipt of a change has the
-/// LSN of each Update. That a receipt of a change has an Update of its own in the log is a part of
-/// what *settled* says.
+/// The changes that the log has got since the sessions began are those that were answered, each once:
+/// one receipt of a change has the LSN of each Update. That a receipt of a change has an Update of its
+/// own in the log is a part of what *settled* says.
 pub fn each_change_was_answered_once()
-    ensures { (e : Evidence) (sessions : List (List Receipt)) (works : List Work)
-        → IsSettled e sessions works → (i : ℕ) (d : Record) → i < length e.log.records
+    ensures { (began : ℕ) (e : Evidence) (sessions : List (List Receipt)) (works : List Work)
+        → IsSettled began e sessions works → (i : ℕ) (d : Record) → began ≤ i
+        → i < length e.log.records
         → is_update (slice_index_or e.log.records i d) ≡ true
         → times (lsn_of i) (changed (all_receipts sessions)) ≡ 1 }
 {}
 
 /// The Commit of each commit that was answered is in every log that a crash may leave.
 pub fn an_acknowledged_commit_is_kept()
-    ensures { (left : RetiredView) (sessions : List (List Receipt)) (works : List Work) (kept : Log)
-        → IsSettled (evidence_in left) sessions works → IsKeptOf left.log left.forced_end kept
+    ensures { (began : ℕ) (left : RetiredView) (sessions : List (List Receipt)) (works : List Work)
+        (kept : Log) → IsSettled began (evidence_in left) sessions works
+        → IsKeptOf left.log left.forced_end kept
         → All (All (IsCommitIn kept.records)) sessions }
 {}
 
 /// What a session read is made of its own records, too.
 pub fn a_session_reads_its_own_writes()
-    ensures { (left : RetiredView) (sessions : List (List Receipt)) (works : List Work)
-        → IsRetired left → IsSettled (evidence_in left) sessions works
+    ensures { (began : ℕ) (left : RetiredView) (sessions : List (List Receipt)) (works : List Work)
+        → IsRetired left → IsSettled began (evidence_in left) sessions works
         → All (ReadsItsOwn left.log.records) sessions }
 {}
 
 /// Each copy that was answered restores every log that a crash may leave: redo from its redo point
 /// on makes each page what redo of the whole kept log makes.
 pub fn an_answered_copy_restores()
-    ensures { (left : RetiredView) (sessions : List (List Receipt)) (works : List Work) (kept : Log)
-        → IsRetired left → IsSettled (evidence_in left) sessions works
+    ensures { (began : ℕ) (left : RetiredView) (sessions : List (List Receipt)) (works : List Work)
+        (kept : Log) → IsRetired left → IsSettled began (evidence_in left) sessions works
         → IsKeptOf left.log left.forced_end kept
         → All (IsRestoredBy left.copies kept.records) works }
 {
@@ -77,6 +79,6 @@ pub fn an_answered_copy_restores()
 
 /// A run of which something is wrong is not settled, so a settled one is refused for memory alone.
 pub fn what_is_wrong_is_not_settled()
-    ensures { (e : Evidence) (sessions : List (List Receipt)) (works : List Work) (at : ℕ)
-        → IsWrongAt e sessions works at → ¬ IsSettled e sessions works }
+    ensures { (began : ℕ) (e : Evidence) (sessions : List (List Receipt)) (works : List Work)
+        (at : ℕ) → IsWrongAt began e sessions works at → ¬ IsSettled began e sessions works }
 {}

@@ -1,6 +1,7 @@
 //! One engine for many threads: each call is one hold of the one lock round it.
 #![tactic(auto)]
 
+mod check_ages;
 mod check_sessions;
 mod check_works;
 mod copier;

@@ -18,6 +18,7 @@ pub struct Opened<S: PageStore, D: LogDevice, G: Ledger> {
     held: Held<S, D, G>,
     spares: Vec<Mutex<Spare<G>>>,
     sessions: u32,
+    began: u32,
 }
 
 impl<S: PageStore, D: LogDevice, G: Ledger> Model for Opened<S, D, G> {
@@ -26,7 +27,11 @@ impl<S: PageStore, D: LogDevice, G: Ledger> Model for Opened<S, D, G> {
 
     ghost Value = { OpenedView S D };
 
-    ghost view = { λ it. record { held = it.held; sessions = it.sessions } };
+    ghost view = { λ it. record {
+      held = it.held;
+      sessions = it.sessions;
+      began = it.began;
+    } };
 
     ghost invariant = { λ it. it.sessions + vec_len it.spares ≡ 64 };
 }
@@ -34,18 +39,28 @@ impl<S: PageStore, D: LogDevice, G: Ledger> Model for Opened<S, D, G> {
 impl<S: PageStore, D: LogDevice, G: Ledger> Opened<S, D, G> {
     /// Takes a shared engine out of its lock.
     pub(crate) fn new(shared: Shared<S, D, G>) -> Opened<S, D, G>
-        ensures { result.sessions ≡ shared.sessions }
+        ensures sessions { result.sessions ≡ shared.sessions }
+        ensures began { result.began ≡ shared.began }
     {
         let Shared {
             held,
             spares,
             sessions,
+            began,
         } = shared;
         Opened {
             held: held.into_inner(),
             spares,
             sessions,
+            began,
         }
+    }
+
+    /// How many records the log had before its first session.
+    pub fn began(&self) -> u32
+        ensures { result ≡ self.now.began }
+    {
+        self.began
     }
 
     /// What lay under the lock.
@@ -57,17 +72,20 @@ impl<S: PageStore, D: LogDevice, G: Ledger> Opened<S, D, G> {
 
     /// Puts the engine behind a lock again, for its sessions, flushers and copies to go on.
     pub fn into_shared(self) -> Shared<S, D, G>
-        ensures { result.sessions ≡ self.sessions }
+        ensures sessions { result.sessions ≡ self.sessions }
+        ensures began { result.began ≡ self.began }
     {
         let Opened {
             held,
             spares,
             sessions,
+            began,
         } = self;
         Shared {
             held: Mutex::new(held),
             spares,
             sessions,
+            began,
         }
     }
 }

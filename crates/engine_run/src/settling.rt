@@ -7,6 +7,7 @@ ghost use Rattle.settlement.specs.Volume.{AreOfVolume};
 ghost use Rattle.engine_run.specs.Settled.{AddUp, IsFaultOf, IsSettled, IsWrongAt, evidence};
 ghost use Rattle.engine_run.specs.Settled.{evidence_in, evidence_of};
 
+use crate::check_ages::check_ages;
 use crate::check_sessions::{add_up, check_sessions};
 use crate::check_works::check_works;
 use crate::fault::SettleFault;
@@ -35,23 +36,25 @@ pub struct Unsettled<S: PageStore, D: LogDevice, G: Ledger> {
 }
 
 impl<S: PageStore, D: LogDevice, G: Ledger> Held<S, D, G> {
-    /// Checks whether the run of these sessions, checkpoints and copies is settled: the shares add
-    /// up to the changes of the log, each receipt stands, and so does each Point and copy, and
-    /// nothing was answered twice. The shares are compared first; all memory is taken then.
+    /// Checks whether the run of these sessions, checkpoints and copies is settled, where the log had
+    /// `began` records before: the shares add up to the changes that it has got since, each receipt
+    /// stands, and so does each Point and copy, none of their records is older, and nothing was
+    /// answered twice. The shares are compared first; all memory is taken then.
     pub fn check(
         &self,
         alloc: Global,
+        began: u32,
         sessions: &[Session<G>],
         works: &[Work],
     ) -> Result<(), SettleFault>
         ensures ok { OnOk result
-            (IsSettled (evidence_of self.now.engine.state) sessions.now works.now) }
+            (IsSettled began (evidence_of self.now.engine.state) sessions.now works.now) }
         ensures err { IfErr result
-            (IsFaultOf (evidence_of self.now.engine.state) sessions.now works.now) }
+            (IsFaultOf began (evidence_of self.now.engine.state) sessions.now works.now) }
     {
         let log = self.engine.log();
         let records = log.records();
-        if !add_up(sessions, records) {
+        if !add_up(began, sessions, records) {
             return Err(SettleFault::Unsettled(Lsn(0)));
         }
         let Ok(room) = Room::new(alloc, log.pages(), records.len()) else {
@@ -63,7 +66,8 @@ impl<S: PageStore, D: LogDevice, G: Ledger> Held<S, D, G> {
         // A fit engine has no more copies than there are ids.
         let _end = self.engine.log_end();
         let copies = self.engine.copies();
-        match check_answers(room, &counted, log.forced_end(), copies, sessions, works) {
+        let forced_end = log.forced_end();
+        match check_answers(room, began, &counted, forced_end, copies, sessions, works) {
             Ok(()) => Ok(()),
             Err(at) => Err(SettleFault::Unsettled(at)),
         }
@@ -73,6 +77,7 @@ impl<S: PageStore, D: LogDevice, G: Ledger> Held<S, D, G> {
 /// Checks what sessions, checkpoints and copies were answered against what a run left.
 fn check_answers<G: Ledger>(
     room: Room,
+    began: u32,
     log: &CountedLog<'_>,
     forced_end: Lsn,
     vault: &Vault,
@@ -83,17 +88,20 @@ fn check_answers<G: Ledger>(
     requires marks { room.marks.items ≡ replicate (length log.now.records) false }
     requires ids { room.copies.items ≡ replicate 1025 false }
     requires few { length vault.now.copies ≤ 1024 }
-    requires counted { AddUp sessions.now log.now.records }
+    requires counted { AddUp began sessions.now log.now.records }
     ensures ok { let e = evidence log.now forced_end vault.now.copies in
-        OnOk result (IsSettled e sessions.now works.now) }
+        OnOk result (IsSettled began e sessions.now works.now) }
     ensures err { let e = evidence log.now forced_end vault.now.copies in
-        IfErr result (IsWrongAt e sessions.now works.now) }
+        IfErr result (IsWrongAt began e sessions.now works.now) }
 {
     let Room {
         mut pages,
         mut marks,
         mut copies,
     } = room;
+    if let Err(at) = check_ages(began, sessions, works) {
+        return Err(at);
+    }
     let marks = marks.as_mut_slice();
     let records = log.records();
     if let Err(at) = check_sessions(&mut pages, marks, records, forced_end, sessions) {
@@ -118,8 +126,8 @@ impl<S: PageStore + Drop, D: LogDevice + Drop, G: Ledger> Held<S, D, G> {
     }
 }
 
-/// Ends the run of a shared engine, where it is settled: then its log has each change that a
-/// session was answered, and no others. What was under the lock is compared with the receipts of
+/// Ends the run of a shared engine, where it is settled: then its log has got each change that a
+/// session was answered, and no others, since it began. What was under the lock is compared with the receipts of
 /// all sessions, and with what its checkpoints and copies answered. Where it is refused, all is
 /// given back, and the engine can go on.
 pub fn settle<S: PageStore + Drop, D: LogDevice + Drop, G: Ledger>(
@@ -128,14 +136,20 @@ pub fn settle<S: PageStore + Drop, D: LogDevice + Drop, G: Ledger>(
     works: &[Work],
     shared: Shared<S, D, G>,
 ) -> Result<Retired, Unsettled<S, D, G>>
-    ensures settled { IfOk result (λ left. IsSettled (evidence_in left) sessions.items works.now) }
+    ensures settled { IfOk result (λ left.
+        IsSettled shared.began (evidence_in left) sessions.items works.now) }
     ensures sessions { IfErr result (λ back. back.sessions ≡ sessions) }
     ensures shared { IfErr result (λ back. back.shared.sessions ≡ shared.sessions) }
-    ensures fault { IfErr result (λ back. IsFaultOf (evidence_of back.shared.held.engine.state)
-        back.sessions.items works.now back.fault) }
+    ensures began { IfErr result (λ back. back.shared.began ≡ shared.began) }
+    ensures fault { IfErr result (λ back. IsFaultOf shared.began
+        (evidence_of back.shared.held.engine.state) back.sessions.items works.now back.fault) }
 {
     let shared = Opened::new(shared);
-    match shared.held().check(alloc, sessions.as_slice(), works) {
+    let began = shared.began();
+    match shared
+        .held()
+        .check(alloc, began, sessions.as_slice(), works)
+    {
         Ok(()) => Ok(shared.into_held().retire()),
         Err(fault) => Err(Unsettled {
             sessions,

@@ -1,20 +1,21 @@
 //! One engine for many threads.
 
-ghost use Rattle.std.specs.Prelude.{◌≡◌, ◌+◌, ◌<◌, ◌≤◌, [], IfErr, IfOk};
+ghost use Rattle.std.specs.Prelude.{◌≡◌, ◌+◌, ◌<◌, ◌≤◌, [], length, vec_len, IfErr, IfOk};
 ghost use Rattle.page_core.specs.Volume.{formatted_pages};
 ghost use Rattle.buffer_pool.specs.Pool.{IsFrameCount};
 ghost use Rattle.log_records.specs.Log.{IsPageCount};
 
+use crate::check_sessions::update_count;
 use crate::held::Held;
 use crate::session::Session;
 use crate::spare::Spare;
 use aries_core::{Engine, PlayFault, Setup};
 use log_store::LogDevice;
 use page_store::PageStore;
-use std::alloc::Global;
+use std::alloc::{AllocError, Global};
 use std::marker::Model;
 use std::sync::Mutex;
-use std::sync::ledger::{Blank, Ledger};
+use std::sync::ledger::{Blank, Ledger, Share};
 
 /// How many sessions an engine can have.
 pub const MAX_SESSIONS: u32 = 64;
@@ -27,6 +28,8 @@ pub struct Shared<S: PageStore, D: LogDevice, G: Ledger> {
     /// The shares of the sessions that are not made yet.
     pub(crate) spares: Vec<Mutex<Spare<G>>>,
     pub(crate) sessions: u32,
+    /// How many records the log had before the first session.
+    pub(crate) began: u32,
 }
 
 impl<S: PageStore, D: LogDevice, G: Ledger> Model for Shared<S, D, G> {
@@ -35,7 +38,7 @@ impl<S: PageStore, D: LogDevice, G: Ledger> Model for Shared<S, D, G> {
 
     ghost Value = { SharedView };
 
-    ghost view = { λ it. record { sessions = it.sessions } };
+    ghost view = { λ it. record { sessions = it.sessions; began = it.began } };
 
     ghost invariant = { λ it. it.sessions + vec_len it.spares ≡ 64 };
 }
@@ -58,17 +61,14 @@ impl<S: PageStore + Drop, D: LogDevice + Drop, G: Ledger> Shared<S, D, G> {
         requires formatted { S.stored store ≡ formatted_pages setup.pages }
 
         ensures sessions { IfOk result (λ it. it.sessions ≡ 0) }
+        ensures began { IfOk result (λ it. it.began ≡ 0) }
         ensures past_bound { IfErr result (λ why. why ≡ PlayFault.LogFault
             → D.fails_from device ≤ 64) }
     {
-        let (book, mut rest) = blank.open::<G>();
-        let mut spares = Vec::new(alloc);
-        for _ in 0..MAX_SESSIONS {
-            let spare = Spare::new(rest.split_off(1, 0));
-            if spares.push(Mutex::new(spare)).is_err() {
-                return Err(PlayFault::OutOfMemory);
-            }
-        }
+        let (book, rest) = blank.open::<G>();
+        let Ok((spares, _)) = spares_of(alloc, rest) else {
+            return Err(PlayFault::OutOfMemory);
+        };
         let engine = match Engine::new(alloc, setup, store, device) {
             Ok(engine) => engine,
             Err((fault, _)) => return Err(fault),
@@ -77,8 +77,63 @@ impl<S: PageStore + Drop, D: LogDevice + Drop, G: Ledger> Shared<S, D, G> {
             held: Mutex::new(Held::new(engine, book)),
             spares,
             sessions: 0,
+            began: 0,
         })
     }
+}
+
+impl<S: PageStore, D: LogDevice, G: Ledger> Shared<S, D, G> {
+    /// An engine that goes on from an older one, as `Engine::resume` makes it, and no session. The
+    /// ledger `G` is opened here. The share that no session gets counts the changes that the log has
+    /// already, so those of the sessions add up to the changes from here on. What is open stays so.
+    /// An `Err` comes where memory is refused, and hands the engine back.
+    pub fn resume(
+        alloc: Global,
+        blank: Blank,
+        engine: Engine<S, D>,
+    ) -> Result<Shared<S, D, G>, Engine<S, D>>
+        requires name { blank.name ≡ G.name }
+        requires parts { blank.parts ≡ G.parts }
+        requires sessions { blank.parts ≡ 65 }
+        ensures sessions { IfOk result (λ it. it.sessions ≡ 0) }
+        ensures began { IfOk result (λ it. it.began ≡ length engine.state.log) }
+        ensures same { IfErr result (λ it. it ≡ engine) }
+    {
+        let (mut book, rest) = blank.open::<G>();
+        let Ok((spares, mut rest)) = spares_of(alloc, rest) else {
+            return Err(engine);
+        };
+        let records = engine.log().records();
+        // A fit engine has no more records than a log may have.
+        let _end = engine.log_end();
+        let began = records.len() as u32;
+        book.add(&mut rest, update_count(records) as u64);
+        Ok(Shared {
+            held: Mutex::new(Held::new(engine, book)),
+            spares,
+            sessions: 0,
+            began,
+        })
+    }
+}
+
+/// A share for each session that may be made, and the part that is left.
+fn spares_of<G: Ledger>(
+    alloc: Global,
+    mut rest: Share<G>,
+) -> Result<(Vec<Mutex<Spare<G>>>, Share<G>), AllocError>
+    requires parts { rest.parts ≡ 65 }
+    requires none { rest.amount ≡ 0 }
+    ensures spares { IfOk result (λ it. vec_len it.0 ≡ 64) }
+    ensures part { IfOk result (λ it. it.1.parts ≡ 1) }
+    ensures amount { IfOk result (λ it. it.1.amount ≡ 0) }
+{
+    let mut spares = Vec::new(alloc);
+    for _ in 0..MAX_SESSIONS {
+        let spare = Spare::new(rest.split_off(1, 0));
+        spares.push(Mutex::new(spare))?;
+    }
+    Ok((spares, rest))
 }
 
 impl<S: PageStore, D: LogDevice, G: Ledger> Shared<S, D, G> {
@@ -89,10 +144,18 @@ impl<S: PageStore, D: LogDevice, G: Ledger> Shared<S, D, G> {
         self.sessions
     }
 
+    /// How many records the log had before the first session.
+    pub fn began(&self) -> u32
+        ensures { result ≡ self.now.began }
+    {
+        self.began
+    }
+
     /// Makes a session. All are made before the engine is shared.
     pub fn session(&mut self, alloc: Global) -> Session<G>
         requires { self.old.sessions < 64 }
         ensures one_more { self.new.sessions ≡ self.old.sessions + 1 }
+        ensures began { self.new.began ≡ self.old.began }
         ensures empty { result ≡ [] }
     {
         let Some(spare) = self.spares.pop() else {

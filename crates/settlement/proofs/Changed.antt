@@ -1,12 +1,12 @@
 -- Each change of a log has one receipt: as many receipts of changes as changes, no two of one LSN.
 use Rattle.std.proofs.Common.{ℕ, ◌≡◌, ◌≢◌, ◌+◌, ◌<◌, ◌≤◌, Bool, true, false, List, [], ◌∷◌}
-use Rattle.std.proofs.Common.{length, take, map, filter, slice_index_or, slice_get, arith, refl, sym, suc, zero}
+use Rattle.std.proofs.Common.{length, take, drop, ◌-◌, zero-add, map, filter, slice_index_or, slice_get, arith, refl, sym, suc, zero}
 use Rattle.std.proofs.Common.{◌∙◌, ap, subst, cond, inl, inr, IsSomeAnd}
 use Rattle.std.specs.List.{All, sum_by}
 use Rattle.std.proofs.lemmas.Bool.{cases_lt}
 use Rattle.std.proofs.lemmas.Bool.Decides.{eqb_tells}
 use Rattle.std.proofs.lemmas.List.Elements.{All-append, All-cons, All-head, All-nil, All-tail, All-weaker}
-use Rattle.std.proofs.lemmas.List.{length-map}
+use Rattle.std.proofs.lemmas.List.{get_or-drop, length-drop, length-map, take-append-drop}
 use Rattle.std.proofs.lemmas.List.Sums.{length-filter, sum_by-append, sum_by-cons}
 use Rattle.log_records.specs.declared.record.Record.{Record}
 use Rattle.log_records.specs.declared.record.Record.TheVariants as log
@@ -71,17 +71,17 @@ found_once k (r ∷ rs) s from within =
     ]
 
 -- each of them is found
-found_all : (lsns : List ℕ) (rs : List Record)
-    → All (λ lsn. (k : ℕ) × (lsn ≡ lsn_of k) × (k < length rs)) lsns → found lsns rs 0 ≡ length lsns
-found_all [] rs all = found_none rs 0
-found_all (lsn ∷ lsns) rs all =
-    let P : ℕ → Type 0 = λ x. (k : ℕ) × (x ≡ lsn_of k) × (k < length rs) in
+found_all : (lsns : List ℕ) (rs : List Record) (s : ℕ)
+    → All (λ lsn. (k : ℕ) × (lsn ≡ lsn_of k) × (s ≤ k) × (k < s + length rs)) lsns
+    → found lsns rs s ≡ length lsns
+found_all [] rs s all = found_none rs s
+found_all (lsn ∷ lsns) rs s all =
+    let P : ℕ → Type 0 = λ x. (k : ℕ) × (x ≡ lsn_of k) × (s ≤ k) × (k < s + length rs) in
     let head = All-head P lsn lsns all in
-    let one : found (lsn ∷ []) rs 0 ≡ 1 =
-    subst (λ (x : ℕ). found (x ∷ []) rs 0 ≡ 1) (sym head.1)
-    (found_once head.0 rs 0 (omega arith) (let h = head.2 in omega arith)) in
-    let rest = found_all lsns rs (All-tail P lsn lsns all) in
-    let more = found_more lsn lsns rs 0 in
+    let one : found (lsn ∷ []) rs s ≡ 1 =
+    subst (λ (x : ℕ). found (x ∷ []) rs s ≡ 1) (sym head.1) (found_once head.0 rs s head.2 head.3) in
+    let rest = found_all lsns rs s (All-tail P lsn lsns all) in
+    let more = found_more lsn lsns rs s in
     omega arith
 
 updates-cons : (r : Record) (rs : List Record)
@@ -234,26 +234,59 @@ few_changed rs sessions all apart i d within =
       | inr none ↦ omega arith
     ]
 
--- each Update of the log has one receipt
-pub one_receipt_each : (rs : List Record) (forced_end : ℕ) (sessions : List (List Receipt))
-    (i : ℕ) (d : Record) → sum_by changes_in sessions ≡ updates_in rs
-    → All (AllStand rs forced_end) sessions → AreApart (written (all_receipts sessions))
-    → i < length rs → is_update (slice_index_or rs i d) ≡ true
+-- what holds of the LSN of each record that receipts are of holds of those of changes
+changed_of_written : (P : ℕ → Type 0) (xs : List Receipt) → All P (written xs) → All P (changed xs)
+changed_of_written P [] all = All-nil P
+changed_of_written P (Changed at txn page slot kind number ∷ xs) all =
+    All-cons P at (changed xs) (All-head P at (written xs) all)
+    (changed_of_written P xs (All-tail P at (written xs) all))
+changed_of_written P (Stepped at txn step ∷ xs) all =
+    changed_of_written P xs (All-tail P at (written xs) all)
+changed_of_written P (Read end page slot number ∷ xs) all = changed_of_written P xs all
+
+-- the changes of a log are those of its first records, and the others
+pub updates_split : (b : ℕ) (rs : List Record)
+    → updates_in rs ≡ updates_in (take b rs) + updates_in (drop b rs)
+updates_split b rs =
+    ap updates_in (sym (take-append-drop b rs))
+    ∙ sum_by-append (λ r. cond (is_update r) 1 0) (take b rs) (drop b rs)
+
+-- each Update of the log behind its first records has one receipt
+pub one_receipt_each : (rs : List Record) (forced_end b : ℕ) (sessions : List (List Receipt))
+    (i : ℕ) (d : Record) → updates_in (take b rs) + sum_by changes_in sessions ≡ updates_in rs
+    → All (AllStand rs forced_end) sessions
+    → All (λ lsn. lsn_of b ≤ lsn) (written (all_receipts sessions))
+    → AreApart (written (all_receipts sessions))
+    → b ≤ i → i < length rs → is_update (slice_index_or rs i d) ≡ true
     → times (lsn_of i) (changed (all_receipts sessions)) ≡ 1
-one_receipt_each rs forced_end sessions i d add_up stand apart within is =
+one_receipt_each rs forced_end b sessions i d add_up stand newer apart from within is =
     let xs = all_receipts sessions in
+    let behind = drop b rs in
+    let long = length-drop b rs in
     let Q : Receipt → Type 0 = λ x. is_change x ≡ true → IsUpdateAt rs (position x) in
     let each : All (All Q) sessions =
     All-weaker (AllStand rs forced_end) (All Q)
     (λ ys all k e lt. stands_update rs forced_end (take k ys) (slice_index_or ys k e) (all k e lt))
     sessions stand in
     let updates = changed_all (IsUpdateAt rs) xs (all_flat Q sessions each) in
-    let there : All (λ lsn. (k : ℕ) × (lsn ≡ lsn_of k) × (k < length rs)) (changed xs) =
-    All-weaker (IsUpdateAt rs) (λ lsn. (k : ℕ) × (lsn ≡ lsn_of k) × (k < length rs))
-    (λ lsn at. (at.0, at.1, at.2)) (changed xs) updates in
-    let count : found (changed xs) rs 0 ≡ updates_in rs =
-    found_all (changed xs) rs there ∙ length-changed xs ∙ changes_all sessions ∙ add_up in
-    let few = few_changed rs sessions updates apart in
-    let same : 0 + i ≡ i = omega arith in
-    subst (λ (n : ℕ). times (lsn_of n) (changed xs) ≡ 1) same
-    (each_found (changed xs) rs 0 i d few count within ∙ ap (λ (b : Bool). cond b 1 0) is)
+    let late = changed_of_written (λ lsn. lsn_of b ≤ lsn) xs newer in
+    let there : All (λ lsn. (k : ℕ) × (lsn ≡ lsn_of k) × (b ≤ k) × (k < b + length behind)) (changed xs) =
+    λ k e lt.
+    let at = updates k e lt in
+    let low = late k e lt in
+    (at.0, at.1, omega (arith, low, at.1), (let h = at.2 in omega (arith, h, long, low, at.1))) in
+    let split = updates_split b rs in
+    let sum : length (changed xs) ≡ sum_by changes_in sessions = length-changed xs ∙ changes_all sessions in
+    let all = found_all (changed xs) behind b there in
+    let count : found (changed xs) behind b ≡ updates_in behind = omega (arith, all, sum, add_up, split) in
+    let place : (k : ℕ) → slice_index_or behind k d ≡ slice_index_or rs (b + k) d = λ k. get_or-drop b rs k d in
+    let few : AreFew (changed xs) behind b = λ k e lt.
+    subst (λ (r : Record). times (lsn_of (b + k)) (changed xs) ≤ cond (is_update r) 1 0)
+    (sym (get_or-drop b rs k e))
+    (subst (λ (n : ℕ). times (lsn_of n) (changed xs) ≤ cond (is_update (slice_index_or rs (b + k) e)) 1 0)
+    (zero-add (b + k)) (few_changed rs sessions updates apart (b + k) e (omega (arith, lt, long)))) in
+    let here : b + (i - b) ≡ i = omega (arith, from) in
+    subst (λ (n : ℕ). times (lsn_of n) (changed xs) ≡ 1) here
+    (each_found (changed xs) behind b (i - b) d few count (omega (arith, long, from, within))
+    ∙ ap (λ (b : Bool). cond b 1 0)
+    (ap is_update (place (i - b) ∙ ap (λ (n : ℕ). slice_index_or rs n d) here) ∙ is))

@@ -84,7 +84,7 @@ all_more sessions i d within =
     ∙ written-append (all_receipts (take i sessions)) xs
 
 -- an LSN is no more often among those of the first receipts than among those of all
-times_first : (x n : ℕ) (xs : List Receipt) → times x (written (take n xs)) ≤ times x (written xs)
+pub times_first : (x n : ℕ) (xs : List Receipt) → times x (written (take n xs)) ≤ times x (written xs)
 times_first x n xs =
     let both : times x (written xs) ≡ times x (written (take n xs)) + times x (written (drop n xs)) =
     ap (λ ys. times x (written ys)) (sym (take-append-drop n xs))
@@ -92,7 +92,7 @@ times_first x n xs =
     ∙ times-append x (written (take n xs)) (written (drop n xs)) in
     omega arith
 
-times_sessions : (x n : ℕ) (sessions : List (List Receipt))
+pub times_sessions : (x n : ℕ) (sessions : List (List Receipt))
     → times x (written (all_receipts (take n sessions))) ≤ times x (written (all_receipts sessions))
 times_sessions x n sessions =
     let first = all_receipts (take n sessions) in

@@ -1,6 +1,7 @@
 //! Compares what the sessions of a shared engine were answered with its log.
 #![tactic(auto)]
 
+mod age;
 mod checkpoints;
 mod counted_log;
 mod marks;
@@ -9,6 +10,7 @@ mod reads;
 mod receipt;
 mod session_check;
 
+pub use age::check_age;
 pub use checkpoints::mark_checkpoint;
 pub use counted_log::CountedLog;
 pub use marks::mark_records;

@@ -8,6 +8,8 @@ mod faults;
 #[cfg(test)]
 mod gates;
 #[cfg(test)]
+mod going_on;
+#[cfg(test)]
 mod holds;
 #[cfg(test)]
 mod sessions;

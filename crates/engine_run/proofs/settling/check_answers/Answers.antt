@@ -17,19 +17,20 @@ pub returns-in-Err-check_works-clause-err : goal.returns-in-Err-check_works-clau
 returns-in-Err-check_works-clause-err g c =
     inr (
       c.requires.counted,
-      inr (c.in-Err-check_works.ensures.err (written (all_receipts c.args.sessions.now))
-          c.in_default.ensures.marked),
+      inr (inr (c.in-Err-check_works.ensures.err (written (all_receipts c.args.sessions.now))
+          c.in_default-check_sessions.ensures.marked)),
     )
 
 pub returns-clause-ok : goal.returns-clause-ok
 returns-clause-ok g c = record {
   counted = c.requires.counted;
+  newer = c.in_default.ensures.ok;
   receipts =
       subst (λ (rs : List Record). All (AllStand rs c.args.forced_end) c.args.sessions.now)
-      c.records-records.ensures c.in_default.ensures.ok;
+      c.records-records.ensures c.in_default-check_sessions.ensures.ok;
   work = c.in_default-check_works.ensures.ok;
   lsns =
       c.in_default-check_works.ensures.lsns (written (all_receipts c.args.sessions.now))
-      c.in_default.ensures.marked;
+      c.in_default-check_sessions.ensures.marked;
   copies = c.in_default-check_works.ensures.copies;
 }

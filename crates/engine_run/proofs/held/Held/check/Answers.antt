@@ -25,9 +25,9 @@ returns-clause-err g c =
     same_log counted c.log-log.result.now.log c.header_pages.result c.records-records.result.now
     c.in-Ok-new.ensures c.header_pages.ensures c.records-records.ensures.records
     ∙ c.log-log.ensures.log in
-    let forced = c.forced_end.ensures.end ∙ c.log-log.ensures.forced_end in
-    subst (λ v. IsWrongAt (evidence_of v.engine.state) sessions works at) c.self.view_is
-    (subst (λ (lg : Log). IsWrongAt (evidence lg s.forced_end s.copies) sessions works at) log
-    (subst (λ n. IsWrongAt (evidence counted n s.copies) sessions works at) forced
-    (subst (λ (copies : List CopyState). IsWrongAt (evidence counted c.forced_end.result copies)
+    let forced = c.forced_end-forced_end.ensures.end ∙ c.log-log.ensures.forced_end in
+    subst (λ v. IsWrongAt c.args.began (evidence_of v.engine.state) sessions works at) c.self.view_is
+    (subst (λ (lg : Log). IsWrongAt c.args.began (evidence lg s.forced_end s.copies) sessions works at) log
+    (subst (λ n. IsWrongAt c.args.began (evidence counted n s.copies) sessions works at) forced
+    (subst (λ (copies : List CopyState). IsWrongAt c.args.began (evidence counted c.forced_end-forced_end.result copies)
     sessions works at) c.copies-copies.ensures c.in-Err.ensures.err)))

@@ -1,5 +1,5 @@
 use Rattle.std.proofs.Common.{◌≡◌, ◌+◌, vec_len}
-use Rattle.engine_run.proofs.shared.Shared.new.Given as goal
+use Rattle.engine_run.proofs.shared.spares_of.Given as goal
 
 -- each spare has one of the parts, and counts nothing
 abbrev pub invariant-loop : goal.invariant-loop

@@ -1,0 +1,17 @@
+use Rattle.aries_core.specs.EngineState.{log_of}
+use Rattle.engine_restart.proofs.Lives.{commits_stand, last_of, lost_fit, numbers_committed}
+use Rattle.engine_restart.specs.Lives.{last_life}
+use Rattle.engine_restart.proofs.laws.lives_follow_one_another.Goals as goal
+
+pub returns : goal.returns
+returns c = record {
+  fit = lost_fit;
+  commits = commits_stand;
+  restores = λ first later id copy are is.
+      let last = last_life first later in
+      let of = last_of first later are in
+      let s = last.lost in
+      c.a_complete_copy_restores.ensures.restores (log_of s) last.left s.forced_end s.copies id copy of.1.valid
+      (c.copies_may_be_restored.ensures (log_of s) s.forced_end s.stored s.copies of.1.copied) of.0.kept is;
+  committed = numbers_committed;
+}

@@ -1,0 +1,56 @@
+//! A shared engine that goes on from an older one.
+
+ghost use Rattle.std.specs.Prelude.{◌≡◌};
+
+use crate::volume::{Volume, add_one, new_session, only, settled};
+use aries_core::{Engine, Setup};
+use log_store::MemDevice;
+use page_core::{Lsn, PageNo, SlotNo};
+use page_store::MemStore;
+use std::marker::Brand;
+use std::process::Abort;
+use std::sync::Wait;
+use std::sync::ledger::{Blank, Ledger};
+
+/// An engine for one thread, in which a transaction has added 5 to a slot.
+fn older_engine(rt: &(impl Abort + AllocGlobal)) -> Engine<MemStore, MemDevice> {
+    let alloc = rt.alloc();
+    let setup = Setup {
+        pages: 8,
+        frames: 8,
+    };
+    let store = MemStore::new(alloc, 8).expect(rt, "a store");
+    let device = MemDevice::new(alloc, 4096).expect(rt, "a device");
+    let Ok(mut engine) = Engine::new(alloc, setup, store, device) else {
+        panic!(rt; "an engine");
+    };
+    let (txn, _) = engine.begin().expect(rt, "begin");
+    let added = engine.add(txn, PageNo(0), SlotNo(0), 5);
+    assert_eq!(rt; added, Ok(Lsn(128)));
+    assert_eq!(rt; engine.commit(txn), Ok(Lsn(192)));
+    engine
+}
+
+/// A session finds the older number, and adds to it. Its changes are those that the log has got
+/// since, and so the run is settled.
+fn go_on<G: Ledger, R: Wait + Abort + AllocGlobal>(rt: &R, blank: Blank)
+    requires name { blank.name ≡ G.name }
+    requires parts { blank.parts ≡ G.parts }
+    requires sessions { blank.parts ≡ 65 }
+{
+    let Ok(mut shared) = Volume::<G>::resume(rt.alloc(), blank, older_engine(rt)) else {
+        panic!(rt; "memory for the sessions");
+    };
+    assert_eq!(rt; shared.began(), 3);
+    let mut session = new_session(rt, &mut shared);
+    assert_eq!(rt; session.read(rt, &shared, PageNo(0), SlotNo(0)), Ok(5));
+    add_one(rt, &shared, &mut session, PageNo(0));
+    assert_eq!(rt; session.read(rt, &shared, PageNo(0), SlotNo(0)), Ok(6));
+    let left = settled(rt, only(rt, session), &[], shared);
+    assert_eq!(rt; left.log().records().len(), 6);
+}
+
+#[test]
+fn a_shared_engine_goes_on_from_an_older_one(rt: HostRuntime) {
+    go_on::<Brand, HostRuntime>(&rt, Blank::new(65));
+}
