@@ -139,6 +139,7 @@ run_checks() {
     check log_out "$program" python3 -- python3 -m checks.log_out "$program"
     check guide "$program" python3 -- python3 -m checks.guide "$program"
     check open_cases "$program" python3 -- python3 -m checks.open_cases "$program"
+    check open_losses "$program" python3 -- python3 -m checks.open_losses "$program"
     check open_kills "$program" python3 -- python3 -m checks.open_kills "$program"
     check saves_at_once "$program" python3 -- python3 -m checks.saves_at_once "$program"
     check frames "$program" python3 -- python3 -m checks.few_frames "$program"
