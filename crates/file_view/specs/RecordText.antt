@@ -1,5 +1,5 @@
 -- The line of a record.
-use Rattle.std.specs.Prelude.{ℕ, ◌++◌, List, codes}
+use Rattle.std.specs.Prelude.{ℕ, ◌++◌, List, [], codes}
 use Rattle.std.specs.Fmt.{decimal}
 use Rattle.page_core.specs.declared.change.Change.{Change}
 use Rattle.page_core.specs.declared.change.Change.TheVariants.{Add, Set}
@@ -13,59 +13,81 @@ use Rattle.log_records.specs.declared.record.Record.TheVariants.{Comp, End, EndC
 use Rattle.log_records.specs.declared.record.Record.TheVariants.{Update}
 use Rattle.log_records.specs.declared.txn_phase.TxnPhase.{TxnPhase}
 use Rattle.log_records.specs.declared.txn_phase.TxnPhase.TheVariants.{Active, Rolling}
+use Rattle.log_records.specs.Record.{own_lsn}
+
+-- the kind of a record
+unfoldable pub kind_text : Record → List ℕ
+kind_text (Begin lsn txn) = codes "begin"
+kind_text (Update lsn txn prev page slot change) = codes "update"
+kind_text (Comp lsn txn prev undo_next page slot change) = codes "comp"
+kind_text (Commit lsn txn prev) = codes "commit"
+kind_text (Abort lsn txn prev) = codes "abort"
+kind_text (End lsn txn prev) = codes "end"
+kind_text (BeginChkpt lsn) = codes "begin_chkpt"
+kind_text (ChkptPages lsn begin pages) = codes "chkpt_pages"
+kind_text (ChkptTxns lsn begin txn state last undo_next) = codes "chkpt_txns"
+kind_text (EndChkpt lsn begin redo) = codes "end_chkpt"
+kind_text (Extend lsn pages) = codes "extend"
 
 -- a change of an Update, with the number that a Set replaces
-abbrev pub change_text : Change → List ℕ
+unfoldable pub change_text : Change → List ℕ
 change_text (Set before after) =
     codes "set " ++ decimal after ++ codes " before " ++ decimal before
 change_text (Add amount) = codes "add " ++ decimal amount
 
 -- a change of a compensation record, whose Set does not say what it replaces
-abbrev pub undo_text : Change → List ℕ
+unfoldable pub undo_text : Change → List ℕ
 undo_text (Set before after) = codes "set " ++ decimal after
 undo_text (Add amount) = codes "add " ++ decimal amount
 
-abbrev pub dirty_text : DirtyPage → List ℕ
+unfoldable pub undo_next_text : ℕ → List ℕ
+undo_next_text lsn = codes "undo_next " ++ decimal lsn
+
+unfoldable pub place_text : ℕ → ℕ → List ℕ
+place_text page slot = codes "page " ++ decimal page ++ codes " slot " ++ decimal slot
+
+unfoldable pub dirty_text : DirtyPage → List ℕ
 dirty_text it = codes "page " ++ decimal it.page ++ codes " rec_lsn " ++ decimal it.rec_lsn
 
-abbrev pub dirty_texts : DirtyPages → List ℕ
+unfoldable pub dirty_texts : DirtyPages → List ℕ
 dirty_texts (One a) = dirty_text a
 dirty_texts (Two a b) = dirty_text a ++ codes " " ++ dirty_text b
 dirty_texts (Three a b c) =
     dirty_text a ++ codes " " ++ dirty_text b ++ codes " " ++ dirty_text c
 
-abbrev pub phase_text : TxnPhase → List ℕ
+unfoldable pub phase_text : TxnPhase → List ℕ
 phase_text Active = codes "active"
 phase_text Rolling = codes "rolling"
 
+-- what a checkpoint found of a transaction
+unfoldable pub found_text : TxnPhase → ℕ → ℕ → List ℕ
+found_text state last undo_next =
+    phase_text state ++ codes " last " ++ decimal last ++ codes " " ++ undo_next_text undo_next
+
+-- the numbers of a record, each behind its name
+unfoldable pub numbers_text : Record → List ℕ
+numbers_text (Begin lsn txn) = codes " txn " ++ decimal txn
+numbers_text (Update lsn txn prev page slot change) =
+    codes " txn " ++ decimal txn ++ codes " prev " ++ decimal prev ++ codes " "
+    ++ place_text page slot ++ codes " " ++ change_text change
+numbers_text (Comp lsn txn prev undo_next page slot change) =
+    codes " txn " ++ decimal txn ++ codes " prev " ++ decimal prev ++ codes " "
+    ++ undo_next_text undo_next ++ codes " " ++ place_text page slot ++ codes " "
+    ++ undo_text change
+numbers_text (Commit lsn txn prev) =
+    codes " txn " ++ decimal txn ++ codes " prev " ++ decimal prev
+numbers_text (Abort lsn txn prev) = codes " txn " ++ decimal txn ++ codes " prev " ++ decimal prev
+numbers_text (End lsn txn prev) = codes " txn " ++ decimal txn ++ codes " prev " ++ decimal prev
+numbers_text (BeginChkpt lsn) = []
+numbers_text (ChkptPages lsn begin pages) =
+    codes " begin " ++ decimal begin ++ codes " " ++ dirty_texts pages
+numbers_text (ChkptTxns lsn begin txn state last undo_next) =
+    codes " begin " ++ decimal begin ++ codes " txn " ++ decimal txn ++ codes " "
+    ++ found_text state last undo_next
+numbers_text (EndChkpt lsn begin redo) =
+    codes " begin " ++ decimal begin ++ codes " redo " ++ decimal redo
+numbers_text (Extend lsn pages) = codes " pages " ++ decimal pages
+
 -- the LSN of a record, its kind, and its numbers
 abbrev pub record_line : Record → List ℕ
-record_line (Begin lsn txn) = codes "lsn " ++ decimal lsn ++ codes " begin txn " ++ decimal txn
-record_line (Update lsn txn prev page slot change) =
-    codes "lsn " ++ decimal lsn ++ codes " update txn " ++ decimal txn ++ codes " prev "
-    ++ decimal prev ++ codes " page " ++ decimal page ++ codes " slot " ++ decimal slot
-    ++ codes " " ++ change_text change
-record_line (Comp lsn txn prev undo_next page slot change) =
-    codes "lsn " ++ decimal lsn ++ codes " comp txn " ++ decimal txn ++ codes " prev "
-    ++ decimal prev ++ codes " undo_next " ++ decimal undo_next ++ codes " page " ++ decimal page
-    ++ codes " slot " ++ decimal slot ++ codes " " ++ undo_text change
-record_line (Commit lsn txn prev) =
-    codes "lsn " ++ decimal lsn ++ codes " commit txn " ++ decimal txn ++ codes " prev "
-    ++ decimal prev
-record_line (Abort lsn txn prev) =
-    codes "lsn " ++ decimal lsn ++ codes " abort txn " ++ decimal txn ++ codes " prev "
-    ++ decimal prev
-record_line (End lsn txn prev) =
-    codes "lsn " ++ decimal lsn ++ codes " end txn " ++ decimal txn ++ codes " prev " ++ decimal prev
-record_line (BeginChkpt lsn) = codes "lsn " ++ decimal lsn ++ codes " begin_chkpt"
-record_line (ChkptPages lsn begin pages) =
-    codes "lsn " ++ decimal lsn ++ codes " chkpt_pages begin " ++ decimal begin ++ codes " "
-    ++ dirty_texts pages
-record_line (ChkptTxns lsn begin txn state last undo_next) =
-    codes "lsn " ++ decimal lsn ++ codes " chkpt_txns begin " ++ decimal begin ++ codes " txn "
-    ++ decimal txn ++ codes " " ++ phase_text state ++ codes " last " ++ decimal last
-    ++ codes " undo_next " ++ decimal undo_next
-record_line (EndChkpt lsn begin redo) =
-    codes "lsn " ++ decimal lsn ++ codes " end_chkpt begin " ++ decimal begin ++ codes " redo "
-    ++ decimal redo
-record_line (Extend lsn pages) = codes "lsn " ++ decimal lsn ++ codes " extend pages " ++ decimal pages
+record_line r = codes "lsn " ++ decimal (own_lsn r) ++ codes " " ++ kind_text r ++ numbers_text r

@@ -24,7 +24,7 @@ point_after before (EndChkpt lsn begin redo) =
 point_after before (Extend lsn pages) = before
 
 -- and behind one record after another
-pub points_after : Option CkptPoint → List Record → Option CkptPoint
+abbrev pub points_after : Option CkptPoint → List Record → Option CkptPoint
 points_after before [] = before
 points_after before (entry ∷ rest) = points_after (point_after before entry) rest
 

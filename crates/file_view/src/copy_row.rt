@@ -1,7 +1,6 @@
 //! The copies of a folder, and which of their chains are whole.
 
-use crate::archive_header::ArchiveHeader;
-use copy_vault::{CopyId, CopyKind};
+use crate::copy_header::ArchiveHeader;
 use std::alloc::{AllocError, Global};
 
 /// A copy of a folder.
@@ -10,7 +9,7 @@ pub struct CopyRow {
     pub header: ArchiveHeader,
     /// The nearest copy below this one of which there is no archive. Without one the chain is
     /// whole.
-    pub missing: Option<CopyId>,
+    pub missing: Option<u32>,
 }
 
 /// The copies of a folder, in order of their ids.
@@ -30,9 +29,10 @@ impl Rows {
     /// Notes the next copy. Its id has to be above those of the copies before it, as each parent is
     /// below its child.
     pub fn push(&mut self, header: ArchiveHeader) -> Result<(), AllocError> {
-        let missing = match header.kind {
-            CopyKind::Full => None,
-            CopyKind::Inc(parent) => self.missing_at(parent),
+        let missing = if header.parent == 0 {
+            None
+        } else {
+            self.missing_at(header.parent)
         };
         self.rows.push(CopyRow { header, missing })?;
         Ok(())
@@ -44,7 +44,7 @@ impl Rows {
     }
 
     /// The nearest copy from this one down of which there is no archive.
-    fn missing_at(&self, id: CopyId) -> Option<CopyId> {
+    fn missing_at(&self, id: u32) -> Option<u32> {
         for row in self.rows.as_slice() {
             if row.header.id == id {
                 return row.missing;

@@ -1,7 +1,6 @@
 //! The line that says what a file is.
 
-use crate::archive_header::ArchiveHeader;
-use copy_vault::CopyKind;
+use crate::copy_header::ArchiveHeader;
 use log_store::Master;
 use page_core::Format;
 use std::fmt;
@@ -31,42 +30,36 @@ fn number_of(format: Format) -> u32 {
     }
 }
 
-/// The kind of a copy, as a script asks for it.
+/// The kind of a copy, as a script asks for it, by its parent.
 #[derive(Clone, Copy)]
-struct KindWords(CopyKind);
+struct KindWords(u32);
 
 impl fmt::Display for KindWords {
     fn fmt<W: fmt::Write>(&self, f: &mut fmt::Formatter<W>) -> fmt::Result {
         match self.0 {
-            CopyKind::Full => f.write_str("full"),
-            CopyKind::Inc(parent) => {
-                let parent = parent.0;
-                write!(f, "inc {parent}")
-            }
+            0 => f.write_str("full"),
+            parent => write!(f, "inc {parent}"),
         }
     }
 }
 
 /// The same in JSON.
 #[derive(Clone, Copy)]
-struct KindJson(CopyKind);
+struct KindJson(u32);
 
 impl fmt::Display for KindJson {
     fn fmt<W: fmt::Write>(&self, f: &mut fmt::Formatter<W>) -> fmt::Result {
         match self.0 {
-            CopyKind::Full => f.write_str("\"kind\":\"full\",\"parent\":null"),
-            CopyKind::Inc(parent) => {
-                let parent = parent.0;
-                write!(f, "\"kind\":\"inc\",\"parent\":{parent}")
-            }
+            0 => f.write_str("\"kind\":\"full\",\"parent\":null"),
+            parent => write!(f, "\"kind\":\"inc\",\"parent\":{parent}"),
         }
     }
 }
 
 impl fmt::Display for ArchiveHeader {
     fn fmt<W: fmt::Write>(&self, f: &mut fmt::Formatter<W>) -> fmt::Result {
-        let (id, pages, taken) = (self.id.0, self.pages, self.taken);
-        let (begin, redo, kind) = (self.begin.0, self.redo.0, KindWords(self.kind));
+        let (id, pages, taken) = (self.id, self.pages, self.taken);
+        let (begin, redo, kind) = (self.begin.0, self.redo.0, KindWords(self.parent));
         write!(
             f,
             "copy {id} {kind} pages {pages} begin {begin} redo {redo} taken {taken}"
@@ -81,8 +74,8 @@ pub(crate) struct HeaderJson(pub ArchiveHeader);
 impl fmt::Display for HeaderJson {
     fn fmt<W: fmt::Write>(&self, f: &mut fmt::Formatter<W>) -> fmt::Result {
         let header = self.0;
-        let (id, pages, taken) = (header.id.0, header.pages, header.taken);
-        let (begin, redo, kind) = (header.begin.0, header.redo.0, KindJson(header.kind));
+        let (id, pages, taken) = (header.id, header.pages, header.taken);
+        let (begin, redo, kind) = (header.begin.0, header.redo.0, KindJson(header.parent));
         write!(
             f,
             "\"id\":{id},{kind},\"pages\":{pages},\"begin\":{begin},\"redo\":{redo},\"taken\":{taken}"

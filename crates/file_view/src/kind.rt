@@ -27,7 +27,7 @@ pub fn kind_of(bytes: &[u8]) -> Option<FileKind> {
         b"AIMGLOG" => Some(FileKind::Log),
         b"AIMGMST" => Some(FileKind::Master),
         b"AIMGARC" => Some(FileKind::Archive),
-        _ => if bytes[..8] == VOLUME {
+        _ => if bytes.starts_with(&VOLUME) {
             Some(FileKind::Volume)
         } else {
             None

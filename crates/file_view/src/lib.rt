@@ -1,7 +1,7 @@
 //! What a file of a database is, and the lines that show it.
 #![tactic(auto)]
 
-mod archive_header;
+mod copy_header;
 mod copy_row;
 mod fault;
 mod head;
@@ -16,7 +16,7 @@ mod show;
 mod summary;
 mod wanted;
 
-pub use archive_header::{ArchiveHeader, archive_header};
+pub use copy_header::{ArchiveHeader, archive_header};
 pub use copy_row::{CopyRow, Rows};
 pub use fault::ViewFault;
 pub use head::{Head, HeadJson};
@@ -28,5 +28,5 @@ pub use page_row::put_page;
 pub use record_json::RecordJson;
 pub use record_line::RecordLine;
 pub use show::{put_record, show_file};
-pub use summary::{LogFacts, facts_of, put_folder};
+pub use summary::{LogFacts, facts_of, put_copies, put_log};
 pub use wanted::Wanted;

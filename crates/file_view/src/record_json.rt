@@ -1,12 +1,17 @@
 //! A record as an object of JSON.
 
+use crate::record_line::KindText;
 use log_records::{DirtyPage, DirtyPages, Record, TxnPhase};
-use page_core::Change;
+use page_core::{Change, Lsn, PageNo, SlotNo};
 use std::fmt;
 
 /// A record as an object of JSON, without a line feed: its LSN, its kind, and its numbers.
 #[derive(Clone, Copy)]
 pub struct RecordJson(pub Record);
+
+/// The numbers of a record behind its kind.
+#[derive(Clone, Copy)]
+struct NumbersJson(Record);
 
 /// A change of an Update.
 #[derive(Clone, Copy)]
@@ -17,6 +22,17 @@ struct ChangeJson(Change);
 struct UndoJson(Change);
 
 #[derive(Clone, Copy)]
+struct UndoNextJson(Lsn);
+
+/// The page and the slot of a change.
+#[derive(Clone, Copy)]
+struct PlaceJson(PageNo, SlotNo);
+
+/// What a checkpoint found of a transaction: its state, its last record, and its UndoNxt.
+#[derive(Clone, Copy)]
+struct FoundJson(TxnPhase, Lsn, Lsn);
+
+#[derive(Clone, Copy)]
 struct DirtyJson(DirtyPage);
 
 #[derive(Clone, Copy)]
@@ -25,12 +41,103 @@ struct DirtyJsonList(DirtyPages);
 #[derive(Clone, Copy)]
 struct PhaseJson(TxnPhase);
 
+impl fmt::Display for RecordJson {
+    ghost use Rattle.std.specs.Prelude.{Some};
+    ghost use Rattle.file_view.specs.Json.{record_json};
+
+    ghost output = { λ it. Some (record_json it.0) };
+
+    fn fmt<W: fmt::Write>(&self, f: &mut fmt::Formatter<W>) -> fmt::Result {
+        let (lsn, kind, numbers) = (self.0.lsn().0, KindText(self.0), NumbersJson(self.0));
+        write!(f, "{{\"lsn\":{lsn},\"kind\":\"{kind}\"{numbers}}}")
+    }
+}
+
+impl fmt::Display for NumbersJson {
+    ghost use Rattle.std.specs.Prelude.{Some};
+    ghost use Rattle.file_view.specs.Json.{numbers_json};
+
+    ghost output = { λ it. Some (numbers_json it.0) };
+
+    #[tactic(auto, unfolding(crate::specs::Json::numbers_json))]
+    fn fmt<W: fmt::Write>(&self, f: &mut fmt::Formatter<W>) -> fmt::Result {
+        match self.0 {
+            Record::Begin { txn, .. } => {
+                let txn = txn.0;
+                write!(f, ",\"txn\":{txn}")
+            }
+            Record::Update {
+                txn,
+                prev,
+                page,
+                slot,
+                change,
+                ..
+            } => {
+                let (txn, prev, place) = (txn.0, prev.0, PlaceJson(page, slot));
+                let change = ChangeJson(change);
+                write!(f, ",\"txn\":{txn},\"prev\":{prev},{place},{change}")
+            }
+            Record::Comp {
+                txn,
+                prev,
+                undo_next,
+                page,
+                slot,
+                change,
+                ..
+            } => {
+                let (txn, prev, undo_next) = (txn.0, prev.0, UndoNextJson(undo_next));
+                let (place, change) = (PlaceJson(page, slot), UndoJson(change));
+                write!(
+                    f,
+                    ",\"txn\":{txn},\"prev\":{prev},{undo_next},{place},{change}"
+                )
+            }
+            Record::Commit { txn, prev, .. } => {
+                let (txn, prev) = (txn.0, prev.0);
+                write!(f, ",\"txn\":{txn},\"prev\":{prev}")
+            }
+            Record::Abort { txn, prev, .. } => {
+                let (txn, prev) = (txn.0, prev.0);
+                write!(f, ",\"txn\":{txn},\"prev\":{prev}")
+            }
+            Record::End { txn, prev, .. } => {
+                let (txn, prev) = (txn.0, prev.0);
+                write!(f, ",\"txn\":{txn},\"prev\":{prev}")
+            }
+            Record::BeginChkpt { .. } => f.write_str(""),
+            Record::ChkptPages { begin, pages, .. } => {
+                let (begin, pages) = (begin.0, DirtyJsonList(pages));
+                write!(f, ",\"begin\":{begin},\"dirty\":{pages}")
+            }
+            Record::ChkptTxns {
+                begin,
+                txn,
+                state,
+                last,
+                undo_next,
+                ..
+            } => {
+                let (begin, txn, found) = (begin.0, txn.0, FoundJson(state, last, undo_next));
+                write!(f, ",\"begin\":{begin},\"txn\":{txn},{found}")
+            }
+            Record::EndChkpt { begin, redo, .. } => {
+                let (begin, redo) = (begin.0, redo.0);
+                write!(f, ",\"begin\":{begin},\"redo\":{redo}")
+            }
+            Record::Extend { pages, .. } => { write!(f, ",\"pages\":{pages}") }
+        }
+    }
+}
+
 impl fmt::Display for ChangeJson {
     ghost use Rattle.std.specs.Prelude.{Some};
     ghost use Rattle.file_view.specs.Json.{change_json};
 
     ghost output = { λ it. Some (change_json it.0) };
 
+    #[tactic(auto, unfolding(crate::specs::Json::change_json))]
     fn fmt<W: fmt::Write>(&self, f: &mut fmt::Formatter<W>) -> fmt::Result {
         match self.0 {
             Change::Set { before, after } => {
@@ -50,11 +157,51 @@ impl fmt::Display for UndoJson {
 
     ghost output = { λ it. Some (undo_json it.0) };
 
+    #[tactic(auto, unfolding(crate::specs::Json::undo_json))]
     fn fmt<W: fmt::Write>(&self, f: &mut fmt::Formatter<W>) -> fmt::Result {
         match self.0 {
             Change::Set { after, .. } => write!(f, "\"change\":\"set\",\"after\":{after}"),
             Change::Add { amount } => write!(f, "\"change\":\"add\",\"amount\":{amount}"),
         }
+    }
+}
+
+impl fmt::Display for UndoNextJson {
+    ghost use Rattle.std.specs.Prelude.{Some};
+    ghost use Rattle.file_view.specs.Json.{undo_next_json};
+
+    ghost output = { λ it. Some (undo_next_json it.0) };
+
+    #[tactic(auto, unfolding(crate::specs::Json::undo_next_json))]
+    fn fmt<W: fmt::Write>(&self, f: &mut fmt::Formatter<W>) -> fmt::Result {
+        let lsn = self.0.0;
+        write!(f, "\"undo_next\":{lsn}")
+    }
+}
+
+impl fmt::Display for PlaceJson {
+    ghost use Rattle.std.specs.Prelude.{Some};
+    ghost use Rattle.file_view.specs.Json.{place_json};
+
+    ghost output = { λ it. Some (place_json it.0 it.1) };
+
+    #[tactic(auto, unfolding(crate::specs::Json::place_json))]
+    fn fmt<W: fmt::Write>(&self, f: &mut fmt::Formatter<W>) -> fmt::Result {
+        let (page, slot) = (self.0.0, self.1.0);
+        write!(f, "\"page\":{page},\"slot\":{slot}")
+    }
+}
+
+impl fmt::Display for FoundJson {
+    ghost use Rattle.std.specs.Prelude.{Some};
+    ghost use Rattle.file_view.specs.Json.{found_json};
+
+    ghost output = { λ it. Some (found_json it.0 it.1 it.2) };
+
+    #[tactic(auto, unfolding(crate::specs::Json::found_json))]
+    fn fmt<W: fmt::Write>(&self, f: &mut fmt::Formatter<W>) -> fmt::Result {
+        let (state, last, undo_next) = (PhaseJson(self.0), self.1.0, UndoNextJson(self.2));
+        write!(f, "\"state\":{state},\"last\":{last},{undo_next}")
     }
 }
 
@@ -64,6 +211,7 @@ impl fmt::Display for DirtyJson {
 
     ghost output = { λ it. Some (dirty_json it.0) };
 
+    #[tactic(auto, unfolding(crate::specs::Json::dirty_json))]
     fn fmt<W: fmt::Write>(&self, f: &mut fmt::Formatter<W>) -> fmt::Result {
         let (page, rec_lsn) = (self.0.page, self.0.rec_lsn);
         write!(f, "{{\"page\":{page},\"rec_lsn\":{rec_lsn}}}")
@@ -76,6 +224,7 @@ impl fmt::Display for DirtyJsonList {
 
     ghost output = { λ it. Some (dirty_list it.0) };
 
+    #[tactic(auto, unfolding(crate::specs::Json::dirty_list))]
     fn fmt<W: fmt::Write>(&self, f: &mut fmt::Formatter<W>) -> fmt::Result {
         match self.0 {
             DirtyPages::One(a) => {
@@ -100,125 +249,11 @@ impl fmt::Display for PhaseJson {
 
     ghost output = { λ it. Some (phase_json it.0) };
 
+    #[tactic(auto, unfolding(crate::specs::Json::phase_json))]
     fn fmt<W: fmt::Write>(&self, f: &mut fmt::Formatter<W>) -> fmt::Result {
         match self.0 {
             TxnPhase::Active => f.write_str("\"active\""),
             TxnPhase::Rolling => f.write_str("\"rolling\""),
-        }
-    }
-}
-
-impl fmt::Display for RecordJson {
-    ghost use Rattle.std.specs.Prelude.{Some};
-    ghost use Rattle.file_view.specs.Json.{record_json};
-
-    ghost output = { λ it. Some (record_json it.0) };
-
-    fn fmt<W: fmt::Write>(&self, f: &mut fmt::Formatter<W>) -> fmt::Result {
-        match self.0 {
-            Record::Begin { lsn, txn } => {
-                let (lsn, txn) = (lsn.0, txn.0);
-
-                write!(f, "{{\"lsn\":{lsn},\"kind\":\"begin\",\"txn\":{txn}}}")
-            }
-            Record::Update {
-                lsn,
-                txn,
-                prev,
-                page,
-                slot,
-                change,
-            } => {
-                let (lsn, txn, prev) = (lsn.0, txn.0, prev.0);
-                let (page, slot, change) = (page.0, slot.0, ChangeJson(change));
-
-                write!(
-                    f,
-                    "{{\"lsn\":{lsn},\"kind\":\"update\",\"txn\":{txn},\"prev\":{prev},\"page\":{page},\"slot\":{slot},{change}}}"
-                )
-            }
-            Record::Comp {
-                lsn,
-                txn,
-                prev,
-                undo_next,
-                page,
-                slot,
-                change,
-            } => {
-                let (lsn, txn, prev) = (lsn.0, txn.0, prev.0);
-                let (undo_next, page, slot) = (undo_next.0, page.0, slot.0);
-                let change = UndoJson(change);
-
-                write!(
-                    f,
-                    "{{\"lsn\":{lsn},\"kind\":\"comp\",\"txn\":{txn},\"prev\":{prev},\"undo_next\":{undo_next},\"page\":{page},\"slot\":{slot},{change}}}"
-                )
-            }
-            Record::Commit { lsn, txn, prev } => {
-                let (lsn, txn, prev) = (lsn.0, txn.0, prev.0);
-
-                write!(
-                    f,
-                    "{{\"lsn\":{lsn},\"kind\":\"commit\",\"txn\":{txn},\"prev\":{prev}}}"
-                )
-            }
-            Record::Abort { lsn, txn, prev } => {
-                let (lsn, txn, prev) = (lsn.0, txn.0, prev.0);
-
-                write!(
-                    f,
-                    "{{\"lsn\":{lsn},\"kind\":\"abort\",\"txn\":{txn},\"prev\":{prev}}}"
-                )
-            }
-            Record::End { lsn, txn, prev } => {
-                let (lsn, txn, prev) = (lsn.0, txn.0, prev.0);
-
-                write!(
-                    f,
-                    "{{\"lsn\":{lsn},\"kind\":\"end\",\"txn\":{txn},\"prev\":{prev}}}"
-                )
-            }
-            Record::BeginChkpt { lsn } => {
-                let lsn = lsn.0;
-                write!(f, "{{\"lsn\":{lsn},\"kind\":\"begin_chkpt\"}}")
-            }
-            Record::ChkptPages { lsn, begin, pages } => {
-                let (lsn, begin, pages) = (lsn.0, begin.0, DirtyJsonList(pages));
-
-                write!(
-                    f,
-                    "{{\"lsn\":{lsn},\"kind\":\"chkpt_pages\",\"begin\":{begin},\"dirty\":{pages}}}"
-                )
-            }
-            Record::ChkptTxns {
-                lsn,
-                begin,
-                txn,
-                state,
-                last,
-                undo_next,
-            } => {
-                let (lsn, begin, txn) = (lsn.0, begin.0, txn.0);
-                let (state, last, undo_next) = (PhaseJson(state), last.0, undo_next.0);
-
-                write!(
-                    f,
-                    "{{\"lsn\":{lsn},\"kind\":\"chkpt_txns\",\"begin\":{begin},\"txn\":{txn},\"state\":{state},\"last\":{last},\"undo_next\":{undo_next}}}"
-                )
-            }
-            Record::EndChkpt { lsn, begin, redo } => {
-                let (lsn, begin, redo) = (lsn.0, begin.0, redo.0);
-
-                write!(
-                    f,
-                    "{{\"lsn\":{lsn},\"kind\":\"end_chkpt\",\"begin\":{begin},\"redo\":{redo}}}"
-                )
-            }
-            Record::Extend { lsn, pages } => {
-                let lsn = lsn.0;
-                write!(f, "{{\"lsn\":{lsn},\"kind\":\"extend\",\"pages\":{pages}}}")
-            }
         }
     }
 }

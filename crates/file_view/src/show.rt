@@ -4,7 +4,7 @@ ghost use Rattle.std.specs.Prelude.{◌≡◌, ◌++◌, OnOk, codes};
 ghost use Rattle.std.specs.String.{string_bytes};
 ghost use Rattle.file_view.specs.Shown.{line_of};
 
-use crate::archive_header::archive_header;
+use crate::copy_header::archive_header;
 use crate::fault::ViewFault;
 use crate::head::{Head, HeadJson};
 use crate::kind::{FileKind, kind_of};
@@ -122,26 +122,53 @@ fn show_archive<W: Write>(
     lines: &mut Lines<'_, W>,
 ) -> Result<(), ViewFault> {
     let mut input = bytes;
-    let fault = match read_archive(alloc, &mut input) {
-        Ok(_) => None,
-        Err(fault) => Some(fault),
+    let done = read_archive(alloc, &mut input);
+    let right = match &done {
+        Ok(_) => bytes.len(),
+        Err(fault) => right_before(fault, bytes.len()),
     };
     if let Some(header) = archive_header(bytes) {
         put_head(&mut lines.text, form, Head::Archive(header))?;
-        let behind = match fault {
-            Some(ArchiveFault::BadArchive(at)) => at as usize,
-            _ => bytes.len(),
-        };
-        let taken = header.taken as usize;
-        let pages = bytes[..behind.min(bytes.len())].get(HEADER_BYTES..);
-        for page in pages.unwrap_or(&[]).chunks_exact(PAGE_BYTES).take(taken) {
-            show_page(page, wanted, form, lines)?;
-        }
+        show_taken(
+            &bytes[..right.min(bytes.len())],
+            header.taken,
+            wanted,
+            form,
+            lines,
+        )?;
     }
-    match fault {
-        Some(fault) => Err(ViewFault::Archive(fault)),
-        None => Ok(()),
+    match done {
+        Ok(_) => Ok(()),
+        Err(fault) => Err(ViewFault::Archive(fault)),
     }
+}
+
+/// How many of so many bytes are right before the fault.
+fn right_before(fault: &ArchiveFault, count: usize) -> usize {
+    match *fault {
+        ArchiveFault::BadArchive(at) => at as usize,
+        ArchiveFault::OutOfMemory | ArchiveFault::CountDiffers | ArchiveFault::ReadFault => count,
+    }
+}
+
+/// Shows the pages behind the header of an archive, at most so many.
+fn show_taken<W: Write>(
+    bytes: &[u8],
+    taken: u32,
+    wanted: &Wanted,
+    form: Form,
+    lines: &mut Lines<'_, W>,
+) -> Result<(), ViewFault> {
+    if bytes.len() < HEADER_BYTES {
+        return Ok(());
+    }
+    for page in bytes[HEADER_BYTES..]
+        .chunks_exact(PAGE_BYTES)
+        .take(taken as usize)
+    {
+        show_page(page, wanted, form, lines)?;
+    }
+    Ok(())
 }
 
 /// Shows a page that these bytes spell.

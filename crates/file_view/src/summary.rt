@@ -11,6 +11,7 @@ use crate::show::put_head;
 use log_front::{Cut, FrontScan, scan_front};
 use log_history::OpenTransactions;
 use log_records::{HEADER_BYTES, LogHeader, MAX_OPEN, RECORD_BYTES, log_header};
+use log_store::Scan;
 use page_core::{FaultName, Lsn, TxnNo};
 use std::alloc::{AllocError, Global};
 
@@ -34,9 +35,12 @@ pub fn facts_of(alloc: Global, bytes: &[u8]) -> Result<LogFacts, ViewFault> {
         return Err(ViewFault::BadHeader);
     };
     let mut input = bytes;
-    let front: FrontScan<LogSummary> = scan_front(alloc, &mut input)?;
-    let (summary, cut) = (front.scan.sink, front.cut);
-    let table = front.scan.history.into_open();
+    let FrontScan { scan, cut } = scan_front(alloc, &mut input)?;
+    let Scan {
+        sink: summary,
+        history,
+    } = scan;
+    let table = history.into_open();
     Ok(LogFacts {
         header,
         summary,
@@ -66,17 +70,21 @@ fn redone_from(records: usize, redo: Lsn) -> usize
     records.saturating_sub(redo.records_below())
 }
 
-/// Puts the lines of a folder behind a text: one for each copy, those of the log, and one for each
-/// whole chain.
-pub fn put_folder(
+/// Puts a line behind a text for each copy.
+pub fn put_copies(text: &mut String, form: Form, rows: &Rows) -> Result<(), AllocError> {
+    for row in rows.rows() {
+        put_row(text, form, row)?;
+    }
+    Ok(())
+}
+
+/// Puts the lines of a log behind a text, and one for each whole chain.
+pub fn put_log(
     text: &mut String,
     form: Form,
     rows: &Rows,
     log: &LogFacts,
 ) -> Result<(), AllocError> {
-    for row in rows.rows() {
-        put_row(text, form, row)?;
-    }
     let head = Head::Log {
         format: log.header.format,
         pages: log.header.pages,
@@ -100,10 +108,7 @@ fn put_row(text: &mut String, form: Form, row: &CopyRow) -> Result<(), AllocErro
         Form::Words => {
             write!(text, "{header} ")?;
             match missing {
-                Some(id) => {
-                    let id = id.0;
-                    writeln!(text, "lacks {id}")
-                }
+                Some(id) => writeln!(text, "lacks {id}"),
                 None => text.push_str("whole\n"),
             }
         }
@@ -111,10 +116,7 @@ fn put_row(text: &mut String, form: Form, row: &CopyRow) -> Result<(), AllocErro
             let header = HeaderJson(header);
             write!(text, "{{\"file\":\"archive\",{header},\"lacks\":")?;
             match missing {
-                Some(id) => {
-                    let id = id.0;
-                    writeln!(text, "{id}}}")
-                }
+                Some(id) => writeln!(text, "{id}}}"),
                 None => text.push_str("null}\n"),
             }
         }
@@ -163,7 +165,7 @@ fn put_restore(
     row: &CopyRow,
     log: &LogFacts,
 ) -> Result<(), AllocError> {
-    let id = row.header.id.0;
+    let id = row.header.id;
     let redo = redone_from(log.summary.records, row.header.redo);
     let undo = log.pending;
     if redo == 0 {

@@ -1,18 +1,19 @@
 //! The header of an archive. The crate of archives decodes them for itself alone.
 
-use copy_vault::{CopyId, CopyKind, MAX_COPIES};
+use copy_vault::MAX_COPIES;
 use log_records::HEADER_BYTES;
 use page_core::field::{u32_at, u64_at};
 use page_core::{Format, LSN_STEP, Lsn, MAX_PAGES};
 
-/// What the header of an archive says.
+/// What the header of an archive says. Its ids are plain numbers, since headers are kept in a `Vec`.
 #[derive(Clone, Copy)]
 pub struct ArchiveHeader {
     pub format: Format,
     /// How many pages the volume has.
     pub pages: u32,
-    pub id: CopyId,
-    pub kind: CopyKind,
+    pub id: u32,
+    /// The copy that it stands on, and 0 for a full copy.
+    pub parent: u32,
     /// The LSN of the BeginChkpt of the checkpoint that the copy notes.
     pub begin: Lsn,
     /// The redo point of that checkpoint.
@@ -30,13 +31,17 @@ pub fn archive_header(bytes: &[u8]) -> Option<ArchiveHeader> {
     let header = ArchiveHeader {
         format: format_of(&bytes[..8])?,
         pages: u32_at(bytes, 8),
-        id: CopyId(u32_at(bytes, 12)),
-        kind: kind_of(u32_at(bytes, 16), u32_at(bytes, 20))?,
+        id: u32_at(bytes, 12),
+        parent: u32_at(bytes, 20),
         begin: Lsn(u64_at(bytes, 24)),
         redo: Lsn(u64_at(bytes, 32)),
         taken: u32_at(bytes, 40),
     };
-    if is_header(&header) && bytes[44..].iter().all(|byte| *byte == 0) {
+    let is_full = header.parent == 0;
+    if is_kind(u32_at(bytes, 16), is_full)
+        && is_header(&header)
+        && bytes[44..].iter().all(|byte| *byte == 0)
+    {
         Some(header)
     } else {
         None
@@ -51,19 +56,16 @@ fn format_of(magic: &[u8]) -> Option<Format> {
     }
 }
 
-fn kind_of(number: u32, parent: u32) -> Option<CopyKind> {
-    match (number, parent) {
-        (1, 0) => Some(CopyKind::Full),
-        (2, parent) => Some(CopyKind::Inc(CopyId(parent))),
-        _ => None,
-    }
+/// Whether this number is that of the kind of a copy.
+fn is_kind(number: u32, is_full: bool) -> bool {
+    if is_full { number == 1 } else { number == 2 }
 }
 
 fn is_header(header: &ArchiveHeader) -> bool {
     1 <= header.pages
         && header.pages <= MAX_PAGES
-        && 1 <= header.id.0
-        && header.id.0 <= MAX_COPIES
+        && 1 <= header.id
+        && header.id <= MAX_COPIES
         && is_kind_of(header)
         && header.begin.0 % LSN_STEP == 0
         && header.redo.0 % LSN_STEP == 0
@@ -72,10 +74,9 @@ fn is_header(header: &ArchiveHeader) -> bool {
 }
 
 fn is_kind_of(header: &ArchiveHeader) -> bool {
-    match header.kind {
-        CopyKind::Full => header.taken == header.pages,
-        CopyKind::Inc(parent) => {
-            1 <= parent.0 && parent.0 < header.id.0 && header.taken <= header.pages
-        }
+    if header.parent == 0 {
+        header.taken == header.pages
+    } else {
+        header.parent < header.id && header.taken <= header.pages
     }
 }
