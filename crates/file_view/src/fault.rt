@@ -63,6 +63,12 @@ impl<T: Drop> From<AllocFailed<T>> for ViewFault {
     }
 }
 
+impl From<ArchiveFault> for ViewFault {
+    fn from(fault: ArchiveFault) -> ViewFault {
+        ViewFault::Archive(fault)
+    }
+}
+
 impl From<FrontFault> for ViewFault {
     fn from(fault: FrontFault) -> ViewFault {
         match fault {

@@ -121,33 +121,28 @@ fn show_archive<W: Write>(
     form: Form,
     lines: &mut Lines<'_, W>,
 ) -> Result<(), ViewFault> {
-    let mut input = bytes;
-    let done = read_archive(alloc, &mut input);
-    let right = match &done {
-        Ok(_) => bytes.len(),
-        Err(fault) => right_before(fault, bytes.len()),
-    };
+    let done = check_archive(alloc, bytes);
+    let right = right_before(&done, bytes.len());
     if let Some(header) = archive_header(bytes) {
         put_head(&mut lines.text, form, Head::Archive(header))?;
-        show_taken(
-            &bytes[..right.min(bytes.len())],
-            header.taken,
-            wanted,
-            form,
-            lines,
-        )?;
+        let right = &bytes[..right.min(bytes.len())];
+        show_taken(right, header.taken, wanted, form, lines)?;
     }
-    match done {
-        Ok(_) => Ok(()),
-        Err(fault) => Err(ViewFault::Archive(fault)),
-    }
+    Ok(done?)
+}
+
+/// Whether these bytes are an archive.
+fn check_archive(alloc: Global, bytes: &[u8]) -> Result<(), ArchiveFault> {
+    let mut input = bytes;
+    read_archive(alloc, &mut input)?;
+    Ok(())
 }
 
 /// How many of so many bytes are right before the fault.
-fn right_before(fault: &ArchiveFault, count: usize) -> usize {
-    match *fault {
-        ArchiveFault::BadArchive(at) => at as usize,
-        ArchiveFault::OutOfMemory | ArchiveFault::CountDiffers | ArchiveFault::ReadFault => count,
+fn right_before(done: &Result<(), ArchiveFault>, count: usize) -> usize {
+    match done {
+        Err(ArchiveFault::BadArchive(at)) => *at as usize,
+        _ => count,
     }
 }
 
