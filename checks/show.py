@@ -2,7 +2,7 @@
 
 usage: python3 -m checks.show PROGRAM [COUNT [FIRST]]
 
-COUNT random scripts are played and saved by the program, from the seeds FIRST and following, 40 from seed 1 where none is
+COUNT random scripts are played and saved by the program, from the seeds FIRST and following, 12 from seed 1 where none is
 told. Each file that they leave, their volume, and the logs of `examples/` are shown whole, in words and as JSON, narrowed
 by each option, cut, longer, and with a byte that is another one. What is right before the fault has to be there, line by
 line, and then the line of the fault with its status. Each folder is listed, also without a copy of a chain, with a copy
@@ -26,7 +26,7 @@ from model.recovery import Refusal, fault_lines, read_log
 from model.samples import Draw
 
 ROOT = Path(__file__).resolve().parent.parent
-COUNT, SPOILED = 40, 6
+COUNT, SPOILED = 12, 5
 MOST_PAGES, MOST_SECONDS = 300, 60
 RECORD, PAGE, SLOTS = 64, 512, 62
 KINDS = ["begin", "update", "comp", "commit", "abort", "end", "begin_chkpt", "chkpt_pages", "chkpt_txns", "end_chkpt",

@@ -38,10 +38,14 @@ pub fn list(rt: &HostRuntime, folder: &str, form: Form) -> ExitCode {
             Err(_) => return told(rt, &ViewFault::OutOfMemory),
         }
     }
-    match listed(rt, folder, form, &rows) {
-        Ok(true) if is_right => ExitCode::SUCCESS,
-        Ok(_) => ExitCode::from(FAULT_STATUS),
-        Err(_) => told(rt, &ViewFault::OutOfMemory),
+    let is_log_right = match listed(rt, folder, form, &rows) {
+        Ok(is_log_right) => is_log_right,
+        Err(_) => return told(rt, &ViewFault::OutOfMemory),
+    };
+    if is_log_right && is_right {
+        ExitCode::SUCCESS
+    } else {
+        ExitCode::from(FAULT_STATUS)
     }
 }
 
