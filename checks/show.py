@@ -3,11 +3,11 @@
 usage: python3 -m checks.show PROGRAM [COUNT [FIRST]]
 
 COUNT random scripts are played and saved by the program, from the seeds FIRST and following, 12 from seed 1 where none is
-told. Each file that they leave, their volume, and the logs of `examples/` are shown whole, in words and as JSON, narrowed
-by each option, cut, longer, and with a byte that is another one. What is right before the fault has to be there, line by
-line, and then the line of the fault with its status. Each folder is listed, also without a copy of a chain, with a copy
-under the name of another one, with a torn log, and without a log. The bytes are decoded by this file alone; the model says
-where a log has its first fault.
+told. Of what each leaves the log, the master record, two copies and the volume, and the logs of `examples/`, are shown
+whole, in words and as JSON, narrowed by each option, cut, longer, and with a byte that is another one. What is right before
+the fault has to be there, line by line, and then the line of the fault with its status. Each folder is listed, also without
+a copy of a chain, with a copy under the name of another one, with a torn log, and without a log. The bytes are decoded by
+this file alone; the model says where a log has its first fault.
 """
 
 import json
@@ -26,8 +26,8 @@ from model.recovery import Refusal, fault_lines, read_log
 from model.samples import Draw
 
 ROOT = Path(__file__).resolve().parent.parent
-COUNT, SPOILED = 12, 5
-MOST_PAGES, MOST_SECONDS = 300, 60
+COUNT, SPOILED, COPIES = 12, 3, 2
+MOST_PAGES, MOST_SECONDS = 100, 60
 RECORD, PAGE, SLOTS = 64, 512, 62
 KINDS = ["begin", "update", "comp", "commit", "abort", "end", "begin_chkpt", "chkpt_pages", "chkpt_txns", "end_chkpt",
          "extend"]
@@ -365,8 +365,10 @@ def check_seed(viewer, seed):
     shutil.rmtree(folder, ignore_errors=True)
     folder.mkdir()
     viewer.run("run", "--pages", script.pages, "--frames", script.frames, "--save", "saved", input=script.text)
-    for path in sorted(folder.iterdir()):
-        check_file(viewer, f"script {seed}, {path.name}", path.read_bytes(), draw)
+    names = sorted(path.name for path in folder.iterdir())
+    copies = [name for name in names if name.startswith("copy-")]
+    for name in [name for name in names if name not in copies] + [draw.one_of(copies) for _ in copies[:COPIES]]:
+        check_file(viewer, f"script {seed}, {name}", (folder / name).read_bytes(), draw)
     log = (folder / "log").read_bytes()
     volume = viewer.run("redo", input=log).stdout
     check_file(viewer, f"script {seed}, its volume", volume, draw)
