@@ -5,7 +5,8 @@ use log_records::HEADER_BYTES;
 use page_core::field::{u32_at, u64_at};
 use page_core::{Format, LSN_STEP, Lsn, MAX_PAGES};
 
-/// What the header of an archive says. Its ids are plain numbers, since headers are kept in a `Vec`.
+/// What the header of an archive says. Its ids are plain numbers, since headers are kept in a
+/// `Vec`.
 #[derive(Clone, Copy)]
 pub struct ArchiveHeader {
     pub format: Format,
