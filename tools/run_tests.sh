@@ -137,6 +137,7 @@ run_checks() {
     check unsaved "$program" python3 -- python3 -m checks.unsaved "$program"
     check operator "$program" python3 -- python3 -m checks.operator "$program"
     check log_out "$program" python3 -- python3 -m checks.log_out "$program"
+    check show "$program" python3 -- python3 -m checks.show "$program"
     check guide "$program" python3 -- python3 -m checks.guide "$program"
     check open_cases "$program" python3 -- python3 -m checks.open_cases "$program"
     check open_losses "$program" python3 -- python3 -m checks.open_losses "$program"

@@ -13,7 +13,7 @@ use Rattle.clap.specs.declared.error.kind.ErrorKind.TheVariants as kind
 use Rattle.clap.proofs.CallerReads.{signed_reads}
 use Rattle.clap.proofs.OnLiterals.{clap_on_literals}
 use Rattle.command_words.specs.Command.{ExplainsRead, IsFramesRead, IsRead, Names, PassesFrames, apps, audit_app}
-use Rattle.command_words.specs.Command.{open_app, redo_into_app, restore_app, run_app}
+use Rattle.command_words.specs.Command.{list_app, open_app, redo_into_app, restore_app, run_app, show_app}
 use Rattle.command_words.specs.declared.command.UsageFault.{UsageFault}
 use Rattle.command_words.specs.declared.command.UsageFault.TheVariants.{BadArguments, OutOfMemory}
 
@@ -121,3 +121,11 @@ help_of_restore = refl
 pub help_of_audit : fault_of audit_app (codes "audit" ∷ codes "--help" ∷ []) ≡ kind.DisplayHelp ∷ []
 unfolding clap_on_literals
 help_of_audit = refl
+
+pub help_of_show : fault_of show_app (codes "show" ∷ codes "--help" ∷ []) ≡ kind.DisplayHelp ∷ []
+unfolding clap_on_literals
+help_of_show = refl
+
+pub help_of_list : fault_of list_app (codes "list" ∷ codes "--help" ∷ []) ≡ kind.DisplayHelp ∷ []
+unfolding clap_on_literals
+help_of_list = refl

@@ -6,3 +6,4 @@ mod OptionalLemmas
 mod RedoLemmas
 mod RequiredLemmas
 mod RestoreLemmas
+mod ViewLemmas

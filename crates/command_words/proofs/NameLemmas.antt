@@ -9,10 +9,10 @@ use Rattle.std.proofs.lemmas.Option.{none-some, same_Some}
 use Rattle.clap.specs.Words.{App, Text, fault_of}
 use Rattle.command_words.specs.Command.{IsRedo, IsTaken, IsTakenBy, IsUnknown, Names, apps, audit_app, redo_app}
 use Rattle.command_words.specs.Command.{AsksForHelp, Explains, ExplainsRead, ExplainsUnknown, Gives}
-use Rattle.command_words.specs.Command.{open_app, read_as, redo_into_app, restore_app, run_app}
+use Rattle.command_words.specs.Command.{list_app, open_app, read_as, redo_into_app, restore_app, run_app, show_app}
 use Rattle.clap.specs.declared.error.kind.ErrorKind.TheVariants.{DisplayHelp}
 use Rattle.command_words.specs.declared.command.Command.{Command}
-use Rattle.command_words.specs.declared.command.Command.TheVariants.{Audit, Open, Redo, RedoInto, Restore, Run}
+use Rattle.command_words.specs.declared.command.Command.TheVariants.{Audit, ListFolder, Open, Redo, RedoInto, Restore, Run, Show}
 use Rattle.command_words.specs.declared.command.UsageFault.{UsageFault}
 use Rattle.command_words.specs.declared.command.UsageFault.TheVariants.{BadArguments, HelpAsked, MisspelledCommand}
 use Rattle.command_words.specs.declared.command.UsageFault.TheVariants.{NoCommand, OutOfMemory, UnknownCommand}
@@ -25,7 +25,8 @@ first_word f (y ∷ ys) x word is same = ap Some (ap f (sym (same_Some _ _ is)) 
 pub taken_among : (words : List Text) → IsTaken words
     → IsTakenBy words redo_app
     ⊎ (IsTakenBy words run_app ⊎ (IsTakenBy words restore_app
-    ⊎ (IsTakenBy words audit_app ⊎ (IsTakenBy words redo_into_app ⊎ IsTakenBy words open_app))))
+    ⊎ (IsTakenBy words audit_app ⊎ (IsTakenBy words redo_into_app ⊎ (IsTakenBy words open_app
+    ⊎ (IsTakenBy words show_app ⊎ IsTakenBy words list_app))))))
 taken_among words (zero, app, lt, at, by) = inl (subst (IsTakenBy words) (sym at) by)
 taken_among words (suc zero, app, lt, at, by) = inr (inl (subst (IsTakenBy words) (sym at) by))
 taken_among words (suc (suc zero), app, lt, at, by) = inr (inr (inl (subst (IsTakenBy words) (sym at) by)))
@@ -33,8 +34,12 @@ taken_among words (suc (suc (suc zero)), app, lt, at, by) = inr (inr (inr (inl (
 taken_among words (suc (suc (suc (suc zero))), app, lt, at, by) =
     inr (inr (inr (inr (inl (subst (IsTakenBy words) (sym at) by)))))
 taken_among words (suc (suc (suc (suc (suc zero)))), app, lt, at, by) =
-    inr (inr (inr (inr (inr (subst (IsTakenBy words) (sym at) by)))))
-taken_among words (suc (suc (suc (suc (suc (suc k))))), app, lt, at, by) = absurd (omega arith)
+    inr (inr (inr (inr (inr (inl (subst (IsTakenBy words) (sym at) by))))))
+taken_among words (suc (suc (suc (suc (suc (suc zero))))), app, lt, at, by) =
+    inr (inr (inr (inr (inr (inr (inl (subst (IsTakenBy words) (sym at) by)))))))
+taken_among words (suc (suc (suc (suc (suc (suc (suc zero)))))), app, lt, at, by) =
+    inr (inr (inr (inr (inr (inr (inr (subst (IsTakenBy words) (sym at) by)))))))
+taken_among words (suc (suc (suc (suc (suc (suc (suc (suc k))))))), app, lt, at, by) = absurd (omega arith)
 
 pub same_name : (words : List Text) (a b : App) → Names words a → Names words b → length a.top.name ≡ length b.top.name
 same_name words a b p q = ap length (same_Some _ _ (sym p ∙ q))
@@ -54,7 +59,13 @@ taken_run words named taken = elim (taken_among words taken) [
         | inl last ↦ absurd (let e : 3 ≡ 5 = same_name words run_app audit_app named last.0 in omega arith)
         | inr last ↦ elim last [
           | inl into ↦ absurd (let e : 3 ≡ 4 = same_name words run_app redo_into_app named into.0 in omega arith)
-          | inr into ↦ absurd (let e : 3 ≡ 4 = same_name words run_app open_app named into.0 in omega arith)
+          | inr other ↦ elim other [
+            | inl into ↦ absurd (let e : 3 ≡ 4 = same_name words run_app open_app named into.0 in omega arith)
+            | inr other ↦ elim other [
+              | inl view ↦ absurd (let e : 3 ≡ 4 = same_name words run_app show_app named view.0 in omega arith)
+              | inr view ↦ absurd (let e : 3 ≡ 4 = same_name words run_app list_app named view.0 in omega arith)
+            ]
+          ]
         ]
       ]
     ]
@@ -72,7 +83,13 @@ taken_restore words named taken = elim (taken_among words taken) [
         | inl last ↦ absurd (let e : 7 ≡ 5 = same_name words restore_app audit_app named last.0 in omega arith)
         | inr last ↦ elim last [
           | inl into ↦ absurd (let e : 7 ≡ 4 = same_name words restore_app redo_into_app named into.0 in omega arith)
-          | inr into ↦ absurd (let e : 7 ≡ 4 = same_name words restore_app open_app named into.0 in omega arith)
+          | inr other ↦ elim other [
+            | inl into ↦ absurd (let e : 7 ≡ 4 = same_name words restore_app open_app named into.0 in omega arith)
+            | inr other ↦ elim other [
+              | inl view ↦ absurd (let e : 7 ≡ 4 = same_name words restore_app show_app named view.0 in omega arith)
+              | inr view ↦ absurd (let e : 7 ≡ 4 = same_name words restore_app list_app named view.0 in omega arith)
+            ]
+          ]
         ]
       ]
     ]
@@ -90,7 +107,13 @@ taken_audit words named taken = elim (taken_among words taken) [
         | inl last ↦ last.1
         | inr last ↦ elim last [
           | inl into ↦ absurd (let e : 5 ≡ 4 = same_name words audit_app redo_into_app named into.0 in omega arith)
-          | inr into ↦ absurd (let e : 5 ≡ 4 = same_name words audit_app open_app named into.0 in omega arith)
+          | inr other ↦ elim other [
+            | inl into ↦ absurd (let e : 5 ≡ 4 = same_name words audit_app open_app named into.0 in omega arith)
+            | inr other ↦ elim other [
+              | inl view ↦ absurd (let e : 5 ≡ 4 = same_name words audit_app show_app named view.0 in omega arith)
+              | inr view ↦ absurd (let e : 5 ≡ 4 = same_name words audit_app list_app named view.0 in omega arith)
+            ]
+          ]
         ]
       ]
     ]
@@ -108,7 +131,61 @@ taken_open words named taken = elim (taken_among words taken) [
         | inl last ↦ absurd (let e : 4 ≡ 5 = same_name words open_app audit_app named last.0 in omega arith)
         | inr last ↦ elim last [
           | inl into ↦ absurd (other_letters words open_app redo_into_app named into.0 (λ e. let it : 111 ≡ 114 = e in omega arith))
-          | inr into ↦ into.1
+          | inr other ↦ elim other [
+            | inl into ↦ into.1
+            | inr other ↦ elim other [
+              | inl view ↦ absurd (other_letters words open_app show_app named view.0 (λ e. let it : 111 ≡ 115 = e in omega arith))
+              | inr view ↦ absurd (other_letters words open_app list_app named view.0 (λ e. let it : 111 ≡ 108 = e in omega arith))
+            ]
+          ]
+        ]
+      ]
+    ]
+  ]
+]
+
+pub taken_show : (words : List Text) → Names words show_app → IsTaken words → fault_of show_app words ≡ []
+taken_show words named taken = elim (taken_among words taken) [
+  | inl by ↦ absurd (other_letters words show_app redo_app named by.0 (λ e. let it : 115 ≡ 114 = e in omega arith))
+  | inr by ↦ elim by [
+    | inl it ↦ absurd (let e : 4 ≡ 3 = same_name words show_app run_app named it.0 in omega arith)
+    | inr it ↦ elim it [
+      | inl one ↦ absurd (let e : 4 ≡ 7 = same_name words show_app restore_app named one.0 in omega arith)
+      | inr one ↦ elim one [
+        | inl last ↦ absurd (let e : 4 ≡ 5 = same_name words show_app audit_app named last.0 in omega arith)
+        | inr last ↦ elim last [
+          | inl into ↦ absurd (other_letters words show_app redo_into_app named into.0 (λ e. let it : 115 ≡ 114 = e in omega arith))
+          | inr other ↦ elim other [
+            | inl into ↦ absurd (other_letters words show_app open_app named into.0 (λ e. let it : 115 ≡ 111 = e in omega arith))
+            | inr other ↦ elim other [
+              | inl view ↦ view.1
+              | inr view ↦ absurd (other_letters words show_app list_app named view.0 (λ e. let it : 115 ≡ 108 = e in omega arith))
+            ]
+          ]
+        ]
+      ]
+    ]
+  ]
+]
+
+pub taken_list : (words : List Text) → Names words list_app → IsTaken words → fault_of list_app words ≡ []
+taken_list words named taken = elim (taken_among words taken) [
+  | inl by ↦ absurd (other_letters words list_app redo_app named by.0 (λ e. let it : 108 ≡ 114 = e in omega arith))
+  | inr by ↦ elim by [
+    | inl it ↦ absurd (let e : 4 ≡ 3 = same_name words list_app run_app named it.0 in omega arith)
+    | inr it ↦ elim it [
+      | inl one ↦ absurd (let e : 4 ≡ 7 = same_name words list_app restore_app named one.0 in omega arith)
+      | inr one ↦ elim one [
+        | inl last ↦ absurd (let e : 4 ≡ 5 = same_name words list_app audit_app named last.0 in omega arith)
+        | inr last ↦ elim last [
+          | inl into ↦ absurd (other_letters words list_app redo_into_app named into.0 (λ e. let it : 108 ≡ 114 = e in omega arith))
+          | inr other ↦ elim other [
+            | inl into ↦ absurd (other_letters words list_app open_app named into.0 (λ e. let it : 108 ≡ 111 = e in omega arith))
+            | inr other ↦ elim other [
+              | inl view ↦ absurd (other_letters words list_app show_app named view.0 (λ e. let it : 108 ≡ 115 = e in omega arith))
+              | inr view ↦ view.1
+            ]
+          ]
         ]
       ]
     ]
@@ -125,8 +202,8 @@ only_by words app (Err fault) takes only = λ taken. only (takes taken)
 -- no command takes words whose first is the name of none
 pub unnamed : (words : List Text) (name : Text) → slice_get words 0 ≡ Some name → (name ≡ codes "redo" → ⊥)
     → (name ≡ codes "run" → ⊥) → (name ≡ codes "open" → ⊥) → (name ≡ codes "restore" → ⊥) → (name ≡ codes "audit" → ⊥)
-    → IsTaken words → ⊥
-unnamed words name first not-redo not-run not-open not-restore not-audit taken = elim (taken_among words taken) [
+    → (name ≡ codes "show" → ⊥) → (name ≡ codes "list" → ⊥) → IsTaken words → ⊥
+unnamed words name first not-redo not-run not-open not-restore not-audit not-show not-list taken = elim (taken_among words taken) [
   | inl by ↦ not-redo (same_Some _ _ (sym first ∙ by.0))
   | inr by ↦ elim by [
     | inl it ↦ not-run (same_Some _ _ (sym first ∙ it.0))
@@ -136,7 +213,13 @@ unnamed words name first not-redo not-run not-open not-restore not-audit taken =
         | inl last ↦ not-audit (same_Some _ _ (sym first ∙ last.0))
         | inr last ↦ elim last [
           | inl into ↦ not-redo (same_Some _ _ (sym first ∙ into.0))
-          | inr into ↦ not-open (same_Some _ _ (sym first ∙ into.0))
+          | inr other ↦ elim other [
+            | inl into ↦ not-open (same_Some _ _ (sym first ∙ into.0))
+            | inr other ↦ elim other [
+              | inl view ↦ not-show (same_Some _ _ (sym first ∙ view.0))
+              | inr view ↦ not-list (same_Some _ _ (sym first ∙ view.0))
+            ]
+          ]
         ]
       ]
     ]
@@ -151,9 +234,10 @@ not_of_redo words name first other (inr is) = other (same_Some _ _ (sym first �
 
 -- a first word that is neither a command's name nor a call for help
 pub unknown : (name : Text) → (name ≡ codes "redo" → ⊥) → (name ≡ codes "run" → ⊥) → (name ≡ codes "open" → ⊥)
-    → (name ≡ codes "restore" → ⊥) → (name ≡ codes "audit" → ⊥) → (name ≡ codes "help" → ⊥) → (name ≡ codes "--help" → ⊥) → (name ≡ codes "-h" → ⊥)
+    → (name ≡ codes "restore" → ⊥) → (name ≡ codes "audit" → ⊥) → (name ≡ codes "show" → ⊥) → (name ≡ codes "list" → ⊥)
+    → (name ≡ codes "help" → ⊥) → (name ≡ codes "--help" → ⊥) → (name ≡ codes "-h" → ⊥)
     → IsUnknown name
-unknown name not-redo not-run not-open not-restore not-audit not-help not-long not-short = (
+unknown name not-redo not-run not-open not-restore not-audit not-show not-list not-help not-long not-short = (
   λ k app lt. none k app lt,
   λ asks. elim asks [
     | inl is ↦ not-help is
@@ -168,7 +252,9 @@ unknown name not-redo not-run not-open not-restore not-audit not-help not-long n
     none (suc (suc (suc zero))) app lt same = not-audit (sym same)
     none (suc (suc (suc (suc zero)))) app lt same = not-redo (sym same)
     none (suc (suc (suc (suc (suc zero))))) app lt same = not-open (sym same)
-    none (suc (suc (suc (suc (suc (suc k)))))) app lt same = absurd (omega arith)
+    none (suc (suc (suc (suc (suc (suc zero)))))) app lt same = not-show (sym same)
+    none (suc (suc (suc (suc (suc (suc (suc zero))))))) app lt same = not-list (sym same)
+    none (suc (suc (suc (suc (suc (suc (suc (suc k)))))))) app lt same = absurd (omega arith)
 
 -- ---- `help NAME`, read as `NAME --help`
 
@@ -225,6 +311,19 @@ no_o letter o h = omega arith
 pub open_not_help : (name : Text) → name ≡ codes "open" → name ≡ codes "help" → ⊥
 open_not_help name is help = no_o (get_or (codes "open") 0 0) refl (first_letters name (codes "open") (codes "help") is help)
 
+no_s : (letter : ℕ) → letter ≡ 115 → letter ≡ 104 → ⊥
+no_s letter s h = omega arith
+
+-- nor are `show` and `list`
+pub show_not_help : (name : Text) → name ≡ codes "show" → name ≡ codes "help" → ⊥
+show_not_help name is help = no_s (get_or (codes "show") 0 0) refl (first_letters name (codes "show") (codes "help") is help)
+
+no_l : (letter : ℕ) → letter ≡ 108 → letter ≡ 104 → ⊥
+no_l letter l h = omega arith
+
+pub list_not_help : (name : Text) → name ≡ codes "list" → name ≡ codes "help" → ⊥
+list_not_help name is help = no_l (get_or (codes "list") 0 0) refl (first_letters name (codes "list") (codes "help") is help)
+
 gives_taken : (words : List Text) (command : Command) → Gives words command → IsTaken words
 gives_taken words Redo gives = (0, redo_app, lit< tt, refl, gives)
 gives_taken words (RedoInto output) gives = (4, redo_into_app, lit< tt, refl, gives.0)
@@ -232,6 +331,8 @@ gives_taken words (Run pages frames save strict) gives = (1, run_app, lit< tt, r
 gives_taken words (Open folder pages frames) gives = (5, open_app, lit< tt, refl, gives.0)
 gives_taken words (Restore log master archives output log_output) gives = (2, restore_app, lit< tt, refl, gives.0)
 gives_taken words (Audit log archives master all) gives = (3, audit_app, lit< tt, refl, gives.0)
+gives_taken words (Show file from to txn page json) gives = (6, show_app, lit< tt, refl, gives.0)
+gives_taken words (ListFolder folder json) gives = (7, list_app, lit< tt, refl, gives.0)
 
 -- words in which clap finds a fault give no command
 pub help_gives_none : (words : List Text) (app : App) (r : Result Command UsageFault) → IfOk r (Gives words)

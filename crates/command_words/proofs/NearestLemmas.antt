@@ -32,17 +32,20 @@ more_than_two least far is le = omega arith
 below : (k five count : ℕ) → k < five → five ≤ count → k < count
 below k five count lt le = omega arith
 
--- the names behind six references, by their places
-pub named_at : {X : Type 0} (now : X → Text) (a b c d e f x : X) (i : ℕ) → now a ≡ codes "redo" → now b ≡ codes "run"
-    → now c ≡ codes "open" → now d ≡ codes "restore" → now e ≡ codes "audit" → now f ≡ codes "help" → i < 6
-    → (other : Text) → get_or names i other ≡ now (get_or (a ∷ b ∷ c ∷ d ∷ e ∷ f ∷ []) i x)
-named_at now a b c d e f x zero is-a is-b is-c is-d is-e is-f lt other = sym is-a
-named_at now a b c d e f x (suc zero) is-a is-b is-c is-d is-e is-f lt other = sym is-b
-named_at now a b c d e f x (suc (suc zero)) is-a is-b is-c is-d is-e is-f lt other = sym is-c
-named_at now a b c d e f x (suc (suc (suc zero))) is-a is-b is-c is-d is-e is-f lt other = sym is-d
-named_at now a b c d e f x (suc (suc (suc (suc zero)))) is-a is-b is-c is-d is-e is-f lt other = sym is-e
-named_at now a b c d e f x (suc (suc (suc (suc (suc zero))))) is-a is-b is-c is-d is-e is-f lt other = sym is-f
-named_at now a b c d e f x (suc (suc (suc (suc (suc (suc i)))))) is-a is-b is-c is-d is-e is-f lt other =
+-- the names behind eight references, by their places
+pub named_at : {X : Type 0} (now : X → Text) (a b c d e f g h x : X) (i : ℕ)
+    → now a ≡ codes "redo" → now b ≡ codes "run" → now c ≡ codes "open" → now d ≡ codes "restore"
+    → now e ≡ codes "audit" → now f ≡ codes "show" → now g ≡ codes "list" → now h ≡ codes "help"
+    → i < 8 → (other : Text) → get_or names i other ≡ now (get_or (a ∷ b ∷ c ∷ d ∷ e ∷ f ∷ g ∷ h ∷ []) i x)
+named_at now a b c d e f g h x zero is-a is-b is-c is-d is-e is-f is-g is-h lt other = sym is-a
+named_at now a b c d e f g h x (suc zero) is-a is-b is-c is-d is-e is-f is-g is-h lt other = sym is-b
+named_at now a b c d e f g h x (suc (suc zero)) is-a is-b is-c is-d is-e is-f is-g is-h lt other = sym is-c
+named_at now a b c d e f g h x (suc (suc (suc zero))) is-a is-b is-c is-d is-e is-f is-g is-h lt other = sym is-d
+named_at now a b c d e f g h x (suc (suc (suc (suc zero)))) is-a is-b is-c is-d is-e is-f is-g is-h lt other = sym is-e
+named_at now a b c d e f g h x (suc (suc (suc (suc (suc zero))))) is-a is-b is-c is-d is-e is-f is-g is-h lt other = sym is-f
+named_at now a b c d e f g h x (suc (suc (suc (suc (suc (suc zero)))))) is-a is-b is-c is-d is-e is-f is-g is-h lt other = sym is-g
+named_at now a b c d e f g h x (suc (suc (suc (suc (suc (suc (suc zero))))))) is-a is-b is-c is-d is-e is-f is-g is-h lt other = sym is-h
+named_at now a b c d e f g h x (suc (suc (suc (suc (suc (suc (suc (suc i)))))))) is-a is-b is-c is-d is-e is-f is-g is-h lt other =
     absurd (omega arith)
 
 -- a name that is nearer than those before it

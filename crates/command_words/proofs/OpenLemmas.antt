@@ -16,7 +16,7 @@ use Rattle.clap.specs.declared.parser.matches.ArgMatches.{ArgMatches}
 use Rattle.clap.specs.declared.parser.matches.Found.{Found}
 use Rattle.clap.proofs.CallerLemmas.{added_plain, required_in_chain}
 use Rattle.clap.proofs.CallerReads.{signed_reads}
-use Rattle.command_words.specs.Command.{AsksForFolder, IsPagesRead, PassesCount, PassesFrames, PassesToldPages}
+use Rattle.command_words.specs.Command.{AsksForFolder, IsTold, PassesCount, PassesFrames, PassesToldPages}
 use Rattle.command_words.specs.Command.{count_parser, folder_rule, frames_rule, told_pages_rule}
 use Rattle.command_words.proofs.ClapLemmas.{is_read}
 use Rattle.command_words.proofs.OptionalLemmas.{passed_if_given}
@@ -130,7 +130,7 @@ pages_passed cmd m it p =
     ap (λ x. x.id.now) elem ∙ ap (λ x. x.now) at.y_is.id in
     subst (λ id. (one_text (found_of m) id ≡ None) ⊎ PassesCount (found_of m) id)
     (same-now ∙ ap (λ r. r.id) it.pages_is)
-    (passed_if_given last m (subst (λ c. IsParsedFrom c m) (sym it.made.chain.2.2.2) p) at.plain at.globals 1 b lt
+    (passed_if_given 1 65536 last m (subst (λ c. IsParsedFrom c m) (sym it.made.chain.2.2.2) p) at.plain at.globals 1 b lt
     (λ j e lj same. kept_apart cmd it j 1 b e lj lt same)
     (λ empty. fit.2 (sym same-now ∙ empty))
     (λ auto. fit.3 (elim auto [ inl h ↦ inl (sym same-now ∙ h) | inr h ↦ inr (sym same-now ∙ h) ]))
@@ -149,7 +149,7 @@ frames_passed cmd m it p =
     ap (λ x. x.id.now) elem ∙ ap (λ x. x.now) at.z_is.id in
     subst (λ id. (one_text (found_of m) id ≡ None) ⊎ PassesCount (found_of m) id)
     (same-now ∙ ap (λ r. r.id) it.frames_is)
-    (passed_if_given last m (subst (λ c. IsParsedFrom c m) (sym it.made.chain.2.2.2) p) at.plain at.globals 2 b lt
+    (passed_if_given 1 65536 last m (subst (λ c. IsParsedFrom c m) (sym it.made.chain.2.2.2) p) at.plain at.globals 2 b lt
     (λ j e lj same. kept_apart cmd it j 2 b e lj lt same)
     (λ empty. fit.2 (sym same-now ∙ empty))
     (λ auto. fit.3 (elim auto [ inl h ↦ inl (sym same-now ∙ h) | inr h ↦ inr (sym same-now ∙ h) ]))
@@ -160,13 +160,13 @@ pub pages_read : (E : Type 0) (G : Text → Result ℕ E → Type 0) (found : Fo
     → PassesToldPages found → (one_text found (codes "pages") ≡ None → r ≡ None)
     → ((t : Text) → one_text found (codes "pages") ≡ Some t → ReadsOne G t r)
     → ((u : Text) (x : Result ℕ E) → G u x → ParsesUnsigned 32 10 u x)
-    → IsPagesRead (one_text found (codes "pages")) r
+    → IsTold (one_text found (codes "pages")) r
 pages_read E G found r (inl absent) none value parses =
-    subst (λ o. IsPagesRead o r) (sym absent) (subst (λ o. IsPagesRead None o) (sym (none absent)) tt)
+    subst (λ o. IsTold o r) (sym absent) (subst (λ o. IsTold None o) (sym (none absent)) tt)
 pages_read E G found r (inr it) none value parses =
     let read = value (without_minus it.0) it.1 in
     let got = signed_reads E G 32 1 65536 it.0 r read parses (lit< tt) it.2 in
-    subst (λ o. IsPagesRead o r) (sym it.1) (subst (λ o. IsPagesRead (Some (without_minus it.0)) o) (sym got.1)
+    subst (λ o. IsTold o r) (sym it.1) (subst (λ o. IsTold (Some (without_minus it.0)) o) (sym got.1)
     (is_read E G (without_minus it.0) (Some (without_minus it.0)) r got.0 refl read parses got.1))
 
 -- ---- a command that is made of its arguments

@@ -1,6 +1,7 @@
 -- What `clap` reads of a number that may be left out.
 use Rattle.std.proofs.Common.{◌≡◌, ◌⊎◌, ◌∙◌, ◌<◌, ap, ℕ, true, false, List, [], ◌∷◌, length, Option, Some, None, refl, sym, subst}
 use Rattle.std.proofs.Common.{inl, inr, arith}
+use Rattle.std.specs.Prelude.{pos}
 use Rattle.std.specs.Borrow.{Bor}
 use Rattle.std.specs.List.{All, slice_index_or}
 use Rattle.std.specs.Str.{bytes_eq}
@@ -20,15 +21,16 @@ use Rattle.clap.specs.declared.parser.matches.ArgMatches.{ArgMatches}
 use Rattle.clap.specs.declared.parser.matches.Found.{Found}
 use Rattle.clap.specs.declared.parser.matches.MatchedArg.{MatchedArg}
 use Rattle.clap.proofs.CallerLemmas.{entry_by_id, same_rules_by_id}
-use Rattle.command_words.specs.Command.{PassesCount, count_parser}
+use Rattle.clap.specs.declared.builder.value_parser.ValueParser.TheVariants.{Signed}
+use Rattle.command_words.specs.Command.{PassesIn}
 
--- what an entry says of its first value, where the arguments of its id read and take counts
-of_entry : (built : Parser) (found : Found) (id : List ℕ) (x : MatchedArg) (e : Entry) → groups_of built ≡ []
+-- what an entry says of its first value, where the arguments of its id read and take numbers in bounds
+of_entry : (low high : ℕ) (built : Parser) (found : Found) (id : List ℕ) (x : MatchedArg) (e : Entry) → groups_of built ≡ []
     → (id ≡ [] → ⊥) → ((how : Reading) → HasReading built id how → how ≡ WithoutMinus)
-    → ((text : List ℕ) → PassesArg built id text → Accepts false count_parser text)
+    → ((text : List ℕ) → PassesArg built id text → Accepts false (Signed (pos low) (pos high)) text)
     → matched_of found id ≡ Some x → e.1 ≡ x → e.0.now ≡ id → EntryPasses built e
-    → (one_text found id ≡ None) ⊎ PassesCount found id
-of_entry built found id x e none named reads takes is same key pass = first x.vals.items refl
+    → (one_text found id ≡ None) ⊎ PassesIn low high found id
+of_entry low high built found id x e none named reads takes is same key pass = first x.vals.items refl
   where
     no_group : e.1.is_group ≡ true → ⊥
     no_group group = elim (pass.3 group) [
@@ -55,7 +57,7 @@ of_entry built found id x e none named reads takes is same key pass = first x.va
           subst (λ w. All (λ v. PassesArg built w v.now) x.vals.items) key mine
     ]
 
-    first : (values : List (Bor (List ℕ))) → x.vals.items ≡ values → (one_text found id ≡ None) ⊎ PassesCount found id
+    first : (values : List (Bor (List ℕ))) → x.vals.items ≡ values → (one_text found id ≡ None) ⊎ PassesIn low high found id
     first [] empty = inl (rw (is, empty) refl)
     first (v ∷ vs) some =
         let passes : PassesArg built id v.now =
@@ -63,38 +65,38 @@ of_entry built found id x e none named reads takes is same key pass = first x.va
         (subst (All (λ u. PassesArg built id u.now)) some all) in
         inr (v.now, rw (is, some, way) refl, takes v.now passes)
 
--- a count that may be left out has no text, or one that clap let through
-pub passed_if_given : (old : Parser) (m : ArgMatches) (p : IsParsedFrom old m) → IsPlain old
+-- a number that may be left out has no text, or one that clap let through
+pub passed_if_given : (low high : ℕ) (old : Parser) (m : ArgMatches) (p : IsParsedFrom old m) → IsPlain old
     → (fields_of old).has_globals ≡ false → (k : ℕ) (d : Arg) → k < length (args_of old)
     → ((j : ℕ) (e : Arg) → j < length (args_of old)
     → bytes_eq (slice_index_or (args_of old) j e).id.now (slice_index_or (args_of old) k d).id.now ≡ true → j ≡ k)
     → ((slice_index_or (args_of old) k d).id.now ≡ [] → ⊥) → (IsAuto (slice_index_or (args_of old) k d) → ⊥)
-    → (slice_index_or (args_of old) k d).value_parser ≡ Some count_parser
+    → (slice_index_or (args_of old) k d).value_parser ≡ Some (Signed (pos low) (pos high))
     → (one_text (found_of m) (slice_index_or (args_of old) k d).id.now ≡ None)
-    ⊎ PassesCount (found_of m) (slice_index_or (args_of old) k d).id.now
-passed_if_given old m p plain globals k d lt unique named own parser = go (matched_of (found_of m) id) refl
+    ⊎ PassesIn low high (found_of m) (slice_index_or (args_of old) k d).id.now
+passed_if_given low high old m p plain globals k d lt unique named own parser = go (matched_of (found_of m) id) refl
   where
     id : List ℕ
     id = (slice_index_or (args_of old) k d).id.now
 
     -- each argument of the id that clap built has the parser
     parser_is : (j : ℕ) (x : Arg) → j < length (args_of p.built) → slice_index_or (args_of p.built) j x ≡ x
-        → bytes_eq x.id.now id ≡ true → parser_of x ≡ count_parser
+        → bytes_eq x.id.now id ≡ true → parser_of x ≡ Signed (pos low) (pos high)
     parser_is j x lj at same =
-        ap parser_of_value ((same_rules_by_id old m p k d lt unique own j x lj at same).parser count_parser parser)
+        ap parser_of_value ((same_rules_by_id old m p k d lt unique own j x lj at same).parser (Signed (pos low) (pos high)) parser)
 
     reads : (how : Reading) → HasReading p.built id how → how ≡ WithoutMinus
     reads how any = sym any.4.1 ∙ ap reading_of (parser_is any.0 any.1 any.2 any.3 any.4.0)
 
-    takes : (text : List ℕ) → PassesArg p.built id text → Accepts false count_parser text
+    takes : (text : List ℕ) → PassesArg p.built id text → Accepts false (Signed (pos low) (pos high)) text
     takes text any = subst (λ w. Accepts any.1.ignore_case w text)
         (parser_is any.0 any.1 any.2 any.3 any.4.0) any.4.1
 
     go : (o : Option MatchedArg) → matched_of (found_of m) id ≡ o
-        → (one_text (found_of m) id ≡ None) ⊎ PassesCount (found_of m) id
+        → (one_text (found_of m) id ≡ None) ⊎ PassesIn low high (found_of m) id
     go None is = inl (rw is refl)
     go (Some x) is =
         let parsed = p.parsed (p.from.globals ∙ globals) in
         let got = entry_by_id (EntryPasses p.built) (found_of m).entries.items id x parsed.values is in
-        of_entry p.built (found_of m) id x got.0 (p.from.plain plain).1 named reads takes is got.1
+        of_entry low high p.built (found_of m) id x got.0 (p.from.plain plain).1 named reads takes is got.1
         ((bytes_eq-Decides got.0.0.now id).0 got.2) got.3

@@ -19,7 +19,7 @@ use Rattle.clap.specs.Faults.{step_fault}
 use Rattle.clap.specs.declared.error.kind.ErrorKind.{ErrorKind}
 use Rattle.clap.proofs.OnLiterals.{clap_on_literals}
 use Rattle.command_words.specs.Command.{Gives, IsRedo, IsTaken, Names, audit_app, open_app, redo_app, redo_into_app}
-use Rattle.command_words.specs.Command.{restore_app}
+use Rattle.command_words.specs.Command.{list_app, restore_app, show_app}
 use Rattle.command_words.specs.Command.{run_app}
 use Rattle.command_words.proofs.NameLemmas.{other_letters, same_name, taken_among}
 use Rattle.command_words.specs.declared.command.Command.{Command}
@@ -176,7 +176,13 @@ taken_redo_into words named other taken = elim (taken_among words taken) [
         | inl last ↦ absurd (let e : 4 ≡ 5 = same_name words redo_into_app audit_app named last.0 in omega arith)
         | inr last ↦ elim last [
           | inl into ↦ into.1
-          | inr into ↦ absurd (other_letters words redo_into_app open_app named into.0 (λ e. let it : 114 ≡ 111 = e in omega arith))
+          | inr other ↦ elim other [
+            | inl into ↦ absurd (other_letters words redo_into_app open_app named into.0 (λ e. let it : 114 ≡ 111 = e in omega arith))
+            | inr other ↦ elim other [
+              | inl view ↦ absurd (other_letters words redo_into_app show_app named view.0 (λ e. let it : 114 ≡ 115 = e in omega arith))
+              | inr view ↦ absurd (other_letters words redo_into_app list_app named view.0 (λ e. let it : 114 ≡ 108 = e in omega arith))
+            ]
+          ]
         ]
       ]
     ]

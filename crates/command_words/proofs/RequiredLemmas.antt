@@ -176,7 +176,7 @@ frames_passed cmd m it p =
     ap (λ x. x.id.now) elem ∙ ap (λ x. x.now) at.y_is.id in
     subst (λ id. (one_text (found_of m) id ≡ None) ⊎ PassesCount (found_of m) id)
     (same-now ∙ ap (λ r. r.id) it.frames_is)
-    (passed_if_given last m (subst (λ c. IsParsedFrom c m) (sym it.made.chain.2.2.2.2) p) at.plain at.globals 1 b lt
+    (passed_if_given 1 65536 last m (subst (λ c. IsParsedFrom c m) (sym it.made.chain.2.2.2.2) p) at.plain at.globals 1 b lt
     (λ j e lj same. apart cmd it j 1 b e lj lt same)
     (λ empty. fit.2 (sym same-now ∙ empty))
     (λ auto. fit.3 (elim auto [ inl h ↦ inl (sym same-now ∙ h) | inr h ↦ inr (sym same-now ∙ h) ]))

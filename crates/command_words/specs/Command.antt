@@ -1,7 +1,7 @@
 -- Which words give which command, and why others give none.
 use Rattle.std.specs.Prelude.{◌≡◌, ◌≢◌, ◌⊎◌, ◌≤◌, ℕ, List, [], ◌∷◌, None, Option, IsSomeAnd, Some}
 use Rattle.std.specs.Prelude.{IfSome, codes}
-use Rattle.std.specs.Prelude.{◌<◌, Bool, false, if◌then◌else◌, length, map, nat_eq, option_map, pos}
+use Rattle.std.specs.Prelude.{◌<◌, ◌^◌, Bool, false, if◌then◌else◌, length, map, nat_eq, option_map, pos}
 use Rattle.std.specs.Prelude.{slice_get, true, unwrap_or}
 use Rattle.std.specs.List.{All, Any}
 use Rattle.std.specs.Str.{bytes_eq, chars}
@@ -20,8 +20,8 @@ use Rattle.clap.specs.declared.builder.value_parser.ValueParser.TheVariants.{Sig
 use Rattle.clap.specs.declared.parser.matches.Found.{Found}
 use Rattle.strsim.specs.Edits.{levenshtein_row}
 use Rattle.command_words.specs.declared.command.Command.{Command}
-use Rattle.command_words.specs.declared.command.Command.TheVariants.{Audit, Open, Redo, RedoInto}
-use Rattle.command_words.specs.declared.command.Command.TheVariants.{Restore, Run}
+use Rattle.command_words.specs.declared.command.Command.TheVariants.{Audit, ListFolder, Open, Redo, RedoInto}
+use Rattle.command_words.specs.declared.command.Command.TheVariants.{Restore, Run, Show}
 use Rattle.command_words.specs.declared.command.UsageFault.{UsageFault}
 use Rattle.command_words.specs.declared.command.UsageFault.TheVariants.{BadArguments, HelpAsked}
 use Rattle.command_words.specs.declared.command.UsageFault.TheVariants.{MisspelledCommand}
@@ -163,9 +163,58 @@ abbrev pub open_app : App
 open_app = with_rule
     (with_rule (with_rule (new_app (codes "open")) folder_rule) told_pages_rule) frames_rule
 
+-- the file that is shown
+abbrev pub file_rule : Rule
+file_rule = record (new_rule (codes "of")) {
+  action = Some Set;
+  value_names = 1;
+  required = true;
+}
+
+-- a number within bounds, which may be left out
+abbrev pub number_rule : Text → Text → ℕ → ℕ → Rule
+number_rule id name low high = record (new_rule id) {
+  long = Some name;
+  action = Some Set;
+  value_names = 1;
+  parser = Some (Signed (pos low) (pos high));
+}
+
+-- the least LSN and the greatest one that are shown: none is past the end of the longest log
+abbrev pub from_rule : Rule
+from_rule = number_rule (codes "low") (codes "from") 0 67108928
+
+abbrev pub to_rule : Rule
+to_rule = number_rule (codes "high") (codes "to") 0 67108928
+
+-- the transaction whose records are shown
+abbrev pub txn_rule : Rule
+txn_rule = number_rule (codes "owner") (codes "txn") 1 4294967295
+
+-- the page that is shown
+abbrev pub page_rule : Rule
+page_rule = number_rule (codes "number") (codes "page") 0 65535
+
+abbrev pub json_rule : Rule
+json_rule = record (new_rule (codes "as_json")) {
+  long = Some (codes "json");
+  action = Some SetTrue;
+}
+
+-- `show FILE [--from LSN] [--to LSN] [--txn N] [--page P] [--json]`
+abbrev pub show_app : App
+show_app = with_rule (with_rule (with_rule
+    (with_rule (with_rule (with_rule (new_app (codes "show")) file_rule) from_rule) to_rule)
+    txn_rule) page_rule) json_rule
+
+-- `list FOLDER [--json]`
+abbrev pub list_app : App
+list_app = with_rule (with_rule (new_app (codes "list")) folder_rule) json_rule
+
 -- each command, as clap reads it; `redo` is read in two ways
 abbrev pub apps : List App
-apps = redo_app ∷ run_app ∷ restore_app ∷ audit_app ∷ redo_into_app ∷ open_app ∷ []
+apps = redo_app ∷ run_app ∷ restore_app ∷ audit_app ∷ redo_into_app ∷ open_app ∷ show_app
+    ∷ list_app ∷ []
 
 -- the first word is the name of the command
 abbrev pub Names : List Text → App → Type 0
@@ -189,12 +238,12 @@ abbrev pub IsFramesRead : Option Text → ℕ → Type 0
 IsFramesRead None frames = frames ≡ 65536
 IsFramesRead (Some text) frames = IsRead (Some text) frames
 
--- the number of pages that the text says, or none where there is no text
-abbrev pub IsPagesRead : Option Text → Option ℕ → Type 0
-IsPagesRead None None = Unit {0}
-IsPagesRead None (Some pages) = ⊥
-IsPagesRead (Some text) None = ⊥
-IsPagesRead (Some text) (Some pages) = IsRead (Some text) pages
+-- the number that the text says, or none where there is no text
+abbrev pub IsTold : Option Text → Option ℕ → Type 0
+IsTold None None = Unit {0}
+IsTold None (Some pages) = ⊥
+IsTold (Some text) None = ⊥
+IsTold (Some text) (Some pages) = IsRead (Some text) pages
 
 -- what the text of a flag says of it; without it there is none
 abbrev pub IsFlag : Option Text → Bool → Type 0
@@ -213,7 +262,7 @@ Gives words (Run pages frames save strict) = let rows = matches_of run_app words
     × IsFlag (one_of (codes "is_strict") rows) strict
 Gives words (Open folder pages frames) = let rows = matches_of open_app words in
     IsTakenBy words open_app × (first_of (codes "dir") rows ≡ Some folder.now)
-    × IsPagesRead (one_of (codes "pages") rows) pages
+    × IsTold (one_of (codes "pages") rows) pages
     × IsFramesRead (one_of (codes "frames") rows) frames
 Gives words (Restore log master archives output log_output) = let rows = matches_of restore_app words in
     IsTakenBy words restore_app × (first_of (codes "log") rows ≡ Some log.now)
@@ -226,6 +275,14 @@ Gives words (Audit log archives master all) = let rows = matches_of audit_app wo
     × (map (λ name. name.now) archives.items ≡ unwrap_or (all_of (codes "archive") rows) [])
     × (option_map (λ name. name.now) master ≡ first_of (codes "master") rows)
     × IsFlag (one_of (codes "every") rows) all
+Gives words (Show file from to txn page json) = let rows = matches_of show_app words in
+    IsTakenBy words show_app × (first_of (codes "of") rows ≡ Some file.now)
+    × IsTold (one_of (codes "low") rows) from × IsTold (one_of (codes "high") rows) to
+    × IsTold (one_of (codes "owner") rows) txn × IsTold (one_of (codes "number") rows) page
+    × IsFlag (one_of (codes "as_json") rows) json
+Gives words (ListFolder folder json) = let rows = matches_of list_app words in
+    IsTakenBy words list_app × (first_of (codes "dir") rows ≡ Some folder.now)
+    × IsFlag (one_of (codes "as_json") rows) json
 
 -- a volume has 1 to 65,536 pages, and 1 to 65,536 frames are there for them
 abbrev pub HasCounts : Command → Type 0
@@ -237,6 +294,8 @@ HasCounts (Open folder pages frames) =
     IfSome pages (λ n. (1 ≤ n) × (n ≤ 65536)) × (1 ≤ frames) × (frames ≤ 65536)
 HasCounts (Restore log master archives output log_output) = Unit {0}
 HasCounts (Audit log archives master all) = Unit {0}
+HasCounts (Show file from to txn page json) = Unit {0}
+HasCounts (ListFolder folder json) = Unit {0}
 
 -- clap builds the command of these arguments, one after another
 pub record IsMadeOf (command : Parser) (arguments : List Arg) : Type 0 where
@@ -305,6 +364,36 @@ pub record AsksForLog (command : Parser) : Type 0 where
   pub all_is : rule_of all ≡ all_rule
   pub log_required : TakesValue log
 
+-- a file is required, and then numbers and a flag may be told
+pub record AsksForView (command : Parser) : Type 0 where
+  pub file : Arg
+  pub from : Arg
+  pub to : Arg
+  pub txn : Arg
+  pub page : Arg
+  pub json : Arg
+  pub made : IsMadeOf command (file ∷ from ∷ to ∷ txn ∷ page ∷ json ∷ [])
+  pub file_is : rule_of file ≡ file_rule
+  pub from_is : rule_of from ≡ from_rule
+  pub to_is : rule_of to ≡ to_rule
+  pub txn_is : rule_of txn ≡ txn_rule
+  pub page_is : rule_of page ≡ page_rule
+  pub json_is : rule_of json ≡ json_rule
+  pub required : TakesValue file
+  pub from_parsed : from.value_parser ≡ Some (Signed (pos 0) (pos 67108928))
+  pub to_parsed : to.value_parser ≡ Some (Signed (pos 0) (pos 67108928))
+  pub txn_parsed : txn.value_parser ≡ Some (Signed (pos 1) (pos 4294967295))
+  pub page_parsed : page.value_parser ≡ Some (Signed (pos 0) (pos 65535))
+
+-- a folder is required, and then a flag may be told
+pub record AsksForList (command : Parser) : Type 0 where
+  pub folder : Arg
+  pub json : Arg
+  pub made : IsMadeOf command (folder ∷ json ∷ [])
+  pub folder_is : rule_of folder ≡ folder_rule
+  pub json_is : rule_of json ≡ json_rule
+  pub required : TakesValue folder
+
 -- an output is required
 pub record AsksForOutput (command : Parser) : Type 0 where
   pub output : Arg
@@ -312,10 +401,19 @@ pub record AsksForOutput (command : Parser) : Type 0 where
   pub output_is : rule_of output ≡ record output_rule { required = true }
   pub output_required : TakesValue output
 
--- what was found has a number of this name, and clap let it through
+-- what was found has a number of this name in these bounds, and clap let it through
+abbrev pub PassesIn : ℕ → ℕ → Found → Text → Type 0
+PassesIn low high found name = (text : Text) × (one_text found name ≡ Some (without_minus text))
+    × Accepts false (Signed (pos low) (pos high)) text
+
+-- a number of pages or of frames
 abbrev pub PassesCount : Found → Text → Type 0
-PassesCount found name = (text : Text) × (one_text found name ≡ Some (without_minus text))
-    × Accepts false count_parser text
+PassesCount found name = PassesIn 1 65536 found name
+
+-- a number that fits in 32 bits is there, or none of this name was given
+abbrev pub PassesNumber : Found → Text → Type 0
+PassesNumber found name = (one_text found name ≡ None)
+    ⊎ ((low : ℕ) × (high : ℕ) × (high < 2 ^ 32) × PassesIn low high found name)
 
 -- the number of pages is there
 abbrev pub PassesPages : Found → Type 0
@@ -346,7 +444,7 @@ IsUnknown name = All (λ app. app.top.name ≢ name) apps × (AsksForHelp name �
 -- the names that a user may have meant
 abbrev pub names : List Text
 names = codes "redo" ∷ codes "run" ∷ codes "open" ∷ codes "restore" ∷ codes "audit"
-    ∷ codes "help" ∷ []
+    ∷ codes "show" ∷ codes "list" ∷ codes "help" ∷ []
 
 -- how many characters are put in, taken out or replaced to make the name out of the word
 abbrev pub edits : Text → Text → ℕ

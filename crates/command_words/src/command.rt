@@ -17,6 +17,7 @@ use crate::arguments::{
     audit_matches, redo_into_matches, redo_matches, restore_matches, run_matches,
 };
 use crate::open_words::open_of;
+use crate::view_words::{list_of, show_of};
 use clap::ArgMatches;
 use clap::error::ErrorKind;
 use page_core::FaultName;
@@ -69,12 +70,31 @@ pub enum Command<'a> {
         master: Option<&'a str>,
         all: bool,
     },
+    /// To print what a file has: a log, a master record, an archive or a volume. Of a log only the
+    /// records from one LSN to another, those that name the transaction, and those that name the
+    /// page, where these are told; of an archive or a volume the page alone, where one is. An LSN
+    /// is at most 67,108,928, a transaction's number at least 1, a page's at most 65,535.
+    Show {
+        file: &'a str,
+        from: Option<u32>,
+        to: Option<u32>,
+        txn: Option<u32>,
+        page: Option<u32>,
+        json: bool,
+    },
+    /// To print which copies stand in this folder, and what restores of them would do.
+    ListFolder {
+        folder: &'a str,
+        json: bool,
+    },
 }
 
 /// As many frames as a volume has pages at most, so that no page has to leave memory.
 pub(crate) const DEFAULT_FRAMES: u32 = 65_536;
 
-const NAMES: [&str; 6] = ["redo", "run", "open", "restore", "audit", "help"];
+const NAMES: [&str; 8] = [
+    "redo", "run", "open", "restore", "audit", "show", "list", "help",
+];
 
 const HELP: &str = "\
 Usage: imgcopy <COMMAND>
@@ -85,6 +105,8 @@ Commands:
   open     Open the database in a folder, and answer the lines of standard input
   restore  Write the volume that a log and image copies restore
   audit    Check that a chain of image copies restores what the log says
+  show     Print what a log, a master record, an image copy or a volume has
+  list     Print which copies a folder has, and what restores of them would do
   help     Print this help, or that of a command
 
 For the arguments of a command, try 'imgcopy help <COMMAND>'.
@@ -158,6 +180,8 @@ pub fn command_of<'a, S: AsStr>(
         "open" => open_of(alloc, words),
         "restore" => restore_of(alloc, words),
         "audit" => audit_of(alloc, words),
+        "show" => show_of(alloc, words),
+        "list" => list_of(alloc, words),
         "help" => match words.get(1) {
             Some(command) => help_of(alloc, command.as_str()),
             None => Err(UsageFault::HelpAsked),
@@ -178,6 +202,8 @@ fn help_of<'a>(alloc: Global, name: &'a str) -> Result<Command<'a>, UsageFault<'
         "open" => open_of(alloc, &["open", "--help"]),
         "restore" => restore_of(alloc, &["restore", "--help"]),
         "audit" => audit_of(alloc, &["audit", "--help"]),
+        "show" => show_of(alloc, &["show", "--help"]),
+        "list" => list_of(alloc, &["list", "--help"]),
         "help" | "--help" | "-h" => Err(UsageFault::HelpAsked),
         _ => Err(fault_of_unknown(alloc, name)),
     }

@@ -4,6 +4,7 @@
 mod arguments;
 mod command;
 mod open_words;
+mod view_words;
 mod words;
 
 pub use command::{Command, UsageFault, command_of};

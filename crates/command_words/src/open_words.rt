@@ -5,7 +5,7 @@ ghost use Rattle.clap.specs.Built.{FitsChain, TakesValue};
 ghost use Rattle.clap.specs.Words.{app_of, fault_of, first_value, found_of, matches_of, one_of};
 ghost use Rattle.clap.specs.Words.{rows_of, rule_of};
 ghost use Rattle.command_words.specs.Command.{AsksForFolder, ExplainsRead, Gives, HasCounts};
-ghost use Rattle.command_words.specs.Command.{IsPagesRead, Names, PassesFrames, PassesToldPages};
+ghost use Rattle.command_words.specs.Command.{IsTold, Names, PassesFrames, PassesToldPages};
 ghost use Rattle.command_words.specs.Command.{count_parser, folder_rule, open_app};
 ghost use Rattle.command_words.specs.Command.{told_pages_rule};
 ghost use Rattle.command_words.specs.declared.command.Command.TheVariants as command;
@@ -76,7 +76,7 @@ fn open_command<'a>(alloc: Global) -> Result<clap::Command<'a>, AllocError>
         .arg(frames_arg(alloc))
 }
 
-fn folder_arg<'a>(alloc: Global) -> Arg<'a>
+pub(crate) fn folder_arg<'a>(alloc: Global) -> Arg<'a>
     ensures rule { rule_of result ≡ folder_rule }
     ensures fits { FitsChain result }
     ensures value { TakesValue result }
@@ -106,7 +106,7 @@ fn told_pages_in(matches: &ArgMatches<'_>) -> Option<u32>
     requires { PassesToldPages (found_of matches.now) }
     ensures least { IfSome result (λ pages. 1 ≤ pages) }
     ensures most { IfSome result (λ pages. pages ≤ 65536) }
-    ensures read { IsPagesRead (one_of (codes "pages") (rows_of (found_of matches.now))) result }
+    ensures read { IsTold (one_of (codes "pages") (rows_of (found_of matches.now))) result }
 {
     matches.get_one::<u32>("pages")
 }

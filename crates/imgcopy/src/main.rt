@@ -10,10 +10,12 @@ ghost use Rattle.script_run.specs.Status.{status_of_audit, status_of_finish};
 mod advice;
 mod chain_reason;
 mod headers;
+mod list;
 mod output;
 mod reasons;
 mod restores;
 mod strict;
+mod view;
 
 use advice::{
     tell_audited, tell_input, tell_left, tell_script, tell_stale, tell_unread, tell_unsaved,
@@ -24,8 +26,10 @@ use command_words::{Command, command_of, words_of};
 use copy_audit::{Sound, Unsound};
 use copy_vault::CopyId;
 use event_script::MAX_SCRIPT_BYTES;
+use file_view::{Form, Wanted};
+use list::list;
 use output::{Output, put_in_place, tell_output};
-use page_core::{FaultName, PageNo};
+use page_core::{FaultName, Lsn, PageNo, TxnNo};
 use reasons::{Named, tell_redo};
 use restores::{Outputs, restore};
 use saved_files::{audit_files, check_master, save_files, unsound_pages};
@@ -40,6 +44,7 @@ use std::process::ExitCode;
 use std::thread::Threads;
 use strict::{Kept, Refusals, Tallied, line_of_call};
 use system_files::{Noted, Notes, SystemFiles, SystemFolder};
+use view::show;
 use volume_folder::{OpenCall, open_folder};
 use volume_redo::{Fault, redo_stream};
 
@@ -111,8 +116,35 @@ fn main(rt: HostRuntime) -> ExitCode {
             };
             audit(&rt, &names, all)
         }
+        Ok(
+            Command::Show {
+                file,
+                from,
+                to,
+                txn,
+                page,
+                json,
+            },
+        ) => {
+            let wanted = Wanted {
+                from: lsn_of(from),
+                to: lsn_of(to),
+                txn: txn.map(|number| TxnNo(number)),
+                page: page.map(|number| PageNo(number)),
+            };
+            show(&rt, file, &wanted, form_of(json))
+        }
+        Ok(Command::ListFolder { folder, json }) => list(&rt, folder, form_of(json)),
         Err(fault) => told_whole(&rt, &fault),
     }
+}
+
+fn form_of(json: bool) -> Form {
+    if json { Form::Json } else { Form::Words }
+}
+
+fn lsn_of(number: Option<u32>) -> Option<Lsn> {
+    Some(Lsn(number? as u64))
 }
 
 /// Rebuilds the volume of the log on standard input.

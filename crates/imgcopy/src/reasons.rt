@@ -3,13 +3,16 @@
 use crate::chain_reason::{ChainReason, chain_reason, pages_below};
 use crate::headers::{ArchiveHeader, FileKind, archive_header, kind_of, last_kind};
 use copy_audit::Unsound;
-use copy_vault::CopyId;
+use copy_vault::{ArchiveFault, CopyId};
+use file_view::ViewFault;
 use log_records::{RECORD_BYTES, log_header};
+use log_store::LogReadFault;
 use media_restore::RestoreFault;
 use page_core::field::u64_at;
 use page_core::{Lsn, PAGE_BYTES, PageNo};
 use std::io::{Read, Seek, SeekFrom};
 use std::{fmt, fs};
+use system_files::Notes;
 use volume_redo::Fault;
 
 /// The place of the first archive, behind the log and the master record.
@@ -84,6 +87,8 @@ pub enum Reason {
     PageLsn(u32, u64),
     /// A page that is not as the log made it, or lacks a change below the redo point.
     Unsound(u32, u64),
+    /// Other bytes stand in the place of this page of a volume.
+    NoPage(u64),
 }
 
 impl fmt::Display for Reason {
@@ -138,6 +143,7 @@ impl fmt::Display for Reason {
                 f,
                 "page {page} is not what the log made of it, or lacks a change below LSN {redo}"
             ),
+            Reason::NoPage(page) => write!(f, "the bytes there are not page {page}"),
         }
     }
 }
@@ -204,6 +210,69 @@ pub fn reason_of_audit(
         Unsound::CountDiffers => reason_of_count(rt, name),
         Unsound::PageBeyondLog(page) => Some(Reason::PageLsn(page.0, end_of(rt, names.log)?)),
         _ => None,
+    }
+}
+
+/// Names a file that is shown or listed, says what it was read as, and why the system failed there
+/// or what is wrong with it.
+pub fn tell_view(rt: &HostRuntime, name: &str, fault: &ViewFault, notes: &Notes) {
+    let what = match what_begins(rt, name) {
+        Some(FileKind::Log) => " (log)",
+        Some(FileKind::Master) => " (master record)",
+        Some(FileKind::Archive) => " (image copy)",
+        None => "",
+    };
+    let failed = match fault {
+        ViewFault::OutOfMemory | ViewFault::WriteFault(_) => return,
+        ViewFault::ReadFault => notes.error(),
+        _ => None,
+    };
+    let _ = match (failed, reason_of_view(rt, name, fault)) {
+        (Some(error), _) => eprintln!(rt; "imgcopy: {name}: {error}"),
+        (None, Some(reason)) => eprintln!(rt; "imgcopy: {name}{what}: {reason}"),
+        (None, None) => eprintln!(rt; "imgcopy: {name}{what}"),
+    };
+}
+
+/// What is wrong with a file that is shown or listed.
+fn reason_of_view(rt: &HostRuntime, name: &str, fault: &ViewFault) -> Option<Reason> {
+    if !is_regular(rt, name) {
+        return None;
+    }
+    match fault {
+        ViewFault::BadHeader | ViewFault::Archive(ArchiveFault::BadArchive(0)) => {
+            reason_of_first_bytes(rt, name)
+        }
+        ViewFault::Log(fault) => reason_of_log(rt, name, fault),
+        ViewFault::Archive(ArchiveFault::CountDiffers) => reason_of_count(rt, name),
+        ViewFault::BadPage(at) => Some(Reason::NoPage(*at / PAGE_BYTES as u64)),
+        _ => None,
+    }
+}
+
+fn reason_of_log(rt: &HostRuntime, name: &str, fault: &LogReadFault) -> Option<Reason> {
+    match fault {
+        LogReadFault::BadRecord(at) => reason_of_record(rt, name, *at),
+        LogReadFault::Torn(at) => reason_of_torn(rt, name, *at),
+        LogReadFault::BadChain(at) => reason_of_chain(rt, name, *at),
+        _ => None,
+    }
+}
+
+/// What the first bytes of a file say, if they are those of a file of imgcopy.
+fn what_begins(rt: &HostRuntime, name: &str) -> Option<FileKind> {
+    if !is_regular(rt, name) {
+        return None;
+    }
+    kind_of(&bytes_at(rt, name, 0)?)
+}
+
+/// What is wrong with the header of a file that may be of any kind.
+fn reason_of_first_bytes(rt: &HostRuntime, name: &str) -> Option<Reason> {
+    match what_begins(rt, name) {
+        Some(FileKind::Log) => reason_of_header(rt, name, 0),
+        Some(FileKind::Master) => reason_of_header(rt, name, 1),
+        Some(FileKind::Archive) | None => reason_of_header(rt, name, FIRST_ARCHIVE),
     }
 }
 

@@ -1,6 +1,10 @@
 //! What the program is made of: a program is no library, so these crates offer its calls.
 
 pub use command_words::command_of;
+pub use file_view::{
+    Form, Rows, ViewFault, Wanted, archive_header, facts_of, kind_of, put_copies, put_log,
+    put_page, put_record, read_file, show_file,
+};
 pub use saved_files::{Source, put_in_place, restore_volume_with_log, save_files};
 pub use script_advice::{BadLine, Shown};
 pub use script_run::{finish_script, run_script};

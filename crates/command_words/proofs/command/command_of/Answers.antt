@@ -1,8 +1,8 @@
 use Rattle.std.proofs.Common.{Some, ap, inr, map, refl, ◌∙◌}
-use Rattle.command_words.specs.Command.{audit_app, open_app, restore_app, run_app}
+use Rattle.command_words.specs.Command.{audit_app, list_app, open_app, restore_app, run_app, show_app}
 use Rattle.command_words.proofs.NameLemmas.{first_word, not_of_redo, only_by, taken_audit, taken_restore}
 use Rattle.command_words.proofs.NameLemmas.{audit_not_help, help_explains, not_help, read_as_they_stand, read_explains}
-use Rattle.command_words.proofs.NameLemmas.{open_not_help, taken_open, taken_run}
+use Rattle.command_words.proofs.NameLemmas.{list_not_help, open_not_help, show_not_help, taken_list, taken_open, taken_run, taken_show}
 use Rattle.command_words.proofs.NameLemmas.{unknown, unknown_explains, unnamed}
 use Rattle.command_words.proofs.command.command_of.Goals as goal
 
@@ -35,6 +35,20 @@ returns-in-audit-clause-only g c =
     c.in-Some.ensures.value c.as_str.ensures in
     only_by words audit_app c.audit_of.result (taken_audit words (first ∙ ap Some c.in-audit.is)) c.audit_of.ensures.only
 
+pub returns-in-show-clause-only : goal.returns-in-show-clause-only
+returns-in-show-clause-only g c =
+    let words = map g.S.AsStr.text c.args.words.now in
+    let first = first_word g.S.AsStr.text c.args.words.now c.in-Some.name.now c.as_str.result.now
+    c.in-Some.ensures.value c.as_str.ensures in
+    only_by words show_app c.show_of.result (taken_show words (first ∙ ap Some c.in-show.is)) c.show_of.ensures.only
+
+pub returns-in-list-clause-only : goal.returns-in-list-clause-only
+returns-in-list-clause-only g c =
+    let words = map g.S.AsStr.text c.args.words.now in
+    let first = first_word g.S.AsStr.text c.args.words.now c.in-Some.name.now c.as_str.result.now
+    c.in-Some.ensures.value c.as_str.ensures in
+    only_by words list_app c.list_of.result (taken_list words (first ∙ ap Some c.in-list.is)) c.list_of.ensures.only
+
 pub returns-in-run-clause-redo : goal.returns-in-run-clause-redo
 returns-in-run-clause-redo g c =
     let first = first_word g.S.AsStr.text c.args.words.now c.in-Some.name.now c.as_str.result.now
@@ -59,12 +73,25 @@ returns-in-audit-clause-redo g c =
     c.in-Some.ensures.value c.as_str.ensures in
     λ redo. absurd (not_of_redo _ c.as_str.result.now first c.in-audit.not-redo redo)
 
+pub returns-in-show-clause-redo : goal.returns-in-show-clause-redo
+returns-in-show-clause-redo g c =
+    let first = first_word g.S.AsStr.text c.args.words.now c.in-Some.name.now c.as_str.result.now
+    c.in-Some.ensures.value c.as_str.ensures in
+    λ redo. absurd (not_of_redo _ c.as_str.result.now first c.in-show.not-redo redo)
+
+pub returns-in-list-clause-redo : goal.returns-in-list-clause-redo
+returns-in-list-clause-redo g c =
+    let first = first_word g.S.AsStr.text c.args.words.now c.in-Some.name.now c.as_str.result.now
+    c.in-Some.ensures.value c.as_str.ensures in
+    λ redo. absurd (not_of_redo _ c.as_str.result.now first c.in-list.not-redo redo)
+
 pub returns-in_default-as_str-clause-only : goal.returns-in_default-as_str-clause-only
 returns-in_default-as_str-clause-only g c =
     let first = first_word g.S.AsStr.text c.args.words.now c.in-Some.name.now c.as_str.result.now
     c.in-Some.ensures.value c.as_str.ensures in
     λ taken. absurd (unnamed _ c.as_str.result.now first c.in_default-as_str.not-redo c.in_default-as_str.not-run
-    c.in_default-as_str.not-open c.in_default-as_str.not-restore c.in_default-as_str.not-audit taken)
+    c.in_default-as_str.not-open c.in_default-as_str.not-restore c.in_default-as_str.not-audit c.in_default-as_str.not-show
+    c.in_default-as_str.not-list taken)
 
 pub returns-in_default-as_str-clause-redo : goal.returns-in_default-as_str-clause-redo
 returns-in_default-as_str-clause-redo g c =
@@ -102,6 +129,18 @@ audit_of-requires g c =
     c.in-Some.ensures.value c.as_str.ensures in
     first ∙ ap Some c.in-audit.is
 
+pub show_of-requires : goal.show_of-requires
+show_of-requires g c =
+    let first = first_word g.S.AsStr.text c.args.words.now c.in-Some.name.now c.as_str.result.now
+    c.in-Some.ensures.value c.as_str.ensures in
+    first ∙ ap Some c.in-show.is
+
+pub list_of-requires : goal.list_of-requires
+list_of-requires g c =
+    let first = first_word g.S.AsStr.text c.args.words.now c.in-Some.name.now c.as_str.result.now
+    c.in-Some.ensures.value c.as_str.ensures in
+    first ∙ ap Some c.in-list.is
+
 pub returns-in-redo-clause-explained : goal.returns-in-redo-clause-explained
 returns-in-redo-clause-explained g c =
     let first = first_word g.S.AsStr.text c.args.words.now c.in-Some.name.now c.as_str.result.now
@@ -137,12 +176,27 @@ returns-in-audit-clause-explained g c =
     read_explains (map g.S.AsStr.text c.args.words.now) _ c.audit_of.result (read_as_they_stand _ c.as_str.result.now first
     (audit_not_help _ c.in-audit.is)) c.audit_of.ensures.explained
 
+pub returns-in-show-clause-explained : goal.returns-in-show-clause-explained
+returns-in-show-clause-explained g c =
+    let first = first_word g.S.AsStr.text c.args.words.now c.in-Some.name.now c.as_str.result.now
+    c.in-Some.ensures.value c.as_str.ensures in
+    read_explains (map g.S.AsStr.text c.args.words.now) _ c.show_of.result (read_as_they_stand _ c.as_str.result.now first
+    (show_not_help _ c.in-show.is)) c.show_of.ensures.explained
+
+pub returns-in-list-clause-explained : goal.returns-in-list-clause-explained
+returns-in-list-clause-explained g c =
+    let first = first_word g.S.AsStr.text c.args.words.now c.in-Some.name.now c.as_str.result.now
+    c.in-Some.ensures.value c.as_str.ensures in
+    read_explains (map g.S.AsStr.text c.args.words.now) _ c.list_of.result (read_as_they_stand _ c.as_str.result.now first
+    (list_not_help _ c.in-list.is)) c.list_of.ensures.explained
+
 pub returns-in_default-as_str-clause-explained : goal.returns-in_default-as_str-clause-explained
 returns-in_default-as_str-clause-explained g c =
     let first = first_word g.S.AsStr.text c.args.words.now c.in-Some.name.now c.as_str.result.now
     c.in-Some.ensures.value c.as_str.ensures in
     let unknown_word = unknown c.as_str.result.now c.in_default-as_str.not-redo c.in_default-as_str.not-run
-    c.in_default-as_str.not-open c.in_default-as_str.not-restore c.in_default-as_str.not-audit c.in_default-as_str.not-help
+    c.in_default-as_str.not-open c.in_default-as_str.not-restore c.in_default-as_str.not-audit c.in_default-as_str.not-show
+    c.in_default-as_str.not-list c.in_default-as_str.not-help
     c.in_default-as_str.not-text c.in_default-as_str.not-text-2 in
     unknown_explains (map g.S.AsStr.text c.args.words.now) _ c.fault_of_unknown.result first c.in_default-as_str.not-help
     (c.fault_of_unknown.ensures unknown_word)

@@ -1,7 +1,7 @@
 use Rattle.std.proofs.Common.{IfErr, [], codes, refl, subst, sym, ◌∷◌}
-use Rattle.command_words.specs.Command.{ExplainsRead, audit_app, open_app, redo_into_app, restore_app, run_app}
-use Rattle.command_words.proofs.ClapLemmas.{help_of_audit, help_of_open, help_of_redo, help_of_restore, help_of_run}
-use Rattle.command_words.proofs.NameLemmas.{help_gives_none, taken_audit, taken_open, taken_restore, taken_run}
+use Rattle.command_words.specs.Command.{ExplainsRead, audit_app, list_app, open_app, redo_into_app, restore_app, run_app, show_app}
+use Rattle.command_words.proofs.ClapLemmas.{help_of_audit, help_of_list, help_of_open, help_of_redo, help_of_restore, help_of_run, help_of_show}
+use Rattle.command_words.proofs.NameLemmas.{help_gives_none, taken_audit, taken_list, taken_open, taken_restore, taken_run, taken_show}
 use Rattle.command_words.proofs.RedoLemmas.{help_is_other, taken_redo_into}
 use Rattle.command_words.proofs.command.help_of.Goals as goal
 
@@ -55,3 +55,23 @@ pub returns-in-audit-clause-explained : goal.returns-in-audit-clause-explained
 returns-in-audit-clause-explained c =
     subst (λ name. IfErr c.audit_of.result (ExplainsRead (name ∷ codes "--help" ∷ []))) (sym c.in-audit.is)
     c.audit_of.ensures.explained
+
+pub returns-in-show-clause-refused : goal.returns-in-show-clause-refused
+returns-in-show-clause-refused c =
+    let words = codes "show" ∷ codes "--help" ∷ [] in
+    help_gives_none words show_app c.show_of.result c.show_of.ensures.ok (taken_show words refl) help_of_show
+
+pub returns-in-show-clause-explained : goal.returns-in-show-clause-explained
+returns-in-show-clause-explained c =
+    subst (λ name. IfErr c.show_of.result (ExplainsRead (name ∷ codes "--help" ∷ []))) (sym c.in-show.is)
+    c.show_of.ensures.explained
+
+pub returns-in-list-clause-refused : goal.returns-in-list-clause-refused
+returns-in-list-clause-refused c =
+    let words = codes "list" ∷ codes "--help" ∷ [] in
+    help_gives_none words list_app c.list_of.result c.list_of.ensures.ok (taken_list words refl) help_of_list
+
+pub returns-in-list-clause-explained : goal.returns-in-list-clause-explained
+returns-in-list-clause-explained c =
+    subst (λ name. IfErr c.list_of.result (ExplainsRead (name ∷ codes "--help" ∷ []))) (sym c.in-list.is)
+    c.list_of.ensures.explained

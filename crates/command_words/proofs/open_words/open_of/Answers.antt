@@ -1,7 +1,7 @@
 use Rattle.std.proofs.Common.{ap, codes, subst, sym, ◌∙◌}
 use Rattle.clap.specs.Words.{found_of, first_of, one_of}
 use Rattle.clap.proofs.WalkLemmas.{first_value-rows}
-use Rattle.command_words.specs.Command.{IsFramesRead, IsPagesRead}
+use Rattle.command_words.specs.Command.{IsFramesRead, IsTold}
 use Rattle.command_words.proofs.open_words.open_of.Goals as goal
 
 pub returns-clause-ok : goal.returns-clause-ok
@@ -11,7 +11,7 @@ returns-clause-ok g c =
       (c.requires, c.in_ok-matches.ensures.taken),
       ap (first_of (codes "dir")) (sym rows)
           ∙ (sym (first_value-rows found (codes "dir")) ∙ c.value_in-folder.ensures),
-      subst (λ found. IsPagesRead (one_of (codes "pages") found) c.told_pages_in-pages.result) rows
+      subst (λ found. IsTold (one_of (codes "pages") found) c.told_pages_in-pages.result) rows
           c.told_pages_in-pages.ensures.read,
       subst (λ found. IsFramesRead (one_of (codes "frames") found) c.frames_in-frames.result) rows
           c.frames_in-frames.ensures.read,

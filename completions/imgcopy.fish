@@ -1,0 +1,27 @@
+# Completion of imgcopy for fish.
+
+complete -c imgcopy -f
+complete -c imgcopy -n __fish_use_subcommand -a redo -d 'Write the volume that the log on standard input makes'
+complete -c imgcopy -n __fish_use_subcommand -a run -d 'Play the script on standard input on a formatted volume'
+complete -c imgcopy -n __fish_use_subcommand -a open -d 'Open the database in a folder'
+complete -c imgcopy -n __fish_use_subcommand -a restore -d 'Write the volume that a log and image copies restore'
+complete -c imgcopy -n __fish_use_subcommand -a audit -d 'Check that a chain of image copies restores'
+complete -c imgcopy -n __fish_use_subcommand -a show -d 'Print what a file has'
+complete -c imgcopy -n __fish_use_subcommand -a list -d 'Print which copies a folder has'
+complete -c imgcopy -n __fish_use_subcommand -a help -d 'Print the list of commands, or the help of one'
+complete -c imgcopy -n '__fish_seen_subcommand_from help' -a 'redo run open restore audit show list'
+complete -c imgcopy -n '__fish_seen_subcommand_from redo restore' -s o -l output -r -F -d 'The file of the volume'
+complete -c imgcopy -n '__fish_seen_subcommand_from restore' -l log-out -r -F -d 'The file of the log'
+complete -c imgcopy -n '__fish_seen_subcommand_from restore audit show' -F
+complete -c imgcopy -n '__fish_seen_subcommand_from run open' -l pages -x -d 'How many pages'
+complete -c imgcopy -n '__fish_seen_subcommand_from run open' -l frames -x -d 'How many pages in memory'
+complete -c imgcopy -n '__fish_seen_subcommand_from run' -l save -x -a '(__fish_complete_directories)' -d 'The folder of the files'
+complete -c imgcopy -n '__fish_seen_subcommand_from run' -l strict -d 'Status 1 if a call was refused'
+complete -c imgcopy -n '__fish_seen_subcommand_from open list' -a '(__fish_complete_directories)'
+complete -c imgcopy -n '__fish_seen_subcommand_from audit' -l all -d 'Each unsound page'
+complete -c imgcopy -n '__fish_seen_subcommand_from audit' -l master -r -F -d 'A master record'
+complete -c imgcopy -n '__fish_seen_subcommand_from show' -l from -x -d 'The least LSN'
+complete -c imgcopy -n '__fish_seen_subcommand_from show' -l to -x -d 'The greatest LSN'
+complete -c imgcopy -n '__fish_seen_subcommand_from show' -l txn -x -d 'A transaction'
+complete -c imgcopy -n '__fish_seen_subcommand_from show' -l page -x -d 'A page'
+complete -c imgcopy -n '__fish_seen_subcommand_from show list' -l json -d 'An object of JSON a line'

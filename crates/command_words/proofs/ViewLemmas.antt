@@ -1,0 +1,259 @@
+-- What `clap` makes of the arguments of `show` and of `list`.
+use Rattle.std.proofs.Common.{◌≡◌, ◌⊎◌, ◌<◌, ◌+◌, ◌||◌, ◌∙◌, ℕ, List, [], ◌∷◌, ◌++◌, Option, None, Some, length, true, false}
+use Rattle.std.proofs.Common.{ap, subst, inl, inr, arith, codes, is_some, lit<, refl, sym}
+use Rattle.std.specs.List.{All, slice_index_or}
+use Rattle.std.specs.Prelude.{◌^◌, Result, pos, zero, suc}
+use Rattle.std.specs.Str.{bytes_eq}
+use Rattle.std.specs.Str.Parse.{ParsesUnsigned}
+use Rattle.std.proofs.lemmas.List.{append-nil, append_assoc}
+use Rattle.std.proofs.lemmas.List.Elements.{All-nil}
+use Rattle.clap.specs.Built.{AddsArg, AddsInTurn, FitsChain, HasDistinctIds, IsParsedFrom, IsPlain, IsPlainArg, SameRules, TakesValue}
+use Rattle.clap.specs.Words.{ReadsOne, Text, args_of, first_value, found_of, groups_of, one_text, rule_of, without_minus}
+use Rattle.clap.specs.declared.builder.arg.Arg.{Arg}
+use Rattle.clap.specs.declared.builder.command.Command.{Command as Parser}
+use Rattle.clap.specs.declared.builder.command.Command.TheViews.{out-Command as fields_of}
+use Rattle.clap.specs.declared.builder.value_parser.ValueParser.TheVariants.{Signed}
+use Rattle.clap.specs.declared.parser.matches.ArgMatches.{ArgMatches}
+use Rattle.clap.specs.declared.parser.matches.Found.{Found}
+use Rattle.clap.proofs.CallerLemmas.{added_plain, required_in_chain}
+use Rattle.clap.proofs.CallerReads.{signed_reads}
+use Rattle.command_words.specs.Command.{AsksForList, AsksForView, IsMadeOf, IsTold, PassesIn, PassesNumber}
+use Rattle.command_words.specs.Command.{file_rule, folder_rule, from_rule, json_rule, page_rule, to_rule, txn_rule}
+use Rattle.command_words.proofs.ClapLemmas.{is_read}
+use Rattle.command_words.proofs.OptionalLemmas.{passed_if_given}
+use Rattle.command_words.proofs.RequiredLemmas.{same_length}
+
+-- ids whose lengths rise by one from place to place are all apart
+rising_apart : (xs : List Arg) (least : ℕ)
+    → ((k : ℕ) (e : Arg) → k < length xs → length (slice_index_or xs k e).id.now ≡ k + least) → HasDistinctIds xs
+rising_apart xs least long j k d e lj lk same =
+    same_place j k least _ _ (long j e lj) (long k d lk) (same_length _ _ same)
+  where
+    same_place : (j k least a b : ℕ) → a ≡ j + least → b ≡ k + least → a ≡ b → j ≡ k
+    same_place j k least a b at-j at-k equal = omega arith
+
+-- ---- what a chain of arguments keeps
+
+all_rest : (x : Arg) (xs : List Arg) → All FitsChain (x ∷ xs) → All FitsChain xs
+all_rest x xs h = λ k d lt. h (suc k) d (omega arith)
+
+abbrev KeepsRules : List Arg → List Arg → Type 0
+KeepsRules xs ys = (length ys ≡ length xs)
+    × ((k : ℕ) (e g : Arg) → k < length xs → SameRules (slice_index_or xs k e) (slice_index_or ys k g))
+
+one_more : (x y : Arg) (xs ys : List Arg) → SameRules x y
+    → ((k : ℕ) (e g : Arg) → k < length xs → SameRules (slice_index_or xs k e) (slice_index_or ys k g))
+    → (k : ℕ) (e g : Arg) → k < length (x ∷ xs) → SameRules (slice_index_or (x ∷ xs) k e) (slice_index_or (y ∷ ys) k g)
+one_more x y xs ys r rest zero e g lt = r
+one_more x y xs ys r rest (suc n) e g lt = rest n e g (omega arith)
+
+chain_keeps : (c d : Parser) (xs : List Arg) → AddsInTurn AddsArg c xs d → All FitsChain xs → IsPlain c
+    → (fields_of c).has_globals ≡ false
+    → (ys : List Arg) × (args_of d ≡ args_of c ++ ys) × KeepsRules xs ys × IsPlain d × ((fields_of d).has_globals ≡ false)
+chain_keeps c d [] h all plain globals =
+    ([], rw h (sym (append-nil _)), (refl, (λ k e f lt. absurd (omega arith))), rw (← h) plain, rw (← h) globals)
+chain_keeps c d (x ∷ xs) h all plain globals =
+    let added = h.1 in
+    let fit = all 0 x (omega arith) in
+    let plain2 = added_plain c h.0 x added plain fit.0 in
+    let globals2 = added.globals ∙ (ap (λ b. b || x.global) globals ∙ ap (λ b. false || b) fit.1) in
+    let f = chain_keeps h.0 d xs h.2 (all_rest x xs all) plain2 globals2 in (
+      added.arg ∷ f.0,
+      f.1 ∙ (ap (λ l. l ++ f.0) added.args ∙ append_assoc (args_of c) (added.arg ∷ []) f.0),
+      (ap suc f.2.0, one_more x added.arg xs f.0 added.rules f.2.1),
+      f.3,
+      f.4,
+    )
+
+-- a number of a chain that may be left out has no text, or one that clap let through
+number_in_chain : (low high : ℕ) (start cmd : Parser) (xs : List Arg) (k : ℕ) (d : Arg) (m : ArgMatches)
+    → AddsInTurn AddsArg start xs cmd → args_of start ≡ [] → groups_of start ≡ []
+    → (fields_of start).has_globals ≡ false → All FitsChain xs → HasDistinctIds xs → k < length xs
+    → (slice_index_or xs k d).value_parser ≡ Some (Signed (pos low) (pos high)) → IsParsedFrom cmd m
+    → (one_text (found_of m) (slice_index_or xs k d).id.now ≡ None)
+    ⊎ PassesIn low high (found_of m) (slice_index_or xs k d).id.now
+number_in_chain low high start cmd xs k d m chain args groups globals all distinct lt parser p =
+    let start-plain : IsPlain start = (subst (All IsPlainArg) (sym args) (All-nil IsPlainArg), groups) in
+    let f = chain_keeps start cmd xs chain all start-plain globals in
+    let list : args_of cmd ≡ f.0 = f.1 ∙ ap (λ l. l ++ f.0) args in
+    let a = slice_index_or xs k d in
+    let b = slice_index_or (args_of cmd) k d in
+    let elem : b ≡ slice_index_or f.0 k d = ap (λ l. slice_index_or l k d) list in
+    let rules = f.2.1 k d d lt in
+    let fit = all k d lt in
+    let len : length (args_of cmd) ≡ length xs = ap length list ∙ f.2.0 in
+    let in-cmd : k < length (args_of cmd) = omega arith in
+    let same-id : b.id ≡ a.id = ap (λ x. x.id) elem ∙ rules.id in
+    let same-now : b.id.now ≡ a.id.now = ap (λ x. x.now) same-id in
+    let only : (j : ℕ) (e : Arg) → j < length (args_of cmd) → bytes_eq (slice_index_or (args_of cmd) j e).id.now b.id.now ≡ true → j ≡ k =
+    λ j e low same.
+    let in-xs : j < length xs = omega arith in
+    let there : (slice_index_or (args_of cmd) j e).id ≡ (slice_index_or xs j e).id =
+    ap (λ x. x.id) (ap (λ l. slice_index_or l j e) list) ∙ (f.2.1 j e e in-xs).id in
+    distinct j k d e in-xs lt (rw (← ap (λ x. x.now) there, ← same-now) same) in
+    subst (λ id. (one_text (found_of m) id ≡ None) ⊎ PassesIn low high (found_of m) id) same-now
+    (passed_if_given low high cmd m p f.3 f.4 k d in-cmd only
+    (λ empty. fit.2 (sym same-now ∙ empty))
+    (λ auto. fit.3 (elim auto [ inl h ↦ inl (sym same-now ∙ h) | inr h ↦ inr (sym same-now ∙ h) ]))
+    (ap (λ x. x.value_parser) elem ∙ rules.parser (Signed (pos low) (pos high)) parser))
+
+-- ---- `show`
+
+abbrev told : (cmd : Parser) → AsksForView cmd → List Arg
+told cmd it = it.file ∷ it.from ∷ it.to ∷ it.txn ∷ it.page ∷ it.json ∷ []
+
+told_apart : (cmd : Parser) (it : AsksForView cmd) → HasDistinctIds (told cmd it)
+told_apart cmd it = rising_apart (told cmd it) 2 long
+  where
+    long : (k : ℕ) (e : Arg) → k < length (told cmd it) → length (slice_index_or (told cmd it) k e).id.now ≡ k + 2
+    long zero e lt = ap (λ r. length r.id) it.file_is
+    long (suc zero) e lt = ap (λ r. length r.id) it.from_is
+    long (suc (suc zero)) e lt = ap (λ r. length r.id) it.to_is
+    long (suc (suc (suc zero))) e lt = ap (λ r. length r.id) it.txn_is
+    long (suc (suc (suc (suc zero)))) e lt = ap (λ r. length r.id) it.page_is
+    long (suc (suc (suc (suc (suc zero))))) e lt = ap (λ r. length r.id) it.json_is
+    long (suc (suc (suc (suc (suc (suc k)))))) e lt = absurd (omega arith)
+
+-- the file that `show` requires
+pub file_given : (cmd : Parser) (m : ArgMatches) → AsksForView cmd → IsParsedFrom cmd m
+    → is_some (first_value (found_of m) (codes "of")) ≡ true
+file_given cmd m it p =
+    let made = it.made in
+    subst (λ id. is_some (first_value (found_of m) id) ≡ true) (ap (λ r. r.id) it.file_is)
+    (required_in_chain made.start cmd (told cmd it) 0 it.file m made.chain
+    made.no_arguments made.no_groups made.no_globals made.keeps made.fit (told_apart cmd it) (lit< tt) it.required p)
+
+passes_number : (low high : ℕ) (found : Found) (name id : Text) → high < 2 ^ 32 → name ≡ id
+    → (one_text found name ≡ None) ⊎ PassesIn low high found name → PassesNumber found id
+passes_number low high found name id fits same (inl none) = inl (subst (λ n. one_text found n ≡ None) same none)
+passes_number low high found name id fits same (inr some) =
+    inr (low, high, fits, subst (PassesIn low high found) same some)
+
+-- the numbers, where they were told
+pub from_passed : (cmd : Parser) (m : ArgMatches) → AsksForView cmd → IsParsedFrom cmd m
+    → PassesNumber (found_of m) (codes "low")
+from_passed cmd m it p =
+    let made = it.made in
+    passes_number 0 67108928 (found_of m) it.from.id.now (codes "low") (lit< tt) (ap (λ r. r.id) it.from_is)
+    (number_in_chain 0 67108928 made.start cmd (told cmd it) 1 it.from m made.chain made.no_arguments made.no_groups
+    made.no_globals made.fit (told_apart cmd it) (lit< tt) it.from_parsed p)
+
+pub to_passed : (cmd : Parser) (m : ArgMatches) → AsksForView cmd → IsParsedFrom cmd m
+    → PassesNumber (found_of m) (codes "high")
+to_passed cmd m it p =
+    let made = it.made in
+    passes_number 0 67108928 (found_of m) it.to.id.now (codes "high") (lit< tt) (ap (λ r. r.id) it.to_is)
+    (number_in_chain 0 67108928 made.start cmd (told cmd it) 2 it.to m made.chain made.no_arguments made.no_groups
+    made.no_globals made.fit (told_apart cmd it) (lit< tt) it.to_parsed p)
+
+pub txn_passed : (cmd : Parser) (m : ArgMatches) → AsksForView cmd → IsParsedFrom cmd m
+    → PassesNumber (found_of m) (codes "owner")
+txn_passed cmd m it p =
+    let made = it.made in
+    passes_number 1 4294967295 (found_of m) it.txn.id.now (codes "owner") (lit< tt) (ap (λ r. r.id) it.txn_is)
+    (number_in_chain 1 4294967295 made.start cmd (told cmd it) 3 it.txn m made.chain made.no_arguments made.no_groups
+    made.no_globals made.fit (told_apart cmd it) (lit< tt) it.txn_parsed p)
+
+pub page_passed : (cmd : Parser) (m : ArgMatches) → AsksForView cmd → IsParsedFrom cmd m
+    → PassesNumber (found_of m) (codes "number")
+page_passed cmd m it p =
+    let made = it.made in
+    passes_number 0 65535 (found_of m) it.page.id.now (codes "number") (lit< tt) (ap (λ r. r.id) it.page_is)
+    (number_in_chain 0 65535 made.start cmd (told cmd it) 4 it.page m made.chain made.no_arguments made.no_groups
+    made.no_globals made.fit (told_apart cmd it) (lit< tt) it.page_parsed p)
+
+-- the number as it was read, or none where it was not given
+pub number_read : (E : Type 0) (G : Text → Result ℕ E → Type 0) (found : Found) (id : Text) (r : Option ℕ)
+    → PassesNumber found id → (one_text found id ≡ None → r ≡ None)
+    → ((t : Text) → one_text found id ≡ Some t → ReadsOne G t r)
+    → ((u : Text) (x : Result ℕ E) → G u x → ParsesUnsigned 32 10 u x)
+    → IsTold (one_text found id) r
+number_read E G found id r (inl absent) none value parses =
+    subst (λ o. IsTold o r) (sym absent) (subst (λ o. IsTold None o) (sym (none absent)) tt)
+number_read E G found id r (inr (low, high, fits, passes)) none value parses =
+    let text = passes.0 in
+    let is = passes.1 in
+    let passed = passes.2 in
+    let read = value (without_minus text) is in
+    let got = signed_reads E G 32 low high text r read parses fits passed in
+    subst (λ o. IsTold o r) (sym is) (subst (λ o. IsTold (Some (without_minus text)) o) (sym got.1)
+    (is_read E G (without_minus text) (Some (without_minus text)) r got.0 refl read parses got.1))
+
+-- ---- `list`
+
+different : (a b : ℕ) → a ≡ 3 → b ≡ 7 → a ≡ b → ⊥
+different a b three seven same = omega arith
+
+two_apart : (cmd : Parser) (it : AsksForList cmd) → HasDistinctIds (it.folder ∷ it.json ∷ [])
+two_apart cmd it zero zero d e lj lk same = refl
+two_apart cmd it zero (suc zero) d e lj lk same =
+    absurd (different _ _ (ap (λ r. length r.id) it.folder_is) (ap (λ r. length r.id) it.json_is) (same_length _ _ same))
+two_apart cmd it (suc zero) zero d e lj lk same =
+    absurd (different _ _ (ap (λ r. length r.id) it.folder_is) (ap (λ r. length r.id) it.json_is) (sym (same_length _ _ same)))
+two_apart cmd it (suc zero) (suc zero) d e lj lk same = refl
+two_apart cmd it (suc (suc j)) k d e lj lk same = absurd (omega arith)
+two_apart cmd it j (suc (suc k)) d e lj lk same = absurd (omega arith)
+
+pub listed_folder_given : (cmd : Parser) (m : ArgMatches) → AsksForList cmd → IsParsedFrom cmd m
+    → is_some (first_value (found_of m) (codes "dir")) ≡ true
+listed_folder_given cmd m it p =
+    let made = it.made in
+    subst (λ id. is_some (first_value (found_of m) id) ≡ true) (ap (λ r. r.id) it.folder_is)
+    (required_in_chain made.start cmd (it.folder ∷ it.json ∷ []) 0 it.folder m made.chain
+    made.no_arguments made.no_groups made.no_globals made.keeps made.fit (two_apart cmd it) (lit< tt) it.required p)
+
+-- ---- commands that are made of their arguments
+
+six_fit : (a b c d e f : Arg) → FitsChain a → FitsChain b → FitsChain c → FitsChain d → FitsChain e → FitsChain f
+    → (k : ℕ) (x : Arg) → k < length (a ∷ b ∷ c ∷ d ∷ e ∷ f ∷ [])
+    → FitsChain (slice_index_or (a ∷ b ∷ c ∷ d ∷ e ∷ f ∷ []) k x)
+six_fit a b c d e f fit-a fit-b fit-c fit-d fit-e fit-f zero x lt = fit-a
+six_fit a b c d e f fit-a fit-b fit-c fit-d fit-e fit-f (suc zero) x lt = fit-b
+six_fit a b c d e f fit-a fit-b fit-c fit-d fit-e fit-f (suc (suc zero)) x lt = fit-c
+six_fit a b c d e f fit-a fit-b fit-c fit-d fit-e fit-f (suc (suc (suc zero))) x lt = fit-d
+six_fit a b c d e f fit-a fit-b fit-c fit-d fit-e fit-f (suc (suc (suc (suc zero)))) x lt = fit-e
+six_fit a b c d e f fit-a fit-b fit-c fit-d fit-e fit-f (suc (suc (suc (suc (suc zero))))) x lt = fit-f
+six_fit a b c d e f fit-a fit-b fit-c fit-d fit-e fit-f (suc (suc (suc (suc (suc (suc k)))))) x lt = absurd (omega arith)
+
+pub made_of_six : (start one two three four five cmd : Parser) (a b c d e f : Arg) → args_of start ≡ []
+    → groups_of start ≡ [] → (fields_of start).has_globals ≡ false → (fields_of start).subcommand_negates_reqs ≡ false
+    → FitsChain a → FitsChain b → FitsChain c → FitsChain d → FitsChain e → FitsChain f
+    → AddsArg start a one → AddsArg one b two → AddsArg two c three → AddsArg three d four → AddsArg four e five
+    → AddsArg five f cmd → IsMadeOf cmd (a ∷ b ∷ c ∷ d ∷ e ∷ f ∷ [])
+made_of_six start one two three four five cmd a b c d e f args groups globals negates fit-a fit-b fit-c fit-d fit-e fit-f
+    first second third fourth fifth sixth = record {
+      start = start;
+      no_arguments = args;
+      no_groups = groups;
+      no_globals = globals;
+      keeps = negates;
+      chain = (one, first, (two, second, (three, third, (four, fourth, (five, fifth, (cmd, sixth, refl))))));
+      fit = λ k x lt. six_fit a b c d e f fit-a fit-b fit-c fit-d fit-e fit-f k x lt;
+    }
+
+two_fit : (a b : Arg) → FitsChain a → FitsChain b → (k : ℕ) (x : Arg) → k < length (a ∷ b ∷ [])
+    → FitsChain (slice_index_or (a ∷ b ∷ []) k x)
+two_fit a b fit-a fit-b zero x lt = fit-a
+two_fit a b fit-a fit-b (suc zero) x lt = fit-b
+two_fit a b fit-a fit-b (suc (suc k)) x lt = absurd (omega arith)
+
+pub asks_for_list : (start one cmd : Parser) (a b : Arg) → args_of start ≡ [] → groups_of start ≡ []
+    → (fields_of start).has_globals ≡ false → (fields_of start).subcommand_negates_reqs ≡ false
+    → FitsChain a → FitsChain b → rule_of a ≡ folder_rule → rule_of b ≡ json_rule → TakesValue a
+    → AddsArg start a one → AddsArg one b cmd → AsksForList cmd
+asks_for_list start one cmd a b args groups globals negates fit-a fit-b rule-a rule-b value first second = record {
+  folder = a;
+  json = b;
+  made = record {
+    start = start;
+    no_arguments = args;
+    no_groups = groups;
+    no_globals = globals;
+    keeps = negates;
+    chain = (one, first, (cmd, second, refl));
+    fit = λ k x lt. two_fit a b fit-a fit-b k x lt;
+  };
+  folder_is = rule-a;
+  json_is = rule-b;
+  required = value;
+}

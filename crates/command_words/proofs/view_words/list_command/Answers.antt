@@ -1,0 +1,39 @@
+use Rattle.std.proofs.Common.{ap, codes, ◌∙◌}
+use Rattle.std.proofs.lemmas.Result.{IfOk-weaker}
+use Rattle.clap.specs.declared.builder.command.Command.{Command as Parser}
+use Rattle.clap.specs.declared.builder.command.Command.TheOpen.{Command-F}
+use Rattle.clap.specs.Simple.{app_of_fields, new_app, with_rule}
+use Rattle.command_words.specs.Command.{folder_rule, json_rule}
+use Rattle.command_words.proofs.RequiredLemmas.{app_with}
+use Rattle.command_words.proofs.ViewLemmas.{asks_for_list}
+use Rattle.command_words.proofs.view_words.list_command.Goals as goal
+
+pub returns-clause-made : goal.returns-clause-made
+returns-clause-made c =
+    let args = λ (f : Command-F Parser). f.args.items in
+    let groups = λ (f : Command-F Parser). f.groups.items in
+    let globals = λ (f : Command-F Parser). f.has_globals in
+    let negates = λ (f : Command-F Parser). f.subcommand_negates_reqs in
+    let named = c.in_ok-bin_name.ensures.0 in
+    let shown = c.override_usage.ensures in
+    IfOk-weaker c.arg-2.result _ _ (λ command added. asks_for_list
+    c.in_ok-bin_name.field-0 c.in_ok-arg.field-0 command
+    c.folder_arg.result c.json_arg.result
+    (ap args named ∙ (ap args shown ∙ (ap args c.about.ensures ∙ c.new.ensures.empty.0)))
+    (ap groups named ∙ (ap groups shown ∙ (ap groups c.about.ensures ∙ c.new.ensures.empty.1)))
+    (ap globals named ∙ (ap globals shown ∙ (ap globals c.about.ensures ∙ c.new.ensures.local)))
+    (ap negates named ∙ (ap negates shown ∙ (ap negates c.about.ensures ∙ c.new.ensures.negates)))
+    c.folder_arg.ensures.fits c.json_arg.ensures.fits c.folder_arg.ensures.rule c.json_arg.ensures.rule
+    c.folder_arg.ensures.value c.in_ok-arg.ensures added) c.arg-2.ensures
+
+pub returns-clause-app : goal.returns-clause-app
+returns-clause-app c =
+    let named = c.in_ok-bin_name.ensures.0 in
+    let shown = c.override_usage.ensures in
+    let start = ap app_of_fields named ∙ (ap app_of_fields shown ∙ (ap app_of_fields c.about.ensures ∙ c.new.ensures.app)) in
+    let app = new_app (codes "list") in
+    let with_1 = app_with c.in_ok-bin_name.field-0 c.in_ok-arg.field-0 c.folder_arg.result app folder_rule
+    c.in_ok-arg.ensures c.folder_arg.ensures.fits.1 start c.folder_arg.ensures.rule in
+    IfOk-weaker c.arg-2.result _ _ (λ command added. app_with c.in_ok-arg.field-0 command c.json_arg.result
+    (with_rule app folder_rule) json_rule added c.json_arg.ensures.fits.1 with_1
+    c.json_arg.ensures.rule) c.arg-2.ensures

@@ -1,0 +1,6 @@
+pub mod Json
+pub mod RecordText
+pub mod PageText
+pub mod Shown
+pub mod Summary
+pub mod Wanted

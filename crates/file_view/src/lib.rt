@@ -1,0 +1,32 @@
+//! What a file of a database is, and the lines that show it.
+#![tactic(auto)]
+
+mod copy_header;
+mod copy_row;
+mod fault;
+mod head;
+mod input;
+mod kind;
+mod lines;
+mod log_summary;
+mod page_row;
+mod record_json;
+mod record_line;
+mod show;
+mod summary;
+mod wanted;
+
+pub use copy_header::{ArchiveHeader, archive_header};
+pub use copy_row::{CopyRow, Rows};
+pub use fault::ViewFault;
+pub use head::{Head, HeadJson};
+pub use input::read_file;
+pub use kind::{FileKind, kind_of};
+pub use lines::{Form, Lines};
+pub use log_summary::{CkptPoint, LogSummary};
+pub use page_row::put_page;
+pub use record_json::RecordJson;
+pub use record_line::RecordLine;
+pub use show::{put_record, show_file};
+pub use summary::{LogFacts, facts_of, put_copies, put_log};
+pub use wanted::Wanted;
