@@ -189,6 +189,8 @@ else
     program=$1 check_library=build/check_library check_faults=build/check_faults bank=build/demo_bank
 fi
 run_checks
+# What the gate refused is told again here, where the reader of a long output looks first.
+"$is_gate" && grep -a 'FAILED: \|NOT PROVED' build/gate.log
 counts="$passed passed, $failed failed"
 [ "$skipped" -eq 0 ] || counts+=", $skipped skipped"
 echo "$counts"
