@@ -1,7 +1,8 @@
 -- Which words give which command, and why others give none.
 use Rattle.std.specs.Prelude.{◌≡◌, ◌≢◌, ◌⊎◌, ◌≤◌, ℕ, List, [], ◌∷◌, None, Option, IsSomeAnd, Some}
 use Rattle.std.specs.Prelude.{IfSome, codes}
-use Rattle.std.specs.Prelude.{◌<◌, ◌^◌, Bool, false, if◌then◌else◌, length, map, nat_eq, option_map, pos}
+use Rattle.std.specs.Prelude.{◌<◌, ◌^◌, Bool, false, if◌then◌else◌, length, map, nat_eq}
+use Rattle.std.specs.Prelude.{option_map, pos}
 use Rattle.std.specs.Prelude.{slice_get, true, unwrap_or}
 use Rattle.std.specs.List.{All, Any}
 use Rattle.std.specs.Str.{bytes_eq, chars}
@@ -20,7 +21,8 @@ use Rattle.clap.specs.declared.builder.value_parser.ValueParser.TheVariants.{Sig
 use Rattle.clap.specs.declared.parser.matches.Found.{Found}
 use Rattle.strsim.specs.Edits.{levenshtein_row}
 use Rattle.command_words.specs.declared.command.Command.{Command}
-use Rattle.command_words.specs.declared.command.Command.TheVariants.{Audit, ListFolder, Open, Redo, RedoInto}
+use Rattle.command_words.specs.declared.command.Command.TheVariants.{Audit, ListFolder, Open}
+use Rattle.command_words.specs.declared.command.Command.TheVariants.{Redo, RedoInto}
 use Rattle.command_words.specs.declared.command.Command.TheVariants.{Restore, Run, Show}
 use Rattle.command_words.specs.declared.command.UsageFault.{UsageFault}
 use Rattle.command_words.specs.declared.command.UsageFault.TheVariants.{BadArguments, HelpAsked}
@@ -264,7 +266,8 @@ Gives words (Open folder pages frames) = let rows = matches_of open_app words in
     IsTakenBy words open_app × (first_of (codes "dir") rows ≡ Some folder.now)
     × IsTold (one_of (codes "pages") rows) pages
     × IsFramesRead (one_of (codes "frames") rows) frames
-Gives words (Restore log master archives output log_output) = let rows = matches_of restore_app words in
+Gives words (Restore log master archives output log_output) =
+    let rows = matches_of restore_app words in
     IsTakenBy words restore_app × (first_of (codes "log") rows ≡ Some log.now)
     × (first_of (codes "master") rows ≡ Some master.now)
     × (map (λ name. name.now) archives.items ≡ unwrap_or (all_of (codes "archive") rows) [])
