@@ -9,11 +9,12 @@
 #                 if rt is used, those of read_log and of the engine too, by a program of their own; and checks
 #                 that what the documents name is there
 # make plants     tries the few wrong bodies that the gate leaves out, since it would prove their crates for them alone
-# make bench      measures the program beside a plain Rust program, prints a table, and draws bench/times.svg; if rt is
+# make bench      measures the program beside a plain Rust program, prints a table, and draws bench/times.svg; it measures
+#                 the program alone on inputs that are chosen to cost much; if rt is
 #                 used, it then measures copies of a shared engine by many workers, and draws bench/copies.svg, and
 #                 commits on files beside those of SQLite, where sqlite3 is there
 # make examples   makes the example logs and their expected answers again
-# make contracts  makes docs/CONTRACTS.md again, from the sources
+# make contracts  makes docs/CONTRACTS.md and docs/contracts/ again, from the sources
 # make install    puts the program, its manual page, the completions of bash, zsh and fish, the guide, the formats, and the
 #                 scripts that show a log and a page below PREFIX, by default /usr/local
 # make clean      removes build/, and keeps the proofs that rt keeps for itself
@@ -63,6 +64,8 @@ bench: need-python3 bench-programs $(PROGRAM)
 	@python3 bench/run.py --imgcopy "$(IMGCOPY)" --tools $(BENCH_PROGRAMS) --rounds $(ROUNDS) > build/bench.md
 	@cat build/bench.md
 	@python3 bench/draw.py build/bench.md bench/times.svg
+	@python3 bench/extremes.py --imgcopy "$(IMGCOPY)" --tools $(BENCH_PROGRAMS) --rounds $(ROUNDS) > build/extremes.md
+	@cat build/extremes.md
 ifeq ($(GIVEN),)
 	@tools/build.sh bench_copies
 	@python3 bench/copies.py build/bench_copies $(ROUNDS) bench/copies.svg > build/copies.md

@@ -76,7 +76,7 @@ def code_of(path):
 def documents():
     yield ROOT / "README.md"
     yield ROOT / "CHANGELOG.md"
-    for pattern in ("docs/*.md", "bench/*.md", "model/*.md", "checks/*.md", "crates/*/*.md"):
+    for pattern in ("docs/*.md", "docs/contracts/*.md", "bench/*.md", "model/*.md", "checks/*.md", "crates/*/*.md"):
         yield from sorted(ROOT.glob(pattern))
 
 

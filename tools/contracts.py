@@ -1,8 +1,9 @@
 #!/usr/bin/env python3
-"""Makes docs/CONTRACTS.md: the public items of each crate, the names of their clauses, and the crate's wrong bodies.
+"""Makes docs/CONTRACTS.md, the index of the public items of each crate, and docs/contracts/CRATE.md for each crate: its
+items with their signatures and the full text of their clauses, and the crate's wrong bodies.
 
-usage: contracts.py            writes docs/CONTRACTS.md
-       contracts.py --check    fails if docs/CONTRACTS.md is not what the sources give
+usage: contracts.py            writes them
+       contracts.py --check    fails if they are not what the sources give
 
 It reads the sources by their layout, which is that of `rt fmt`: the items of a module begin at the start of a line, and
 those of an `impl` or a `trait` behind four spaces.
@@ -10,24 +11,42 @@ those of an `impl` or a `trait` behind four spaces.
 
 import re
 import sys
+from collections import Counter
 from itertools import groupby
 from pathlib import Path
+from textwrap import dedent
 from typing import NamedTuple, Optional
 
 from repository import ROOT, crates
 
 DOCUMENT = ROOT / "docs" / "CONTRACTS.md"
+PAGES = ROOT / "docs" / "contracts"
 
 INTRODUCTION = """\
 # Contracts
 
-For each crate of `crates.txt`: its public items that can be named from outside the crate, or all of them where the
-crate is a program; the first sentence of what the source says of each; and the names of its clauses, where `-` is a
-clause without a name, and `ghost` stands before a word that other contracts use. Then the wrong bodies of the crate,
-which the check has to refuse (`crates/*/must-fail/`, and `tools/plants/` for those that the gate leaves out), behind
-the places that they change.
+The public items of each crate of `crates.txt` that can be named from outside the crate, or all of them where the crate
+is a program, with the first sentence of what the source says of each. An item leads to its place on the page of its
+crate, which has its signature and its clauses in full, and behind the items the wrong bodies of the crate, which the
+check has to refuse.
 
-`make contracts` makes this file from the sources.
+`make contracts` makes this file and those pages from the sources.
+"""
+
+PAGE = """\
+# Contracts of {crate}
+
+The public items of `crates/{crate}`, file by file, with what the source says of each, its signature, and its clauses.
+`requires` is what a caller has to show, and `ensures` what it may count on. Where an item is of an `impl` with
+parameters, a comment names that. The lines `ghost use` of a file say in which crate, and in which file of its `specs`,
+the words of its clauses are defined. [The index](../CONTRACTS.md) has the other crates.
+"""
+
+WRONG_BODIES = """\
+## Wrong bodies
+
+The check has to refuse each of these (`crates/*/must-fail/`, and `tools/plants/` for those that the gate leaves out),
+behind the places that they change.
 """
 
 # Comments, texts and characters: no item begins in them.
@@ -37,35 +56,46 @@ ITEM = re.compile(r"^(    |)(pub |)(?:pub\(.*?\) |const (?=fn)|unsafe )*"
                   r"(fn|struct|enum|trait|const|static|type|impl|ghost(?! use))\b(.*)", re.MULTILINE)
 MODULE = re.compile(r"^(pub |)mod (\w+);", re.MULTILINE)
 EXPORT = re.compile(r"^pub use (.*?);", re.DOTALL | re.MULTILINE)
-CLAUSE = re.compile(r"\b(requires|ensures)\*?\s*(\w*)\s*\{")
+WORDS = re.compile(r"^( *)ghost use .*?;", re.DOTALL | re.MULTILINE)
+CLAUSE = re.compile(r"\b(?:requires|ensures)\b")
+# A line of a struct that has a private field.
+FIELD = re.compile(r"^    (?!pub |///|#\[)\S.*\n", re.MULTILINE)
 
 
 class Item(NamedTuple):
-    """An item of a module, or of the `impl` or `trait` whose head is `owner`. That of a module has the owner ''."""
+    """An item of a module, or of the `impl` or `trait` whose head is `owner`. That of a module has the owner ''.
+
+    `text` is what users see of it: no body of a function, and of an `impl` or a `trait` the head alone. `within` is the
+    head of the `impl` that it stands in, as the source has it.
+    """
 
     kind: str
     name: str
     is_public: bool
     owner: str
     start: int
-    doc: str
-    requires: list
-    ensures: list
+    doc: list
+    text: str
+    within: str
+    words: str
 
 
 class Module(NamedTuple):
-    """A file of a crate. `path` is what users write before its items, or None where they cannot name the module."""
+    """A file of a crate. `path` is what users write before its items, or None where they cannot name the module.
+
+    `words` are its lines `ghost use`.
+    """
 
     file: Path
     path: Optional[str]
     items: list
+    words: str
 
 
 class Row(NamedTuple):
     item: str
-    doc: str
-    requires: list
-    ensures: list
+    doc: list
+    text: str
 
 
 def hide(text):
@@ -76,17 +106,19 @@ def hide(text):
 
 def items_of(text):
     """The items of a module, in their order."""
-    shown, items, owner = hide(text), [], ""
+    shown, items, owner, within = hide(text), [], "", ""
     for found in ITEM.finditer(shown):
         indent, public, kind, rest = found.groups()
         if indent and not owner:
             continue  # within the body of a function
         name = head_of_impl(rest) if kind == "impl" else re.match(r"\W*(\w*)", rest)[1]
-        requires, ensures = clauses(shown[found.start():]) if kind == "fn" else ([], [])
-        items.append(Item(kind, name, bool(public), owner if indent else "", found.start(),
-                          first_sentence(text[:found.start()]), requires, ensures))
+        start = found.start()
+        items.append(Item(kind, name, bool(public), owner if indent else "", start, documentation(text[:start]),
+                          derived(text[:start]) + seen_of(kind, text[start:], shown[start:]), within if indent else "",
+                          words_within(text[start:], shown[start:]) if kind in ("impl", "trait") else ""))
         if not indent:
             owner = f"{kind} {name}" if kind in ("impl", "trait") else ""
+            within = items[-1].text
     return items
 
 
@@ -101,10 +133,29 @@ def head_of_impl(rest):
     return rest[generics:].rstrip(" {").strip()
 
 
-def clauses(text):
-    """The names of the clauses of the function with which this text begins: those required, and those ensured."""
-    found = CLAUSE.findall(head_of_function(text))
-    return [[name or "-" for word, name in found if word == wanted] for wanted in ("requires", "ensures")]
+def seen_of(kind, text, shown):
+    """What users see of the item with which this text begins."""
+    if kind in ("fn", "impl", "trait"):
+        return dedent(text[:len(head_of_function(shown))].rstrip())
+    item = dedent(text[:end_of_item(shown)])
+    if kind != "struct" or not item.endswith("}"):
+        return item
+    fields = FIELD.sub("", item)
+    if fields == item:
+        return item
+    return without_lone_comments(fields)[:-1] + "    // and private fields\n}"
+
+
+def without_lone_comments(fields):
+    """The fields of a struct without the comments of those that were left out."""
+    kept, comments = [], []
+    for line in fields.splitlines(keepends=True):
+        if line.startswith("    ///"):
+            comments.append(line)
+        else:
+            kept += comments + [line] if line.startswith("    pub ") else [line]
+            comments = []
+    return "".join(kept)
 
 
 def head_of_function(text):
@@ -124,14 +175,41 @@ def head_of_function(text):
     return text
 
 
-def first_sentence(before):
-    """The first sentence of the documentation with which this text ends."""
+def end_of_item(text):
+    """Where the item ends: behind its semicolon, or behind the brace that closes it."""
+    depth = 0
+    for token in re.finditer(r"[{}()\[\];]", text):
+        word = token.group()
+        depth += 1 if word in "{([" else -1 if word in "})]" else 0
+        if depth == 0 and word in ";}" and not text[token.end():].startswith(";"):
+            return token.end()
+    return len(text)
+
+
+def words_within(text, shown):
+    """The lines `ghost use` of the `impl` or `trait` with which this text begins."""
+    end = end_of_item(shown)
+    return "\n".join(found.group() for found in WORDS.finditer(text[:end]))
+
+
+def derived(before):
+    """The attribute `derive` with which this text ends, if it does."""
+    found = re.search(r"\n(#\[derive\([^\]]*\)\]\n)(?:#\[.*\]\n)*$", before)
+    return found[1] if found else ""
+
+
+def documentation(before):
+    """The lines of the documentation with which this text ends."""
     lines = []
     for line in reversed(before.rstrip().split("\n")):
         if line.strip().startswith("///"):
-            lines.insert(0, line.strip(" /"))
+            lines.insert(0, line.strip().removeprefix("///").strip())
         elif not line.strip().startswith("#["):
             break
+    return lines
+
+
+def first_sentence(lines):
     paragraph = " ".join(lines[:lines.index("")] if "" in lines else lines)
     return re.match(r".*?[.!?](?= |$)|.*", paragraph).group()
 
@@ -139,7 +217,8 @@ def first_sentence(before):
 def modules(file, folder, path):
     """The module of this file and those below it, but no tests. The files of those below stand in the folder."""
     text = file.read_text(encoding="utf-8")
-    yield Module(file, path, items_of(text))
+    words = "\n".join(found.group() for found in WORDS.finditer(text) if not found[1])
+    yield Module(file, path, items_of(text), words)
     for public, name in MODULE.findall(hide(text)):
         below = f"{path}{name}::" if public and path is not None else None
         yield from modules(folder / f"{name}.rt", folder / name, below)
@@ -161,7 +240,7 @@ def rows_of(module, exports):
     for item in module.items:
         if is_shown(item) and (module.path is not None or subject_of(item) in exports):
             row = row_of(item, module)
-            if row.requires or row.ensures or item.kind != "impl":
+            if item.kind != "impl" or row.text.endswith("}"):
                 yield row
 
 
@@ -172,13 +251,31 @@ def is_shown(item):
 
 
 def row_of(item, module):
-    within = [other for other in module.items if other.owner == f"{item.kind} {item.name}"]
-    words = [f"ghost {other.name}" for other in within if other.kind == "ghost"]
-    if item.kind == "impl":
-        words += [name for other in within for name in other.ensures]
     path = module.path or ""
     name = f"{path}{subject_of(item)}::{item.name}" if item.owner else f"{item.kind} {path}{item.name}"
-    return Row(name, item.doc, item.requires, item.ensures + words)
+    return Row(name, item.doc, seen_with_its_place(item, module))
+
+
+def seen_with_its_place(item, module):
+    """What users see of an item: of an `impl` or a `trait` with its ghosts, and of an `impl` with its clauses too."""
+    if item.kind in ("impl", "trait"):
+        kinds = ("ghost",) if item.kind == "trait" else ("ghost", "fn")
+        within = [other for other in module.items if other.owner == f"{item.kind} {item.name}"
+                  and other.kind in kinds and (other.kind == "ghost" or CLAUSE.search(hide(other.text)))
+                  and other.start > item.start]
+        parts = [part_of(other) for other in within]
+        if parts and item.words:
+            parts.insert(0, item.words)
+        return f"{item.text} {{\n{chr(10).join(parts)}\n}}" if parts else item.text
+    if item.within.startswith("impl<"):
+        return f"// {' '.join(item.within.split())}\n{item.text}"
+    return item.text
+
+
+def part_of(item):
+    text = item.text if item.text.endswith(";") else f"{item.text};"
+    text = "".join(f"/// {line}".rstrip() + "\n" for line in item.doc) + text
+    return "\n".join(f"    {line}" if line else "" for line in text.split("\n"))
 
 
 def subject_of(item):
@@ -211,39 +308,137 @@ def place_of(before):
     return f"`{subject_of(last)}::{last.name}`" if last.owner else f"`{last.name}`"
 
 
-def section(crate):
-    found, exports = modules_of(crate)
-    rows = [row for module in found for row in rows_of(module, exports)]
-    if not rows:
+class Crate(NamedTuple):
+    """A crate: its modules, of each file what users can name, and the items of other crates that it passes on."""
+
+    name: str
+    modules: list
+    rows: list
+    passed: list
+
+    def shown(self):
+        return [row for rows in self.rows for row in rows]
+
+
+def shown_crates():
+    for name in crates():
+        found, exports = modules_of(name)
+        crate = Crate(name, found, [list(rows_of(module, exports)) for module in found], list(passed_on(name)))
+        if crate.shown() or crate.passed:
+            yield crate
+
+
+def passed_on(crate):
+    """The crate, the name there and the name here of each item that a library passes on of another crate."""
+    library = ROOT / "crates" / crate / "src" / "lib.rt"
+    if not library.exists():
         return
-    yield f"## {crate}\n"
-    yield "| Item | What it is | Requires | Ensures |"
-    yield "|---|---|---|---|"
-    for row in rows:
-        clause_cells = [", ".join(name if name == "-" else f"`{name}`" for name in names)
-                        for names in (row.requires, row.ensures)]
-        cells = [f"`{row.item}`", row.doc, *clause_cells]
+    for export in EXPORT.findall(hide(library.read_text(encoding="utf-8"))):
+        other, _, names = export.partition("::")
+        for name in re.findall(r"\w+(?: as \w+)?", names) if other in crates() else []:
+            there, _, here = name.partition(" as ")
+            yield other, there, here or there
+
+
+def place_of_item(by_name, crate, name):
+    """Where the item stands that a crate has or passes on under this name: a page and an anchor there."""
+    for row, anchor in zip(by_name[crate].shown(), anchors(by_name[crate])):
+        if row.item.split(" ")[1:] == [name]:
+            return f"{crate}.md#{anchor}"
+    return next((place_of_item(by_name, other, there) for other, there, here in by_name[crate].passed if here == name),
+                f"{crate}.md")
+
+
+def anchors(crate):
+    """The anchor of each heading of an item on the page of a crate, in their order."""
+    seen = Counter()
+    for module, rows in zip(crate.modules, crate.rows):
+        headings = [str(module.file.relative_to(ROOT / "crates" / crate.name))] if rows else []
+        for place, heading in enumerate(headings + [row.item for row in rows]):
+            anchor = re.sub(r"[^\w -]", "", heading.lower()).replace(" ", "-")
+            if place:
+                yield f"{anchor}-{seen[anchor]}" if seen[anchor] else anchor
+            seen[anchor] += 1
+
+
+def section(crate):
+    """The items of a crate in the index."""
+    yield f"## {crate.name}\n"
+    if crate.passed:
+        yield f"It also [passes on items of other crates](contracts/{crate.name}.md#passed-on-of-other-crates).\n"
+    if not crate.shown():
+        return
+    yield "| Item | What it is |"
+    yield "|---|---|"
+    for row, anchor in zip(crate.shown(), anchors(crate)):
+        cells = [f"[`{row.item}`](contracts/{crate.name}.md#{anchor})", first_sentence(row.doc)]
         yield f"| {' | '.join(cell.replace('|', chr(92) + '|') for cell in cells)} |"
-    yield "\nWrong bodies:\n"
-    yield from list(wrong_bodies(crate, found)) or ["none"]
     yield ""
 
 
-def document():
-    return "\n".join([INTRODUCTION, *(line for crate in crates() for line in section(crate))])
+def passed_lines(crate, by_name):
+    """The items of other crates that a crate passes on, a line for each of these crates."""
+    for other, items in groupby(crate.passed, key=lambda item: item[0]):
+        links = (f"[`{here}`]({place_of_item(by_name, other, there)})" for _, there, here in items)
+        yield f"- of `{other}`: {', '.join(links)}"
+
+
+def page(crate, by_name):
+    yield PAGE.format(crate=crate.name)
+    if crate.passed:
+        yield from ["## Passed on of other crates\n", *passed_lines(crate, by_name), ""]
+    for module, rows in zip(crate.modules, crate.rows):
+        if rows:
+            yield f"## `{module.file.relative_to(ROOT / 'crates' / crate.name)}`\n"
+            yield from block(module.words)
+        for row in rows:
+            yield f"### `{row.item}`\n"
+            yield from [*row.doc, ""] if row.doc else []
+            yield from block(row.text)
+    yield WRONG_BODIES
+    yield from list(wrong_bodies(crate.name, crate.modules)) or ["none"]
+    yield ""
+
+
+def block(text):
+    return ["```rust", text, "```", ""] if text else []
+
+
+def documents():
+    """The text of each file that this script makes."""
+    found = list(shown_crates())
+    by_name = {crate.name: crate for crate in found}
+    made = {PAGES / f"{crate.name}.md": "\n".join(page(crate, by_name)) for crate in found}
+    return {DOCUMENT: "\n".join([INTRODUCTION, *(line for crate in found for line in section(crate))]), **made}
+
+
+def write(made):
+    PAGES.mkdir(exist_ok=True)
+    for path in set(PAGES.glob("*.md")) - set(made):
+        path.unlink()
+    for path, text in made.items():
+        path.write_text(text, encoding="utf-8")
+
+
+def stale(made):
+    """The first file that is not what the sources give, or None."""
+    for path in sorted(set(PAGES.glob("*.md")) | set(made)):
+        if path not in made or not path.exists() or path.read_text(encoding="utf-8") != made[path]:
+            return path
+    return None
 
 
 def main(arguments):
     if arguments not in ([], ["--check"]):
         sys.exit("usage: contracts.py [--check]")
     try:
-        made = document()
+        made = documents()
         if not arguments:
-            DOCUMENT.write_text(made, encoding="utf-8")
-        elif not DOCUMENT.exists() or DOCUMENT.read_text(encoding="utf-8") != made:
-            sys.exit("contracts.py: docs/CONTRACTS.md is stale: 'make contracts' makes it anew")
+            write(made)
+        elif stale(made):
+            sys.exit(f"contracts.py: {stale(made).relative_to(ROOT)} is stale: 'make contracts' makes it anew")
         else:
-            print("ok contracts: docs/CONTRACTS.md is what the sources give")
+            print(f"ok contracts: docs/CONTRACTS.md and the pages of {len(made) - 1} crates are what the sources give")
     except OSError as error:
         sys.exit(f"contracts.py: {error}")
 

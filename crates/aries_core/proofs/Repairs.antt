@@ -1,5 +1,5 @@
 -- The repair of a page: what it makes of an engine that is in step with its pool.
-use Rattle.std.proofs.Common.{◌≡◌, ℕ, ◌<◌, List, length, set, refl, sym, ap, ◌∙◌, max, inl}
+use Rattle.std.proofs.Common.{◌≡◌, ℕ, ◌<◌, ◌≤◌, List, length, set, refl, sym, ap, subst, ◌∙◌, max, inl}
 use Rattle.std.proofs.Common.{inr}
 use Rattle.std.specs.Prelude.{None, Ok, Err}
 use Rattle.std.proofs.lemmas.List.{get_or-map, length-set, map-set, set-get_or}
@@ -8,7 +8,7 @@ use Rattle.page_store.specs.Store.{StoresOrKeeps}
 use Rattle.log_records.specs.Coverage.{Covers}
 use Rattle.log_records.specs.Image.{image}
 use Rattle.log_history.specs.Table.{Table}
-use Rattle.log_store.specs.WrittenLog.{WrittenLog, end_up_to}
+use Rattle.log_store.specs.WrittenLog.{EndsAtRecord, WrittenLog, end_up_to}
 use Rattle.copy_vault.specs.Chain.{IsChain, IsChainOf, content, last_redo}
 use Rattle.copy_vault.specs.Copy.{CopyView}
 use Rattle.copy_coverage.proofs.Chains.{covered_of_members}
@@ -16,13 +16,14 @@ use Rattle.copy_coverage.proofs.Copied.{restorable}
 use Rattle.buffer_pool.specs.Pool.{IsPoolOf, PoolView, stored_as_now, state_at, unwritten, with_state, writing_of, written_of}
 use Rattle.aries_core.specs.declared.event.Answer.TheVariants as answer
 use Rattle.aries_core.specs.declared.event.Event.TheVariants as event
-use Rattle.aries_core.specs.declared.refusal.Refusal.TheVariants.{StoreFault}
+use Rattle.aries_core.specs.declared.refusal.Refusal.TheVariants.{LogFault, StoreFault}
 use Rattle.aries_core.specs.EngineState.{EngineState, IsFit, IsConsistent, MediaView, effect, engine_view, forced_through}
 use Rattle.aries_core.specs.EngineState.{log_of, with_stored}
 use Rattle.aries_core.specs.EngineState.{volume_pages}
 use Rattle.aries_core.specs.EngineState as engine
 use Rattle.aries_core.specs.Refusal.{refusal}
 use Rattle.aries_core.specs.Repair.{MayBeRepaired}
+use Rattle.aries_core.specs.Step.{Step}
 use Rattle.aries_core.proofs.PoolStates.{image_at, stored_set}
 use Rattle.aries_core.proofs.Refusals.{repair_passes}
 use Rattle.aries_core.proofs.WriteCalls.{Called, called}
@@ -122,3 +123,24 @@ half_done stored it new table pool after ckpts copy p q kept none within now sam
     ] in
     called stored it new table pool after ckpts (event.Repair copy p) (Err StoreFault) kept tt same
     (inr (none, may)) of_log
+
+-- the log is not forced through the page's LSN
+pub not_forced : {S D : Type 0} (stored : S → List Page) (it new : WrittenLog D) (pool : PoolView S) (media : MediaView)
+    (copy p : ℕ) (q : Page) → refusal (engine_view stored it pool media).state (event.Repair copy p) ≡ None
+    → q ≡ image it.log.records p → new.log ≡ it.log → it.forced_end ≤ new.forced_end → EndsAtRecord new
+    → new.forced_end < end_up_to it.log q.lsn
+    → Step (engine_view stored it pool media).state (event.Repair copy p) (Err LogFault)
+    (engine_view stored new pool media).state
+not_forced stored it new pool media copy p q none now same rising at_record short =
+    inr (
+      none,
+      record {
+        reached = (
+          at_record.0,
+          subst (λ (n : ℕ). n < end_up_to it.log (image it.log.records p).lsn) at_record.2
+              (subst (λ (x : Page). new.forced_end < end_up_to it.log x.lsn) now short),
+          rw (same, at_record.2) refl,
+        );
+        no_less = rising;
+      },
+    )

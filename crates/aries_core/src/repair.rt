@@ -1,6 +1,7 @@
 //! The engine's call that stores a page anew, rebuilt from image copies and the log.
 
 ghost use Rattle.std.specs.Prelude.{◌≡◌, ◌<◌, ◌≤◌, Some, None, IfOk, IfErr, OnOk};
+ghost use Rattle.log_records.specs.Coverage.{IsPast};
 ghost use Rattle.aries_core.specs.Asked.{Asks, FailsAsking, asked};
 ghost use Rattle.aries_core.specs.EngineState.{end, page_now};
 ghost use Rattle.aries_core.specs.Refusal.{refusal};
@@ -14,12 +15,13 @@ use crate::refusal::Refusal;
 use copy_vault::CopyId;
 use log_store::LogDevice;
 use page_core::{Lsn, Page, PageNo};
-use page_redo::rebuild_page;
 use page_store::PageStore;
 
 impl<S: PageStore, D: LogDevice> Engine<S, D> {
     /// Stores a page anew, as where its stored page cannot be read, and answers its LSN. A complete
     /// copy, those that it stands on, and the log give the page as it is now (ARIES, section 8).
+    /// All repairs together look at each record of the log once, and a page that was repaired
+    /// before is repaired from there on.
     /// The log is forced through its LSN, then it is stored, and is not dirty any more. No page is
     /// fetched, and a frame that has this one stays as it is.
     ///
@@ -58,7 +60,10 @@ impl<S: PageStore, D: LogDevice> Engine<S, D> {
             → S.failures self.old.store < S.failures self.new.store) }
     {
         self.find_repairable(copy, page)?;
-        let rebuilt = self.rebuild(copy, page)?;
+        let mut rebuilt = self.copied(copy, page)?;
+        if self.log.roll_forward(&mut rebuilt).is_err() {
+            return Err(Refusal::OutOfMemory);
+        }
         if self.log.force_to(rebuilt.lsn).is_err() {
             return Err(Refusal::LogFault);
         }
@@ -84,13 +89,13 @@ impl<S: PageStore, D: LogDevice> Engine<S, D> {
         Ok(())
     }
 
-    /// The page as it is now, from the chain of a complete copy and the log.
-    fn rebuild(&self, copy: CopyId, page: PageNo) -> Result<Page, Refusal>
+    /// The page as the chain of a complete copy has it.
+    fn copied(&self, copy: CopyId, page: PageNo) -> Result<Page, Refusal>
         requires { refusal self.now.state (event.Repair copy page) ≡ None }
-        ensures rebuilt { IfOk result (λ rebuilt. rebuilt ≡ page_now self.now.state page) }
+        ensures past { IfOk result (IsPast self.now.state.log page) }
         ensures err { IfErr result (λ why. why ≡ Refusal.OutOfMemory) }
     {
         let chain = self.vault.chain(self.alloc, copy)?;
-        Ok(rebuild_page(&chain, self.log.records(), page))
+        Ok(chain.content(page))
     }
 }

@@ -1,21 +1,19 @@
 -- Slots that become holes, and holes that are squeezed out.
 use Rattle.std.proofs.Common.{◌≡◌, ℕ, zero, suc, ◌+◌, ◌<◌, ◌≤◌, Bool, true, false, cond, ◌||◌, List, [], ◌∷◌, ◌++◌}
-use Rattle.std.proofs.Common.{length, get_or, map, set, take, ◌-◌, refl, sym, ap, subst, ◌∙◌, arith, nat_eq}
+use Rattle.std.proofs.Common.{◌-◌, ◌*◌, length, get_or, map, set, refl, sym, ap, ◌∙◌, arith}
 use Rattle.std.specs.Prelude.{◌==◌, Option, Some, None, IsSome, is_some, position, nat_lt}
-use Rattle.std.specs.List.{IsDistinct, filter, list_any, position_or_len, swap_remove}
+use Rattle.std.specs.List.{filter, list_any, position_or_len}
 use Rattle.std.specs.Option.{option_map_or}
 use Rattle.std.proofs.lemmas.Bool.{ltb-false}
-use Rattle.std.proofs.Math.Seq.{get_or-append_seam, take-length}
-use Rattle.std.proofs.lemmas.List.{length-map, length-set, length_push, set-append_left, take-append-le}
-use Rattle.std.proofs.lemmas.List.Elements.{All-cons, All-head, All-set, All-tail}
+use Rattle.std.proofs.lemmas.List.{length-map, length-set, length_push}
+use Rattle.std.proofs.lemmas.List.Elements.{filter_map-append}
 use Rattle.std.proofs.lemmas.List.Folds.{list_any_at, list_any_none}
 use Rattle.std.proofs.lemmas.List.Quantifiers.{position-Some}
 use Rattle.std.proofs.lemmas.List.Sums.{fails_before_first}
 use Rattle.page_core.specs.declared.page.Page.{Page}
-use Rattle.page_core.specs.declared.page.TheConstants.{MAX_PAGES}
-use Rattle.buffer_pool.specs.Frames.{AreTaken, IsSlot, given_up, is_resident, pages_in}
+use Rattle.buffer_pool.specs.Frames.{given_up, is_resident}
 use Rattle.buffer_pool.specs.Marks.{has_clean}
-use Rattle.buffer_pool.proofs.Taken.{AreNumbered, pages_of, slots_of}
+use Rattle.buffer_pool.specs.Slots.{AreCounted, pages_in}
 
 -- ---- a page less
 
@@ -98,108 +96,60 @@ pub found_page : (clean : ℕ → Bool) (slots : List (Option Page)) (i : ℕ) (
 found_page clean slots i d found =
     clean_is_page clean (get_or slots i d) (position-Some (has_clean clean) slots i d found).1
 
--- the last one in the place of another
-pub swapped_in : (xs : List (ℕ × Option Page)) (x d : ℕ × Option Page) (i : ℕ) → i < length xs
-    → swap_remove (xs ++ x ∷ []) i d ≡ set xs i x
-swapped_in xs x d i there =
-    let more = xs ++ x ∷ [] in
-    let last : length more - 1 ≡ length xs = omega (arith, length_push xs x) in
-    ap (λ (m : ℕ). take m (set more i (get_or more m d))) last
-    ∙ ap (λ (y : ℕ × Option Page). take (length xs) (set more i y)) (get_or-append_seam xs x [] d)
-    ∙ ap (take (length xs)) (set-append_left xs (x ∷ []) i x there)
-    ∙ take-append-le (length xs) (set xs i x) (x ∷ []) (omega (arith, length-set xs i x))
-    ∙ ap (λ (m : ℕ). take m (set xs i x)) (sym (length-set xs i x)) ∙ take-length (set xs i x)
-
--- a slot less among them
-pub pages_less : (slots : List (Option Page)) (i : ℕ) → i < length slots
-    → ((d : Option Page) → IsSome (get_or slots i d))
+-- a page less among them
+pub pages_less : (slots : List (Option Page)) (i : ℕ) → IsSome (get_or slots i None)
     → length (pages_in (set slots i None)) + 1 ≡ length (pages_in slots)
-pages_less [] i there some = absurd (omega arith)
-pages_less (None ∷ slots) zero there some = let no : false ≡ true = some None in absurd (cc)
-pages_less (Some page ∷ slots) zero there some = omega arith
-pages_less (None ∷ slots) (suc i) there some = pages_less slots i (omega arith) some
-pages_less (Some page ∷ slots) (suc i) there some =
-    let less = pages_less slots i (omega arith) some in omega (arith, less)
+pages_less [] i some = absurd (cc)
+pages_less (None ∷ slots) zero some = absurd (cc)
+pages_less (Some page ∷ slots) zero some = omega arith
+pages_less (None ∷ slots) (suc i) some = pages_less slots i some
+pages_less (Some page ∷ slots) (suc i) some = let less = pages_less slots i some in omega (arith, less)
 
-slots_set : (es : List (ℕ × Option Page)) (i n : ℕ) (slot : Option Page)
-    → slots_of (set es i (n, slot)) ≡ set (slots_of es) i slot
-slots_set [] i n slot = refl
-slots_set (e ∷ es) zero n slot = refl
-slots_set (e ∷ es) (suc i) n slot = ap (λ (ss : List (Option Page)). e.1 ∷ ss) (slots_set es i n slot)
-
--- the entries after a hole came in behind the others, and then into the place of a slot
-pub hole_left : (es more new : List (ℕ × Option Page)) (n i : ℕ) (d : ℕ × Option Page) → i < length es
-    → more ≡ es ++ (n, None) ∷ [] → new ≡ swap_remove more i d → new ≡ set es i (n, None)
-hole_left es more new n i d there inserted removed =
-    removed ∙ ap (λ (xs : List (ℕ × Option Page)). swap_remove xs i d) inserted
-    ∙ swapped_in es (n, None) d i there
-
-pub slots_less : (es new : List (ℕ × Option Page)) (n i : ℕ) → new ≡ set es i (n, None)
-    → slots_of new ≡ set (slots_of es) i None
-slots_less es new n i is = ap slots_of is ∙ slots_set es i n None
-
--- one hole more is no less
-numbered_on : (h : ℕ) (es : List (ℕ × Option Page)) → AreNumbered h es → AreNumbered (h + 1) es
-numbered_on h es numbered = λ k d lt. on (get_or es k d) (numbered k d lt)
-  where
-    on : (e : ℕ × Option Page) → IsSlot h e → IsSlot (h + 1) e
-    on (k, None) at = (at.0, omega (arith, at.1))
-    on (k, Some page) at = at
-
--- what stands under the numbers then
-pub taken_less : (h : ℕ) (es new : List (ℕ × Option Page)) (n i : ℕ) → AreTaken h es → n ≡ MAX_PAGES + h
-    → i < length es → ((d : Option Page) → IsSome (get_or (slots_of es) i d)) → new ≡ set es i (n, None)
-    → IsDistinct nat_eq (map (λ e. e.0) new) → AreTaken (h + 1) new
-taken_less h es new n i taken next there some is distinct =
-    let slots : List (Option Page) = slots_of es in
-    let less : length (pages_in (set slots i None)) + 1 ≡ length (pages_in slots) =
-    pages_less slots i (omega (arith, there, length-map es (λ e. e.1))) some in
-    let pages : length (pages_of new) ≡ length (pages_in (set slots i None)) =
-    ap (λ (ss : List (Option Page)). length (pages_in ss)) (slots_less es new n i is) in
-    let long : length new ≡ length es = ap (length {A = ℕ × Option Page}) is ∙ length-set es i (n, None) in
+pub counted_less : (count : ℕ) (slots : List (Option Page)) (i : ℕ) → AreCounted count slots
+    → IsSome (get_or slots i None) → length slots ≤ 2 * length (pages_in slots) - 1
+    → AreCounted (count - 1) (set slots i None)
+counted_less count slots i counted some few =
+    let less = pages_less slots i some in
     record {
-      numbered = subst (AreNumbered (h + 1)) (sym is)
-          (All-set (IsSlot (h + 1)) es i (n, None) (omega (arith, next), omega (arith, next))
-          (numbered_on h es taken.numbered));
-      distinct = distinct;
-      count = omega (arith, taken.count, less, pages, long);
+      pages = omega (arith, less, counted.pages);
+      holes = omega (arith, less, few, length-set slots i None);
+    }
+
+-- ---- a page more
+
+-- it comes behind the others
+pub pages_more : (slots : List (Option Page)) (page : Page)
+    → pages_in (slots ++ Some page ∷ []) ≡ pages_in slots ++ page ∷ []
+pages_more slots page = filter_map-append (λ slot. slot) slots (Some page ∷ [])
+
+pub counted_more : (count : ℕ) (slots : List (Option Page)) (page : Page) → AreCounted count slots
+    → AreCounted (count + 1) (slots ++ Some page ∷ [])
+counted_more count slots page counted =
+    let more : length (pages_in (slots ++ Some page ∷ [])) ≡ length (pages_in slots) + 1 =
+    ap (length {A = Page}) (pages_more slots page) ∙ length_push (pages_in slots) page in
+    record {
+      pages = omega (arith, more, counted.pages);
+      holes = omega (arith, more, counted.holes, length_push slots (Some page));
     }
 
 -- ---- the holes squeezed out
 
--- the entry has a page
-abbrev pub has_page : ℕ × Option Page → Bool
-has_page e = is_some e.1
+pub squeezed : (slots : List (Option Page)) → filter is_some slots ≡ map Some (pages_in slots)
+squeezed [] = refl
+squeezed (None ∷ slots) = squeezed slots
+squeezed (Some page ∷ slots) = ap (λ (ss : List (Option Page)). Some page ∷ ss) (squeezed slots)
 
-pub pages_squeezed : (es : List (ℕ × Option Page)) → pages_of (filter has_page es) ≡ pages_of es
+pub pages_squeezed : (pages : List Page) → pages_in (map Some pages) ≡ pages
 pages_squeezed [] = refl
-pages_squeezed ((k, None) ∷ es) = pages_squeezed es
-pages_squeezed ((k, Some page) ∷ es) = ap (λ (qs : List Page). page ∷ qs) (pages_squeezed es)
+pages_squeezed (page ∷ pages) = ap (λ (qs : List Page). page ∷ qs) (pages_squeezed pages)
 
-length_squeezed : (es : List (ℕ × Option Page)) → length (filter has_page es) ≡ length (pages_of es)
-length_squeezed [] = refl
-length_squeezed ((k, None) ∷ es) = length_squeezed es
-length_squeezed ((k, Some page) ∷ es) = ap suc (length_squeezed es)
-
-numbered_squeezed : (h : ℕ) (es : List (ℕ × Option Page)) → AreNumbered h es → AreNumbered 0 (filter has_page es)
-numbered_squeezed h [] numbered = λ k d lt. let no : ⊥ = omega (arith, lt) in absurd no
-numbered_squeezed h ((k, None) ∷ es) numbered =
-    numbered_squeezed h es (All-tail (IsSlot h) (k, None) es numbered)
-numbered_squeezed h ((k, Some page) ∷ es) numbered =
-    All-cons (IsSlot 0) (k, Some page) (filter has_page es) (All-head (IsSlot h) (k, Some page) es numbered)
-    (numbered_squeezed h es (All-tail (IsSlot h) (k, Some page) es numbered))
-
--- what stands under the numbers then
-pub taken_squeezed : (h : ℕ) (es new : List (ℕ × Option Page)) → AreTaken h es → new ≡ filter has_page es
-    → IsDistinct nat_eq (map (λ e. e.0) new) → AreTaken 0 new
-taken_squeezed h es new taken is distinct =
-    let pages : length (pages_of new) ≡ length (pages_of es) =
-    ap (λ (xs : List (ℕ × Option Page)). length (pages_of xs)) is ∙ ap (length {A = Page}) (pages_squeezed es) in
-    let long : length new ≡ length (pages_of es) = ap (length {A = ℕ × Option Page}) is ∙ length_squeezed es in
+pub counted_squeezed : (count : ℕ) (slots : List (Option Page)) → AreCounted count slots
+    → AreCounted count (map Some (pages_in slots))
+counted_squeezed count slots counted =
+    let pages = ap (length {A = Page}) (pages_squeezed (pages_in slots)) in
     record {
-      numbered = subst (AreNumbered 0) (sym is) (numbered_squeezed h es taken.numbered);
-      distinct = distinct;
-      count = omega (arith, pages, long);
+      pages = omega (arith, pages, counted.pages);
+      holes = omega (arith, pages, length-map {B = Option Page} (pages_in slots) Some);
     }
 
 -- with more slots to spare there is more room

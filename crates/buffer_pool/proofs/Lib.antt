@@ -5,9 +5,9 @@ pub mod Fetching
 pub mod Grown
 pub mod Holes
 pub mod PageSets
+pub mod Placed
 pub mod Pools
 pub mod Repaired
 pub mod Resumed
 pub mod Sought
 pub mod States
-pub mod Taken

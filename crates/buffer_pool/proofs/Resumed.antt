@@ -1,6 +1,6 @@
 -- A pool over stored pages that are as their log makes them.
-use Rattle.std.proofs.Common.{◌≡◌, ℕ, ◌+◌, ◌-◌, ◌<◌, ◌≤◌, List, [], ◌∷◌, ◌++◌, length, get_or, map, replicate, set, take}
-use Rattle.std.proofs.Common.{refl, sym, ap, subst, ◌∙◌, arith, suc, true, false}
+use Rattle.std.proofs.Common.{◌≡◌, ℕ, ◌+◌, ◌-◌, ◌<◌, List, [], ◌∷◌, ◌++◌, length, get_or, replicate, set, take}
+use Rattle.std.proofs.Common.{sym, ap, subst, ◌∙◌, arith, suc, true}
 use Rattle.std.specs.Prelude.{None, is_none}
 use Rattle.std.specs.List.{range_with_len}
 use Rattle.std.proofs.Math.Bool.{false≢true}

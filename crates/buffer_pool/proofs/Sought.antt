@@ -1,25 +1,24 @@
 -- The search for a clean page, which passes over none.
-use Rattle.std.proofs.Common.{◌≡◌, ◌≢◌, ◌∙◌, ℕ, zero, suc, ◌||◌, ◌+◌, ◌<◌, ◌≤◌, Bool, true, false, cond, List, [], ◌∷◌, ◌++◌, length}
-use Rattle.std.proofs.Common.{get_or, map, set, refl, sym, ap, subst, inl, inr, arith, true≢false, nat_eq}
-use Rattle.std.specs.Prelude.{◌==◌, Option, Some, None, is_none, nat_lt, position}
+use Rattle.std.proofs.Common.{◌≡◌, ◌≢◌, ◌∙◌, ℕ, ◌+◌, ◌<◌, ◌≤◌, Bool, true, false, cond, List, [], ◌∷◌, ◌++◌, length}
+use Rattle.std.proofs.Common.{get_or, map, set, refl, sym, ap, subst, inl, inr, arith, true≢false}
+use Rattle.std.specs.Prelude.{Option, Some, None, is_none, nat_lt, position}
 use Rattle.std.specs.List.{position_or_len}
-use Rattle.std.proofs.lemmas.Bool.{cases_eq, cases_lt, eq-eqb, eqb-true, le-ltb, lt-ltb}
-use Rattle.std.proofs.Math.Bool.{or-true}
+use Rattle.std.proofs.lemmas.Bool.{cases_eq, cases_lt, le-ltb, lt-ltb}
 use Rattle.std.proofs.lemmas.Grind.{get_or-set_at}
 use Rattle.std.proofs.lemmas.Option.{same_Some}
-use Rattle.std.proofs.lemmas.List.{get_or-map, get_or-set_other, get_or-set_same, get_or_append_left, length-map, length-set, length_push}
-use Rattle.std.proofs.lemmas.List.Quantifiers.{position-Some}
+use Rattle.std.proofs.lemmas.List.{get_or-map, get_or-set_other, get_or-set_same, get_or_append_left, get_or_default, length-map}
+use Rattle.std.proofs.lemmas.List.{length-set, length_push}
 use Rattle.std.proofs.lemmas.List.Sums.{position_or_len_is}
-use Rattle.std.proofs.lemmas.Map.Keys.{apart_from_distinct}
 use Rattle.page_core.specs.declared.page.Page.{Page}
 use Rattle.log_records.specs.declared.record.Record.{Record}
 use Rattle.log_records.specs.Log.{Log}
 use Rattle.log_records.proofs.Images.{number-with_record}
-use Rattle.buffer_pool.specs.Frames.{AreTaken, IsSlot, is_resident, pages_in}
+use Rattle.buffer_pool.specs.Frames.{is_resident}
 use Rattle.buffer_pool.specs.Marks.{IsPassed, MarksView, PassesNone, has_clean}
 use Rattle.buffer_pool.specs.Pool.{IsPoolOf, IsWhole, PageState, PoolView, is_clean_in, unwritten}
+use Rattle.buffer_pool.specs.Slots.{IsPlace, pages_in}
 use Rattle.buffer_pool.proofs.Fetching.{room_kept}
-use Rattle.buffer_pool.proofs.Taken.{AreNumbered, redone, slots_of}
+use Rattle.buffer_pool.proofs.Placed.{redone, resident_at}
 
 -- ---- the slots that a search has seen
 
@@ -71,106 +70,47 @@ found_none p (x ∷ xs) none =
     (λ lt. let no : ⊥ = omega arith in absurd no) in
     ap (λ (m : ℕ). cond (nat_lt m n) (Some m) None) is ∙ ap (λ (b : Bool). cond b (Some n) None) (le-ltb n n (omega arith))
 
--- ---- the slot of a number
-
--- a page has the number that its slot stands under
-key_is : (h : ℕ) (es : List (ℕ × Option Page)) (k n : ℕ) (d : Option Page) (page : Page) → AreNumbered h es → k < length es
-    → get_or (slots_of es) k d ≡ Some page → page.number ≡ get_or (map (λ e. e.0) es) k n
-key_is h es k n d page numbered there is =
-    by (get_or es k (n, d)) (numbered k (n, d) there)
-    (sym (get_or-map (λ (e : ℕ × Option Page). e.1) es k (n, d) d there) ∙ is)
-    ∙ sym (get_or-map (λ (e : ℕ × Option Page). e.0) es k (n, d) n there)
-  where
-    by : (e : ℕ × Option Page) → IsSlot h e → e.1 ≡ Some page → page.number ≡ e.0
-    by (m, None) at some = absurd (cc)
-    by (m, Some q) at some = ap (λ (x : Page). x.number) (sym (same_Some q page some)) ∙ at.0
-
--- the page at the place of a number is the page of this number
-page_at : (h n : ℕ) (es : List (ℕ × Option Page)) (place : ℕ) (d : Option Page) (page : Page) → AreTaken h es
-    → position (nat_eq n) (map (λ e. e.0) es) ≡ Some place → get_or (slots_of es) place d ≡ Some page → page.number ≡ n
-page_at h n es place d page taken found is =
-    let at = position-Some (nat_eq n) (map (λ e. e.0) es) place n found in
-    key_is h es place n d page taken.numbered (omega (arith, at.0, length-map es (λ e. e.0))) is
-    ∙ sym (eqb-true n (get_or (map (λ e. e.0) es) place n) at.1)
-
--- and it is nowhere else
-only_at : (h n : ℕ) (es : List (ℕ × Option Page)) (place k : ℕ) (d : Option Page) (page : Page) → AreTaken h es
-    → position (nat_eq n) (map (λ e. e.0) es) ≡ Some place → k < length es
-    → get_or (slots_of es) k d ≡ Some page → page.number ≡ n → k ≡ place
-only_at h n es place k d page taken found there is same =
-    let keys : List ℕ = map (λ e. e.0) es in
-    let at = position-Some (nat_eq n) keys place n found in
-    let key : n ≡ get_or keys k n = sym same ∙ key_is h es k n d page taken.numbered there is in
-    let long : length keys ≡ length es = length-map es (λ e. e.0) in
-    elim (cases_eq k place) [
-      | inl eq ↦ eq
-      | inr other ↦ elim (cases_lt k place) [
-        | inl before ↦ absurd (true≢false (sym (eq-eqb n (get_or keys k n) key) ∙ at.2 k before))
-        | inr after ↦
-            let here : n ≡ get_or keys place n = eqb-true n (get_or keys place n) at.1 in
-            absurd (true≢false (sym (eq-eqb (get_or keys place n) (get_or keys k n) (sym here ∙ key))
-            ∙ apart_from_distinct nat_eq keys place k n taken.distinct (omega (arith, after, other))
-            (omega (arith, long, there))))
-      ]
-    ]
-
--- the test of the page at a slot, by the number that the slot stands under
-pub clean_at : (h : ℕ) (clean : ℕ → Bool) (e : ℕ × Option Page) (page : Page) → IsSlot h e → e.1 ≡ Some page
-    → clean e.0 ≡ has_clean clean e.1
-clean_at h clean (n, None) page at some = absurd (cc)
-clean_at h clean (n, Some q) page at some = ap clean (sym at.0)
-
 -- ---- a page that may have become clean, or is not any more
 
 -- of each other page the second test says no more than the first
 abbrev pub OthersStay : ℕ → (ℕ → Bool) → (ℕ → Bool) → Type 0
 OthersStay n clean now = (m : ℕ) → m ≢ n → clean m ≡ false → now m ≡ false
 
-pub noted_set : (h n : ℕ) (clean now : ℕ → Bool) (es : List (ℕ × Option Page)) (place : ℕ) (old marks : MarksView)
-    → AreTaken h es → position (nat_eq n) (map (λ e. e.0) es) ≡ Some place
-    → PassesNone clean (slots_of es) old → OthersStay n clean now
-    → ((k : ℕ) → IsPassed marks k → IsPassed old k × (k ≢ place)) → PassesNone now (slots_of es) marks
-noted_set h n clean now es place old marks taken found sought others less = λ k d there passed.
+pub noted_set : (n : ℕ) (clean now : ℕ → Bool) (slots : List (Option Page)) (place : ℕ) (old marks : MarksView)
+    → IsPlace slots n place → PassesNone clean slots old → OthersStay n clean now
+    → ((k : ℕ) → IsPassed marks k → IsPassed old k × (k ≢ place)) → PassesNone now slots marks
+noted_set n clean now slots place old marks is sought others less = λ k d there passed.
     let it = less k passed in
-    by k d there it.1 (get_or (slots_of es) k d) refl (sought k d there it.0)
+    by k d there it.1 (get_or slots k d) refl (sought k d there it.0)
   where
-    by : (k : ℕ) (d : Option Page) → k < length (slots_of es) → k ≢ place → (slot : Option Page)
-        → get_or (slots_of es) k d ≡ slot → has_clean clean slot ≡ false → has_clean now slot ≡ false
-    by k d there other None is dirty = refl
-    by k d there other (Some page) is dirty =
+    by : (k : ℕ) (d : Option Page) → k < length slots → k ≢ place → (slot : Option Page)
+        → get_or slots k d ≡ slot → has_clean clean slot ≡ false → has_clean now slot ≡ false
+    by k d there other None at dirty = refl
+    by k d there other (Some page) at dirty =
         others page.number
-        (λ same. other (only_at h n es place k d page taken found (omega (arith, there, length-map es (λ e. e.1))) is same))
+        (λ same. other (is.only k page (get_or_default slots k None d there ∙ at) same))
         dirty
 
-pub noted_cleared : (h n : ℕ) (clean now : ℕ → Bool) (es : List (ℕ × Option Page)) (place : ℕ) (old marks : MarksView)
-    → AreTaken h es → position (nat_eq n) (map (λ e. e.0) es) ≡ Some place → now n ≡ false
-    → PassesNone clean (slots_of es) old → OthersStay n clean now
-    → ((k : ℕ) → IsPassed marks k → k ≢ place → IsPassed old k) → PassesNone now (slots_of es) marks
-noted_cleared h n clean now es place old marks taken found dirty sought others more = λ k d there passed.
-    by k d (λ other. sought k d there (more k passed other)) (get_or (slots_of es) k d) refl
+pub noted_cleared : (n : ℕ) (clean now : ℕ → Bool) (slots : List (Option Page)) (place : ℕ) (old marks : MarksView)
+    → IsPlace slots n place → now n ≡ false → PassesNone clean slots old → OthersStay n clean now
+    → ((k : ℕ) → IsPassed marks k → k ≢ place → IsPassed old k) → PassesNone now slots marks
+noted_cleared n clean now slots place old marks is dirty sought others more = λ k d there passed.
+    by k d there (λ other. sought k d there (more k passed other)) (get_or slots k d) refl
   where
-    by : (k : ℕ) (d : Option Page) → (k ≢ place → has_clean clean (get_or (slots_of es) k d) ≡ false) → (slot : Option Page)
-        → get_or (slots_of es) k d ≡ slot → has_clean now slot ≡ false
-    by k d before None is = refl
-    by k d before (Some page) is = elim (cases_eq page.number n) [
+    number_at : (page : Page) → get_or slots place None ≡ Some page → page.number ≡ n
+    number_at page at =
+        ap (λ (x : Page). x.number) (sym (same_Some is.here.0 page (sym is.here.1.0 ∙ at))) ∙ is.here.1.1
+
+    by : (k : ℕ) (d : Option Page) → k < length slots → (k ≢ place → has_clean clean (get_or slots k d) ≡ false)
+        → (slot : Option Page) → get_or slots k d ≡ slot → has_clean now slot ≡ false
+    by k d there before None at = refl
+    by k d there before (Some page) at = elim (cases_eq page.number n) [
       | inl same ↦ ap now same ∙ dirty
       | inr other ↦
-          others page.number other (sym (ap (has_clean clean) is) ∙ before (λ eq.
-          other (page_at h n es place d page taken found (ap (λ (i : ℕ). get_or (slots_of es) i d) (sym eq) ∙ is))))
+          others page.number other (sym (ap (has_clean clean) at) ∙ before (λ eq.
+          other (number_at page
+          (ap (λ (i : ℕ). get_or slots i None) (sym eq) ∙ get_or_default slots k None d there ∙ at))))
     ]
-
--- the page of a slot is resident
-resident_at : (slots : List (Option Page)) (k : ℕ) (d : Option Page) (page : Page) → k < length slots
-    → get_or slots k d ≡ Some page → is_resident (pages_in slots) page.number ≡ true
-resident_at [] k d page there is = let no : ⊥ = omega arith in absurd no
-resident_at (None ∷ slots) zero d page there is = absurd (cc)
-resident_at (Some q ∷ slots) zero d page there is =
-    ap (λ (b : Bool). b || is_resident (pages_in slots) page.number)
-    (eq-eqb q.number page.number (ap (λ (x : Page). x.number) (same_Some q page is)))
-resident_at (None ∷ slots) (suc k) d page there is = resident_at slots k d page (omega (arith, there)) is
-resident_at (Some q ∷ slots) (suc k) d page there is =
-    ap (λ (b : Bool). (q.number == page.number) || b) (resident_at slots k d page (omega (arith, there)) is)
-    ∙ or-true (q.number == page.number)
 
 pub noted_absent : (n : ℕ) (clean now : ℕ → Bool) (slots : List (Option Page)) (marks : MarksView)
     → is_resident (pages_in slots) n ≡ false → PassesNone clean slots marks → OthersStay n clean now
@@ -183,7 +123,8 @@ noted_absent n clean now slots marks absent sought others = λ k d there passed.
     by k d there None is dirty = refl
     by k d there (Some page) is dirty =
         others page.number
-        (λ same. true≢false (sym (resident_at slots k d page there is) ∙ ap (is_resident (pages_in slots)) same ∙ absent))
+        (λ same. true≢false (sym (resident_at slots k page (get_or_default slots k None d there ∙ is))
+        ∙ ap (is_resident (pages_in slots)) same ∙ absent))
         dirty
 
 -- a state of one page says nothing of the others

@@ -1,12 +1,11 @@
 -- Pages in frames, in the order in which they were fetched.
-use Rattle.std.specs.Prelude.{ℕ, ◌≡◌, ◌==◌, ◌&&◌, ◌+◌, ◌++◌, ◌<◌, ◌≤◌, Bool, true, List, [], ◌∷◌}
-use Rattle.std.specs.Prelude.{length, map, nat_eq, nat_le, not, Option, MatchOption, if◌then◌else◌}
-use Rattle.std.specs.List.{All, IsDistinct, filter_map, list_any}
+use Rattle.std.specs.Prelude.{ℕ, ◌≡◌, ◌==◌, ◌&&◌, ◌++◌, Bool, true, List, [], ◌∷◌}
+use Rattle.std.specs.Prelude.{length, nat_le, not, Option, if◌then◌else◌}
+use Rattle.std.specs.List.{list_any}
 use Rattle.std.specs.Option.{option_map_or}
-use Rattle.indexmap.specs.IndexMap.{IndexMap, spare}
 use Rattle.page_core.specs.declared.page.Page.{Page}
-use Rattle.page_core.specs.declared.page.TheConstants.{MAX_PAGES}
 use Rattle.buffer_pool.specs.Marks.{MarksView, PassesNone}
+use Rattle.buffer_pool.specs.Slots.{SlotsView, pages_in}
 
 -- the page of this number has a frame
 abbrev pub is_resident : List Page → ℕ → Bool
@@ -36,43 +35,23 @@ abbrev pub fetched : ℕ → (ℕ → Bool) → List Page → Page → List Page
 fetched frames is_clean pages page = with_room frames is_clean pages ++ page ∷ []
 
 -- what the frames of a pool hold: in the order of fetch a slot for each page, with holes where
--- pages were given up; how many slots are holes; the pages; for how many more slots there is room,
--- where a frame is free; and marks for the search of a clean page
+-- pages were given up; the pages; for how many more slots there is room, where a frame is free; and
+-- marks for the search of a clean page
 pub record FramesView : Type 0 where
   pub slots : List (Option Page)
-  pub holes : ℕ
   pub pages : List Page
   pub room : ℕ
   pub marks : MarksView
-
--- the pages that stand in slots
-abbrev pub pages_in : List (Option Page) → List Page
-pages_in slots = filter_map (λ slot. slot) slots
 
 -- the search for a clean page passes over none
 abbrev pub IsSought : (ℕ → Bool) → FramesView → Type 0
 IsSought is_clean frames = PassesNone is_clean frames.slots frames.marks
 
--- ---- how they are kept
-
--- a page stands under its number, and each of so many holes under a number of its own, which no
--- page has
-abbrev pub IsSlot : ℕ → ℕ × Option Page → Type 0
-IsSlot holes e = MatchOption e.1 ((MAX_PAGES ≤ e.0) × (e.0 < MAX_PAGES + holes))
-    (λ page. (page.number ≡ e.0) × (e.0 < MAX_PAGES))
-
--- under each number stands the page of this number or a hole, and no number stands there twice
-pub record AreTaken (holes : ℕ) (entries : List (ℕ × Option Page)) : Type 0 where
-  pub numbered : All (IsSlot holes) entries
-  pub distinct : IsDistinct nat_eq (map (λ e. e.0) entries)
-  pub count : length (pages_in (map (λ e. e.1) entries)) + holes ≡ length entries
-
-abbrev pub frames_view : {S : Type 0} → IndexMap ℕ (Option Page) S → ℕ → Option Page → MarksView
-    → FramesView
-frames_view taken holes free marks = record {
-  slots = map (λ e. e.1) taken.entries;
-  holes = holes;
-  pages = pages_in (map (λ e. e.1) taken.entries);
-  room = option_map_or (λ frame. spare taken) free 0;
+-- from the slots, a frame that may be free, and the marks
+abbrev pub frames_view : SlotsView → Option Page → MarksView → FramesView
+frames_view slots free marks = record {
+  slots = slots.list;
+  pages = pages_in slots.list;
+  room = option_map_or (λ frame. slots.spare) free 0;
   marks = marks;
 }

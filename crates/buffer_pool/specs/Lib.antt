@@ -5,3 +5,4 @@ pub mod PageSet
 pub mod PageStates
 pub mod Pool
 pub mod RecLsns
+pub mod Slots

@@ -1,11 +1,10 @@
 //! The frames of a pool.
 
-ghost use Rattle.std.specs.Prelude.{ℕ, ◌≡◌, ◌≢◌, ◌<◌, ◌≤◌, ◌++◌, Bool, Option, [], ◌∷◌, None, Some};
-ghost use Rattle.std.specs.Prelude.{true, false, length, map, position, slice_index_or, slice_set};
+ghost use Rattle.std.specs.Prelude.{ℕ, ◌≡◌, ◌≢◌, ◌-◌, ◌*◌, ◌<◌, ◌≤◌, ◌++◌, Bool, Option, [], ◌∷◌};
+ghost use Rattle.std.specs.Prelude.{true, false, length, map, position, slice_index_or};
 ghost use Rattle.std.specs.Prelude.{is_some};
-ghost use Rattle.std.specs.Prelude.{IfOk, IfSome, IsSome, OnOk};
+ghost use Rattle.std.specs.Prelude.{IfOk, IfSome, OnOk};
 ghost use Rattle.std.specs.List.{Contains, list_any};
-ghost use Rattle.std.specs.Option.{option_map};
 ghost use Rattle.page_core.specs.Volume.{formatted_pages};
 ghost use Rattle.page_core.specs.declared.page.Page.{Page};
 ghost use Rattle.log_records.specs.Image.{with_record};
@@ -14,10 +13,10 @@ ghost use Rattle.buffer_pool.specs.Frames.{IsResident, IsSought, given_up, is_re
 ghost use Rattle.buffer_pool.specs.Marks.{IsPassed, has_clean};
 ghost use Rattle.buffer_pool.specs.Pool.{is_clean_in};
 
-use crate::frame::{Frame, MAX_FRAMES};
+use crate::frame::Frame;
 use crate::marks::Marks;
 use crate::page_states::PageStates;
-use indexmap::IndexMap;
+use crate::slots::Slots;
 use log_records::Record;
 use page_core::{MAX_PAGES, Page, PageNo};
 use std::alloc::{AllocError, Global};
@@ -26,12 +25,9 @@ use std::marker::Model;
 /// The pages in memory, in the order in which they were fetched.
 #[derive(Drop)]
 pub(crate) struct Frames {
-    /// A slot for each page, under its number. A page that was given up leaves a hole, under a
-    /// number that no page has, so that no other page has to move. The holes are squeezed out once
-    /// there are as many of them as pages.
-    taken: IndexMap<u32, Option<Frame>>,
-    /// How many slots are holes.
-    holes: u32,
+    /// A slot for each page. A page that was given up leaves a hole, so that no other page has to
+    /// move. The holes are squeezed out once there are as many of them as pages.
+    slots: Slots,
     /// A frame that holds nothing, for the next page that comes in.
     free: Option<Frame>,
     /// A mark at the slot of each clean page.
@@ -39,13 +35,11 @@ pub(crate) struct Frames {
 }
 
 impl Model for Frames {
-    ghost use Rattle.buffer_pool.specs.Frames.{AreTaken, FramesView, frames_view};
+    ghost use Rattle.buffer_pool.specs.Frames.{FramesView, frames_view};
 
     ghost Value = { FramesView };
 
-    ghost view = { λ it. frames_view it.taken it.holes it.free it.marks };
-
-    ghost invariant = { λ it. AreTaken it.holes it.taken.entries };
+    ghost view = { λ it. frames_view it.slots it.free it.marks };
 }
 
 impl Frames {
@@ -56,8 +50,7 @@ impl Frames {
         ensures room { IfOk result (λ it. it.room ≡ 0) }
     {
         Ok(Frames {
-            taken: IndexMap::new(alloc),
-            holes: 0,
+            slots: Slots::new(alloc)?,
             free: None,
             marks: Marks::new(alloc, count)?,
         })
@@ -82,14 +75,14 @@ impl Frames {
     pub(crate) fn len(&self) -> usize
         ensures { result ≡ length self.now.pages }
     {
-        self.taken.len() - self.holes as usize
+        self.slots.count()
     }
 
     /// Whether the page has a frame.
     pub(crate) fn is_resident(&self, number: PageNo) -> bool
         ensures { result ≡ is_resident self.now.pages number }
     {
-        self.frame(number).is_some()
+        self.slots.place_of(number).is_some()
     }
 
     /// The page of this number.
@@ -98,19 +91,10 @@ impl Frames {
         ensures there { Contains self.now.pages result.now }
         ensures numbered { result.now.number ≡ number }
     {
-        let Some(frame) = self.frame(number) else {
+        let Some(page) = self.slots.page(number) else {
             unreachable!();
         };
-        frame.page()
-    }
-
-    /// The frame of the page of this number.
-    fn frame(&self, number: PageNo) -> Option<&Frame>
-        ensures found { is_some result ≡ is_resident self.now.pages number }
-        ensures there { IfSome result (λ page. Contains self.now.pages page.now) }
-        ensures numbered { IfSome result (λ page. page.now.number ≡ number) }
-    {
-        self.taken.get(&number.0)?.as_ref()
+        page
     }
 
     /// Redoes a record on the page that it changes.
@@ -120,14 +104,12 @@ impl Frames {
         ensures room { self.new.room ≡ self.old.room }
         ensures sought { (clean : ℕ → Bool) → IsSought clean self.old → IsSought clean self.new }
     {
-        if let Some(slot) = self.taken.get_mut(&number.0) {
-            redo_slot(slot, next);
-        }
+        self.slots.redo(number, next);
     }
 
     /// What the frames take memory of.
     pub(crate) fn allocator(&self) -> Global {
-        *self.taken.allocator()
+        self.slots.allocator()
     }
 
     /// The slot of the clean page that was fetched earliest.
@@ -138,7 +120,7 @@ impl Frames {
             ≡ list_any (λ page. is_clean_in states.now page.number) self.now.pages }
     {
         let mut place = self.marks.next(0);
-        while place < self.taken.len() {
+        while place < self.slots.len() {
             if self.has_clean_at(place, states) {
                 return Some(place);
             }
@@ -152,9 +134,9 @@ impl Frames {
         ensures { (d : Option Page) → place < length self.now.slots
             → result ≡ has_clean (is_clean_in states.now) (slice_index_or self.now.slots place d) }
     {
-        match self.taken.get_index(place) {
-            Some((number, Some(_))) => states.is_clean(PageNo(*number)),
-            _ => false,
+        match self.slots.at(place) {
+            Some(page) => states.is_clean(page.number),
+            None => false,
         }
     }
 
@@ -166,7 +148,7 @@ impl Frames {
             → ((n : ℕ) → n ≢ number → clean n ≡ false → is_clean_in states.now n ≡ false)
             → IsSought (is_clean_in states.now) self.new }
     {
-        if let Some(place) = self.taken.get_index_of(&number.0) {
+        if let Some(place) = self.slots.place_of(number) {
             if states.is_clean(number) {
                 self.marks.set(place);
             } else {
@@ -189,18 +171,16 @@ impl Frames {
         }
     }
 
-    /// Makes room for one page more. `AllocError` comes where it is refused. The pages stay. There
-    /// is a slot for the hole that the page may leave behind, too.
+    /// Makes room for one page more. `AllocError` comes where it is refused. The pages stay.
     pub(crate) fn make_room(&mut self) -> Result<(), AllocError>
-        ensures room { OnOk result (1 < self.new.room) }
+        ensures room { OnOk result (0 < self.new.room) }
         ensures same { self.new.pages ≡ self.old.pages }
         ensures sought { (clean : ℕ → Bool) → IsSought clean self.old → IsSought clean self.new }
     {
         if self.free.is_none() {
-            let alloc = *self.taken.allocator();
-            self.free = Some(Frame::new(alloc)?);
+            self.free = Some(Frame::new(self.allocator())?);
         }
-        self.taken.reserve(2)
+        self.slots.reserve()
     }
 
     /// Puts a page into a frame of its own, behind the others. It takes no memory, since
@@ -212,22 +192,18 @@ impl Frames {
         ensures pages { self.new.pages ≡ self.old.pages ++ page ∷ [] }
         ensures sought { (clean : ℕ → Bool) → IsSought clean self.old → IsSought clean self.new }
     {
-        let place = self.taken.len();
-        self.marks.set(place);
+        self.marks.set(self.slots.len());
         let Some(mut frame) = self.free.take() else {
             unreachable!();
         };
-        let number = page.number;
         frame.hold(page);
-        if self.taken.insert(number.0, Some(frame)).is_err() {
-            unreachable!();
-        }
+        self.slots.push(frame);
     }
 
     /// Puts a page into a frame of its own, behind the others, and gives up the clean page that
     /// was fetched earliest. Its frame is free for the next page that comes in.
     pub(crate) fn replace(&mut self, page: Page, states: &PageStates)
-        requires room { 1 < self.old.room }
+        requires room { 0 < self.old.room }
         requires within { page.number < MAX_PAGES }
         requires absent { is_resident self.old.pages page.number ≡ false }
         requires sought { IsSought (is_clean_in states.now) self.old }
@@ -243,39 +219,15 @@ impl Frames {
 
     /// Gives up the clean page that was fetched earliest, and hands out its frame.
     fn give_up(&mut self, states: &PageStates) -> Option<Frame>
-        requires room { 1 < self.old.room }
-        requires holes { self.old.holes ≤ MAX_FRAMES }
+        requires holes { length self.old.slots ≤ 2 * length self.old.pages - 1 }
         requires sought { IsSought (is_clean_in states.now) self.old }
         ensures pages { self.new.pages ≡ given_up (is_clean_in states.now) self.old.pages }
-        ensures room { 0 < self.new.room }
+        ensures room { self.new.room ≡ self.old.room }
         ensures sought { IsSought (is_clean_in states.now) self.new }
     {
         let place = self.first_clean(states)?;
-        let frame = self.leave_hole(place);
+        let frame = self.slots.take(place);
         self.marks.clear(place);
-        frame
-    }
-
-    /// Takes the frame out of a slot, and leaves a hole there.
-    fn leave_hole(&mut self, place: usize) -> Option<Frame>
-        requires room { 1 < self.old.room }
-        requires holes { self.old.holes ≤ MAX_FRAMES }
-        requires within { place < length self.old.slots }
-        requires taken { (d : Option Page) → IsSome (slice_index_or self.old.slots place d) }
-        ensures slots { self.new.slots ≡ slice_set self.old.slots place None }
-        ensures pages { (clean : ℕ → Bool) → position (has_clean clean) self.old.slots ≡ Some place
-            → self.new.pages ≡ given_up clean self.old.pages }
-        ensures room { 0 < self.new.room }
-        ensures marks { self.new.marks ≡ self.old.marks }
-    {
-        // The hole comes in behind the others, and then into the place of the slot that goes.
-        if self.taken.insert(MAX_PAGES + self.holes, None).is_err() {
-            unreachable!();
-        }
-        self.holes += 1;
-        let Some((_, frame)) = self.taken.swap_remove_index(place) else {
-            unreachable!();
-        };
         frame
     }
 
@@ -283,11 +235,11 @@ impl Frames {
     fn limit_holes(&mut self, states: &PageStates)
         requires sought { IsSought (is_clean_in states.now) self.old }
         ensures pages { self.new.pages ≡ self.old.pages }
-        ensures holes { self.new.holes ≤ MAX_FRAMES }
+        ensures holes { length self.new.slots ≤ 2 * length self.new.pages - 1 }
         ensures room { self.old.room ≤ self.new.room }
         ensures sought { IsSought (is_clean_in states.now) self.new }
     {
-        if self.holes >= MAX_FRAMES || self.holes as usize >= self.len() {
+        if self.slots.is_sparse() {
             self.squeeze(states);
         }
     }
@@ -295,17 +247,12 @@ impl Frames {
     /// Squeezes the holes out, and marks the clean pages anew, since they have moved.
     fn squeeze(&mut self, states: &PageStates)
         ensures pages { self.new.pages ≡ self.old.pages }
-        ensures holes { self.new.holes ≡ 0 }
+        ensures holes { length self.new.slots ≡ length self.new.pages }
         ensures room { self.old.room ≤ self.new.room }
         ensures sought { IsSought (is_clean_in states.now) self.new }
     {
-        self.taken.retain(
-            |_number: &u32, slot: &mut Option<Frame>| -> bool
-                ensures { (result ≡ is_some slot.old) × (slot.new ≡ slot.old) }
-            { slot.is_some() },
-        );
-        self.holes = 0;
-        for place in 0..self.taken.len() {
+        self.slots.squeeze();
+        for place in 0..self.slots.len() {
             self.mark_at(place, states);
         }
     }
@@ -314,7 +261,6 @@ impl Frames {
     fn mark_at(&mut self, place: usize, states: &PageStates)
         ensures slots { self.new.slots ≡ self.old.slots }
         ensures pages { self.new.pages ≡ self.old.pages }
-        ensures holes { self.new.holes ≡ self.old.holes }
         ensures room { self.new.room ≡ self.old.room }
         ensures others { (k : ℕ) → IsPassed self.new.marks k → k ≢ place
             → IsPassed self.old.marks k }
@@ -327,14 +273,5 @@ impl Frames {
         } else {
             self.marks.clear(place);
         }
-    }
-}
-
-/// Redoes a record on the page of a slot, if it is a change of this page.
-fn redo_slot(slot: &mut Option<Frame>, next: &Record)
-    ensures { slot.new ≡ option_map (λ page. with_record page next.now) slot.old }
-{
-    if let Some(frame) = slot {
-        frame.redo(next);
     }
 }

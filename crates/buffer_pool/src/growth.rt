@@ -1,8 +1,6 @@
-//! Columns of the table of the pages' states.
+//! Columns by page number.
 
 ghost use Rattle.std.specs.Prelude.{◌≡◌, ◌-◌, ◌++◌, ◌≤◌, length, replicate, vec_capacity, None};
-
-use page_core::Lsn;
 
 /// Grows a column to `count` places, in room that was reserved: nothing is in those that are added.
 /// One that has as many stays as it is. It takes no memory.
@@ -17,14 +15,14 @@ pub(crate) fn grow_column<T: Drop>(column: &mut Vec<Option<T>>, count: u32)
     }
 }
 
-/// The same of a column of LSNs: those that are added are 0.
-pub(crate) fn grow_lsns(column: &mut Vec<Lsn>, count: u32)
+/// The same of a column without holes: the same value is in each place that is added.
+pub(crate) fn grow_column_with<T: Copy>(column: &mut Vec<T>, count: u32, value: T)
     requires room { count ≤ vec_capacity column.old }
     ensures grown { column.new.items
-        ≡ column.old.items ++ replicate (count - length column.old.items) 0 }
+        ≡ column.old.items ++ replicate (count - length column.old.items) value }
     ensures room { vec_capacity column.new ≡ vec_capacity column.old }
 {
     for place in column.len()..count as usize {
-        column.push_reserved(Lsn(0));
+        column.push_reserved(value);
     }
 }

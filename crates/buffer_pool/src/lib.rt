@@ -13,6 +13,7 @@ mod page_set;
 mod page_states;
 mod pool;
 mod rec_lsns;
+mod slots;
 
 pub use frame::MAX_FRAMES;
 pub use laws::{

@@ -9,7 +9,7 @@ ghost use Rattle.buffer_pool.specs.Pool.{changed, grown_states, is_clean_in, sta
 ghost use Rattle.buffer_pool.specs.Pool.{stored_states, write_begun};
 ghost use Rattle.buffer_pool.specs.Pool.{write_ended};
 
-use crate::growth::{grow_column, grow_lsns};
+use crate::growth::{grow_column, grow_column_with};
 use crate::page_image::PageImage;
 use crate::rec_lsns::RecLsns;
 use log_records::{DirtyPage, DirtyPages};
@@ -82,7 +82,7 @@ impl PageStates {
         requires { count ≤ MAX_PAGES }
         ensures { self.new ≡ grown_states count self.old }
     {
-        grow_lsns(&mut self.last_writes, count);
+        grow_column_with(&mut self.last_writes, count, Lsn(0));
         self.rec_lsns.grow(count);
         grow_column(&mut self.images, count);
         grow_column(&mut self.first_changes, count);

@@ -43,7 +43,6 @@ pub struct Pool<S: PageStore> {
 }
 
 impl<S: PageStore> Model for Pool<S> {
-    ghost use Rattle.std.specs.Prelude.{◌-◌};
     ghost use Rattle.buffer_pool.specs.Pool.{IsPool, PoolView};
 
     ghost Value = { PoolView S };
@@ -51,7 +50,7 @@ impl<S: PageStore> Model for Pool<S> {
     ghost view = { λ it. record {
       store = it.store;
       frames = it.limit;
-      room = it.frames.room - 1;
+      room = it.frames.room;
       resident = it.frames.pages;
       states = it.states;
     } };

@@ -1,6 +1,6 @@
 -- What is found row by row is what an audit asks of the chain.
-use Rattle.std.proofs.Common.{◌≡◌, ℕ, zero, suc, ◌+◌, ◌<◌, ◌≤◌, Bool, List, [], ◌∷◌, ◌++◌, length, get_or, take, map}
-use Rattle.std.proofs.Common.{refl, sym, ap, subst, ◌∙◌, arith, inl, inr}
+use Rattle.std.proofs.Common.{◌≡◌, ℕ, zero, suc, ◌+◌, ◌<◌, ◌≤◌, List, [], ◌∷◌, ◌++◌, length, get_or, take, map}
+use Rattle.std.proofs.Common.{refl, sym, ap, subst, ◌∙◌, arith, inl, inr, ◌⊎◌}
 use Rattle.std.specs.Prelude.{Option, Some, None}
 use Rattle.std.specs.List.{flat_map}
 use Rattle.std.proofs.lemmas.Bool.{cases_lt}
@@ -20,9 +20,10 @@ use Rattle.copy_vault.specs.ChainReading.{AreWithinLog}
 use Rattle.copy_vault.specs.Copy.{CopyView, decision_at, page_of}
 use Rattle.copy_audit.specs.declared.found.Found.{Found}
 use Rattle.copy_audit.specs.Audit.{IsAudited, IsFirstUnsound, IsSoundAt, chain_to, end_of}
-use Rattle.copy_audit.specs.declared.trace.Trace.{Trace}
+use Rattle.copy_audit.specs.declared.reach.Reach.{Reach}
+use Rattle.copy_audit.specs.ByLsn.{IsSeenIn}
 use Rattle.copy_audit.specs.Rows.{AreFound, IsFirstIn, IsLeastIn, IsSoundIn, content_in}
-use Rattle.copy_audit.specs.Trace.{IsSeen}
+use Rattle.copy_audit.specs.Trace.{IsReach}
 
 -- ---- one row
 
@@ -225,27 +226,50 @@ pub content_kept : (number : ℕ) (row : List (List Page)) (m : ℕ) → m < len
 content_kept number row m lt is =
     content_before number row m lt ∙ ap (last_of (content_in number row m)) is
 
--- ---- what is seen of the page of the chain, with one member more
+-- ---- how far the page of the chain reaches, with one member more
 
-pub seen_taken : (rs : List Record) (p : ℕ) (row : List (List Page)) (m : ℕ) (page : Page) (now new : Trace)
-    (past is_past : Bool) → m < length row → get_or row m [] ≡ page ∷ [] → now ≡ new → past ≡ is_past
-    → IsSeen rs p page new is_past → IsSeen rs p (content_in p row (m + 1)) now past
-seen_taken rs p row m page now new past is_past lt here same tells seen =
-    subst (λ (b : Bool). IsSeen rs p (content_in p row (m + 1)) now b) (sym tells)
-    (subst (λ (t : Trace). IsSeen rs p (content_in p row (m + 1)) t is_past) (sym same)
-    (subst (λ (q : Page). IsSeen rs p q new is_past) (sym (content_taken p row m page lt here)) seen))
+pub reach_taken : (rs : List Record) (p : ℕ) (row : List (List Page)) (m : ℕ) (page : Page) (now seen : Reach)
+    → m < length row → get_or row m [] ≡ page ∷ [] → now ≡ seen → IsReach rs p page seen
+    → IsReach rs p (content_in p row (m + 1)) now
+reach_taken rs p row m page now seen lt here is reach =
+    subst (IsReach rs p (content_in p row (m + 1))) (sym is)
+    (subst (λ (q : Page). IsReach rs p q seen) (sym (content_taken p row m page lt here)) reach)
 
-pub seen_kept : (rs : List Record) (p : ℕ) (row : List (List Page)) (m : ℕ) (now old : Trace) (past was : Bool)
-    → m < length row → get_or row m [] ≡ [] → now ≡ old → past ≡ was
-    → IsSeen rs p (content_in p row m) old was → IsSeen rs p (content_in p row (m + 1)) now past
-seen_kept rs p row m now old past was lt here same tells seen =
-    subst (λ (b : Bool). IsSeen rs p (content_in p row (m + 1)) now b) (sym tells)
-    (subst (λ (t : Trace). IsSeen rs p (content_in p row (m + 1)) t was) (sym same)
-    (subst (λ (q : Page). IsSeen rs p q old was) (sym (content_kept p row m lt here)) seen))
+pub reach_kept : (rs : List Record) (p : ℕ) (row : List (List Page)) (m : ℕ) (now old : Reach)
+    → m < length row → get_or row m [] ≡ [] → now ≡ old → IsReach rs p (content_in p row m) old
+    → IsReach rs p (content_in p row (m + 1)) now
+reach_kept rs p row m now old lt here is reach =
+    subst (IsReach rs p (content_in p row (m + 1))) (sym is)
+    (subst (λ (q : Page). IsReach rs p q old) (sym (content_kept p row m lt here)) reach)
 
 pub no_page : (place : Option Page) → ((page : Page) → place ≡ Some page → ⊥) → place_list place ≡ []
 no_page None none = refl
 no_page (Some page) none = absurd (none page refl)
+
+-- the same of what was seen in another order
+pub reach_next : (rs : List Record) (p : ℕ) (row : List (Option Page)) (m : ℕ) (seen : Option Reach) (now old : Reach)
+    → m < length row → IsSeenIn rs p (get_or row m None) seen → IsReach rs p (content_in p (map place_list row) m) old
+    → (seen ≡ Some now) ⊎ ((seen ≡ None) × (now ≡ old)) → IsReach rs p (content_in p (map place_list row) (m + 1)) now
+reach_next rs p row m seen now old lt is before next = by_place (get_or row m None) seen refl is next
+  where
+    here : (place : Option Page) → get_or row m None ≡ place → get_or (map place_list row) m [] ≡ place_list place
+    here place at = get_or-map place_list row m None [] lt ∙ ap place_list at
+
+    by_place : (place : Option Page) (it : Option Reach) → get_or row m None ≡ place → IsSeenIn rs p place it
+        → (it ≡ Some now) ⊎ ((it ≡ None) × (now ≡ old)) → IsReach rs p (content_in p (map place_list row) (m + 1)) now
+    by_place None it at none (inl some) = let both = sym none ∙ some in cc
+    by_place None it at none (inr kept) =
+        reach_kept rs p (map place_list row) m now old (omega (arith, length-map row place_list)) (here None at) kept.1 before
+    by_place (Some page) None at none next = absurd none
+    by_place (Some page) (Some reach) at right (inl some) =
+        let same : now ≡ reach = cc in
+        reach_taken rs p (map place_list row) m page now reach (omega (arith, length-map row place_list))
+        (here (Some page) at) same right
+    by_place (Some page) (Some reach) at right (inr kept) = let never = kept.0 in cc
+
+pub none_first : (first : Option ℕ) → ((member : ℕ) → first ≡ Some member → ⊥) → first ≡ None
+none_first None none = refl
+none_first (Some member) none = absurd (none member refl)
 
 -- ---- a row more, whatever was found before
 

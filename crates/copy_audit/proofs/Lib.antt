@@ -1,4 +1,5 @@
 pub mod Audits
+pub mod ByLsn
 pub mod Founds
 pub mod Looks
 pub mod Rowwise

@@ -1,5 +1,5 @@
 -- The changes of a page among a log's first records, and what the page shows that has them.
-use Rattle.std.proofs.Common.{◌≡◌, ◌≢◌, ℕ, zero, suc, ◌+◌, ◌-◌, ◌*◌, ◌/◌, ◌<◌, ◌≤◌, ◌&&◌, Bool, true, false, cond, eqb}
+use Rattle.std.proofs.Common.{◌≡◌, ◌≢◌, ℕ, zero, suc, ◌+◌, ◌-◌, ◌*◌, ◌/◌, ◌^◌, ◌<◌, ◌≤◌, ◌&&◌, Bool, true, false, cond, eqb}
 use Rattle.std.proofs.Common.{List, [], ◌∷◌, ◌++◌, length, get_or, take, min, refl, sym, ap, subst, ◌∙◌, arith, inl, inr}
 use Rattle.std.specs.Prelude.{Option, Some, None, nat_le, slice_get}
 use Rattle.std.specs.List.{filter, range_with_len}
@@ -25,7 +25,7 @@ use Rattle.log_records.proofs.Images.{image_from-append}
 use Rattle.page_redo.specs.PageRecords.{first_numbers_on, is_on, number_is_on, numbers_on, records_at}
 use Rattle.page_redo.proofs.Counted.{numbers_more, numbers_with, records_of_first}
 use Rattle.copy_audit.specs.declared.trace.Trace.{Trace}
-use Rattle.copy_audit.specs.Trace.{IsSeen, IsTraced}
+use Rattle.copy_audit.specs.Trace.{IsReach, IsSeen, IsTraced}
 
 -- the numbers of the changes of a page among the log's first records
 abbrev first : List Record → ℕ → ℕ → List ℕ
@@ -309,6 +309,32 @@ lacks_when log p page it past bound valid seen some early covers =
     let over : it.reached ≤ n = seen.traced.above some in
     let there = seen.there in
     absurd (omega arith)
+
+-- how far the page reaches, whose next change has this LSN
+pub reach_of : (log : Log) (p : ℕ) (page : Page) (it : Trace) (past : Bool) (last : ℕ) → IsLog log
+    → IsSeen log.records p page it past
+    → (it.done < length (numbers_on log.records 0 p) → last ≡ 64 * (get_or (numbers_on log.records 0 p) it.done 0 + 1))
+    → (length (numbers_on log.records 0 p) ≤ it.done → last + 1 ≡ 2 ^ 64)
+    → IsReach log.records p page (record { is_past = past; last = last })
+reach_of log p page it past last valid seen next none bound fits =
+    let ns = numbers_on log.records 0 p in (
+      λ covers. (
+        was past (seen.is_not) covers.past,
+        elim (cases_lt it.done (length ns)) [
+          | inl some ↦ elim (cases_lt last bound) [
+            | inl early ↦
+                absurd (lacks_when log p page it past bound valid seen some (omega (arith, next some, early)) covers)
+            | inr late ↦ late
+          ]
+          | inr over ↦ omega (arith, none over, fits)
+        ],
+      ),
+      λ both. covers_when log p page it past bound valid seen both.0 (λ some. omega (arith, next some, both.1)),
+    )
+  where
+    was : (b : Bool) → (b ≡ false → ¬ IsPast log.records p page) → IsPast log.records p page → b ≡ true
+    was true never is = refl
+    was false never is = absurd (never refl is)
 
 -- ---- one change more
 

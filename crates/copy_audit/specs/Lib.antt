@@ -1,6 +1,7 @@
 pub mod Audit
 pub mod AuditFault
 pub mod Audited
+pub mod ByLsn
 pub mod Rows
 pub mod Told
 pub mod Trace

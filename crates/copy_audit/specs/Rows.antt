@@ -28,6 +28,12 @@ pub record IsFirstIn (rs : List Record) (number : ℕ) (row : List (List Page)) 
   pub before : (k : ℕ) → k < member → IsSoundIn rs number row points k
   pub here : ¬ IsSoundIn rs number row points member
 
+-- of so many members this is the first one, or it holds of all
+abbrev pub IsFirstOf : List Record → ℕ → List (List Page) → List ℕ → ℕ → Option ℕ → Type 0
+IsFirstOf rs number row points most None =
+    (k : ℕ) → k < most → IsSoundIn rs number row points k
+IsFirstOf rs number row points most (Some member) = IsFirstIn rs number row points most member
+
 -- in these rows it holds of all members before this one, and of this one before this page, but not
 -- of this page
 pub record IsLeastIn (rs : List Record) (points : List ℕ) (members : ℕ)

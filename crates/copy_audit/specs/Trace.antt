@@ -1,13 +1,15 @@
 -- How far the changes of a page were redone, and what that shows of a copied page.
-use Rattle.std.specs.Prelude.{ℕ, ◌≡◌, ◌/◌, ◌<◌, ◌≤◌, Bool, true, false, List, length, min, take}
+use Rattle.std.specs.Prelude.{ℕ, ◌≡◌, ◌↔◌, ◌/◌, ◌^◌, ◌<◌, ◌≤◌, Bool, true, false, List, length, min}
+use Rattle.std.specs.Prelude.{take}
 use Rattle.std.specs.Prelude.{slice_index}
 use Rattle.page_core.specs.declared.numbers.TheConstants.{LSN_STEP}
 use Rattle.page_core.specs.declared.page.Page.{Page}
 use Rattle.page_core.specs.Page.{formatted}
 use Rattle.log_records.specs.declared.record.Record.{Record}
-use Rattle.log_records.specs.Coverage.{IsPast}
+use Rattle.log_records.specs.Coverage.{Covers, IsPast}
 use Rattle.log_records.specs.Image.{image_from}
 use Rattle.page_redo.specs.PageRecords.{numbers_on, records_at}
+use Rattle.copy_audit.specs.declared.reach.Reach.{Reach}
 use Rattle.copy_audit.specs.declared.trace.Trace.{Trace}
 
 -- the page has the first ones of its changes, and these are all of them among so many records
@@ -26,3 +28,9 @@ pub record IsSeen (rs : List Record) (number : ℕ) (page : Page) (it : Trace) (
   pub there : it.reached ≡ min (page.lsn / LSN_STEP) (length rs)
   pub is_past : past ≡ true → IsPast rs number page
   pub is_not : past ≡ false → ¬ IsPast rs number page
+
+-- how far a page reaches: which LSN it lacks nothing below
+abbrev pub IsReach : List Record → ℕ → Page → Reach → Type 0
+IsReach rs number page it =
+    (bound : ℕ) → bound < 2 ^ 64
+    → Covers rs number page bound ↔ ((it.is_past ≡ true) × (bound ≤ it.last))

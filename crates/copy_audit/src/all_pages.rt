@@ -12,7 +12,7 @@ ghost use Rattle.copy_audit.specs.Audit.{end_of};
 ghost use Rattle.copy_audit.specs.Audited.{AreRefused};
 ghost use Rattle.copy_audit.specs.Told.{AreFirstOf, AreToldOf, HasTold, IsTold};
 
-use crate::chain_audit::places;
+use crate::chain_audit::{places, points_of};
 use crate::members::first_unsound;
 use crate::unsound::Unsound;
 use copy_vault::{ChainReadFault, ChainReader, CopyId};
@@ -86,6 +86,7 @@ fn pages_in<A: Read>(
     let counts = log.counts(alloc)?;
     let mut chain = ChainReader::new(alloc, archives, &counts, log.end())?;
     let changes = by_page(alloc, log.records(), Lsn(0), log.page_count())?;
+    let points = points_of(alloc, &chain, archives.len())?;
     let mut row = places(alloc, archives.len())?;
     let mut found = UnsoundPages {
         pages: Vec::new(alloc),
@@ -98,7 +99,9 @@ fn pages_in<A: Read>(
         }
         let page = PageNo(number);
         note_row(
+            alloc,
             &chain,
+            &points,
             log.records(),
             changes.of(page),
             page,
@@ -111,7 +114,9 @@ fn pages_in<A: Read>(
 
 /// Notes the page of a row, where it is unsound.
 fn note_row(
+    alloc: Global,
     chain: &ChainReader,
+    points: &[Lsn],
     records: &[Record],
     numbers: &[u32],
     page: PageNo,
@@ -120,7 +125,8 @@ fn note_row(
 ) -> Result<(), AllocError>
     requires log { (pages : ℕ) × IsLog (record { pages = pages; records = records.now }) }
     requires numbers { numbers.now ≡ numbers_on records.now 0 page }
-    requires members { length row.now ≡ length (points_of chain.now) }
+    requires points { points.now ≡ points_of chain.now }
+    requires members { length row.now ≡ length points.now }
     requires ids { length row.now ≡ length (ids_of chain.now) }
     ensures { OnOk result ((given : List (List (List Page))) → length given ≡ page
         → HasTold records.now (points_of chain.now) (ids_of chain.now) (length row.now)
@@ -128,7 +134,8 @@ fn note_row(
         → HasTold records.now (points_of chain.now) (ids_of chain.now) (length row.now)
         (given ++ map place_list row.now ∷ []) (page + 1) found.new) }
 {
-    if let Some(member) = first_unsound(chain, records, numbers, page, row, row.len()) {
+    let first = first_unsound(alloc, points, records, numbers, page, row, row.len())?;
+    if let Some(member) = first {
         let copy = chain.id_at(member);
         found.note(UnsoundPage { copy, page })?;
     }

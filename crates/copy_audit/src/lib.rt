@@ -3,11 +3,13 @@
 #![tactic(auto)]
 
 mod all_pages;
+mod by_lsn;
 mod chain_audit;
 mod found;
 mod laws;
 mod members;
 mod page_audit;
+mod reach;
 mod trace;
 mod unsound;
 

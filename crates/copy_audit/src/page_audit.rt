@@ -9,14 +9,14 @@ use crate::trace::Trace;
 use log_records::Record;
 use page_core::{Lsn, Page};
 
-/// Whether a page is as the log made it at some moment, and lacks no change below an LSN. Beside the
-/// records it is given the numbers of those that change the page, counted from 0, in their order.
+/// Whether a page is as the log made it at some moment, and lacks no change below an LSN. Beside
+/// the records it is given the numbers of those that change the page, counted from 0, in their
+/// order.
 pub fn is_sound(records: &[Record], numbers: &[u32], page: &Page, bound: Lsn) -> bool
     requires log { (pages : ℕ) × IsLog (record { pages = pages; records = records.now }) }
     requires numbers { numbers.now ≡ numbers_on records.now 0 page.now.number }
     ensures { IsTrue result ↔ Covers records.now page.now.number page.now bound }
 {
-    let mut trace = Trace::new(page.number);
-    let past = trace.is_past(records, numbers, page.number, page);
-    past && trace.reaches(numbers, bound)
+    let reach = Trace::new(page.number).look(records, numbers, page.number, page);
+    reach.covers(bound)
 }

@@ -1,15 +1,14 @@
 //! A page of a log, made of its changes one after another.
 
-ghost use Rattle.std.specs.Prelude.{ℕ, ◌≡◌, ◌*◌, ◌+◌, ◌≤◌, ◌<◌, ◌/◌, Bool, List, length, min, true};
-ghost use Rattle.std.specs.Prelude.{false};
+ghost use Rattle.std.specs.Prelude.{ℕ, ◌≡◌, ◌*◌, ◌+◌, ◌^◌, ◌≤◌, ◌<◌, List, length, slice_index};
 ghost use Rattle.page_core.specs.declared.page.Page.{Page};
 ghost use Rattle.page_core.specs.declared.numbers.TheConstants.{LSN_STEP};
 ghost use Rattle.log_records.specs.declared.record.Record.{Record};
-ghost use Rattle.log_records.specs.Coverage.{Covers, IsPast};
 ghost use Rattle.log_records.specs.Log.{IsLog};
 ghost use Rattle.page_redo.specs.PageRecords.{numbers_on};
-ghost use Rattle.copy_audit.specs.Trace.{IsSeen, IsTraced};
+ghost use Rattle.copy_audit.specs.Trace.{IsReach, IsSeen, IsTraced};
 
+use crate::reach::Reach;
 use log_records::Record;
 use page_core::{LSN_STEP, Lsn, Page, PageNo};
 
@@ -86,17 +85,51 @@ impl Trace {
         self.page == *page
     }
 
-    /// Whether a page that was looked at last lacks no change below an LSN.
-    pub(crate) fn reaches(&self, numbers: &[u32], bound: Lsn) -> bool
-        ensures reaches { (rs : List Record) (number : ℕ) (page : Page) (past : Bool)
-            → IsSeen rs number page self.now past → numbers.now ≡ numbers_on rs 0 number
-            → ((pages : ℕ) × IsLog (record { pages = pages; records = rs }))
-            → result ≡ true → past ≡ true → Covers rs number page bound }
-        ensures lacks { (rs : List Record) (number : ℕ) (page : Page) (past : Bool)
-            → IsSeen rs number page self.now past → numbers.now ≡ numbers_on rs 0 number
-            → ((pages : ℕ) × IsLog (record { pages = pages; records = rs }))
-            → result ≡ false → ¬ Covers rs number page bound }
+    /// Whether a page has an LSN below the one up to which the changes were redone.
+    pub(crate) fn has_passed(&self, page: &Page) -> bool {
+        ((page.lsn.0 / LSN_STEP) as usize) < self.reached
+    }
+
+    /// Goes to the page as the log made it when it got a page's LSN, and answers how far that page
+    /// reaches.
+    pub(crate) fn look(
+        &mut self,
+        records: &[Record],
+        numbers: &[u32],
+        number: PageNo,
+        page: &Page,
+    ) -> Reach
+        requires log { (pages : ℕ) × IsLog (record { pages = pages; records = records.now }) }
+        requires numbers { numbers.now ≡ numbers_on records.now 0 number }
+        requires traced { IsTraced records.now number self.old }
+        ensures traced { IsTraced records.now number self.new }
+        ensures reach { IsReach records.now number page.now result }
     {
-        self.done >= numbers.len() || bound.0 <= LSN_STEP * (numbers[self.done] as u64 + 1)
+        let is_past = self.is_past(records, numbers, number, page);
+        self.reach(numbers, is_past)
+    }
+
+    /// How far a page reaches that was looked at last, which is of the log's past or is not.
+    pub(crate) fn reach(&self, numbers: &[u32], is_past: bool) -> Reach
+        ensures { (rs : List Record) (number : ℕ) (page : Page)
+            → IsSeen rs number page self.now is_past → numbers.now ≡ numbers_on rs 0 number
+            → ((pages : ℕ) × IsLog (record { pages = pages; records = rs }))
+            → IsReach rs number page result }
+    {
+        let last = self.next_change(numbers);
+        Reach { is_past, last }
+    }
+
+    /// The LSN of the next change, or the greatest number where there is none.
+    fn next_change(&self, numbers: &[u32]) -> Lsn
+        ensures next { self.now.done < length numbers.now
+            → result ≡ LSN_STEP * (slice_index numbers.now self.now.done + 1) }
+        ensures none { length numbers.now ≤ self.now.done → result + 1 ≡ 2 ^ 64 }
+    {
+        if self.done < numbers.len() {
+            Lsn(LSN_STEP * (numbers[self.done] as u64 + 1))
+        } else {
+            Lsn(u64::MAX)
+        }
     }
 }

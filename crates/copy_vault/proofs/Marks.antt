@@ -1,5 +1,5 @@
 -- The decisions of a copy that holds a mark a page.
-use Rattle.std.proofs.Common.{◌≡◌, ◌≢◌, ℕ, ◌-◌, ◌^◌, ◌<◌, ◌≤◌, List, [], ◌∷◌, ◌++◌, length, get_or}
+use Rattle.std.proofs.Common.{◌+◌, ◌≡◌, ◌≢◌, ℕ, ◌-◌, ◌^◌, ◌<◌, ◌≤◌, List, [], ◌∷◌, ◌++◌, length, get_or}
 use Rattle.std.proofs.Common.{replicate, refl, sym, ap, ◌∙◌, subst, arith, suc, zero, inl, inr}
 use Rattle.std.specs.Prelude.{slice_set}
 use Rattle.std.proofs.Math.ListN.{get_or-map}
@@ -199,7 +199,7 @@ no_mark n p k e = elim (cases_lt p n) [
     not_named : (k : ℕ) → ¬ (Undecided ≡ Taken k)
     not_named k e = cc
 
-pub marked_none : (n room : ℕ) → n < 2 ^ 32 → n ≤ room → IsMarked (replicate n Undecided) [] n room
+pub marked_none : (n room : ℕ) → n + 2 < 2 ^ 32 → n ≤ room → IsMarked (replicate n Undecided) [] n room
 marked_none n room few fits = record {
   few = omega (arith, few, length-replicate n Undecided);
   left_is = sym (ap undecided_count (none_marked n) ∙ left_none n);

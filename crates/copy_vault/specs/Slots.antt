@@ -1,5 +1,5 @@
 -- How the decisions of a copy are held.
-use Rattle.std.specs.Prelude.{ℕ, ◌≡◌, ◌^◌, ◌<◌, ◌≤◌, List, [], ◌∷◌, length, map, slice_index_or}
+use Rattle.std.specs.Prelude.{ℕ, ◌≡◌, ◌+◌, ◌-◌, ◌^◌, ◌<◌, ◌≤◌, ◌==◌, List, [], ◌∷◌, length, map, slice_index_or}
 use Rattle.std.specs.Prelude.{slice_set, Option, Some, None, nat_eq, if◌then◌else◌}
 use Rattle.std.specs.Borrow.{Bor}
 use Rattle.std.specs.List.{range_with_len}
@@ -17,6 +17,10 @@ abbrev pub values : List (Box Page Global) → List Page
 values places = map (λ place. place.value) places
 
 -- ---- a mark a page
+
+-- what a mark of four bytes says
+abbrev pub marked_by : ℕ → PlacedDecision
+marked_by n = if n == 0 then Undecided else if n == 1 then Kept else Taken (n - 2)
 
 -- what a mark says of its page, where these pages were taken
 abbrev pub decision_by : List Page → PlacedDecision → PageDecision
@@ -45,7 +49,7 @@ AreTaken pages decisions = (k : ℕ) (d : Page) → k < length pages
 -- there are no more pages than page numbers fit; those that were taken stand in a list, which has
 -- room for all, and of so many nothing is decided
 pub record IsMarked (marks : List PlacedDecision) (pages : List Page) (left room : ℕ) : Type 0 where
-  pub few : length marks < 2 ^ 32
+  pub few : length marks + 2 < 2 ^ 32
   pub left_is : left ≡ undecided_count (decisions_by pages marks)
   pub counted : length pages ≡ taken_count (decisions_by pages marks)
   pub within : AreWithin (length pages) marks

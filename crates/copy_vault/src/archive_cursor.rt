@@ -122,13 +122,16 @@ impl ArchiveCursor {
         }
     }
 
-    /// A copy of the page that was read last, if it has this number.
-    pub fn copy_at(&self, number: u32) -> Option<Page>
-        ensures { place_list result ≡ hand_at self.now.page number }
+    /// Puts a copy of the page that was read last into a place, if it has this number, and nothing
+    /// if not. A place that has nothing is left alone: of a long chain most archives lack most
+    /// pages, and to write such a place takes as long as to write a page.
+    pub fn copy_into(&self, number: u32, place: &mut Option<Page>)
+        ensures { place_list place.new ≡ hand_at self.now.page number }
     {
-        match self.page_at(number) {
-            Some(page) => Some(page.copy()),
-            None => None,
+        if let Some(page) = self.page_at(number) {
+            *place = Some(page.copy());
+        } else if place.is_some() {
+            *place = None;
         }
     }
 

@@ -35,7 +35,7 @@ fn put_row(cursors: &[ArchiveCursor], number: u32, row: &mut [Option<Page>])
     ensures { map place_list row.new ≡ map (λ it. hand_at it.page number) cursors.now }
 {
     for i in 0..row.len() {
-        row[i] = cursors[i].copy_at(number);
+        cursors[i].copy_into(number, &mut row[i]);
     }
 }
 

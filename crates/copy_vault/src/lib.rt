@@ -19,6 +19,7 @@ mod fault;
 mod header;
 mod header_codec;
 mod lent_copy;
+mod mark;
 mod pages;
 mod places;
 mod read;

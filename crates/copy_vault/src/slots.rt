@@ -5,6 +5,7 @@ ghost use Rattle.copy_vault.specs.Copy.{PageDecision, undecided, taken, kept, de
 ghost use Rattle.copy_vault.specs.Copy.{page_of, taken_count, undecided_count};
 ghost use Rattle.copy_vault.specs.Slots.{AreLaidOver, page_list};
 
+use crate::mark::Mark;
 use crate::places::lay_over;
 use page_core::{Page, PageNo};
 use std::alloc::{AllocError, Global};
@@ -21,8 +22,8 @@ pub enum PlacedDecision {
 /// What is decided of each page of a copy that is read in any order.
 #[derive(Drop)]
 pub struct Slots {
-    /// PlacedDecision `p` is that of page `p`.
-    marks: Vec<PlacedDecision>,
+    /// Mark `p` is that of page `p`.
+    marks: Vec<Mark>,
     /// The pages that were taken, in the order in which they were. There is room for all.
     places: Vec<Box<Page>>,
     /// Of how many pages nothing is decided.
@@ -44,14 +45,18 @@ impl Model for Slots {
 }
 
 impl Slots {
-    /// Slots of so many pages, of which nothing is decided.
+    /// Slots of so many pages, of which nothing is decided. `AllocError` comes where memory is
+    /// refused. It always is for 2^32 - 2 pages and more, since no mark could name their places.
     pub fn new(alloc: Global, count: u32) -> Result<Slots, AllocError>
         ensures { IfOk result (λ slots. slots ≡ replicate count undecided) }
     {
+        if count >= u32::MAX - 1 {
+            return Err(AllocError);
+        }
         let places = Vec::with_capacity(alloc, count as usize)?;
         let mut marks = Vec::with_capacity(alloc, count as usize)?;
         for _ in 0..count {
-            marks.push(PlacedDecision::Undecided)?;
+            marks.push(Mark::undecided())?;
         }
         Ok(Slots {
             marks,
@@ -65,7 +70,7 @@ impl Slots {
         requires { number < length self.now }
         ensures { page_list result ≡ page_of (decision_at self.now number) }
     {
-        match self.marks[number.0 as usize] {
+        match self.marks[number.0 as usize].decision() {
             PlacedDecision::Taken(place) => Some(&self.places[place as usize]),
             _ => None,
         }
@@ -97,7 +102,10 @@ impl Slots {
         requires { number < length self.now }
         ensures { IsTrue result ↔ (decision_at self.now number ≡ undecided) }
     {
-        matches!(self.marks[number.0 as usize], PlacedDecision::Undecided)
+        matches!(
+            self.marks[number.0 as usize].decision(),
+            PlacedDecision::Undecided
+        )
     }
 
     /// Takes a page. This takes no memory.
@@ -107,7 +115,7 @@ impl Slots {
         requires numbered { place.value.number ≡ number }
         ensures { self.new ≡ slice_set self.old number (taken place.value) }
     {
-        self.marks[number.0 as usize] = PlacedDecision::Taken(self.places.len() as u32);
+        self.marks[number.0 as usize] = Mark::taken(self.places.len() as u32);
         self.places.push_reserved(place);
         self.left -= 1;
     }
@@ -118,7 +126,7 @@ impl Slots {
         requires undecided { decision_at self.old number ≡ undecided }
         ensures { self.new ≡ slice_set self.old number kept }
     {
-        self.marks[number.0 as usize] = PlacedDecision::Kept;
+        self.marks[number.0 as usize] = Mark::kept();
         self.left -= 1;
     }
 

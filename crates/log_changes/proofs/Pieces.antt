@@ -1,7 +1,9 @@
 -- Redo of changes on a piece of a volume's pages, one after another.
-use Rattle.std.proofs.Common.{◌≡◌, ◌≢◌, ℕ, ◌+◌, ◌<◌, Bool, true, false, cond, eqb, List, [], ◌∷◌, length}
+use Rattle.std.proofs.Common.{◌≡◌, ◌≢◌, ℕ, zero, suc, ◌+◌, ◌<◌, Bool, true, false, cond, eqb, List, [], ◌∷◌, length}
+use Rattle.std.proofs.Common.{drop}
+use Rattle.std.specs.Prelude.{◌&&◌, nat_lt}
 use Rattle.std.proofs.Common.{get_or, set, map, take, refl, sym, ap, ◌∙◌, arith, inl, inr, eq-eqb}
-use Rattle.std.proofs.lemmas.Bool.{cases_eq, ne_eqb}
+use Rattle.std.proofs.lemmas.Bool.{cases_eq, lt-leb, ne_eqb}
 use Rattle.std.proofs.lemmas.List.{get_or-map, get_or-set_other, get_or-set_same, get_or_default, length-map}
 use Rattle.std.proofs.lemmas.List.{length-set, same_lists, take_more}
 use Rattle.std.proofs.lemmas.List.Sums.{fold-append}
@@ -112,6 +114,27 @@ numbered_more from first pages cs numbers = λ k d lt.
     number-redone_each : (page : Page) (cs : List Placed) → (redone_each cs from page).number ≡ page.number
     number-redone_each page [] = refl
     number-redone_each page (c ∷ cs) = number-redone_each (redone_by from page c) cs ∙ number-redone_by from page c
+
+-- ---- the changes below the redo point
+
+below_redo : (from : ℕ) (page : Page) (c : Placed) → c.lsn < from → redone_by from page c ≡ page
+below_redo from page c below =
+    ap (λ (b : Bool). cond (b && nat_lt page.lsn c.lsn) (with_placed page c) page) (lt-leb from c.lsn below)
+
+pub redone_without : (from k : ℕ) (page : Page) (cs : List Placed)
+    → ((i : ℕ) (d : Placed) → i < k → i < length cs → (get_or cs i d).lsn < from)
+    → redone_each (drop k cs) from page ≡ redone_each cs from page
+redone_without from zero page cs below = refl
+redone_without from (suc k) page [] below = refl
+redone_without from (suc k) page (c ∷ cs) below =
+    redone_without from k page cs (λ i d lt within. below (suc i) d (omega (arith, lt)) (omega (arith, within)))
+    ∙ ap (redone_each cs from) (sym (below_redo from page c (below 0 c (omega arith) (omega arith))))
+
+pub same_redone : (from : ℕ) (one other : List Placed) (pages : List Page)
+    → ((page : Page) → redone_each one from page ≡ redone_each other from page)
+    → map (redone_each one from) pages ≡ map (redone_each other from) pages
+same_redone from one other [] same = refl
+same_redone from one other (page ∷ pages) same = rw (same page, same_redone from one other pages same) refl
 
 -- ---- the pieces of a volume
 

@@ -1,8 +1,9 @@
 -- The LSNs of a log's records rise, so redo may test them against a page's LSN as it goes.
-use Rattle.std.proofs.Common.{◌≡◌, ℕ, suc, ◌+◌, ◌*◌, ◌<◌, ◌≤◌, Bool, true, false, cond, List, [], ◌∷◌, length}
+use Rattle.std.proofs.Common.{◌≡◌, ℕ, zero, suc, ◌+◌, ◌*◌, ◌<◌, ◌≤◌, Bool, true, false, cond, List, [], ◌∷◌, length}
 use Rattle.std.proofs.Common.{get_or, map, refl, sym, ap, subst, ◌∙◌, arith, inl, inr}
 use Rattle.std.specs.Prelude.{Option, Some, None, ◌&&◌, nat_le, nat_lt}
 use Rattle.std.specs.List.{cons_option, filter}
+use Rattle.std.specs.List.Sorted.{IsNonDecreasingBy}
 use Rattle.std.specs.Option.{option_map, option_map_or}
 use Rattle.std.proofs.lemmas.Bool.{lt-ltb, ltb-true}
 use Rattle.page_core.specs.declared.change.Change.{Change}
@@ -128,3 +129,46 @@ all_resumed log from pages valid = over pages
         ≡ map (λ page. resume page log.records from) pages
     over [] = refl
     over (page ∷ pages) = rw (by_own_lsn from page log.records 0 rise, over pages) refl
+
+-- ---- the changes
+
+-- they are above what their records are above
+placed_above : (rs : List Record) (low k : ℕ) (d : Placed) → Rises low rs → k < length (placed_in rs)
+    → low < (get_or (placed_in rs) k d).lsn
+placed_above [] low k d rise lt = absurd (omega (arith, lt))
+placed_above (r ∷ rs) low k d rise lt = by_change (change_of r) k lt (λ n. placed_above rs (own_lsn r) n d rise.1)
+  where
+    by_change : (o : Option PageChange) (k : ℕ)
+        → k < length (cons_option (option_map (placed_at (own_lsn r)) o) (placed_in rs))
+        → ((n : ℕ) → n < length (placed_in rs) → own_lsn r < (get_or (placed_in rs) n d).lsn)
+        → low < (get_or (cons_option (option_map (placed_at (own_lsn r)) o) (placed_in rs)) k d).lsn
+    by_change None k lt rest =
+        let above = rest k lt in
+        let first = rise.0 in
+        omega (arith, above, first)
+    by_change (Some c) zero lt rest = rise.0
+    by_change (Some c) (suc k) lt rest =
+        let above = rest k (omega (arith, lt)) in
+        let first = rise.0 in
+        omega (arith, above, first)
+
+placed_rise : (rs : List Record) (low : ℕ) → Rises low rs → IsNonDecreasingBy (λ (c : Placed). c.lsn) (placed_in rs)
+placed_rise [] low rise i j d le lt = absurd (omega (arith, lt))
+placed_rise (r ∷ rs) low rise i j d le lt = by_change (change_of r) i j le lt (placed_rise rs (own_lsn r) rise.1)
+  where
+    by_change : (o : Option PageChange) (i j : ℕ) → i ≤ j
+        → j < length (cons_option (option_map (placed_at (own_lsn r)) o) (placed_in rs))
+        → IsNonDecreasingBy (λ (c : Placed). c.lsn) (placed_in rs)
+        → (get_or (cons_option (option_map (placed_at (own_lsn r)) o) (placed_in rs)) i d).lsn
+        ≤ (get_or (cons_option (option_map (placed_at (own_lsn r)) o) (placed_in rs)) j d).lsn
+    by_change None i j le lt rest = rest i j d le lt
+    by_change (Some c) zero zero le lt rest = omega arith
+    by_change (Some c) zero (suc j) le lt rest =
+        let above = placed_above rs (own_lsn r) j d rise.1 (omega (arith, lt)) in
+        omega (arith, above)
+    by_change (Some c) (suc i) zero le lt rest = absurd (omega (arith, le))
+    by_change (Some c) (suc i) (suc j) le lt rest = rest i j d (omega (arith, le)) (omega (arith, lt))
+
+pub changes_rise : (log : Log) → IsLog log → IsNonDecreasingBy (λ (c : Placed). c.lsn) (placed_in log.records)
+changes_rise log valid =
+    placed_rise log.records 0 (rises_from log.records 0 (λ i d lt. (valid.records i d lt).lsn ∙ omega arith))

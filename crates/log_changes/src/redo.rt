@@ -1,6 +1,8 @@
 //! Redoes changes on all pages of a volume, in several threads.
 
 ghost use Rattle.std.specs.Prelude.{◌≡◌, ◌<◌, length, map};
+ghost use Rattle.std.specs.List.Sorted.{IsNonDecreasingBy};
+ghost use Rattle.page_core.specs.declared.page.Page.{Page};
 ghost use Rattle.log_records.specs.Coverage.{resume};
 ghost use Rattle.log_records.specs.Image.{AreNumbered};
 ghost use Rattle.log_records.specs.Log.{IsLog, Log};
@@ -19,9 +21,9 @@ const PIECES: usize = 4;
 
 /// Redoes the changes of a log from a redo point on, over the pages of its volume: on each page the
 /// changes at or above that point that are above the page's LSN, in their order. Where there are
-/// many, the pages are split into pieces, and for each piece a thread goes over all changes; a few
-/// changes are redone by the calling thread. It allocates nothing, and it never refuses: a piece
-/// for which no thread can be started is redone by another thread.
+/// many, the pages are split into pieces, and for each piece a thread goes over these changes; a
+/// few changes are redone by the calling thread. It allocates nothing, and it never refuses: a
+/// piece for which no thread can be started is redone by another thread.
 pub fn redo_changes(
     rt: &(impl Threads + Sync),
     pages: &mut [Page],
@@ -32,8 +34,9 @@ pub fn redo_changes(
     ensures { (log : Log) → IsLog log → changes.now ≡ placed_in log.records
         → pages.new ≡ map (λ page. resume page log.records from) pages.old }
 {
-    if changes.len() < MANY_CHANGES || pages.is_empty() {
-        redo_piece(pages, 0, changes, from);
+    let left = changes_from(changes, from);
+    if left.len() < MANY_CHANGES || pages.is_empty() {
+        redo_piece(pages, 0, left, from);
         return;
     }
     let size = pages.len().div_ceil(PIECES);
@@ -43,9 +46,19 @@ pub fn redo_changes(
         size,
         &|first: usize, piece: &mut [Page]|
             requires { AreNumberedFrom first piece.old }
-            ensures { piece.new ≡ map (redone_each changes.entry.now from) piece.old }
-        { redo_piece(piece, first, changes, from) },
+            ensures { piece.new ≡ map (redone_each left.entry.now from) piece.old }
+        { redo_piece(piece, first, left, from) },
     );
+}
+
+/// The changes from a redo point on, where the LSNs of all rise. Those before it are not redone, so
+/// no thread needs to go over them.
+fn changes_from(changes: &[PlacedChange], from: Lsn) -> &[PlacedChange]
+    ensures { IsNonDecreasingBy (λ c. c.lsn) changes.now → (page : Page)
+        → redone_each result.now from page ≡ redone_each changes.now from page }
+{
+    let first = changes.partition_point(|change| change.lsn() < from);
+    &changes[first..]
 }
 
 /// Redoes changes, in their order, on the pages of a piece, of which the first has this number.

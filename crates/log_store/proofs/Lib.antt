@@ -1,7 +1,9 @@
 pub mod Devices
 pub mod Faults
+pub mod Histories
 pub mod Inputs
 pub mod Masters
+pub mod Numbered
 pub mod OneFault
 pub mod Scans
 pub mod Stores

@@ -3,6 +3,7 @@ pub mod Fault
 pub mod FaultyDevice
 pub mod Master
 pub mod MemDevice
+pub mod PageHistory
 pub mod Scan
 pub mod Stores
 pub mod WrittenLog

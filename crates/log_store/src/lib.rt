@@ -9,6 +9,8 @@ mod log;
 mod log_image;
 mod master;
 mod mem_device;
+mod page_history;
+mod page_index;
 mod read;
 mod scan;
 mod sink;

@@ -3,6 +3,8 @@
 ghost use Rattle.std.specs.Prelude.{ℕ, ◌≡◌, ◌<◌, ◌≤◌, [], ◌∷◌, length, max, Some};
 ghost use Rattle.std.specs.Prelude.{IfOk, IfErr, IfSome, OnOk, OnErr};
 ghost use Rattle.log_records.specs.declared.record.Record.{Record};
+ghost use Rattle.log_records.specs.Coverage.{IsPast};
+ghost use Rattle.log_records.specs.Image.{image};
 ghost use Rattle.log_store.specs.Device.{KeepsFirst};
 ghost use Rattle.log_records.specs.Log.{IsLog, StandsAt, header_bytes, lsn_of};
 ghost use Rattle.log_records.specs.PageCount.{GivesMore};
@@ -14,9 +16,10 @@ ghost use Rattle.log_store.specs.WrittenLog.{end_up_to};
 
 use crate::device::{DeviceFault, LogDevice};
 use crate::log_image::LogImage;
+use crate::page_index::PageIndex;
 use crate::stored_log::StoredLog;
 use log_records::{MAX_RECORDS, Record};
-use page_core::Lsn;
+use page_core::{Lsn, Page};
 use std::alloc::{AllocError, Global};
 use std::marker::Model;
 
@@ -27,17 +30,21 @@ use std::marker::Model;
 pub struct Log<D: LogDevice> {
     /// All that is stored is synced.
     stored: StoredLog<D>,
+    /// The records by the pages that they change, as far as a page was rolled forward.
+    index: PageIndex,
 }
 
 impl<D: LogDevice> Model for Log<D> {
     ghost use Rattle.std.specs.Prelude.{◌≤◌};
+    ghost use Rattle.log_store.specs.PageHistory.{AreHistories};
     ghost use Rattle.log_store.specs.WrittenLog.{WrittenLog};
 
     ghost Value = { WrittenLog D };
 
     ghost view = { λ it. it.stored };
 
-    ghost invariant = { λ it. it.stored.forced_end ≤ D.lasting it.stored.device };
+    ghost invariant = { λ it. (it.stored.forced_end ≤ D.lasting it.stored.device)
+        × AreHistories it.stored.log.records it.index };
 }
 
 impl<D: LogDevice> Log<D> {
@@ -63,6 +70,7 @@ impl<D: LogDevice> Log<D> {
     {
         Ok(Log {
             stored: StoredLog::new(alloc, pages, device)?,
+            index: PageIndex::new(alloc),
         })
     }
 
@@ -77,9 +85,9 @@ impl<D: LogDevice> Log<D> {
         ensures forced_end { result.forced_end ≡ lsn_of (length image.records) }
         ensures device { result.device ≡ device }
     {
-        Log {
-            stored: StoredLog::resume(image, device),
-        }
+        let stored = StoredLog::resume(image, device);
+        let index = PageIndex::new(stored.allocator());
+        Log { stored, index }
     }
 
     /// Makes room for one record more. An `Err` comes where it is refused. The log stays as it is.
@@ -179,6 +187,22 @@ impl<D: LogDevice> Log<D> {
         done
     }
 
+    /// Rolls a page forward: makes of an older image of it, as an image copy has it, the page as
+    /// the whole log makes it (ARIES, section 8). It redoes the page's changes above its LSN, or,
+    /// where the page was rolled forward before, goes on from there. The device is not called.
+    ///
+    /// All calls together look at each record once, and redo each change once for each page that
+    /// they begin with. The log keeps 4 bytes a change for this, and each page that was rolled
+    /// forward. An `Err` comes where memory for these is refused.
+    pub fn roll_forward(&mut self, page: &mut Page) -> Result<(), AllocError>
+        requires past { IsPast self.old.log.records page.old.number page.old }
+        ensures image { OnOk result
+            (page.new ≡ image self.old.log.records page.old.number) }
+        ensures same { self.new ≡ self.old }
+    {
+        self.index.roll_forward(self.stored.records(), page)
+    }
+
     /// The record that stands at an LSN. None stands at 0, within a record, or at the log's end or
     /// past it.
     pub fn get(&self, lsn: Lsn) -> Option<Record>
@@ -244,7 +268,7 @@ impl<D: LogDevice> Log<D> {
         ensures kept { IsWritten D.bytes self }
         ensures lasts { self.forced_end ≤ D.lasting self.device }
     {
-        let Log { stored } = self;
+        let Log { stored, index: _ } = self;
         stored.into_parts()
     }
 }

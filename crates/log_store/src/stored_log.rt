@@ -238,6 +238,11 @@ impl<D: LogDevice> StoredLog<D> {
         Lsn(offset_of(self.stored))
     }
 
+    /// What the records take memory of.
+    pub fn allocator(&self) -> Global {
+        *self.records.allocator()
+    }
+
     /// The records, the oldest first. The record at index i has LSN 64 * (i + 1).
     pub fn records(&self) -> &[Record]
         ensures records { result.now ≡ self.now.log.records }

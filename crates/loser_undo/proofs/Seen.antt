@@ -2,13 +2,14 @@
 use Rattle.std.proofs.Common.{◌≡◌, ◌∙◌, ℕ, ◌+◌, ◌<◌, ◌≤◌, List, [], ◌∷◌, length, ap, arith, get_or, inl, inr}
 use Rattle.std.proofs.Common.{refl, slice_get, subst, sym}
 use Rattle.std.specs.Prelude.{Option, Some, None, IsSome, IsSomeAnd, MatchOption}
-use Rattle.std.specs.Option.{option_and_then}
+use Rattle.std.specs.Option.{option_and_then, option_map}
 use Rattle.std.proofs.lemmas.Bool.{cases_lt}
 use Rattle.std.proofs.lemmas.Option.{same_Some, slice_get-get_or, slice_get_within}
 use Rattle.log_history.specs.declared.pending_change.PendingChange.{PendingChange}
 use Rattle.log_history.specs.Table.{TxnEntry}
 use Rattle.log_history.specs.Transactions.{last_of}
 use Rattle.log_history.proofs.Tracked.{match_none, match_some}
+use Rattle.loser_undo.specs.LastChanges.{last_change_at}
 use Rattle.loser_undo.specs.UndoRecords.{AreBusyBefore, IsLastLost, IsNext}
 
 -- the last pending change of the one at this place has this LSN
@@ -42,13 +43,33 @@ just : (o : Option PendingChange) (p : PendingChange) (high : ℕ) → o ≡ Som
 just None p high is le = absurd (cc)
 just (Some q) p high is le = subst (λ (x : PendingChange). x.lsn ≤ high) (sym (same_Some q p is)) le
 
+-- what stands behind the LSN of the last pending change of the one at a place
+last_behind : (losers : List TxnEntry) (n lsn : ℕ) → Some lsn ≡ last_change_at losers n → HasLast losers lsn n
+last_behind losers n lsn found = by (slice_get losers n) refl found
+  where
+    of : (e : TxnEntry) → slice_get losers n ≡ Some e → (o : Option PendingChange) → last_of e.pending ≡ o
+        → Some lsn ≡ option_map (λ (p : PendingChange). p.lsn) o → HasLast losers lsn n
+    of e there None last some = absurd (cc)
+    of e there (Some p) last some =
+        record { entry = e; change = p; there = there; last = last; at = sym (same_Some lsn p.lsn some) }
+
+    by : (o : Option TxnEntry) → slice_get losers n ≡ o
+        → Some lsn ≡ option_map (λ (p : PendingChange). p.lsn) (option_and_then (λ e. last_of e.pending) o)
+        → HasLast losers lsn n
+    by None is some = absurd (cc)
+    by (Some e) is some = of e is (last_of e.pending) refl some
+
 module _ (losers : List TxnEntry) (n : ℕ) (best : Option ℕ) (greatest : ℕ) (seen : Seen losers n best greatest) where
   -- the first that has nothing pending
-  pub idle_here : n < length losers → None ≡ option_and_then (λ e. last_of e.pending) (slice_get losers n)
-      → IsNext losers n
+  pub idle_here : n < length losers → None ≡ last_change_at losers n → IsNext losers n
   idle_here within found = by (slice_get losers n) refl found
     where
-      by : (o : Option TxnEntry) → slice_get losers n ≡ o → None ≡ option_and_then (λ e. last_of e.pending) o
+      idle : (o : Option PendingChange) → None ≡ option_map (λ (p : PendingChange). p.lsn) o → o ≡ None
+      idle None none = refl
+      idle (Some p) none = absurd (cc)
+
+      by : (o : Option TxnEntry) → slice_get losers n ≡ o
+          → None ≡ option_map (λ (p : PendingChange). p.lsn) (option_and_then (λ e. last_of e.pending) o)
           → IsNext losers n
       by None is none = absurd (missing losers n within is)
         where
@@ -60,37 +81,35 @@ module _ (losers : List TxnEntry) (n : ℕ) (best : Option ℕ) (greatest : ℕ)
       by (Some e) is none = record {
         entry = e;
         there = is;
-        turn = match_none (last_of e.pending) (AreBusyBefore losers n) (IsLastLost losers) (sym none)
+        turn = match_none (last_of e.pending) (AreBusyBefore losers n) (IsLastLost losers)
+            (idle (last_of e.pending) none)
             (λ i x lt at. is_some_from (last_of x.pending) (λ q. q.lsn ≤ greatest) (seen.most i x lt at));
       }
 
-  more : (p : PendingChange) (high : ℕ) → Some p ≡ option_and_then (λ e. last_of e.pending) (slice_get losers n)
-      → p.lsn ≤ high → greatest ≤ high → (i : ℕ) (e : TxnEntry) → i < n + 1 → slice_get losers i ≡ Some e
-      → IsSomeAnd (last_of e.pending) (λ q. q.lsn ≤ high)
-  more p high found le most i e lt at = elim (cases_lt i n) [
+  more : (lsn high : ℕ) → HasLast losers lsn n → lsn ≤ high → greatest ≤ high → (i : ℕ) (e : TxnEntry) → i < n + 1
+      → slice_get losers i ≡ Some e → IsSomeAnd (last_of e.pending) (λ q. q.lsn ≤ high)
+  more lsn high it le most i e lt at = elim (cases_lt i n) [
     | inl below ↦ at_most (last_of e.pending) greatest high most (seen.most i e below at)
     | inr above ↦
         let here : i ≡ n = omega (arith, lt, above) in
-        just (last_of e.pending) p high
-        (sym (found ∙ ap (option_and_then (λ (x : TxnEntry). last_of x.pending)) (ap (slice_get losers) (sym here) ∙ at))) le
+        let same : e ≡ it.entry = same_Some e it.entry (sym at ∙ ap (slice_get losers) here ∙ it.there) in
+        just (last_of e.pending) it.change high
+        (ap (λ (x : TxnEntry). last_of x.pending) same ∙ it.last) (omega (arith, it.at, le))
   ]
 
   -- one more, which has the last change so far
-  pub last_here : (p : PendingChange) → Some p ≡ option_and_then (λ e. last_of e.pending) (slice_get losers n)
-      → greatest ≤ p.lsn → Seen losers (n + 1) (Some n) p.lsn
-  last_here p found most =
-      record { most = more p p.lsn found (omega arith) most; at = by (slice_get losers n) refl found }
-    where
-      by : (o : Option TxnEntry) → slice_get losers n ≡ o → Some p ≡ option_and_then (λ e. last_of e.pending) o
-          → HasLast losers p.lsn n
-      by None is none = absurd (cc)
-      by (Some e) is some = record { entry = e; change = p; there = is; last = sym some; at = refl }
+  pub last_here : (lsn : ℕ) → Some lsn ≡ last_change_at losers n → greatest ≤ lsn → Seen losers (n + 1) (Some n) lsn
+  last_here lsn found most =
+      let it = last_behind losers n lsn found in
+      record { most = more lsn lsn it (omega arith) most; at = it }
 
   -- one more, which has not
-  pub still_last : (p : PendingChange) → Some p ≡ option_and_then (λ e. last_of e.pending) (slice_get losers n)
-      → p.lsn < greatest → Seen losers (n + 1) best greatest
-  still_last p found less =
-      record { most = more p greatest found (omega (arith, less)) (omega arith); at = by best seen.at }
+  pub still_last : (lsn : ℕ) → Some lsn ≡ last_change_at losers n → lsn < greatest → Seen losers (n + 1) best greatest
+  still_last lsn found less =
+      record {
+        most = more lsn greatest (last_behind losers n lsn found) (omega (arith, less)) (omega arith);
+        at = by best seen.at;
+      }
     where
       by : (b : Option ℕ) → MatchOption b ((n ≡ 0) × (greatest ≡ 0)) (HasLast losers greatest)
           → MatchOption b ((n + 1 ≡ 0) × (greatest ≡ 0)) (HasLast losers greatest)

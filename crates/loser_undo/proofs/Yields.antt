@@ -12,7 +12,7 @@ use Rattle.std.proofs.lemmas.List.Elements.{All-get_or, All-head, filter_passes}
 use Rattle.std.proofs.lemmas.Map.Views.{any-filter_same}
 use Rattle.std.proofs.lemmas.Option.{get_or_from_slice_get, same_Some, slice_get-get_or, slice_get-map, slice_get_within}
 use Rattle.page_core.specs.Change.{undo_of}
-use Rattle.log_records.specs.declared.limits.TheConstants.{MAX_RECORDS}
+use Rattle.log_records.specs.declared.limits.TheConstants.{MAX_OPEN, MAX_RECORDS}
 use Rattle.log_records.specs.declared.record.Record.{Record}
 use Rattle.log_records.specs.declared.record.Record.TheVariants.{Comp, End}
 use Rattle.log_records.specs.Log.{IsLog, Log, StandsAt, lsn_of, with_next}
@@ -33,7 +33,7 @@ use Rattle.loser_undo.specs.UndoRecords.{AreBusyBefore, HasYielded, IsLastLost, 
 use Rattle.loser_undo.proofs.Appends.{claims_no_more}
 use Rattle.loser_undo.proofs.Falling.{lost_of_open}
 use Rattle.loser_undo.proofs.Goes.{goes_comp, goes_end, goes_nowhere, last, other_below, still}
-use Rattle.loser_undo.proofs.Held.{AreInOrder, changed, comp_of_losers, end_of_losers, removed}
+use Rattle.loser_undo.proofs.Held.{AreInOrder, changed, comp_of_losers, end_of_losers, few_losers, removed}
 use Rattle.loser_undo.proofs.Lost.{changes_of, pending_is_lost}
 use Rattle.loser_undo.proofs.Phases.{comp_follows, end_follows, rising_open}
 use Rattle.loser_undo.proofs.Rising.{IsRising, log_placed, lsns_rise}
@@ -184,6 +184,10 @@ module _ (log : Log) (behind : List Record) (undo : UndoView) (has : HasYielded 
 
   abbrev lost_of : TxnEntry → PendingChange → LostChange
   lost_of e p = record { txn = e.txn; change = p }
+
+  -- they are no more than may be open at once
+  pub few_open : length undo.losers ≤ MAX_OPEN
+  few_open = subst (λ (es : List TxnEntry). length es ≤ MAX_OPEN) (sym has.losers.made) (few_losers rs linked)
 
   -- there is room for a record of each open transaction
   pub has_room : (place : ℕ) (e : TxnEntry) → slice_get undo.losers place ≡ Some e → undo.count < MAX_RECORDS

@@ -1,4 +1,5 @@
 pub mod Fault
+pub mod LastChanges
 pub mod Losers
 pub mod Recovery
 pub mod Tail

@@ -1,18 +1,19 @@
 //! The records of undo, one after another.
 
-ghost use Rattle.std.specs.Prelude.{ℕ, ◌≡◌, ◌+◌, ◌<◌, [], List, length, MatchOption};
+ghost use Rattle.std.specs.Prelude.{ℕ, ◌≡◌, ◌+◌, ◌<◌, ◌≤◌, [], List, length, MatchOption};
 ghost use Rattle.std.specs.Prelude.{slice_index_or, slice_set};
 ghost use Rattle.std.specs.List.{remove};
 ghost use Rattle.page_core.specs.Change.{undo_of};
-ghost use Rattle.log_records.specs.declared.limits.TheConstants.{MAX_RECORDS};
+ghost use Rattle.log_records.specs.declared.limits.TheConstants.{MAX_OPEN, MAX_RECORDS};
 ghost use Rattle.log_records.specs.declared.record.Record.{Record};
 ghost use Rattle.log_records.specs.declared.record.Record.TheVariants.{Comp, End};
 ghost use Rattle.log_records.specs.Log.{Log, lsn_of};
 ghost use Rattle.log_history.specs.Table.{TxnEntry, compensated};
+ghost use Rattle.loser_undo.specs.LastChanges.{AreLastChanges, last_change_at};
 ghost use Rattle.loser_undo.specs.UndoRecords.{HasYielded, IsNext, YieldsNext};
 
 use log_history::{Losers, PendingChange, TxnState};
-use log_records::Record;
+use log_records::{MAX_OPEN, Record};
 use page_core::{LSN_STEP, Lsn, undo_of};
 use std::marker::Model;
 
@@ -23,16 +24,41 @@ use std::marker::Model;
 #[derive(Drop)]
 pub struct UndoRecords {
     losers: Losers,
+    /// The LSN of the last pending change of each, by its place: these numbers stand side by side,
+    /// so a step looks at no transaction but the one whose turn it is.
+    last_changes: [Option<Lsn>; MAX_OPEN],
     /// How many records the log would have by now.
     count: usize,
 }
 
 impl Model for UndoRecords {
+    ghost use Rattle.loser_undo.specs.LastChanges.{AreLastChanges};
     ghost use Rattle.loser_undo.specs.UndoRecords.{UndoView};
 
     ghost Value = { UndoView };
 
     ghost view = { λ it. record { losers = it.losers; count = it.count } };
+
+    ghost invariant = { λ it. AreLastChanges it.losers it.last_changes };
+}
+
+/// The LSN of the last pending change of the one at this place; None where it has none or nobody is
+/// there.
+fn last_change_at(losers: &Losers, place: usize) -> Option<Lsn>
+    ensures { result ≡ last_change_at losers.now place }
+{
+    losers.last_pending_at(place).map(|change| change.lsn)
+}
+
+/// The same of each place.
+fn last_changes_of(losers: &Losers) -> [Option<Lsn>; MAX_OPEN]
+    ensures { AreLastChanges losers.now result }
+{
+    let mut last_changes = [None; MAX_OPEN];
+    for place in 0..MAX_OPEN {
+        last_changes[place] = last_change_at(losers, place);
+    }
+    last_changes
 }
 
 impl UndoRecords {
@@ -40,11 +66,15 @@ impl UndoRecords {
     pub fn new(losers: Losers, count: usize) -> UndoRecords
         ensures { result ≡ record { losers = losers; count = count } }
     {
-        UndoRecords { losers, count }
+        UndoRecords {
+            last_changes: last_changes_of(&losers),
+            losers,
+            count,
+        }
     }
 
-    /// The next record; None where no transaction is open any more. It looks at each open
-    /// transaction once, and takes no memory.
+    /// The next record; None where no transaction is open any more. It looks at one number of each
+    /// open transaction, and takes no memory.
     pub fn next_record(&mut self) -> Option<Record>
         requires { (log : Log) × ((behind : List Record) × HasYielded log behind self.old) }
         ensures { (log : Log) (behind : List Record) → HasYielded log behind self.old
@@ -60,16 +90,17 @@ impl UndoRecords {
 
     /// The place of the transaction of which the next record is.
     fn next_place(&self) -> Option<usize>
+        requires { length self.now.losers ≤ MAX_OPEN }
         ensures { MatchOption result (self.now.losers ≡ []) (IsNext self.now.losers) }
     {
         let mut best = None;
         let mut greatest = Lsn(0);
         for place in 0..self.losers.count() {
-            let Some(change) = self.losers.last_pending_at(place) else {
+            let Some(lsn) = self.last_changes[place] else {
                 return Some(place);
             };
-            if change.lsn >= greatest {
-                greatest = change.lsn;
+            if lsn >= greatest {
+                greatest = lsn;
                 best = Some(place);
             }
         }
@@ -99,6 +130,7 @@ impl UndoRecords {
     {
         let lsn = self.next_lsn();
         self.losers.end(place);
+        self.last_changes = last_changes_of(&self.losers);
         Record::End {
             lsn,
             txn: state.txn,
@@ -109,6 +141,7 @@ impl UndoRecords {
     /// The compensation of the last pending change of the transaction at this place.
     fn compensation_for(&mut self, place: usize, state: &TxnState, change: &PendingChange) -> Record
         requires place { place < length self.old.losers }
+        requires few { length self.old.losers ≤ MAX_OPEN }
         requires room { self.old.count < MAX_RECORDS }
         ensures made { result ≡ Comp (lsn_of self.old.count) state.now.txn state.now.last
             change.now.prev change.now.page change.now.slot (undo_of change.now.change) }
@@ -120,6 +153,7 @@ impl UndoRecords {
     {
         let lsn = self.next_lsn();
         self.losers.compensate(place, lsn);
+        self.last_changes[place] = last_change_at(&self.losers, place);
         Record::Comp {
             lsn,
             txn: state.txn,

@@ -1,3 +1,4 @@
+pub mod CountingDevice
 pub mod Finish
 pub mod FinishText
 pub mod Left

@@ -1,6 +1,7 @@
 //! Plays a script: writes its replies as lines, and the pages of its last restore as lines.
 #![tactic(auto)]
 
+mod counting_device;
 mod finish;
 mod finish_fault;
 mod memory_play;

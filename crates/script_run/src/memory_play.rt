@@ -1,37 +1,48 @@
 //! Plays events in memory.
 
-ghost use Rattle.std.specs.Prelude.{◌≡◌, ◌≤◌, All, IfOk};
+ghost use Rattle.std.specs.Prelude.{◌≡◌, ◌≤◌, All, IfOk, List, Result};
+ghost use Rattle.std.specs.String.{string_bytes};
 ghost use Rattle.buffer_pool.specs.Pool.{IsFrameCount};
 ghost use Rattle.log_records.specs.Log.{IsPageCount};
+ghost use Rattle.aries_core.specs.declared.event.Answer.{Answer};
+ghost use Rattle.aries_core.specs.declared.refusal.Refusal.{Refusal};
 ghost use Rattle.aries_core.specs.EngineState.{EngineState, new_state};
 ghost use Rattle.aries_core.specs.Run.{Run};
 ghost use Rattle.script_run.specs.Left.{IsLeftBy};
+ghost use Rattle.script_run.specs.ReplyLines.{reply_lines};
 ghost use Rattle.script_run.specs.Run.{IsFaultless};
 
-use aries_core::{Event, PlayFault, Played, Reply, Setup, play};
+use crate::counting_device::CountingDevice;
+use crate::reply_lines::put_reply;
+use aries_core::{Engine, Event, PlayFault, Setup};
 use copy_coverage::Retired;
-use log_store::MemDevice;
 use page_store::MemStore;
 use std::alloc::{AllocError, Global};
 
-/// Plays events on a new engine, and answers the replies and what it leaves. The log has room for
-/// a record for each event, so neither the device nor the store ever fails.
+/// Plays events on a new engine, and answers the lines of its replies and what it leaves. The log
+/// has room for a record for each event, so neither the device nor the store ever fails.
 pub(crate) fn play_in_memory(
     alloc: Global,
     setup: Setup,
     events: &[Event],
-) -> Result<(Vec<Reply>, Retired), AllocError>
+) -> Result<(String, Retired), AllocError>
     requires pages { IsPageCount setup.pages }
     requires frames { IsFrameCount setup.frames }
-    ensures run { IfOk result (λ it. (e : EngineState)
-        × Run (new_state setup.pages setup.frames) events.now it.0.items e × IsLeftBy e it.1) }
-    ensures faultless { IfOk result (λ it. All IsFaultless it.0.items) }
+    ensures { IfOk result (λ it. (replies : List (Result Answer Refusal))
+        × ((string_bytes it.0 ≡ reply_lines replies) × All IsFaultless replies
+        × ((e : EngineState) × Run (new_state setup.pages setup.frames) events.now replies e
+        × IsLeftBy e it.1))) }
 {
     let store = MemStore::new(alloc, setup.pages)?;
-    let device = MemDevice::new(alloc, events.len())?;
-    match play(alloc, setup, store, device, events) {
-        Ok(Played { replies, engine }) => Ok((replies, engine.retire())),
-        Err((PlayFault::OutOfMemory, _)) => Err(AllocError),
+    let device = CountingDevice::new(events.len())?;
+    let mut engine = match Engine::new(alloc, setup, store, device) {
+        Ok(engine) => engine,
+        Err((PlayFault::OutOfMemory, _)) => return Err(AllocError),
         Err((PlayFault::LogFault, _)) => unreachable!(),
+    };
+    let mut text = String::new(alloc);
+    for event in events {
+        put_reply(&mut text, engine.apply(*event))?;
     }
+    Ok((text, engine.retire()))
 }

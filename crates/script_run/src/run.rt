@@ -4,13 +4,11 @@ ghost use Rattle.std.specs.Prelude.{◌≡◌, ◌<◌, ◌≤◌, length, take,
 ghost use Rattle.std.specs.Io.KnownBytes.{Appends, Keeps};
 ghost use Rattle.buffer_pool.specs.Pool.{IsFrameCount};
 ghost use Rattle.log_records.specs.Log.{IsPageCount};
-ghost use Rattle.script_run.specs.ReplyLines.{reply_lines};
 ghost use Rattle.script_run.specs.Run.{FailedUnread, LeavesPart, RunLeaves, Runs};
 
 use crate::memory_play::play_in_memory;
-use crate::reply_lines::reply_lines;
 use crate::run_fault::RunFault;
-use aries_core::{Reply, Setup};
+use aries_core::Setup;
 use copy_coverage::Retired;
 use event_script::{LastRestore, read_script};
 use page_core::write_out;
@@ -54,10 +52,10 @@ pub fn run_script<R: Read, W: Write>(
         Ok(script) => script,
         Err(fault) => return Err(RunFault::Script(fault)),
     };
-    let Ok((replies, retired)) = play_in_memory(alloc, setup, &script.events) else {
+    let Ok((lines, retired)) = play_in_memory(alloc, setup, &script.events) else {
         return Err(RunFault::OutOfMemory);
     };
-    if let Err(fault) = write_replies(alloc, &replies, writer) {
+    if let Err(fault) = write_lines(&lines, writer) {
         return Err(fault);
     }
     Ok(Ran {
@@ -66,17 +64,14 @@ pub fn run_script<R: Read, W: Write>(
     })
 }
 
-/// Writes the lines of replies.
-fn write_replies<W: Write>(alloc: Global, replies: &[Reply], writer: &mut W) -> Result<(), RunFault>
+/// Writes the lines of the replies.
+fn write_lines<W: Write>(lines: &str, writer: &mut W) -> Result<(), RunFault>
     ensures ok { OnOk result (Appends (W.contents writer.old) (W.contents writer.new)
-        (reply_lines replies.now)) }
-    ensures err { IfErr result (LeavesPart (reply_lines replies.now)
+        lines.now) }
+    ensures err { IfErr result (LeavesPart lines.now
         (W.contents writer.old) (W.contents writer.new)) }
 {
-    let Ok(text) = reply_lines(alloc, replies) else {
-        return Err(RunFault::OutOfMemory);
-    };
-    match write_out(writer, text.as_bytes()) {
+    match write_out(writer, lines.as_bytes()) {
         Ok(()) => Ok(()),
         Err(done) => Err(RunFault::WriteFault(done)),
     }

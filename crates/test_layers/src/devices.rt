@@ -1,13 +1,15 @@
 //! What no clause says: that each call succeeds, and what `read_log` reads from a device.
 
-ghost use Rattle.std.specs.Prelude.{◌≡◌, [], None};
+ghost use Rattle.std.specs.Prelude.{◌≡◌, [], List, None};
+ghost use Rattle.log_records.specs.declared.record.Record.{Record};
+ghost use Rattle.log_records.specs.Coverage.{IsPast};
 ghost use Rattle.log_records.specs.Log.{StandsAt};
 ghost use Rattle.log_records.specs.PageCount.{given_count};
 
 use crate::asserts::{same, same_at};
 use log_records::{Record, encode_header};
 use log_store::{DeviceFault, FaultyDevice, Log, LogDevice, MemDevice, read_log};
-use page_core::{Change, Lsn, PageNo, SlotNo, TxnNo};
+use page_core::{Change, Lsn, Page, PageNo, SlotNo, TxnNo};
 use std::alloc::{AllocError, Global};
 use std::process::Abort;
 use std::test::Fail;
@@ -106,6 +108,32 @@ fn forced_records_are_read(rt: HostRuntime) -> Result<(), Fail> {
     same(&rt, &kept.records(), &records().as_slice());
     same(&rt, &has_records(alloc, device.bytes(), Lsn(256), 3), &true);
     drop((kept, device));
+    Ok(())
+}
+
+/// The only page, as it is before all records.
+fn first_image() -> Page
+    ensures past { (rs : List Record) → IsPast rs 0 result }
+    ensures number { result.number ≡ 0 }
+{
+    Page::formatted(PageNo(0))
+}
+
+/// Asserts that the page is rolled forward to the set of slot 3.
+fn assert_rolled<D: LogDevice>(rt: &impl Abort, log: &mut Log<D>) -> Result<(), AllocError> {
+    let mut page = first_image();
+    log.roll_forward(&mut page)?;
+    same(rt, &(page.lsn, page.slots[3]), &(Lsn(128), 7));
+    Ok(())
+}
+
+/// The second call finds the page as the first one made it.
+#[test]
+fn a_page_is_rolled_forward(rt: HostRuntime) -> Result<(), Fail> {
+    let alloc = rt.alloc();
+    let mut log = log_on(alloc, MemDevice::new(alloc, 3)?)?;
+    assert_rolled(&rt, &mut log)?;
+    assert_rolled(&rt, &mut log)?;
     Ok(())
 }
 

@@ -107,10 +107,11 @@ rows-preserved g c =
     step.length ∙ ap length c.deref_mut.ensures.value in
     let same : places.items ≡ c.next_each.new.row =
     with_items_is c.rows.row c.next_each.new.row (omega (arith, c.rows.row.ok.0, wide)) in
-    let row : c.deref.result.now ≡ places.items = c.deref.ensures.value in
+    let row : c.deref-in-rows.result.now ≡ places.items = c.deref-in-rows.ensures.value in
+    let same_points = c.deref.ensures.value ∙ c.rows.invariant.points ∙ sym step.points in
     let more = listed_more inputs (map left c.rows.archives) now c.args.log.now c.rows.chain c.next_each.new.self
     (length c.rows.row.items) c.rows.number c.rows.found c.note_row.new.found c.records-in-rows.result.now
-    c.deref.result.now listed
+    c.deref-in-rows.result.now listed
     (subst (λ (r : List (Option Page)). IsReadingEach (counts_of c.args.log.now) inputs now c.next_each.new.self (listed.given ++ map place_list r ∷ []))
     (sym (row ∙ same)) going)
     c.records-in-rows.ensures.records step.ids step.points step.end (ap length (row ∙ same) ∙ wide)
@@ -119,5 +120,6 @@ rows-preserved g c =
       listed = subst (λ n. HasListed inputs now c.args.log.now c.next_each.new.self n (c.rows.number + 1)
           c.note_row.new.found) (ap length row) more;
       rows = omega (arith, ap length same, wide, c.rows.invariant.rows, c.next_each.auto.readers);
+      points = c.rows.invariant.points ∙ sym step.points;
       many = omega (arith, c.rows.invariant.many, c.next_each.auto.readers);
     }

@@ -10,6 +10,7 @@ use Rattle.log_records.specs.Log.{counts_of}
 use Rattle.copy_vault.specs.ChainEach.{IsReadingEach, place_list}
 use Rattle.copy_vault.specs.ChainReading.{IsStopped}
 use Rattle.page_redo.specs.PageRecords.{numbers_on}
+use Rattle.copy_audit.specs.Rows.{AreFound}
 use Rattle.copy_audit.proofs.Looks.{HasLooked, all_looked, looked_more, next_below}
 use Rattle.copy_audit.proofs.chain_audit.first_in.Goals as goal
 
@@ -60,8 +61,8 @@ of-requires g c =
       c.page_count.ensures.count,
     )
 
-pub found_with-found-requires-clause-numbers : goal.found_with-found-requires-clause-numbers
-found_with-found-requires-clause-numbers g c =
+pub found_with-requires-clause-numbers : goal.found_with-requires-clause-numbers
+found_with-requires-clause-numbers g c =
     let left = g.A.Read.remaining in
     let inputs = map left c.args.archives.now in
     let looked = c.rows.invariant.looked in
@@ -114,17 +115,22 @@ rows-preserved g c =
     step.length ∙ ap length c.deref_mut.ensures.value in
     let same : places.items ≡ c.next_each.new.row =
     with_items_is c.rows.row c.next_each.new.row (omega (arith, c.rows.row.ok.0, wide)) in
-    let row : c.deref.result.now ≡ places.items = c.deref.ensures.value in
+    let row : c.deref-in-rows.result.now ≡ places.items = c.deref-in-rows.ensures.value in
+    let same_points = c.deref.ensures.value ∙ c.rows.invariant.points ∙ sym step.points in
     let more = looked_more inputs (map left c.rows.archives) now c.args.log.now c.rows.chain c.next_each.new.self
-    (length c.rows.row.items) c.rows.number c.rows.found c.found_with-found.result c.records-in-rows.result.now
-    c.deref.result.now looked
+    (length c.rows.row.items) c.rows.number c.rows.found c.in_ok-found.found c.records-in-rows.result.now
+    c.deref-in-rows.result.now looked
     (subst (λ (r : List (Option Page)). IsReadingEach (counts_of c.args.log.now) inputs now c.next_each.new.self (looked.given ++ map place_list r ∷ []))
     (sym (row ∙ same)) going)
     c.records-in-rows.ensures.records step.ids step.points step.end (ap length (row ∙ same) ∙ wide)
-    c.found_with-found.ensures in
+    (subst (λ (ps : List ℕ). (given : List (List (List Page))) → length given ≡ c.rows.number
+    → AreFound c.records-in-rows.result.now ps (length c.deref-in-rows.result.now) given c.rows.found
+    → AreFound c.records-in-rows.result.now ps (length c.deref-in-rows.result.now)
+    (given ++ map place_list c.deref-in-rows.result.now ∷ []) c.in_ok-found.found) same_points c.in_ok-found.ensures) in
     record {
       looked = subst (λ n. HasLooked inputs now c.args.log.now c.next_each.new.self n (c.rows.number + 1)
-          c.found_with-found.result) (ap length row) more;
+          c.in_ok-found.found) (ap length row) more;
       rows = omega (arith, ap length same, wide, c.rows.invariant.rows, c.next_each.auto.readers);
+      points = c.rows.invariant.points ∙ sym step.points;
       many = omega (arith, c.rows.invariant.many, c.next_each.auto.readers);
     }

@@ -1,5 +1,6 @@
 use Rattle.std.proofs.Common.{◌≡◌, ◌-◌, length, map}
 use Rattle.log_records.specs.Log.{page_count}
+use Rattle.copy_vault.specs.ChainEach.{points_of}
 use Rattle.copy_audit.proofs.Looks.{HasLooked}
 use Rattle.copy_audit.proofs.chain_audit.first_in.Given as goal
 
@@ -8,6 +9,7 @@ invariant-rows g l = record {
   looked : HasLooked (map g.A.Read.remaining l.fn.archives) (map g.A.Read.remaining l.archives) l.fn.log l.chain
       (length l.row.items) l.number l.found;
   rows : length l.row.items ≡ length l.archives;
+  points : l.points.items ≡ points_of l.chain;
   many : length l.archives ≡ length l.fn.archives;
 }
 

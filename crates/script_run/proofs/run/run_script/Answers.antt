@@ -1,8 +1,4 @@
-use Rattle.std.proofs.Common.{List, subst}
-use Rattle.std.specs.Prelude.{Result}
-use Rattle.aries_core.specs.declared.event.Answer.{Answer}
-use Rattle.aries_core.specs.declared.refusal.Refusal.{Refusal}
-use Rattle.script_run.specs.ReplyLines.{reply_lines}
+use Rattle.std.proofs.Common.{ℕ, ◌∙◌, List, subst}
 use Rattle.script_run.specs.Run.{LeavesPart}
 use Rattle.aries_core.specs.declared.event.Event.{Event}
 use Rattle.aries_core.specs.EngineState.{new_state}
@@ -10,29 +6,29 @@ use Rattle.aries_core.specs.Run.{Run}
 use Rattle.script_run.proofs.Runs.{not_written, script_of, was_read}
 use Rattle.script_run.proofs.run.run_script.Goals as goal
 
-pub returns-in-Err-write_replies-clause-err : goal.returns-in-Err-write_replies-clause-err
-returns-in-Err-write_replies-clause-err g c =
+pub returns-in-Err-write_lines-clause-err : goal.returns-in-Err-write_lines-clause-err
+returns-in-Err-write_lines-clause-err g c =
     let script = c.in-Ok.script in
     let read = c.in-Ok.ensures in
-    let played = c.in-Ok-play_in_memory.ensures.run in
+    let played = c.in-Ok-play_in_memory.ensures in
+    let replies = played.0 in
     let input = g.R.Read.remaining c.args.reader.now in
     not_written c.args.setup.pages c.args.setup.frames input (g.W.Write.contents c.args.writer.now)
-    (g.W.Write.contents c.write_replies.new.writer) c.in-Ok-play_in_memory.replies.items
-    c.in-Ok-play_in_memory.retired script.restore c.in-Err-write_replies.fault
+    (g.W.Write.contents c.write_lines.new.writer) replies
+    c.in-Ok-play_in_memory.retired script.restore c.in-Err-write_lines.fault
     (record {
       events = script.events.items;
-      state = played.0;
-      faultless = c.in-Ok-play_in_memory.ensures.faultless;
+      state = played.1.2.0;
+      faultless = played.1.1;
       script = script_of input script.events.items script.restore read.found read.text;
       run = subst (λ (events : List Event). Run (new_state c.args.setup.pages c.args.setup.frames) events
-          c.in-Ok-play_in_memory.replies.items played.0)
-          c.deref.ensures.value played.1;
-      left_by = played.2;
+          replies played.1.2.0) c.deref.ensures.value played.1.2.1;
+      left_by = played.1.2.2;
     })
-    (subst (λ (replies : List (Result Answer Refusal)). LeavesPart (reply_lines replies)
-    (g.W.Write.contents c.args.writer.now) (g.W.Write.contents c.write_replies.new.writer)
-    c.in-Err-write_replies.fault) c.deref-2.ensures.value c.in-Err-write_replies.ensures.err)
+    (subst (λ (bytes : List ℕ). LeavesPart bytes
+    (g.W.Write.contents c.args.writer.now) (g.W.Write.contents c.write_lines.new.writer)
+    c.in-Err-write_lines.fault) (c.deref-2.ensures ∙ played.1.0) c.in-Err-write_lines.ensures.err)
 
-pub returns-in-Err-write_replies-clause-unread : goal.returns-in-Err-write_replies-clause-unread
-returns-in-Err-write_replies-clause-unread g c =
-    was_read _ _ _ _ _ c.in-Err-write_replies.fault c.in-Err-write_replies.ensures.err
+pub returns-in-Err-write_lines-clause-unread : goal.returns-in-Err-write_lines-clause-unread
+returns-in-Err-write_lines-clause-unread g c =
+    was_read _ _ _ _ _ c.in-Err-write_lines.fault c.in-Err-write_lines.ensures.err

@@ -1,8 +1,13 @@
-use Rattle.std.proofs.Common.{◌≡◌, ◌∙◌, ◌<◌, length, ap, subst, sym, arith}
+use Rattle.std.proofs.Common.{◌≡◌, ◌∙◌, ◌<◌, ◌≤◌, ℕ, List, length, max, take, ap, subst, sym, arith}
 use Rattle.std.specs.Prelude.{IfErr, None, Result, Ok, Err, OnErr, OnOk, is_err, false, true}
 use Rattle.page_core.specs.declared.numbers.Lsn.{Lsn}
 use Rattle.page_core.specs.declared.page.Page.{Page}
+use Rattle.log_records.specs.declared.record.Record.{Record}
+use Rattle.log_records.specs.Coverage.{IsPast}
 use Rattle.log_records.specs.Image.{image}
+use Rattle.log_records.proofs.Images.{number-image}
+use Rattle.log_store.specs.Stores.{ForceFails, Forced}
+use Rattle.log_store.specs.WrittenLog.{WrittenLog, end_up_to}
 use Rattle.aries_core.specs.declared.event.Answer.TheVariants as answer
 use Rattle.aries_core.specs.declared.event.Event.TheVariants as event
 use Rattle.aries_core.specs.declared.refusal.Refusal.{Refusal}
@@ -13,7 +18,8 @@ use Rattle.aries_core.specs.Asked.{Asks, FailsAsking, asked}
 use Rattle.page_store.specs.declared.store.StoreFault.{StoreFault}
 use Rattle.aries_core.specs.OpenCkpt.{media_view}
 use Rattle.aries_core.proofs.Refusals.{repair_passes}
-use Rattle.aries_core.proofs.Repairs.{done, half_done}
+use Rattle.aries_core.proofs.Repairs.{done, half_done, not_forced}
+use Rattle.aries_core.specs.declared.refusal.Refusal.TheVariants.{LogFault}
 use Rattle.aries_core.proofs.WriteCalls.{Called, force_kept}
 use Rattle.aries_core.proofs.engine.Engine.repair.Goals.{in-Ok, in-Err}
 use Rattle.aries_core.proofs.engine.Engine.repair.Given as given
@@ -23,6 +29,19 @@ use Rattle.aries_core.proofs.engine.Engine.repair.Goals as goal
 said : {T E : Type 0} (r : Result T E) (P : Type 0) → is_err r ≡ false → OnOk r P → P
 said (Ok x) P ok h = h
 said (Err e) P ok h = cc
+
+-- and what one says that is
+failing : {T E : Type 0} (r : Result T E) (P : Type 0) → is_err r ≡ true → OnErr r P → P
+failing (Ok x) P err h = cc
+failing (Err e) P err h = h
+
+-- the page that is rolled forward is the page as it is now
+numbered : (rs : List Record) (p : ℕ) (page : Page) → IsPast rs p page → page.number ≡ p
+numbered rs p page past = ap (λ (q : Page). q.number) past.made ∙ number-image (take past.count rs) p
+
+rolled_is : {E : Type 0} (rs : List Record) (p : ℕ) (page q : Page) (r : Result (Unit {0}) E) → is_err r ≡ false
+    → IsPast rs p page → OnOk r (q ≡ image rs page.number) → q ≡ image rs p
+rolled_is rs p page q r ok past rolled = said r _ ok rolled ∙ ap (image rs) (numbered rs p page past)
 
 call : (g : given.Over) (c : goal.Joined-repair g)
     → Called g.S.PageStore.stored c.self.inside.log c.force_to.new.self c.self.inside.txns c.self.inside.pool
@@ -35,7 +54,7 @@ call g c =
     let media = media_view it.master it.session it.vault.copies it.returns.made in
     let copy = c.args.copy in
     let p = c.args.page in
-    let q = c.in_ok-rebuilt.rebuilt in
+    let q = c.roll_forward.new.page in
     let s = (engine_view stored it.log it.pool media).state in
     let none : refusal s (event.Repair copy p) ≡ None =
     subst (λ (v : EngineView g.row.S.Denot g.row.D.Denot). refusal v.state (event.Repair copy p) ≡ None)
@@ -43,32 +62,86 @@ call g c =
     let count = c.self.invariant.pool_of_log.pages in
     let below = (repair_passes s copy p none).within in
     let within : p < length it.pool.states = omega arith in
-    let now : q ≡ image it.log.log.records p =
-    c.in_ok-rebuilt.ensures.rebuilt
-    ∙ sym (ap (λ (v : EngineView g.row.S.Denot g.row.D.Denot). page_now v.state p) c.self.view_is) in
-    let forced = said c.force_to.result _ (sym c.is_err.ensures.value ∙ c.if-is_err.false) c.force_to.ensures.forced in
+    let past = subst (λ (v : EngineView g.row.S.Denot g.row.D.Denot). IsPast v.state.log p c.in_ok-rebuilt.rebuilt)
+    (sym c.self.view_is) c.in_ok-rebuilt.ensures.past in
+    let now = rolled_is it.log.log.records p c.in_ok-rebuilt.rebuilt q c.roll_forward.result
+    (sym c.is_err.ensures.value ∙ c.if-is_err.false) past c.roll_forward.ensures.image in
+    let rolled : c.roll_forward.new.self ≡ it.log = c.roll_forward.ensures.same in
+    let same : c.force_to.new.self.log ≡ it.log.log =
+    c.force_to.ensures.same ∙ ap (λ (w : WrittenLog g.row.D.Denot). w.log) rolled in
+    let forced = subst (λ (w : WrittenLog g.row.D.Denot). c.force_to.new.self.forced_end
+    ≡ max w.forced_end (end_up_to w.log q.lsn)) rolled
+    (said c.force_to.result _ (sym c.is_err-2.ensures.value ∙ c.if-is_err-2.false) c.force_to.ensures.forced) in
     let of_log = c.repair.ensures.kept (log_of s) c.self.invariant.pool_of_log now in
     elim c.match-repair.branch [
       | in-Ok w ↦
           subst (λ (r : Result Lsn Refusal). Called stored it.log c.force_to.new.self it.txns it.pool c.repair.new.self
           media (event.Repair copy p) (reply_of (λ lsn. answer.Repaired lsn) r)) (sym w.result-is)
           (done stored it.log c.force_to.new.self it.txns it.pool c.repair.new.self media copy p q
-          c.self.invariant none within now c.force_to.ensures.same forced
+          c.self.invariant none within now same forced
           w.in-Ok.ensures.stored w.in-Ok.ensures.clean of_log)
       | in-Err w ↦
           subst (λ (r : Result Lsn Refusal). Called stored it.log c.force_to.new.self it.txns it.pool c.repair.new.self
           media (event.Repair copy p) (reply_of (λ lsn. answer.Repaired lsn) r)) (sym w.result-is)
           (half_done stored it.log c.force_to.new.self it.txns it.pool c.repair.new.self media copy p q
-          c.self.invariant none within now c.force_to.ensures.same forced
+          c.self.invariant none within now same forced
           w.in-Err.ensures.either w.in-Err.ensures.stays of_log)
     ]
 
-pub invariant_of-self : goal.invariant_of-self
-invariant_of-self g c =
+pub roll_forward-requires : goal.roll_forward-requires
+roll_forward-requires g c =
+    let rs = c.self.inside.log.log.records in
+    let page = c.in_ok-rebuilt.rebuilt in
+    let past = subst (λ (v : EngineView g.row.S.Denot g.row.D.Denot). IsPast v.state.log c.args.page page)
+    (sym c.self.view_is) c.in_ok-rebuilt.ensures.past in
+    record { past = subst (λ (n : ℕ). IsPast rs n page) (sym (numbered rs c.args.page page past)) past }
+
+pub repair-requires-clause-now : goal.repair-requires-clause-now
+repair-requires-clause-now g c =
     let it = c.self.inside in
+    let s = (engine_view g.S.PageStore.stored it.log it.pool
+    (media_view it.master it.session it.vault.copies it.returns.made)).state in
+    let past = subst (λ (v : EngineView g.row.S.Denot g.row.D.Denot). IsPast v.state.log c.args.page c.in_ok-rebuilt.rebuilt)
+    (sym c.self.view_is) c.in_ok-rebuilt.ensures.past in (
+      log_of s,
+      (
+        c.self.invariant.pool_of_log,
+        rolled_is it.log.log.records c.args.page c.in_ok-rebuilt.rebuilt c.roll_forward.new.page c.roll_forward.result
+            (sym c.is_err.ensures.value ∙ c.if-is_err.false) past c.roll_forward.ensures.image,
+      ),
+    )
+
+pub returns-then-is_err-2-clause-step : goal.returns-then-is_err-2-clause-step
+returns-then-is_err-2-clause-step g c =
+    let it = c.self.inside in
+    let p = c.args.page in
+    let q = c.roll_forward.new.page in
+    let media = media_view it.master it.session it.vault.copies it.returns.made in
+    let none = subst (λ (v : EngineView g.row.S.Denot g.row.D.Denot). refusal v.state (event.Repair c.args.copy p) ≡ None)
+    (sym c.self.view_is) c.in_ok-find_repairable.ensures.may in
+    let past = subst (λ (v : EngineView g.row.S.Denot g.row.D.Denot). IsPast v.state.log p c.in_ok-rebuilt.rebuilt)
+    (sym c.self.view_is) c.in_ok-rebuilt.ensures.past in
+    let now = rolled_is it.log.log.records p c.in_ok-rebuilt.rebuilt q c.roll_forward.result
+    (sym c.is_err.ensures.value ∙ c.if-is_err.false) past c.roll_forward.ensures.image in
+    let rolled : c.roll_forward.new.self ≡ it.log = c.roll_forward.ensures.same in
+    subst (λ (v : EngineView g.row.S.Denot g.row.D.Denot). Step v.state (event.Repair c.args.copy p) (Err LogFault)
+    (engine_view g.S.PageStore.stored c.force_to.new.self it.pool media).state) c.self.view_is
+    (not_forced g.S.PageStore.stored it.log c.force_to.new.self it.pool media c.args.copy p q none now
+    (c.force_to.ensures.same ∙ ap (λ (w : WrittenLog g.row.D.Denot). w.log) rolled)
+    (subst (λ (w : WrittenLog g.row.D.Denot). w.forced_end ≤ c.force_to.new.self.forced_end) rolled c.force_to.ensures.rising)
+    c.force_to.ensures.at_record
+    (subst (λ (w : WrittenLog g.row.D.Denot). c.force_to.new.self.forced_end < end_up_to w.log q.lsn) rolled
+    (failing c.force_to.result _ (sym c.is_err-2.ensures.value ∙ c.if-is_err-2.true) c.force_to.ensures.short)))
+
+pub invariant_of-self-then-is_err-2 : goal.invariant_of-self-then-is_err-2
+invariant_of-self-then-is_err-2 g c =
+    let it = c.self.inside in
+    let rolled : c.roll_forward.new.self ≡ it.log = c.roll_forward.ensures.same in
     force_kept g.S.PageStore.stored it.log c.force_to.new.self it.txns it.pool
     (media_view it.master it.session it.vault.copies it.returns.made)
-    c.self.invariant c.force_to.ensures.same c.force_to.ensures.rising c.force_to.ensures.at_record
+    c.self.invariant (c.force_to.ensures.same ∙ ap (λ (w : WrittenLog g.row.D.Denot). w.log) rolled)
+    (subst (λ (w : WrittenLog g.row.D.Denot). w.forced_end ≤ c.force_to.new.self.forced_end) rolled c.force_to.ensures.rising)
+    c.force_to.ensures.at_record
 
 pub invariant_of-self-2 : goal.invariant_of-self-2
 invariant_of-self-2 g c = (call g c).kept
@@ -92,11 +165,13 @@ returns-clause-asked g c =
     let p = c.args.page in
     let now = engine_view stored it.log it.pool media in
     let copy = c.args.copy in
-    let q = c.in_ok-rebuilt.rebuilt in
+    let q = c.roll_forward.new.page in
     let new = engine_view stored c.force_to.new.self c.repair.new.self media in
+    let past = subst (λ (v : EngineView g.row.S.Denot g.row.D.Denot). IsPast v.state.log p c.in_ok-rebuilt.rebuilt)
+    (sym c.self.view_is) c.in_ok-rebuilt.ensures.past in
     let same : q ≡ page_now now.state p =
-    c.in_ok-rebuilt.ensures.rebuilt
-    ∙ sym (ap (λ (v : EngineView g.row.S.Denot g.row.D.Denot). page_now v.state p) c.self.view_is) in
+    rolled_is it.log.log.records p c.in_ok-rebuilt.rebuilt q c.roll_forward.result
+    (sym c.is_err.ensures.value ∙ c.if-is_err.false) past c.roll_forward.ensures.image in
     subst (λ (v : EngineView g.row.S.Denot g.row.D.Denot). OnOk c.match-repair.result
     (Asks gave wrote grew (asked v.state (event.Repair copy p)) v new)) c.self.view_is
     (elim c.match-repair.branch [
@@ -120,11 +195,13 @@ returns-clause-failed g c =
     let p = c.args.page in
     let now = engine_view stored it.log it.pool media in
     let copy = c.args.copy in
-    let q = c.in_ok-rebuilt.rebuilt in
+    let q = c.roll_forward.new.page in
     let new = engine_view stored c.force_to.new.self c.repair.new.self media in
+    let past = subst (λ (v : EngineView g.row.S.Denot g.row.D.Denot). IsPast v.state.log p c.in_ok-rebuilt.rebuilt)
+    (sym c.self.view_is) c.in_ok-rebuilt.ensures.past in
     let same : q ≡ page_now now.state p =
-    c.in_ok-rebuilt.ensures.rebuilt
-    ∙ sym (ap (λ (v : EngineView g.row.S.Denot g.row.D.Denot). page_now v.state p) c.self.view_is) in
+    rolled_is it.log.log.records p c.in_ok-rebuilt.rebuilt q c.roll_forward.result
+    (sym c.is_err.ensures.value ∙ c.if-is_err.false) past c.roll_forward.ensures.image in
     subst (λ (v : EngineView g.row.S.Denot g.row.D.Denot). IfErr c.match-repair.result (λ why. IsByStore why
     → FailsAsking gave wrote grew (asked v.state (event.Repair copy p)) v new)) c.self.view_is
     (elim c.match-repair.branch [
@@ -138,15 +215,13 @@ returns-clause-failed g c =
           same (_, w.in-Err.ensures.wrote))
     ])
 
--- and what one says that is
-failing : {T E : Type 0} (r : Result T E) (P : Type 0) → is_err r ≡ true → OnErr r P → P
-failing (Ok x) P err h = cc
-failing (Err e) P err h = h
-
-pub returns-then-is_err-clause-last_call : goal.returns-then-is_err-clause-last_call
-returns-then-is_err-clause-last_call g c =
-    let fails = failing c.force_to.result _ (sym c.is_err.ensures.value ∙ c.if-is_err.true) c.force_to.ensures.last_call in
-    rw (← c.self.view_is) (λ (u : Unit {0}). fails)
+pub returns-then-is_err-2-clause-last_call : goal.returns-then-is_err-2-clause-last_call
+returns-then-is_err-2-clause-last_call g c =
+    let fails = failing c.force_to.result _ (sym c.is_err-2.ensures.value ∙ c.if-is_err-2.true)
+    c.force_to.ensures.last_call in
+    let of_log = subst (λ (w : WrittenLog g.row.D.Denot).
+    ForceFails g.D.LogDevice.called g.D.LogDevice.synced w c.force_to.new.self) c.roll_forward.ensures.same fails in
+    rw (← c.self.view_is) (λ (u : Unit {0}). of_log)
 
 if_err : {T E : Type 0} (r : Result T E) (Q : E → Type 0) (P : Type 0) → P → IfErr r (λ why. Q why → P)
 if_err (Ok x) Q P h = tt
@@ -154,7 +229,9 @@ if_err (Err e) Q P h = λ q. h
 
 pub returns-clause-forced_first : goal.returns-clause-forced_first
 returns-clause-forced_first g c =
-    let forced = said c.force_to.result _ (sym c.is_err.ensures.value ∙ c.if-is_err.false) c.force_to.ensures.called in
+    let forced = subst (λ (w : WrittenLog g.row.D.Denot). Forced g.D.LogDevice.called g.D.LogDevice.synced w c.force_to.new.self)
+    c.roll_forward.ensures.same
+    (said c.force_to.result _ (sym c.is_err-2.ensures.value ∙ c.if-is_err-2.false) c.force_to.ensures.called) in
     if_err c.match-repair.result IsByStore _
     (subst (λ (v : EngineView g.row.S.Denot g.row.D.Denot). Forces g.D.LogDevice.called g.D.LogDevice.synced v
     (engine_view g.S.PageStore.stored c.force_to.new.self c.repair.new.self

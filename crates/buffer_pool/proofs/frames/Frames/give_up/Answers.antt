@@ -1,8 +1,9 @@
-use Rattle.std.proofs.Common.{◌∙◌, ap, sym}
-use Rattle.std.specs.Prelude.{is_some}
-use Rattle.buffer_pool.specs.Frames.{FramesView}
+use Rattle.std.proofs.Common.{◌∙◌, ap, set, subst, sym}
+use Rattle.std.specs.Prelude.{IsSome, None, is_some, slice_index_or}
+use Rattle.buffer_pool.specs.Frames.{FramesView, given_up}
 use Rattle.buffer_pool.specs.Pool.{is_clean_in}
-use Rattle.buffer_pool.proofs.Holes.{found_page, given_up_none}
+use Rattle.buffer_pool.specs.Slots.{pages_in}
+use Rattle.buffer_pool.proofs.Holes.{found_page, given_up_found, given_up_none}
 use Rattle.buffer_pool.proofs.frames.Frames.give_up.Goals as goal
 
 pub returns-in_err-place-clause-pages : goal.returns-in_err-place-clause-pages
@@ -10,12 +11,18 @@ returns-in_err-place-clause-pages c =
     sym (given_up_none (is_clean_in c.args.states.now) c.args.self.now.pages
     (sym c.first_clean.ensures.found ∙ ap is_some c.in_err-place.was))
 
-pub leave_hole-frame-requires-clause-taken : goal.leave_hole-frame-requires-clause-taken
-leave_hole-frame-requires-clause-taken c = λ d.
-    found_page (is_clean_in c.args.states.now) c.args.self.now.slots c.in_ok-place.place d
-    (sym c.in_ok-place.ensures.place)
+pub take-frame-requires-clause-taken : goal.take-frame-requires-clause-taken
+take-frame-requires-clause-taken c =
+    subst (λ (v : FramesView). IsSome (slice_index_or v.slots c.in_ok-place.place None)) (sym c.self.view_is)
+    (found_page (is_clean_in c.args.states.now) c.args.self.now.slots c.in_ok-place.place None
+    (sym c.in_ok-place.ensures.place))
 
 pub returns-clause-pages : goal.returns-clause-pages
 returns-clause-pages c =
-    ap (λ (v : FramesView). v.pages) c.self.view_is
-    ∙ c.leave_hole-frame.ensures.pages (is_clean_in c.args.states.now) (sym c.in_ok-place.ensures.place)
+    let clean = is_clean_in c.args.states.now in
+    let slots = c.args.self.now.slots in
+    ap pages_in c.take-frame.ensures.list
+    ∙ ap (λ (v : FramesView). pages_in (set v.slots c.in_ok-place.place None)) c.self.view_is
+    ∙ sym (given_up_found clean slots c.in_ok-place.place (sym c.in_ok-place.ensures.place))
+    ∙ ap (λ (v : FramesView). given_up clean (pages_in v.slots)) (sym c.self.view_is)
+    ∙ ap (λ (v : FramesView). given_up clean v.pages) c.self.view_is

@@ -7,7 +7,6 @@ abbrev pub invariant-loop-place : goal.invariant-loop-place
 invariant-loop-place l = record {
   slots : l.self.slots ≡ l.initial.self.slots;
   pages : l.self.pages ≡ l.fn.self.pages;
-  holes : l.self.holes ≡ 0;
   room : l.fn.self.room ≤ l.self.room;
   marked : AreMarkedTo (is_clean_in l.states) l.self.slots l.self.marks l.place;
 }

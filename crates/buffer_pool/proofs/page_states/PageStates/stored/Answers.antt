@@ -1,4 +1,4 @@
-use Rattle.std.proofs.Common.{◌≡◌, ◌∙◌, List, ap, sym, slice_set}
+use Rattle.std.proofs.Common.{◌∙◌, List, ap, sym, slice_set}
 use Rattle.buffer_pool.specs.Pool.{PageState, state_in, write_ended}
 use Rattle.buffer_pool.proofs.Resumed.{filled_next}
 use Rattle.buffer_pool.proofs.page_states.PageStates.stored.Goals as goal

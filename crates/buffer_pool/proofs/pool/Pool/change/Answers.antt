@@ -1,4 +1,4 @@
-use Rattle.std.proofs.Common.{◌≡◌, ◌∙◌, ◌-◌, ◌<◌, ℕ, List, [], ◌∷◌, length, map, set, ap, refl, subst, sym}
+use Rattle.std.proofs.Common.{◌≡◌, ◌∙◌, ◌<◌, ℕ, List, [], ◌∷◌, length, map, set, ap, refl, subst, sym}
 use Rattle.std.specs.Prelude.{IfSome, Option, Some}
 use Rattle.page_core.specs.declared.page.Page.{Page}
 use Rattle.log_records.specs.declared.page_change.PageChange.{PageChange}
@@ -23,7 +23,7 @@ returns-in-Some-clause-kept g c = λ log of valid.
     let old : PoolView g.row.S.Denot = record {
       store = it.store;
       frames = it.limit;
-      room = it.frames.room - 1;
+      room = it.frames.room;
       resident = it.frames.pages;
       states = it.states;
     } in
@@ -39,30 +39,30 @@ returns-in-Some-clause-kept g c = λ log of valid.
     let new : PoolView g.row.S.Denot = record {
       store = it.store;
       frames = it.limit;
-      room = it.frames.room - 1;
+      room = it.frames.room;
       resident = map (λ page. with_record page next) it.frames.pages;
       states = set it.states n (changed (state_in it.states n) (own_lsn next));
     } in
     let made = pool_changed stored_in log next old c.in-Some.change c.requires.same_count named here valid
     (subst (IsPoolOf stored_in log) (sym view) of) in
     pool_noted stored_in log' (record new {
-      room = c.redo.new.self.room - 1;
+      room = c.redo.new.self.room;
       resident = c.redo.new.self.pages;
       states = c.change-in-Some.new.self;
     })
-    (c.note_change.new.self.room - 1) c.note_change.new.self.pages c.note_change.ensures.pages
+    (c.note_change.new.self.room) c.note_change.new.self.pages c.note_change.ensures.pages
     (subst (λ (ss : List PageState). IsPoolOf stored_in log' (record new {
-      room = c.redo.new.self.room - 1;
+      room = c.redo.new.self.room;
       resident = c.redo.new.self.pages;
       states = ss;
     }))
     (sym states)
     (subst (λ (pages : List Page). IsPoolOf stored_in log' (record new {
-      room = c.redo.new.self.room - 1;
+      room = c.redo.new.self.room;
       resident = pages;
     }))
     (sym c.redo.ensures.pages)
-    (subst (λ (room : ℕ). IsPoolOf stored_in log' (record new { room = room - 1 })) (sym c.redo.ensures.room) made)))
+    (subst (λ (room : ℕ). IsPoolOf stored_in log' (record new { room = room })) (sym c.redo.ensures.room) made)))
 
 pub returns-in_default-clause-kept : goal.returns-in_default-clause-kept
 returns-in_default-clause-kept g c = λ log of valid.

@@ -1,4 +1,4 @@
-use Rattle.std.proofs.Common.{◌≡◌, ◌∙◌, ◌-◌, ◌≤◌, ◌<◌, ◌++◌, ◌∷◌, [], List, false, true, length, get_or, ap, subst}
+use Rattle.std.proofs.Common.{◌≡◌, ◌∙◌, ◌≤◌, ◌<◌, ◌++◌, ◌∷◌, [], List, false, true, length, get_or, ap, subst}
 use Rattle.std.proofs.Common.{sym, arith}
 use Rattle.std.proofs.lemmas.Bool.{not-false}
 use Rattle.std.specs.List.{list_any}
@@ -19,7 +19,7 @@ returns-then-len-self-clause-kept g c = λ log of.
     let pool : PoolView g.row.S.Denot = record {
       store = it.store;
       frames = it.limit;
-      room = it.frames.room - 1;
+      room = it.frames.room;
       resident = it.frames.pages;
       states = it.states;
     } in
@@ -34,11 +34,11 @@ returns-then-len-self-clause-kept g c = λ log of.
     let few : length it.frames.pages < it.limit = omega (arith, c.len.ensures, c.if-len-self.true) in
     subst (λ (pages : List Page). IsPoolOf stored_in log (record pool {
       store = c.read.new.self;
-      room = c.put.new.self.room - 1;
+      room = c.put.new.self.room;
       resident = pages;
     }))
     (sym c.put.ensures.pages)
-    (pool_more stored_in log pool c.read.new.self (c.put.new.self.room - 1) n it.frames.pages page is c.in_ok-page.ensures.same
+    (pool_more stored_in log pool c.read.new.self (c.put.new.self.room) n it.frames.pages page is c.in_ok-page.ensures.same
     c.self.invariant.whole.enough there (λ d. read_is (stored_in it.store) n page d found) c.in_ok-page.ensures.numbered
     absent few is.within is.resident is.held)
 
@@ -114,7 +114,7 @@ returns-else-len-self-clause-kept g c = λ log of.
     let pool : PoolView g.row.S.Denot = record {
       store = it.store;
       frames = it.limit;
-      room = it.frames.room - 1;
+      room = it.frames.room;
       resident = it.frames.pages;
       states = it.states;
     } in
@@ -135,11 +135,11 @@ returns-else-len-self-clause-kept g c = λ log of.
     let less = length_less clean it.frames.pages some in
     subst (λ (pages : List Page). IsPoolOf stored_in log (record pool {
       store = c.read.new.self;
-      room = c.replace.new.self.room - 1;
+      room = c.replace.new.self.room;
       resident = pages;
     }))
     (sym c.replace.ensures.pages)
-    (pool_more stored_in log pool c.read.new.self (c.replace.new.self.room - 1) n (given_up clean it.frames.pages) page is
+    (pool_more stored_in log pool c.read.new.self (c.replace.new.self.room) n (given_up clean it.frames.pages) page is
     c.in_ok-page.ensures.same c.self.invariant.whole.enough there
     (λ d. read_is (stored_in it.store) n page d c.in_ok-page.ensures.found) c.in_ok-page.ensures.numbered absent
     (omega (arith, less, is.few))

@@ -1,4 +1,4 @@
-use Rattle.std.proofs.Common.{◌≡◌, ◌-◌, ◌≤◌, ◌∷◌, [], List, length, ap, subst, sym, arith}
+use Rattle.std.proofs.Common.{◌≡◌, ◌≤◌, ◌∷◌, [], List, length, ap, subst, sym, arith}
 use Rattle.log_records.specs.Log.{with_next}
 use Rattle.log_records.specs.declared.record.Record.TheVariants.{Extend}
 use Rattle.buffer_pool.specs.Pool.{IsPoolOf, PageState, PoolView}
@@ -20,7 +20,7 @@ returns-in_err-grow-clause-kept g c = if_err c.from_residual.result _ (λ log of
     record {
       store = it.store;
       frames = it.limit;
-      room = it.frames.room - 1;
+      room = it.frames.room;
       resident = it.frames.pages;
       states = it.states;
     } in
@@ -45,7 +45,7 @@ returns-clause-next g c = λ log lsn of valid.
     record {
       store = it.store;
       frames = it.limit;
-      room = it.frames.room - 1;
+      room = it.frames.room;
       resident = it.frames.pages;
       states = it.states;
     } in

@@ -1,4 +1,4 @@
-use Rattle.std.proofs.Common.{◌≡◌, ◌∙◌, ◌-◌, ℕ, List, [], length, replicate, ap, subst, sym, arith}
+use Rattle.std.proofs.Common.{◌≡◌, ◌∙◌, ℕ, List, [], length, replicate, ap, subst, sym, arith}
 use Rattle.std.proofs.lemmas.List.{length-replicate}
 use Rattle.std.proofs.lemmas.List.FromFn.{length-map-range_with_len}
 use Rattle.page_core.specs.Page.{formatted}
@@ -50,14 +50,14 @@ returns-clause-new g c = λ n holds.
     ap (λ (pages : List Page). record {
       store = c.args.store;
       frames = c.args.frames;
-      room = c.in_ok-held.held.room - 1;
+      room = c.in_ok-held.held.room;
       resident = pages;
       states = c.in_ok-states.states;
     }) c.in_ok-held.ensures.pages
     ∙ ap (λ (room : ℕ). record {
       store = c.args.store;
       frames = c.args.frames;
-      room = room - 1;
+      room = room;
       resident = [];
       states = c.in_ok-states.states;
     }) c.in_ok-held.ensures.room

@@ -1,4 +1,4 @@
-use Rattle.std.proofs.Common.{◌≡◌, ◌∙◌, ◌-◌, ◌<◌, List, length, set, ap, subst, sym, arith}
+use Rattle.std.proofs.Common.{◌≡◌, ◌∙◌, ◌<◌, List, length, set, ap, subst, sym, arith}
 use Rattle.std.specs.Prelude.{None}
 use Rattle.page_core.specs.declared.page.Page.{Page}
 use Rattle.log_records.proofs.Images.{number-image}
@@ -44,7 +44,7 @@ returns-in_err-write-clause-kept g c = λ log of now.
     record {
       store = it.store;
       frames = it.limit;
-      room = it.frames.room - 1;
+      room = it.frames.room;
       resident = it.frames.pages;
       states = it.states;
     } in
@@ -68,7 +68,7 @@ returns-clause-kept g c = λ log of now.
     record {
       store = it.store;
       frames = it.limit;
-      room = it.frames.room - 1;
+      room = it.frames.room;
       resident = it.frames.pages;
       states = it.states;
     } in
@@ -80,7 +80,7 @@ returns-clause-kept g c = λ log of now.
     ∙ is_idle (state_at c.args.self.now n).writing c.requires.idle in
     let pool = subst (IsPoolOf stored_in log) (sym view) of in
     let state = state_idle log n (state_in it.states n) q.lsn (pool.states n _ there) idle in
-    pool_noted stored_in log (record old { store = store; states = c.end_write.new.self }) (c.note.new.self.room - 1)
+    pool_noted stored_in log (record old { store = store; states = c.end_write.new.self }) (c.note.new.self.room)
     c.note.new.self.pages c.note.ensures.pages
     (subst (λ (states : List PageState). IsPoolOf stored_in log (record old { store = store; states = states }))
     (sym (c.end_write.ensures ∙ ap (λ (s : PageState). set it.states n s) state))

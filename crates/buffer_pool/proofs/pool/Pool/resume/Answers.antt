@@ -1,4 +1,4 @@
-use Rattle.std.proofs.Common.{◌≡◌, ◌∙◌, ◌-◌, ℕ, List, [], ap, subst, sym}
+use Rattle.std.proofs.Common.{◌∙◌, ℕ, List, [], ap, subst, sym}
 use Rattle.page_core.specs.declared.page.Page.{Page}
 use Rattle.buffer_pool.specs.Pool.{IsPoolOf, PageState}
 use Rattle.buffer_pool.proofs.Resumed.{pool_resumed}
@@ -9,14 +9,14 @@ returns-clause-clean g c =
     ap (λ (pages : List Page). record {
       store = c.args.store;
       frames = c.args.frames;
-      room = c.in_ok-held.held.room - 1;
+      room = c.in_ok-held.held.room;
       resident = pages;
       states = c.in_ok-states.states;
     }) c.in_ok-held.ensures.pages
     ∙ ap (λ (room : ℕ). record {
       store = c.args.store;
       frames = c.args.frames;
-      room = room - 1;
+      room = room;
       resident = [];
       states = c.in_ok-states.states;
     }) c.in_ok-held.ensures.room

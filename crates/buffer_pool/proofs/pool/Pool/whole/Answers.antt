@@ -1,4 +1,4 @@
-use Rattle.std.proofs.Common.{◌≡◌, ◌∙◌, ◌-◌, ℕ, List, [], length, replicate, ap, subst, sym, arith}
+use Rattle.std.proofs.Common.{◌≡◌, ◌∙◌, ℕ, List, [], length, replicate, ap, subst, sym, arith}
 use Rattle.std.proofs.lemmas.List.{length-replicate}
 use Rattle.std.proofs.lemmas.List.FromFn.{length-map-range_with_len}
 use Rattle.page_core.specs.Page.{formatted}
@@ -58,7 +58,7 @@ count_is stored_in store count n long holds = long ∙ ap length holds ∙ lengt
 pub returns-clause-new : goal.returns-clause-new
 returns-clause-new g c = λ n holds.
     let same = count_is g.S.PageStore.stored c.args.store c.pages-count.result n c.pages-count.ensures.count holds in
-    let room = c.in_ok-frames.frames.room - 1 in
+    let room = c.in_ok-frames.frames.room in
     ap (λ (count : ℕ). record {
       store = c.args.store;
       frames = count;
@@ -104,5 +104,5 @@ returns-clause-empty g c = λ n holds.
     let same = count_is stored_in store c.pages-count.result n count holds in
     let given = count_is stored_in store c.pages-count.result c.requires.0 count c.requires.1.1 in
     subst (IsPoolOf stored_in (record { pages = n; records = [] })) (sym (returns-clause-new g c n holds))
-    (roomy stored_in n (c.in_ok-frames.frames.room - 1) (whole_pool store n)
+    (roomy stored_in n (c.in_ok-frames.frames.room) (whole_pool store n)
     (pool_whole stored_in store n (subst IsPageCount (sym given ∙ same) c.requires.1.0) holds))

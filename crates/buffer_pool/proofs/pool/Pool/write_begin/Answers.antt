@@ -1,4 +1,4 @@
-use Rattle.std.proofs.Common.{◌-◌, ◌≡◌, ◌<◌, List, length, ap, subst, sym, arith}
+use Rattle.std.proofs.Common.{◌≡◌, ◌<◌, List, length, ap, subst, sym, arith}
 use Rattle.std.proofs.lemmas.List.Elements.{All-contains}
 use Rattle.log_records.specs.Image.{image}
 use Rattle.std.specs.Prelude.{IsSome}
@@ -15,7 +15,7 @@ returns-clause-kept g c = λ log of.
     record {
       store = it.store;
       frames = it.limit;
-      room = it.frames.room - 1;
+      room = it.frames.room;
       resident = it.frames.pages;
       states = it.states;
     } in

@@ -1,4 +1,4 @@
-use Rattle.std.proofs.Common.{◌≡◌, ◌∙◌, ◌-◌, ◌<◌, List, length, ap, subst, sym, arith}
+use Rattle.std.proofs.Common.{◌≡◌, ◌∙◌, ◌<◌, List, length, ap, subst, sym, arith}
 use Rattle.std.specs.Prelude.{Some}
 use Rattle.page_core.specs.declared.page.Page.{Page}
 use Rattle.buffer_pool.specs.Pool.{IsPoolOf, PageState, PoolView, is_clean_in, state_in}
@@ -17,7 +17,7 @@ returns-in_err-write-clause-kept g c = λ log of.
     record {
       store = it.store;
       frames = it.limit;
-      room = it.frames.room - 1;
+      room = it.frames.room;
       resident = it.frames.pages;
       states = it.states;
     } in
@@ -40,7 +40,7 @@ returns-clause-kept g c = λ log of.
     record {
       store = it.store;
       frames = it.limit;
-      room = it.frames.room - 1;
+      room = it.frames.room;
       resident = it.frames.pages;
       states = it.states;
     } in
@@ -49,7 +49,7 @@ returns-clause-kept g c = λ log of.
     omega (arith, c.requires.within, ap (λ (v : PoolView g.row.S.Denot). length v.states) view) in
     let here : (state_in it.states n).writing ≡ Some q =
     sym c.in-Some.ensures.image ∙ ap Some (sym c.page-page.ensures) in
-    pool_noted stored_in log (record old { store = store; states = c.end_write.new.self }) (c.note.new.self.room - 1)
+    pool_noted stored_in log (record old { store = store; states = c.end_write.new.self }) (c.note.new.self.room)
     c.note.new.self.pages c.note.ensures.pages
     (subst (λ (states : List PageState). IsPoolOf stored_in log (record old { store = store; states = states }))
     (sym c.end_write.ensures)

@@ -1,7 +1,8 @@
-use Rattle.std.proofs.Common.{◌≡◌, ◌<◌, ◌∙◌, length, rules}
+use Rattle.std.proofs.Common.{◌≡◌, ◌-◌, ◌<◌, ◌∙◌, length, rules, sym, subst, ap}
+use Rattle.std.specs.Prelude.{slice_set}
 use Rattle.std.specs.Vec.{vec_capacity}
 use Rattle.copy_vault.specs.Copy.{undecided, decision_at}
-use Rattle.copy_vault.specs.Slots.{decisions_by, values}
+use Rattle.copy_vault.specs.Slots.{IsMarked, decisions_by, values}
 use Rattle.copy_vault.proofs.Marks.{decisions_keep, marked_keep, some_left}
 use Rattle.copy_vault.proofs.slots.Slots.keep.Goals as goal
 
@@ -25,9 +26,13 @@ invariant_of-self c =
     let there : n < length (decisions_by pages marks) = rw (c.number.view_is, c.self.view_is) c.requires.there in
     let none : decision_at (decisions_by pages marks) n ≡ undecided =
     rw (c.number.view_is, c.self.view_is) c.requires.undecided in
-    marked_keep marks pages c.self.inside.left (vec_capacity c.self.inside.places) n c.self.invariant there none
+    let room = vec_capacity c.self.inside.places in
+    subst (λ m. IsMarked (slice_set marks n m) pages (c.self.inside.left - 1) room) (sym c.kept.ensures)
+    (marked_keep marks pages c.self.inside.left room n c.self.invariant there none)
 
 pub returns : goal.returns
 returns c =
-    decisions_keep (values c.self.inside.places.items) c.self.inside.marks.items c.number.inside.0
+    ap (λ m. decisions_by (values c.self.inside.places.items)
+    (slice_set c.self.inside.marks.items c.number.inside.0 m)) c.kept.ensures
+    ∙ decisions_keep (values c.self.inside.places.items) c.self.inside.marks.items c.number.inside.0
     ∙ rw (c.number.view_is, c.self.view_is)

@@ -1,4 +1,4 @@
-use Rattle.std.proofs.Common.{◌≡◌, ◌<◌, ◌^◌, ◌∙◌, List, [], replicate, sym, subst, ap, arith}
+use Rattle.std.proofs.Common.{◌≡◌, ◌+◌, ◌<◌, ◌^◌, ◌∙◌, List, [], replicate, sym, subst, ap, arith}
 use Rattle.std.specs.Vec.{vec_capacity}
 use Rattle.page_core.specs.declared.page.Page.{Page}
 use Rattle.copy_vault.specs.declared.slots.PlacedDecision.{PlacedDecision}
@@ -13,7 +13,7 @@ invariant_of-result c =
     let places = c.in_ok-places.places in
     let room = vec_capacity places in
     let end : c.loop.counter ≡ n = omega arith in
-    let few : n < 2 ^ 32 = omega arith in
+    let few : n + 2 < 2 ^ 32 = omega arith in
     let marks = c.loop.invariant ∙ ap (λ k. replicate k Undecided) end in
     let none = ap values c.in_ok-places.ensures.items in
     subst (λ (ms : List PlacedDecision). IsMarked ms (values places.items) n room) (sym marks)

@@ -16,7 +16,7 @@ index-requires-in-Taken c =
     let pages = values it.places.items in
     let n = c.number.inside.0 in
     let there : n < length (decisions_by pages marks) = rw (c.number.view_is, c.self.view_is) c.requires in
-    let at = mark_is pages marks n c.in-Taken.place c.index.result.now there c.index.ensures c.in-Taken.is in
+    let at = mark_is pages marks n c.in-Taken.place c.index.result.now there c.index.ensures (sym c.decision.ensures ∙ c.in-Taken.is) in
     let within = c.self.invariant.within n c.in-Taken.place at in
     omega (arith, within, length-map it.places.items (λ place. place.value), it.places.ok.0)
 
@@ -29,7 +29,7 @@ returns-in-Taken c =
     let k = c.in-Taken.place in
     let box = c.index-in-Taken.result.now in
     let there : n < length (decisions_by pages marks) = rw (c.number.view_is, c.self.view_is) c.requires in
-    let at = mark_is pages marks n k c.index.result.now there c.index.ensures c.in-Taken.is in
+    let at = mark_is pages marks n k c.index.result.now there c.index.ensures (sym c.decision.ensures ∙ c.in-Taken.is) in
     let is = c.deref.ensures ∙ ap (λ (b : Box Page Global). b.value) c.index-in-Taken.ensures
     ∙ sym (get_or-map (λ (b : Box Page Global). b.value) it.places.items k box) in
     page_read pages marks n k c.deref.result.now box.value (c.self.invariant.within n k at) at is

@@ -5,8 +5,11 @@ use Rattle.log_history.specs.Transactions.{last_of}
 use Rattle.log_history.specs.TxnState.{state_of}
 use Rattle.loser_undo.specs.UndoRecords.{UndoView, YieldsNext}
 use Rattle.std.proofs.lemmas.Option.{slice_get_within}
-use Rattle.loser_undo.proofs.Yields.{has_room, turn_is, yields_comp, yields_end, yields_none}
+use Rattle.loser_undo.proofs.Yields.{few_open, has_room, turn_is, yields_comp, yields_end, yields_none}
 use Rattle.loser_undo.proofs.undo_records.UndoRecords.next_record.Goals as goal
+
+pub next_place-requires : goal.next_place-requires
+next_place-requires c = few_open c.requires.0 c.requires.1.0 c.args.self.now c.requires.1.1
 
 pub returns-in_err-place : goal.returns-in_err-place
 returns-in_err-place c = λ log behind has.
@@ -17,6 +20,9 @@ pub compensation_for-requires-clause-place : goal.compensation_for-requires-clau
 compensation_for-requires-clause-place c =
     let next = c.in_ok-place.ensures in
     slice_get_within c.args.self.now.losers c.in_ok-place.place next.entry next.there
+
+pub compensation_for-requires-clause-few : goal.compensation_for-requires-clause-few
+compensation_for-requires-clause-few c = few_open c.requires.0 c.requires.1.0 c.args.self.now c.requires.1.1
 
 pub compensation_for-requires-clause-room : goal.compensation_for-requires-clause-room
 compensation_for-requires-clause-room c =

@@ -1,0 +1,131 @@
+"""Builds the key-value store of `examples/kv` outside of the repository, kills it, and runs it again in what it left.
+
+usage: python3 -m checks.kv PROGRAM [KILLS]
+
+The crates that the store stands on are copied into a root of their own, with what `rt` keeps of their proofs, so that
+the store alone is proved there. It is killed KILLS times, 10 where none is told. Each time:
+
+- Each key that it tells when it is run again has the number that was told last, or that of one more put a writer, of
+  which it was not told.
+- Key 0 has the count of all puts, with those of which it was not told. So no put is there by half.
+
+In the end it runs to its end and settles, and the program for files says that the copy there restores the log.
+"""
+
+import random
+import shutil
+import subprocess
+import sys
+import tempfile
+import time
+from pathlib import Path
+
+from checks.bank_files import Failure, program_of
+
+ROOT = Path(__file__).resolve().parent.parent
+EXAMPLE = ROOT / "examples" / "kv"
+KILLS, WRITERS, MOST_PUTS, LAST_PUTS = 10, 2, 100_000, 300
+SECONDS_OF_A_BUILD, MOST_SECONDS = 3600, 120
+
+
+def libraries():
+    """The lines of crates.txt for the crates that the store stands on."""
+    lines = [line for line in (ROOT / "crates.txt").read_text(encoding="utf-8").splitlines() if ":" in line]
+    by_name = {line.partition(":")[0].strip(): line for line in lines if not line.startswith("#")}
+    names = ["imgcopy_engine"]
+    for name in names:
+        names += [other for other in by_name[name].partition(":")[2].split() if other in by_name and other not in names]
+    return {name: by_name[name] for name in names}
+
+
+def build(place):
+    """The program, proved and built in a root of its own."""
+    root = place / "root"
+    sources = root / "crates" / "kv" / "src"
+    sources.mkdir(parents=True)
+    shutil.copy(EXAMPLE / "HANDLES", root)
+    for source in EXAMPLE.glob("*.rt.txt"):
+        shutil.copy(source, sources / source.stem)
+    for name in libraries():
+        shutil.copytree(ROOT / "crates" / name, root / "crates" / name, symlinks=True)
+    own = (EXAMPLE / "line.txt").read_text(encoding="utf-8")
+    (root / "crates.txt").write_text("\n".join([*libraries().values(), own]), encoding="utf-8")
+    folder = place / "first"
+    folder.mkdir()
+    done = subprocess.run(["rt", "run", "--", folder, "1"], cwd=root / "crates" / "kv", stdin=subprocess.DEVNULL,
+                          capture_output=True, text=True, timeout=SECONDS_OF_A_BUILD)
+    if done.returncode != 0 or not done.stdout.endswith("closed\n"):
+        raise Failure(f"rt run: status {done.returncode}, {done.stdout[-300:]!r}, {done.stderr[-600:]!r}")
+    return root / "crates" / "kv" / "out" / "kv"
+
+
+def numbers(lines, word):
+    """What lines of a kind tell: a number for each key, the last one."""
+    return {int(key): int(number) for key, number in (line.split()[1:] for line in lines if line.startswith(word))}
+
+
+class Store:
+    """A store's folder, and what its lives have told so far."""
+
+    def __init__(self, program, folder):
+        self.program, self.folder, self.told, self.count = program, folder, {}, 0
+
+    def live(self, puts, seconds=None):
+        """One life: it is killed so many seconds behind its opening, or comes to its end."""
+        child = subprocess.Popen([self.program, self.folder, str(puts)], stdout=subprocess.PIPE, stderr=subprocess.PIPE)
+        lines = []
+        try:
+            while not lines or lines[-1] != "opened":
+                line = child.stdout.readline().decode()
+                if not line:
+                    raise Failure(f"it did not open: {child.communicate()[1][-300:]!r}")
+                lines.append(line.rstrip("\n"))
+            if seconds is not None:
+                time.sleep(seconds)
+                child.kill()
+            rest, said = child.communicate(timeout=MOST_SECONDS)
+        finally:
+            child.kill()
+        if seconds is None and (child.returncode != 0 or not rest.endswith(b"closed\n")):
+            raise Failure(f"it ended with status {child.returncode}, {said[-300:]!r}")
+        # A line that was cut off is none.
+        whole = rest.decode().rpartition("\n")[0].splitlines()
+        self.compare(numbers(lines, "got "))
+        puts_told = [line for line in whole if line.startswith("put ")]
+        self.told.update(numbers(puts_told, "put "))
+        self.count += len(puts_told)
+        return len(puts_told)
+
+    def compare(self, found):
+        """Compares what is there with what was told. What is there is told from then on."""
+        untold = found.pop(0, 0) - self.count
+        others = [key for key in found.keys() | self.told.keys() if found.get(key) != self.told.get(key)]
+        if not 0 <= untold <= WRITERS or len(others) > untold:
+            raise Failure(f"{self.count} puts were told, {untold} more are counted, and these keys differ: {others}")
+        self.told, self.count = found, self.count + untold
+
+
+def main(arguments):
+    try:
+        if not 1 <= len(arguments) <= 2 or not all(number.isdigit() for number in arguments[1:]):
+            raise Failure("usage: python3 -m checks.kv PROGRAM [KILLS]")
+        imgcopy, kills = program_of(arguments[0]), int((arguments[1:] or [KILLS])[0])
+        draw = random.Random(1)
+        with tempfile.TemporaryDirectory() as name:
+            program, folder = build(Path(name)), Path(name) / "store"
+            folder.mkdir()
+            store = Store(program, folder)
+            puts = sum(store.live(MOST_PUTS, draw.random()) for _ in range(kills))
+            puts += store.live(LAST_PUTS)
+            store.live(0)
+            audit = subprocess.run([imgcopy, "audit", folder / "log", folder / "copy"], capture_output=True, text=True,
+                                   timeout=MOST_SECONDS)
+            if audit.stdout != "sound\n":
+                raise Failure(f"the copy: {audit.stdout!r}, {audit.stderr!r}")
+    except (Failure, OSError, subprocess.SubprocessError) as failure:
+        sys.exit(f"kv.py: {failure}")
+    print(f"ok kv: after each of {kills} kills each of {puts} puts is there that was told, and none is there by half")
+
+
+if __name__ == "__main__":
+    main(sys.argv[1:])

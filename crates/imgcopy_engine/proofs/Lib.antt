@@ -1,0 +1,2 @@
+mod LogFound
+mod PagesFound

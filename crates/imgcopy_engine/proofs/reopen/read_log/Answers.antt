@@ -1,0 +1,18 @@
+use Rattle.std.proofs.Common.{◌≡◌, ◌++◌, ap, drop, length, sym, take, ◌∙◌}
+use Rattle.std.proofs.Math.Seq.{take-append_seam}
+use Rattle.file_devices.specs.FileLog.{known_of}
+use Rattle.imgcopy_engine.proofs.LogFound.{has_lasting}
+use Rattle.imgcopy_engine.proofs.reopen.read_log.Goals as goal
+
+pub returns-in-Ok-log_in-clause-device : goal.returns-in-Ok-log_in-clause-device
+returns-in-Ok-log_in-clause-device c =
+    let known = c.deref.result.now in
+    let new = c.resume.new.buffer in
+    let rest = drop (length new) c.in_ok-bytes.bytes.items in
+    let long : c.in_ok-bytes.bytes.len ≡ length new = sym (c.in-Ok.ensures.length ∙ c.deref_mut.ensures.len) in
+    let same : new ≡ known =
+    sym (c.deref.ensures.value ∙ (ap (λ n. take n (new ++ rest)) long ∙ take-append_seam new rest)) in
+    let has : (known_of c.in-Ok.device).bytes ≡ known = c.in-Ok.ensures.bytes ∙ same in
+    let lasts : (known_of c.in-Ok.device).lasting ≡ length known = c.in-Ok.ensures.lasts ∙ ap length same in
+    has_lasting (λ calls. (known_of calls).bytes) (λ calls. (known_of calls).lasting) c.in-Ok-log_in.log
+    c.in-Ok.device known has lasts c.in-Ok-log_in.ensures.spelled c.in-Ok-log_in.ensures.front.longest.front.spells

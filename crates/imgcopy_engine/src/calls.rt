@@ -1,0 +1,71 @@
+//! The calls of a session at its engine.
+
+ghost use Rattle.std.specs.Prelude.{ℕ, ◌≡◌, ◌++◌, [], ◌∷◌, List, IfOk, OnErr};
+ghost use Rattle.page_core.specs.declared.change.ChangeKind.TheVariants as kind;
+ghost use Rattle.settlement.specs.declared.receipt.Receipt.{Receipt};
+ghost use Rattle.settlement.specs.declared.receipt.Receipt.TheVariants.{Changed, Read, Stepped};
+ghost use Rattle.settlement.specs.declared.receipt.TxnStep.TheVariants as step;
+ghost use Rattle.engine_run.specs.Undoing.{step_back_receipts, undo_receipt};
+
+use aries_core::{Refusal, SteppedBack, Undone};
+use page_core::{Lsn, PageNo, SlotNo, TxnNo};
+
+/// One user of a database: the calls of a session, which say where they go by themselves. Refusals
+/// are those of `Session`.
+pub trait Calls {
+    /// The receipts of its calls, in order.
+    ghost receipts: { Self → List Receipt };
+
+    /// Begins a transaction, and answers its number and the LSN of its Begin.
+    fn begin(&mut self) -> Result<(TxnNo, Lsn), Refusal>
+        ensures receipt { IfOk result (λ a.
+            receipts self.new ≡ receipts self.old ++ Stepped a.1 a.0 step.Begin ∷ []) }
+        ensures refused { OnErr result (receipts self.new ≡ receipts self.old) };
+
+    /// Puts a number into a slot, and answers the LSN of its Update.
+    fn set(&mut self, txn: TxnNo, page: PageNo, slot: SlotNo, number: u64) -> Result<Lsn, Refusal>
+        ensures receipt { IfOk result (λ lsn.
+            receipts self.new
+            ≡ receipts self.old ++ Changed lsn txn page slot kind.Set number ∷ []) }
+        ensures refused { OnErr result (receipts self.new ≡ receipts self.old) };
+
+    /// Adds to the number in a slot, modulo 2^64, and answers the LSN of its Update.
+    fn add(&mut self, txn: TxnNo, page: PageNo, slot: SlotNo, amount: u64) -> Result<Lsn, Refusal>
+        ensures receipt { IfOk result (λ lsn.
+            receipts self.new
+            ≡ receipts self.old ++ Changed lsn txn page slot kind.Add amount ∷ []) }
+        ensures refused { OnErr result (receipts self.new ≡ receipts self.old) };
+
+    /// The number in a slot, with the changes of all transactions so far.
+    fn read(&mut self, page: PageNo, slot: SlotNo) -> Result<u64, Refusal>
+        ensures receipt { IfOk result (λ number. (end : ℕ)
+            × (receipts self.new ≡ receipts self.old ++ Read end page slot number ∷ [])) }
+        ensures refused { OnErr result (receipts self.new ≡ receipts self.old) };
+
+    /// Commits a transaction, and answers the LSN of its Commit, which is forced then.
+    fn commit(&mut self, txn: TxnNo) -> Result<Lsn, Refusal>
+        ensures receipt { IfOk result (λ lsn.
+            receipts self.new ≡ receipts self.old ++ Stepped lsn txn step.Commit ∷ []) }
+        ensures refused { OnErr result (receipts self.new ≡ receipts self.old) };
+
+    /// Begins to take the changes of a transaction back, and answers the LSN of its Abort.
+    fn abort(&mut self, txn: TxnNo) -> Result<Lsn, Refusal>
+        ensures receipt { IfOk result (λ lsn.
+            receipts self.new ≡ receipts self.old ++ Stepped lsn txn step.Abort ∷ []) }
+        ensures refused { OnErr result (receipts self.new ≡ receipts self.old) };
+
+    /// Takes the last pending change of a transaction that rolls back out again, or ends it.
+    fn undo_step(&mut self, txn: TxnNo) -> Result<Undone, Refusal>
+        ensures receipt { IfOk result (λ done.
+            receipts self.new ≡ receipts self.old ++ undo_receipt txn done ∷ []) }
+        ensures refused { OnErr result (receipts self.new ≡ receipts self.old) };
+
+    /// Names the place to which a transaction may go back from here on. It leaves no receipt.
+    fn savepoint(&self, txn: TxnNo) -> Result<Lsn, Refusal>;
+
+    /// Takes one change back that was made behind a savepoint, or answers that none is left.
+    fn undo_to(&mut self, txn: TxnNo, savepoint: Lsn) -> Result<SteppedBack, Refusal>
+        ensures receipt { IfOk result (λ done.
+            receipts self.new ≡ receipts self.old ++ step_back_receipts txn done) }
+        ensures refused { OnErr result (receipts self.new ≡ receipts self.old) };
+}

@@ -1,0 +1,142 @@
+//! A database on two files that is opened again.
+
+ghost use Rattle.std.specs.Prelude.{◌≡◌, IfOk};
+ghost use Rattle.buffer_pool.specs.Pool.{IsFrameCount};
+ghost use Rattle.log_history.specs.Linked.{IsLinked};
+ghost use Rattle.log_records.specs.Log.{Log};
+ghost use Rattle.engine_restart.specs.Lives.{GoesOnFrom};
+ghost use Rattle.engine_restart.specs.Restart.{HasLasting};
+ghost use Rattle.file_devices.specs.FileLog.{known_of};
+
+use aries_core::Engine;
+use copy_vault::CompleteCopy;
+use engine_restart::{FoundFault, RestartFault, Restarted, log_in, restart, store_of};
+use file_devices::{FailedFile, FileLog, FileStore};
+use log_front::Cut;
+use log_records::MAX_LOG_BYTES;
+use log_store::LogImage;
+use page_core::zeros;
+use std::alloc::{AllocError, Global};
+use std::fs::File;
+use std::thread::Threads;
+use txn_table::TablesFault;
+
+/// An engine whose log and volume are files.
+pub type FileEngine = Engine<FileStore, FileLog>;
+
+/// A database that was opened again.
+#[derive(Drop)]
+pub struct Reopened {
+    pub engine: FileEngine,
+    /// Where and why the bytes behind its log were left out.
+    pub cut: Option<Cut>,
+    /// How many of the copies were taken up. The others are not sound.
+    pub copies: u32,
+}
+
+/// Why a database was not opened again.
+#[derive(Drop)]
+pub enum ReopenFault {
+    OutOfMemory,
+    /// The file of the log cannot be read, or that of the volume not be written.
+    File(FailedFile),
+    /// The file of the log has no header of a log.
+    Found(FoundFault),
+    /// What was open in the log could not be taken back.
+    Restart(RestartFault),
+    /// No engine goes on with the log.
+    Tables(TablesFault),
+}
+
+impl From<AllocError> for ReopenFault {
+    ghost use Rattle.std.specs.Prelude.{◌≡◌};
+    ghost use Rattle.imgcopy_engine.specs.declared.reopen.ReopenFault.TheVariants.{OutOfMemory};
+
+    ghost from_gives = { λ _ fault. fault ≡ OutOfMemory };
+
+    fn from(_: AllocError) -> ReopenFault {
+        ReopenFault::OutOfMemory
+    }
+}
+
+/// A log that was read, and the device that has it.
+#[derive(Drop)]
+struct FoundLog {
+    log: LogImage,
+    cut: Option<Cut>,
+    device: FileLog,
+}
+
+/// Opens a database again from the file of its log, which has so many bytes, and from the archives
+/// of the copies that are at hand, those on which others stand first. What was open is taken back on
+/// the log, and each slot has its committed number. The file of the volume is emptied, and gets the
+/// pages that the log makes.
+pub fn reopen_files(
+    rt: &(impl Threads + Sync),
+    alloc: Global,
+    frames: u32,
+    log: (File, u64),
+    copies: Vec<CompleteCopy>,
+    volume: File,
+) -> Result<Reopened, ReopenFault>
+    requires frames { IsFrameCount frames }
+    ensures goes_on { IfOk result (λ it. (log : Log) × GoesOnFrom log it.engine.state) }
+{
+    let (file, len) = log;
+    let FoundLog { log, cut, device } = read_log(alloc, file, len)?;
+    // A log that is read is one.
+    let _count = log.pages();
+    let (mut restarted, device) = match restart(rt, alloc, log, device) {
+        Ok(it) => it,
+        Err((fault, _)) => return Err(ReopenFault::Restart(fault)),
+    };
+    let copies = take_up(alloc, &mut restarted, copies);
+    let store = match FileStore::new(volume, store_of(alloc, restarted.pages())?) {
+        Ok(store) => store,
+        Err(why) => return Err(ReopenFault::File(why)),
+    };
+    match restarted.into_engine(alloc, frames, store, device) {
+        Ok(engine) => Ok(Reopened {
+            engine,
+            cut,
+            copies,
+        }),
+        Err(fault) => Err(ReopenFault::Tables(fault)),
+    }
+}
+
+/// Takes up the copies that are sound, and answers how many these are.
+fn take_up(alloc: Global, restarted: &mut Restarted, copies: Vec<CompleteCopy>) -> u32
+    ensures log { restarted.new.log ≡ restarted.old.log }
+    ensures pages { restarted.new.pages ≡ restarted.old.pages }
+{
+    let mut count = 0u32;
+    for copy in copies {
+        if let Ok(()) = restarted.add(alloc, copy) {
+            count = count.saturating_add(1);
+        }
+    }
+    count
+}
+
+/// Reads the front of a log's file of so many bytes. It writes nothing.
+fn read_log(alloc: Global, file: File, len: u64) -> Result<FoundLog, ReopenFault>
+    ensures linked { IfOk result (λ it. IsLinked it.log.records) }
+    ensures device { IfOk result (λ it.
+        HasLasting (λ calls. (known_of calls).bytes) (λ calls. (known_of calls).lasting)
+        it.log it.device) }
+{
+    // One byte more than the longest log has shows that there are more.
+    let count = usize::try_from(len)
+        .unwrap_or(MAX_LOG_BYTES)
+        .min(MAX_LOG_BYTES + 1);
+    let mut bytes = zeros(alloc, count)?;
+    let device = match FileLog::resume(file, &mut bytes) {
+        Ok(device) => device,
+        Err(why) => return Err(ReopenFault::File(why)),
+    };
+    match log_in(alloc, &bytes) {
+        Ok((log, cut)) => Ok(FoundLog { log, cut, device }),
+        Err(fault) => Err(ReopenFault::Found(fault)),
+    }
+}

@@ -1,0 +1,46 @@
+//! Why a transaction was not committed.
+
+use aries_core::Refusal;
+use page_core::{Lsn, TxnNo};
+
+/// Why the work of a transaction ends before its commit.
+#[derive(Clone, Copy, Debug, PartialEq, Eq)]
+pub enum Stop<E> {
+    /// A call of its session was refused.
+    Refused(Refusal),
+    /// It has a reason of its own.
+    Own(E),
+}
+
+impl<E> From<Refusal> for Stop<E> {
+    ghost use Rattle.std.specs.Prelude.{◌≡◌};
+    ghost use Rattle.imgcopy_engine.specs.declared.stop.Stop.TheVariants.{Refused};
+
+    ghost from_gives = { λ why stop. stop ≡ Refused why };
+
+    fn from(why: Refusal) -> Stop<E> {
+        Stop::Refused(why)
+    }
+}
+
+/// Why a transaction is not known to be committed.
+#[derive(Clone, Copy, Debug, PartialEq, Eq)]
+pub enum NotDone<E> {
+    /// It could not be begun.
+    NotBegun(Refusal),
+    /// Its work ended with this, or its commit was refused so. All its changes are taken back, and
+    /// it has ended.
+    Stopped(Stop<E>),
+    /// Its Commit stands in the log at this LSN, not known to be forced, and it has ended.
+    Unsure(Lsn),
+    /// It is still open: its rollback met this refusal. `roll_back` goes on with it.
+    Left(TxnNo, Refusal),
+}
+
+/// A transaction that is committed: what its work has given, and the LSN of its Commit, which is
+/// forced.
+#[derive(Clone, Copy, Debug, PartialEq, Eq)]
+pub struct Committed<T> {
+    pub value: T,
+    pub lsn: Lsn,
+}

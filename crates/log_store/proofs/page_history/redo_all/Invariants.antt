@@ -1,0 +1,7 @@
+use Rattle.std.proofs.Common.{◌≡◌, take}
+use Rattle.log_records.specs.Image.{image_from}
+use Rattle.log_store.specs.PageHistory.{records_at}
+use Rattle.log_store.proofs.page_history.redo_all.Given as goal
+
+abbrev pub invariant-loop-number : goal.invariant-loop-number
+invariant-loop-number l = l.page ≡ image_from l.fn.page (records_at l.records (take l.number-index l.numbers))
