@@ -11,6 +11,9 @@ bank has to go on to its end, and no line may be on standard error.
 In other rounds a second bank is opened in the folder of one that works. It ends with status 1 and one line that says
 why, tells nothing, and leaves each file where it is; the first one goes on to its end.
 
+Each folder has remains of an older day, and a file whose name only begins as a copy's. A bank clears its folder of
+the first, and leaves the other; a second bank in a folder that is in use clears nothing.
+
 In the end the folder has to hold all that was told, as bank_files.py says.
 """
 
@@ -36,6 +39,7 @@ ROUNDS, TRANSFERS = 24, 400
 MOST_TELLERS, MOST_WORKERS = 6, 4
 MOST_SECONDS = 60
 KINDS = ("reserve", "reserve", "reserve", "pages", "all", "length", "second")
+OLD, FOREIGN = ("copy-77", "copy-78.unfinished-1"), "copy-of-a-letter"
 
 
 class Round:
@@ -47,6 +51,8 @@ class Round:
         self.seed, self.tellers = seed, self.draw.randint(1, MOST_TELLERS)
         workers = [self.draw.randint(1, MOST_WORKERS) for _ in range(2)]
         self.words = [bank, "--files", str(folder), *map(str, (seed, self.tellers, *workers, TRANSFERS))]
+        for name in (*OLD, FOREIGN):
+            (folder / name).write_text("old")
         self.child = subprocess.Popen(self.words, stdout=subprocess.PIPE, stderr=subprocess.PIPE)
         self.output, self.damaged = b"", []
 
@@ -103,13 +109,22 @@ class Round:
 
     def open_second(self, bank):
         """Another bank in the same folder."""
-        before = {path.name: path.stat().st_ino for path in self.folder.iterdir() if path.name in ("log", "volume")}
+        kept = ("log", "volume", "copy-79")
+        (self.folder / kept[2]).write_text("of the first bank")
+        before = {path.name: path.stat().st_ino for path in self.folder.iterdir() if path.name in kept}
         done = subprocess.run([bank, *self.words[1:]], capture_output=True, timeout=MOST_SECONDS)
         after = {path.name: path.stat().st_ino for path in self.folder.iterdir() if path.name in before}
         if done.returncode != 1 or done.stdout or not re.fullmatch(rb"demo_bank: [^\n]*another[^\n]*\n", done.stderr):
             raise Failure(f"a second bank: status {done.returncode}, {done.stdout[:80]!r}, {done.stderr[:200]!r}")
         if before != after:
             raise Failure("a second bank changed the files")
+        (self.folder / kept[2]).unlink()
+
+    def check_remains(self):
+        """What an older day left is gone, and a file of another's is there."""
+        left = [name for name in OLD if (self.folder / name).exists()]
+        if left or (self.folder / FOREIGN).read_text() != "old":
+            raise Failure(f"of an older day {left} is left, or {FOREIGN} is not as it was")
 
     def end(self):
         """It goes on to its end."""
@@ -148,6 +163,7 @@ def play(bank, imgcopy, place, seed):
             one.damage()
             one.child.send_signal(signal.SIGCONT)
         one.end()
+        one.check_remains()
         front, _ = check_all(judge, read_folder(folder), one.output)
         counts["repairs"] = one.check_repairs(front)
         counts[one.kind] = 1

@@ -19,8 +19,6 @@ mod in_memory;
 mod line;
 mod on_files;
 mod put;
-#[cfg(test)]
-mod tests;
 mod watch;
 
 use books::lines_of;

@@ -1,4 +1,0 @@
-use Rattle.demo_bank.proofs.tests.a_folder_in_use_is_not_touched.Given as goal
-
-abbrev pub ghosts-file_day : goal.ghosts-file_day
-ghosts-file_day g a = record { name = a.blank.name; parts = a.blank.parts }
