@@ -10,9 +10,10 @@
 #                 that what the documents name is there
 # make plants     tries the few wrong bodies that the gate leaves out, since it would prove their crates for them alone
 # make bench      measures the program beside a plain Rust program, prints a table, and draws bench/times.svg; it measures
-#                 the program alone on inputs that are chosen to cost much; if rt is
-#                 used, it then measures copies of a shared engine by many workers, and draws bench/copies.svg, and
-#                 commits on files beside those of SQLite, where sqlite3 is there
+#                 the program alone on inputs that are chosen to cost much; it measures how time and memory grow, and
+#                 draws bench/growth.svg; if rt is used, it then measures copies of a shared engine by many workers, and
+#                 draws bench/copies.svg, sessions beside a plain engine behind a mutex, and commits on files beside
+#                 those of SQLite, where sqlite3 is there
 # make examples   makes the example logs and their expected answers again
 # make contracts  makes docs/CONTRACTS.md and docs/contracts/ again, from the sources
 # make install    puts the program, its manual page, the completions of bash, zsh and fish, the guide, the formats, and the
@@ -66,10 +67,15 @@ bench: need-python3 bench-programs $(PROGRAM)
 	@python3 bench/draw.py build/bench.md bench/times.svg
 	@python3 bench/extremes.py --imgcopy "$(IMGCOPY)" --tools $(BENCH_PROGRAMS) --rounds $(ROUNDS) > build/extremes.md
 	@cat build/extremes.md
+	@python3 bench/growth.py --imgcopy "$(IMGCOPY)" --tools $(BENCH_PROGRAMS) --rounds $(ROUNDS) bench/growth.svg \
+		> build/growth.md
+	@cat build/growth.md
 ifeq ($(GIVEN),)
 	@tools/build.sh bench_copies
 	@python3 bench/copies.py build/bench_copies $(ROUNDS) bench/copies.svg > build/copies.md
 	@cat build/copies.md
+	@python3 bench/sessions.py build/bench_copies $(BENCH_PROGRAMS)/plain_sessions $(ROUNDS) > build/sessions.md
+	@cat build/sessions.md
 	@tools/build.sh bench_commits
 	@python3 bench/commits.py build/bench_commits $(ROUNDS) > build/commits.md
 	@cat build/commits.md

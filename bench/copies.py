@@ -18,6 +18,8 @@ from run import Failure, find_program
 
 PAGES = 65_536
 WORKERS = (0, 1, 2, 4)
+# Four sessions, each of whose transactions has one change and six reads.
+SESSIONS, CHANGES, READS = 4, 1, 6
 COLUMNS = ["workers", "copy, seconds", "pages a second", "calls of the sessions a second"]
 COLORS = {"pages a second": "#1f6fb4", "calls of the sessions a second": "#c8501e"}
 WIDTH, LEFT, RIGHT, TOP, BOTTOM, BAR = 720, 110, 40, 90, 70, 16
@@ -35,7 +37,7 @@ class Run(NamedTuple):
 
 
 def one_run(program, workers):
-    done = subprocess.run([program, str(PAGES), str(workers)], capture_output=True, text=True)
+    done = subprocess.run([program, *map(str, (PAGES, workers, SESSIONS, CHANGES, READS))], capture_output=True, text=True)
     if done.returncode != 0:
         raise Failure(f"{workers} workers: status {done.returncode}, standard error {done.stderr[:80]!r}")
     nanoseconds, calls = map(int, done.stderr.split())

@@ -121,6 +121,11 @@ bank_rot() {
     python3 -m checks.bank_rot "$bank" "$program"
 }
 
+# The store is proved and built in a root of its own.
+kv() {
+    python3 -m checks.kv "$program"
+}
+
 # A file system in a file is made and mounted there, which needs root.
 bank_disks() {
     "$is_gate" || tools/build.sh demo_bank || return
@@ -158,6 +163,7 @@ run_checks() {
         check bank_memory "$program" rt python3 rustc -- bank_memory
         check bank_threads "$program" rt python3 rustc -- bank_threads
         check bank_rot "$program" rt python3 -- bank_rot
+        check kv "$program" rt python3 -- kv
         if python3 -m checks.bank_disks --can; then
             check bank_disks "$program" rt python3 -- bank_disks
         else
@@ -165,7 +171,7 @@ run_checks() {
         fi
     else
         for name in library_memory few_threads repairs fault_sweeps bank bank_kills bank_losses bank_faults bank_memory \
-            bank_threads bank_rot bank_disks; do
+            bank_threads bank_rot kv bank_disks; do
             skip "$name" "it has rt prove another program"
         done
     fi

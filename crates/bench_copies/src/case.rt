@@ -2,17 +2,30 @@
 
 ghost use Rattle.std.specs.Prelude.{◌≤◌, IfSome};
 
-use page_core::MAX_PAGES;
+use engine_run::MAX_SESSIONS;
+use page_core::{MAX_PAGES, SLOTS};
 
 /// How many workers a copy may have.
 const MOST_WORKERS: u32 = 64;
 
-/// How many pages the volume has, and how many workers the copy.
+/// What each transaction of a session does, beside its begin and its commit.
+#[derive(Clone, Copy, Drop)]
+pub struct Shape {
+    /// How many slots it changes.
+    pub changes: u16,
+    /// How often it reads one.
+    pub reads: u16,
+}
+
+/// How many pages the volume has, how many workers the copy, and how many sessions make
+/// transactions of which shape.
 #[derive(Clone, Copy)]
 pub struct Case {
     pub pages: u32,
-    /// At 0 there is no copy: then the sessions alone are measured, for a tenth of a second.
+    /// At 0 there is no copy: then the sessions alone are measured, for 40 milliseconds.
     pub workers: u32,
+    pub sessions: u32,
+    pub shape: Shape,
 }
 
 impl Case {
@@ -21,14 +34,26 @@ impl Case {
         ensures some { IfSome result (λ case. 1 ≤ case.pages) }
         ensures pages { IfSome result (λ case. case.pages ≤ 65536) }
         ensures workers { IfSome result (λ case. case.workers ≤ 64) }
+        ensures sessions { IfSome result (λ case. 1 ≤ case.sessions) }
     {
-        let [pages, workers] = words else {
+        let [pages, workers, sessions, changes, reads] = words else {
             return None;
         };
         let (pages, workers) = (pages.as_str().parse().ok()?, workers.as_str().parse().ok()?);
         if pages == 0 || pages > MAX_PAGES || workers > MOST_WORKERS {
             return None;
         }
-        Some(Case { pages, workers })
+        let sessions = sessions.as_str().parse().ok()?;
+        let (changes, reads) = (changes.as_str().parse().ok()?, reads.as_str().parse().ok()?);
+        if sessions == 0 || sessions > MAX_SESSIONS || changes as usize > SLOTS {
+            return None;
+        }
+        let shape = Shape { changes, reads };
+        Some(Case {
+            pages,
+            workers,
+            sessions,
+            shape,
+        })
     }
 }

@@ -1,4 +1,4 @@
-//! Measures a full copy of a shared engine in memory, beside four sessions.
+//! Measures a full copy of a shared engine in memory, beside sessions, or the sessions alone.
 #![tactic(auto)]
 
 mod case;
@@ -17,7 +17,7 @@ fn main(rt: HostRuntime) -> ExitCode {
         return ExitCode::from(2);
     };
     let Some(case) = Case::of(words.as_slice()) else {
-        let _ = rt.eprintln("usage: bench_copies PAGES WORKERS");
+        let _ = rt.eprintln("usage: bench_copies PAGES WORKERS SESSIONS CHANGES READS");
         return ExitCode::from(2);
     };
     match measure::<Brand, HostRuntime>(&rt, rt.alloc(), Blank::new(65), &case) {

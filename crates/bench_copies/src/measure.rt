@@ -19,14 +19,11 @@ use std::thread;
 use std::thread::{Threads, join};
 use std::time::{Duration, Instant};
 
-/// How many sessions there are.
-const SESSIONS: u32 = 4;
-
 /// For how many records the device has room: for all that a log may have.
 const RECORDS: usize = 1_048_576;
 
 /// For how many milliseconds the sessions are measured where there is no copy.
-const ALONE: u64 = 100;
+const ALONE: u64 = 40;
 
 /// How long the copy took, and how many calls the sessions made meanwhile.
 #[derive(Clone, Copy)]
@@ -51,15 +48,20 @@ fn volume<G: Ledger>(alloc: Global, blank: Blank, pages: u32) -> Option<Volume<G
     Volume::<G>::new(alloc, blank, setup, store, device).ok()
 }
 
-fn users_of<G: Ledger>(alloc: Global, shared: &mut Volume<G>, pages: u32) -> Option<Vec<User<G>>> {
-    let mut users = Vec::with_capacity(alloc, SESSIONS as usize).ok()?;
-    for number in 0..SESSIONS {
+fn users_of<G: Ledger>(
+    alloc: Global,
+    shared: &mut Volume<G>,
+    case: &Case,
+) -> Option<Vec<User<G>>> {
+    let mut users = Vec::with_capacity(alloc, case.sessions as usize).ok()?;
+    for number in 0..case.sessions {
         if shared.sessions() >= MAX_SESSIONS {
             return None;
         }
         let user = User {
             session: shared.session(alloc),
-            page: PageNo(number.min(pages.saturating_sub(1))),
+            page: PageNo(number.min(case.pages.saturating_sub(1))),
+            shape: case.shape,
             calls: 0,
             ended: Ok(()),
         };
@@ -87,7 +89,7 @@ fn copy<G: Ledger + Send + Sync, R: Threads + Wait + Clock + Sync>(
     Some(begin.elapsed(rt).ok()?.as_nanos())
 }
 
-/// A copy of a volume in memory beside four sessions; None where a call is refused.
+/// A copy of a volume in memory beside the sessions; None where a call is refused.
 pub fn measure<G: Ledger + Send + Sync, R: Threads + Wait + Clock + Sync>(
     rt: &R,
     alloc: Global,
@@ -100,12 +102,13 @@ pub fn measure<G: Ledger + Send + Sync, R: Threads + Wait + Clock + Sync>(
     requires some { 1 ≤ case.now.pages }
     requires few { case.now.pages ≤ 65536 }
     requires workers { case.now.workers ≤ 64 }
+    requires sessions { 1 ≤ case.now.sessions }
 {
     let mut shared = volume::<G>(alloc, blank, case.pages)?;
-    let mut users = users_of(alloc, &mut shared, case.pages)?;
+    let mut users = users_of(alloc, &mut shared, case)?;
     shared.checkpoint(rt, &OpenGate).ok()?;
     let stop = AtomicU64::new(0);
-    let workers = case.workers;
+    let (workers, threads) = (case.workers, case.sessions as usize);
     let (nanoseconds, _) = join(
         rt,
         || -> Option<u128>
@@ -119,7 +122,7 @@ pub fn measure<G: Ledger + Send + Sync, R: Threads + Wait + Clock + Sync>(
             thread::for_each_mut(
                 rt,
                 &mut users,
-                SESSIONS as usize,
+                threads,
                 &|_, user: &mut User<G>| user.work(rt, &shared, &stop),
             )
         },

@@ -1,5 +1,6 @@
 //! A session that makes calls until it is told to stop.
 
+use crate::case::Shape;
 use aries_core::Refusal;
 use engine_run::{Session, Shared};
 use log_store::MemDevice;
@@ -11,31 +12,31 @@ use std::sync::ledger::Ledger;
 
 pub type Volume<G> = Shared<MemStore, MemDevice, G>;
 
-/// How many calls of a transaction are reads, and how many there are.
-const READS: u64 = 6;
-
-const CALLS: u64 = READS + 3;
-
-/// A session, the page that it changes, and how many calls it has made.
+/// A session, the page that it changes, what its transactions do, and how many calls it has made.
 #[derive(Drop)]
 pub struct User<G: Ledger> {
     pub session: Session<G>,
     pub page: PageNo,
+    pub shape: Shape,
     pub calls: u64,
     pub ended: Result<(), Refusal>,
 }
 
 impl<G: Ledger> User<G> {
-    /// A transaction: one change and some reads.
+    /// A transaction of the shape.
     fn transaction(&mut self, rt: &impl Wait, shared: &Volume<G>) -> Result<(), Refusal> {
-        let (page, slot) = (self.page, SlotNo(0));
+        let Shape { changes, reads } = self.shape;
         let (txn, _) = self.session.begin(rt, shared)?;
-        self.session.add(rt, shared, txn, page, slot, 1)?;
-        for _ in 0..READS {
-            self.session.read(rt, shared, page, slot)?;
+        for slot in 0..changes {
+            self.session
+                .add(rt, shared, txn, self.page, SlotNo(slot), 1)?;
+        }
+        for _ in 0..reads {
+            self.session.read(rt, shared, self.page, SlotNo(0))?;
         }
         self.session.commit(rt, shared, txn)?;
-        self.calls = self.calls.wrapping_add(CALLS);
+        let calls = changes as u64 + reads as u64 + 2;
+        self.calls = self.calls.wrapping_add(calls);
         Ok(())
     }
 

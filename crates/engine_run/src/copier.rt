@@ -80,18 +80,8 @@ impl<S: PageStore + Send, D: LogDevice + Send, G: Ledger + Send + Sync> Shared<S
     {
         let opened = self.held.lock(rt).open_copy(&kind);
         let (id, pages) = opened?;
-        let ended = match self.take_all(rt, alloc, (id, pages), workers, gate) {
-            Ok(()) => self.held.lock(rt).seal(id),
-            Err(why) => Err(why),
-        };
-        match ended {
-            Ok(taken) => Ok(Work::Copied { id, kind, taken }),
-            Err(why) => {
-                // Where the copy is dropped already, there is nothing left to do.
-                let _ = self.held.lock(rt).drop_copy(id);
-                Err(why)
-            }
-        }
+        let taken = self.take_all(rt, alloc, (id, pages), workers, gate);
+        self.end_copy(rt, id, kind, taken)
     }
 
     /// Starts a worker in a thread of its own, and says whether there is one.

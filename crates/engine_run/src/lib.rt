@@ -5,6 +5,7 @@ mod check_ages;
 mod check_sessions;
 mod check_works;
 mod copier;
+mod copy_alone;
 mod copy_writer;
 mod extend;
 mod fault;

@@ -50,3 +50,11 @@ abbrev pub IsTakenBack : {E : Type 0} → NotDone E → List Receipt → Type 0
 IsTakenBack (unfinished.Stopped stop) receipts =
     (old : List Receipt) × (lsn txn : ℕ) × EndsBy step.End lsn txn old receipts
 IsTakenBack other receipts = Unit {0}
+
+-- a part of a transaction was not done, or was stopped; where going back was refused, it is that
+-- transaction which is left
+abbrev pub IsStopped : {E : Type 0} → ℕ → List Receipt → List Receipt → NotDone E → Type 0
+IsStopped txn old new (unfinished.NotBegun why) = new ≡ old
+IsStopped txn old new (unfinished.Stopped stop) = Unit {0}
+IsStopped txn old new (unfinished.Left left why) = left ≡ txn
+IsStopped txn old new (unfinished.Unsure lsn) = ⊥

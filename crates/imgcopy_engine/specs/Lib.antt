@@ -24,3 +24,4 @@ pub use Rattle.saved_files.specs as saved_files
 pub use Rattle.settlement.specs as settlement
 pub use Rattle.txn_table.specs as txn_table
 pub mod Ending
+pub mod Run

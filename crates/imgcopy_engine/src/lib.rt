@@ -6,6 +6,7 @@ mod client;
 mod ending;
 mod reopen;
 mod run;
+mod seats;
 mod stop;
 mod transacting;
 
@@ -157,7 +158,8 @@ pub use reopen::FileEngine;
 pub use reopen::ReopenFault;
 pub use reopen::Reopened;
 pub use reopen::reopen_files;
-pub use run::Run;
+pub use run::RunFault;
+pub use run::Task;
 pub use run::run_new;
 pub use run::run_on;
 pub use saved_files::FileFault;

@@ -1,113 +1,174 @@
-//! A program on a shared engine, whatever its ledger is.
+//! A program on a shared engine: its tasks, each in a thread of its own.
 
-ghost use Rattle.std.specs.Prelude.{ℕ, ◌≡◌, ◌≤◌, IfErr, IfOk, length};
+ghost use Rattle.std.specs.Prelude.{ℕ, ◌≡◌, IfErr, IfOk, length};
 ghost use Rattle.page_core.specs.Volume.{formatted_pages};
 ghost use Rattle.buffer_pool.specs.Pool.{IsFrameCount};
 ghost use Rattle.log_records.specs.Log.{IsPageCount};
+ghost use Rattle.imgcopy_engine.specs.Run.{WasSettled, WasTried};
 
+use crate::client::Client;
+use crate::seats::{gathered, seats_of, sessions_of, work_all};
 use aries_core::{Engine, PlayFault, Setup};
-use engine_run::Shared;
+use copy_coverage::Retired;
+use engine_run::{SettleFault, Shared, Work, settle};
 use log_store::LogDevice;
 use page_store::PageStore;
 use std::alloc::Global;
 use std::marker::Brand;
+use std::sync::Wait;
 use std::sync::ledger::{Blank, Ledger};
+use std::thread::Threads;
 
-/// What a program does with a shared engine that was made for it. It is written once for all stores,
-/// devices and ledgers, and `run_new` and `run_on` pick the ledger.
-pub trait Run<R> {
-    /// What it answers in the end.
-    type Answer;
-
-    /// Does it. The engine has no session yet.
-    fn run<S: PageStore + Send + Drop, D: LogDevice + Send + Drop, G: Ledger + Send + Sync>(
-        self,
-        rt: &R,
-        shared: Shared<S, D, G>,
-    ) -> Self::Answer
-        requires { shared.sessions ≡ 0 };
+/// What one thread of a program does with a shared engine. It is written once for all stores,
+/// devices and ledgers: `run_new` and `run_on` pick the ledger, and start the threads.
+pub trait Task<R: Wait> {
+    /// Does it, as the user of a session. What its checkpoints and copies are answered goes into
+    /// `works`.
+    fn work<S: PageStore, D: LogDevice, G: Ledger>(
+        &mut self,
+        client: &mut Client<'_, S, D, G, R>,
+        works: &mut Vec<Work>,
+    );
 }
 
-/// Makes a shared engine over a formatted volume, as `Shared::new` does, and has a program use it.
-pub fn run_new<S: PageStore + Send + Drop, D: LogDevice + Send + Drop, R, U: Run<R> + Drop>(
+/// Why a run has no settled end.
+#[derive(Clone, Copy, Debug, PartialEq, Eq)]
+pub enum RunFault {
+    /// No engine was made, as `Shared::new` says. No task has worked.
+    NoEngine(PlayFault),
+    /// There are more tasks than an engine can have sessions. No task has worked.
+    TooManyTasks,
+    /// Memory was refused before a task has worked.
+    OutOfMemory,
+    /// The tasks have worked, and what they were answered is not settled, or memory was refused.
+    Unsettled(SettleFault),
+}
+
+/// Makes a shared engine over a formatted volume, as `Shared::new` does, has each task work in a
+/// thread of its own, with a session of its own, and settles the run. Where no thread can be made,
+/// the tasks work one after another. Where it is refused the engine is gone: its log and its volume
+/// are what the devices have.
+pub fn run_new<S, D, R, T>(
     rt: &R,
     alloc: Global,
     setup: Setup,
     store: S,
     device: D,
-    user: U,
-) -> Result<U::Answer, PlayFault>
+    tasks: &mut [T],
+) -> Result<Retired, RunFault>
+where
+    S: PageStore + Send + Drop,
+    D: LogDevice + Send + Drop,
+    R: Threads + Wait + Sync,
+    T: Task<R> + Send,
     requires pages { IsPageCount setup.pages }
     requires frames { IsFrameCount setup.frames }
     requires formatted { S.stored store ≡ formatted_pages setup.pages }
-    ensures past_bound { IfErr result (λ why. why ≡ PlayFault.LogFault
-        → D.fails_from device ≤ 64) }
+    ensures settled { IfOk result (WasSettled 0) }
+    ensures tried { IfErr result (λ why. WasTried why tasks.old tasks.new) }
 {
-    new_with::<S, D, Brand, R, U>(rt, alloc, Blank::new(65), setup, store, device, user)
+    new_with::<S, D, Brand, R, T>(rt, alloc, Blank::new(65), setup, store, device, tasks)
 }
 
-fn new_with<
-    S: PageStore + Send + Drop,
-    D: LogDevice + Send + Drop,
-    G: Ledger + Send + Sync,
-    R,
-    U: Run<R> + Drop,
->(
+fn new_with<S, D, G, R, T>(
     rt: &R,
     alloc: Global,
     blank: Blank,
     setup: Setup,
     store: S,
     device: D,
-    user: U,
-) -> Result<U::Answer, PlayFault>
+    tasks: &mut [T],
+) -> Result<Retired, RunFault>
+where
+    S: PageStore + Send + Drop,
+    D: LogDevice + Send + Drop,
+    G: Ledger + Send + Sync,
+    R: Threads + Wait + Sync,
+    T: Task<R> + Send,
     requires name { blank.name ≡ G.name }
     requires parts { blank.parts ≡ G.parts }
     requires sessions { blank.parts ≡ 65 }
     requires pages { IsPageCount setup.pages }
     requires frames { IsFrameCount setup.frames }
     requires formatted { S.stored store ≡ formatted_pages setup.pages }
-    ensures past_bound { IfErr result (λ why. why ≡ PlayFault.LogFault
-        → D.fails_from device ≤ 64) }
+    ensures settled { IfOk result (WasSettled 0) }
+    ensures tried { IfErr result (λ why. WasTried why tasks.old tasks.new) }
 {
     match Shared::<S, D, G>::new(alloc, blank, setup, store, device) {
-        Ok(shared) => Ok(user.run(rt, shared)),
-        Err(fault) => Err(fault),
+        Ok(shared) => run_tasks(rt, alloc, shared, tasks),
+        Err(fault) => Err(RunFault::NoEngine(fault)),
     }
 }
 
-/// Has a program use a shared engine that goes on from an older one, as `Shared::resume` makes it.
-pub fn run_on<S: PageStore + Send + Drop, D: LogDevice + Send + Drop, R, U: Run<R> + Drop>(
+/// The same on an engine that goes on from an older one, as `Shared::resume` takes it.
+pub fn run_on<S, D, R, T>(
     rt: &R,
     alloc: Global,
     engine: Engine<S, D>,
-    user: U,
-) -> Result<U::Answer, Engine<S, D>>
-    ensures same { IfErr result (λ it. it ≡ engine) }
-{
-    on_with::<S, D, Brand, R, U>(rt, alloc, Blank::new(65), engine, user)
-}
-
-fn on_with<
+    tasks: &mut [T],
+) -> Result<Retired, RunFault>
+where
     S: PageStore + Send + Drop,
     D: LogDevice + Send + Drop,
-    G: Ledger + Send + Sync,
-    R,
-    U: Run<R> + Drop,
->(
+    R: Threads + Wait + Sync,
+    T: Task<R> + Send,
+    ensures settled { IfOk result (WasSettled (length engine.state.log)) }
+    ensures tried { IfErr result (λ why. WasTried why tasks.old tasks.new) }
+{
+    on_with::<S, D, Brand, R, T>(rt, alloc, Blank::new(65), engine, tasks)
+}
+
+fn on_with<S, D, G, R, T>(
     rt: &R,
     alloc: Global,
     blank: Blank,
     engine: Engine<S, D>,
-    user: U,
-) -> Result<U::Answer, Engine<S, D>>
+    tasks: &mut [T],
+) -> Result<Retired, RunFault>
+where
+    S: PageStore + Send + Drop,
+    D: LogDevice + Send + Drop,
+    G: Ledger + Send + Sync,
+    R: Threads + Wait + Sync,
+    T: Task<R> + Send,
     requires name { blank.name ≡ G.name }
     requires parts { blank.parts ≡ G.parts }
     requires sessions { blank.parts ≡ 65 }
-    ensures same { IfErr result (λ it. it ≡ engine) }
+    ensures settled { IfOk result (WasSettled (length engine.state.log)) }
+    ensures tried { IfErr result (λ why. WasTried why tasks.old tasks.new) }
 {
     match Shared::<S, D, G>::resume(alloc, blank, engine) {
-        Ok(shared) => Ok(user.run(rt, shared)),
-        Err(engine) => Err(engine),
+        Ok(shared) => run_tasks(rt, alloc, shared, tasks),
+        Err(_engine) => Err(RunFault::OutOfMemory),
+    }
+}
+
+/// Has all tasks work on an engine without a session, and settles.
+fn run_tasks<S, D, G, R, T>(
+    rt: &R,
+    alloc: Global,
+    mut shared: Shared<S, D, G>,
+    tasks: &mut [T],
+) -> Result<Retired, RunFault>
+where
+    S: PageStore + Send + Drop,
+    D: LogDevice + Send + Drop,
+    G: Ledger + Send + Sync,
+    R: Threads + Wait + Sync,
+    T: Task<R> + Send,
+    ensures settled { IfOk result (WasSettled shared.began) }
+    ensures tried { IfErr result (λ why. WasTried why tasks.old tasks.new) }
+{
+    let sessions = sessions_of(alloc, &mut shared, tasks.len())?;
+    let Ok(seats) = seats_of(rt, alloc, &shared, sessions) else {
+        return Err(RunFault::OutOfMemory);
+    };
+    work_all(rt, &seats, tasks);
+    let Ok((sessions, works)) = gathered(alloc, seats) else {
+        return Err(RunFault::Unsettled(SettleFault::OutOfMemory));
+    };
+    match settle(alloc, sessions, &works, shared) {
+        Ok(left) => Ok(left),
+        Err(back) => Err(RunFault::Unsettled(back.fault)),
     }
 }

@@ -1,7 +1,7 @@
 //! A transaction whose work is a closure.
 
 ghost use Rattle.std.specs.Prelude.{ℕ, ◌≡◌, IfErr, IfOk};
-ghost use Rattle.imgcopy_engine.specs.Ending.{HasCommitted, IsTakenBack};
+ghost use Rattle.imgcopy_engine.specs.Ending.{HasCommitted, IsStopped, IsTakenBack};
 
 use crate::calls::Calls;
 use crate::ending::{finish, step_back};
@@ -42,13 +42,15 @@ pub fn transact<C: Calls, T: Drop, E: Drop, F: FnMut(&mut C, TxnNo) -> Result<T,
 }
 
 /// Does a part of a transaction. Where it is stopped, its changes are taken back to where it began,
-/// and the transaction goes on. `Left` tells that this was refused.
+/// and the transaction goes on. `NotBegun` tells that it has no place to go back to, and was not
+/// done; `Left`, that going back was refused.
 pub fn attempt<C: Calls, T: Drop, E: Drop, F: FnOnce(&mut C, TxnNo) -> Result<T, Stop<E>>>(
     client: &mut C,
     txn: TxnNo,
     part: F,
 ) -> Result<T, NotDone<E>>
     requires { F.IsAlwaysCallable part }
+    ensures stopped { IfErr result (IsStopped txn (C.receipts client.old) (C.receipts client.new)) }
 {
     let savepoint = match client.savepoint(txn) {
         Ok(savepoint) => savepoint,

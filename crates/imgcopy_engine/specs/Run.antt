@@ -1,0 +1,20 @@
+-- How the run of a program's tasks ends.
+use Rattle.std.specs.Prelude.{ℕ, ◌≡◌, List}
+use Rattle.settlement.specs.declared.receipt.Receipt.{Receipt}
+use Rattle.copy_coverage.specs.Retired.{RetiredView}
+use Rattle.engine_run.specs.Settled.{IsSettled, evidence_in}
+use Rattle.engine_run.specs.declared.work.Work.{Work}
+use Rattle.imgcopy_engine.specs.declared.run.RunFault.{RunFault}
+use Rattle.imgcopy_engine.specs.declared.run.RunFault.TheVariants.{Unsettled}
+
+-- what a run left is settled with what its sessions were answered, where the log had so many records
+-- before
+abbrev pub WasSettled : ℕ → RetiredView → Type 0
+WasSettled began left =
+    (sessions : List (List Receipt)) × (works : List Work)
+    × IsSettled began (evidence_in left) sessions works
+
+-- the tasks may have worked where the run is not settled; at each other fault none of them has
+abbrev pub WasTried : {T : Type 0} → RunFault → List T → List T → Type 0
+WasTried (Unsettled why) old new = Unit {0}
+WasTried other old new = new ≡ old
