@@ -1,4 +1,5 @@
--- A line that is read: the words and the numbers in it, each as a number.
+-- A line that is read again, piece by piece. A piece counts as the number that its digits and letters
+-- write, so a number counts as itself.
 use Rattle.std.proofs.Common.{◌≡◌, ◌∙◌, ℕ, zero, suc, ◌+◌, ◌*◌, ◌<◌, ◌^◌, List, [], ◌∷◌, ◌++◌, Bool, false}
 use Rattle.std.proofs.Common.{append_assoc, get_or, refl, ap, sym, arith}
 use Rattle.std.specs.Prelude.{codes, ◌==◌, ◌||◌, if◌then◌else◌}
