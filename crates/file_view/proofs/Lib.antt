@@ -1,2 +1,6 @@
 mod Points
 mod Slots
+mod Reading
+mod Words
+mod Objects
+mod Listings

@@ -1,0 +1,5 @@
+use Rattle.file_view.proofs.Listings.{apart}
+use Rattle.file_view.proofs.laws.lines_are_told_apart.Goals as goal
+
+pub returns : goal.returns
+returns c = apart

@@ -1,0 +1,5 @@
+use Rattle.file_view.proofs.Listings.{listings_apart}
+use Rattle.file_view.proofs.laws.listings_are_told_apart.Goals as goal
+
+pub returns : goal.returns
+returns c = listings_apart
