@@ -4,11 +4,7 @@ ghost use Rattle.std.specs.Prelude.{◌≡◌};
 
 use crate::case::Case;
 use crate::teller::{Teller, Volume};
-use aries_core::Setup;
-use engine_run::MAX_SESSIONS;
-use file_devices::FileLog;
-use page_core::PageNo;
-use page_store::MemStore;
+use imgcopy_engine::{FileLog, MAX_SESSIONS, MemStore, PageNo, Setup};
 use std::alloc::Global;
 use std::fs::File;
 use std::rt::Clock;

@@ -1,10 +1,6 @@
 //! A session that commits.
 
-use aries_core::Refusal;
-use engine_run::{Session, Shared};
-use file_devices::FileLog;
-use page_core::{PageNo, SlotNo};
-use page_store::MemStore;
+use imgcopy_engine::{FileLog, MemStore, PageNo, Refusal, Session, Shared, SlotNo};
 use std::sync::Wait;
 use std::sync::ledger::Ledger;
 

@@ -2,8 +2,7 @@
 
 ghost use Rattle.std.specs.Prelude.{◌≤◌, IfSome};
 
-use engine_run::MAX_SESSIONS;
-use page_core::{MAX_PAGES, SLOTS};
+use imgcopy_engine::{MAX_PAGES, MAX_SESSIONS, SLOTS};
 
 /// How many workers a copy may have.
 const MOST_WORKERS: u32 = 64;

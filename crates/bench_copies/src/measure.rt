@@ -4,12 +4,7 @@ ghost use Rattle.std.specs.Prelude.{◌≡◌, ◌≤◌};
 
 use crate::case::Case;
 use crate::user::{User, Volume};
-use aries_core::Setup;
-use copy_vault::CopyKind;
-use engine_run::{MAX_SESSIONS, OpenGate};
-use log_store::MemDevice;
-use page_core::PageNo;
-use page_store::MemStore;
+use imgcopy_engine::{CopyKind, MAX_SESSIONS, MemDevice, MemStore, OpenGate, PageNo, Setup};
 use std::alloc::Global;
 use std::rt::Clock;
 use std::sync::Wait;
@@ -48,11 +43,7 @@ fn volume<G: Ledger>(alloc: Global, blank: Blank, pages: u32) -> Option<Volume<G
     Volume::<G>::new(alloc, blank, setup, store, device).ok()
 }
 
-fn users_of<G: Ledger>(
-    alloc: Global,
-    shared: &mut Volume<G>,
-    case: &Case,
-) -> Option<Vec<User<G>>> {
+fn users_of<G: Ledger>(alloc: Global, shared: &mut Volume<G>, case: &Case) -> Option<Vec<User<G>>> {
     let mut users = Vec::with_capacity(alloc, case.sessions as usize).ok()?;
     for number in 0..case.sessions {
         if shared.sessions() >= MAX_SESSIONS {

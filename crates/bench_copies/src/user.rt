@@ -1,11 +1,7 @@
 //! A session that makes calls until it is told to stop.
 
 use crate::case::Shape;
-use aries_core::Refusal;
-use engine_run::{Session, Shared};
-use log_store::MemDevice;
-use page_core::{PageNo, SlotNo};
-use page_store::MemStore;
+use imgcopy_engine::{MemDevice, MemStore, PageNo, Refusal, Session, Shared, SlotNo};
 use std::sync::Wait;
 use std::sync::atomic::{AtomicU64, Ordering};
 use std::sync::ledger::Ledger;

@@ -2,7 +2,7 @@
 
 ghost use Rattle.std.specs.Prelude.{◌<◌};
 
-use page_core::{Page, PageNo, SlotNo};
+use imgcopy_engine::{Page, PageNo, SlotNo};
 
 /// How many pages the volume has: those of accounts, and behind them the reserves, which nobody
 /// changes.

@@ -1,15 +1,11 @@
 //! What is said of a commit that was answered.
 
 ghost use Rattle.std.specs.Prelude.{◌≡◌, [], ◌∷◌, ◌++◌, IfOk, OnErr};
-ghost use Rattle.settlement.specs.declared.receipt.Receipt.TheVariants.{Stepped};
-ghost use Rattle.settlement.specs.declared.receipt.TxnStep.TheVariants as step;
+ghost use Rattle.imgcopy_engine.specs.settlement.declared.receipt.Receipt.TheVariants.{Stepped};
+ghost use Rattle.imgcopy_engine.specs.settlement.declared.receipt.TxnStep.TheVariants as step;
 
 use crate::clerk::Bank;
-use aries_core::Refusal;
-use engine_run::Session;
-use log_store::LogDevice;
-use page_core::{Lsn, TxnNo};
-use page_store::PageStore;
+use imgcopy_engine::{LogDevice, Lsn, PageStore, Refusal, Session, TxnNo};
 use std::fmt;
 use std::marker::Model;
 use std::sync::Wait;

@@ -5,13 +5,9 @@ use crate::case::Case;
 use crate::day::Settled;
 use crate::draws::Draws;
 use crate::fault::Fault;
-use copy_coverage::Retired;
-use copy_vault::{CopyId, CopyKind, Vault};
-use log_store::LogImage;
-use loser_undo::undo_all;
-use media_restore::load;
-use page_core::{Page, formatted_pages};
-use page_redo::redo_page;
+use imgcopy_engine::{
+    CopyId, CopyKind, LogImage, Page, Retired, Vault, formatted_pages, load, redo_page, undo_all,
+};
 use std::alloc::{AllocError, Global};
 use std::thread::Threads;
 

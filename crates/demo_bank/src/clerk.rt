@@ -6,11 +6,10 @@ use crate::case::Workers;
 use crate::draws::{Draws, Transfer};
 use crate::halt::Halt;
 use crate::watch::Watch;
-use aries_core::{Refusal, Undone};
-use engine_run::{HoldGate, MAX_SESSIONS, Session, Shared, Work};
-use log_store::LogDevice;
-use page_core::{PageNo, SlotNo, TxnNo};
-use page_store::PageStore;
+use imgcopy_engine::{
+    HoldGate, LogDevice, MAX_SESSIONS, PageNo, PageStore, Refusal, Session, Shared, SlotNo, TxnNo,
+    Undone, Work,
+};
 use std::alloc::Global;
 use std::sync::Wait;
 use std::sync::ledger::Ledger;

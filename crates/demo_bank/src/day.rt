@@ -10,11 +10,9 @@ use crate::fault::Fault;
 use crate::halt::Halt;
 use crate::in_memory::{MemBank, MemOffice, NoHelp};
 use crate::watch::{Watch, Which};
-use aries_core::Setup;
-use copy_coverage::Retired;
-use engine_run::{OpenGate, Session, Work, settle};
-use log_store::{LogDevice, MemDevice};
-use page_store::{MemStore, PageStore};
+use imgcopy_engine::{
+    LogDevice, MemDevice, MemStore, OpenGate, PageStore, Retired, Session, Setup, Work, settle,
+};
 use std::alloc::{AllocError, Global};
 use std::sync::Wait;
 use std::sync::ledger::{Blank, Ledger};

@@ -3,13 +3,10 @@
 ghost use Rattle.std.specs.Prelude.{◌≡◌, IfOk};
 
 use crate::halt::{FileTrouble, Place};
-use file_devices::{FailedFile, FileLog, FileStore};
-use page_store::MemStore;
-use saved_files::Folder;
+use imgcopy_engine::{FailedFile, FileLog, FileStore, Folder, MemStore, SystemFolder};
 use std::fs::File;
 use std::path::Path;
 use std::{fs, io};
-use system_files::SystemFolder;
 
 /// The names of the files of a day, which stand in its folder. That of a copy ends in its id.
 const LOG: &str = "log";

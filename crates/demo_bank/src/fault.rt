@@ -1,12 +1,9 @@
 //! Why a case comes to no end.
 
 use crate::halt::{FileTrouble, Halt};
-use aries_core::{PlayFault, Refusal};
-use copy_vault::CopyFault;
-use engine_run::SettleFault;
-use loser_undo::UndoFault;
-use media_restore::{LoadFault, RedoFault};
-use saved_files::SaveFault;
+use imgcopy_engine::{
+    CopyFault, LoadFault, PlayFault, RedoFault, Refusal, SaveFault, SettleFault, UndoFault,
+};
 use std::alloc::AllocError;
 use thiserror::Error;
 

@@ -13,16 +13,12 @@ use crate::halt::Halt;
 use crate::line::Line;
 use crate::on_files::FileBank;
 use crate::watch::Watch;
-use aries_core::{Refusal, Setup};
-use copy_coverage::Retired;
-use engine_run::settle;
-use page_store::MemStore;
+use imgcopy_engine::{MemStore, Notes, Refusal, Retired, Setup, SystemFolder, settle};
 use std::alloc::{AllocError, Global};
 use std::sync::ledger::{Blank, Ledger};
 use std::sync::{Mutex, Wait};
 use std::thread;
 use std::thread::{Scope, Threads};
-use system_files::{Notes, SystemFolder};
 
 /// What a day on files is to be.
 #[derive(Drop)]

@@ -1,7 +1,6 @@
 //! Why a clerk ends before its work is done.
 
-use aries_core::Refusal;
-use saved_files::{FileFault, SavedName};
+use imgcopy_engine::{FileFault, Refusal, SavedName};
 use std::io::ErrorKind;
 use std::{fmt, io};
 use thiserror::Error;

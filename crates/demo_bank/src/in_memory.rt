@@ -6,11 +6,9 @@ use crate::clerk::{Bank, Clerk, Duty, Helper, Office, PageCall, Polite, flush};
 use crate::draws::Draws;
 use crate::halt::Halt;
 use crate::watch::{Pace, Which};
-use aries_core::Refusal;
-use copy_vault::{CopyId, CopyKind};
-use log_store::{LogDevice, MemDevice};
-use page_core::{PageNo, SlotNo};
-use page_store::{MemStore, PageStore};
+use imgcopy_engine::{
+    CopyId, CopyKind, LogDevice, MemDevice, MemStore, PageNo, PageStore, Refusal, SlotNo,
+};
 use std::alloc::Global;
 use std::sync::Wait;
 use std::sync::ledger::Ledger;

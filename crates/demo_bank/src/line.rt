@@ -2,9 +2,7 @@
 
 use crate::acknowledged::Acknowledged;
 use crate::draws::Transfer;
-use copy_vault::{CopyId, CopyKind};
-use fuzzy_ckpt::Point;
-use page_core::{Lsn, PageNo};
+use imgcopy_engine::{CopyId, CopyKind, Lsn, PageNo, Point};
 use std::fmt;
 
 /// What is told in a line.

@@ -24,12 +24,11 @@ mod watch;
 use books::lines_of;
 use case::{Call, Command};
 use command_words::words_of;
-use copy_coverage::Retired;
 use day::day;
 use fault::Fault;
 use file_day::{Plan, file_day};
 use halt::{FileTrouble, Halt, Place};
-use saved_files::save_files;
+use imgcopy_engine::{Notes, Retired, SystemFolder, save_files};
 use std::fs::File;
 use std::marker::Brand;
 use std::process::ExitCode;
@@ -37,7 +36,6 @@ use std::sync::Wait;
 use std::sync::ledger::Blank;
 use std::thread::Threads;
 use std::{fs, io};
-use system_files::{Notes, SystemFolder};
 
 const USAGE: &str = "usage: demo_bank [--behind] [--save FOLDER] \
     SEED TELLERS FULL_WORKERS INCREMENTAL_WORKERS\n       \

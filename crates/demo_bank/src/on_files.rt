@@ -9,11 +9,9 @@ use crate::hall::{Hall, MOST_REPAIRS};
 use crate::halt::Halt;
 use crate::line::Line;
 use crate::put::{put_copy, put_master};
-use aries_core::Refusal;
-use copy_vault::{CopyId, CopyKind};
-use engine_run::{HoldGate, Work};
-use file_devices::{FileLog, FileStore};
-use page_core::{PageNo, SlotNo};
+use imgcopy_engine::{
+    CopyId, CopyKind, FileLog, FileStore, HoldGate, PageNo, Refusal, SlotNo, Work,
+};
 use std::alloc::Global;
 use std::sync::Wait;
 use std::sync::atomic::{AtomicU64, Ordering};

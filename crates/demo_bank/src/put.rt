@@ -1,27 +1,24 @@
 //! Files that are put in place while others work.
 
 ghost use Rattle.std.specs.Prelude.{OnOk};
-ghost use Rattle.engine_run.specs.CopyWrite.{LeavesCopyOf, WritesCopyOf};
-ghost use Rattle.saved_files.specs.Folder.{Changes, Puts};
-ghost use Rattle.saved_files.specs.PutFault.{bytes_by};
-ghost use Rattle.saved_files.specs.Saved.{name_of};
-ghost use Rattle.saved_files.specs.declared.saved_name.SavedName.TheVariants as saved;
+ghost use Rattle.imgcopy_engine.specs.engine_run.CopyWrite.{LeavesCopyOf, WritesCopyOf};
+ghost use Rattle.imgcopy_engine.specs.saved_files.Folder.{Changes, Puts};
+ghost use Rattle.imgcopy_engine.specs.saved_files.PutFault.{bytes_by};
+ghost use Rattle.imgcopy_engine.specs.saved_files.Saved.{name_of};
+ghost use Rattle.imgcopy_engine.specs.saved_files.declared.saved_name.SavedName.TheVariants as saved;
 ghost use Rattle.demo_bank.specs.Put.{WritesMasterOf};
 
 use crate::clerk::Bank;
 use crate::hall::Hall;
 use crate::halt::{FileTrouble, Halt, Place};
-use aries_core::Refusal;
-use copy_vault::{CopyId, CopyWriteFault};
-use fuzzy_ckpt::Point;
-use log_store::{LogDevice, Master};
-use page_store::PageStore;
-use saved_files::{FileFault, Folder, PutFault, SavedName, Source, put_in_place};
+use imgcopy_engine::{
+    CopyId, CopyWriteFault, FileFault, Folder, LogDevice, Master, Notes, PageStore, Point,
+    PutFault, Refusal, SavedName, Source, SystemFolder, put_in_place,
+};
 use std::alloc::Global;
 use std::io::Write;
 use std::sync::Wait;
 use std::sync::ledger::Ledger;
-use system_files::{Notes, SystemFolder};
 
 /// A copy of a shared engine, whose archive is written.
 #[derive(Drop)]

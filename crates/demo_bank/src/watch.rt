@@ -2,8 +2,7 @@
 
 use crate::accounts::PAGES;
 use crate::in_memory::{BEFORE_INCREMENTAL, TRANSFERS};
-use engine_run::HoldGate;
-use page_core::PageNo;
+use imgcopy_engine::{HoldGate, PageNo};
 use std::alloc::{AllocError, Global};
 use std::sync::atomic::{AtomicBool, AtomicU64, Ordering};
 use std::thread;

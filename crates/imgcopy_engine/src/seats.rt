@@ -67,7 +67,8 @@ pub(crate) fn work_all<S, D, G, R, T>(
     rt: &R,
     seats: &[Mutex<Seat<'_, S, D, G, R>>],
     tasks: &mut [T],
-) where
+)
+where
     S: PageStore + Send,
     D: LogDevice + Send,
     G: Ledger + Send + Sync,
@@ -78,13 +79,18 @@ pub(crate) fn work_all<S, D, G, R, T>(
     if count == 0 {
         return;
     }
-    thread::for_each_mut(rt, tasks, count, &|number, task: &mut T| {
-        if let Some(seat) = seats.get(number) {
-            let mut seat = seat.lock(rt);
-            let Seat { client, works } = &mut *seat;
-            task.work(client, works);
-        }
-    });
+    thread::for_each_mut(
+        rt,
+        tasks,
+        count,
+        &|number, task: &mut T| {
+            if let Some(seat) = seats.get(number) {
+                let mut seat = seat.lock(rt);
+                let Seat { client, works } = &mut *seat;
+                task.work(client, works);
+            }
+        },
+    );
 }
 
 /// The sessions, and what all were answered.

@@ -3,8 +3,8 @@
 pub use imgcopy_engine::{
     Calls, Client, Committed, CopyId, CopyKind, Engine, FileLog, FileStore, HoldGate, LogDevice,
     Lsn, MemDevice, MemStore, NotDone, OpenGate, Page, PageNo, PageStore, Receipt, Refusal,
-    Restarted, Retired, RunFault, Session, Setup, Shared, SlotNo, Stop, SystemFolder, TxnNo, Undone,
-    UndoneVolume, Unsettled, Work, attempt, audit, finish, load, log_in, put_in_place,
+    Restarted, Retired, RunFault, Session, Setup, Shared, SlotNo, Stop, SystemFolder, Task, TxnNo,
+    Undone, UndoneVolume, Unsettled, Work, attempt, audit, finish, load, log_in, put_in_place,
     read_archive, reopen_files, restart, restore_files, roll_back, run_new, run_on, settle,
-    step_back, store_of, transact, Task,
+    step_back, store_of, transact,
 };
