@@ -1,7 +1,7 @@
 #!/usr/bin/env bash
 # usage: plants.sh        tries the wrong bodies that the gate leaves out: in tools/plants, a folder for each crate
-# The gate proves a crate once more for each of its wrong bodies. These crates have so few that it would prove them for
-# little else. The status is 0 if each body is refused.
+# The gate proves a crate once more before it tries the first of its wrong bodies. These crates have few, and some take
+# long to prove: a bank and a database in a folder take half an hour of a processor. The status is 0 if each is refused.
 set -eu
 cd "$(dirname "$0")/.."
 for folder in tools/plants/*; do
