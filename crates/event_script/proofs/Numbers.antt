@@ -1,9 +1,10 @@
 -- The number that digits make, and numbers that are too large.
 use Rattle.std.specs.Prelude.{ℕ, ◌≡◌, ◌+◌, ◌-◌, ◌*◌, ◌^◌, ◌<◌, ◌≤◌, ◌&&◌, suc, List, [], ◌∷◌, ◌++◌, length}
-use Rattle.std.specs.Prelude.{Bool, true, false, nat_le, nat_lt, refl, Option, Some, None, SomeIff, if◌then◌else◌}
+use Rattle.std.specs.Prelude.{Bool, true, false, nat_le, nat_lt, refl, Option, Some, None, SomeIff, if◌then◌else◌, take, get_or}
 use Rattle.std.proofs.Common.{arith, sym, ap, ◌∙◌}
 use Rattle.std.proofs.Math.Nat.{pow-le-pow_right, pow-suc}
 use Rattle.std.proofs.lemmas.Bool.Decides.{nat_tests}
+use Rattle.std.proofs.lemmas.List.{length-take-le, take_more}
 use Rattle.event_script.specs.Words.{below, digits_after, is_digit, number_of}
 
 -- a number of fewer than 19 digits leaves room for one more
@@ -113,3 +114,34 @@ pub too_large : (word digits : List ℕ) (last number : ℕ) → word ≡ digits
 too_large word digits last number e count made digit large =
     sym (with_last word digits last number e count made digit
     ∙ not_below 18446744073709551616 (number * 10 + (last - 48)) (omega arith))
+
+-- one digit more in front
+pub one_more : (text : List ℕ) (i number : ℕ) → i < length text → digits_after 0 (take i text) ≡ Some number
+    → is_digit (get_or text i 0) ≡ true
+    → digits_after 0 (take (i + 1) text) ≡ Some (number * 10 + (get_or text i 0 - 48))
+one_more text i number within made digit =
+    let b = get_or text i 0 in
+    ap (digits_after 0) (take_more text i 0 within)
+    ∙ go_on 0 number (take i text) (b ∷ []) made
+    ∙ ap (λ (c : Bool). if c then Some (number * 10 + (b - 48)) else None) digit
+
+-- a short word is a number
+pub short : (text : List ℕ) (n number : ℕ) → 0 < n → n ≤ 19 → n ≤ length text
+    → number < 18446744073709551616 → digits_after 0 (take n text) ≡ Some number
+    → number_of (take n text) ≡ Some number
+short text n number some few within small made =
+    let count : length (take n text) ≡ n = length-take-le n text within in
+    let low : nat_le 1 (length (take n text)) ≡ true = grind (arith, nat_tests) in
+    let high : nat_le (length (take n text)) 20 ≡ true = grind (arith, nat_tests) in
+    ap (λ (b : Bool). if b then below 18446744073709551616 (digits_after 0 (take n text)) else None)
+    (ap (λ (b : Bool). b && nat_le (length (take n text)) 20) low ∙ high)
+    ∙ ap (below 18446744073709551616) made
+    ∙ is_below 18446744073709551616 number small
+
+-- a digit more makes a number of a digit more
+pub grows : (i number b : ℕ) → number < 10 ^ i → is_digit b ≡ true → number * 10 + (b - 48) < 10 ^ (i + 1)
+grows i number b small digit =
+    let same : i + 1 ≡ suc i = omega arith in
+    let power : 10 ^ (i + 1) ≡ 10 ^ i * 10 = ap (λ (k : ℕ). 10 ^ k) same ∙ pow-suc 10 i in
+    let high : b ≤ 57 = grind (arith, nat_tests, digit) in
+    omega (arith, power, high)

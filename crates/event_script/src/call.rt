@@ -1,6 +1,6 @@
 //! The call that a line names.
 
-ghost use Rattle.std.specs.Prelude.{◌≡◌};
+ghost use Rattle.std.specs.Prelude.{◌≡◌, IfSome, Some};
 ghost use Rattle.event_script.specs.Script.{args_of, call_of, call_of_copied_page, call_of_none};
 ghost use Rattle.event_script.specs.Script.{call_of_one, call_of_two, called, change_of};
 ghost use Rattle.event_script.specs.Script.{checkpoint_calls, copy_calls, entry_of, page_calls};
@@ -9,6 +9,7 @@ ghost use Rattle.event_script.specs.Script.{volume_calls};
 ghost use Rattle.event_script.specs.Words.{words_of};
 
 use crate::number::number_of;
+use crate::short_word::short_word;
 use crate::words::next_word;
 use aries_core::Event;
 use copy_vault::CopyId;
@@ -23,10 +24,33 @@ pub(crate) enum Args {
     Four(u64, u64, u64, u64),
 }
 
+/// The numbers in these bytes, where all are short, and no space stands behind the last one.
+fn short_args(bytes: &[u8]) -> Option<Args>
+    ensures { IfSome result (λ args. args_of (words_of bytes.now) ≡ Some args) }
+{
+    let (a, rest) = short_word(bytes)?;
+    if rest.is_empty() {
+        return Some(Args::One(a));
+    }
+    let (b, rest) = short_word(rest)?;
+    if rest.is_empty() {
+        return Some(Args::Two(a, b));
+    }
+    let (c, rest) = short_word(rest)?;
+    let (d, rest) = short_word(rest)?;
+    if rest.is_empty() {
+        return Some(Args::Four(a, b, c, d));
+    }
+    None
+}
+
 /// The numbers in these bytes. No call has three, or more than four.
 pub(crate) fn args_of(bytes: &[u8]) -> Option<Args>
     ensures { result ≡ args_of (words_of bytes.now) }
 {
+    if let Some(args) = short_args(bytes) {
+        return Some(args);
+    }
     let Some((a, rest)) = next_word(bytes) else {
         return Some(Args::Nothing);
     };

@@ -11,6 +11,7 @@ mod number;
 mod read;
 mod reply;
 mod script;
+mod short_word;
 mod words;
 
 pub use fault::ScriptFault;

@@ -21,7 +21,7 @@ fn count_before(bytes: &[u8], parting: u8) -> usize
 }
 
 /// How many spaces stand in front.
-fn count_spaces(bytes: &[u8]) -> usize
+pub(crate) fn count_spaces(bytes: &[u8]) -> usize
     ensures within { result ≤ length bytes.now }
     ensures spaces { (k : ℕ) → k < result → slice_index bytes.now k ≡ 32 }
     ensures other { result < length bytes.now → slice_index bytes.now result ≢ 32 }
