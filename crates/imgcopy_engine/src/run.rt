@@ -1,16 +1,16 @@
 //! A program on a shared engine: its tasks, each in a thread of its own.
 
-ghost use Rattle.std.specs.Prelude.{ℕ, ◌≡◌, IfErr, IfOk, length};
+ghost use Rattle.std.specs.Prelude.{◌≡◌, IfErr, IfOk, OnOk, length};
 ghost use Rattle.page_core.specs.Volume.{formatted_pages};
 ghost use Rattle.buffer_pool.specs.Pool.{IsFrameCount};
 ghost use Rattle.log_records.specs.Log.{IsPageCount};
-ghost use Rattle.imgcopy_engine.specs.Run.{WasSettled, WasTried};
+ghost use Rattle.imgcopy_engine.specs.Run.{HaveWorked, WasSettled, WasTried};
 
 use crate::client::Client;
 use crate::seats::{gathered, seats_of, sessions_of, work_all};
 use aries_core::{Engine, PlayFault, Setup};
 use copy_coverage::Retired;
-use engine_run::{SettleFault, Shared, Work, settle};
+use engine_run::{MAX_SESSIONS, SettleFault, Shared, Work, settle};
 use log_store::LogDevice;
 use page_store::PageStore;
 use std::alloc::Global;
@@ -22,13 +22,17 @@ use std::thread::Threads;
 /// What one thread of a program does with a shared engine. It is written once for all stores,
 /// devices and ledgers: `run_new` and `run_on` pick the ledger, and start the threads.
 pub trait Task<R: Wait> {
+    /// What the work makes of a task: it was the first, and is the second.
+    ghost worked: { Self → Self → Type 0 };
+
     /// Does it, as the user of a session. What its checkpoints and copies are answered goes into
     /// `works`.
     fn work<S: PageStore, D: LogDevice, G: Ledger>(
         &mut self,
         client: &mut Client<'_, S, D, G, R>,
         works: &mut Vec<Work>,
-    );
+    )
+        ensures { worked self.old self.new };
 }
 
 /// Why a run has no settled end.
@@ -65,7 +69,8 @@ where
     requires frames { IsFrameCount setup.frames }
     requires formatted { S.stored store ≡ formatted_pages setup.pages }
     ensures settled { IfOk result (WasSettled 0) }
-    ensures tried { IfErr result (λ why. WasTried why tasks.old tasks.new) }
+    ensures worked { OnOk result (HaveWorked T.worked tasks.old tasks.new) }
+    ensures tried { IfErr result (λ why. WasTried T.worked why tasks.old tasks.new) }
 {
     new_with::<S, D, Brand, R, T>(rt, alloc, Blank::new(65), setup, store, device, tasks)
 }
@@ -92,7 +97,8 @@ where
     requires frames { IsFrameCount setup.frames }
     requires formatted { S.stored store ≡ formatted_pages setup.pages }
     ensures settled { IfOk result (WasSettled 0) }
-    ensures tried { IfErr result (λ why. WasTried why tasks.old tasks.new) }
+    ensures worked { OnOk result (HaveWorked T.worked tasks.old tasks.new) }
+    ensures tried { IfErr result (λ why. WasTried T.worked why tasks.old tasks.new) }
 {
     match Shared::<S, D, G>::new(alloc, blank, setup, store, device) {
         Ok(shared) => run_tasks(rt, alloc, shared, tasks),
@@ -113,7 +119,8 @@ where
     R: Threads + Wait + Sync,
     T: Task<R> + Send,
     ensures settled { IfOk result (WasSettled (length engine.state.log)) }
-    ensures tried { IfErr result (λ why. WasTried why tasks.old tasks.new) }
+    ensures worked { OnOk result (HaveWorked T.worked tasks.old tasks.new) }
+    ensures tried { IfErr result (λ why. WasTried T.worked why tasks.old tasks.new) }
 {
     on_with::<S, D, Brand, R, T>(rt, alloc, Blank::new(65), engine, tasks)
 }
@@ -135,7 +142,8 @@ where
     requires parts { blank.parts ≡ G.parts }
     requires sessions { blank.parts ≡ 65 }
     ensures settled { IfOk result (WasSettled (length engine.state.log)) }
-    ensures tried { IfErr result (λ why. WasTried why tasks.old tasks.new) }
+    ensures worked { OnOk result (HaveWorked T.worked tasks.old tasks.new) }
+    ensures tried { IfErr result (λ why. WasTried T.worked why tasks.old tasks.new) }
 {
     match Shared::<S, D, G>::resume(alloc, blank, engine) {
         Ok(shared) => run_tasks(rt, alloc, shared, tasks),
@@ -156,10 +164,17 @@ where
     G: Ledger + Send + Sync,
     R: Threads + Wait + Sync,
     T: Task<R> + Send,
+    requires none { shared.sessions ≡ 0 }
     ensures settled { IfOk result (WasSettled shared.began) }
-    ensures tried { IfErr result (λ why. WasTried why tasks.old tasks.new) }
+    ensures worked { OnOk result (HaveWorked T.worked tasks.old tasks.new) }
+    ensures tried { IfErr result (λ why. WasTried T.worked why tasks.old tasks.new) }
 {
-    let sessions = sessions_of(alloc, &mut shared, tasks.len())?;
+    if tasks.len() > MAX_SESSIONS as usize {
+        return Err(RunFault::TooManyTasks);
+    }
+    let Ok(sessions) = sessions_of(alloc, &mut shared, tasks.len()) else {
+        return Err(RunFault::OutOfMemory);
+    };
     let Ok(seats) = seats_of(rt, alloc, &shared, sessions) else {
         return Err(RunFault::OutOfMemory);
     };

@@ -1,11 +1,11 @@
 //! The sessions of a run, each with the works of its task.
 
-ghost use Rattle.std.specs.Prelude.{◌≡◌, ◌≢◌, IfErr};
-ghost use Rattle.imgcopy_engine.specs.declared.run.RunFault.TheVariants as fault;
+ghost use Rattle.std.specs.Prelude.{◌≡◌, ◌+◌, ◌<◌, ◌≤◌, IfOk, length, vec_len};
+ghost use Rattle.imgcopy_engine.specs.Run.{HaveWorked};
 
 use crate::client::Client;
-use crate::run::{RunFault, Task};
-use engine_run::{MAX_SESSIONS, Session, Shared, Work};
+use crate::run::Task;
+use engine_run::{Session, Shared, Work};
 use log_store::LogDevice;
 use page_store::PageStore;
 use std::alloc::{AllocError, Global};
@@ -26,18 +26,14 @@ pub(crate) fn sessions_of<S: PageStore, D: LogDevice, G: Ledger>(
     alloc: Global,
     shared: &mut Shared<S, D, G>,
     count: usize,
-) -> Result<Vec<Session<G>>, RunFault>
+) -> Result<Vec<Session<G>>, AllocError>
+    requires few { shared.old.sessions + count ≤ 64 }
+    ensures count { IfOk result (λ it. vec_len it ≡ count) }
     ensures began { shared.new.began ≡ shared.old.began }
-    ensures early { IfErr result (λ why. (why ≡ fault.OutOfMemory) ⊎ (why ≡ fault.TooManyTasks)) }
 {
     let mut sessions = Vec::new(alloc);
     for _ in 0..count {
-        if shared.sessions() >= MAX_SESSIONS {
-            return Err(RunFault::TooManyTasks);
-        }
-        if sessions.push(shared.session(alloc)).is_err() {
-            return Err(RunFault::OutOfMemory);
-        }
+        sessions.push(shared.session(alloc))?;
     }
     Ok(sessions)
 }
@@ -48,7 +44,9 @@ pub(crate) fn seats_of<'a, S: PageStore, D: LogDevice, G: Ledger, R: Wait>(
     alloc: Global,
     shared: &'a Shared<S, D, G>,
     sessions: Vec<Session<G>>,
-) -> Result<Vec<Mutex<Seat<'a, S, D, G, R>>>, AllocError> {
+) -> Result<Vec<Mutex<Seat<'a, S, D, G, R>>>, AllocError>
+    ensures count { IfOk result (λ it. vec_len it ≡ vec_len sessions) }
+{
     let mut seats = Vec::new(alloc);
     for session in sessions {
         let client = Client {
@@ -74,6 +72,8 @@ where
     G: Ledger + Send + Sync,
     R: Threads + Wait + Sync,
     T: Task<R> + Send,
+    requires seats { length tasks.old ≤ length seats.now }
+    ensures { HaveWorked T.worked tasks.old tasks.new }
 {
     let count = tasks.len();
     if count == 0 {
@@ -83,12 +83,13 @@ where
         rt,
         tasks,
         count,
-        &|number, task: &mut T| {
-            if let Some(seat) = seats.get(number) {
-                let mut seat = seat.lock(rt);
-                let Seat { client, works } = &mut *seat;
-                task.work(client, works);
-            }
+        &|number, task: &mut T|
+            requires { number < length seats.now }
+            ensures { T.worked task.entry.now task.exit.now }
+        {
+            let mut seat = seats[number].lock(rt);
+            let Seat { client, works } = &mut *seat;
+            task.work(client, works);
         },
     );
 }

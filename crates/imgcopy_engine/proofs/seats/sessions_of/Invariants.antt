@@ -1,0 +1,8 @@
+use Rattle.std.proofs.Common.{◌≡◌, ◌+◌, vec_len}
+use Rattle.imgcopy_engine.proofs.seats.sessions_of.Given as goal
+
+-- as many sessions as were made, of an engine whose log was there before
+abbrev pub invariant-loop : goal.invariant-loop
+invariant-loop g l =
+    (vec_len l.sessions ≡ l.counter) × (l.shared.sessions ≡ l.fn.shared.sessions + l.counter)
+    × (l.shared.began ≡ l.fn.shared.began)
