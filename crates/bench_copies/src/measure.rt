@@ -93,7 +93,7 @@ pub fn measure<G: Ledger + Send + Sync, R: Threads + Wait + Clock + Sync>(
     requires some { 1 ≤ case.now.pages }
     requires few { case.now.pages ≤ 65536 }
     requires workers { case.now.workers ≤ 64 }
-    requires sessions { 1 ≤ case.now.sessions }
+    requires users { 1 ≤ case.now.sessions }
 {
     let mut shared = volume::<G>(alloc, blank, case.pages)?;
     let mut users = users_of(alloc, &mut shared, case)?;
