@@ -14,12 +14,12 @@ ghost use Rattle.copy_audit.specs.Told.{AreFirstOf, AreToldOf, HasTold, IsTold};
 
 use crate::chain_audit::{places, points_of};
 use crate::members::first_unsound;
+use crate::page_links::PageLinks;
 use crate::unsound::Unsound;
 use copy_vault::{ChainReadFault, ChainReader, CopyId};
 use log_records::Record;
 use log_store::{LogImage, read_log};
 use page_core::{Lsn, Page, PageNo};
-use page_redo::by_page;
 use std::alloc::{AllocError, Global};
 use std::io::Read;
 
@@ -85,9 +85,10 @@ fn pages_in<A: Read>(
 {
     let counts = log.counts(alloc)?;
     let mut chain = ChainReader::new(alloc, archives, &counts, log.end())?;
-    let changes = by_page(alloc, log.records(), Lsn(0), log.page_count())?;
+    let changes = PageLinks::new(alloc, log.records(), log.page_count())?;
     let points = points_of(alloc, &chain, archives.len())?;
     let mut row = places(alloc, archives.len())?;
+    let mut numbers = Vec::new(alloc);
     let mut found = UnsoundPages {
         pages: Vec::new(alloc),
         has_more: false,
@@ -98,12 +99,13 @@ fn pages_in<A: Read>(
             return Ok(found);
         }
         let page = PageNo(number);
+        changes.list(page, &mut numbers)?;
         note_row(
             alloc,
             &chain,
             &points,
             log.records(),
-            changes.of(page),
+            &numbers,
             page,
             &row,
             &mut found,

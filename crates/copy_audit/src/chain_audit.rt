@@ -15,12 +15,12 @@ ghost use Rattle.copy_audit.specs.Rows.{AreFound};
 
 use crate::found::Found;
 use crate::members::first_unsound;
+use crate::page_links::PageLinks;
 use crate::unsound::Unsound;
 use copy_vault::{ChainReadFault, ChainReader};
 use log_records::Record;
 use log_store::{LogImage, read_log};
 use page_core::{Lsn, Page, PageNo};
-use page_redo::by_page;
 use std::alloc::{AllocError, Global};
 use std::io::Read;
 
@@ -42,10 +42,10 @@ pub struct Sound;
 /// it gave holds no fault.
 ///
 /// The archives are read side by side, in one pass. Beside the log's records, 4 bytes a record and
-/// 4 a page of the volume, just the redo point and one page of each archive are kept, and a copy of
-/// that page. Each record is redone once on its page, and at most twice where an archive has an
-/// older page than one before it in the chain: these pages are looked at in the order of their
-/// LSNs, with 32 bytes an archive.
+/// 4 a page of the volume, just the numbers of one page's changes, and the redo point and one page
+/// of each archive are kept, with a copy of that page. Each record is redone once on its page, and
+/// at most twice where an archive has an older page than one before it in the chain: these pages
+/// are looked at in the order of their LSNs, with 32 bytes an archive.
 pub fn audit<L: Read, A: Read>(
     alloc: Global,
     log: &mut L,
@@ -84,9 +84,10 @@ fn first_in<A: Read>(
 {
     let counts = log.counts(alloc)?;
     let mut chain = ChainReader::new(alloc, archives, &counts, log.end())?;
-    let changes = by_page(alloc, log.records(), Lsn(0), log.page_count())?;
+    let changes = PageLinks::new(alloc, log.records(), log.page_count())?;
     let points = points_of(alloc, &chain, archives.len())?;
     let mut row = places(alloc, archives.len())?;
+    let mut numbers = Vec::new(alloc);
     let mut found = None;
     let mut number = 0;
     'rows: loop {
@@ -94,15 +95,8 @@ fn first_in<A: Read>(
             return Ok(named(&chain, found));
         }
         let page = PageNo(number);
-        found = found_with(
-            alloc,
-            &points,
-            log.records(),
-            changes.of(page),
-            page,
-            &row,
-            found,
-        )?;
+        changes.list(page, &mut numbers)?;
+        found = found_with(alloc, &points, log.records(), &numbers, page, &row, found)?;
         number += 1;
     }
 }

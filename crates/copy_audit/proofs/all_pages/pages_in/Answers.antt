@@ -35,8 +35,8 @@ returns-then-not-branch-clause-ok g c =
     all_listed inputs (map left c.rows.archives) c.args.log.now c.rows.chain c.next_each.new.self
     (length c.rows.row.items) c.rows.number c.rows.found listed read ended.ids ended.points ended.end
 
-pub of-requires : goal.of-requires
-of-requires g c =
+pub list-requires : goal.list-requires
+list-requires g c =
     let left = g.A.Read.remaining in
     let inputs = map left c.args.archives.now in
     let listed = c.rows.invariant.listed in
@@ -48,7 +48,7 @@ of-requires g c =
     omega (
       arith,
       below,
-      ap length c.in_ok-changes.ensures.numbers,
+      ap length c.in_ok-changes.ensures,
       length-map-range_with_len (numbers_on c.records.result.now 0) 0 c.page_count.result,
       c.page_count.ensures.count,
     )
@@ -64,7 +64,7 @@ note_row-requires-clause-numbers g c =
     c.next_each.new.self (length c.rows.row.items) c.rows.number c.rows.found (map place_list c.next_each.new.row) listed
     going in
     let n = c.rows.number in
-    c.of.ensures ∙ ap (λ (ls : List (List ℕ)). get_or ls n []) c.in_ok-changes.ensures.numbers
+    c.deref-in-rows.ensures.value ∙ c.in_ok-list.ensures ∙ ap (λ (ls : List (List ℕ)). get_or ls n []) c.in_ok-changes.ensures
     ∙ get_or-map-range_with_len (numbers_on c.records.result.now 0) 0 c.page_count.result n n []
     (omega (arith, below, c.page_count.ensures.count)) (omega arith)
     ∙ ap (λ (rs : List Record). numbers_on rs 0 n) (c.records.ensures.records ∙ sym c.records-in-rows.ensures.records)
@@ -107,11 +107,11 @@ rows-preserved g c =
     step.length ∙ ap length c.deref_mut.ensures.value in
     let same : places.items ≡ c.next_each.new.row =
     with_items_is c.rows.row c.next_each.new.row (omega (arith, c.rows.row.ok.0, wide)) in
-    let row : c.deref-in-rows.result.now ≡ places.items = c.deref-in-rows.ensures.value in
+    let row : c.deref-in-rows-2.result.now ≡ places.items = c.deref-in-rows-2.ensures.value in
     let same_points = c.deref.ensures.value ∙ c.rows.invariant.points ∙ sym step.points in
     let more = listed_more inputs (map left c.rows.archives) now c.args.log.now c.rows.chain c.next_each.new.self
     (length c.rows.row.items) c.rows.number c.rows.found c.note_row.new.found c.records-in-rows.result.now
-    c.deref-in-rows.result.now listed
+    c.deref-in-rows-2.result.now listed
     (subst (λ (r : List (Option Page)). IsReadingEach (counts_of c.args.log.now) inputs now c.next_each.new.self (listed.given ++ map place_list r ∷ []))
     (sym (row ∙ same)) going)
     c.records-in-rows.ensures.records step.ids step.points step.end (ap length (row ∙ same) ∙ wide)

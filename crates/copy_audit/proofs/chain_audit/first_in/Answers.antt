@@ -43,8 +43,8 @@ returns-then-not-branch-clause-end g c =
     let looked = c.rows.invariant.looked in
     (rw c.if-not-branch.true at (c.in_ok-next_each.ensures.ok (counts_of c.args.log.now) inputs looked.given looked.reading)).1
 
-pub of-requires : goal.of-requires
-of-requires g c =
+pub list-requires : goal.list-requires
+list-requires g c =
     let left = g.A.Read.remaining in
     let inputs = map left c.args.archives.now in
     let looked = c.rows.invariant.looked in
@@ -56,7 +56,7 @@ of-requires g c =
     omega (
       arith,
       below,
-      ap length c.in_ok-changes.ensures.numbers,
+      ap length c.in_ok-changes.ensures,
       length-map-range_with_len (numbers_on c.records.result.now 0) 0 c.page_count.result,
       c.page_count.ensures.count,
     )
@@ -72,7 +72,7 @@ found_with-requires-clause-numbers g c =
     c.next_each.new.self (length c.rows.row.items) c.rows.number c.rows.found (map place_list c.next_each.new.row) looked
     going in
     let n = c.rows.number in
-    c.of.ensures ∙ ap (λ (ls : List (List ℕ)). get_or ls n []) c.in_ok-changes.ensures.numbers
+    c.deref-in-rows.ensures.value ∙ c.in_ok-list.ensures ∙ ap (λ (ls : List (List ℕ)). get_or ls n []) c.in_ok-changes.ensures
     ∙ get_or-map-range_with_len (numbers_on c.records.result.now 0) 0 c.page_count.result n n []
     (omega (arith, below, c.page_count.ensures.count)) (omega arith)
     ∙ ap (λ (rs : List Record). numbers_on rs 0 n) (c.records.ensures.records ∙ sym c.records-in-rows.ensures.records)
@@ -115,18 +115,18 @@ rows-preserved g c =
     step.length ∙ ap length c.deref_mut.ensures.value in
     let same : places.items ≡ c.next_each.new.row =
     with_items_is c.rows.row c.next_each.new.row (omega (arith, c.rows.row.ok.0, wide)) in
-    let row : c.deref-in-rows.result.now ≡ places.items = c.deref-in-rows.ensures.value in
+    let row : c.deref-in-rows-2.result.now ≡ places.items = c.deref-in-rows-2.ensures.value in
     let same_points = c.deref.ensures.value ∙ c.rows.invariant.points ∙ sym step.points in
     let more = looked_more inputs (map left c.rows.archives) now c.args.log.now c.rows.chain c.next_each.new.self
     (length c.rows.row.items) c.rows.number c.rows.found c.in_ok-found.found c.records-in-rows.result.now
-    c.deref-in-rows.result.now looked
+    c.deref-in-rows-2.result.now looked
     (subst (λ (r : List (Option Page)). IsReadingEach (counts_of c.args.log.now) inputs now c.next_each.new.self (looked.given ++ map place_list r ∷ []))
     (sym (row ∙ same)) going)
     c.records-in-rows.ensures.records step.ids step.points step.end (ap length (row ∙ same) ∙ wide)
     (subst (λ (ps : List ℕ). (given : List (List (List Page))) → length given ≡ c.rows.number
-    → AreFound c.records-in-rows.result.now ps (length c.deref-in-rows.result.now) given c.rows.found
-    → AreFound c.records-in-rows.result.now ps (length c.deref-in-rows.result.now)
-    (given ++ map place_list c.deref-in-rows.result.now ∷ []) c.in_ok-found.found) same_points c.in_ok-found.ensures) in
+    → AreFound c.records-in-rows.result.now ps (length c.deref-in-rows-2.result.now) given c.rows.found
+    → AreFound c.records-in-rows.result.now ps (length c.deref-in-rows-2.result.now)
+    (given ++ map place_list c.deref-in-rows-2.result.now ∷ []) c.in_ok-found.found) same_points c.in_ok-found.ensures) in
     record {
       looked = subst (λ n. HasLooked inputs now c.args.log.now c.next_each.new.self n (c.rows.number + 1)
           c.in_ok-found.found) (ap length row) more;
