@@ -3,6 +3,7 @@ pub mod ByLsn
 pub mod Founds
 pub mod Linked
 pub mod Looks
+pub mod OnPage
 pub mod Rowwise
 pub mod Tells
 pub mod Traces

@@ -1,88 +1,72 @@
-use Rattle.std.proofs.Common.{◌≡◌, ◌∙◌, ℕ, ◌+◌, ◌-◌, ◌<◌, List, eqb, length, get_or, refl, ap, subst, arith}
-use Rattle.std.specs.Prelude.{Option, Some, None, false}
-use Rattle.std.specs.Option.{option_map_or}
+use Rattle.std.proofs.Common.{◌≡◌, ◌∙◌, ℕ, ◌+◌, ◌-◌, ◌<◌, length, refl, sym, ap, subst, arith}
+use Rattle.std.specs.Prelude.{Some}
 use Rattle.std.proofs.lemmas.List.{length-replicate, length-set}
-use Rattle.std.proofs.lemmas.Option.{slice_get_read}
-use Rattle.log_records.specs.declared.record.Record.{Record}
-use Rattle.page_redo.specs.PageRecords.{is_on, number_is_on}
-use Rattle.copy_audit.specs.Links.{AreLinked}
-use Rattle.copy_audit.proofs.Linked.{IsOn, all_linked, linked_none, linked_with, linked_without}
+use Rattle.copy_audit.specs.Links.{AreLinked, is_place_on}
+use Rattle.copy_audit.proofs.Linked.{IsOn, all_linked, linked_none, linked_with, linked_without, on_place, on_no_place}
 use Rattle.copy_audit.proofs.page_links.link.Goals as goal
 
-pub loop-number-init : goal.loop-number-init
-loop-number-init c =
-    let n = length c.args.log.now in
+pub loop-place-init : goal.loop-place-init
+loop-place-init c =
+    let cs = c.args.changes.now in
+    let n = length cs in
     record {
       len = refl;
       below = omega arith;
-      linked = linked_none (number_is_on c.args.log.now 0) n (length c.args.firsts.now) c.args.firsts.now
+      linked = linked_none (is_place_on cs) n (length c.args.firsts.now) c.args.firsts.now
           c.args.nexts.now c.requires.firsts c.requires.nexts refl (ap length c.requires.nexts ∙ length-replicate n n);
     }
 
-pub bounds-log-number : goal.bounds-log-number
-bounds-log-number c = omega (arith, c.loop-number.invariant.below, c.loop-number-test.true)
+pub bounds-changes-place : goal.bounds-changes-place
+bounds-changes-place c = omega (arith, c.loop-place.invariant.below, c.loop-place-test.true)
 
-pub bounds-nexts-number : goal.bounds-nexts-number
-bounds-nexts-number c =
-    omega (arith, c.loop-number.invariant.below, c.loop-number-test.true, c.loop-number.invariant.linked.all)
+pub bounds-nexts-place : goal.bounds-nexts-place
+bounds-nexts-place c =
+    omega (arith, c.loop-place.invariant.below, c.loop-place-test.true, c.loop-place.invariant.linked.all)
 
--- the record is on the page that its place names, or on none
-on_place : (rs : List Record) (count i : ℕ) (r : Record) (place : Option ℕ) → i < length rs → r ≡ get_or rs i r
-    → ((q : ℕ) → q < count → is_on 0 q r ≡ option_map_or (λ p. eqb p q) place false)
-    → IsOn (number_is_on rs 0) count i place
-on_place rs count i r place lt at is = λ q below.
-    ap (λ (o : Option Record). option_map_or (is_on 0 q) o false) (slice_get_read rs (length rs) i r refl lt at)
-    ∙ is q below
-
-pub loop-number-preserved-in-Some : goal.loop-number-preserved-in-Some
-loop-number-preserved-in-Some c =
-    let rs = c.args.log.now in
-    let i = c.loop-number.number - 1 in
-    let p = c.in-Some.page in
-    let so_far = c.loop-number.invariant in
-    let lt : i < length rs = omega (arith, so_far.below, c.loop-number-test.true) in
-    let one : c.loop-number.number ≡ i + 1 = omega (arith, c.loop-number-test.true) in
-    let linked : AreLinked (number_is_on rs 0) (length rs) (i + 1) c.loop-number.firsts c.loop-number.nexts =
-    subst (λ (k : ℕ). AreLinked (number_is_on rs 0) (length rs) k c.loop-number.firsts c.loop-number.nexts) one
+pub loop-place-preserved-then-page-firsts : goal.loop-place-preserved-then-page-firsts
+loop-place-preserved-then-page-firsts c =
+    let cs = c.args.changes.now in
+    let i = c.loop-place.place - 1 in
+    let p = c.page-in-loop-place.inside.0 in
+    let so_far = c.loop-place.invariant in
+    let lt : i < length cs = omega (arith, so_far.below, c.loop-place-test.true) in
+    let one : c.loop-place.place ≡ i + 1 = omega (arith, c.loop-place-test.true) in
+    let linked : AreLinked (is_place_on cs) (length cs) (i + 1) c.loop-place.firsts c.loop-place.nexts =
+    subst (λ (k : ℕ). AreLinked (is_place_on cs) (length cs) k c.loop-place.firsts c.loop-place.nexts) one
     so_far.linked in
+    let is : c.index-changes-place.result.page ≡ p = sym (c.page-in-loop-place.view_is ∙ c.page.ensures) in
     record {
-      len = length-set c.loop-number.firsts p i ∙ so_far.len;
+      len = length-set c.loop-place.firsts p i ∙ so_far.len;
       below = omega arith;
-      linked = linked_with (number_is_on rs 0) (length rs) i p c.loop-number.firsts c.loop-number.nexts linked lt
-          c.in-Some.ensures.within
-          (on_place rs (length c.loop-number.firsts) i c.index-log-number.result (Some p) lt c.index-log-number.is
-          c.in-Some.ensures.is);
+      linked = linked_with (is_place_on cs) (length cs) i p c.loop-place.firsts c.loop-place.nexts linked lt
+          c.if-page-firsts.true
+          (subst (λ (q : ℕ). IsOn (is_place_on cs) (length c.loop-place.firsts) i (Some q)) is
+          (on_place cs (length c.loop-place.firsts) i c.index-changes-place.result lt c.index-changes-place.is));
     }
 
-pub loop-number-preserved : goal.loop-number-preserved
-loop-number-preserved c =
-    let rs = c.args.log.now in
-    let i = c.loop-number.number - 1 in
-    let so_far = c.loop-number.invariant in
-    let lt : i < length rs = omega (arith, so_far.below, c.loop-number-test.true) in
-    let one : c.loop-number.number ≡ i + 1 = omega (arith, c.loop-number-test.true) in
-    let linked : AreLinked (number_is_on rs 0) (length rs) (i + 1) c.loop-number.firsts c.loop-number.nexts =
-    subst (λ (k : ℕ). AreLinked (number_is_on rs 0) (length rs) k c.loop-number.firsts c.loop-number.nexts) one
+pub loop-place-preserved : goal.loop-place-preserved
+loop-place-preserved c =
+    let cs = c.args.changes.now in
+    let i = c.loop-place.place - 1 in
+    let so_far = c.loop-place.invariant in
+    let lt : i < length cs = omega (arith, so_far.below, c.loop-place-test.true) in
+    let one : c.loop-place.place ≡ i + 1 = omega (arith, c.loop-place-test.true) in
+    let linked : AreLinked (is_place_on cs) (length cs) (i + 1) c.loop-place.firsts c.loop-place.nexts =
+    subst (λ (k : ℕ). AreLinked (is_place_on cs) (length cs) k c.loop-place.firsts c.loop-place.nexts) one
     so_far.linked in
-    let on_none = on_place rs (length c.loop-number.firsts) i c.index-log-number.result c.page_of.result lt
-    c.index-log-number.is c.page_of.ensures.is in
     record {
       len = so_far.len;
       below = omega arith;
-      linked = linked_without (number_is_on rs 0) (length rs) i c.loop-number.firsts c.loop-number.nexts linked lt
-          (subst (IsOn (number_is_on rs 0) (length c.loop-number.firsts) i)
-          (nothing c.page_of.result c.in_default.not-Some) on_none);
+      linked = linked_without (is_place_on cs) (length cs) i c.loop-place.firsts c.loop-place.nexts linked lt
+          (on_no_place cs (length c.loop-place.firsts) i c.index-changes-place.result lt c.index-changes-place.is
+          (omega (arith, c.if-page-firsts.false, c.page-in-loop-place.view_is, c.page.ensures)));
     }
-  where
-    nothing : (o : Option ℕ) → ((p : ℕ) → ¬ (o ≡ Some p)) → o ≡ None
-    nothing None other = refl
-    nothing (Some p) other = absurd (other p refl)
 
-pub returns-clause-numbers : goal.returns-clause-numbers
-returns-clause-numbers c =
-    let rs = c.args.log.now in
-    let so_far = c.loop-number.invariant in
-    let none : c.loop-number.number ≡ 0 = omega (arith, c.loop-number-test.false) in
-    all_linked (number_is_on rs 0) (length rs) (length c.args.firsts.now) c.loop-number.firsts c.loop-number.nexts
-    (subst (λ (k : ℕ). AreLinked (number_is_on rs 0) (length rs) k c.loop-number.firsts c.loop-number.nexts) none
+pub returns-clause-places : goal.returns-clause-places
+returns-clause-places c =
+    let cs = c.args.changes.now in
+    let so_far = c.loop-place.invariant in
+    let none : c.loop-place.place ≡ 0 = omega (arith, c.loop-place-test.false) in
+    all_linked (is_place_on cs) (length cs) (length c.args.firsts.now) c.loop-place.firsts c.loop-place.nexts
+    (subst (λ (k : ℕ). AreLinked (is_place_on cs) (length cs) k c.loop-place.firsts c.loop-place.nexts) none
     so_far.linked) so_far.len

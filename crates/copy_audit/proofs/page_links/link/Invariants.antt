@@ -1,14 +1,13 @@
 use Rattle.std.proofs.Common.{◌≡◌, ◌≤◌, length}
-use Rattle.page_redo.specs.PageRecords.{number_is_on}
-use Rattle.copy_audit.specs.Links.{AreLinked}
+use Rattle.copy_audit.specs.Links.{AreLinked, is_place_on}
 use Rattle.copy_audit.proofs.page_links.link.Given as goal
 
-abbrev pub invariant-loop-number : goal.invariant-loop-number
-invariant-loop-number l = record {
+abbrev pub invariant-loop-place : goal.invariant-loop-place
+invariant-loop-place l = record {
   len : length l.firsts ≡ length l.fn.firsts;
-  below : l.number ≤ length l.log;
-  linked : AreLinked (number_is_on l.log 0) (length l.log) l.number l.firsts l.nexts;
+  below : l.place ≤ length l.changes;
+  linked : AreLinked (is_place_on l.changes) (length l.changes) l.place l.firsts l.nexts;
 }
 
-abbrev pub decreases-loop-number : goal.decreases-loop-number
-decreases-loop-number l = l.number
+abbrev pub decreases-loop-place : goal.decreases-loop-place
+decreases-loop-place l = l.place
