@@ -282,7 +282,7 @@ covers_when log p page it past bound valid seen of_past next =
     }
 
 -- the record that a number names changes the page
-changes_there : (rs : List Record) (p i : ℕ) (d : Record) → i < length rs → number_is_on rs 0 p i ≡ true
+pub changes_there : (rs : List Record) (p i : ℕ) (d : Record) → i < length rs → number_is_on rs 0 p i ≡ true
     → changes p (get_or rs i d) ≡ true
 changes_there rs p i d lt on =
     of_both (nat_le 0 (own_lsn (get_or rs i d))) (changes p (get_or rs i d))

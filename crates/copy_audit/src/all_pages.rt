@@ -3,23 +3,23 @@
 ghost use Rattle.std.specs.Prelude.{ℕ, ◌≡◌, ◌+◌, ◌++◌, [], ◌∷◌, List, IfErr, IfOk, OnOk, length};
 ghost use Rattle.std.specs.Prelude.{map};
 ghost use Rattle.page_core.specs.declared.page.Page.{Page};
-ghost use Rattle.log_records.specs.Log.{IsLog, counts_of};
+ghost use Rattle.log_records.specs.declared.record.Record.{Record};
+ghost use Rattle.log_records.specs.Log.{Log, counts_of};
 ghost use Rattle.copy_vault.specs.ChainEach.{ids_of, place_list, points_of};
 ghost use Rattle.copy_vault.specs.ChainReading.{AreNoChain};
-ghost use Rattle.page_redo.specs.PageRecords.{numbers_on};
 ghost use Rattle.copy_audit.specs.declared.all_pages.UnsoundPage.{UnsoundPage};
 ghost use Rattle.copy_audit.specs.Audit.{end_of};
 ghost use Rattle.copy_audit.specs.Audited.{AreRefused};
+ghost use Rattle.copy_audit.specs.Changes.{AreChangesOf, IsKeptOf};
 ghost use Rattle.copy_audit.specs.Told.{AreFirstOf, AreToldOf, HasTold, IsTold};
 
 use crate::chain_audit::{places, points_of};
 use crate::members::first_unsound;
+use crate::page_links::PageLinks;
 use crate::unsound::Unsound;
 use copy_vault::{ChainReadFault, ChainReader, CopyId};
-use log_records::Record;
-use log_store::{LogImage, read_log};
+use log_changes::{LogChanges, PlacedChange, read_changes};
 use page_core::{Lsn, Page, PageNo};
-use page_redo::by_page;
 use std::alloc::{AllocError, Global};
 use std::io::Read;
 
@@ -68,26 +68,29 @@ pub fn unsound_pages<L: Read, A: Read>(
     ensures err { IfErr result
         (AreRefused (L.remaining log.old) (map (λ a. A.remaining a) archives.old)) }
 {
-    let image = read_log(alloc, log)?;
-    let told = pages_in(alloc, &image, archives)?;
+    let kept = read_changes(alloc, log)?.0;
+    let told = pages_in(alloc, &kept, archives)?;
     Ok(told)
 }
 
-/// The unsound pages of the chain that the archives spell.
+/// The unsound pages of the chain that the archives spell. This was kept of the log.
 fn pages_in<A: Read>(
     alloc: Global,
-    log: &LogImage,
+    log: &LogChanges,
     archives: &mut [A],
 ) -> Result<UnsoundPages, ChainReadFault>
-    ensures ok { IfOk result (IsTold log.now (map (λ a. A.remaining a) archives.old)) }
-    ensures err { IfErr result (AreNoChain (counts_of log.now) (end_of log.now)
-        (map (λ a. A.remaining a) archives.old) (map (λ a. A.remaining a) archives.new)) }
+    requires { (whole : Log) × IsKeptOf whole log.now }
+    ensures ok { IfOk result (λ told. (whole : Log) → IsKeptOf whole log.now
+        → IsTold whole (map (λ a. A.remaining a) archives.old) told) }
+    ensures err { IfErr result (λ why. (whole : Log) → IsKeptOf whole log.now
+        → AreNoChain (counts_of whole) (end_of whole)
+        (map (λ a. A.remaining a) archives.old) (map (λ a. A.remaining a) archives.new) why) }
 {
-    let counts = log.counts(alloc)?;
-    let mut chain = ChainReader::new(alloc, archives, &counts, log.end())?;
-    let changes = by_page(alloc, log.records(), Lsn(0), log.page_count())?;
+    let mut chain = ChainReader::new(alloc, archives, log.counts(), log.end())?;
+    let changes = PageLinks::new(alloc, log.changes(), log.counts().last())?;
     let points = points_of(alloc, &chain, archives.len())?;
     let mut row = places(alloc, archives.len())?;
+    let mut on_page = Vec::new(alloc);
     let mut found = UnsoundPages {
         pages: Vec::new(alloc),
         has_more: false,
@@ -98,13 +101,14 @@ fn pages_in<A: Read>(
             return Ok(found);
         }
         let page = PageNo(number);
+        changes.list(log.changes(), page, &mut on_page)?;
         note_row(
             alloc,
             &chain,
             &points,
-            log.records(),
-            changes.of(page),
+            &on_page,
             page,
+            log.count(),
             &row,
             &mut found,
         )?;
@@ -117,24 +121,23 @@ fn note_row(
     alloc: Global,
     chain: &ChainReader,
     points: &[Lsn],
-    records: &[Record],
-    numbers: &[u32],
+    changes: &[PlacedChange],
     page: PageNo,
+    count: usize,
     row: &[Option<Page>],
     found: &mut UnsoundPages,
 ) -> Result<(), AllocError>
-    requires log { (pages : ℕ) × IsLog (record { pages = pages; records = records.now }) }
-    requires numbers { numbers.now ≡ numbers_on records.now 0 page }
     requires points { points.now ≡ points_of chain.now }
     requires members { length row.now ≡ length points.now }
     requires ids { length row.now ≡ length (ids_of chain.now) }
-    ensures { OnOk result ((given : List (List (List Page))) → length given ≡ page
-        → HasTold records.now (points_of chain.now) (ids_of chain.now) (length row.now)
+    ensures { OnOk result ((rs : List Record) → AreChangesOf rs page count changes.now
+        → (given : List (List (List Page))) → length given ≡ page
+        → HasTold rs (points_of chain.now) (ids_of chain.now) (length row.now)
         given page found.old
-        → HasTold records.now (points_of chain.now) (ids_of chain.now) (length row.now)
+        → HasTold rs (points_of chain.now) (ids_of chain.now) (length row.now)
         (given ++ map place_list row.now ∷ []) (page + 1) found.new) }
 {
-    let first = first_unsound(alloc, points, records, numbers, page, row, row.len())?;
+    let first = first_unsound(alloc, points, changes, page, count, row, row.len())?;
     if let Some(member) = first {
         let copy = chain.id_at(member);
         found.note(UnsoundPage { copy, page })?;

@@ -1,16 +1,16 @@
 //! One page, as each member of a chain has it, where a member's page is older than one before it:
 //! the pages are looked at in the order of their LSNs, so that each change is redone once.
 
-ghost use Rattle.std.specs.Prelude.{ℕ, ◌≡◌, ◌≤◌, IfOk, length, map};
-ghost use Rattle.log_records.specs.Log.{IsLog};
+ghost use Rattle.std.specs.Prelude.{◌≡◌, ◌≤◌, ◌<◌, IfOk, IfSome, List, length, map};
 ghost use Rattle.copy_vault.specs.ChainEach.{place_list};
-ghost use Rattle.page_redo.specs.PageRecords.{numbers_on};
+ghost use Rattle.log_records.specs.declared.record.Record.{Record};
 ghost use Rattle.copy_audit.specs.ByLsn.{AreSeen, HavePages};
+ghost use Rattle.copy_audit.specs.Changes.{AreChangesOf};
 ghost use Rattle.copy_audit.specs.Rows.{IsFirstOf};
 
 use crate::reach::Reach;
 use crate::trace::Trace;
-use log_records::Record;
+use log_changes::PlacedChange;
 use page_core::{Lsn, Page, PageNo};
 use std::alloc::{AllocError, Global};
 
@@ -27,21 +27,21 @@ pub(crate) struct Due {
 pub(crate) fn first_by_lsn(
     alloc: Global,
     points: &[Lsn],
-    records: &[Record],
-    numbers: &[u32],
+    changes: &[PlacedChange],
     number: PageNo,
+    count: usize,
     row: &[Option<Page>],
     most: usize,
 ) -> Result<Option<usize>, AllocError>
-    requires log { (pages : ℕ) × IsLog (record { pages = pages; records = records.now }) }
-    requires numbers { numbers.now ≡ numbers_on records.now 0 number }
     requires row { most ≤ length row.now }
     requires points { most ≤ length points.now }
-    ensures { IfOk result (IsFirstOf records.now number (map place_list row.now)
-        points.now most) }
+    ensures within { IfOk result (λ first. IfSome first (λ member. member < most)) }
+    ensures first { IfOk result (λ first. (rs : List Record)
+        → AreChangesOf rs number count changes.now
+        → IsFirstOf rs number (map place_list row.now) points.now most first) }
 {
-    let seen = reaches(alloc, records, numbers, number, row)?;
-    let mut reach = Trace::new(number).reach(numbers, true);
+    let seen = reaches(alloc, changes, number, count, row)?;
+    let mut reach = Trace::new(number).reach(changes, true);
     for member in 0..most {
         if let Some(next) = seen[member] {
             reach = next;
@@ -56,14 +56,15 @@ pub(crate) fn first_by_lsn(
 /// How far the page of each member of a row reaches, if it has one.
 fn reaches(
     alloc: Global,
-    records: &[Record],
-    numbers: &[u32],
+    changes: &[PlacedChange],
     number: PageNo,
+    count: usize,
     row: &[Option<Page>],
 ) -> Result<Vec<Option<Reach>>, AllocError>
-    requires log { (pages : ℕ) × IsLog (record { pages = pages; records = records.now }) }
-    requires numbers { numbers.now ≡ numbers_on records.now 0 number }
-    ensures { IfOk result (λ seen. AreSeen records.now number row.now seen.items) }
+    ensures len { IfOk result (λ seen. length seen.items ≡ length row.now) }
+    ensures each { IfOk result (λ seen. (rs : List Record)
+        → AreChangesOf rs number count changes.now
+        → AreSeen rs number row.now seen.items) }
 {
     let due = due_pages(alloc, row)?;
     let mut seen = vec![in alloc; None; row.len()]?;
@@ -71,7 +72,7 @@ fn reaches(
     for i in 0..due.len() {
         let member = due[i].member;
         if let Some(page) = &row[member] {
-            seen[member] = Some(trace.look(records, numbers, number, page));
+            seen[member] = Some(trace.look(changes, number, count, page));
         }
     }
     Ok(seen)

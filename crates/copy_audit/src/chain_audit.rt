@@ -5,22 +5,22 @@ ghost use Rattle.std.specs.Prelude.{IfSome};
 ghost use Rattle.std.specs.Prelude.{OnOk, length, map};
 ghost use Rattle.page_core.specs.declared.page.Page.{Page};
 ghost use Rattle.page_core.specs.Input.{HasGivenAll};
-ghost use Rattle.log_records.specs.Log.{IsLog, counts_of};
+ghost use Rattle.log_records.specs.declared.record.Record.{Record};
+ghost use Rattle.log_records.specs.Log.{Log, counts_of};
 ghost use Rattle.copy_vault.specs.ChainEach.{ids_of, place_list, points_of};
 ghost use Rattle.copy_vault.specs.ChainReading.{AreNoChain, HaveGivenAll};
-ghost use Rattle.page_redo.specs.PageRecords.{numbers_on};
 ghost use Rattle.copy_audit.specs.Audit.{end_of};
 ghost use Rattle.copy_audit.specs.Audited.{AreAudited, AreRefused, IsLooked, IsNamed, StopsIn};
+ghost use Rattle.copy_audit.specs.Changes.{AreChangesOf, IsKeptOf};
 ghost use Rattle.copy_audit.specs.Rows.{AreFound};
 
 use crate::found::Found;
 use crate::members::first_unsound;
+use crate::page_links::PageLinks;
 use crate::unsound::Unsound;
 use copy_vault::{ChainReadFault, ChainReader};
-use log_records::Record;
-use log_store::{LogImage, read_log};
+use log_changes::{LogChanges, PlacedChange, read_changes};
 use page_core::{Lsn, Page, PageNo};
-use page_redo::by_page;
 use std::alloc::{AllocError, Global};
 use std::io::Read;
 
@@ -41,11 +41,12 @@ pub struct Sound;
 /// memory is refused. `ReadFault` comes where a reader fails or does not come to an end, and what
 /// it gave holds no fault.
 ///
-/// The archives are read side by side, in one pass. Beside the log's records, 4 bytes a record and
-/// 4 a page of the volume, just the redo point and one page of each archive are kept, and a copy of
-/// that page. Each record is redone once on its page, and at most twice where an archive has an
-/// older page than one before it in the chain: these pages are looked at in the order of their
-/// LSNs, with 32 bytes an archive.
+/// No record of the log is kept, but of each change 16 bytes, 4 bytes that link it to the next
+/// change of its page, and 4 bytes a page of the volume. The archives are read side by side, in one
+/// pass. Of each just the redo point and one page are kept, beside the changes of that page, in
+/// their order, and a copy of it. Each change is redone once on its page, and at most twice where
+/// an archive has an older page than one before it in the chain: these pages are looked at in the
+/// order of their LSNs, with 32 bytes an archive.
 pub fn audit<L: Read, A: Read>(
     alloc: Global,
     log: &mut L,
@@ -63,30 +64,34 @@ pub fn audit<L: Read, A: Read>(
     ensures end { OnOk result (HaveGivenAll (map (λ a. A.remaining a) archives.old)
         (map (λ a. A.remaining a) archives.new)) }
 {
-    let image = read_log(alloc, log)?;
-    match first_in(alloc, &image, archives)? {
+    let kept = read_changes(alloc, log)?.0;
+    match first_in(alloc, &kept, archives)? {
         Some(unsound) => Err(unsound),
         None => Ok(Sound),
     }
 }
 
-/// The first copy with an unsound page in the chain up to it, and the least such page.
+/// The first copy with an unsound page in the chain up to it, and the least such page. This was
+/// kept of the log.
 fn first_in<A: Read>(
     alloc: Global,
-    log: &LogImage,
+    log: &LogChanges,
     archives: &mut [A],
 ) -> Result<Option<Unsound>, ChainReadFault>
-    ensures ok { IfOk result (IsLooked log.now (map (λ a. A.remaining a) archives.old)) }
+    requires { (whole : Log) × IsKeptOf whole log.now }
+    ensures ok { IfOk result (λ found. (whole : Log) → IsKeptOf whole log.now
+        → IsLooked whole (map (λ a. A.remaining a) archives.old) found) }
+    ensures err { IfErr result (λ why. (whole : Log) → IsKeptOf whole log.now
+        → AreNoChain (counts_of whole) (end_of whole)
+        (map (λ a. A.remaining a) archives.old) (map (λ a. A.remaining a) archives.new) why) }
     ensures end { OnOk result (HaveGivenAll (map (λ a. A.remaining a) archives.old)
         (map (λ a. A.remaining a) archives.new)) }
-    ensures err { IfErr result (AreNoChain (counts_of log.now) (end_of log.now)
-        (map (λ a. A.remaining a) archives.old) (map (λ a. A.remaining a) archives.new)) }
 {
-    let counts = log.counts(alloc)?;
-    let mut chain = ChainReader::new(alloc, archives, &counts, log.end())?;
-    let changes = by_page(alloc, log.records(), Lsn(0), log.page_count())?;
+    let mut chain = ChainReader::new(alloc, archives, log.counts(), log.end())?;
+    let changes = PageLinks::new(alloc, log.changes(), log.counts().last())?;
     let points = points_of(alloc, &chain, archives.len())?;
     let mut row = places(alloc, archives.len())?;
+    let mut on_page = Vec::new(alloc);
     let mut found = None;
     let mut number = 0;
     'rows: loop {
@@ -94,15 +99,8 @@ fn first_in<A: Read>(
             return Ok(named(&chain, found));
         }
         let page = PageNo(number);
-        found = found_with(
-            alloc,
-            &points,
-            log.records(),
-            changes.of(page),
-            page,
-            &row,
-            found,
-        )?;
+        changes.list(log.changes(), page, &mut on_page)?;
+        found = found_with(alloc, &points, &on_page, page, log.count(), &row, found)?;
         number += 1;
     }
 }
@@ -138,25 +136,23 @@ pub(crate) fn points_of(
 fn found_with(
     alloc: Global,
     points: &[Lsn],
-    records: &[Record],
-    numbers: &[u32],
+    changes: &[PlacedChange],
     page: PageNo,
+    count: usize,
     row: &[Option<Page>],
     found: Option<Found>,
 ) -> Result<Option<Found>, AllocError>
-    requires log { (pages : ℕ) × IsLog (record { pages = pages; records = records.now }) }
-    requires numbers { numbers.now ≡ numbers_on records.now 0 page }
     requires members { length row.now ≡ length points.now }
-    ensures { IfOk result (λ now. (given : List (List (List Page))) → length given ≡ page
-        → AreFound records.now points.now (length row.now) given found
-        → AreFound records.now points.now (length row.now)
-        (given ++ map place_list row.now ∷ []) now) }
+    ensures { IfOk result (λ now. (rs : List Record) → AreChangesOf rs page count changes.now
+        → (given : List (List (List Page))) → length given ≡ page
+        → AreFound rs points.now (length row.now) given found
+        → AreFound rs points.now (length row.now) (given ++ map place_list row.now ∷ []) now) }
 {
     let most = match &found {
         Some(found) => found.member.min(row.len()),
         None => row.len(),
     };
-    let first = first_unsound(alloc, points, records, numbers, page, row, most)?;
+    let first = first_unsound(alloc, points, changes, page, count, row, most)?;
     match first {
         Some(member) => Ok(Some(Found { member, page })),
         None => Ok(found),

@@ -9,6 +9,7 @@ mod found;
 mod laws;
 mod members;
 mod page_audit;
+mod page_links;
 mod reach;
 mod trace;
 mod unsound;

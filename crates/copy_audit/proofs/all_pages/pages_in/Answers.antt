@@ -1,97 +1,126 @@
-use Rattle.std.proofs.Common.{◌≡◌, ◌∙◌, ◌+◌, ◌^◌, ◌<◌, rules, ℕ, List, [], ◌∷◌, ◌++◌, length, get_or, map, sym, ap, subst, arith, inl, inr}
+use Rattle.std.proofs.Common.{◌≡◌, ◌∙◌, ◌+◌, ◌^◌, ◌<◌, rules, List, [], ◌∷◌, ◌++◌, length, map, refl, sym, ap, subst, arith, inl, inr}
 use Rattle.std.specs.Prelude.{Option}
 use Rattle.std.specs.Vec.{with_items}
 use Rattle.std.proofs.lemmas.List.{with_items_is}
-use Rattle.std.proofs.lemmas.List.FromFn.{get_or-map-range_with_len, length-map-range_with_len}
+use Rattle.std.proofs.lemmas.List.FromFn.{length-map-range_with_len}
 use Rattle.std.proofs.lemmas.Result.{err_from_is_err_and}
+use Rattle.page_core.specs.PageCounts.{PageCounts, last_count}
 use Rattle.page_core.specs.declared.page.Page.{Page}
-use Rattle.log_records.specs.declared.record.Record.{Record}
-use Rattle.log_records.specs.Log.{counts_of}
+use Rattle.log_records.specs.Log.{Log, lsn_of}
+use Rattle.log_changes.specs.Kept.{Kept}
+use Rattle.log_changes.specs.Placed.{Placed}
 use Rattle.copy_vault.specs.ChainEach.{IsReadingEach, place_list}
 use Rattle.copy_vault.specs.ChainReading.{IsStopped}
-use Rattle.page_redo.specs.PageRecords.{numbers_on}
-use Rattle.copy_audit.proofs.Rowwise.{HasListed, all_listed, listed_below, listed_more}
+use Rattle.copy_audit.specs.Changes.{AreChangesOf, IsKeptOf}
+use Rattle.copy_audit.specs.Links.{places_on}
+use Rattle.copy_audit.proofs.OnPage.{few_kept, listed_of}
+use Rattle.copy_audit.proofs.Rowwise.{HasListed, all_listed, listed_below, listed_more, listed_none}
 use Rattle.copy_audit.proofs.all_pages.pages_in.Goals as goal
+
+pub rows-init : goal.rows-init
+rows-init g c =
+    let left = g.A.Read.remaining in
+    let inputs = map left c.args.archives.now in
+    let lefts = map left c.new.new.readers in
+    let kept = c.args.log.now in
+    let log = c.requires.0 in
+    let of = c.requires.1 in
+    let chain = c.in_ok-chain.chain in
+    let counts : c.counts.result.now ≡ kept.counts =
+    c.counts.ensures log of.same ∙ sym (ap (λ (k : Kept). k.counts) of.same) in
+    let made = c.in_ok-chain.ensures in
+    let rows = c.in_ok-row.ensures in
+    record {
+      listed = listed_none inputs lefts kept chain (length c.in_ok-row.row.items) _
+          (subst (λ (n : PageCounts). IsReadingEach n inputs lefts chain []) counts made.each)
+          (omega (arith, made.points, rows, c.new.auto.readers)) (omega (arith, made.count, rows, c.new.auto.readers))
+          (made.end ∙ c.end.ensures) c.new-3.ensures.items refl;
+      rows = rows;
+      points = c.in_ok-points.ensures;
+      many = c.new.auto.readers;
+    }
+
+pub new-requires-2 : goal.new-requires-2
+new-requires-2 g c =
+    let few = few_kept c.requires.0 c.args.log.now c.requires.1 in
+    record { few = omega (arith, ap (length {A = Placed}) c.changes.ensures, few) }
 
 pub returns-in_err-next_each-clause-err : goal.returns-in_err-next_each-clause-err
 returns-in_err-next_each-clause-err g c =
     let left = g.A.Read.remaining in
     let inputs = map left c.args.archives.now in
     let lefts = map left c.next_each.new.readers in
+    let kept = c.args.log.now in
     let listed = c.rows.invariant.listed in
     let fault = c.in_err-next_each.field-0.0 in
-    let stopped = c.in_err-next_each.ensures.err (counts_of c.args.log.now) inputs listed.given listed.reading in
+    let stopped : IsStopped kept.counts (lsn_of kept.count) inputs lefts fault =
+    subst (λ n. IsStopped kept.counts n inputs lefts fault) listed.end
+    (c.in_err-next_each.ensures.err kept.counts inputs listed.given listed.reading) in
     let p = err_from_is_err_and c.from_residual-in_err-next_each.result c.from_residual-in_err-next_each.ensures.1 in
     rw (p.1, p.2)
-    (inr (inl (subst (λ n. IsStopped (counts_of c.args.log.now) n inputs lefts fault) listed.end stopped)))
+    (λ log of. inr (inl (subst (λ (k : Kept). IsStopped k.counts (lsn_of k.count) inputs lefts fault) of.same stopped)))
 
 pub returns-then-not-branch-clause-ok : goal.returns-then-not-branch-clause-ok
 returns-then-not-branch-clause-ok g c =
     let left = g.A.Read.remaining in
     let inputs = map left c.args.archives.now in
+    let kept = c.args.log.now in
     let listed = c.rows.invariant.listed in
     let ended = c.in_ok-next_each.ensures in
-    let read = (rw c.if-not-branch.true at (ended.ok (counts_of c.args.log.now) inputs listed.given listed.reading)).0 in
-    all_listed inputs (map left c.rows.archives) c.args.log.now c.rows.chain c.next_each.new.self
+    let read = (rw c.if-not-branch.true at (ended.ok kept.counts inputs listed.given listed.reading)).0 in
+    all_listed inputs (map left c.rows.archives) kept c.rows.chain c.next_each.new.self
     (length c.rows.row.items) c.rows.number c.rows.found listed read ended.ids ended.points ended.end
 
-pub of-requires : goal.of-requires
-of-requires g c =
+pub list-requires : goal.list-requires
+list-requires g c =
     let left = g.A.Read.remaining in
     let inputs = map left c.args.archives.now in
+    let now = map left c.next_each.new.readers in
+    let kept = c.args.log.now in
     let listed = c.rows.invariant.listed in
     let step = c.in_ok-next_each.ensures in
-    let going = rw c.if-not-branch.false at (step.ok (counts_of c.args.log.now) inputs listed.given listed.reading) in
-    let below = listed_below inputs (map left c.rows.archives) (map left c.next_each.new.readers) c.args.log.now c.rows.chain
-    c.next_each.new.self (length c.rows.row.items) c.rows.number c.rows.found (map place_list c.next_each.new.row) listed
-    going in
+    let going = rw c.if-not-branch.false at (step.ok kept.counts inputs listed.given listed.reading) in
+    let below = listed_below inputs (map left c.rows.archives) now kept c.rows.chain c.next_each.new.self
+    (length c.rows.row.items) c.rows.number c.rows.found (map place_list c.next_each.new.row) listed going in
+    let of = c.requires.1 in
+    let pages : c.last.result ≡ last_count kept.counts = c.last.ensures ∙ ap last_count
+    (c.counts-2.ensures c.requires.0 of.same ∙ sym (ap (λ (k : Kept). k.counts) of.same)) in
     omega (
       arith,
       below,
-      ap length c.in_ok-changes.ensures.numbers,
-      length-map-range_with_len (numbers_on c.records.result.now 0) 0 c.page_count.result,
-      c.page_count.ensures.count,
+      pages,
+      ap length c.in_ok-changes.ensures,
+      length-map-range_with_len (places_on c.changes.result.now) 0 c.last.result,
     )
-
-pub note_row-requires-clause-numbers : goal.note_row-requires-clause-numbers
-note_row-requires-clause-numbers g c =
-    let left = g.A.Read.remaining in
-    let inputs = map left c.args.archives.now in
-    let listed = c.rows.invariant.listed in
-    let step = c.in_ok-next_each.ensures in
-    let going = rw c.if-not-branch.false at (step.ok (counts_of c.args.log.now) inputs listed.given listed.reading) in
-    let below = listed_below inputs (map left c.rows.archives) (map left c.next_each.new.readers) c.args.log.now c.rows.chain
-    c.next_each.new.self (length c.rows.row.items) c.rows.number c.rows.found (map place_list c.next_each.new.row) listed
-    going in
-    let n = c.rows.number in
-    c.of.ensures ∙ ap (λ (ls : List (List ℕ)). get_or ls n []) c.in_ok-changes.ensures.numbers
-    ∙ get_or-map-range_with_len (numbers_on c.records.result.now 0) 0 c.page_count.result n n []
-    (omega (arith, below, c.page_count.ensures.count)) (omega arith)
-    ∙ ap (λ (rs : List Record). numbers_on rs 0 n) (c.records.ensures.records ∙ sym c.records-in-rows.ensures.records)
 
 pub overflow_add-number : goal.overflow_add-number
 overflow_add-number g c =
     let left = g.A.Read.remaining in
     let inputs = map left c.args.archives.now in
+    let now = map left c.next_each.new.readers in
+    let kept = c.args.log.now in
     let listed = c.rows.invariant.listed in
     let step = c.in_ok-next_each.ensures in
-    let going = rw c.if-not-branch.false at (step.ok (counts_of c.args.log.now) inputs listed.given listed.reading) in
-    let below = listed_below inputs (map left c.rows.archives) (map left c.next_each.new.readers) c.args.log.now c.rows.chain
-    c.next_each.new.self (length c.rows.row.items) c.rows.number c.rows.found (map place_list c.next_each.new.row) listed
-    going in
-    let fits : c.rows.number + 1 < 2 ^ 32 = omega (arith, below, c.page_count.ensures.count) in
+    let going = rw c.if-not-branch.false at (step.ok kept.counts inputs listed.given listed.reading) in
+    let below = listed_below inputs (map left c.rows.archives) now kept c.rows.chain c.next_each.new.self
+    (length c.rows.row.items) c.rows.number c.rows.found (map place_list c.next_each.new.row) listed going in
+    let of = c.requires.1 in
+    let pages : c.last.result ≡ last_count kept.counts = c.last.ensures ∙ ap last_count
+    (c.counts-2.ensures c.requires.0 of.same ∙ sym (ap (λ (k : Kept). k.counts) of.same)) in
+    let fits : c.rows.number + 1 < 2 ^ 32 = omega (arith, below, pages) in
     search rules
 
 pub rows-smaller : goal.rows-smaller
 rows-smaller g c =
     let left = g.A.Read.remaining in
     let inputs = map left c.args.archives.now in
+    let now = map left c.next_each.new.readers in
+    let kept = c.args.log.now in
     let listed = c.rows.invariant.listed in
     let step = c.in_ok-next_each.ensures in
-    let going = rw c.if-not-branch.false at (step.ok (counts_of c.args.log.now) inputs listed.given listed.reading) in
-    let below = listed_below inputs (map left c.rows.archives) (map left c.next_each.new.readers) c.args.log.now c.rows.chain
-    c.next_each.new.self (length c.rows.row.items) c.rows.number c.rows.found (map place_list c.next_each.new.row) listed
-    going in
+    let going = rw c.if-not-branch.false at (step.ok kept.counts inputs listed.given listed.reading) in
+    let below = listed_below inputs (map left c.rows.archives) now kept c.rows.chain c.next_each.new.self
+    (length c.rows.row.items) c.rows.number c.rows.found (map place_list c.next_each.new.row) listed going in
     omega (arith, below)
 
 pub rows-preserved : goal.rows-preserved
@@ -99,25 +128,35 @@ rows-preserved g c =
     let left = g.A.Read.remaining in
     let inputs = map left c.args.archives.now in
     let now = map left c.next_each.new.readers in
+    let kept = c.args.log.now in
     let listed = c.rows.invariant.listed in
     let step = c.in_ok-next_each.ensures in
-    let going = rw c.if-not-branch.false at (step.ok (counts_of c.args.log.now) inputs listed.given listed.reading) in
+    let going = rw c.if-not-branch.false at (step.ok kept.counts inputs listed.given listed.reading) in
+    let below = listed_below inputs (map left c.rows.archives) now kept c.rows.chain c.next_each.new.self
+    (length c.rows.row.items) c.rows.number c.rows.found (map place_list c.next_each.new.row) listed going in
+    let of = c.requires.1 in
+    let pages : c.last.result ≡ last_count kept.counts = c.last.ensures ∙ ap last_count
+    (c.counts-2.ensures c.requires.0 of.same ∙ sym (ap (λ (k : Kept). k.counts) of.same)) in
     let places = with_items c.rows.row c.next_each.new.row in
     let wide : length c.next_each.new.row ≡ length c.rows.row.items =
     step.length ∙ ap length c.deref_mut.ensures.value in
     let same : places.items ≡ c.next_each.new.row =
     with_items_is c.rows.row c.next_each.new.row (omega (arith, c.rows.row.ok.0, wide)) in
-    let row : c.deref-in-rows.result.now ≡ places.items = c.deref-in-rows.ensures.value in
+    let row : c.deref-in-rows-2.result.now ≡ places.items = c.deref-in-rows-2.ensures.value in
     let same_points = c.deref.ensures.value ∙ c.rows.invariant.points ∙ sym step.points in
-    let more = listed_more inputs (map left c.rows.archives) now c.args.log.now c.rows.chain c.next_each.new.self
-    (length c.rows.row.items) c.rows.number c.rows.found c.note_row.new.found c.records-in-rows.result.now
-    c.deref-in-rows.result.now listed
-    (subst (λ (r : List (Option Page)). IsReadingEach (counts_of c.args.log.now) inputs now c.next_each.new.self (listed.given ++ map place_list r ∷ []))
+    let listed_now : (log : Log) → IsKeptOf log kept
+    → AreChangesOf log.records c.rows.number c.count.result c.deref-in-rows.result.now = λ log is.
+    listed_of log kept c.changes-in-rows.result.now c.changes.result.now c.deref-in-rows.result.now c.in_ok-changes.changes
+    c.count.result c.last.result c.rows.number is c.changes.ensures c.changes-in-rows.ensures c.in_ok-changes.ensures
+    (omega (arith, below, pages)) (c.deref-in-rows.ensures.value ∙ c.in_ok-list.ensures) c.count.ensures in
+    let more = listed_more inputs (map left c.rows.archives) now kept c.rows.chain c.next_each.new.self
+    (length c.rows.row.items) c.rows.number c.rows.found c.note_row.new.found c.deref-in-rows-2.result.now listed
+    (subst (λ (r : List (Option Page)). IsReadingEach kept.counts inputs now c.next_each.new.self (listed.given ++ map place_list r ∷ []))
     (sym (row ∙ same)) going)
-    c.records-in-rows.ensures.records step.ids step.points step.end (ap length (row ∙ same) ∙ wide)
-    c.in_ok-note_row.ensures in
+    step.ids step.points step.end (ap length (row ∙ same) ∙ wide)
+    (λ log is. c.in_ok-note_row.ensures log.records (listed_now log is)) in
     record {
-      listed = subst (λ n. HasListed inputs now c.args.log.now c.next_each.new.self n (c.rows.number + 1)
+      listed = subst (λ n. HasListed inputs now kept c.next_each.new.self n (c.rows.number + 1)
           c.note_row.new.found) (ap length row) more;
       rows = omega (arith, ap length same, wide, c.rows.invariant.rows, c.next_each.auto.readers);
       points = c.rows.invariant.points ∙ sym step.points;

@@ -1,5 +1,5 @@
 use Rattle.std.proofs.Common.{◌≡◌, ◌-◌, length, map}
-use Rattle.log_records.specs.Log.{page_count}
+use Rattle.page_core.specs.PageCounts.{last_count}
 use Rattle.copy_vault.specs.ChainEach.{points_of}
 use Rattle.copy_audit.proofs.Looks.{HasLooked}
 use Rattle.copy_audit.proofs.chain_audit.first_in.Given as goal
@@ -14,4 +14,4 @@ invariant-rows g l = record {
 }
 
 abbrev pub decreases-rows : goal.decreases-rows
-decreases-rows g l = page_count l.fn.log - l.number
+decreases-rows g l = last_count l.fn.log.counts - l.number

@@ -1,63 +1,78 @@
-use Rattle.std.proofs.Common.{◌≡◌, ◌∙◌, ◌+◌, ◌<◌, ◌≤◌, ℕ, List, length, get_or, take, sym, refl, ap, subst, arith, inl, inr}
-use Rattle.std.specs.Prelude.{Some, None, slice_get}
-use Rattle.std.proofs.lemmas.Option.{slice_get_past, slice_get_read}
-use Rattle.std.proofs.lemmas.Bool.{cases_lt, ltb-false, ltb-true}
-use Rattle.page_core.specs.Page.{formatted}
-use Rattle.log_records.specs.Image.{image_from}
-use Rattle.page_redo.specs.PageRecords.{records_at}
-use Rattle.copy_audit.specs.declared.trace.Trace.{Trace}
-use Rattle.copy_audit.proofs.Traces.{made_skip, made_step}
+use Rattle.std.proofs.Common.{◌≡◌, ◌∙◌, ◌<◌, ◌≤◌, ◌/◌, ℕ, length, get_or, take, refl, sym, subst, ap, arith, inl, inr}
+use Rattle.std.proofs.lemmas.Bool.{cases_lt, leb-false, leb-true}
+use Rattle.std.proofs.lemmas.List.{get_or_default}
+use Rattle.page_core.specs.declared.change.Change.TheVariants.{Add}
+use Rattle.page_core.specs.declared.page.Page.{Page}
+use Rattle.page_core.specs.Page.{formatted, put}
+use Rattle.log_records.specs.declared.record.Record.TheVariants.{Begin}
+use Rattle.log_records.proofs.Images.{number-image}
+use Rattle.log_changes.specs.Placed.{Placed}
+use Rattle.page_redo.specs.PageRecords.{numbers_on, records_at}
+use Rattle.copy_audit.proofs.OnPage.{change_is, same_length}
+use Rattle.copy_audit.proofs.Traces.{made_step}
 use Rattle.copy_audit.proofs.trace.Trace.redo_up_to.Goals as goal
-use Rattle.copy_audit.proofs.trace.Trace.redo_up_to.Goals.{in-Some, in_default}
+use Rattle.copy_audit.proofs.trace.Trace.redo_up_to.Goals.{then-loop-self-test+else-is_among, else-loop-self-test}
 
 pub loop-self-preserved : goal.loop-self-preserved
 loop-self-preserved c =
-    let rs = c.args.records.now in
-    let numbers = c.args.numbers.now in
+    let cs = c.args.changes.now in
     let i = c.loop-self.self.done in
-    let n = get_or numbers i 0 in
     let inv = c.loop-self.invariant in
     let more = c.loop-self-test.true in
-    let low = c.if-numbers-self.true in
-    elim c.match-get.branch [
-      | in-Some w ↦
-          let r = w.in-Some.next.now in
-          let found = w.in-Some.ensures.lookup in
-          let at : slice_get rs n ≡ Some r =
-          slice_get_read rs (length rs) n r refl (ltb-true n (length rs) (sym found.0)) found.1 in
-          let done : c.match-get.self.done ≡ i = ap (λ (t : Trace). t.done) w.self-is in
-          let page : c.match-get.self.page ≡ w.redo_on.new.page = ap (λ (t : Trace). t.page) w.self-is in
-          record {
-            onwards = omega arith;
-            within = λ before. omega arith;
-            made = λ number before. subst (λ (k : ℕ). c.match-get.self.page
-                ≡ image_from (formatted number) (records_at rs (take (k + 1) numbers))) (sym done)
-                (made_step rs numbers (formatted number) c.loop-self.self.page c.match-get.self.page i n r more refl at
-                (inv.made number before) (page ∙ w.redo_on.ensures));
-            below = λ j from lt. below_step numbers i c.args.count inv.below low done j from lt;
-          }
-      | in_default w ↦
-          let past : length rs ≤ n = ltb-false n (length rs) (sym w.in_default.ensures.lookup.0) in
-          let none : slice_get rs n ≡ None = slice_get_past rs n past in
-          let done : c.match-get.self.done ≡ i = ap (λ (t : Trace). t.done) w.self-is in
-          let page : c.match-get.self.page ≡ c.loop-self.self.page = ap (λ (t : Trace). t.page) w.self-is in
-          record {
-            onwards = omega arith;
-            within = λ before. omega arith;
-            made = λ number before. subst (λ (k : ℕ). c.match-get.self.page
-                ≡ image_from (formatted number) (records_at rs (take (k + 1) numbers))) (sym done)
-                (page ∙ made_skip rs numbers (formatted number) c.loop-self.self.page i n more refl none
-                (inv.made number before));
-            below = λ j from lt. below_step numbers i c.args.count inv.below low done j from lt;
-          }
-    ]
-  where
-    below_step : {start next : ℕ} (numbers : List ℕ) (i count : ℕ)
-        → ((j : ℕ) → start ≤ j → j < i → get_or numbers j 0 < count) → get_or numbers i 0 < count → next ≡ i
-        → (j : ℕ) → start ≤ j → j < next + 1 → get_or numbers j 0 < count
-    below_step numbers i count before here is j from lt = elim (cases_lt j i) [
-      | inl less ↦ before j from less
-      | inr past ↦
-          let same : i ≡ j = omega arith in
-          subst (λ (k : ℕ). get_or numbers k 0 < count) same here
-    ]
+    let x = c.index-changes-self-in-loop-self.result in
+    let y = c.index-changes-self.result in
+    let page = c.loop-self.self.page in
+    record {
+      onwards = omega (arith, inv.onwards);
+      within = λ before. omega arith;
+      made = λ rs number all of before.
+          let ns = numbers_on rs 0 number in
+          let it = change_is rs number all i cs x of more in
+          let now = inv.made rs number all of before in
+          let no : page.number ≡ number =
+          ap (λ (q : Page). q.number) now ∙ number-image (records_at rs (take i ns)) number in
+          let is : x ≡ get_or cs i x = c.index-changes-self-in-loop-self.is in
+          made_step rs ns (formatted number) page c.apply_to.new.page i (get_or ns i 0)
+          (get_or rs (get_or ns i 0) (Begin 0 0)) (omega (arith, same_length rs number all cs of)) refl it.there now
+          (c.apply_to.ensures ∙ ap (λ (q : Placed). put page q.lsn q.slot q.change) is ∙ it.made page no);
+      below = λ j d from lt. elim (cases_lt j i) [
+        | inl less ↦ inv.below j d from less
+        | inr past ↦
+            let same : i ≡ j = omega arith in
+            let here : y ≡ get_or cs j d =
+            c.index-changes-self.is ∙ get_or_default cs i y d more ∙ ap (λ (k : ℕ). get_or cs k d) same in
+            subst (λ (q : Placed). q.lsn / 64 ≤ c.args.count) here
+            (leb-true (y.lsn / 64) c.args.count (sym c.is_among.ensures ∙ c.if-is_among.true))
+      ];
+    }
+
+pub returns-clause-traced : goal.returns-clause-traced
+returns-clause-traced c = λ rs number all of was.
+    let cs = c.args.changes.now in
+    let ns = numbers_on rs 0 number in
+    let inv = c.loop-self.invariant in
+    let i = c.loop-self.self.done in
+    let d : Placed = record { lsn = 0; page = 0; slot = 0; change = Add 0 } in
+    let long = same_length rs number all cs of in
+    let within : i ≤ length cs = inv.within (omega (arith, was.within, long)) in
+    record {
+      made = inv.made rs number all of was.made;
+      within = omega (arith, within, long);
+      below = λ j lt. elim (cases_lt j c.args.self.now.done) [
+        | inl less ↦ let low = was.below j less in omega (arith, low, c.requires.onwards)
+        | inr past ↦
+            let low = inv.below j d past lt in
+            let lsn = (change_is rs number all j cs d of (omega (arith, within, lt))).lsn in
+            omega (arith, low, lsn)
+      ];
+      above = λ some. elim c.loop-self-test.branch [
+        | then-loop-self-test+else-is_among w ↦
+            let y = w.index-changes-self.result in
+            let there : i < length cs = w.loop-self-test.true in
+            let lsn = (change_is rs number all i cs y of there).lsn in
+            let is : y.lsn ≡ (get_or cs i y).lsn = ap (λ (q : Placed). q.lsn) w.index-changes-self.is in
+            let over = leb-false (y.lsn / 64) c.args.count (sym w.is_among.ensures ∙ w.if-is_among.false) in
+            omega (arith, lsn, is, over)
+        | else-loop-self-test w ↦ let past = w.loop-self-test.false in absurd (omega (arith, past, long, some))
+      ];
+    }
