@@ -185,9 +185,10 @@ impl<G: Ledger> Session<G> {
         Ok(number)
     }
 
-    /// The number in a slot, as `read` tells it, without a receipt: the session stays as it is, so
-    /// it takes no memory, and `settle` does not compare what was read. All that is known of the
-    /// answer is that an engine which is fit answers so. Refusals are those of `Engine::read`.
+    /// The number in a slot, as `read` tells it, without a receipt: the session stays as it is and
+    /// takes no memory, and `settle` does not compare what was read. All that is known of the answer
+    /// is that an engine which is fit answers so. Refusals are those of `Engine::read`, whose
+    /// `OutOfMemory` is for a page that it brings in.
     pub fn peek<S: PageStore, D: LogDevice>(
         &self,
         rt: &impl Wait,
