@@ -109,7 +109,9 @@ pub fn measure<G: Ledger + Send + Sync, R: Threads + Wait + Clock + Sync>(
             stop.store(1, Ordering::SeqCst);
             nanoseconds
         },
-        || {
+        ||
+            requires { 1 ≤ threads }
+        {
             thread::for_each_mut(
                 rt,
                 &mut users,

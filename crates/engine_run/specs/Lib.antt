@@ -2,6 +2,7 @@ pub mod CopyWrite
 pub mod Given
 pub mod Held
 pub mod Laws
+pub mod Peek
 pub mod Settled
 pub mod Shared
 pub mod Undoing

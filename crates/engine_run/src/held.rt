@@ -10,6 +10,7 @@ ghost use Rattle.aries_core.specs.Step.{FailsForcing, Forces, IsByStore, IsUnsur
 ghost use Rattle.aries_core.specs.Step.{step_back_answer, undo_answer};
 ghost use Rattle.aries_core.specs.declared.event.Answer.TheVariants as answer;
 ghost use Rattle.aries_core.specs.declared.event.Event.TheVariants as event;
+ghost use Rattle.engine_run.specs.Peek.{IsReadOf};
 
 use aries_core::{Engine, Refusal, SteppedBack, Undone};
 use log_store::LogDevice;
@@ -160,6 +161,20 @@ impl<S: PageStore, D: LogDevice, G: Ledger> Held<S, D, G> {
     {
         let number = self.engine.read(page, slot)?;
         Ok((self.engine.log_end(), number))
+    }
+
+    /// The number in a slot, as `Engine::read` tells it, with what can be said of it once the lock
+    /// is free: that a fit engine answers so.
+    pub(crate) fn peek(&mut self, page: PageNo, slot: SlotNo) -> Result<u64, Refusal>
+        ensures read { IsReadOf page slot (reply_of answer.Number result) }
+        ensures step { Step self.old.engine.state (event.Read page slot)
+            (reply_of answer.Number result) self.new.engine.state }
+        ensures log { self.new.engine.state.log ≡ self.old.engine.state.log }
+        ensures device { self.new.engine.device ≡ self.old.engine.device }
+    {
+        // What lies under a free lock is fit.
+        let _end = self.engine.log_end();
+        self.engine.read(page, slot)
     }
 
     /// Commits a transaction, as `Engine::commit` does.

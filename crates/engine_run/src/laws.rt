@@ -1,6 +1,7 @@
 //! What a settled run tells, for readers of the contracts.
 
-ghost use Rattle.std.specs.Prelude.{ℕ, ◌≡◌, ◌<◌, ◌≤◌, true, List, length, slice_index_or};
+ghost use Rattle.std.specs.Prelude.{ℕ, ◌≡◌, ◌<◌, ◌≤◌, ◌⊎◌, true, List, length, slice_index_or};
+ghost use Rattle.std.specs.Prelude.{Result, Err};
 ghost use Rattle.std.specs.List.{All};
 ghost use Rattle.log_records.specs.declared.record.Record.{Record};
 ghost use Rattle.log_records.specs.Log.{Log, lsn_of};
@@ -14,9 +15,13 @@ ghost use Rattle.settlement.specs.Counts.{is_update};
 ghost use Rattle.settlement.specs.Receipt.{times};
 ghost use Rattle.settlement.specs.Sessions.{IsCommitIn, all_receipts, changed};
 ghost use Rattle.aries_core.specs.EngineState.{IsFit, log_of};
+ghost use Rattle.aries_core.specs.declared.event.Answer.{Answer};
+ghost use Rattle.aries_core.specs.declared.refusal.Refusal.{Refusal};
+ghost use Rattle.aries_core.specs.declared.refusal.Refusal.TheVariants.{PageOut, SlotOut};
 ghost use Rattle.engine_run.specs.declared.work.Work.{Work};
 ghost use Rattle.engine_run.specs.Held.{IsCounted};
 ghost use Rattle.engine_run.specs.Laws.{IsRestoredBy, ReadsItsOwn};
+ghost use Rattle.engine_run.specs.Peek.{IsReadOf};
 ghost use Rattle.engine_run.specs.Settled.{Evidence, IsSettled, IsWrongAt, evidence_in};
 
 use crate::held::Held;
@@ -81,4 +86,13 @@ pub fn an_answered_copy_restores()
 pub fn what_is_wrong_is_not_settled()
     ensures { (began : ℕ) (e : Evidence) (sessions : List (List Receipt)) (works : List Work)
         (at : ℕ) → IsWrongAt began e sessions works at → ¬ IsSettled began e sessions works }
+{}
+
+/// What answers a peek looks at the slot that is asked for: a page that no volume has is refused as
+/// such, and so is a slot that no page has.
+pub fn a_peek_is_of_its_slot()
+    ensures page { (page slot : ℕ) (reply : Result Answer Refusal) → IsReadOf page slot reply
+        → 65536 ≤ page → reply ≡ Err PageOut }
+    ensures slot { (page slot : ℕ) (reply : Result Answer Refusal) → IsReadOf page slot reply
+        → 62 ≤ slot → (reply ≡ Err PageOut) ⊎ (reply ≡ Err SlotOut) }
 {}

@@ -7,12 +7,15 @@ mod check_works;
 mod copier;
 mod copy_alone;
 mod copy_writer;
+mod desk;
 mod extend;
 mod fault;
 mod flush;
+mod folder;
 mod gate;
 mod held;
 mod held_media;
+mod idle;
 mod laws;
 mod opened;
 mod refused;
@@ -25,11 +28,13 @@ mod spare;
 mod work;
 mod worker;
 
+pub use desk::SessionDesk;
 pub use fault::SettleFault;
 pub use gate::{HoldGate, OpenGate};
 pub use held::Held;
+pub use idle::IdleSessions;
 pub use laws::{
-    a_free_lock_guards_a_fit_engine, a_session_reads_its_own_writes,
+    a_free_lock_guards_a_fit_engine, a_peek_is_of_its_slot, a_session_reads_its_own_writes,
     an_acknowledged_commit_is_kept, an_answered_copy_restores, each_change_was_answered_once,
     what_is_wrong_is_not_settled,
 };

@@ -33,7 +33,7 @@ impl<S: PageStore, D: LogDevice, G: Ledger> Model for Opened<S, D, G> {
       began = it.began;
     } };
 
-    ghost invariant = { λ it. it.sessions + vec_len it.spares ≡ 64 };
+    ghost invariant = { λ it. (it.sessions + vec_len it.spares ≡ 64) × (G.parts ≡ 65) };
 }
 
 impl<S: PageStore, D: LogDevice, G: Ledger> Opened<S, D, G> {

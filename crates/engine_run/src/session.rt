@@ -1,13 +1,18 @@
 //! A session: one user of a shared engine, with the receipts of its calls.
 
-ghost use Rattle.std.specs.Prelude.{◌≡◌, ◌<◌, ◌++◌, [], ◌∷◌, IfErr, IfOk, OnErr, OnOk, ℕ};
-ghost use Rattle.std.specs.Prelude.{vec_capacity, vec_len};
+ghost use Rattle.std.specs.Prelude.{◌≡◌, ◌+◌, ◌<◌, ◌≤◌, ◌++◌, [], ◌∷◌, IfErr, IfOk, OnErr, OnOk};
+ghost use Rattle.std.specs.Prelude.{ℕ, vec_capacity, vec_len};
+ghost use Rattle.std.specs.Option.{option_map_or};
 ghost use Rattle.page_core.specs.declared.change.ChangeKind.TheVariants as kind;
 ghost use Rattle.settlement.specs.declared.receipt.Receipt.TheVariants.{Changed, Read, Stepped};
 ghost use Rattle.settlement.specs.declared.receipt.TxnStep.TheVariants as step;
 ghost use Rattle.settlement.specs.Counts.{changes_in};
+ghost use Rattle.aries_core.specs.Step.{reply_of};
+ghost use Rattle.aries_core.specs.declared.event.Answer.TheVariants as answer;
+ghost use Rattle.engine_run.specs.Peek.{IsReadOf};
 ghost use Rattle.engine_run.specs.Undoing.{step_back_receipts, undo_receipt};
 
+use crate::folder::Folder;
 use crate::shared::Shared;
 use aries_core::{Refusal, SteppedBack, Undone};
 use log_store::LogDevice;
@@ -25,6 +30,7 @@ use std::sync::ledger::{Ledger, Share};
 pub struct Session<G: Ledger> {
     share: Share<G>,
     receipts: Vec<Receipt>,
+    changes: usize,
 }
 
 impl<G: Ledger> Model for Session<G> {
@@ -36,13 +42,15 @@ impl<G: Ledger> Model for Session<G> {
 
     ghost view = { λ it. it.receipts.items };
 
-    ghost invariant = { λ it. (it.share.parts ≡ 1)
-        × (it.share.amount ≡ changes_in it.receipts.items) };
+    ghost invariant = { λ it. (it.share.parts ≡ 1) × (G.parts ≡ 65)
+        × (it.share.amount ≡ changes_in it.receipts.items)
+        × (it.changes ≡ changes_in it.receipts.items) };
 }
 
 impl<G: Ledger> Session<G> {
     /// A session that made no call yet, of a share that counts none.
     pub(crate) fn new(alloc: Global, share: Share<G>) -> Session<G>
+        requires sessions { G.parts ≡ 65 }
         requires part { share.parts ≡ 1 }
         requires none { share.amount ≡ 0 }
         ensures { result ≡ [] }
@@ -50,6 +58,7 @@ impl<G: Ledger> Session<G> {
         Session {
             share,
             receipts: Vec::new(alloc),
+            changes: 0,
         }
     }
 
@@ -64,10 +73,7 @@ impl<G: Ledger> Session<G> {
     pub fn changes(&self) -> usize
         ensures { result ≡ changes_in self.now }
     {
-        self.receipts
-            .iter()
-            .filter(|receipt| matches!(receipt, Receipt::Changed { .. }))
-            .count()
+        self.changes
     }
 
     /// Begins a transaction, and answers its number and the LSN of its Begin. Refusals are those of
@@ -119,6 +125,7 @@ impl<G: Ledger> Session<G> {
             kind: ChangeKind::Set,
             number,
         });
+        self.changes += 1;
         Ok(lsn)
     }
 
@@ -150,6 +157,7 @@ impl<G: Ledger> Session<G> {
             kind: ChangeKind::Add,
             number: amount,
         });
+        self.changes += 1;
         Ok(lsn)
     }
 
@@ -175,6 +183,22 @@ impl<G: Ledger> Session<G> {
             number,
         });
         Ok(number)
+    }
+
+    /// The number in a slot, as `read` tells it, without a receipt: the session stays as it is and
+    /// takes no memory, and `settle` does not compare what was read. All that is known of the answer
+    /// is that an engine which is fit answers so. Refusals are those of `Engine::read`, whose
+    /// `OutOfMemory` is for a page that it brings in.
+    pub fn peek<S: PageStore, D: LogDevice>(
+        &self,
+        rt: &impl Wait,
+        shared: &Shared<S, D, G>,
+        page: PageNo,
+        slot: SlotNo,
+    ) -> Result<u64, Refusal>
+        ensures { IsReadOf page slot (reply_of answer.Number result) }
+    {
+        shared.held.lock(rt).peek(page, slot)
     }
 
     /// Commits a transaction, and answers the LSN of its Commit, which is forced then. Refusals are
@@ -290,6 +314,47 @@ impl<G: Ledger> Session<G> {
             });
         }
         Ok(done)
+    }
+
+    /// Takes it apart, to wait: its share goes to those of all that wait.
+    pub(crate) fn put_away(self, shares: Option<Share<G>>) -> (Folder, Share<G>)
+        ensures receipts { result.0 ≡ self }
+        ensures parts { result.1.parts ≡ option_map_or (λ it. it.parts) shares 0 + 1 }
+        ensures amount { result.1.amount
+            ≡ option_map_or (λ it. it.amount) shares 0 + changes_in self }
+        ensures sessions { G.parts ≡ 65 }
+        ensures few { result.1.parts ≤ 65 }
+    {
+        let Session {
+            mut share,
+            receipts,
+            changes,
+        } = self;
+        let mut all = match shares {
+            Some(all) => all,
+            None => share.empty(),
+        };
+        all.merge(share);
+        (Folder::new(receipts, changes), all)
+    }
+
+    /// Puts it together again, with its share out of those of all that wait.
+    pub(crate) fn taken_out(folder: Folder, shares: &mut Share<G>) -> Session<G>
+        requires sessions { G.parts ≡ 65 }
+        requires part { 0 < shares.old.parts }
+        requires amount { changes_in folder ≤ shares.old.amount }
+        requires last { shares.old.parts ≡ 1 → shares.old.amount ≡ changes_in folder }
+        ensures receipts { result ≡ folder }
+        ensures parts { shares.new.parts + 1 ≡ shares.old.parts }
+        ensures amount { shares.new.amount + changes_in folder ≡ shares.old.amount }
+    {
+        let changes = folder.changes();
+        let share = shares.split_off(1, changes as u64);
+        Session {
+            share,
+            receipts: folder.into_receipts(),
+            changes,
+        }
     }
 }
 

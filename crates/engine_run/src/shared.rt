@@ -40,7 +40,7 @@ impl<S: PageStore, D: LogDevice, G: Ledger> Model for Shared<S, D, G> {
 
     ghost view = { λ it. record { sessions = it.sessions; began = it.began } };
 
-    ghost invariant = { λ it. it.sessions + vec_len it.spares ≡ 64 };
+    ghost invariant = { λ it. (it.sessions + vec_len it.spares ≡ 64) × (G.parts ≡ 65) };
 }
 
 impl<S: PageStore + Drop, D: LogDevice + Drop, G: Ledger> Shared<S, D, G> {

@@ -5,6 +5,9 @@ ghost use Rattle.page_core.specs.declared.change.ChangeKind.TheVariants as kind;
 ghost use Rattle.settlement.specs.declared.receipt.Receipt.{Receipt};
 ghost use Rattle.settlement.specs.declared.receipt.Receipt.TheVariants.{Changed, Read, Stepped};
 ghost use Rattle.settlement.specs.declared.receipt.TxnStep.TheVariants as step;
+ghost use Rattle.aries_core.specs.Step.{reply_of};
+ghost use Rattle.aries_core.specs.declared.event.Answer.TheVariants as answer;
+ghost use Rattle.engine_run.specs.Peek.{IsReadOf};
 ghost use Rattle.engine_run.specs.Undoing.{step_back_receipts, undo_receipt};
 
 use aries_core::{Refusal, SteppedBack, Undone};
@@ -41,6 +44,10 @@ pub trait Calls {
         ensures receipt { IfOk result (λ number. (end : ℕ)
             × (receipts self.new ≡ receipts self.old ++ Read end page slot number ∷ [])) }
         ensures refused { OnErr result (receipts self.new ≡ receipts self.old) };
+
+    /// The number in a slot, as `read` tells it, without a receipt.
+    fn peek(&self, page: PageNo, slot: SlotNo) -> Result<u64, Refusal>
+        ensures { IsReadOf page slot (reply_of answer.Number result) };
 
     /// Commits a transaction, and answers the LSN of its Commit, which is forced then.
     fn commit(&mut self, txn: TxnNo) -> Result<Lsn, Refusal>

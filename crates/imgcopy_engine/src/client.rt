@@ -38,6 +38,10 @@ impl<S: PageStore, D: LogDevice, G: Ledger, R: Wait> Calls for Client<'_, S, D, 
         self.session.read(self.rt, self.shared, page, slot)
     }
 
+    fn peek(&self, page: PageNo, slot: SlotNo) -> Result<u64, Refusal> {
+        self.session.peek(self.rt, self.shared, page, slot)
+    }
+
     fn commit(&mut self, txn: TxnNo) -> Result<Lsn, Refusal> {
         self.session.commit(self.rt, self.shared, txn)
     }

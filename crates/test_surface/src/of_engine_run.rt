@@ -1,3 +1,5 @@
 //! The engine for many threads.
 
-pub use engine_run::{Held, HoldGate, Session, Shared, Unsettled, Work, settle};
+pub use engine_run::{
+    Held, HoldGate, IdleSessions, Session, SessionDesk, Shared, Unsettled, Work, settle,
+};

@@ -4,6 +4,8 @@
 #[cfg(test)]
 mod archives;
 #[cfg(test)]
+mod desks;
+#[cfg(test)]
 mod faults;
 #[cfg(test)]
 mod gates;
@@ -11,6 +13,8 @@ mod gates;
 mod going_on;
 #[cfg(test)]
 mod holds;
+#[cfg(test)]
+mod readers;
 #[cfg(test)]
 mod sessions;
 #[cfg(test)]
