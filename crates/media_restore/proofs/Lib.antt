@@ -1,5 +1,4 @@
 mod Audits
-pub mod Groups
 pub mod Loads
 pub mod Masters
 mod OneMasterFault

@@ -13,7 +13,6 @@ ghost use Rattle.media_restore.specs.declared.files_fault.RestoreFault.TheVarian
 
 use crate::files_fault::RestoreFault;
 use crate::files_master::read_master;
-use crate::volume_output::write_volume;
 use copy_vault::read_chain_pages;
 use log_changes::{LogChanges, read_changes, redo_changes, undo_open};
 use log_history::Losers;
@@ -22,6 +21,7 @@ use page_core::{Lsn, PAGE_BYTES, Page, zeros};
 use std::alloc::Global;
 use std::io::{Read, Write};
 use std::thread::Threads;
+use volume_output::write_volume;
 
 /// How many pages are written at once.
 pub(crate) const BUFFER_PAGES: usize = 512;

@@ -19,7 +19,6 @@ use crate::files::BUFFER_PAGES;
 use crate::files_fault::RestoreFault;
 use crate::files_master::read_master;
 use crate::log_output::write_log;
-use crate::volume_output::write_volume;
 use crate::with_log_fault::WithLogFault;
 use copy_vault::read_chain_pages;
 use log_changes::LogChanges;
@@ -29,6 +28,7 @@ use page_core::{Lsn, PAGE_BYTES, Page, zeros};
 use std::alloc::{AllocError, Global};
 use std::io::{Read, Write};
 use std::thread::Threads;
+use volume_output::write_volume;
 
 /// Restores a volume from files as `restore_files` does, and writes two things: the bytes of the
 /// log after undo, which has the records that undo appends, and then those of the volume. A

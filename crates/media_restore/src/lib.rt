@@ -14,7 +14,6 @@ mod master_check;
 mod master_laws;
 mod rebuilt;
 mod saved_laws;
-mod volume_output;
 mod with_log_fault;
 
 pub use audit_laws::an_audited_chain_restores_the_log;

@@ -19,3 +19,4 @@ pub mod of_page_redo;
 pub mod of_page_store;
 pub mod of_program;
 pub mod of_txn_table;
+pub mod of_volume_output;

@@ -7,10 +7,10 @@ ghost use Rattle.volume_redo.specs.Stream.{WritesVolume, Leaves, FailedUnread};
 
 use crate::fault::Fault;
 use log_store::{Scan, scan_log};
-use media_restore::write_volume;
 use page_core::{PAGE_BYTES, zeros};
 use std::alloc::Global;
 use std::io::{Read, Write};
+use volume_output::write_volume;
 
 /// How many pages are written at once.
 const BUFFER_PAGES: usize = 512;

@@ -1,6 +1,6 @@
 use Rattle.std.proofs.Common.{◌≡◌, ◌*◌, length, take}
 use Rattle.page_core.specs.Page.{volume_bytes}
-use Rattle.media_restore.proofs.volume_output.put_pages.Given as goal
+use Rattle.volume_output.proofs.output.put_pages.Given as goal
 
 abbrev pub invariant-loop-i : goal.invariant-loop-i
 invariant-loop-i l = record {

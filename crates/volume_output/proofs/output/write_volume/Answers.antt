@@ -4,8 +4,8 @@ use Rattle.std.proofs.KnownBytes.{Appends-trans}
 use Rattle.std.proofs.lemmas.List.{length-append, length-take, length-drop}
 use Rattle.page_core.specs.Page.{page_bytes, volume_bytes}
 use Rattle.page_core.proofs.Pieces.{into}
-use Rattle.media_restore.proofs.Groups.{group, further, whole}
-use Rattle.media_restore.proofs.volume_output.write_volume.Goals as goal
+use Rattle.volume_output.proofs.Groups.{group, further, whole}
+use Rattle.volume_output.proofs.output.write_volume.Goals as goal
 
 pub returns-in-Err-clause-within : goal.returns-in-Err-clause-within
 returns-in-Err-clause-within g c =

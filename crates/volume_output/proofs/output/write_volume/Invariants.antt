@@ -1,7 +1,7 @@
 use Rattle.std.proofs.Common.{◌≡◌, ◌≤◌, ◌-◌, ◌*◌, length, take}
 use Rattle.std.specs.Io.KnownBytes.{Appends}
 use Rattle.page_core.specs.Page.{volume_bytes}
-use Rattle.media_restore.proofs.volume_output.write_volume.Given as goal
+use Rattle.volume_output.proofs.output.write_volume.Given as goal
 
 abbrev pub invariant-loop-first : goal.invariant-loop-first
 invariant-loop-first g l = record {

@@ -1,0 +1,3 @@
+//! The bytes of a volume.
+
+pub use volume_output::write_volume;
