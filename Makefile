@@ -16,8 +16,8 @@
 #                 those of SQLite, where sqlite3 is there
 # make examples   makes the example logs and their expected answers again
 # make contracts  makes docs/CONTRACTS.md and docs/contracts/ again, from the sources
-# make install    puts the program, its manual page, the completions of bash, zsh and fish, the guide, the formats, and the
-#                 scripts that show a log and a page below PREFIX, by default /usr/local
+# make install    puts the program, its manual page, the completions of bash, zsh and fish, the guide and the formats below
+#                 PREFIX, by default /usr/local
 # make clean      removes build/, and keeps the proofs that rt keeps for itself
 #
 # IMGCOPY=PROGRAM has demo, check, bench and install take that program, and builds none.
@@ -92,7 +92,7 @@ bench-programs: need-cargo need-rustc
 
 install: $(PROGRAM)
 	@install -d "$(DESTDIR)$(PREFIX)/bin" "$(DESTDIR)$(PREFIX)/share/man/man1" \
-		"$(DESTDIR)$(PREFIX)/share/doc/imgcopy/examples" "$(DESTDIR)$(PREFIX)/share/doc/imgcopy/model"
+		"$(DESTDIR)$(PREFIX)/share/doc/imgcopy"
 	@install -m 755 "$(IMGCOPY)" "$(DESTDIR)$(PREFIX)/bin/imgcopy"
 	@install -m 644 docs/imgcopy.1 "$(DESTDIR)$(PREFIX)/share/man/man1/imgcopy.1"
 	@install -d "$(DESTDIR)$(PREFIX)/share/bash-completion/completions" \
@@ -101,8 +101,6 @@ install: $(PROGRAM)
 	@install -m 644 completions/_imgcopy "$(DESTDIR)$(PREFIX)/share/zsh/site-functions/_imgcopy"
 	@install -m 644 completions/imgcopy.fish "$(DESTDIR)$(PREFIX)/share/fish/vendor_completions.d/imgcopy.fish"
 	@install -m 644 docs/GUIDE.md docs/FORMATS.md "$(DESTDIR)$(PREFIX)/share/doc/imgcopy"
-	@install -m 644 examples/show_log.py examples/show_page.py "$(DESTDIR)$(PREFIX)/share/doc/imgcopy/examples"
-	@install -m 644 model/log_format.py model/log_checkpoints.py "$(DESTDIR)$(PREFIX)/share/doc/imgcopy/model"
 
 clean:
 	@rm -rf build

@@ -2,8 +2,8 @@
 # usage: check.sh PROGRAM
 # Runs `PROGRAM redo` on each example log and compares its output, its status and its fault line with the expected
 # ones. Then it gives the program wrong words, whose texts it looks at, words of each command, an input that cannot be
-# read and an output that is full. Before that, it sees that the examples are those that samples.py makes, and that
-# show_log.py finds a fault in the same logs. Ends with status 0 if all is as expected.
+# read and an output that is full. Before that, it sees that the examples are those that samples.py makes. Ends with
+# status 0 if all is as expected.
 set -u
 
 fail() {
@@ -41,16 +41,6 @@ expect() {
     else
         fail "${1##*/}.log has no expected answer"
     fi
-}
-
-# show_log.py ends with status 1 where the log has a fault, and with 0 where it has none.
-check_shown() {
-    wanted_status=0
-    [ ! -e "$1.fault" ] || wanted_status=1
-    python3 "$examples/show_log.py" "$1.log" > "$work/shown"
-    status=$?
-    [ "$status" -eq "$wanted_status" ] ||
-        fail "${1##*/}.log: show_log.py ends with status $status, expected $wanted_status: $(tail -n 1 "$work/shown")"
 }
 
 check_log() {
@@ -227,7 +217,6 @@ check_lines() {
 check_examples
 count=0
 for log in "$examples"/*.log; do
-    check_shown "${log%.log}"
     check_log "${log%.log}"
     count=$((count + 1))
 done

@@ -22,9 +22,8 @@ mkdir -p "$folder" || fail "$folder cannot be made"
 
 # Prints each page of a volume as a line.
 show() {
-    for page in 0 1 2; do
-        python3 "$examples/show_page.py" "$1" "$page" || fail "$1 has no page $page"
-    done
+    "$program" show "$1" > shown || fail "$1 is not shown"
+    grep '^page ' shown
 }
 
 echo "\$ imgcopy run --pages 3 --save $folder < examples/day.script"

@@ -15,9 +15,7 @@ fail() {
 [ $# -eq 3 ] || fail "three arguments are wanted, two programs and a folder"
 # The pages of accounts of a volume, and what they have together.
 accounts_of() {
-    for page in 0 1 2 3 4 5 6 7; do
-        python3 examples/show_page.py "$1" "$page" || fail "the volume has no page $page"
-    done
+    "$imgcopy" show "$1" | grep '^page [0-7] '
 }
 
 sum_of() {
