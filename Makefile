@@ -8,7 +8,7 @@
 #                 to scripts with a model of the engine, also with each of its allocations refused in turn;
 #                 if rt is used, those of read_log and of the engine too, by a program of their own; and checks
 #                 that what the documents name is there
-# make plants     tries the few wrong bodies that the gate leaves out, since it would prove their crates for them alone
+# make plants     tries the wrong bodies that the gate leaves out for its time
 # make bench      measures the program beside a plain Rust program, prints a table, and draws bench/times.svg; it measures
 #                 the program alone on inputs that are chosen to cost much; it measures how time and memory grow, and
 #                 draws bench/growth.svg; if rt is used, it then measures copies of a shared engine by many workers, and
