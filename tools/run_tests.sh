@@ -163,7 +163,11 @@ run_checks() {
         check bank_memory "$program" rt python3 rustc -- bank_memory
         check bank_threads "$program" rt python3 rustc -- bank_threads
         check bank_rot "$program" rt python3 -- bank_rot
-        check kv "$program" rt python3 -- kv
+        if python3 -m checks.kv --can; then
+            check kv "$program" rt python3 -- kv
+        else
+            skip kv "rt has not kept the proofs of the crates on this machine"
+        fi
         if python3 -m checks.bank_disks --can; then
             check bank_disks "$program" rt python3 -- bank_disks
         else
