@@ -42,9 +42,9 @@ def libraries():
     return {name: by_name[name] for name in names}
 
 
-def prove(root, name, seconds):
-    """Has the crate of this name proved, and those that it stands on."""
-    child = subprocess.Popen(["rt", "ci", name], cwd=root, stdin=subprocess.DEVNULL, stdout=subprocess.PIPE,
+def prove(root, names, seconds):
+    """Has the crates of these names proved, and those that they stand on; or all, whose programs are left in out/."""
+    child = subprocess.Popen(["rt", "ci", *names], cwd=root, stdin=subprocess.DEVNULL, stdout=subprocess.PIPE,
                              stderr=subprocess.STDOUT, text=True, start_new_session=True)
     try:
         said, _ = child.communicate(timeout=seconds)
@@ -53,7 +53,7 @@ def prove(root, name, seconds):
         child.communicate()
         raise
     if child.returncode != 0 or " passed, 0 failed" not in said.splitlines()[-1]:
-        raise Failure(f"rt ci {name}: status {child.returncode}, {said[-900:]!r}")
+        raise Failure(f"rt ci: status {child.returncode}, {said[-900:]!r}")
 
 
 def make_root(place):
@@ -77,7 +77,7 @@ def make_root(place):
 def build(place):
     """The program, proved and built."""
     root = make_root(place)
-    prove(root, "kv", SECONDS_OF_A_BUILD)
+    prove(root, [], SECONDS_OF_A_BUILD)
     return root / "crates" / "kv" / "out" / "kv"
 
 
@@ -85,7 +85,7 @@ def is_kept():
     """Whether `rt` has kept the proofs of the crates on this machine."""
     with tempfile.TemporaryDirectory() as name:
         try:
-            prove(make_root(Path(name)), "imgcopy_engine", SECONDS_OF_A_LOOK)
+            prove(make_root(Path(name)), ["imgcopy_engine"], SECONDS_OF_A_LOOK)
             return True
         except (Failure, OSError, subprocess.TimeoutExpired):
             return False
