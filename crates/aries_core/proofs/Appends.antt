@@ -10,24 +10,24 @@ use Rattle.log_records.specs.declared.record.Record.{Record}
 use Rattle.log_records.specs.Image.{with_record}
 use Rattle.log_records.specs.Log.{IsLog, Log, with_next}
 use Rattle.log_records.specs.Record.{change_of}
-use Rattle.log_history.proofs.AtEnd.{valid_next}
-use Rattle.log_records.proofs.GivenNone.{transaction_gives_none}
-use Rattle.log_records.proofs.PageCounts.{more-none}
-use Rattle.log_history.specs.Checkpoint.{Checkpoint, open_checkpoint}
-use Rattle.aries_core.specs.Gather.{Left}
-use Rattle.aries_core.proofs.GatherSteps.{begun_before, session_same}
-use Rattle.log_history.specs.Table.{Table, table_of}
+use Rattle.log_rules.proofs.Public.{valid_next}
+use Rattle.log_records.proofs.Public.{transaction_gives_none}
+use Rattle.log_records.proofs.Public.{more-none}
+use Rattle.log_rules.specs.Checkpoint.{Checkpoint, open_checkpoint}
+use Rattle.engine_rules.specs.Gather.{Left}
+use Rattle.engine_rules.proofs.Public.{begun_before, session_same}
+use Rattle.log_rules.specs.Table.{Table, table_of}
 use Rattle.log_store.specs.WrittenLog.{WrittenLog}
-use Rattle.fuzzy_ckpt.proofs.Opens.{open_same}
+use Rattle.fuzzy_ckpt.proofs.Public.{open_same}
 use Rattle.txn_table.specs.declared.returns.Return.{Return}
 use Rattle.txn_table.specs.Returns.{returns_of}
-use Rattle.aries_core.specs.EngineState.{EngineState, IsFit, IsConsistent, MediaView, appended, engine_view, log_of}
-use Rattle.aries_core.specs.EngineState.{with_page}
-use Rattle.aries_core.specs.EngineState.{volume_pages}
+use Rattle.engine_rules.specs.EngineState.{EngineState, IsFit, IsConsistent, MediaView, appended, engine_view, log_of}
+use Rattle.engine_rules.specs.EngineState.{with_page}
+use Rattle.engine_rules.specs.EngineState.{volume_pages}
 use Rattle.log_records.specs.declared.page_change.PageChange.{PageChange}
-use Rattle.aries_core.specs.Gather.{session_of}
-use Rattle.aries_core.proofs.Fit.{Comes, comes_few, comes_with, fit_appended}
-use Rattle.aries_core.proofs.PageComes.{fetched_fit, page_comes}
+use Rattle.engine_rules.specs.Gather.{session_of}
+use Rattle.engine_rules.proofs.Public.{Comes, comes_few, comes_with, fit_appended}
+use Rattle.engine_rules.proofs.Public.{fetched_fit, page_comes}
 
 -- the log with it
 pub valid_with : (s : EngineState) (r : Record) → IsFit s → Comes s r → IsLog (with_next (log_of s) (r ∷ []))

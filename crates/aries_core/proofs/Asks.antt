@@ -9,12 +9,12 @@ use Rattle.page_store.specs.Store.{GrowCall, ReadCall, WriteCall}
 use Rattle.buffer_pool.specs.Frames.{is_resident}
 use Rattle.buffer_pool.specs.Pool.{PoolView, state_at}
 use Rattle.log_store.specs.WrittenLog.{WrittenLog}
-use Rattle.aries_core.specs.declared.event.Event.TheVariants as event
-use Rattle.aries_core.specs.Asked.{Asks, FailsAsking, a_page, asked, nothing, page_asked, to_store}
-use Rattle.aries_core.specs.EngineState.{EngineView, MediaView, engine_view}
-use Rattle.aries_core.specs.Refusal.{refusal}
+use Rattle.engine_calls.specs.declared.event.Event.TheVariants as event
+use Rattle.engine_rules.specs.Asked.{Asks, FailsAsking, a_page, asked, nothing, page_asked, to_store}
+use Rattle.engine_rules.specs.EngineState.{EngineView, MediaView, engine_view}
+use Rattle.engine_rules.specs.Refusal.{refusal}
 use Rattle.aries_core.proofs.PoolStates.{image_at, page_at}
-use Rattle.aries_core.proofs.Refusals.{write_end_passes}
+use Rattle.engine_rules.proofs.Public.{write_end_passes}
 
 -- what an answer that is no `Err` says, and why one failed
 pub said : {T E : Type 0} (r : Result T E) (P : Type 0) → is_err r ≡ false → OnOk r P → P

@@ -10,44 +10,44 @@ use Rattle.log_records.specs.declared.record.Record.{Record}
 use Rattle.log_records.specs.declared.record.Record.TheVariants.{BeginChkpt}
 use Rattle.log_records.specs.Log.{IsLog, Log, lsn_of, page_count_below, with_next}
 use Rattle.log_records.specs.Record.{IsOfCheckpoint, change_of}
-use Rattle.log_history.specs.Checkpoint.{Checkpoint, checkpoint_after, open_checkpoint, redo_point}
-use Rattle.log_history.specs.Checkpoint.{with_pages as taking_pages, with_txn as taking_txn}
+use Rattle.log_rules.specs.Checkpoint.{Checkpoint, checkpoint_after, open_checkpoint, redo_point}
+use Rattle.log_rules.specs.Checkpoint.{with_pages as taking_pages, with_txn as taking_txn}
 use Rattle.log_records.specs.DirtyPage.{entries_of}
-use Rattle.log_history.specs.Linked.{MayFollow}
-use Rattle.log_history.specs.Table.{Table}
+use Rattle.log_rules.specs.Linked.{MayFollow}
+use Rattle.log_rules.specs.Table.{Table}
 use Rattle.log_store.specs.WrittenLog.{WrittenLog}
 use Rattle.buffer_pool.specs.Pool.{IsPoolOf, PoolView, written_of}
 use Rattle.std.proofs.Common.{◌≤◌, take}
 use Rattle.std.proofs.lemmas.List.{length-take}
-use Rattle.fuzzy_ckpt.proofs.Covers.{behind_grown}
+use Rattle.fuzzy_ckpt.proofs.Public.{behind_grown}
 use Rattle.aries_core.proofs.PoolStates.{behind_volume}
 use Rattle.fuzzy_ckpt.specs.declared.point.Point.{Point}
 use Rattle.fuzzy_ckpt.specs.Ckpt.{AreCovered, CkptView, IsCkptOf, Phase, in_txns}
 use Rattle.fuzzy_ckpt.specs.Answers.{IsUnforced}
 use Rattle.fuzzy_ckpt.specs.Steps.{Gathering, end_of, end_record, gather_step, new_ckpt, with_step}
-use Rattle.fuzzy_ckpt.proofs.Beside.{pool_kept, table_kept}
-use Rattle.fuzzy_ckpt.proofs.Opens.{open_push}
-use Rattle.aries_core.specs.declared.event.Answer.{Answer}
-use Rattle.aries_core.specs.declared.event.Answer.TheVariants as answer
-use Rattle.aries_core.specs.declared.event.Event.{Event}
-use Rattle.aries_core.specs.declared.event.Event.TheVariants as event
-use Rattle.aries_core.specs.declared.refusal.Refusal.{Refusal}
-use Rattle.aries_core.specs.declared.refusal.Refusal.TheVariants.{LogFault, OutOfMemory}
-use Rattle.aries_core.specs.EngineState.{MediaView, EngineState, IsFit, IsConsistent, closed, effect, end, end_ckpt_record}
-use Rattle.aries_core.specs.EngineState.{engine_view, forced_to, gather_effect, gathered_record, log_of, next_step}
-use Rattle.aries_core.specs.EngineState.{point_of}
-use Rattle.aries_core.specs.EventFits.{EventFits}
-use Rattle.aries_core.specs.Gather.{Left, is_done, left_of, none_left, pages_left, session_of, txns_left}
-use Rattle.aries_core.specs.Refusal.{refusal}
-use Rattle.aries_core.specs.Step.{Fails, ForcedPart, Step, TakesMemory}
-use Rattle.aries_core.proofs.Fit.{fit_of_step}
-use Rattle.aries_core.proofs.Follows.{follows, gather_record_has, none_is_not_some}
-use Rattle.aries_core.proofs.GatherSteps.{begun_before, cursor_after_txn, end_ckpt_follows, first_txn, gathering_of, new_is_session}
-use Rattle.aries_core.proofs.GatherSteps.{past_is_session, session_same}
-use Rattle.buffer_pool.proofs.Pools.{none_changes}
-use Rattle.aries_core.proofs.Gathers.{PassesPages, PassesTxns, TakesPages, TakesTxn, WasDone}
-use Rattle.aries_core.proofs.Gathers.{at_left, ckpt_end_is, gather_case, pages_record, txn_entry, with_pages, with_txn}
-use Rattle.aries_core.proofs.Refusals.{ckpt_begin_passes, ckpt_end_passes, gather_passes}
+use Rattle.fuzzy_ckpt.proofs.Public.{pool_kept, table_kept}
+use Rattle.fuzzy_ckpt.proofs.Public.{open_push}
+use Rattle.engine_calls.specs.declared.event.Answer.{Answer}
+use Rattle.engine_calls.specs.declared.event.Answer.TheVariants as answer
+use Rattle.engine_calls.specs.declared.event.Event.{Event}
+use Rattle.engine_calls.specs.declared.event.Event.TheVariants as event
+use Rattle.engine_calls.specs.declared.refusal.Refusal.{Refusal}
+use Rattle.engine_calls.specs.declared.refusal.Refusal.TheVariants.{LogFault, OutOfMemory}
+use Rattle.engine_rules.specs.EngineState.{MediaView, EngineState, IsFit, IsConsistent, closed, effect, end, end_ckpt_record}
+use Rattle.engine_rules.specs.EngineState.{engine_view, forced_to, gather_effect, gathered_record, log_of, next_step}
+use Rattle.engine_rules.specs.EngineState.{point_of}
+use Rattle.engine_calls.specs.EventFits.{EventFits}
+use Rattle.engine_rules.specs.Gather.{Left, is_done, left_of, none_left, pages_left, session_of, txns_left}
+use Rattle.engine_rules.specs.Refusal.{refusal}
+use Rattle.engine_rules.specs.Step.{Fails, ForcedPart, Step, TakesMemory}
+use Rattle.engine_rules.proofs.Public.{fit_of_step}
+use Rattle.engine_rules.proofs.Public.{follows, gather_record_has, none_is_not_some}
+use Rattle.engine_rules.proofs.Public.{begun_before, cursor_after_txn, end_ckpt_follows, first_txn, gathering_of, new_is_session}
+use Rattle.engine_rules.proofs.Public.{past_is_session, session_same}
+use Rattle.buffer_pool.proofs.Public.{none_changes}
+use Rattle.engine_rules.proofs.Public.{PassesPages, PassesTxns, TakesPages, TakesTxn, WasDone}
+use Rattle.engine_rules.proofs.Public.{at_left, ckpt_end_is, gather_case, pages_record, txn_entry, with_pages, with_txn}
+use Rattle.engine_rules.proofs.Public.{ckpt_begin_passes, ckpt_end_passes, gather_passes}
 use Rattle.aries_core.proofs.Returned.{none_of_checkpoint, returns_stay}
 
 -- what a call says of the state after it: it is a step, and the engine is in step with its log

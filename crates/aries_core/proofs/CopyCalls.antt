@@ -4,7 +4,7 @@ use Rattle.std.specs.Prelude.{Option, Some, None, Result, Ok}
 use Rattle.std.specs.Option.{option_map, option_map_or}
 use Rattle.page_core.specs.declared.page.Page.{Page}
 use Rattle.buffer_pool.specs.Pool.{IsPoolOf, PoolView}
-use Rattle.log_history.specs.Table.{Table}
+use Rattle.log_rules.specs.Table.{Table}
 use Rattle.log_store.specs.WrittenLog.{WrittenLog}
 use Rattle.fuzzy_ckpt.specs.declared.point.Point.{Point}
 use Rattle.copy_vault.specs.declared.copy_id.CopyKind.TheVariants.{Full, Inc}
@@ -15,18 +15,19 @@ use Rattle.copy_vault.specs.Vault.{CopyState, answer_in, complete, decided, drop
 use Rattle.copy_vault.specs.Vault.{open_refusal}
 use Rattle.copy_vault.specs.Vault.{opened, pages_read, reading, reading_of, seal_refusal, sealed, state_of}
 use Rattle.copy_vault.specs.Vault.{taken_in, without}
-use Rattle.aries_core.specs.declared.event.Answer.{Answer}
-use Rattle.aries_core.specs.declared.event.Answer.TheVariants as answer
-use Rattle.aries_core.specs.declared.event.Event.{Event}
-use Rattle.aries_core.specs.declared.event.Event.TheVariants as event
-use Rattle.aries_core.specs.declared.refusal.Refusal.{Refusal}
-use Rattle.aries_core.specs.EngineState.{EngineState, IsConsistent, MediaView, engine_view, stored_page}
-use Rattle.aries_core.specs.EngineState.{take_answer, with_copies}
-use Rattle.aries_core.specs.EventFits.{EventFits}
-use Rattle.aries_core.specs.Refusal.{of_vault, refusal}
-use Rattle.aries_core.specs.Step.{Step}
-use Rattle.aries_core.proofs.Fit.{fit_of_step}
-use Rattle.aries_core.proofs.Refusals.{take_passes}
+use Rattle.engine_calls.specs.declared.event.Answer.{Answer}
+use Rattle.engine_calls.specs.declared.event.Answer.TheVariants as answer
+use Rattle.engine_calls.specs.declared.event.Event.{Event}
+use Rattle.engine_calls.specs.declared.event.Event.TheVariants as event
+use Rattle.engine_calls.specs.declared.refusal.Refusal.{Refusal}
+use Rattle.engine_rules.specs.EngineState.{EngineState, IsConsistent, MediaView, engine_view, stored_page}
+use Rattle.engine_rules.specs.EngineState.{take_answer, with_copies}
+use Rattle.engine_calls.specs.EventFits.{EventFits}
+use Rattle.engine_rules.specs.Refusal.{refusal}
+use Rattle.engine_calls.specs.Refusal.{of_vault}
+use Rattle.engine_rules.specs.Step.{Step}
+use Rattle.engine_rules.proofs.Public.{fit_of_step}
+use Rattle.engine_rules.proofs.Public.{take_passes}
 
 -- the engine is kept, and the pool may have asked its store
 pub copies_kept : {S D : Type 0} (stored : S → List Page) (it : WrittenLog D) (table : Table) (pool after : PoolView S)

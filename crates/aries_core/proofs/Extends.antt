@@ -11,26 +11,26 @@ use Rattle.page_core.specs.declared.page.Page.{Page}
 use Rattle.page_core.specs.Page.{formatted}
 use Rattle.page_core.specs.Volume.{grown_to}
 use Rattle.page_core.specs.declared.page.TheConstants.{MAX_PAGES}
-use Rattle.page_core.proofs.Volumes.{length-grown_to}
+use Rattle.page_core.proofs.Public.{length-grown_to}
 use Rattle.page_store.specs.Store.{IsGrown}
 use Rattle.log_records.specs.declared.limits.TheConstants.{MAX_RECORDS}
 use Rattle.log_records.specs.Log.{Log, with_next}
-use Rattle.log_records.proofs.PastVolume.{past_is_formatted}
-use Rattle.log_history.specs.Table.{Table}
+use Rattle.log_records.proofs.Public.{past_is_formatted}
+use Rattle.log_rules.specs.Table.{Table}
 use Rattle.log_store.specs.WrittenLog.{WrittenLog}
-use Rattle.txn_table.proofs.Beside.{returns_kept, table_kept}
+use Rattle.txn_table.proofs.Public.{returns_kept, table_kept}
 use Rattle.buffer_pool.specs.Pool.{IsPoolOf, PageState, PoolView, grown_states, unwritten, writing_of, written_of}
-use Rattle.buffer_pool.proofs.Grown.{length-extended, map-extended}
-use Rattle.buffer_pool.proofs.Pools.{none_changes}
-use Rattle.fuzzy_ckpt.proofs.Opens.{open_grown}
-use Rattle.aries_core.specs.declared.event.Event.TheVariants as event
-use Rattle.aries_core.specs.declared.refusal.Refusal.TheVariants.{LogFull, NotLarger}
-use Rattle.aries_core.specs.EngineState.{EngineState, IsConsistent, MediaView, end, engine_view, extend_record, log_of}
-use Rattle.aries_core.specs.EngineState.{volume_pages}
-use Rattle.aries_core.specs.Refusal.{has_no_room, refusal}
+use Rattle.buffer_pool.proofs.Public.{length-extended, map-extended}
+use Rattle.buffer_pool.proofs.Public.{none_changes}
+use Rattle.fuzzy_ckpt.proofs.Public.{open_grown}
+use Rattle.engine_calls.specs.declared.event.Event.TheVariants as event
+use Rattle.engine_calls.specs.declared.refusal.Refusal.TheVariants.{LogFull, NotLarger}
+use Rattle.engine_rules.specs.EngineState.{EngineState, IsConsistent, MediaView, end, engine_view, extend_record, log_of}
+use Rattle.engine_rules.specs.EngineState.{volume_pages}
+use Rattle.engine_rules.specs.Refusal.{has_no_room, refusal}
 use Rattle.aries_core.proofs.Appends.{session_later}
-use Rattle.aries_core.proofs.Growth.{extended, extended_fit}
-use Rattle.aries_core.proofs.Refusals.{extend_passes}
+use Rattle.engine_rules.proofs.Public.{extended, extended_fit}
+use Rattle.engine_rules.proofs.Public.{extend_passes}
 
 pub kept_extended : {S : Type 0} (stored : S → List Page) (s : EngineState) (table : Table) (pool after : PoolView S)
     (media : MediaView) (count : ℕ) → IsConsistent stored s table pool media → refusal s (event.Extend count) ≡ None

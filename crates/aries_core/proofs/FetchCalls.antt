@@ -2,18 +2,18 @@
 use Rattle.std.proofs.Common.{◌≡◌, ℕ, Bool, true, false, refl, ap, inr}
 use Rattle.std.specs.Prelude.{is_none, Some, None, IfErr, IfOk, OnErr, Result, Ok, Err}
 use Rattle.page_core.specs.declared.change.Change.TheVariants.{Set, Add}
-use Rattle.log_history.specs.declared.pending_change.PendingChange.{PendingChange}
-use Rattle.log_history.specs.Linked.{number_in}
-use Rattle.log_history.specs.Savepoints.{savepoint}
-use Rattle.log_history.specs.Transactions.{last_of, pending}
+use Rattle.log_rules.specs.declared.pending_change.PendingChange.{PendingChange}
+use Rattle.log_rules.specs.Linked.{number_in}
+use Rattle.log_rules.specs.Savepoints.{savepoint}
+use Rattle.log_rules.specs.Transactions.{last_of, pending}
 use Rattle.buffer_pool.specs.Frames.{is_resident}
-use Rattle.aries_core.specs.declared.event.Answer.TheVariants as answer
-use Rattle.aries_core.specs.declared.event.Event.TheVariants as event
-use Rattle.aries_core.specs.declared.refusal.Refusal.{Refusal}
-use Rattle.aries_core.specs.declared.refusal.Refusal.TheVariants.{OutOfMemory, StoreFault}
-use Rattle.aries_core.specs.EngineState.{EngineState, appended, end, taken_back, update_record, with_page}
-use Rattle.aries_core.specs.Refusal.{active_refusal, frame_refusal, refusal}
-use Rattle.aries_core.specs.Step.{FailsFetching, Step, reply_of}
+use Rattle.engine_calls.specs.declared.event.Answer.TheVariants as answer
+use Rattle.engine_calls.specs.declared.event.Event.TheVariants as event
+use Rattle.engine_calls.specs.declared.refusal.Refusal.{Refusal}
+use Rattle.engine_calls.specs.declared.refusal.Refusal.TheVariants.{OutOfMemory, StoreFault}
+use Rattle.engine_rules.specs.EngineState.{EngineState, appended, end, taken_back, update_record, with_page}
+use Rattle.engine_rules.specs.Refusal.{active_refusal, frame_refusal, refusal}
+use Rattle.engine_rules.specs.Step.{FailsFetching, Step, reply_of}
 
 pub set_step : (s new : EngineState) (txn page slot number : ℕ) (result : Result ℕ Refusal)
     → refusal s (event.Set txn page slot number) ≡ None

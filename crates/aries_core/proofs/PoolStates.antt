@@ -9,7 +9,7 @@ use Rattle.std.proofs.lemmas.List.{get_or_append_left, get_or-append_right, leng
 use Rattle.std.proofs.lemmas.Bool.{cases_lt}
 use Rattle.std.proofs.Common.{◌-◌, inl, inr}
 use Rattle.std.specs.List.{range_with_len}
-use Rattle.log_records.proofs.PastVolume.{past_is_formatted}
+use Rattle.log_records.proofs.Public.{past_is_formatted}
 use Rattle.log_records.specs.Log.{Log}
 use Rattle.page_core.specs.Volume.{grown_to}
 use Rattle.page_store.specs.Store.{IsGrown}
@@ -22,15 +22,15 @@ use Rattle.buffer_pool.specs.Pool.{writing_of, written_of}
 use Rattle.log_records.specs.Coverage.{rec_lsn}
 use Rattle.log_store.specs.WrittenLog.{WrittenLog, end_up_to}
 use Rattle.copy_vault.specs.Vault.{CopyState, complete_refusal, state_of}
-use Rattle.aries_core.specs.declared.event.Event.TheVariants as event
-use Rattle.aries_core.specs.declared.refusal.Refusal.TheVariants.{NoWrite, NotDirty, PageOut, WriteBegun}
-use Rattle.aries_core.specs.EngineState.{MediaView, EngineState, begun_write, ended_write, engine_view, forced_through}
-use Rattle.aries_core.specs.EngineState.{image_of}
-use Rattle.aries_core.specs.EngineState.{new_state, rec_lsn_of, stored_page, with_page, with_stored}
-use Rattle.aries_core.specs.EngineState.{volume_pages}
+use Rattle.engine_calls.specs.declared.event.Event.TheVariants as event
+use Rattle.engine_calls.specs.declared.refusal.Refusal.TheVariants.{NoWrite, NotDirty, PageOut, WriteBegun}
+use Rattle.engine_rules.specs.EngineState.{MediaView, EngineState, begun_write, ended_write, engine_view, forced_through}
+use Rattle.engine_rules.specs.EngineState.{image_of}
+use Rattle.engine_rules.specs.EngineState.{new_state, rec_lsn_of, stored_page, with_page, with_stored}
+use Rattle.engine_rules.specs.EngineState.{volume_pages}
 use Rattle.buffer_pool.specs.Frames.{fetched, is_resident}
 use Rattle.page_core.specs.Volume.{formatted_pages}
-use Rattle.aries_core.specs.Refusal.{refusal}
+use Rattle.engine_rules.specs.Refusal.{refusal}
 use Rattle.txn_table.specs.declared.returns.Return.{Return}
 
 -- ---- refusals

@@ -7,25 +7,25 @@ use Rattle.page_core.specs.declared.page.Page.{Page}
 use Rattle.page_store.specs.Store.{StoresOrKeeps}
 use Rattle.log_records.specs.Coverage.{Covers}
 use Rattle.log_records.specs.Image.{image}
-use Rattle.log_history.specs.Table.{Table}
+use Rattle.log_rules.specs.Table.{Table}
 use Rattle.log_store.specs.WrittenLog.{EndsAtRecord, WrittenLog, end_up_to}
 use Rattle.copy_vault.specs.Chain.{IsChain, IsChainOf, content, last_redo}
 use Rattle.copy_vault.specs.Copy.{CopyView}
-use Rattle.copy_coverage.proofs.Chains.{covered_of_members}
-use Rattle.copy_coverage.proofs.Copied.{restorable}
+use Rattle.copy_coverage.proofs.Public.{covered_of_members}
+use Rattle.copy_coverage.proofs.Public.{restorable}
 use Rattle.buffer_pool.specs.Pool.{IsPoolOf, PoolView, stored_as_now, state_at, unwritten, with_state, writing_of, written_of}
-use Rattle.aries_core.specs.declared.event.Answer.TheVariants as answer
-use Rattle.aries_core.specs.declared.event.Event.TheVariants as event
-use Rattle.aries_core.specs.declared.refusal.Refusal.TheVariants.{LogFault, StoreFault}
-use Rattle.aries_core.specs.EngineState.{EngineState, IsFit, IsConsistent, MediaView, effect, engine_view, forced_through}
-use Rattle.aries_core.specs.EngineState.{log_of, with_stored}
-use Rattle.aries_core.specs.EngineState.{volume_pages}
-use Rattle.aries_core.specs.EngineState as engine
-use Rattle.aries_core.specs.Refusal.{refusal}
-use Rattle.aries_core.specs.Repair.{MayBeRepaired}
-use Rattle.aries_core.specs.Step.{Step}
+use Rattle.engine_calls.specs.declared.event.Answer.TheVariants as answer
+use Rattle.engine_calls.specs.declared.event.Event.TheVariants as event
+use Rattle.engine_calls.specs.declared.refusal.Refusal.TheVariants.{LogFault, StoreFault}
+use Rattle.engine_rules.specs.EngineState.{EngineState, IsFit, IsConsistent, MediaView, effect, engine_view, forced_through}
+use Rattle.engine_rules.specs.EngineState.{log_of, with_stored}
+use Rattle.engine_rules.specs.EngineState.{volume_pages}
+use Rattle.engine_rules.specs.EngineState as engine
+use Rattle.engine_rules.specs.Refusal.{refusal}
+use Rattle.engine_rules.specs.Repair.{MayBeRepaired}
+use Rattle.engine_rules.specs.Step.{Step}
 use Rattle.aries_core.proofs.PoolStates.{image_at, stored_set}
-use Rattle.aries_core.proofs.Refusals.{repair_passes}
+use Rattle.engine_rules.proofs.Public.{repair_passes}
 use Rattle.aries_core.proofs.WriteCalls.{Called, called}
 
 -- ---- what a chain has

@@ -7,9 +7,9 @@ use Rattle.log_records.specs.Log.{Log}
 use Rattle.fuzzy_ckpt.specs.declared.point.Point.{Point}
 use Rattle.copy_coverage.specs.Copied.{copy_in}
 use Rattle.copy_coverage.specs.Retired.{NamesCheckpoint, IsRetired}
-use Rattle.copy_coverage.proofs.Copied.{restorable}
-use Rattle.aries_core.specs.EngineState.{EngineState, IsFit, log_of, master_record}
-use Rattle.aries_core.specs.EngineState as engine
+use Rattle.copy_coverage.proofs.Public.{restorable}
+use Rattle.engine_rules.specs.EngineState.{EngineState, IsFit, log_of, master_record}
+use Rattle.engine_rules.specs.EngineState as engine
 
 named : (log : Log) (stored : List Page) (forced_end : ℕ) (point : Option Point)
     → IfSome point (engine.IsMasterOf log stored forced_end)

@@ -8,7 +8,7 @@ use Rattle.log_records.specs.declared.record.Record.TheVariants.{Begin, Update, 
 use Rattle.log_records.specs.declared.record.Record.TheVariants.{ChkptPages, ChkptTxns, EndChkpt, Extend}
 use Rattle.log_records.specs.Record.{IsOfCheckpoint}
 use Rattle.txn_table.specs.Returns.{return_of, returns_of}
-use Rattle.txn_table.proofs.Stacks.{returns_push}
+use Rattle.txn_table.proofs.Public.{returns_push}
 
 pub returns_stay : (rs : List Record) (r : Record) → return_of rs r ≡ None → returns_of (rs ++ r ∷ []) ≡ returns_of rs
 returns_stay rs r none =

@@ -7,25 +7,25 @@ use Rattle.page_store.specs.Store.{StoresOrKeeps}
 use Rattle.std.proofs.lemmas.List.Elements.{All-weaker}
 use Rattle.buffer_pool.specs.Pool.{IsPoolOf, PoolView, state_at, with_state, write_begun, write_ended, writing_of}
 use Rattle.log_records.specs.Image.{image}
-use Rattle.log_history.specs.Table.{Table}
+use Rattle.log_rules.specs.Table.{Table}
 use Rattle.log_records.specs.Log.{page_count}
 use Rattle.log_store.specs.WrittenLog.{EndsAtRecord, WrittenLog, end_up_to}
-use Rattle.aries_core.specs.declared.event.Answer.{Answer}
-use Rattle.aries_core.specs.declared.event.Answer.TheVariants as answer
-use Rattle.aries_core.specs.declared.event.Event.{Event}
-use Rattle.aries_core.specs.declared.event.Event.TheVariants as event
-use Rattle.aries_core.specs.declared.refusal.Refusal.{Refusal}
-use Rattle.aries_core.specs.declared.refusal.Refusal.TheVariants.{StoreFault}
-use Rattle.aries_core.specs.EngineState.{MediaView, IsConsistent, begun_write, effect, ended_write, engine_view}
-use Rattle.aries_core.specs.EngineState.{forced_through}
-use Rattle.aries_core.specs.EventFits.{EventFits}
-use Rattle.copy_coverage.proofs.Copied.{copied_forced}
-use Rattle.aries_core.specs.Refusal.{refusal}
-use Rattle.aries_core.specs.Step.{MayBeStored, Step}
-use Rattle.aries_core.proofs.Beside.{master_forced}
-use Rattle.aries_core.proofs.Fit.{fit_of_step}
+use Rattle.engine_calls.specs.declared.event.Answer.{Answer}
+use Rattle.engine_calls.specs.declared.event.Answer.TheVariants as answer
+use Rattle.engine_calls.specs.declared.event.Event.{Event}
+use Rattle.engine_calls.specs.declared.event.Event.TheVariants as event
+use Rattle.engine_calls.specs.declared.refusal.Refusal.{Refusal}
+use Rattle.engine_calls.specs.declared.refusal.Refusal.TheVariants.{StoreFault}
+use Rattle.engine_rules.specs.EngineState.{MediaView, IsConsistent, begun_write, effect, ended_write, engine_view}
+use Rattle.engine_rules.specs.EngineState.{forced_through}
+use Rattle.engine_calls.specs.EventFits.{EventFits}
+use Rattle.copy_coverage.proofs.Public.{copied_forced}
+use Rattle.engine_rules.specs.Refusal.{refusal}
+use Rattle.engine_rules.specs.Step.{MayBeStored, Step}
+use Rattle.engine_rules.proofs.Public.{master_forced}
+use Rattle.engine_rules.proofs.Public.{fit_of_step}
 use Rattle.aries_core.proofs.PoolStates.{begun_is, ended_is, image_at, kept_is, repeated_is}
-use Rattle.aries_core.proofs.Refusals.{write_end_passes}
+use Rattle.engine_rules.proofs.Public.{write_end_passes}
 
 -- what a call says of the state after it: it is a step, and the engine is in step with its pool
 pub record Called {S D : Type 0} (stored : S → List Page) (it new : WrittenLog D) (table : Table)

@@ -1,17 +1,1 @@
-pub mod Accepted
-pub mod AnsweredCommits
-pub mod Asked
-pub mod Call
-pub mod Catalogue
-pub mod CkptReplies
-pub mod EngineState
-pub mod EventFits
-pub mod Gather
 pub mod OpenCkpt
-pub mod Refusal
-pub mod Repair
-pub mod Resumed
-pub mod Run
-pub mod Step
-pub mod Storage
-pub mod Written

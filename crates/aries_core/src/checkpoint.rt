@@ -1,17 +1,16 @@
 //! The calls of the engine that take a fuzzy checkpoint in steps.
 
 ghost use Rattle.std.specs.Prelude.{ℕ, ◌≡◌, ◌<◌, ◌≤◌, Some, None, IfErr, IfOk, OnOk};
-ghost use Rattle.aries_core.specs.EngineState.{end};
-ghost use Rattle.aries_core.specs.Refusal.{refusal};
-ghost use Rattle.aries_core.specs.Step.{FailsForcing, Forces};
-ghost use Rattle.aries_core.specs.Step.{IsByDevice, Step, gather_answer, reply_of};
-ghost use Rattle.aries_core.specs.declared.event.Answer.TheVariants as answer;
-ghost use Rattle.aries_core.specs.declared.event.Event.TheVariants as event;
+ghost use Rattle.engine_rules.specs.EngineState.{end};
+ghost use Rattle.engine_rules.specs.Refusal.{refusal};
+ghost use Rattle.engine_rules.specs.Step.{FailsForcing, Forces};
+ghost use Rattle.engine_rules.specs.Step.{IsByDevice, Step, gather_answer, reply_of};
+ghost use Rattle.engine_calls.specs.declared.event.Answer.TheVariants as answer;
+ghost use Rattle.engine_calls.specs.declared.event.Event.TheVariants as event;
 
 use crate::engine::Engine;
-use crate::event::Gathered;
 use crate::open_ckpt::OpenCkpt;
-use crate::refusal::Refusal;
+use engine_calls::{Gathered, Refusal};
 use fuzzy_ckpt::{Ckpt, FinishFault, Point};
 use log_store::LogDevice;
 use page_core::Lsn;

@@ -4,16 +4,15 @@ ghost use Rattle.std.specs.Prelude.{◌≡◌, ◌<◌, Some, None, IfErr, IfOk,
 ghost use Rattle.std.specs.Option.{option_map_or};
 ghost use Rattle.copy_vault.specs.CopyWrite.{LeavesCopy, WritesCopy};
 ghost use Rattle.copy_vault.specs.Vault.{IsOfId, OpenRefuses, complete, complete_refusal, state_of};
-ghost use Rattle.aries_core.specs.Asked.{Asks, FailsAsking, asked};
-ghost use Rattle.aries_core.specs.Refusal.{refusal};
-ghost use Rattle.aries_core.specs.Step.{IsByStore, Step, reply_of, took_answer};
-ghost use Rattle.aries_core.specs.declared.event.Answer.TheVariants as answer;
-ghost use Rattle.aries_core.specs.declared.event.Event.TheVariants as event;
+ghost use Rattle.engine_rules.specs.Asked.{Asks, FailsAsking, asked};
+ghost use Rattle.engine_rules.specs.Refusal.{refusal};
+ghost use Rattle.engine_rules.specs.Step.{IsByStore, Step, reply_of, took_answer};
+ghost use Rattle.engine_calls.specs.declared.event.Answer.TheVariants as answer;
+ghost use Rattle.engine_calls.specs.declared.event.Event.TheVariants as event;
 
 use crate::engine::Engine;
-use crate::event::Took;
-use crate::refusal::Refusal;
 use copy_vault::{CopyFault, CopyId, CopyWriteFault, Decision, LentCopy};
+use engine_calls::{Refusal, Took};
 use log_store::LogDevice;
 use page_core::{Lsn, PageNo};
 use page_store::PageStore;

@@ -8,36 +8,34 @@ ghost use Rattle.buffer_pool.specs.Pool.{IsFrameCount};
 ghost use Rattle.page_core.specs.Volume.{formatted_pages};
 ghost use Rattle.log_records.specs.Log.{IsPageCount};
 ghost use Rattle.log_records.specs.Record.{change_of};
-ghost use Rattle.log_history.specs.Transactions.{is_open, last_lsn};
-ghost use Rattle.aries_core.specs.Asked.{Asks, FailsAsking, asked};
-ghost use Rattle.aries_core.specs.Call.{Calls};
-ghost use Rattle.aries_core.specs.EngineState.{Fetches, IsFit, appended, end, forced_to, new_state};
-ghost use Rattle.aries_core.specs.EngineState.{update_record};
-ghost use Rattle.aries_core.specs.Refusal.{active_refusal, change_refusal, frame_refusal};
-ghost use Rattle.aries_core.specs.Refusal.{has_no_room};
-ghost use Rattle.aries_core.specs.Refusal.{page_refusal, rolling_refusal};
-ghost use Rattle.aries_core.specs.Refusal.{refusal};
-ghost use Rattle.aries_core.specs.Step.{ForcedPart, IsAtRepair, IsByDevice, IsByStore, IsUnsure};
-ghost use Rattle.aries_core.specs.Step.{FailsForcing, Forces, LeavesDevice};
-ghost use Rattle.aries_core.specs.Step.{Step, reply_of};
-ghost use Rattle.aries_core.specs.declared.event.Answer.TheVariants as answer;
-ghost use Rattle.aries_core.specs.declared.event.Event.TheVariants as event;
+ghost use Rattle.log_rules.specs.Transactions.{is_open, last_lsn};
+ghost use Rattle.engine_rules.specs.Asked.{Asks, FailsAsking, asked};
+ghost use Rattle.engine_rules.specs.Call.{Calls};
+ghost use Rattle.engine_rules.specs.EngineState.{Fetches, IsFit, appended, end, forced_to, new_state};
+ghost use Rattle.engine_rules.specs.EngineState.{update_record};
+ghost use Rattle.engine_rules.specs.Refusal.{active_refusal, change_refusal, frame_refusal};
+ghost use Rattle.engine_rules.specs.Refusal.{has_no_room};
+ghost use Rattle.engine_rules.specs.Refusal.{page_refusal, rolling_refusal};
+ghost use Rattle.engine_rules.specs.Refusal.{refusal};
+ghost use Rattle.engine_rules.specs.Step.{ForcedPart, IsAtRepair, IsByDevice, IsByStore, IsUnsure};
+ghost use Rattle.engine_rules.specs.Step.{FailsForcing, Forces, LeavesDevice};
+ghost use Rattle.engine_rules.specs.Step.{Step, reply_of};
+ghost use Rattle.engine_calls.specs.declared.event.Answer.TheVariants as answer;
+ghost use Rattle.engine_calls.specs.declared.event.Event.TheVariants as event;
 
-use crate::event::{Answer, Event, Gathered, Reply, SteppedBack, Took, Undone};
 use crate::open_ckpt::OpenCkpt;
-use crate::refusal::Refusal;
-use crate::setup::{PlayFault, Setup};
 use buffer_pool::Pool;
 use copy_vault::Vault;
+use engine_calls::{Answer, Event, Gathered, PlayFault, Refusal, Reply, Setup, SteppedBack, Took, Undone};
 use fuzzy_ckpt::Point;
-use log_history::{PendingChange, TxnState};
 use log_records::{MAX_OPEN, MAX_RECORDS, Record};
+use log_rules::PendingChange;
 use log_store::{DeviceFault, Log, LogDevice};
 use page_core::{Change, ChangeKind, Lsn, PageNo, SLOTS, SlotNo, TxnNo};
 use page_store::PageStore;
 use std::alloc::Global;
 use std::marker::Model;
-use txn_table::{Returns, TxnTable};
+use txn_table::{Returns, TxnState, TxnTable};
 
 /// An engine for one thread, over a store of pages and a device that keeps its log. Each call is
 /// one event.
@@ -59,7 +57,7 @@ pub struct Engine<S: PageStore, D: LogDevice> {
 }
 
 impl<S: PageStore, D: LogDevice> Model for Engine<S, D> {
-    ghost use Rattle.aries_core.specs.EngineState.{EngineView, IsConsistent, engine_view};
+    ghost use Rattle.engine_rules.specs.EngineState.{EngineView, IsConsistent, engine_view};
     ghost use Rattle.aries_core.specs.OpenCkpt.{media_view};
 
     ghost Value = { EngineView S D };
@@ -76,7 +74,7 @@ impl<S: PageStore, D: LogDevice> Model for Engine<S, D> {
 
 impl<S: PageStore + Drop, D: LogDevice + Drop> Engine<S, D> {
     ghost use Rattle.log_store.specs.Stores.{StoresHeader};
-    ghost use Rattle.aries_core.specs.Storage.{FailsAtHeader};
+    ghost use Rattle.engine_rules.specs.Storage.{FailsAtHeader};
 
     /// An engine over a formatted volume, with a log without records, whose header is stored by one
     /// call of the device and synced by one. No page is in memory yet. The store is not called but

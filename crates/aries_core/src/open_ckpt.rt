@@ -7,7 +7,7 @@ ghost use Rattle.buffer_pool.specs.Pool.{IsPoolOf, written_of};
 ghost use Rattle.txn_table.specs.TxnTable.{IsTableOf};
 ghost use Rattle.fuzzy_ckpt.specs.Ckpt.{AreCovered, IsCkptOf, gathered_ckpt};
 ghost use Rattle.fuzzy_ckpt.specs.Steps.{HasRoomForStep, gather_step, with_step};
-ghost use Rattle.aries_core.specs.Gather.{is_done, left_of};
+ghost use Rattle.engine_rules.specs.Gather.{is_done, left_of};
 ghost use Rattle.aries_core.specs.OpenCkpt.{view_of};
 
 use buffer_pool::Pool;

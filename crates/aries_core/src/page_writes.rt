@@ -1,16 +1,16 @@
 //! The calls of the engine that write a page to its store in two steps.
 
 ghost use Rattle.std.specs.Prelude.{◌≡◌, ◌<◌, ◌≤◌, Some, None, IfErr, OnOk};
-ghost use Rattle.aries_core.specs.Asked.{Asks, FailsAsking, asked};
-ghost use Rattle.aries_core.specs.EngineState.{end};
-ghost use Rattle.aries_core.specs.Refusal.{refusal};
-ghost use Rattle.aries_core.specs.Step.{FailsForcing, Forces};
-ghost use Rattle.aries_core.specs.Step.{IsByDevice, IsByStore, Step, reply_of};
-ghost use Rattle.aries_core.specs.declared.event.Answer.TheVariants as answer;
-ghost use Rattle.aries_core.specs.declared.event.Event.TheVariants as event;
+ghost use Rattle.engine_rules.specs.Asked.{Asks, FailsAsking, asked};
+ghost use Rattle.engine_rules.specs.EngineState.{end};
+ghost use Rattle.engine_rules.specs.Refusal.{refusal};
+ghost use Rattle.engine_rules.specs.Step.{FailsForcing, Forces};
+ghost use Rattle.engine_rules.specs.Step.{IsByDevice, IsByStore, Step, reply_of};
+ghost use Rattle.engine_calls.specs.declared.event.Answer.TheVariants as answer;
+ghost use Rattle.engine_calls.specs.declared.event.Event.TheVariants as event;
 
 use crate::engine::Engine;
-use crate::refusal::Refusal;
+use engine_calls::Refusal;
 use log_store::LogDevice;
 use page_core::{Lsn, PageNo};
 use page_store::PageStore;

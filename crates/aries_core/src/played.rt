@@ -2,20 +2,19 @@
 
 ghost use Rattle.std.specs.Prelude.{◌≡◌, ◌<◌, ◌≤◌, All, Any, IfOk, IfErr, length, map};
 ghost use Rattle.log_records.specs.Log.{IsPageCount, lsn_of};
-ghost use Rattle.log_history.specs.Work.{work};
-ghost use Rattle.aries_core.specs.Accepted.{accepted};
-ghost use Rattle.aries_core.specs.Catalogue.{catalogue, entry_of};
-ghost use Rattle.aries_core.specs.EngineState.{IsFit, new_state};
-ghost use Rattle.aries_core.specs.Run.{Run};
-ghost use Rattle.aries_core.specs.Step.{IsByDevice, IsByStore, IsFaultReply};
-ghost use Rattle.aries_core.specs.Storage.{FailsAtHeader, PlaysOn};
-ghost use Rattle.aries_core.specs.Written.{written_by};
+ghost use Rattle.log_rules.specs.Work.{work};
+ghost use Rattle.engine_rules.specs.Accepted.{accepted};
+ghost use Rattle.engine_rules.specs.Catalogue.{catalogue, entry_of};
+ghost use Rattle.engine_rules.specs.EngineState.{IsFit, new_state};
+ghost use Rattle.engine_rules.specs.Run.{Run};
+ghost use Rattle.engine_rules.specs.Step.{IsByDevice, IsByStore, IsFaultReply};
+ghost use Rattle.engine_rules.specs.Storage.{FailsAtHeader, PlaysOn};
+ghost use Rattle.engine_rules.specs.Written.{written_by};
 ghost use Rattle.page_core.specs.Volume.{formatted_pages};
 ghost use Rattle.buffer_pool.specs.Pool.{IsFrameCount};
 
 use crate::engine::Engine;
-use crate::event::{Event, Reply};
-use crate::setup::{PlayFault, Setup};
+use engine_calls::{Event, PlayFault, Reply, Setup};
 use log_store::LogDevice;
 use page_store::PageStore;
 use std::alloc::Global;

@@ -4,14 +4,14 @@ ghost use Rattle.std.specs.Prelude.{◌≡◌, ◌<◌, ◌≤◌, [], IfErr, If
 ghost use Rattle.log_records.specs.Coverage.{dirty, entries_of, next_dirty};
 ghost use Rattle.log_store.specs.WrittenLog.{IsWritten};
 ghost use Rattle.page_store.specs.Store.{IsGrown};
-ghost use Rattle.aries_core.specs.Asked.{Asks, FailsAsking, a_page};
-ghost use Rattle.aries_core.specs.EngineState.{log_of, stored_page};
-ghost use Rattle.aries_core.specs.EngineState.{volume_pages};
-ghost use Rattle.aries_core.specs.Step.{IsByStore, written_log_of};
+ghost use Rattle.engine_rules.specs.Asked.{Asks, FailsAsking, a_page};
+ghost use Rattle.engine_rules.specs.EngineState.{log_of, stored_page};
+ghost use Rattle.engine_rules.specs.EngineState.{volume_pages};
+ghost use Rattle.engine_rules.specs.Step.{IsByStore, written_log_of};
 
 use crate::engine::Engine;
-use crate::refusal::Refusal;
 use copy_vault::Vault;
+use engine_calls::Refusal;
 use log_records::DirtyPages;
 use log_store::{Log, LogDevice};
 use page_core::{Page, PageNo};

@@ -2,17 +2,17 @@
 
 ghost use Rattle.std.specs.Prelude.{◌≡◌, ◌<◌, ◌≤◌, Some, None, IfOk, IfErr, OnOk};
 ghost use Rattle.log_records.specs.Coverage.{IsPast};
-ghost use Rattle.aries_core.specs.Asked.{Asks, FailsAsking, asked};
-ghost use Rattle.aries_core.specs.EngineState.{end, page_now};
-ghost use Rattle.aries_core.specs.Refusal.{refusal};
-ghost use Rattle.aries_core.specs.Step.{FailsForcing, Forces, IsByDevice, IsByStore, Step};
-ghost use Rattle.aries_core.specs.Step.{reply_of};
-ghost use Rattle.aries_core.specs.declared.event.Answer.TheVariants as answer;
-ghost use Rattle.aries_core.specs.declared.event.Event.TheVariants as event;
+ghost use Rattle.engine_rules.specs.Asked.{Asks, FailsAsking, asked};
+ghost use Rattle.engine_rules.specs.EngineState.{end, page_now};
+ghost use Rattle.engine_rules.specs.Refusal.{refusal};
+ghost use Rattle.engine_rules.specs.Step.{FailsForcing, Forces, IsByDevice, IsByStore, Step};
+ghost use Rattle.engine_rules.specs.Step.{reply_of};
+ghost use Rattle.engine_calls.specs.declared.event.Answer.TheVariants as answer;
+ghost use Rattle.engine_calls.specs.declared.event.Event.TheVariants as event;
 
 use crate::engine::Engine;
-use crate::refusal::Refusal;
 use copy_vault::CopyId;
+use engine_calls::Refusal;
 use log_store::LogDevice;
 use page_core::{Lsn, Page, PageNo};
 use page_store::PageStore;

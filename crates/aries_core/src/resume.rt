@@ -9,7 +9,7 @@ ghost use Rattle.log_records.specs.Image.{redo_all};
 ghost use Rattle.log_records.specs.Log.{lsn_of, page_count};
 ghost use Rattle.log_store.specs.WrittenLog.{HoldsLog};
 ghost use Rattle.aries_core.specs.OpenCkpt.{view_of};
-ghost use Rattle.aries_core.specs.Resumed.{IsLeftBy, MayResume, resumed_state};
+ghost use Rattle.engine_rules.specs.Resumed.{IsLeftBy, MayResume, resumed_state};
 
 use crate::engine::Engine;
 use crate::open_ckpt::OpenCkpt;

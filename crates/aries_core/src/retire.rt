@@ -2,7 +2,7 @@
 
 ghost use Rattle.std.specs.Prelude.{◌≡◌};
 ghost use Rattle.std.specs.Option.{option_map};
-ghost use Rattle.aries_core.specs.EngineState.{log_of, master_record};
+ghost use Rattle.engine_rules.specs.EngineState.{log_of, master_record};
 
 use crate::engine::Engine;
 use copy_coverage::Retired;

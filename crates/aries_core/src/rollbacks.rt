@@ -2,20 +2,19 @@
 //! savepoint.
 
 ghost use Rattle.std.specs.Prelude.{◌≡◌, ◌<◌, IfErr, IfOk, None, OnOk, false, is_none};
-ghost use Rattle.log_history.specs.Savepoints.{savepoint};
-ghost use Rattle.log_history.specs.Transactions.{last_lsn};
-ghost use Rattle.aries_core.specs.Asked.{Asks, FailsAsking, asked};
-ghost use Rattle.aries_core.specs.EngineState.{Fetches, comp_record, taken_back};
-ghost use Rattle.aries_core.specs.Refusal.{active_refusal};
-ghost use Rattle.aries_core.specs.Step.{IsByStore, Step, reply_of, step_back_answer, undo_answer};
-ghost use Rattle.aries_core.specs.declared.event.Answer.TheVariants as answer;
-ghost use Rattle.aries_core.specs.declared.event.Event.TheVariants as event;
+ghost use Rattle.log_rules.specs.Savepoints.{savepoint};
+ghost use Rattle.log_rules.specs.Transactions.{last_lsn};
+ghost use Rattle.engine_rules.specs.Asked.{Asks, FailsAsking, asked};
+ghost use Rattle.engine_rules.specs.EngineState.{Fetches, comp_record, taken_back};
+ghost use Rattle.engine_rules.specs.Refusal.{active_refusal};
+ghost use Rattle.engine_rules.specs.Step.{IsByStore, Step, reply_of, step_back_answer, undo_answer};
+ghost use Rattle.engine_calls.specs.declared.event.Answer.TheVariants as answer;
+ghost use Rattle.engine_calls.specs.declared.event.Event.TheVariants as event;
 
 use crate::engine::Engine;
-use crate::event::{SteppedBack, Undone};
-use crate::refusal::Refusal;
-use log_history::PendingChange;
+use engine_calls::{Refusal, SteppedBack, Undone};
 use log_records::Record;
+use log_rules::PendingChange;
 use log_store::LogDevice;
 use page_core::{Lsn, TxnNo, undo_of};
 use page_store::PageStore;

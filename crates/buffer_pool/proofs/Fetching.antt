@@ -13,7 +13,7 @@ use Rattle.page_core.specs.declared.page.Page.{Page}
 use Rattle.log_records.specs.Coverage.{rec_lsn}
 use Rattle.log_records.specs.Image.{image}
 use Rattle.log_records.specs.Log.{Log}
-use Rattle.log_records.proofs.Coverage.{clean_is_image}
+use Rattle.log_records.proofs.Public.{clean_is_image}
 use Rattle.buffer_pool.specs.Frames.{IsResident, fetched, given_up, is_full, is_resident, with_room}
 use Rattle.buffer_pool.specs.Pool.{AreHeld, IsPoolOf, PageState, PoolView, is_clean, is_clean_in, state_in, unwritten}
 use Rattle.buffer_pool.specs.Pool.{written_of}

@@ -12,16 +12,16 @@ use Rattle.std.proofs.lemmas.List.FromFn.{get_or-map-range_with_len, length-map-
 use Rattle.page_core.specs.declared.page.Page.{Page}
 use Rattle.page_core.specs.Page.{formatted}
 use Rattle.page_core.specs.Volume.{AreNumbered, grown_to}
-use Rattle.page_core.proofs.Volumes.{length-grown_to, numbered-grown_to}
+use Rattle.page_core.proofs.Public.{length-grown_to, numbered-grown_to}
 use Rattle.log_records.specs.Coverage.{AreStored, IsStored, IsWriting, rec_lsn}
 use Rattle.log_records.specs.Image.{image}
 use Rattle.log_records.specs.Log.{IsLog, Log, page_count, with_next}
 use Rattle.log_records.specs.declared.record.Record.{Record}
 use Rattle.log_records.specs.declared.record.Record.TheVariants.{Extend}
-use Rattle.log_records.proofs.Coverage.{image_is_clean}
-use Rattle.log_records.proofs.PageCounts.{page_count-push}
-use Rattle.log_records.proofs.PastVolume.{image_past}
-use Rattle.log_records.proofs.Stored.{past_now, stored_later}
+use Rattle.log_records.proofs.Public.{image_is_clean}
+use Rattle.log_records.proofs.Public.{page_count-push}
+use Rattle.log_records.proofs.Public.{image_past}
+use Rattle.log_records.proofs.Public.{past_now, stored_later}
 use Rattle.buffer_pool.specs.Marks.{MarksView, PassesNone, has_clean}
 use Rattle.buffer_pool.specs.PageStates.{AreColumns, states_of}
 use Rattle.buffer_pool.specs.Pool.{IsPoolOf, IsStateOf, IsWhole, PageState, PoolView, grown_pool, grown_states}

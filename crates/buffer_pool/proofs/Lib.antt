@@ -7,6 +7,7 @@ pub mod Holes
 pub mod PageSets
 pub mod Placed
 pub mod Pools
+pub mod Public
 pub mod Repaired
 pub mod Resumed
 pub mod Sought

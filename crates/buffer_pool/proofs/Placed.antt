@@ -18,7 +18,7 @@ use Rattle.log_records.specs.declared.page_change.PageChange.{PageChange}
 use Rattle.log_records.specs.declared.record.Record.{Record}
 use Rattle.log_records.specs.Image.{with_change, with_record}
 use Rattle.log_records.specs.Record.{change_of, own_lsn}
-use Rattle.log_records.proofs.Images.{number-with_record}
+use Rattle.log_records.proofs.Public.{number-with_record}
 use Rattle.buffer_pool.specs.Frames.{is_resident}
 use Rattle.buffer_pool.specs.Slots.{AreCounted, AreNoted, ArePlaced, IsPlace, pages_in}
 

@@ -20,14 +20,14 @@ use Rattle.log_records.specs.Log.{IsLog, IsPageCount, IsWithin, Log, lsn_of, pag
 use Rattle.log_records.specs.PageCount.{given_count}
 use Rattle.log_records.specs.Record.{change_of, own_lsn}
 use Rattle.log_records.specs.Log.{with_next}
-use Rattle.log_records.proofs.Changes.{change_within}
-use Rattle.log_records.proofs.GivenNone.{page_count-same}
-use Rattle.log_records.proofs.PageCounts.{count_behind-nil, page_count_at-all}
-use Rattle.log_records.proofs.PageCounts.{page_count_at-append}
-use Rattle.log_records.proofs.Images.{image_from-append, number-image, number-with_record}
+use Rattle.log_records.proofs.Public.{change_within}
+use Rattle.log_records.proofs.Public.{page_count-same}
+use Rattle.log_records.proofs.Public.{count_behind-nil, page_count_at-all}
+use Rattle.log_records.proofs.Public.{page_count_at-append}
+use Rattle.log_records.proofs.Public.{image_from-append, number-image, number-with_record}
 use Rattle.page_store.specs.Store.{StoresOrKeeps}
 use Rattle.log_records.specs.Coverage.{AreStored, IsPast}
-use Rattle.log_records.proofs.Stored.{past_is_older, past_now, stored_begun, stored_ended, stored_failed, stored_later}
+use Rattle.log_records.proofs.Public.{past_is_older, past_now, stored_begun, stored_ended, stored_failed, stored_later}
 use Rattle.buffer_pool.specs.Frames.{IsResident, is_resident}
 use Rattle.buffer_pool.specs.Pool.{AreHeld, IsPoolOf, IsStateOf, PageState, PoolView, changed, is_clean_in, new_pool}
 use Rattle.buffer_pool.specs.Pool.{state_at, state_in, unwritten, whole_pool, with_state}

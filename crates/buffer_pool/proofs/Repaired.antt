@@ -11,8 +11,8 @@ use Rattle.log_records.specs.declared.record.Record.{Record}
 use Rattle.log_records.specs.Coverage.{AreStored, IsPast, IsWriting, rec_lsn}
 use Rattle.log_records.specs.Image.{image}
 use Rattle.log_records.specs.Log.{IsLog, Log}
-use Rattle.log_records.proofs.Coverage.{image_is_clean}
-use Rattle.log_records.proofs.Stored.{past_is_older, past_now}
+use Rattle.log_records.proofs.Public.{image_is_clean}
+use Rattle.log_records.proofs.Public.{past_is_older, past_now}
 use Rattle.page_store.specs.Store.{StoresOrKeeps}
 use Rattle.buffer_pool.specs.Pool.{IsPoolOf, IsStateOf, IsWhole, PageState, PoolView, stored_as_now, state_at}
 use Rattle.buffer_pool.specs.Pool.{with_state, write_ended, writing_of, written_of}

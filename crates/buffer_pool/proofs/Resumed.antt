@@ -13,7 +13,7 @@ use Rattle.page_core.specs.declared.page.Page.{Page}
 use Rattle.log_records.specs.Coverage.{AreStored}
 use Rattle.log_records.specs.Image.{image, redo_all}
 use Rattle.log_records.specs.Log.{IsLog, Log, page_count}
-use Rattle.log_records.proofs.Stored.{past_now}
+use Rattle.log_records.proofs.Public.{past_now}
 use Rattle.buffer_pool.specs.Pool.{IsPoolOf, PageState, clean_pool, is_clean_in, stored_as_now, stored_states}
 use Rattle.buffer_pool.specs.Pool.{unwritten, write_ended, writing_of, written_of}
 use Rattle.buffer_pool.proofs.Repaired.{state_repaired}

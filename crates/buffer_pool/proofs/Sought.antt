@@ -12,7 +12,7 @@ use Rattle.std.proofs.lemmas.List.Sums.{position_or_len_is}
 use Rattle.page_core.specs.declared.page.Page.{Page}
 use Rattle.log_records.specs.declared.record.Record.{Record}
 use Rattle.log_records.specs.Log.{Log}
-use Rattle.log_records.proofs.Images.{number-with_record}
+use Rattle.log_records.proofs.Public.{number-with_record}
 use Rattle.buffer_pool.specs.Frames.{is_resident}
 use Rattle.buffer_pool.specs.Marks.{IsPassed, MarksView, PassesNone, has_clean}
 use Rattle.buffer_pool.specs.Pool.{IsPoolOf, IsWhole, PageState, PoolView, is_clean_in, unwritten}

@@ -12,9 +12,9 @@ use Rattle.log_records.specs.Image.{image}
 use Rattle.log_records.specs.Log.{IsLog, Log, lsn_of}
 use Rattle.log_records.specs.Record.{own_lsn}
 use Rattle.log_records.specs.Log.{with_next}
-use Rattle.log_records.proofs.Images.{lsn-image}
+use Rattle.log_records.proofs.Public.{lsn-image}
 use Rattle.log_records.specs.Coverage.{changes, rec_lsn}
-use Rattle.log_records.proofs.Coverage.{image_is_clean, rec_later}
+use Rattle.log_records.proofs.Public.{image_is_clean, rec_later}
 use Rattle.buffer_pool.specs.Pool.{IsStateOf, PageState, changed, unwritten, write_begun, write_ended}
 
 -- an LSN below the log's end stays so

@@ -1,13 +1,12 @@
 //! The open transactions of a log, from its last checkpoint on, and its pages by lists, in threads.
 
 ghost use Rattle.std.specs.Prelude.{IfSome};
-ghost use Rattle.log_history.specs.Checkpoint.{IsCompleteCheckpoint};
-ghost use Rattle.log_history.specs.Linked.{IsLinked};
+ghost use Rattle.log_rules.specs.Checkpoint.{IsCompleteCheckpoint};
+ghost use Rattle.log_rules.specs.Linked.{IsLinked};
 
 use aries_core::{Played, Setup, play};
 use copy_coverage::Retired;
 use event_script::{Script, read_script};
-use log_history::Losers;
 use log_store::{LogImage, Master, MemDevice};
 use loser_undo::losers;
 use page_core::{Lsn, Page, formatted_pages};
@@ -16,6 +15,7 @@ use page_store::MemStore;
 use std::alloc::{AllocError, Global};
 use std::io::Read;
 use std::thread::Threads;
+use txn_table::Losers;
 
 /// How many pages the volume of a script has.
 const SETUP: Setup = Setup {

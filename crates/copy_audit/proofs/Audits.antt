@@ -6,12 +6,12 @@ use Rattle.std.specs.List.{AllByRecursion}
 use Rattle.std.proofs.lemmas.List.{length-take-le, take_all}
 use Rattle.page_core.specs.PageCounts.{PageCounts}
 use Rattle.log_records.specs.Log.{IsLog, Log, SpellsLog, counts_of, log_bytes}
-use Rattle.log_records.proofs.Logs.{same_log}
-use Rattle.log_history.specs.Linked.{IsLinked}
+use Rattle.log_records.proofs.Public.{same_log}
+use Rattle.log_rules.specs.Linked.{IsLinked}
 use Rattle.log_store.specs.declared.fault.LogReadFault.{LogReadFault}
 use Rattle.log_store.specs.declared.fault.LogReadFault.TheVariants as log
 use Rattle.log_store.specs.Fault.{Refuses}
-use Rattle.log_store.proofs.Faults.{none_in_log}
+use Rattle.log_store.proofs.Public.{none_in_log}
 use Rattle.copy_vault.specs.declared.chain_read_fault.ChainReadFault.{ChainReadFault}
 use Rattle.copy_vault.specs.declared.chain_read_fault.ChainReadFault.TheVariants as chain
 use Rattle.copy_vault.specs.Archive.{IsArchived, archive_bytes}
@@ -20,9 +20,9 @@ use Rattle.copy_vault.specs.ChainRead.{AreBelow}
 use Rattle.copy_vault.specs.ChainReading.{AreNoChain, IsFromOutside, IsRightChain, SpellCopies, archives_of}
 use Rattle.copy_vault.specs.Copy.{CopyView, taken_pages}
 use Rattle.page_core.specs.declared.format.Format.TheVariants.{Second}
-use Rattle.copy_vault.proofs.ArchiveReads.{same_copy}
-use Rattle.copy_vault.proofs.ChainOnly.{not_stopped, not_unmade}
-use Rattle.copy_vault.proofs.Chains.{some_members}
+use Rattle.copy_vault.proofs.Public.{same_copy}
+use Rattle.copy_vault.proofs.Public.{not_stopped, not_unmade}
+use Rattle.copy_vault.proofs.Public.{some_members}
 use Rattle.copy_audit.specs.declared.unsound.Unsound as fault
 use Rattle.copy_audit.specs.Audit.{AreCovering, IsAudited, IsFirstUnsound, chain_to, end_of}
 use Rattle.copy_audit.specs.AuditFault.{IsOutside, of_chain, of_log}

@@ -4,6 +4,7 @@ pub mod Founds
 pub mod Linked
 pub mod Looks
 pub mod OnPage
+pub mod Public
 pub mod Rowwise
 pub mod Tells
 pub mod Traces

@@ -25,7 +25,7 @@ use Rattle.std.proofs.lemmas.List.FromFn.{get_or-map-range_with_len}
 use Rattle.log_changes.specs.Kept.{Kept}
 use Rattle.log_changes.specs.Placed.{Placed, placed_at, placed_by, placed_in, redo_part}
 use Rattle.page_redo.specs.PageRecords.{first_numbers_on, is_on, number_is_on, numbers_on}
-use Rattle.page_redo.proofs.Counted.{numbers_more}
+use Rattle.page_redo.proofs.Public.{numbers_more}
 use Rattle.copy_audit.specs.Changes.{AreChangesOf, IsKeptOf}
 use Rattle.copy_audit.specs.Links.{at_places, on_page, places_on}
 use Rattle.copy_audit.proofs.Linked.{all_on_page}

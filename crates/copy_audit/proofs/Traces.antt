@@ -20,10 +20,10 @@ use Rattle.log_records.specs.Coverage.{Covers, IsPast, changes}
 use Rattle.log_records.specs.Image.{image, image_from, with_record}
 use Rattle.log_records.specs.Log.{IsLog, Log}
 use Rattle.log_records.specs.Record.{own_lsn}
-use Rattle.log_records.proofs.Coverage.{all_redone, at_each, of_each, past_is_named}
-use Rattle.log_records.proofs.Images.{image_from-append}
+use Rattle.log_records.proofs.Public.{all_redone, at_each, of_each, past_is_named}
+use Rattle.log_records.proofs.Public.{image_from-append}
 use Rattle.page_redo.specs.PageRecords.{first_numbers_on, is_on, number_is_on, numbers_on, records_at}
-use Rattle.page_redo.proofs.Counted.{numbers_more, numbers_with, records_of_first}
+use Rattle.page_redo.proofs.Public.{numbers_more, numbers_with, records_of_first}
 use Rattle.copy_audit.specs.declared.trace.Trace.{Trace}
 use Rattle.copy_audit.specs.Trace.{IsReach, IsSeen, IsTraced}
 

@@ -3,7 +3,7 @@ use Rattle.std.specs.Prelude.{ℕ, ◌≡◌, ◌+◌, ◌<◌, List, length, ta
 use Rattle.std.specs.Prelude.{slice_index_or}
 use Rattle.log_records.specs.Coverage.{Covers}
 use Rattle.log_records.specs.Log.{IsLog, Log, SpellsLog, counts_of, lsn_of, page_count}
-use Rattle.log_history.specs.Linked.{IsLinked}
+use Rattle.log_rules.specs.Linked.{IsLinked}
 use Rattle.copy_vault.specs.declared.copy_id.CopyKind.TheVariants.{Full}
 use Rattle.copy_vault.specs.Chain.{FitFrom, content, last_redo}
 use Rattle.copy_vault.specs.ChainReading.{AreWithinLog, SpellCopies}

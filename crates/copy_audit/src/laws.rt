@@ -2,7 +2,7 @@
 
 ghost use Rattle.std.specs.Prelude.{ℕ, ◌<◌, List, Some, length};
 ghost use Rattle.log_records.specs.Log.{IsLog, Log, counts_of, log_bytes};
-ghost use Rattle.log_history.specs.Linked.{IsLinked};
+ghost use Rattle.log_rules.specs.Linked.{IsLinked};
 ghost use Rattle.copy_vault.specs.ChainReading.{IsRightChain, archives_of};
 ghost use Rattle.copy_vault.specs.Copy.{CopyView};
 ghost use Rattle.copy_audit.specs.declared.unsound.Unsound as fault;

@@ -9,8 +9,8 @@ use Rattle.log_records.specs.Coverage.{Covers, changes, resume}
 use Rattle.log_records.specs.Image.{image}
 use Rattle.log_records.specs.Log.{IsLog, Log, lsn_of, page_count_below}
 use Rattle.log_records.specs.Record.{own_lsn}
-use Rattle.log_records.proofs.PageCounts.{page_count_at-take, valid_cut}
-use Rattle.log_records.proofs.Coverage.{at_each, of_each, past_is_named, resume_covering}
+use Rattle.log_records.proofs.Public.{page_count_at-take, valid_cut}
+use Rattle.log_records.proofs.Public.{at_each, of_each, past_is_named, resume_covering}
 use Rattle.copy_coverage.specs.Copied.{IsCovered}
 use Rattle.copy_coverage.specs.Kept.{IsKeptOf}
 

@@ -11,9 +11,9 @@ use Rattle.log_records.specs.declared.record.Record.{Record}
 use Rattle.log_records.specs.Coverage.{Covers, IsPast, changes}
 use Rattle.log_records.specs.Log.{IsLog, Log, page_count, page_count_below}
 use Rattle.log_records.specs.Record.{own_lsn}
-use Rattle.log_records.proofs.Coverage.{of_each}
-use Rattle.log_records.proofs.PageCounts.{count_behind-not_less, count_behind-rises, page_count_at-not_more, valid_cut}
-use Rattle.log_records.proofs.PastVolume.{not_changed}
+use Rattle.log_records.proofs.Public.{of_each}
+use Rattle.log_records.proofs.Public.{count_behind-not_less, count_behind-rises, page_count_at-not_more, valid_cut}
+use Rattle.log_records.proofs.Public.{not_changed}
 
 -- the page count along the LSNs
 pub count_below-rises : (log : Log) (low high : ℕ) → low ≤ high → page_count_below log low ≤ page_count_below log high

@@ -7,3 +7,4 @@ pub mod Kept
 pub mod LaterPages
 pub mod OneCopy
 pub mod Points
+pub mod Public

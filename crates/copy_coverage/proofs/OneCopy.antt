@@ -14,7 +14,7 @@ use Rattle.copy_vault.specs.declared.copy_id.TheConstants.{MAX_COPIES}
 use Rattle.copy_vault.specs.Chain.{content}
 use Rattle.copy_vault.specs.Copy.{AreDecidedBelow, CopyView}
 use Rattle.copy_vault.specs.Vault.{CopyState, HasParent, complete, dropped, reading, state_of, with_state}
-use Rattle.copy_vault.proofs.Vaults.{GoesOn, goes_on_push, goes_on_set}
+use Rattle.copy_vault.proofs.Public.{GoesOn, goes_on_push, goes_on_set}
 use Rattle.copy_coverage.specs.Copied.{AreCopied, IsCopyOf, IsCovered, IsDecidedIn, StandsOn, copy_in}
 
 -- of these copies, one is in another state now

@@ -6,9 +6,9 @@ use Rattle.log_records.specs.declared.record.Record.{Record}
 use Rattle.log_records.specs.declared.record.Record.TheVariants.{EndChkpt}
 use Rattle.log_records.specs.Log.{IsLog, Log}
 use Rattle.log_records.specs.Record.{IsRecord}
-use Rattle.log_history.specs.Checkpoint.{IsCompleteCheckpoint}
-use Rattle.log_history.specs.Linked.{IsLinked}
-use Rattle.log_history.proofs.Completes.{redo_not_past}
+use Rattle.log_rules.specs.Checkpoint.{IsCompleteCheckpoint}
+use Rattle.log_rules.specs.Linked.{IsLinked}
+use Rattle.log_rules.proofs.Public.{redo_not_past}
 use Rattle.copy_coverage.specs.Copied.{IsPoint}
 
 -- the end of a complete checkpoint stands in its log

@@ -3,9 +3,9 @@ use Rattle.std.specs.Prelude.{ℕ, ◌≡◌, ◌+◌, ◌<◌, ◌≤◌, List,
 use Rattle.log_records.specs.declared.limits.TheConstants.{MAX_RECORDS}
 use Rattle.log_records.specs.declared.record.Record.{Record}
 use Rattle.log_records.specs.Log.{IsLog, Log, lsn_of}
-use Rattle.log_history.specs.Checkpoint.{IsCompleteCheckpoint}
-use Rattle.log_history.specs.Linked.{IsLinked}
-use Rattle.log_history.specs.Transactions.{owed}
+use Rattle.log_rules.specs.Checkpoint.{IsCompleteCheckpoint}
+use Rattle.log_rules.specs.Linked.{IsLinked}
+use Rattle.log_rules.specs.Transactions.{owed}
 use Rattle.log_store.specs.declared.master.Master.{Master}
 use Rattle.copy_vault.specs.Copy.{CopyView}
 use Rattle.copy_vault.specs.Vault.{CopyState, complete, state_of}

@@ -9,8 +9,8 @@ use Rattle.std.proofs.lemmas.Bool.{cases_lt}
 use Rattle.std.proofs.lemmas.List.{append_assoc, append-nil, length-append, nil_from_length, take_at}
 use Rattle.page_core.specs.declared.page.Page.{Page}
 use Rattle.page_core.specs.Page.{volume_bytes}
-use Rattle.page_core.proofs.Inputs.{at_some}
-use Rattle.page_core.proofs.PageBytes.{same_pages}
+use Rattle.page_core.proofs.Public.{at_some}
+use Rattle.page_core.proofs.Public.{same_pages}
 use Rattle.copy_vault.specs.declared.archive_fault.ArchiveFault.{ArchiveFault}
 use Rattle.copy_vault.specs.declared.archive_fault.ArchiveFault.TheVariants.{OutOfMemory, BadArchive}
 use Rattle.copy_vault.specs.declared.archive_fault.ArchiveFault.TheVariants.{CountDiffers, ReadFault}

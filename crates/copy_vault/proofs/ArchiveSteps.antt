@@ -11,8 +11,8 @@ use Rattle.std.proofs.lemmas.List.{append_assoc, append-nil, length-append, leng
 use Rattle.std.proofs.lemmas.List.{get_or_append_left, get_or_push, nil_from_length, take_at}
 use Rattle.page_core.specs.declared.page.Page.{Page}
 use Rattle.page_core.specs.Page.{IsPage, page_bytes}
-use Rattle.page_core.proofs.Inputs.{of_input}
-use Rattle.page_core.proofs.PageBytes.{length-page_bytes}
+use Rattle.page_core.proofs.Public.{of_input}
+use Rattle.page_core.proofs.Public.{length-page_bytes}
 use Rattle.copy_vault.specs.declared.archive_cursor.ArchiveCursor.{ArchiveCursor}
 use Rattle.copy_vault.specs.declared.chain_read_fault.ChainReadFault.{ChainReadFault}
 use Rattle.copy_vault.specs.declared.chain_read_fault.ChainReadFault.TheVariants.{BadArchive, OutOfMemory}

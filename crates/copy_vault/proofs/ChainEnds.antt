@@ -7,7 +7,7 @@ use Rattle.std.proofs.lemmas.List.{get_or-map, length-map}
 use Rattle.std.proofs.lemmas.List.FromFn.{length-map-range_with_len, map-range_with_len_more}
 use Rattle.page_core.specs.declared.page.Page.{Page}
 use Rattle.copy_vault.proofs.Counts.{count_below-not_more}
-use Rattle.page_core.proofs.Inputs.{of_all}
+use Rattle.page_core.proofs.Public.{of_all}
 use Rattle.page_core.specs.Input.{HasGivenAll}
 use Rattle.page_core.specs.PageCounts.{PageCounts, count_below, last_count}
 use Rattle.copy_vault.specs.declared.archive_cursor.ArchiveCursor.{ArchiveCursor}

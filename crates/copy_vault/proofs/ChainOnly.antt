@@ -7,7 +7,7 @@ use Rattle.std.proofs.lemmas.List.{append_assoc, append-nil, get_or-map, length-
 use Rattle.page_core.specs.declared.page.Page.{Page}
 use Rattle.page_core.specs.Page.{IsPage, page_bytes, volume_bytes}
 use Rattle.page_core.specs.PageCounts.{PageCounts}
-use Rattle.page_core.proofs.PageBytes.{length-page_bytes}
+use Rattle.page_core.proofs.Public.{length-page_bytes}
 use Rattle.copy_vault.specs.declared.archive_cursor.ArchiveCursor.{ArchiveCursor}
 use Rattle.copy_vault.specs.declared.archive_fault.ArchiveFault.TheVariants as archive
 use Rattle.copy_vault.specs.declared.chain_read_fault.ChainReadFault.{ChainReadFault}

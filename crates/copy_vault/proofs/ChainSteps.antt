@@ -8,7 +8,7 @@ use Rattle.std.proofs.Math.Seq.{map-set_same}
 use Rattle.std.proofs.lemmas.List.{drop_all, get_or-set_other, get_or-set_same, length-set}
 use Rattle.page_core.specs.declared.page.Page.{Page}
 use Rattle.page_core.specs.Page.{formatted}
-use Rattle.page_core.proofs.Inputs.{of_input}
+use Rattle.page_core.proofs.Public.{of_input}
 use Rattle.copy_vault.specs.declared.archive_cursor.ArchiveCursor.{ArchiveCursor}
 use Rattle.copy_vault.specs.declared.chain_read_fault.ChainReadFault.{ChainReadFault}
 use Rattle.copy_vault.specs.declared.chain_read_fault.ChainReadFault.TheVariants.{BadArchive, OutOfMemory}

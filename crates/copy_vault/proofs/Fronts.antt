@@ -6,7 +6,7 @@ use Rattle.std.proofs.lemmas.List.{append_assoc, append-nil, length-append, leng
 use Rattle.std.proofs.lemmas.List.Concat.{flat_map-append}
 use Rattle.page_core.specs.declared.page.Page.{Page}
 use Rattle.page_core.specs.Page.{IsPage, page_bytes, volume_bytes}
-use Rattle.page_core.proofs.PageBytes.{length-page_bytes, pages_apart}
+use Rattle.page_core.proofs.Public.{length-page_bytes, pages_apart}
 use Rattle.copy_vault.specs.declared.archive_fault.ArchiveFault.{ArchiveFault}
 use Rattle.copy_vault.specs.declared.archive_fault.ArchiveFault.TheVariants.{OutOfMemory, BadArchive}
 use Rattle.copy_vault.specs.declared.archive_fault.ArchiveFault.TheVariants.{CountDiffers, ReadFault}

@@ -6,7 +6,7 @@ use Rattle.std.specs.Int.{w32, w64, to_le_bytes, from_le_bytes}
 use Rattle.std.proofs.lemmas.List.{take_at, drop_at}
 use Rattle.std.proofs.lemmas.Nat.{from_le_bytes-to_le_bytes_4, from_le_bytes-to_le_bytes_8}
 use Rattle.page_core.specs.Format.{digit_of}
-use Rattle.page_core.proofs.Formats.{same_format}
+use Rattle.page_core.proofs.Public.{same_format}
 use Rattle.copy_vault.specs.declared.copy_id.CopyKind.{CopyKind}
 use Rattle.copy_vault.specs.declared.copy_id.CopyKind.TheVariants.{Full, Inc}
 use Rattle.copy_vault.specs.declared.header.ArchiveHeader.{ArchiveHeader}

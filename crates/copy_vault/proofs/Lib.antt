@@ -16,6 +16,7 @@ pub mod Marks
 pub mod OneFault
 pub mod Overlaid
 pub mod Parts
+pub mod Public
 pub mod RisingPages
 pub mod Vaults
 pub mod Writes

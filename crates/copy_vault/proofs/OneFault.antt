@@ -5,7 +5,7 @@ use Rattle.std.proofs.lemmas.Bool.{cases_lt}
 use Rattle.std.proofs.lemmas.List.{append-nil, length-append}
 use Rattle.page_core.specs.declared.page.Page.{Page}
 use Rattle.page_core.specs.Page.{IsPage, page_bytes, volume_bytes}
-use Rattle.page_core.proofs.PageBytes.{length-page_bytes}
+use Rattle.page_core.proofs.Public.{length-page_bytes}
 use Rattle.copy_vault.specs.declared.archive_fault.ArchiveFault.{ArchiveFault}
 use Rattle.copy_vault.specs.declared.archive_fault.ArchiveFault.TheVariants.{OutOfMemory, BadArchive}
 use Rattle.copy_vault.specs.declared.archive_fault.ArchiveFault.TheVariants.{CountDiffers, ReadFault}

@@ -8,7 +8,7 @@ use Rattle.std.proofs.lemmas.List.{get_or_push}
 use Rattle.std.proofs.lemmas.List.Concat.{flat_map-append}
 use Rattle.page_core.specs.declared.page.Page.{Page}
 use Rattle.page_core.specs.Page.{IsPage, SpellsPage, page_bytes, volume_bytes}
-use Rattle.page_core.proofs.PageBytes.{length-page_bytes, pages_apart}
+use Rattle.page_core.proofs.Public.{length-page_bytes, pages_apart}
 use Rattle.copy_vault.specs.declared.copy_id.CopyKind.{CopyKind}
 use Rattle.copy_vault.specs.declared.copy_id.CopyKind.TheVariants.{Full, Inc}
 use Rattle.copy_vault.specs.declared.header.ArchiveHeader.{ArchiveHeader}

@@ -4,7 +4,7 @@ use Rattle.std.proofs.lemmas.List.{append_assoc, append-nil, length-append, take
 use Rattle.std.proofs.lemmas.List.Concat.{flat_map-append}
 use Rattle.page_core.specs.declared.page.Page.{Page}
 use Rattle.page_core.specs.Page.{page_bytes, volume_bytes}
-use Rattle.page_core.proofs.Pieces.{into}
+use Rattle.page_core.proofs.Public.{into}
 use Rattle.copy_vault.specs.Copy.{PageDecision, page_of, taken_pages, decision_at, undecided}
 
 -- the pages that were taken of the first ones, and of one more

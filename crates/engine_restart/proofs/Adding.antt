@@ -11,7 +11,7 @@ use Rattle.log_records.specs.Coverage.{Covers, IsPast}
 use Rattle.log_records.specs.Log.{IsLog, Log, lsn_of, page_count, page_count_below}
 use Rattle.log_records.specs.Image.{image}
 use Rattle.log_records.specs.declared.record.Record.{Record}
-use Rattle.log_records.proofs.Images.{lsn-image}
+use Rattle.log_records.proofs.Public.{lsn-image}
 use Rattle.copy_vault.specs.declared.copy_id.CopyKind.{CopyKind}
 use Rattle.copy_vault.specs.declared.copy_id.CopyKind.TheVariants.{Full, Inc}
 use Rattle.copy_vault.specs.declared.copy_id.TheConstants.{MAX_COPIES}
@@ -21,13 +21,13 @@ use Rattle.copy_vault.specs.Added.{add_refusal, lacks_parent, with_copy}
 use Rattle.copy_vault.specs.Chain.{content, last_of}
 use Rattle.copy_vault.specs.Copy.{AreDecidedBelow, CopyView, IsComplete, PageDecision, decision_at, page_of, undecided}
 use Rattle.copy_vault.specs.Vault.{CopyState, HasParent, complete, dropped, reading, state_of}
-use Rattle.copy_vault.proofs.Added.{parent_there}
-use Rattle.copy_vault.proofs.Vaults.{GoesOn}
+use Rattle.copy_vault.proofs.Public.{parent_there}
+use Rattle.copy_vault.proofs.Public.{GoesOn}
 use Rattle.copy_coverage.specs.Copied.{AreCopied, AreRestorable, IsCopyOf, IsCovered, IsDecidedIn, StandsOn, copy_in}
-use Rattle.copy_coverage.proofs.Copied.{restorable}
-use Rattle.copy_coverage.proofs.LaterPages.{count_below-not_more, formatted_is_past, later_covers, lsn_of_formatted}
-use Rattle.copy_coverage.proofs.OneCopy.{IsChanged, MayStand, complete_same, copied_changed, opened_changes}
-use Rattle.aries_core.specs.Resumed.{MayResume}
+use Rattle.copy_coverage.proofs.Public.{restorable}
+use Rattle.copy_coverage.proofs.Public.{count_below-not_more, formatted_is_past, later_covers, lsn_of_formatted}
+use Rattle.copy_coverage.proofs.Public.{IsChanged, MayStand, complete_same, copied_changed, opened_changes}
+use Rattle.engine_rules.specs.Resumed.{MayResume}
 use Rattle.engine_restart.specs.Added.{MayAdd, StandsBehind}
 use Rattle.engine_restart.proofs.Stands.{behind_is, behind_stands, content_push}
 

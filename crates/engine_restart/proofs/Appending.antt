@@ -5,13 +5,13 @@ use Rattle.log_records.specs.declared.limits.TheConstants.{MAX_RECORDS}
 use Rattle.log_records.specs.declared.record.Record.{Record}
 use Rattle.log_records.specs.Log.{IsLog, Log, SpellsLog, StandsAt, bytes_in, log_bytes, lsn_of, page_count, page_count_at, with_next}
 use Rattle.log_records.specs.PageCount.{GivesMore}
-use Rattle.log_records.proofs.Logs.{format_in-take, format_of_log, length-log}
-use Rattle.log_records.proofs.PageCounts.{page_count_at-all, page_count_at-append}
+use Rattle.log_records.proofs.Public.{format_in-take, format_of_log, length-log}
+use Rattle.log_records.proofs.Public.{page_count_at-all, page_count_at-append}
 use Rattle.log_store.specs.Device.{KeepsFirst}
 use Rattle.log_store.specs.WrittenLog.{HoldsLog, IsWritten, WrittenLog, first_records}
 use Rattle.loser_undo.specs.Recovery.{appended}
 use Rattle.loser_undo.specs.UndoRecords.{HasYielded, UndoView}
-use Rattle.loser_undo.proofs.Pages.{log_and_appended}
+use Rattle.loser_undo.proofs.Public.{log_and_appended}
 use Rattle.page_core.specs.declared.format.Format.{Format}
 use Rattle.page_core.specs.declared.format.Format.TheVariants.{Second}
 use Rattle.engine_restart.specs.Restart.{HasLasting, undone_log}

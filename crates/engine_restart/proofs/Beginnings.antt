@@ -3,9 +3,9 @@ use Rattle.std.proofs.Common.{◌≡◌, ◌↔◌, ◌<◌, ◌≤◌, Bool, tr
 use Rattle.std.specs.Prelude.{Option, Some, None, is_some}
 use Rattle.page_core.specs.PageCounts.{count_below}
 use Rattle.log_records.specs.Log.{IsLog, Log, counts_of, lsn_of, page_count_below}
-use Rattle.log_records.proofs.PageCounts.{count_below-counts_of}
-use Rattle.log_history.specs.Linked.{IsLinked}
-use Rattle.log_history.proofs.Completes.{complete-of_end, end-of_complete}
+use Rattle.log_records.proofs.Public.{count_below-counts_of}
+use Rattle.log_rules.specs.Linked.{IsLinked}
+use Rattle.log_rules.proofs.Public.{complete-of_end, end-of_complete}
 use Rattle.fuzzy_ckpt.specs.declared.point.Point.{Point}
 use Rattle.fuzzy_ckpt.specs.LogCheckpoints.{IsLastPoint}
 use Rattle.copy_vault.specs.Copy.{CopyView}

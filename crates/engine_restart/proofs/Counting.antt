@@ -2,13 +2,13 @@
 use Rattle.std.proofs.Common.{ℕ, ◌≡◌, ◌+◌, ◌<◌, List, get_or, length, take, ap, subst, sym, ◌∙◌}
 use Rattle.std.proofs.lemmas.List.{take_all}
 use Rattle.log_records.specs.declared.record.Record.{Record}
-use Rattle.log_history.specs.Linked.{IsLinked}
-use Rattle.log_history.specs.Table.{MayNote, Table, TxnEntry, noted, table_of}
-use Rattle.log_history.proofs.Checks.{may_note}
-use Rattle.log_history.proofs.Histories.{linked-take}
-use Rattle.log_history.proofs.Steps.{table_of_push}
+use Rattle.log_rules.specs.Linked.{IsLinked}
+use Rattle.log_rules.specs.Table.{MayNote, Table, TxnEntry, noted, table_of}
+use Rattle.log_rules.proofs.Public.{may_note}
+use Rattle.log_rules.proofs.Public.{linked-take}
+use Rattle.log_rules.proofs.Public.{table_of_push}
 use Rattle.loser_undo.specs.Losers.{losers_of}
-use Rattle.txn_table.proofs.NextRecords.{next_follows, with_next}
+use Rattle.txn_table.proofs.Public.{next_follows, with_next}
 
 module _ (records : List Record) (i : ℕ) (r : Record) (table : Table) (linked : IsLinked records)
     (lt : i < length records) (at : r ≡ get_or records i r) (made : table ≡ table_of (take i records)) where

@@ -5,7 +5,7 @@ use Rattle.std.proofs.lemmas.List.{take-take}
 use Rattle.page_core.specs.declared.format.Format.{Format}
 use Rattle.page_core.specs.declared.format.Format.TheVariants.{Second}
 use Rattle.log_records.specs.Log.{HasHeader, Log, SpellsLog, bytes_in, format_in, log_bytes, lsn_of}
-use Rattle.log_records.proofs.Logs.{format_in-take, format_of_log, header_of_log}
+use Rattle.log_records.proofs.Public.{format_in-take, format_of_log, header_of_log}
 
 pub in_second : (log : Log) (bytes : List ℕ) → SpellsLog log (take (lsn_of (length log.records)) bytes)
     → format_in bytes ≡ Second → take (lsn_of (length log.records)) bytes ≡ log_bytes log

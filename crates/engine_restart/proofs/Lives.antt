@@ -6,17 +6,17 @@ use Rattle.std.proofs.lemmas.List.Elements.{All-append, All-nil}
 use Rattle.log_records.specs.declared.record.Record.{Record}
 use Rattle.log_records.specs.Image.{redo_all}
 use Rattle.log_records.specs.Log.{IsLog, Log, lsn_of, page_count}
-use Rattle.log_records.proofs.PageCounts.{valid_cut}
-use Rattle.log_history.specs.Linked.{IsLinked}
-use Rattle.log_history.proofs.Histories.{linked-take}
+use Rattle.log_records.proofs.Public.{valid_cut}
+use Rattle.log_rules.specs.Linked.{IsLinked}
+use Rattle.log_rules.proofs.Public.{linked-take}
 use Rattle.loser_undo.specs.Recovery.{HasCommitted, appended}
 use Rattle.loser_undo.specs.Undo.{after_undo}
-use Rattle.loser_undo.proofs.Pages.{log_and_appended}
+use Rattle.loser_undo.proofs.Public.{log_and_appended}
 use Rattle.copy_coverage.specs.Kept.{IsKeptOf}
-use Rattle.aries_core.specs.AnsweredCommits.{AnsweredCommit, StandsIn, answered_commits}
-use Rattle.aries_core.specs.EngineState.{EngineState, IsFit, log_of}
-use Rattle.aries_core.proofs.Commits.{IsForcedIn, forced_later, longer, stays_forced, stays_kept}
-use Rattle.aries_core.proofs.Fit.{fit_of_run, new_is_fit}
+use Rattle.engine_rules.specs.AnsweredCommits.{AnsweredCommit, StandsIn, answered_commits}
+use Rattle.engine_rules.specs.EngineState.{EngineState, IsFit, log_of}
+use Rattle.engine_rules.proofs.Public.{IsForcedIn, forced_later, longer, stays_forced, stays_kept}
+use Rattle.engine_rules.proofs.Public.{fit_of_run, new_is_fit}
 use Rattle.engine_restart.proofs.Restarts.{all_committed}
 use Rattle.engine_restart.specs.Lives.{AreLives, Follow, GoesOnFrom, IsLife, Life, commits_of, last_life}
 use Rattle.engine_restart.specs.Restart.{undone_log}

@@ -10,7 +10,7 @@ use Rattle.copy_vault.specs.Chain.{Follow, IsChain, IsChainOf, content, last_of,
 use Rattle.copy_vault.specs.Copy.{CopyView, decision_at, page_of}
 use Rattle.copy_vault.specs.Vault.{CopyState, complete, state_of}
 use Rattle.copy_coverage.specs.Copied.{StandsOn}
-use Rattle.copy_coverage.proofs.OneCopy.{complete_same}
+use Rattle.copy_coverage.proofs.Public.{complete_same}
 use Rattle.engine_restart.specs.Added.{StandsBehind}
 
 -- the last of these copies

@@ -3,7 +3,7 @@ use Rattle.std.specs.Prelude.{ℕ, ◌≡◌, ◌<◌, ◌++◌, ◌⊎◌, List
 use Rattle.std.specs.Prelude.{Option, Some, None, IsSome}
 use Rattle.log_records.specs.Coverage.{Covers}
 use Rattle.log_records.specs.Log.{Log, lsn_of, page_count, page_count_below}
-use Rattle.log_history.specs.Checkpoint.{IsCompleteCheckpoint}
+use Rattle.log_rules.specs.Checkpoint.{IsCompleteCheckpoint}
 use Rattle.copy_vault.specs.declared.add_fault.AddFault.{AddFault}
 use Rattle.copy_vault.specs.declared.add_fault.AddFault.TheVariants as vault
 use Rattle.copy_vault.specs.Added.{add_refusal}

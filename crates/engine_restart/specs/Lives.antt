@@ -3,13 +3,13 @@ use Rattle.std.specs.Prelude.{ℕ, ◌≡◌, List, [], ◌∷◌, length, Resul
 use Rattle.std.specs.List.{All, flat_map}
 use Rattle.log_records.specs.Log.{IsPageCount, Log, lsn_of}
 use Rattle.copy_coverage.specs.Kept.{IsKeptOf}
-use Rattle.aries_core.specs.AnsweredCommits.{AnsweredCommit, answered_commits}
-use Rattle.aries_core.specs.EngineState.{EngineState, IsFit, log_of, new_state}
-use Rattle.aries_core.specs.EventFits.{EventFits}
-use Rattle.aries_core.specs.Run.{Run}
-use Rattle.aries_core.specs.declared.event.Answer.{Answer}
-use Rattle.aries_core.specs.declared.event.Event.{Event}
-use Rattle.aries_core.specs.declared.refusal.Refusal.{Refusal}
+use Rattle.engine_rules.specs.AnsweredCommits.{AnsweredCommit, answered_commits}
+use Rattle.engine_rules.specs.EngineState.{EngineState, IsFit, log_of, new_state}
+use Rattle.engine_calls.specs.EventFits.{EventFits}
+use Rattle.engine_rules.specs.Run.{Run}
+use Rattle.engine_calls.specs.declared.event.Answer.{Answer}
+use Rattle.engine_calls.specs.declared.event.Event.{Event}
+use Rattle.engine_calls.specs.declared.refusal.Refusal.{Refusal}
 use Rattle.engine_restart.specs.Restart.{undone_log}
 
 -- an engine as it began, its calls and their replies, the engine as it was lost, and the log that

@@ -8,7 +8,7 @@ use Rattle.log_records.specs.Log.{Log, lsn_of, page_count}
 use Rattle.log_store.specs.WrittenLog.{HoldsLog}
 use Rattle.loser_undo.specs.Undo.{after_undo}
 use Rattle.copy_vault.specs.Vault.{CopyState}
-use Rattle.aries_core.specs.Resumed.{MayResume}
+use Rattle.engine_rules.specs.Resumed.{MayResume}
 use Rattle.engine_restart.specs.declared.fault.RestartFault.{RestartFault}
 use Rattle.engine_restart.specs.declared.fault.RestartFault.TheVariants.{LogFault, LogFull}
 use Rattle.engine_restart.specs.declared.fault.RestartFault.TheVariants.{OutOfMemory}

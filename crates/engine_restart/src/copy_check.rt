@@ -5,7 +5,7 @@ ghost use Rattle.std.specs.List.{range_with_len};
 ghost use Rattle.copy_coverage.specs.Copied.{IsPoint};
 ghost use Rattle.copy_vault.specs.Chain.{content};
 ghost use Rattle.copy_vault.specs.Copy.{IsComplete};
-ghost use Rattle.log_history.specs.Linked.{IsLinked};
+ghost use Rattle.log_rules.specs.Linked.{IsLinked};
 ghost use Rattle.log_records.specs.Log.{IsLog, page_count};
 ghost use Rattle.log_records.specs.Record.{IsLsn};
 ghost use Rattle.page_redo.specs.PageRecords.{numbers_on};

@@ -2,7 +2,7 @@
 
 ghost use Rattle.std.specs.Prelude.{◌≡◌, IfOk, IfErr, length, take};
 ghost use Rattle.log_front.specs.Front.{IsFrontOf, end_of};
-ghost use Rattle.log_history.specs.Linked.{IsLinked};
+ghost use Rattle.log_rules.specs.Linked.{IsLinked};
 ghost use Rattle.log_records.specs.Log.{log_bytes};
 ghost use Rattle.engine_restart.specs.Found.{FindsNone};
 

@@ -1,7 +1,7 @@
 //! Restart from a log alone.
 
 ghost use Rattle.std.specs.Prelude.{◌≡◌, [], length, IfErr, IfOk};
-ghost use Rattle.log_history.specs.Linked.{IsLinked};
+ghost use Rattle.log_rules.specs.Linked.{IsLinked};
 ghost use Rattle.log_records.specs.Image.{redo_all};
 ghost use Rattle.page_core.specs.Volume.{AreNumbered, formatted_pages};
 ghost use Rattle.log_records.specs.Log.{IsLog, lsn_of, page_count};

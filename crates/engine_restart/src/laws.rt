@@ -8,8 +8,8 @@ ghost use Rattle.loser_undo.specs.Recovery.{HasCommitted};
 ghost use Rattle.copy_vault.specs.Copy.{CopyView};
 ghost use Rattle.copy_vault.specs.Vault.{complete, state_of};
 ghost use Rattle.copy_coverage.specs.Copied.{Restores};
-ghost use Rattle.aries_core.specs.AnsweredCommits.{StandsIn};
-ghost use Rattle.aries_core.specs.EngineState.{IsFit};
+ghost use Rattle.engine_rules.specs.AnsweredCommits.{StandsIn};
+ghost use Rattle.engine_rules.specs.EngineState.{IsFit};
 ghost use Rattle.engine_restart.specs.Lives.{AreLives, Life, commits_of, last_life};
 ghost use Rattle.engine_restart.specs.Restart.{undone_log};
 

@@ -1,12 +1,12 @@
 //! The losers of a whole log.
 
 ghost use Rattle.std.specs.Prelude.{◌≡◌, length, IfOk};
-ghost use Rattle.log_history.specs.Linked.{IsLinked};
+ghost use Rattle.log_rules.specs.Linked.{IsLinked};
 ghost use Rattle.loser_undo.specs.Losers.{losers_of};
 
-use log_history::{Losers, OpenTransactions};
 use log_records::Record;
 use std::alloc::{AllocError, Global};
+use txn_table::{Losers, OpenTransactions};
 
 /// The transactions that are open at a log's end, with their pending changes. It reads each record
 /// once, so it needs no checkpoint. An `Err` comes where memory for the answer is refused.

@@ -5,7 +5,7 @@ ghost use Rattle.buffer_pool.specs.Pool.{IsFrameCount};
 ghost use Rattle.fuzzy_ckpt.specs.LogCheckpoints.{IsLastPoint};
 ghost use Rattle.engine_restart.specs.Lives.{GoesOnFrom};
 ghost use Rattle.engine_restart.specs.Restart.{HasLasting, IsRestarted};
-ghost use Rattle.aries_core.specs.Resumed.{IsLeftBy, MayResume, resumed_state};
+ghost use Rattle.engine_rules.specs.Resumed.{IsLeftBy, MayResume, resumed_state};
 
 use aries_core::{Engine, Legacy};
 use copy_vault::Vault;

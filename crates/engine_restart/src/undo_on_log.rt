@@ -1,8 +1,8 @@
 //! Undo on a log and its device.
 
 ghost use Rattle.std.specs.Prelude.{◌≡◌, ◌+◌, ◌<◌, ◌≤◌, length, IfErr, IfOk, OnOk};
-ghost use Rattle.log_history.specs.Linked.{IsLinked};
-ghost use Rattle.log_history.specs.Transactions.{owed};
+ghost use Rattle.log_rules.specs.Linked.{IsLinked};
+ghost use Rattle.log_rules.specs.Transactions.{owed};
 ghost use Rattle.log_records.specs.declared.limits.TheConstants.{MAX_RECORDS};
 ghost use Rattle.log_records.specs.Log.{IsLog, lsn_of};
 ghost use Rattle.log_store.specs.Device.{KeepsFirst};
@@ -12,11 +12,11 @@ ghost use Rattle.engine_restart.specs.declared.fault.RestartFault.TheVariants.{L
 
 use crate::fault::RestartFault;
 use crate::losers::losers_of;
-use log_history::Losers;
 use log_records::MAX_RECORDS;
 use log_store::{Log, LogDevice, LogImage};
 use loser_undo::UndoRecords;
 use std::alloc::Global;
+use txn_table::Losers;
 
 /// Takes back all that is open at a log's end (ARIES, section 6.3): appends undo's records, and
 /// forces them to the device that has the log. Behind the log the device may have anything; it is

@@ -2,16 +2,16 @@
 use Rattle.std.proofs.Common.{ℕ, ◌≡◌, ◌≤◌, ◌⊎◌, Bool, true, false, Some, Result, Ok, Err, arith, refl, inl, inr}
 use Rattle.std.specs.Prelude.{nat_le}
 use Rattle.std.proofs.lemmas.Bool.{le-leb}
-use Rattle.log_records.proofs.PageCounts.{page_count-is_count}
+use Rattle.log_records.proofs.Public.{page_count-is_count}
 use Rattle.page_core.specs.declared.page.TheConstants.{MAX_PAGES, SLOTS}
-use Rattle.aries_core.specs.declared.event.Answer.{Answer}
-use Rattle.aries_core.specs.declared.event.Event.{Event}
-use Rattle.aries_core.specs.declared.event.Event.TheVariants as event
-use Rattle.aries_core.specs.declared.refusal.Refusal.{Refusal}
-use Rattle.aries_core.specs.declared.refusal.Refusal.TheVariants.{PageOut, SlotOut}
-use Rattle.aries_core.specs.EngineState.{EngineState, log_of, volume_pages}
-use Rattle.aries_core.specs.Refusal.{refusal}
-use Rattle.aries_core.specs.Step.{Step}
+use Rattle.engine_calls.specs.declared.event.Answer.{Answer}
+use Rattle.engine_calls.specs.declared.event.Event.{Event}
+use Rattle.engine_calls.specs.declared.event.Event.TheVariants as event
+use Rattle.engine_calls.specs.declared.refusal.Refusal.{Refusal}
+use Rattle.engine_calls.specs.declared.refusal.Refusal.TheVariants.{PageOut, SlotOut}
+use Rattle.engine_rules.specs.EngineState.{EngineState, log_of, volume_pages}
+use Rattle.engine_rules.specs.Refusal.{refusal}
+use Rattle.engine_rules.specs.Step.{Step}
 use Rattle.engine_run.specs.Peek.{IsReadOf}
 
 -- a call that is refused replies so

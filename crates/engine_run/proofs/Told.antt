@@ -16,9 +16,9 @@ use Rattle.settlement.specs.declared.receipt.Receipt.TheVariants.{Read}
 use Rattle.settlement.specs.Receipt.{written}
 use Rattle.settlement.specs.Session.{AllStand}
 use Rattle.settlement.specs.Sessions.{AreApart, IsCommitIn, all_receipts}
-use Rattle.settlement.proofs.Kept.{commits_kept, own_write}
-use Rattle.settlement.proofs.Marking.{times-append}
-use Rattle.settlement.proofs.Sessions.{times_all}
+use Rattle.settlement.proofs.Public.{commits_kept, own_write}
+use Rattle.settlement.proofs.Public.{times-append}
+use Rattle.settlement.proofs.Public.{times_all}
 use Rattle.engine_run.specs.declared.work.Work.{Work}
 use Rattle.engine_run.specs.declared.work.Work.TheVariants.{Copied, Pointed}
 use Rattle.engine_run.specs.Laws.{IsRestoredBy, ReadsItsOwn}

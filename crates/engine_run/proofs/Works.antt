@@ -11,8 +11,8 @@ use Rattle.fuzzy_ckpt.specs.declared.point.Point.{Point}
 use Rattle.settlement.specs.Marks.{AreMarked}
 use Rattle.settlement.specs.Receipt.{times}
 use Rattle.settlement.specs.Sessions.{AreApart}
-use Rattle.settlement.proofs.Marking.{times-append, times_more}
-use Rattle.settlement.proofs.Sessions.{at_most_one, none_marked, times_one}
+use Rattle.settlement.proofs.Public.{times-append, times_more}
+use Rattle.settlement.proofs.Public.{at_most_one, none_marked, times_one}
 use Rattle.engine_run.specs.Given.{AreGiven}
 use Rattle.engine_run.specs.Settled.{Evidence, HasBadWork, IsWorkBad, IsWorkWrongAt, WorkStands}
 use Rattle.engine_run.specs.Settled.{begin_of, copies_of, copy_of}

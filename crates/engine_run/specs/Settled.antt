@@ -16,7 +16,7 @@ use Rattle.settlement.specs.Marks.{AreMarked}
 use Rattle.settlement.specs.Receipt.{times, written}
 use Rattle.settlement.specs.Session.{AllStand}
 use Rattle.settlement.specs.Sessions.{AreApart, AreWrongAt, all_receipts}
-use Rattle.aries_core.specs.EngineState.{EngineState, log_of}
+use Rattle.engine_rules.specs.EngineState.{EngineState, log_of}
 use Rattle.engine_run.specs.declared.fault.SettleFault.{SettleFault}
 use Rattle.engine_run.specs.declared.fault.SettleFault.TheVariants.{OutOfMemory, Unsettled}
 use Rattle.engine_run.specs.declared.work.Work.{Work}

@@ -3,10 +3,10 @@ use Rattle.std.specs.Prelude.{ℕ, List, [], ◌∷◌}
 use Rattle.settlement.specs.declared.receipt.Receipt.{Receipt}
 use Rattle.settlement.specs.declared.receipt.Receipt.TheVariants.{Stepped}
 use Rattle.settlement.specs.declared.receipt.TxnStep.TheVariants as step
-use Rattle.aries_core.specs.declared.event.SteppedBack.{SteppedBack}
-use Rattle.aries_core.specs.declared.event.SteppedBack.TheVariants as back
-use Rattle.aries_core.specs.declared.event.Undone.{Undone}
-use Rattle.aries_core.specs.declared.event.Undone.TheVariants as undone
+use Rattle.engine_calls.specs.declared.event.SteppedBack.{SteppedBack}
+use Rattle.engine_calls.specs.declared.event.SteppedBack.TheVariants as back
+use Rattle.engine_calls.specs.declared.event.Undone.{Undone}
+use Rattle.engine_calls.specs.declared.event.Undone.TheVariants as undone
 
 abbrev pub undo_receipt : ℕ → Undone → Receipt
 undo_receipt txn (undone.Undid lsn) = Stepped lsn txn step.Comp

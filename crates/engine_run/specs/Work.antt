@@ -2,8 +2,8 @@
 use Rattle.std.specs.Prelude.{◌≡◌}
 use Rattle.copy_vault.specs.declared.copy_id.CopyKind.{CopyKind}
 use Rattle.copy_vault.specs.declared.copy_id.CopyKind.TheVariants.{Full, Inc}
-use Rattle.aries_core.specs.declared.event.Event.{Event}
-use Rattle.aries_core.specs.declared.event.Event.TheVariants.{CopyFull, CopyInc}
+use Rattle.engine_calls.specs.declared.event.Event.{Event}
+use Rattle.engine_calls.specs.declared.event.Event.TheVariants.{CopyFull, CopyInc}
 use Rattle.engine_run.specs.declared.work.Work.{Work}
 use Rattle.engine_run.specs.declared.work.Work.TheVariants.{Copied, Pointed}
 

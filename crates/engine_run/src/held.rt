@@ -4,12 +4,12 @@ ghost use Rattle.std.specs.Prelude.{ℕ, ◌≡◌, ◌+◌, ◌<◌, ◌≤◌,
 ghost use Rattle.page_core.specs.Volume.{formatted_pages};
 ghost use Rattle.log_records.specs.Log.{IsPageCount};
 ghost use Rattle.settlement.specs.Counts.{updates_in};
-ghost use Rattle.aries_core.specs.Asked.{Asks, FailsAsking, asked};
-ghost use Rattle.aries_core.specs.EngineState.{Fetches, end, volume_pages};
-ghost use Rattle.aries_core.specs.Step.{FailsForcing, Forces, IsByStore, IsUnsure, Step, reply_of};
-ghost use Rattle.aries_core.specs.Step.{step_back_answer, undo_answer};
-ghost use Rattle.aries_core.specs.declared.event.Answer.TheVariants as answer;
-ghost use Rattle.aries_core.specs.declared.event.Event.TheVariants as event;
+ghost use Rattle.engine_rules.specs.Asked.{Asks, FailsAsking, asked};
+ghost use Rattle.engine_rules.specs.EngineState.{Fetches, end, volume_pages};
+ghost use Rattle.engine_rules.specs.Step.{FailsForcing, Forces, IsByStore, IsUnsure, Step, reply_of};
+ghost use Rattle.engine_rules.specs.Step.{step_back_answer, undo_answer};
+ghost use Rattle.engine_calls.specs.declared.event.Answer.TheVariants as answer;
+ghost use Rattle.engine_calls.specs.declared.event.Event.TheVariants as event;
 ghost use Rattle.engine_run.specs.Peek.{IsReadOf};
 
 use aries_core::{Engine, Refusal, SteppedBack, Undone};

@@ -2,7 +2,7 @@
 
 ghost use Rattle.std.specs.Prelude.{◌≡◌, ◌≤◌, false, length, replicate, IfErr, IfOk, OnOk};
 ghost use Rattle.std.specs.Option.{option_map};
-ghost use Rattle.aries_core.specs.EngineState.{log_of, master_record};
+ghost use Rattle.engine_rules.specs.EngineState.{log_of, master_record};
 ghost use Rattle.settlement.specs.Volume.{AreOfVolume};
 ghost use Rattle.engine_run.specs.Settled.{AddUp, IsFaultOf, IsSettled, IsWrongAt, evidence};
 ghost use Rattle.engine_run.specs.Settled.{evidence_in, evidence_of};

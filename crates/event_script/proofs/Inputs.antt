@@ -3,7 +3,7 @@ use Rattle.std.specs.Prelude.{◌<◌, ℕ, List, length, Option, IfSome}
 use Rattle.std.specs.Io.KnownBytes.{Consumes}
 use Rattle.std.proofs.Common.{arith}
 use Rattle.std.proofs.lemmas.List.{length-append}
-use Rattle.page_core.proofs.Inputs.{of_input}
+use Rattle.page_core.proofs.Public.{of_input}
 use Rattle.event_script.specs.declared.fault.ScriptFault.TheVariants.{Input}
 use Rattle.event_script.specs.Read.{Refuses}
 

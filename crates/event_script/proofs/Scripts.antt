@@ -7,7 +7,7 @@ use Rattle.std.proofs.lemmas.List.{append_assoc, append-nil, length-append, take
 use Rattle.std.proofs.Math.Seq.{get_or-append_seam}
 use Rattle.std.specs.Prelude.{get_or}
 use Rattle.std.proofs.Common.{arith, sym, ap, ◌∙◌}
-use Rattle.aries_core.specs.declared.event.Event.{Event}
+use Rattle.engine_calls.specs.declared.event.Event.{Event}
 use Rattle.event_script.specs.declared.script.LastRestore.{LastRestore}
 use denote.Ref.{Bor}
 use Rattle.event_script.specs.declared.line.Line.{Line}

@@ -1,13 +1,13 @@
 -- What is printed of a reply.
 use Rattle.std.specs.Prelude.{ℕ, ◌++◌, List, codes, Result, Ok, Err}
 use Rattle.std.specs.Fmt.{decimal}
-use Rattle.aries_core.specs.declared.event.Answer.{Answer}
-use Rattle.aries_core.specs.declared.event.Answer.TheVariants.{Began, Logged, Number, Undid, Ended}
-use Rattle.aries_core.specs.declared.event.Answer.TheVariants.{Forced, Writing, Written, More, Done}
-use Rattle.aries_core.specs.declared.event.Answer.TheVariants.{Point, Copied, Taken, Kept, Sealed}
-use Rattle.aries_core.specs.declared.event.Answer.TheVariants.{Dropped, Repaired, Saved, Reached}
-use Rattle.aries_core.specs.declared.refusal.Refusal.{Refusal}
-use Rattle.aries_core.specs.Refusal.{line_of as line_of_refusal}
+use Rattle.engine_calls.specs.declared.event.Answer.{Answer}
+use Rattle.engine_calls.specs.declared.event.Answer.TheVariants.{Began, Logged, Number, Undid, Ended}
+use Rattle.engine_calls.specs.declared.event.Answer.TheVariants.{Forced, Writing, Written, More, Done}
+use Rattle.engine_calls.specs.declared.event.Answer.TheVariants.{Point, Copied, Taken, Kept, Sealed}
+use Rattle.engine_calls.specs.declared.event.Answer.TheVariants.{Dropped, Repaired, Saved, Reached}
+use Rattle.engine_calls.specs.declared.refusal.Refusal.{Refusal}
+use Rattle.engine_calls.specs.Refusal.{line_of as line_of_refusal}
 
 abbrev pub line_of_answer : Answer → List ℕ
 line_of_answer (Began txn lsn) = codes "began " ++ decimal txn ++ codes " at " ++ decimal lsn

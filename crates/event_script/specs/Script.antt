@@ -3,13 +3,13 @@ use Rattle.std.specs.Prelude.{ℕ, ◌-◌, ◌≡◌, ◌≤◌, List, [], ◌�
 use Rattle.std.specs.Prelude.{Option, Some, None, if◌then◌else◌, IsSome}
 use Rattle.std.specs.Option.{option_map}
 use Rattle.std.specs.Str.{bytes_eq}
-use Rattle.aries_core.specs.declared.event.Event.{Event}
-use Rattle.aries_core.specs.declared.event.Event.TheVariants.{Begin, Set, Add, Read, Commit, Abort}
-use Rattle.aries_core.specs.declared.event.Event.TheVariants.{UndoStep, Savepoint, UndoTo, Force}
-use Rattle.aries_core.specs.declared.event.Event.TheVariants.{WriteBegin, WriteEnd}
-use Rattle.aries_core.specs.declared.event.Event.TheVariants.{CkptBegin, CkptGather, CkptEnd}
-use Rattle.aries_core.specs.declared.event.Event.TheVariants.{CopyFull, CopyInc, Take, Seal}
-use Rattle.aries_core.specs.declared.event.Event.TheVariants.{DropCopy, Repair, Extend}
+use Rattle.engine_calls.specs.declared.event.Event.{Event}
+use Rattle.engine_calls.specs.declared.event.Event.TheVariants.{Begin, Set, Add, Read, Commit, Abort}
+use Rattle.engine_calls.specs.declared.event.Event.TheVariants.{UndoStep, Savepoint, UndoTo, Force}
+use Rattle.engine_calls.specs.declared.event.Event.TheVariants.{WriteBegin, WriteEnd}
+use Rattle.engine_calls.specs.declared.event.Event.TheVariants.{CkptBegin, CkptGather, CkptEnd}
+use Rattle.engine_calls.specs.declared.event.Event.TheVariants.{CopyFull, CopyInc, Take, Seal}
+use Rattle.engine_calls.specs.declared.event.Event.TheVariants.{DropCopy, Repair, Extend}
 use Rattle.event_script.specs.declared.call.Args.{Args}
 use Rattle.event_script.specs.declared.call.Args.TheVariants.{Nothing, One, Two, Four}
 use Rattle.event_script.specs.declared.line.Line.{Line}

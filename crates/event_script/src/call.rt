@@ -11,8 +11,8 @@ ghost use Rattle.event_script.specs.Words.{words_of};
 use crate::number::number_of;
 use crate::short_word::short_word;
 use crate::words::next_word;
-use aries_core::Event;
 use copy_vault::CopyId;
+use engine_calls::Event;
 use page_core::{Lsn, PageNo, SlotNo, TxnNo};
 
 /// The numbers behind a call's name.

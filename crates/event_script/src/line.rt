@@ -8,8 +8,8 @@ use crate::call::{args_of, call_of};
 use crate::number::number_of;
 use crate::script::LastRestore;
 use crate::words::{before_return, next_word};
-use aries_core::Event;
 use copy_vault::CopyId;
+use engine_calls::Event;
 
 /// What a line says.
 #[derive(Clone, Copy)]

@@ -1,6 +1,6 @@
 //! The line that reports a reply.
 
-use aries_core::{Answer, Reply};
+use engine_calls::{Answer, Reply};
 use std::fmt;
 
 /// A reply as its line is printed, without a line feed: the answer's, or the refusal's own text.

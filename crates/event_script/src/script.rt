@@ -1,7 +1,7 @@
 //! What a script says.
 
-use aries_core::Event;
 use copy_vault::CopyId;
+use engine_calls::Event;
 
 /// The `restore` that may end a script.
 #[derive(Clone, Copy, Debug, PartialEq, Eq)]

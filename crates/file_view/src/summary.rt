@@ -9,11 +9,11 @@ use crate::lines::Form;
 use crate::log_summary::{CkptPoint, LogSummary};
 use crate::show::put_head;
 use log_front::{Cut, FrontScan, scan_front};
-use log_history::OpenTransactions;
 use log_records::{HEADER_BYTES, LogHeader, MAX_OPEN, RECORD_BYTES, log_header};
 use log_store::Scan;
 use page_core::{FaultName, Lsn, TxnNo};
 use std::alloc::{AllocError, Global};
+use txn_table::OpenTransactions;
 
 /// What a log comes to, read once.
 #[derive(Clone, Copy)]

@@ -8,14 +8,14 @@ use Rattle.log_records.specs.declared.record.Record.{Record}
 use Rattle.log_records.specs.declared.record.Record.TheVariants.{BeginChkpt, ChkptPages, ChkptTxns, EndChkpt}
 use Rattle.log_records.specs.Log.{IsLog, Log, with_next}
 use Rattle.log_records.specs.Record.{IsOfCheckpoint, change_of}
-use Rattle.log_records.proofs.GivenNone.{checkpoint_gives_none}
-use Rattle.log_records.proofs.Images.{none_changed}
-use Rattle.log_history.specs.Linked.{MayFollow}
-use Rattle.log_history.specs.Table.{Table, noted, table_of}
-use Rattle.log_history.proofs.Histories.{linked_push}
-use Rattle.log_history.proofs.Steps.{table_of_push}
+use Rattle.log_records.proofs.Public.{checkpoint_gives_none}
+use Rattle.log_records.proofs.Public.{none_changed}
+use Rattle.log_rules.specs.Linked.{MayFollow}
+use Rattle.log_rules.specs.Table.{Table, noted, table_of}
+use Rattle.log_rules.proofs.Public.{linked_push}
+use Rattle.log_rules.proofs.Public.{table_of_push}
 use Rattle.buffer_pool.specs.Pool.{IsPoolOf, PoolView}
-use Rattle.buffer_pool.proofs.Pools.{pool_same}
+use Rattle.buffer_pool.proofs.Public.{pool_same}
 use Rattle.txn_table.specs.TxnTable.{IsTableOf}
 
 changes_none : (r : Record) → IsOfCheckpoint r → change_of r ≡ None

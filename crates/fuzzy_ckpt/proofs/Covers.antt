@@ -14,10 +14,10 @@ use Rattle.log_records.specs.declared.record.Record.{Record}
 use Rattle.log_records.specs.Coverage.{Covers, IsPast, changes, changes_on}
 use Rattle.log_records.specs.Image.{image}
 use Rattle.log_records.specs.Log.{IsLog, Log, lsn_of, page_count}
-use Rattle.log_records.proofs.PastVolume.{image_past}
+use Rattle.log_records.proofs.Public.{image_past}
 use Rattle.log_records.specs.Record.{own_lsn}
-use Rattle.log_records.proofs.Coverage.{covers_later, has_each, of_each}
-use Rattle.log_records.proofs.Stored.{past_now}
+use Rattle.log_records.proofs.Public.{covers_later, has_each, of_each}
+use Rattle.log_records.proofs.Public.{past_now}
 use Rattle.fuzzy_ckpt.specs.Ckpt.{AllCover, AreCovered, CkptView, IsCkptOf, Phase}
 use Rattle.fuzzy_ckpt.proofs.Opens.{ckpt_redo_before}
 

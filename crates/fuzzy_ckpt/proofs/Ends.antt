@@ -8,7 +8,7 @@ use Rattle.log_records.specs.declared.dirty_page.DirtyPage.{DirtyPage}
 use Rattle.log_records.specs.declared.limits.TheConstants.{MAX_RECORDS}
 use Rattle.log_records.specs.declared.record.Record.TheVariants.{BeginChkpt}
 use Rattle.log_records.specs.Log.{IsLog, Log, StandsAt, lsn_of, page_count, page_count_at, page_count_below, with_next}
-use Rattle.log_records.proofs.PageCounts.{page_count_at-all, page_count_at-append}
+use Rattle.log_records.proofs.Public.{page_count_at-all, page_count_at-append}
 use Rattle.log_records.specs.Record.{IsLsn}
 use Rattle.fuzzy_ckpt.specs.Ckpt.{AllCover, AreCovered, CkptView, IsCkptOf, gathered_ckpt}
 use Rattle.fuzzy_ckpt.specs.Steps.{end_of, end_record, new_ckpt}

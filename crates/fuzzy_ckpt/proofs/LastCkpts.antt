@@ -10,8 +10,8 @@ use Rattle.log_records.specs.declared.record.Record.{Record}
 use Rattle.log_records.specs.declared.record.Record.TheVariants.{EndChkpt}
 use Rattle.log_records.specs.Log.{IsLog, Log, lsn_of, page_count_at, page_count_below}
 use Rattle.log_records.specs.Record.{own_lsn}
-use Rattle.log_history.specs.Checkpoint.{Checkpoint, checkpoint_after, open_checkpoint}
-use Rattle.log_history.specs.Linked.{MayEnd}
+use Rattle.log_rules.specs.Checkpoint.{Checkpoint, checkpoint_after, open_checkpoint}
+use Rattle.log_rules.specs.Linked.{MayEnd}
 use Rattle.fuzzy_ckpt.specs.declared.point.Point.{Point}
 use Rattle.fuzzy_ckpt.specs.Ckpt.{CkptView, Phase}
 use Rattle.fuzzy_ckpt.specs.LogCheckpoints.{EndBy, IsLastPoint, gathered_of}

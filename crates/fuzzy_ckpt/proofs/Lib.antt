@@ -6,4 +6,5 @@ pub mod LastCkpts
 pub mod Leasts
 pub mod Opens
 pub mod PagesSteps
+pub mod Public
 pub mod TxnsSteps

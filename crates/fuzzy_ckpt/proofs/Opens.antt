@@ -18,13 +18,13 @@ use Rattle.log_records.specs.declared.record.Record.TheVariants.{Begin, Update, 
 use Rattle.log_records.specs.declared.record.Record.TheVariants.{ChkptPages, ChkptTxns, EndChkpt, Extend}
 use Rattle.log_records.specs.DirtyPage.{entries_of}
 use Rattle.log_records.specs.Log.{IsLog, Log, lsn_of, page_count_below, with_next}
-use Rattle.log_records.proofs.PageCounts.{page_count_at-append}
+use Rattle.log_records.proofs.Public.{page_count_at-append}
 use Rattle.log_records.specs.Record.{AreDirtyPages, IsBefore, IsOfTransaction, IsRecord, own_lsn}
-use Rattle.log_history.specs.Checkpoint.{Checkpoint, checkpoint_after, open_checkpoint, redo_point}
-use Rattle.log_history.specs.Linked.{IsLinked, MayFollow}
-use Rattle.log_history.specs.Table.{TxnEntry, Table, entry_after, entry_of, noted, table_of}
-use Rattle.log_history.specs.Transactions.{first_lsn, open_in}
-use Rattle.log_history.proofs.Steps.{table_of_push}
+use Rattle.log_rules.specs.Checkpoint.{Checkpoint, checkpoint_after, open_checkpoint, redo_point}
+use Rattle.log_rules.specs.Linked.{IsLinked, MayFollow}
+use Rattle.log_rules.specs.Table.{TxnEntry, Table, entry_after, entry_of, noted, table_of}
+use Rattle.log_rules.specs.Transactions.{first_lsn, open_in}
+use Rattle.log_rules.proofs.Public.{table_of_push}
 use Rattle.fuzzy_ckpt.specs.Ckpt.{CkptView, HasBehind, IsCkptOf, Phase, gathered, in_pages, in_txns}
 
 -- ---- one record more

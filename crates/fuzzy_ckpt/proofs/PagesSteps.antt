@@ -23,14 +23,14 @@ use Rattle.log_records.specs.declared.record.Record.TheVariants.{ChkptPages}
 use Rattle.log_records.specs.Coverage.{AreStored, Covers, IsPast, changes_on, dirty, next_dirty, rec_lsn}
 use Rattle.log_records.specs.DirtyPage.{entries_of}
 use Rattle.log_records.specs.Log.{IsLog, Log, StandsAt, page_count, with_next}
-use Rattle.log_records.proofs.PageCounts.{page_count-is_count}
+use Rattle.log_records.proofs.Public.{page_count-is_count}
 use Rattle.log_records.specs.Record.{AreDirtyPages, IsBefore, IsDirtyPage}
-use Rattle.log_records.proofs.Changes.{valid_change}
-use Rattle.log_records.proofs.Coverage.{clean_is_image, covers_later, covers_lower, dirty_covers, of_each}
-use Rattle.log_records.proofs.PastVolume.{not_changed}
-use Rattle.log_history.specs.Checkpoint.{Checkpoint, checkpoint_after}
-use Rattle.log_history.specs.Linked.{MayFollow, MayRecordPages}
-use Rattle.log_history.specs.Transactions.{last_of}
+use Rattle.log_records.proofs.Public.{valid_change}
+use Rattle.log_records.proofs.Public.{clean_is_image, covers_later, covers_lower, dirty_covers, of_each}
+use Rattle.log_records.proofs.Public.{not_changed}
+use Rattle.log_rules.specs.Checkpoint.{Checkpoint, checkpoint_after}
+use Rattle.log_rules.specs.Linked.{MayFollow, MayRecordPages}
+use Rattle.log_rules.specs.Transactions.{last_of}
 use Rattle.buffer_pool.specs.Pool.{IsPoolOf, PageState, PoolView, writing_of, written_of}
 use Rattle.fuzzy_ckpt.specs.Ckpt.{AreCovered, CkptView, IsCkptOf, in_txns, pages_ckpt}
 use Rattle.fuzzy_ckpt.specs.Steps.{Gathering, end_of, last_page, pages_step, past_pages}

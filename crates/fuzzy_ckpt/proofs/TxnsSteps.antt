@@ -18,19 +18,19 @@ use Rattle.log_records.specs.declared.record.Record.TheVariants.{ChkptPages, Chk
 use Rattle.log_records.specs.Coverage.{Covers}
 use Rattle.log_records.specs.Log.{IsLog, Log, StandsAt, page_count, with_next}
 use Rattle.log_records.specs.Record.{IsBefore, IsTxn, own_lsn}
-use Rattle.log_records.proofs.Changes.{valid_change}
-use Rattle.log_records.proofs.Coverage.{covers_later}
-use Rattle.log_history.specs.declared.pending_change.PendingChange.{PendingChange}
-use Rattle.log_history.specs.declared.txn_state.TxnState.{TxnState}
-use Rattle.log_history.specs.Checkpoint.{Checkpoint, checkpoint_after}
-use Rattle.log_history.specs.Linked.{IsLinked, MayFollow, MayRecordTxn}
-use Rattle.log_history.specs.Table.{entry_of}
-use Rattle.log_history.specs.Transactions.{begun, first_lsn, is_open, last_lsn, last_of, last_or, open_in, pending}
-use Rattle.log_history.specs.Transactions.{pending_from, records_of, txn_of, undo_next, with_pending}
-use Rattle.log_history.specs.TxnState.{state_of}
-use Rattle.log_history.proofs.Begun.{begun_bounds, open_has_begun, some_from_begin}
+use Rattle.log_records.proofs.Public.{valid_change}
+use Rattle.log_records.proofs.Public.{covers_later}
+use Rattle.log_rules.specs.declared.pending_change.PendingChange.{PendingChange}
+use Rattle.txn_table.specs.declared.txn_state.TxnState.{TxnState}
+use Rattle.log_rules.specs.Checkpoint.{Checkpoint, checkpoint_after}
+use Rattle.log_rules.specs.Linked.{IsLinked, MayFollow, MayRecordTxn}
+use Rattle.log_rules.specs.Table.{entry_of}
+use Rattle.log_rules.specs.Transactions.{begun, first_lsn, is_open, last_lsn, last_of, last_or, open_in, pending}
+use Rattle.log_rules.specs.Transactions.{pending_from, records_of, txn_of, undo_next, with_pending}
+use Rattle.txn_table.specs.TxnState.{state_of}
+use Rattle.log_rules.proofs.Public.{begun_bounds, open_has_begun, some_from_begin}
 use Rattle.txn_table.specs.TxnTable.{next_open}
-use Rattle.txn_table.proofs.Tables.{begun_few}
+use Rattle.txn_table.proofs.Public.{begun_few}
 use Rattle.fuzzy_ckpt.specs.Ckpt.{AreCovered, CkptView, IsCkptOf, gathered, in_txns, txns_ckpt}
 use Rattle.fuzzy_ckpt.specs.Steps.{Gathering, end_of, txn_record, txns_step}
 use Rattle.fuzzy_ckpt.proofs.Ends.{end_is_lsn}

@@ -5,9 +5,9 @@ use Rattle.page_core.specs.declared.page.Page.{Page}
 use Rattle.log_records.specs.declared.record.Record.{Record}
 use Rattle.log_records.specs.Coverage.{Covers}
 use Rattle.log_records.specs.Log.{Log, page_count_below}
-use Rattle.log_history.specs.Checkpoint.{Checkpoint, open_checkpoint, redo_point}
-use Rattle.log_history.specs.Linked.{HasOldTxns}
-use Rattle.log_history.specs.Transactions.{first_lsn, open_in}
+use Rattle.log_rules.specs.Checkpoint.{Checkpoint, open_checkpoint, redo_point}
+use Rattle.log_rules.specs.Linked.{HasOldTxns}
+use Rattle.log_rules.specs.Transactions.{first_lsn, open_in}
 
 -- how far a checkpoint has come: it looks for dirty pages from a page number on, or for open
 -- transactions from a number on, or has passed all of them

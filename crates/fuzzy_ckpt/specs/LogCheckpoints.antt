@@ -3,7 +3,7 @@ use Rattle.std.specs.Prelude.{ℕ, ◌≡◌, ◌≤◌, List, Contains, Option,
 use Rattle.log_records.specs.declared.record.Record.{Record}
 use Rattle.log_records.specs.declared.record.Record.TheVariants.{EndChkpt}
 use Rattle.log_records.specs.Log.{Log, page_count_below}
-use Rattle.log_history.specs.Checkpoint.{Checkpoint, redo_point}
+use Rattle.log_rules.specs.Checkpoint.{Checkpoint, redo_point}
 use Rattle.fuzzy_ckpt.specs.declared.point.Point.{Point}
 use Rattle.fuzzy_ckpt.specs.Ckpt.{CkptView, Phase, gathered}
 

@@ -12,7 +12,7 @@ use Rattle.log_records.specs.declared.record.Record.TheVariants.{ChkptPages, Chk
 use Rattle.log_records.specs.Coverage.{dirty, next_dirty}
 use Rattle.log_records.specs.DirtyPage.{entries_of}
 use Rattle.log_records.specs.Log.{Log, lsn_of, page_count, with_next}
-use Rattle.log_history.specs.Transactions.{last_lsn, phase, undo_next}
+use Rattle.log_rules.specs.Transactions.{last_lsn, phase, undo_next}
 use Rattle.txn_table.specs.TxnTable.{next_open}
 use Rattle.fuzzy_ckpt.specs.Ckpt.{CkptView, Phase, gathered, in_pages, in_txns}
 

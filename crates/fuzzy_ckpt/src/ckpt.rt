@@ -13,11 +13,11 @@ ghost use Rattle.log_records.specs.DirtyPage.{entries_of};
 ghost use Rattle.log_records.specs.Log.{IsLog, Log as LogValue, StandsAt, page_count};
 ghost use Rattle.log_records.specs.Log.{page_count_below, with_next};
 ghost use Rattle.log_records.specs.Record.{IsOfCheckpoint};
-ghost use Rattle.log_history.specs.Checkpoint.{IsCompleteCheckpoint, open_checkpoint, redo_point};
-ghost use Rattle.log_history.specs.Linked.{MayFollow};
-ghost use Rattle.log_history.specs.Table.{entry_of};
-ghost use Rattle.log_history.specs.Transactions.{is_open};
-ghost use Rattle.log_history.specs.TxnState.{state_of};
+ghost use Rattle.log_rules.specs.Checkpoint.{IsCompleteCheckpoint, open_checkpoint, redo_point};
+ghost use Rattle.log_rules.specs.Linked.{MayFollow};
+ghost use Rattle.log_rules.specs.Table.{entry_of};
+ghost use Rattle.log_rules.specs.Transactions.{is_open};
+ghost use Rattle.txn_table.specs.TxnState.{state_of};
 ghost use Rattle.log_store.specs.WrittenLog.{EndsAtRecord};
 ghost use Rattle.buffer_pool.specs.Pool.{IsPoolOf, written_of};
 ghost use Rattle.txn_table.specs.TxnTable.{IsTableOf};
@@ -31,14 +31,13 @@ ghost use Rattle.fuzzy_ckpt.specs.Answers.{FailsAs, IsLogFault, after_pages, aft
 use crate::phase::{Gathered, Pages, Txns};
 use crate::point::{FinishFault, Point};
 use buffer_pool::Pool;
-use log_history::TxnState;
 use log_records::{DirtyPages, Record};
 use log_store::{Log, LogDevice};
 use page_core::{Lsn, PageNo, TxnNo};
 use page_store::PageStore;
 use std::alloc::AllocError;
 use std::marker::Model;
-use txn_table::TxnTable;
+use txn_table::{TxnState, TxnTable};
 
 /// A fuzzy checkpoint that is being taken (ARIES, section 5.4). It is `Ckpt<Pages>` while it
 /// gathers dirty pages, `Ckpt<Txns>` while it gathers open transactions, and `Ckpt<Gathered>` once

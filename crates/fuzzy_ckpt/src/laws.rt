@@ -10,9 +10,9 @@ ghost use Rattle.log_records.specs.declared.record.Record.TheVariants.{EndChkpt,
 ghost use Rattle.log_records.specs.Coverage.{IsPast};
 ghost use Rattle.log_records.specs.Log.{IsLog, Log, lsn_of, page_count, with_next};
 ghost use Rattle.log_records.specs.Record.{IsOfCheckpoint, IsOfTransaction, own_lsn};
-ghost use Rattle.log_history.specs.Checkpoint.{open_checkpoint};
-ghost use Rattle.log_history.specs.Linked.{IsLinked, MayFollow};
-ghost use Rattle.log_history.specs.Table.{Table};
+ghost use Rattle.log_rules.specs.Checkpoint.{open_checkpoint};
+ghost use Rattle.log_rules.specs.Linked.{IsLinked, MayFollow};
+ghost use Rattle.log_rules.specs.Table.{Table};
 ghost use Rattle.buffer_pool.specs.Pool.{IsPoolOf, PoolView};
 ghost use Rattle.txn_table.specs.TxnTable.{IsTableOf};
 ghost use Rattle.fuzzy_ckpt.specs.Ckpt.{AllCover, AreCovered, CkptView, IsCkptOf, Phase};

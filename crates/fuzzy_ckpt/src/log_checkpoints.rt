@@ -5,8 +5,8 @@ ghost use Rattle.std.specs.Option.{option_map};
 ghost use Rattle.log_records.specs.declared.record.Record.{Record};
 ghost use Rattle.log_records.specs.Log.{Log, page_count_below};
 ghost use Rattle.log_records.specs.Record.{own_lsn};
-ghost use Rattle.log_history.specs.Checkpoint.{Checkpoint, checkpoint_after, open_checkpoint};
-ghost use Rattle.log_history.specs.Linked.{IsLinked, MayFollow};
+ghost use Rattle.log_rules.specs.Checkpoint.{Checkpoint, checkpoint_after, open_checkpoint};
+ghost use Rattle.log_rules.specs.Linked.{IsLinked, MayFollow};
 ghost use Rattle.fuzzy_ckpt.specs.Ckpt.{gathered_ckpt};
 ghost use Rattle.fuzzy_ckpt.specs.LogCheckpoints.{EndBy, IsLastPoint, gathered_of};
 

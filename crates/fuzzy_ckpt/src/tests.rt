@@ -1,7 +1,7 @@
 //! Tests of what a log says of its checkpoints.
 
 ghost use Rattle.std.specs.Prelude.{IfOk};
-ghost use Rattle.log_history.specs.Linked.{IsLinked};
+ghost use Rattle.log_rules.specs.Linked.{IsLinked};
 
 use crate::{Point, checkpoints_of};
 use log_records::{DirtyPage, DirtyPages, Record, encode, encode_header};

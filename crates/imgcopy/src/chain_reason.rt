@@ -1,6 +1,5 @@
 //! Why a record may not follow those before it, for a person: the log is read once more.
 
-use log_history::{OpenTransactions, TxnState};
 use log_records::{
     HEADER_BYTES, MAX_OPEN, MAX_RECORDS, RECORD_BYTES, Record, log_header, record_at,
 };
@@ -8,6 +7,7 @@ use page_core::{Lsn, PageNo, SlotNo, TxnNo};
 use std::alloc::Global;
 use std::fmt;
 use std::io::{BufReader, Read};
+use txn_table::{OpenTransactions, TxnState};
 
 /// How many bytes of the log are read at once.
 const PIECE_BYTES: usize = 65_536;

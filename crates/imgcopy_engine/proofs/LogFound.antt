@@ -2,7 +2,7 @@
 use Rattle.std.proofs.Common.{◌≡◌, ◌*◌, ◌+◌, ℕ, List, ap, arith, length, take, ◌∙◌}
 use Rattle.std.proofs.lemmas.List.{length-take}
 use Rattle.log_records.specs.Log.{Log, SpellsLog, log_bytes, lsn_of}
-use Rattle.log_records.proofs.Logs.{length-log}
+use Rattle.log_records.proofs.Public.{length-log}
 use Rattle.engine_restart.specs.Restart.{HasLasting}
 
 pub has_lasting : {D : Type 0} (bytes : D → List ℕ) (lasting : D → ℕ) (log : Log) (device : D) (known : List ℕ)

@@ -5,8 +5,8 @@ ghost use Rattle.page_core.specs.declared.change.ChangeKind.TheVariants as kind;
 ghost use Rattle.settlement.specs.declared.receipt.Receipt.{Receipt};
 ghost use Rattle.settlement.specs.declared.receipt.Receipt.TheVariants.{Changed, Read, Stepped};
 ghost use Rattle.settlement.specs.declared.receipt.TxnStep.TheVariants as step;
-ghost use Rattle.aries_core.specs.Step.{reply_of};
-ghost use Rattle.aries_core.specs.declared.event.Answer.TheVariants as answer;
+ghost use Rattle.engine_rules.specs.Step.{reply_of};
+ghost use Rattle.engine_calls.specs.declared.event.Answer.TheVariants as answer;
 ghost use Rattle.engine_run.specs.Peek.{IsReadOf};
 ghost use Rattle.engine_run.specs.Undoing.{step_back_receipts, undo_receipt};
 

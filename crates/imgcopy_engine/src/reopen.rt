@@ -2,7 +2,7 @@
 
 ghost use Rattle.std.specs.Prelude.{◌≡◌, IfOk};
 ghost use Rattle.buffer_pool.specs.Pool.{IsFrameCount};
-ghost use Rattle.log_history.specs.Linked.{IsLinked};
+ghost use Rattle.log_rules.specs.Linked.{IsLinked};
 ghost use Rattle.log_records.specs.Log.{Log};
 ghost use Rattle.engine_restart.specs.Lives.{GoesOnFrom};
 ghost use Rattle.engine_restart.specs.Restart.{HasLasting};

@@ -10,11 +10,11 @@ use Rattle.log_records.specs.PageCount.{given_by}
 use Rattle.page_core.specs.PageCounts.{PageCounts}
 use Rattle.page_core.specs.declared.page_counts.GivenCount.{GivenCount}
 use Rattle.log_records.specs.Record.{own_lsn}
-use Rattle.log_history.proofs.Filters.{filter_map_push}
+use Rattle.log_rules.proofs.Public.{filter_map_push}
 use Rattle.log_changes.specs.Kept.{Kept, completed_by, completed_in, kept_of}
 use Rattle.log_changes.specs.Placed.{placed_by, placed_in}
 use Rattle.std.proofs.Math.Seq.{take-append_seam}
-use Rattle.log_records.proofs.PageCounts.{valid_cut}
+use Rattle.log_records.proofs.Public.{valid_cut}
 
 -- the last record of a log stands at its place
 pub stands_last : (log : Log) (r : Record) → IsLog (with_next log (r ∷ []))

@@ -16,7 +16,7 @@ use Rattle.log_records.specs.Coverage.{is_resumed, resume}
 use Rattle.log_records.specs.Image.{image_from, with_change, with_record}
 use Rattle.log_records.specs.Log.{IsLog, Log}
 use Rattle.log_records.specs.Record.{change_of, own_lsn}
-use Rattle.log_records.proofs.Images.{changes_or_not, no_change}
+use Rattle.log_records.proofs.Public.{changes_or_not, no_change}
 use Rattle.log_changes.specs.Placed.{Placed, placed_at, placed_by, placed_in, redo_part, redone_each}
 use Rattle.log_changes.specs.Placed.{with_placed}
 

@@ -4,8 +4,8 @@ use Rattle.page_core.specs.declared.page.Page.{Page}
 use Rattle.log_records.specs.declared.limits.TheConstants.{MAX_RECORDS}
 use Rattle.log_records.specs.Image.{AreNumbered}
 use Rattle.log_records.specs.Log.{IsLog, Log, page_count}
-use Rattle.log_history.specs.Table.{TxnEntry}
-use Rattle.log_history.specs.Transactions.{owed}
+use Rattle.log_rules.specs.Table.{TxnEntry}
+use Rattle.log_rules.specs.Transactions.{owed}
 use Rattle.loser_undo.specs.Losers.{AreLosersOf}
 
 -- the log at whose end these transactions are open has so many records, and these pages; and there

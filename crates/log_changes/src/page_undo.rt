@@ -6,10 +6,10 @@ ghost use Rattle.log_records.specs.Log.{Log};
 ghost use Rattle.loser_undo.specs.Recovery.{appended};
 ghost use Rattle.log_changes.specs.Undo.{IsToUndo};
 
-use log_history::Losers;
 use log_records::redo_on_its_page;
 use loser_undo::UndoRecords;
 use page_core::Page;
+use txn_table::Losers;
 
 /// Undoes all transactions that are open at the end of a log (ARIES, section 6.3), on the pages of
 /// its volume: it makes the changes of the records that undo appends to the log, and keeps none of

@@ -3,17 +3,17 @@
 ghost use Rattle.std.specs.Prelude.{◌≡◌, [], IfOk, IfErr, IfSome, OnOk};
 ghost use Rattle.std.specs.Io.KnownBytes.{IsAtEnd};
 ghost use Rattle.page_core.specs.Input.{StaysKnown};
-ghost use Rattle.log_history.specs.Linked.{IsLinked};
+ghost use Rattle.log_rules.specs.Linked.{IsLinked};
 ghost use Rattle.log_records.specs.Log.{IsLog, Log, SpellsLog};
 ghost use Rattle.log_store.specs.Fault.{GaveNoFault, Refuses};
 ghost use Rattle.loser_undo.specs.Losers.{losers_of};
 ghost use Rattle.log_changes.specs.Kept.{kept_of};
 
 use crate::log_changes::LogChanges;
-use log_history::Losers;
 use log_store::{LogReadFault, scan_log};
 use std::alloc::Global;
 use std::io::Read;
+use txn_table::Losers;
 
 /// Reads a whole log, to the input's end, and answers what a restore needs of it, and the
 /// transactions that are open at its end with their pending changes: reading has made these, since

@@ -2,12 +2,12 @@
 use Rattle.std.proofs.Common.{◌≡◌, ℕ, ◌<◌, ◌≤◌, List, length, take, refl, sym, ap, subst, ◌∙◌, arith}
 use Rattle.std.specs.Prelude.{Option, Some, None}
 use Rattle.log_records.specs.Log.{Log, SpellsLog, lsn_of}
-use Rattle.log_records.proofs.Logs.{length-log, same_log}
+use Rattle.log_records.proofs.Public.{length-log, same_log}
 use Rattle.log_store.specs.declared.fault.LogReadFault.{LogReadFault}
 use Rattle.log_store.specs.declared.fault.LogReadFault.TheVariants as whole
 use Rattle.log_store.specs.Fault.{BreaksChain, IsFirstFault}
-use Rattle.log_store.proofs.Faults.{StartsWith, break_at, first_chain, first_record, first_too_long, first_torn}
-use Rattle.log_store.proofs.OneFault.{one_first_fault}
+use Rattle.log_store.proofs.Public.{StartsWith, break_at, first_chain, first_record, first_too_long, first_torn}
+use Rattle.log_store.proofs.Public.{one_first_fault}
 use Rattle.log_front.specs.declared.cut.Cut.{Cut}
 use Rattle.log_front.specs.declared.cut.CutReason.{CutReason}
 use Rattle.log_front.specs.declared.cut.CutReason.TheVariants.{Torn, BadRecord, BadChain, TooLong}

@@ -2,8 +2,8 @@
 use Rattle.std.proofs.Common.{◌≡◌, ℕ, List, ◌++◌, length, take, drop, sym, subst, arith}
 use Rattle.std.proofs.lemmas.List.{length-take, take-append-drop}
 use Rattle.log_records.specs.Log.{Log, SpellsLog}
-use Rattle.log_history.specs.Linked.{IsLinked}
-use Rattle.log_history.proofs.Histories.{linked-take}
+use Rattle.log_rules.specs.Linked.{IsLinked}
+use Rattle.log_rules.proofs.Public.{linked-take}
 use Rattle.log_store.specs.WrittenLog.{AreForced, WrittenLog}
 use Rattle.log_store.specs.WrittenLog.{first_records as cut_log}
 use Rattle.log_front.specs.Front.{IsLongestFront}

@@ -10,16 +10,16 @@ use Rattle.log_records.specs.declared.record.Record.TheVariants.{Begin}
 use Rattle.log_records.specs.Record.{record_bytes}
 use Rattle.log_records.specs.Log.{IsOfFormat, Log, SpellsLog, StandsAt, format_in, lsn_of, page_count, page_count_at}
 use Rattle.log_records.specs.PageCount.{GivesMore}
-use Rattle.log_records.proofs.Records.{same_record}
-use Rattle.log_records.proofs.Logs.{format_in-append, format_in-take, format_of_log, header_of_log, length-log, range_in}
-use Rattle.log_records.proofs.Logs.{record_of_log, same_log, spells_cut}
-use Rattle.log_history.specs.Linked.{IsLinked, MayFollow}
+use Rattle.log_records.proofs.Public.{same_record}
+use Rattle.log_records.proofs.Public.{format_in-append, format_in-take, format_of_log, header_of_log, length-log, range_in}
+use Rattle.log_records.proofs.Public.{record_of_log, same_log, spells_cut}
+use Rattle.log_rules.specs.Linked.{IsLinked, MayFollow}
 use Rattle.log_store.specs.declared.fault.LogReadFault.{LogReadFault}
 use Rattle.log_store.specs.declared.fault.LogReadFault.TheVariants as whole
 use Rattle.log_store.specs.Fault.{HasFault, IsFirstFault, IsHeader, IsOutside, MayComeBehind}
 use Rattle.log_store.specs.Fault.{Refuses, offset_of}
-use Rattle.log_store.proofs.Faults.{break_at, range_of_front}
-use Rattle.log_store.proofs.Inputs.{refuses_more}
+use Rattle.log_store.proofs.Public.{break_at, range_of_front}
+use Rattle.log_store.proofs.Public.{refuses_more}
 use Rattle.log_front.specs.declared.cut.Cut.{Cut}
 use Rattle.log_front.specs.declared.cut.CutReason.{CutReason}
 use Rattle.log_front.specs.declared.cut.CutReason.TheVariants.{Torn, BadRecord, BadChain, TooLong}

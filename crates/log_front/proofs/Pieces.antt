@@ -4,7 +4,7 @@ use Rattle.std.specs.Prelude.{Option, IfSome}
 use Rattle.std.specs.Io.KnownBytes.{Consumes}
 use Rattle.std.proofs.lemmas.List.{append-nil, take_at}
 use Rattle.page_core.specs.Input.{GoesOn}
-use Rattle.page_core.proofs.Inputs.{of_input}
+use Rattle.page_core.proofs.Public.{of_input}
 use Rattle.log_records.specs.declared.limits.TheConstants.{MAX_LOG_BYTES}
 use Rattle.log_front.specs.Front.{GaveEnough}
 

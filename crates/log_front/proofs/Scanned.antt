@@ -2,7 +2,7 @@
 use Rattle.std.proofs.Common.{ℕ, List}
 use Rattle.std.specs.Prelude.{Option, Some, IfSome}
 use Rattle.log_records.specs.Log.{Log}
-use Rattle.log_history.specs.History.{Made}
+use Rattle.log_rules.specs.History.{Made}
 use Rattle.log_front.specs.declared.cut.Cut.{Cut}
 use Rattle.log_front.specs.Front.{GaveEnough, HasFront, HasNoFront, IsFrontOf}
 use Rattle.log_front.proofs.Fronts.{found_more, none_more}

@@ -9,8 +9,8 @@ use Rattle.log_records.specs.declared.record.Record.{Record}
 use Rattle.log_records.specs.Record.{record_bytes}
 use Rattle.log_records.specs.Log.{IsLog, IsOfFormat, Log, SpellsLog, StandsAt, format_in, lsn_of}
 use Rattle.log_records.specs.Log.{page_count}
-use Rattle.log_history.specs.History.{IsMadeOf, Made}
-use Rattle.log_history.specs.Linked.{IsLinked}
+use Rattle.log_rules.specs.History.{IsMadeOf, Made}
+use Rattle.log_rules.specs.Linked.{IsLinked}
 use Rattle.log_store.specs.Fault.{MayComeBehind}
 use Rattle.log_store.specs.declared.fault.LogReadFault.{LogReadFault}
 use Rattle.log_store.specs.declared.fault.LogReadFault.TheVariants as whole

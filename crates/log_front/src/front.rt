@@ -21,7 +21,7 @@ pub struct Front {
 }
 
 impl Model for Front {
-    ghost use Rattle.log_history.specs.Linked.{IsLinked};
+    ghost use Rattle.log_rules.specs.Linked.{IsLinked};
     ghost use Rattle.log_front.specs.Front.{FoundFront};
 
     ghost Value = { FoundFront };
@@ -33,7 +33,7 @@ impl Model for Front {
 
 impl Front {
     ghost use Rattle.std.specs.Prelude.{◌≡◌};
-    ghost use Rattle.log_history.specs.Linked.{IsLinked};
+    ghost use Rattle.log_rules.specs.Linked.{IsLinked};
 
     /// The front: a linked log.
     pub fn log(&self) -> &LogImage

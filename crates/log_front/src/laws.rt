@@ -2,7 +2,7 @@
 
 ghost use Rattle.std.specs.Prelude.{ℕ, ◌≡◌, ◌++◌, List, length, take, None, Some};
 ghost use Rattle.log_records.specs.Log.{Log, SpellsLog};
-ghost use Rattle.log_history.specs.Linked.{IsLinked};
+ghost use Rattle.log_rules.specs.Linked.{IsLinked};
 ghost use Rattle.log_store.specs.Fault.{IsFirstFault};
 ghost use Rattle.log_store.specs.WrittenLog.{AreForced, WrittenLog, first_records};
 ghost use Rattle.log_front.specs.declared.cut.Cut.{Cut};

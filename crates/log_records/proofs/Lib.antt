@@ -7,5 +7,6 @@ pub mod Logs
 pub mod PageCounts
 pub mod PastVolume
 mod Puts
+pub mod Public
 pub mod Records
 pub mod Stored

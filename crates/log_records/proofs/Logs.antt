@@ -9,7 +9,7 @@ use Rattle.std.proofs.lemmas.List.{append_assoc, drop-drop, get_or-take, get_or_
 use Rattle.std.proofs.lemmas.List.{take-append-drop}
 use Rattle.std.proofs.lemmas.List.Concat.{flat_map-append}
 use Rattle.std.proofs.lemmas.Nat.{from_le_bytes-to_le_bytes_4}
-use Rattle.page_core.proofs.Pieces.{length-pieces, take-drop-pieces}
+use Rattle.page_core.proofs.Public.{length-pieces, take-drop-pieces}
 use Rattle.log_records.specs.declared.record.Record.{Record}
 use Rattle.log_records.specs.Record.{record_bytes}
 use Rattle.log_records.specs.Log.{AreOfFormat, IsOfFormat, Log, SpellsLog, format_in, header_in, lsn_of, pages_in}
@@ -17,7 +17,7 @@ use Rattle.page_core.specs.declared.format.Format.{Format}
 use Rattle.page_core.specs.declared.format.Format.TheVariants.{First, Second}
 use Rattle.std.specs.Prelude.{◌==◌, if◌then◌else◌}
 use Rattle.page_core.specs.Format.{digit_of}
-use Rattle.page_core.proofs.Formats.{same_format}
+use Rattle.page_core.proofs.Public.{same_format}
 use Rattle.log_records.proofs.PageCounts.{valid_cut}
 use Rattle.log_records.proofs.Records.{record_length, same_record}
 

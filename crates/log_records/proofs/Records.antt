@@ -5,7 +5,7 @@ use Rattle.std.specs.Prelude.{slice_range, ◌==◌, if◌then◌else◌}
 use Rattle.std.specs.Int.{w16, w32, w64, to_le_bytes, from_le_bytes}
 use Rattle.std.proofs.lemmas.List.{take_at}
 use Rattle.std.proofs.lemmas.Nat.{from_le_bytes-to_le_bytes_2, from_le_bytes-to_le_bytes_4, from_le_bytes-to_le_bytes_8}
-use Rattle.page_core.proofs.Pieces.{HaveLength}
+use Rattle.page_core.proofs.Public.{HaveLength}
 use Rattle.page_core.specs.declared.change.Change.{Change}
 use Rattle.page_core.specs.declared.change.Change.TheVariants.{Set, Add}
 use Rattle.log_records.specs.declared.page_change.PageChange.{PageChange}

@@ -4,7 +4,7 @@ use Rattle.std.proofs.Common.{sym, ap, subst, ◌∙◌, arith, inl, inr}
 use Rattle.std.specs.Prelude.{slice_range}
 use Rattle.std.proofs.lemmas.Bool.{cases_lt}
 use Rattle.std.proofs.lemmas.List.{length-drop, length-take, take-append-drop, take-take, take_all, take_at}
-use Rattle.log_records.proofs.Records.{record_length, same_record}
+use Rattle.log_records.proofs.Public.{record_length, same_record}
 use Rattle.log_store.specs.declared.fault.LogReadFault.{LogReadFault}
 use Rattle.log_store.specs.declared.fault.LogReadFault.TheVariants.{OutOfMemory, BadHeader, BadRecord, BadChain, Torn}
 use Rattle.log_store.specs.declared.fault.LogReadFault.TheVariants.{ReadFault, TooLong}
@@ -14,9 +14,9 @@ use Rattle.log_records.specs.declared.record.Record.TheVariants.{Begin}
 use Rattle.log_records.specs.Record.{record_bytes}
 use Rattle.log_records.specs.Log.{IsOfFormat, Log, StandsAt, SpellsLog, format_in, lsn_of, page_count, page_count_at}
 use Rattle.log_records.specs.PageCount.{GivesMore}
-use Rattle.log_history.specs.Linked.{IsLinked, MayFollow}
+use Rattle.log_rules.specs.Linked.{IsLinked, MayFollow}
 use Rattle.log_store.specs.Fault.{BreaksChain, IsPlace, IsHeader, HasRecord, HasFault, IsFirstFault, LacksRecord, offset_of}
-use Rattle.log_records.proofs.Logs.{format_in-take, format_of_log, range_in, length-log, header_of_log, record_of_log, same_log, spells_cut}
+use Rattle.log_records.proofs.Public.{format_in-take, format_of_log, range_in, length-log, header_of_log, record_of_log, same_log, spells_cut}
 
 -- a part of a beginning is a part of the bytes
 pub range_of_front : (bytes : List ℕ) (n a b : ℕ) → a ≤ b → b ≤ n → n ≤ length bytes

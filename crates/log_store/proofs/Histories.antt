@@ -22,8 +22,8 @@ use Rattle.log_records.specs.Coverage.{IsPast, changes, is_resumed}
 use Rattle.log_records.specs.Image.{image, image_from, with_record}
 use Rattle.log_records.specs.Log.{IsLog, Log}
 use Rattle.log_records.specs.Record.{change_of, own_lsn}
-use Rattle.log_records.proofs.Coverage.{image-same, of_each, resume_covering, same_redo}
-use Rattle.log_records.proofs.Images.{image_from-append, image_from-more, number-image}
+use Rattle.log_records.proofs.Public.{image-same, of_each, resume_covering, same_redo}
+use Rattle.log_records.proofs.Public.{image_from-append, image_from-more, number-image}
 use Rattle.log_store.specs.PageHistory.{AreHistories, Histories, History, IsHistory, is_above, records_at, rolled}
 
 -- ---- the log goes on

@@ -3,16 +3,16 @@ use Rattle.std.proofs.Common.{◌≡◌, ℕ, ◌+◌, ◌<◌, ◌≤◌, List,
 use Rattle.std.proofs.Common.{arith, inl, inr}
 use Rattle.std.proofs.lemmas.Bool.{cases_lt}
 use Rattle.std.proofs.lemmas.List.{take-append-le, length-append, length-take, append-nil}
-pub use Rattle.page_core.proofs.Inputs.{at_some, of_input}
+pub use Rattle.page_core.proofs.Public.{at_some, of_input}
 use Rattle.log_store.specs.declared.fault.LogReadFault.{LogReadFault}
 use Rattle.log_store.specs.declared.fault.LogReadFault.TheVariants.{OutOfMemory, BadHeader, BadRecord, BadChain, Torn}
 use Rattle.log_store.specs.declared.fault.LogReadFault.TheVariants.{ReadFault, TooLong}
 use Rattle.log_records.specs.declared.limits.TheConstants.{MAX_LOG_BYTES}
 use Rattle.log_records.specs.Log.{IsOfFormat, Log, SpellsLog}
-use Rattle.log_history.specs.Linked.{IsLinked}
+use Rattle.log_rules.specs.Linked.{IsLinked}
 use Rattle.log_store.specs.Fault.{BreaksChain, IsPlace, IsHeader, HasFault, IsFirstFault, IsHeld, LacksRecord}
 use Rattle.log_store.specs.Fault.{HoldsNoFault, Refuses, IsOutside, offset_of}
-use Rattle.log_records.proofs.Logs.{format_in-append, length-header, range_in}
+use Rattle.log_records.proofs.Public.{format_in-append, length-header, range_in}
 use Rattle.log_store.proofs.Faults.{break_at, first_header, none_in_log}
 
 -- of a place without a record, within what was given

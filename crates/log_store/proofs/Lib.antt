@@ -5,6 +5,7 @@ pub mod Inputs
 pub mod Masters
 pub mod Numbered
 pub mod OneFault
+pub mod Public
 pub mod Scans
 pub mod Stores
 pub mod WrittenLogs

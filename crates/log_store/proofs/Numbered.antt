@@ -8,7 +8,7 @@ use Rattle.std.proofs.lemmas.List.Elements.{filter-append, filter_map-append}
 use Rattle.page_core.specs.declared.page.Page.{Page}
 use Rattle.log_records.specs.declared.record.Record.{Record}
 use Rattle.log_records.specs.Image.{image_from, with_record}
-use Rattle.log_records.proofs.Images.{image_from-append}
+use Rattle.log_records.proofs.Public.{image_from-append}
 use Rattle.log_store.specs.PageHistory.{is_above, records_at}
 
 one_some : (rs : List Record) (n : ℕ) (r : Record) → slice_get rs n ≡ Some r → records_at rs (n ∷ []) ≡ r ∷ []

@@ -1,6 +1,6 @@
 -- The bytes of a log have one first fault at most.
 use Rattle.std.proofs.Common.{◌≡◌, ℕ, List, take, refl, sym, ap, subst, arith}
-use Rattle.log_records.proofs.Logs.{same_log}
+use Rattle.log_records.proofs.Public.{same_log}
 use Rattle.log_records.specs.Log.{StandsAt, page_count}
 use Rattle.log_store.specs.declared.fault.LogReadFault.{LogReadFault}
 use Rattle.log_store.specs.declared.fault.LogReadFault.TheVariants.{OutOfMemory, BadHeader, BadRecord, BadChain, Torn}

@@ -4,7 +4,7 @@ use Rattle.std.proofs.Common.{sym, ap, subst, ◌∙◌, arith, inl, inr, get_or
 use Rattle.std.specs.Prelude.{slice_range}
 use Rattle.std.specs.Prelude.{Option}
 use Rattle.std.specs.Io.KnownBytes.{Consumes}
-pub use Rattle.page_core.proofs.Inputs.{if_err, on_ok, of_rest, of_all}
+pub use Rattle.page_core.proofs.Public.{if_err, on_ok, of_rest, of_all}
 use Rattle.std.proofs.lemmas.Bool.{cases_lt}
 use Rattle.std.proofs.lemmas.List.{append_assoc, append-nil, get_or_append_left, get_or_push, nil_from_length, take_all, take_at, drop_at}
 use Rattle.std.proofs.lemmas.List.{length-append, length_push, flat_map_more}
@@ -20,17 +20,17 @@ use Rattle.log_records.specs.PageCount.{GivesMore}
 use Rattle.log_store.specs.Fault.{MayComeBehind}
 use Rattle.page_core.specs.declared.format.Format.{Format}
 use Rattle.log_records.specs.Log.{with_next}
-use Rattle.log_history.specs.History.{IsMadeOf, Made}
-use Rattle.log_history.specs.Linked.{IsLinked, MayFollow}
+use Rattle.log_rules.specs.History.{IsMadeOf, Made}
+use Rattle.log_rules.specs.Linked.{IsLinked, MayFollow}
 use Rattle.log_store.specs.Fault.{IsFirstFault, Refuses, HoldsNoFault, GaveNoFault}
 use Rattle.log_store.specs.Scan.{HasTaken}
-use Rattle.log_records.proofs.Images.{length-redo_all}
-use Rattle.log_records.proofs.Logs.{format_in-append, format_in-header, format_of_log, length-header, length-log}
-use Rattle.log_records.proofs.PageCounts.{page_count-is_count}
+use Rattle.log_records.proofs.Public.{length-redo_all}
+use Rattle.log_records.proofs.Public.{format_in-append, format_in-header, format_of_log, length-header, length-log}
+use Rattle.log_records.proofs.Public.{page_count-is_count}
 use Rattle.log_store.proofs.Faults.{first_chain, first_record, first_too_long, first_torn, starts_with}
-use Rattle.log_records.proofs.Records.{record_length}
-use Rattle.log_history.proofs.AtEnd.{valid_next}
-use Rattle.log_history.proofs.Histories.{linked_none, linked_push}
+use Rattle.log_records.proofs.Public.{record_length}
+use Rattle.log_rules.proofs.Public.{valid_next}
+use Rattle.log_rules.proofs.Public.{linked_none, linked_push}
 use Rattle.log_store.proofs.Inputs.{refuses_all, none_held, none_in_read}
 
 -- ---- which fault comes behind a log's bytes

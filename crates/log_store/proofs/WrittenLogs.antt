@@ -8,13 +8,13 @@ use Rattle.std.proofs.Math.Seq.{take-suc}
 use Rattle.log_records.specs.declared.record.Record.{Record}
 use Rattle.log_records.specs.Log.{IsLog, IsOfFormat, IsPageCount, Log, SpellsLog, StandsAt, format_in, header_bytes, lsn_of, page_count, page_count_at, with_next}
 use Rattle.log_records.specs.Record.{own_lsn, record_bytes}
-use Rattle.log_records.proofs.Records.{record_length}
+use Rattle.log_records.proofs.Public.{record_length}
 use Rattle.log_store.specs.Device.{KeepsFirst}
 use Rattle.log_store.specs.WrittenLog.{HasRecordAt, HoldsLog, IsWritten, WrittenLog, first_records, written_log}
 use Rattle.log_store.proofs.Scans.{spells_next}
-use Rattle.log_records.proofs.Logs.{format_in-append, format_in-header, format_in-take, format_of_log, length-log, length-header}
+use Rattle.log_records.proofs.Public.{format_in-append, format_in-header, format_in-take, format_of_log, length-log, length-header}
 use Rattle.log_records.specs.PageCount.{GivesMore, count_behind}
-use Rattle.log_history.proofs.AtEnd.{valid_next}
+use Rattle.log_rules.proofs.Public.{valid_next}
 use Rattle.page_core.specs.declared.format.Format.TheVariants.{Second}
 
 -- the forced end lies on the device

@@ -13,7 +13,7 @@ use Rattle.log_records.specs.declared.limits.TheConstants.{HEADER_BYTES, MAX_LOG
 use Rattle.log_records.specs.declared.limits.TheConstants.{RECORD_BYTES}
 use Rattle.log_records.specs.declared.record.Record.{Record}
 use Rattle.log_records.specs.Record.{record_bytes}
-use Rattle.log_history.specs.Linked.{IsLinked, MayFollow}
+use Rattle.log_rules.specs.Linked.{IsLinked, MayFollow}
 use Rattle.page_core.specs.declared.format.Format.{Format}
 use Rattle.log_records.specs.Log.{IsOfFormat, Log, SpellsLog, StandsAt, format_in, header_in}
 use Rattle.log_records.specs.PageCount.{GivesMore}

@@ -1,7 +1,7 @@
 -- A log that is read a part at a time.
 use Rattle.std.specs.Prelude.{ℕ, ◌≡◌, List, length}
-use Rattle.log_history.specs.History.{IsMadeOf, Made}
-use Rattle.log_history.specs.Linked.{IsLinked}
+use Rattle.log_rules.specs.History.{IsMadeOf, Made}
+use Rattle.log_rules.specs.Linked.{IsLinked}
 use Rattle.log_records.specs.Log.{Log, SpellsLog, format_in}
 use Rattle.page_core.specs.declared.format.Format.{Format}
 

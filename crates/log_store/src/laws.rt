@@ -2,7 +2,7 @@
 
 ghost use Rattle.std.specs.Prelude.{ℕ, ◌≡◌, List};
 ghost use Rattle.log_records.specs.Log.{Log, SpellsLog};
-ghost use Rattle.log_history.specs.Linked.{IsLinked};
+ghost use Rattle.log_rules.specs.Linked.{IsLinked};
 ghost use Rattle.log_store.specs.declared.fault.LogReadFault.{LogReadFault};
 ghost use Rattle.log_store.specs.Fault.{HasFault, IsFirstFault};
 

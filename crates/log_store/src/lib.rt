@@ -1,9 +1,11 @@
 //! Reads a whole log, appends to a log on a device, and spells the master record.
 #![tactic(auto)]
 
+mod checkpoints;
 mod device;
 mod fault;
 mod faulty_device;
+mod history;
 mod laws;
 mod log;
 mod log_image;
@@ -16,9 +18,11 @@ mod scan;
 mod sink;
 mod stored_log;
 
+pub use checkpoints::Checkpoints;
 pub use device::{DeviceFault, LogDevice};
 pub use fault::LogReadFault;
 pub use faulty_device::FaultyDevice;
+pub use history::History;
 pub use laws::{bytes_have_one_first_fault, masters_have_this_length, spelled_logs_have_no_fault};
 pub use log::Log;
 pub use log_image::LogImage;

@@ -3,7 +3,7 @@
 ghost use Rattle.std.specs.Prelude.{ℕ, ◌≡◌, [], List, IfOk, IfErr, IfSome, OnOk, MatchResult, Some};
 ghost use Rattle.std.specs.Io.KnownBytes.{IsAtEnd};
 ghost use Rattle.page_core.specs.Input.{StaysKnown};
-ghost use Rattle.log_history.specs.Linked.{IsLinked};
+ghost use Rattle.log_rules.specs.Linked.{IsLinked};
 ghost use Rattle.log_records.specs.Log.{Log, SpellsLog};
 ghost use Rattle.log_store.specs.Fault.{Refuses, IsOutside, GaveNoFault};
 

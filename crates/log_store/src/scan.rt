@@ -4,16 +4,16 @@ ghost use Rattle.std.specs.Prelude.{ℕ, ◌≡◌, ◌+◌, ◌*◌, ◌/◌, �
 ghost use Rattle.std.specs.Prelude.{length, take, drop, IfOk, IfErr, IfSome, OnOk};
 ghost use Rattle.std.specs.Io.KnownBytes.{Consumes, IsAtEnd};
 ghost use Rattle.page_core.specs.Input.{StaysKnown};
-ghost use Rattle.log_history.specs.History.{IsMadeOf};
-ghost use Rattle.log_history.specs.Linked.{IsLinked};
+ghost use Rattle.log_rules.specs.History.{IsMadeOf};
+ghost use Rattle.log_rules.specs.Linked.{IsLinked};
 ghost use Rattle.log_records.specs.Log.{IsLog, IsOfFormat, Log, SpellsLog, StandsAt};
 ghost use Rattle.log_records.specs.Record.{record_bytes};
 ghost use Rattle.log_store.specs.Fault.{Refuses, GaveNoFault, IsNoReadFault};
 ghost use Rattle.log_store.specs.Scan.{HasAll, HasTaken};
 
 use crate::fault::LogReadFault;
+use crate::history::History;
 use crate::sink::RecordSink;
-use log_history::History;
 use log_records::{
     HEADER_BYTES, MAX_RECORDS, RECORD_BYTES, Record, log_header, named_slot, record_at, step_at,
     update_at,

@@ -3,10 +3,10 @@ use Rattle.std.proofs.Common.{◌≡◌, ◌+◌, ◌*◌, ◌≤◌, List, [], 
 use Rattle.std.proofs.lemmas.List.{length_push}
 use Rattle.log_records.specs.declared.record.Record.{Record}
 use Rattle.log_records.specs.declared.record.Record.TheVariants.{Begin, Update, BeginChkpt, ChkptPages, ChkptTxns, EndChkpt, Extend}
-use Rattle.log_history.specs.Linked.{IsLinked, MayFollow}
-use Rattle.log_history.specs.Transactions.{owed}
-use Rattle.log_history.proofs.Histories.{along_linked}
-use Rattle.log_history.proofs.Room.{claimed_push, needs}
+use Rattle.log_rules.specs.Linked.{IsLinked, MayFollow}
+use Rattle.log_rules.specs.Transactions.{owed}
+use Rattle.log_rules.proofs.Public.{along_linked}
+use Rattle.log_rules.proofs.Public.{claimed_push, needs}
 
 -- a record that needs no room of its own takes what was owed
 pub claims_no_more : (rs : List Record) (r : Record) → IsLinked rs → MayFollow rs r → needs r ≡ 0

@@ -10,8 +10,8 @@ use Rattle.log_records.specs.declared.record.Record.TheVariants.{Begin, Update, 
 use Rattle.log_records.specs.declared.record.Record.TheVariants.{ChkptPages, ChkptTxns, EndChkpt, Extend}
 use Rattle.log_records.specs.Log.{IsLog, Log, lsn_of}
 use Rattle.log_records.specs.Record.{own_lsn}
-use Rattle.log_history.specs.Checkpoint.{Checkpoint, IsCompleteCheckpoint, checkpoint_after, open_checkpoint}
-use Rattle.log_history.specs.Linked.{IsLinked}
+use Rattle.log_rules.specs.Checkpoint.{Checkpoint, IsCompleteCheckpoint, checkpoint_after, open_checkpoint}
+use Rattle.log_rules.specs.Linked.{IsLinked}
 use Rattle.std.specs.Prelude.{IfOk, Ok, Err}
 use Rattle.std.proofs.Common.{Global, Result, Vec}
 use Rattle.loser_undo.specs.declared.tail.OpenTxn.{OpenTxn}

@@ -2,8 +2,8 @@
 use Rattle.std.proofs.Common.{◌≡◌, ℕ, Bool, true, false, cond, List, [], ◌∷◌, refl, ◌∙◌}
 use Rattle.std.specs.List.{fold}
 use Rattle.log_records.specs.declared.record.Record.{Record}
-use Rattle.log_history.specs.Committed.{committed}
-use Rattle.log_history.proofs.Slots.{committed_push}
+use Rattle.log_rules.specs.Committed.{committed}
+use Rattle.log_rules.proofs.Public.{committed_push}
 use Rattle.loser_undo.specs.Undo.{LostChange, after_undo, comp_of, end_of, is_undone, lost_changes, spent, with_comp}
 use Rattle.loser_undo.specs.Undo.{with_end, taken_back}
 

@@ -7,7 +7,7 @@ use Rattle.log_records.specs.declared.record.Record.TheVariants.{Begin, Update, 
 use Rattle.log_records.specs.declared.record.Record.TheVariants.{ChkptTxns, EndChkpt}
 use Rattle.log_records.specs.declared.txn_phase.TxnPhase.TheVariants.{Active}
 use Rattle.log_records.specs.Image.{image}
-use Rattle.log_history.specs.Linked.{number_in}
+use Rattle.log_rules.specs.Linked.{number_in}
 use Rattle.loser_undo.specs.Undo.{after_undo, taken_back}
 
 -- three losers, the last of them with nothing pending: its End comes first, and the others' changes fall by LSN

@@ -12,7 +12,7 @@ use Rattle.log_records.specs.declared.record.Record.{Record}
 use Rattle.log_records.specs.declared.record.Record.TheVariants.{Update}
 use Rattle.log_records.specs.Log.{IsLog, Log}
 use Rattle.log_records.specs.Record.{own_lsn}
-use Rattle.log_history.specs.Transactions.{is_open, pending}
+use Rattle.log_rules.specs.Transactions.{is_open, pending}
 use Rattle.loser_undo.specs.Undo.{LostChange, is_lost, lost_by, lost_changes}
 use Rattle.loser_undo.proofs.Lost.{changes_of, of_txn, pending_is_lost}
 use Rattle.loser_undo.proofs.Phases.{changes_of_other, changes_of_own, lost_open}

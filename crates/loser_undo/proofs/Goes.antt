@@ -14,15 +14,15 @@ use mathlib.Core.List.{reverse-cons}
 use Rattle.log_records.specs.declared.record.Record.{Record}
 use Rattle.log_records.specs.declared.record.Record.TheVariants.{Update}
 use Rattle.log_records.specs.Log.{IsLog, Log}
-use Rattle.log_history.specs.declared.pending_change.PendingChange.{PendingChange}
-use Rattle.log_history.specs.Linked.{IsLinked, MayFollow}
-use Rattle.log_history.specs.Transactions.{begun, is_open, last_of, open_in, pending, without_last}
-use Rattle.log_history.proofs.AtEnd.{All-last_of}
-use Rattle.log_history.proofs.Begun.{open_has_begun}
-use Rattle.log_history.proofs.Filters.{filter-filter, filter_agree_but, filter_map_push, filter_push_out}
-use Rattle.log_history.proofs.Histories.{linked_push}
-use Rattle.log_history.proofs.Pushes.{is_open_push, is_open_push_other, open_in_push_last, open_in_push_same, pending_push}
-use Rattle.log_history.proofs.Steps.{not_among}
+use Rattle.log_rules.specs.declared.pending_change.PendingChange.{PendingChange}
+use Rattle.log_rules.specs.Linked.{IsLinked, MayFollow}
+use Rattle.log_rules.specs.Transactions.{begun, is_open, last_of, open_in, pending, without_last}
+use Rattle.log_rules.proofs.Public.{All-last_of}
+use Rattle.log_rules.proofs.Public.{open_has_begun}
+use Rattle.log_rules.proofs.Public.{filter-filter, filter_agree_but, filter_map_push, filter_push_out}
+use Rattle.log_rules.proofs.Public.{linked_push}
+use Rattle.log_rules.proofs.Public.{is_open_push, is_open_push_other, open_in_push_last, open_in_push_same, pending_push}
+use Rattle.log_rules.proofs.Public.{not_among}
 use Rattle.loser_undo.specs.Undo.{LostChange, after_undo, comp_of, end_of, is_lost, is_undone, lost_by, lost_changes}
 use Rattle.loser_undo.specs.Undo.{spent, with_comp, with_end, taken_back}
 use Rattle.loser_undo.proofs.Falling.{all_reverse, lost_fall, lost_of_open}

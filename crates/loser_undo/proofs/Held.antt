@@ -12,12 +12,12 @@ use Rattle.log_records.specs.declared.limits.TheConstants.{MAX_OPEN}
 use Rattle.log_records.specs.declared.record.Record.{Record}
 use Rattle.log_records.specs.declared.record.Record.TheVariants.{Abort, Begin, BeginChkpt, ChkptPages, ChkptTxns, Commit}
 use Rattle.log_records.specs.declared.record.Record.TheVariants.{Comp, End, EndChkpt, Extend, Update}
-use Rattle.log_history.specs.Linked.{IsLinked, MayFollow}
-use Rattle.log_history.specs.Table.{TxnEntry, Table, compensated, entry_after, entry_of, noted, owed_by_entry, table_of}
-use Rattle.log_history.specs.Transactions.{begun, is_open, last_lsn, open_in, owed}
-use Rattle.log_history.proofs.Checks.{owed_in-table_of}
-use Rattle.log_history.proofs.Histories.{along_linked}
-use Rattle.log_history.proofs.Steps.{table_of_push}
+use Rattle.log_rules.specs.Linked.{IsLinked, MayFollow}
+use Rattle.log_rules.specs.Table.{TxnEntry, Table, compensated, entry_after, entry_of, noted, owed_by_entry, table_of}
+use Rattle.log_rules.specs.Transactions.{begun, is_open, last_lsn, open_in, owed}
+use Rattle.log_rules.proofs.Public.{owed_in-table_of}
+use Rattle.log_rules.proofs.Public.{along_linked}
+use Rattle.log_rules.proofs.Public.{table_of_push}
 use Rattle.loser_undo.specs.declared.tail.OpenTxn.{OpenTxn}
 use Rattle.loser_undo.specs.Losers.{AreLosersOf, losers_of}
 use Rattle.loser_undo.specs.Tail.{open_txn, open_txns}

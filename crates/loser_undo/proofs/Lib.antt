@@ -9,6 +9,7 @@ pub mod Lost
 pub mod Named
 pub mod Pages
 pub mod Phases
+pub mod Public
 pub mod Rising
 pub mod Undoing
 pub mod Valid

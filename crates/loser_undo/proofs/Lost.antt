@@ -11,9 +11,9 @@ use Rattle.std.proofs.Math.Bool.{or-true}
 use Rattle.log_records.specs.declared.record.Record.{Record}
 use Rattle.log_records.specs.declared.record.Record.TheVariants.{Update, Comp}
 use Rattle.log_records.specs.Record.{own_lsn}
-use Rattle.log_history.specs.declared.pending_change.PendingChange.{PendingChange}
-use Rattle.log_history.specs.Transactions.{is_open, pending, pending_from, records_of, txn_of, without_last}
-use Rattle.log_history.proofs.Filters.{filter_push, filter_push_out}
+use Rattle.log_rules.specs.declared.pending_change.PendingChange.{PendingChange}
+use Rattle.log_rules.specs.Transactions.{is_open, pending, pending_from, records_of, txn_of, without_last}
+use Rattle.log_rules.proofs.Public.{filter_push, filter_push_out}
 use Rattle.loser_undo.specs.Undo.{LostChange, is_lost, lost_by}
 use Rattle.loser_undo.proofs.Rising.{IsRising, all_but, others_differ, rising_but, rising_filter}
 

@@ -16,14 +16,14 @@ use Rattle.log_records.specs.declared.record.Record.TheVariants.{Begin, Update, 
 use Rattle.log_records.specs.declared.record.Record.TheVariants.{ChkptPages, ChkptTxns, EndChkpt, Extend}
 use Rattle.log_records.specs.Log.{Log, lsn_of}
 use Rattle.log_records.specs.Record.{own_lsn}
-use Rattle.log_history.specs.Checkpoint.{Checkpoint, IsCompleteCheckpoint, checkpoint_after, open_checkpoint}
-use Rattle.log_history.specs.Linked.{HasOldTxns, IsLinked, MayEnd, MayFollow}
-use Rattle.log_history.specs.Transactions.{begun, first_lsn, is_open, open_in, records_of, txn_of}
-use Rattle.log_history.proofs.Begun.{begun_bounds, open_has_begun}
-use Rattle.log_history.proofs.Pushes.{is_open_push_other, records_of_push_other}
+use Rattle.log_rules.specs.Checkpoint.{Checkpoint, IsCompleteCheckpoint, checkpoint_after, open_checkpoint}
+use Rattle.log_rules.specs.Linked.{HasOldTxns, IsLinked, MayEnd, MayFollow}
+use Rattle.log_rules.specs.Transactions.{begun, first_lsn, is_open, open_in, records_of, txn_of}
+use Rattle.log_rules.proofs.Public.{begun_bounds, open_has_begun}
+use Rattle.log_rules.proofs.Public.{is_open_push_other, records_of_push_other}
 use Rattle.loser_undo.specs.Tail.{IsTailOf, open_txn, open_txns, told}
 use Rattle.loser_undo.proofs.Tails.{among_open, is_named, known_of, named_by, told_all}
-use Rattle.log_history.proofs.Filters.{filter-filter}
+use Rattle.log_rules.proofs.Public.{filter-filter}
 use Rattle.std.proofs.lemmas.List.Elements.{filter_agree}
 
 -- ---- records that do not name a transaction leave it as it is

@@ -8,13 +8,13 @@ use Rattle.log_records.specs.declared.record.Record.{Record}
 use Rattle.log_store.specs.declared.master.Master.{Master}
 use Rattle.log_records.specs.Image.{image_from, redo_all}
 use Rattle.log_records.specs.Log.{IsLog, Log}
-use Rattle.log_records.proofs.Images.{length-redo_all, redo_all-append}
-use Rattle.log_history.specs.Linked.{IsLinked}
-use Rattle.log_history.proofs.Followed.{number_of_volume}
+use Rattle.log_records.proofs.Public.{length-redo_all, redo_all-append}
+use Rattle.log_rules.specs.Linked.{IsLinked}
+use Rattle.log_rules.proofs.Public.{number_of_volume}
 use Rattle.loser_undo.specs.Recovery.{HasCommitted, IsWhole, Recovery, appended, undone}
 use Rattle.loser_undo.specs.Undo.{LostChange, after_undo, comp_of, end_of, is_undone, lost_changes, spent, taken_back, with_comp, with_end}
 use Rattle.loser_undo.proofs.Valid.{log_comes_first, undone_number}
-use Rattle.log_records.proofs.PageCounts.{count_behind-push}
+use Rattle.log_records.proofs.Public.{count_behind-push}
 use Rattle.log_records.specs.PageCount.{count_behind}
 use Rattle.log_records.specs.Log.{page_count}
 

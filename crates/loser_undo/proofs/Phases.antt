@@ -9,14 +9,14 @@ use Rattle.std.proofs.lemmas.List.Kept.{IsStrictlyIncreasing-filter}
 use Rattle.std.proofs.lemmas.Option.{slice_get-get_or}
 use Rattle.std.proofs.Math.Bool.{and-false}
 use Rattle.log_records.specs.declared.record.Record.{Record}
-use Rattle.log_history.specs.declared.pending_change.PendingChange.{PendingChange}
-use Rattle.log_history.specs.Linked.{IsLinked, MayFollow}
-use Rattle.log_history.specs.Transactions.{is_open, last_of, open_in, pending, pending_from, txn_of}
-use Rattle.log_history.specs.Transactions.{without_last}
-use Rattle.log_history.proofs.Begun.{open_in-IsStrictlyIncreasing}
-use Rattle.log_history.proofs.Filters.{filter_push_in, filter_push_out}
-use Rattle.log_history.proofs.Pushes.{is_open_push_own}
-use Rattle.log_history.proofs.Pushes.{records_of_push_other}
+use Rattle.log_rules.specs.declared.pending_change.PendingChange.{PendingChange}
+use Rattle.log_rules.specs.Linked.{IsLinked, MayFollow}
+use Rattle.log_rules.specs.Transactions.{is_open, last_of, open_in, pending, pending_from, txn_of}
+use Rattle.log_rules.specs.Transactions.{without_last}
+use Rattle.log_rules.proofs.Public.{open_in-IsStrictlyIncreasing}
+use Rattle.log_rules.proofs.Public.{filter_push_in, filter_push_out}
+use Rattle.log_rules.proofs.Public.{is_open_push_own}
+use Rattle.log_rules.proofs.Public.{records_of_push_other}
 use Rattle.loser_undo.specs.Undo.{LostChange, comp_of, end_of, is_lost, is_undone}
 use Rattle.loser_undo.specs.Undo.{spent, with_end}
 use Rattle.loser_undo.proofs.Lost.{changes_of, of_txn}

@@ -6,8 +6,8 @@ use Rattle.page_core.specs.declared.page.Page.{Page}
 use Rattle.page_core.specs.Volume.{AreNumbered}
 use Rattle.log_records.specs.declared.record.Record.{Record}
 use Rattle.log_records.specs.Coverage.{is_resumed, resume}
-use Rattle.log_records.proofs.Images.{number-image_from}
-use Rattle.log_history.specs.Table.{TxnEntry}
+use Rattle.log_records.proofs.Public.{number-image_from}
+use Rattle.log_rules.specs.Table.{TxnEntry}
 use Rattle.loser_undo.specs.Recovery.{IsRedone, Recovery}
 
 -- nor does redo change the pages' numbers

@@ -5,10 +5,10 @@ use Rattle.std.specs.Prelude.{Option, Some, None, IsSome, IsSomeAnd, MatchOption
 use Rattle.std.specs.Option.{option_and_then, option_map}
 use Rattle.std.proofs.lemmas.Bool.{cases_lt}
 use Rattle.std.proofs.lemmas.Option.{same_Some, slice_get-get_or, slice_get_within}
-use Rattle.log_history.specs.declared.pending_change.PendingChange.{PendingChange}
-use Rattle.log_history.specs.Table.{TxnEntry}
-use Rattle.log_history.specs.Transactions.{last_of}
-use Rattle.log_history.proofs.Tracked.{match_none, match_some}
+use Rattle.log_rules.specs.declared.pending_change.PendingChange.{PendingChange}
+use Rattle.log_rules.specs.Table.{TxnEntry}
+use Rattle.log_rules.specs.Transactions.{last_of}
+use Rattle.txn_table.proofs.Public.{match_none, match_some}
 use Rattle.loser_undo.specs.LastChanges.{last_change_at}
 use Rattle.loser_undo.specs.UndoRecords.{AreBusyBefore, IsLastLost, IsNext}
 

@@ -11,16 +11,16 @@ use Rattle.log_records.specs.declared.record.Record.TheVariants.{Abort, End, Beg
 use Rattle.log_records.specs.declared.record.Record.TheVariants.{ChkptPages, ChkptTxns, EndChkpt, Extend}
 use Rattle.log_records.specs.Log.{IsLog, Log}
 use Rattle.log_records.specs.Record.{own_lsn}
-use Rattle.log_history.specs.declared.pending_change.PendingChange.{PendingChange}
-use Rattle.log_history.specs.Linked.{IsLinked, MayFollow}
-use Rattle.log_history.specs.Savepoints.{stack_at, stack_from}
-use Rattle.log_history.specs.Transactions.{first_lsn, is_open, pending, pending_from, records_of}
-use Rattle.log_history.specs.Transactions.{txn_of, with_pending}
-use Rattle.log_history.proofs.Begun.{next_is_new, none_before_begin, open_has_begun}
-use Rattle.log_history.proofs.Begun.{some_from_begin}
-use Rattle.log_history.proofs.Histories.{along_linked, linked_push}
-use Rattle.log_history.proofs.Pushes.{first_lsn_push, is_open_push_other, last_lsn_push}
-use Rattle.log_history.proofs.Pushes.{pending_push, records_of_push_other, records_of_push_own}
+use Rattle.log_rules.specs.declared.pending_change.PendingChange.{PendingChange}
+use Rattle.log_rules.specs.Linked.{IsLinked, MayFollow}
+use Rattle.log_rules.specs.Savepoints.{stack_at, stack_from}
+use Rattle.log_rules.specs.Transactions.{first_lsn, is_open, pending, pending_from, records_of}
+use Rattle.log_rules.specs.Transactions.{txn_of, with_pending}
+use Rattle.log_rules.proofs.Public.{next_is_new, none_before_begin, open_has_begun}
+use Rattle.log_rules.proofs.Public.{some_from_begin}
+use Rattle.log_rules.proofs.Public.{along_linked, linked_push}
+use Rattle.log_rules.proofs.Public.{first_lsn_push, is_open_push_other, last_lsn_push}
+use Rattle.log_rules.proofs.Public.{pending_push, records_of_push_other, records_of_push_own}
 use Rattle.loser_undo.specs.Losers.{IsStackAt, Leads}
 use Rattle.loser_undo.proofs.Rising.{ArePlaced, log_placed}
 use Rattle.loser_undo.proofs.Traced.{aside_own, placed_front, still_leads, traced_of}

@@ -14,13 +14,13 @@ use Rattle.log_records.specs.declared.record.Record.{Record}
 use Rattle.log_records.specs.declared.record.Record.TheVariants.{Begin, Update, Comp, Commit, Abort, End, BeginChkpt}
 use Rattle.log_records.specs.declared.record.Record.TheVariants.{ChkptPages, ChkptTxns, EndChkpt, Extend}
 use Rattle.log_records.specs.Record.{own_lsn}
-use Rattle.log_history.specs.Linked.{IsLinked, MayFollow}
-use Rattle.log_history.specs.Transactions.{begun, begun_by, is_last, is_open, last_or, open_in, txn_of}
-use Rattle.log_history.proofs.Begun.{begun_bounds, next_is_new, none_before_begin, open_has_begun, open_in-IsStrictlyIncreasing, zero_not_open}
-use Rattle.log_history.proofs.Filters.{filter-filter, filter-map, filter_agree_but, filter_push_in, map_agree_but}
-use Rattle.log_history.proofs.Pushes.{has_begun, has_ended, last_lsn_push, open_in_push_begin, open_in_push_last, open_in_push_same, records_of_push_other}
-use Rattle.log_history.proofs.Steps.{not_among}
-use Rattle.log_history.proofs.Histories.{linked-take, linked_pop}
+use Rattle.log_rules.specs.Linked.{IsLinked, MayFollow}
+use Rattle.log_rules.specs.Transactions.{begun, begun_by, is_last, is_open, last_or, open_in, txn_of}
+use Rattle.log_rules.proofs.Public.{begun_bounds, next_is_new, none_before_begin, open_has_begun, open_in-IsStrictlyIncreasing, zero_not_open}
+use Rattle.log_rules.proofs.Public.{filter-filter, filter-map, filter_agree_but, filter_push_in, map_agree_but}
+use Rattle.log_rules.proofs.Public.{has_begun, has_ended, last_lsn_push, open_in_push_begin, open_in_push_last, open_in_push_same, records_of_push_other}
+use Rattle.log_rules.proofs.Public.{not_among}
+use Rattle.log_rules.proofs.Public.{linked-take, linked_pop}
 use Rattle.loser_undo.specs.declared.tail.OpenTxn.{OpenTxn}
 use Rattle.loser_undo.specs.Tail.{open_txn, told, with_txn, without_txn}
 use Rattle.loser_undo.proofs.Known.{AreRising, or_it, put_known, put_last, rising_from}

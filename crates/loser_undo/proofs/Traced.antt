@@ -16,20 +16,20 @@ use Rattle.log_records.specs.declared.record.Record.TheVariants.{ChkptPages, Chk
 use Rattle.page_core.specs.declared.change.Change.{Change}
 use Rattle.log_records.specs.Log.{IsLog, Log, StandsAt, lsn_of}
 use Rattle.log_records.specs.Record.{own_lsn}
-use Rattle.log_history.specs.declared.pending_change.PendingChange.{PendingChange}
-use Rattle.log_history.specs.Linked.{Compensates, GoesOn, IsActive, IsLinked, MayFollow}
-use Rattle.log_history.specs.Table.{TxnEntry, entry_of}
-use Rattle.log_history.specs.Transactions.{begun_by, first_lsn, is_abort, is_last, is_open, is_rolling}
-use Rattle.log_history.specs.Transactions.{last_lsn, last_of, pending, records_of, txn_of, with_pending, without_last}
-use Rattle.log_history.proofs.Begun.{next_is_new, none_before_begin, open_has_begun, some_from_begin, zero_not_open}
-use Rattle.log_history.proofs.Histories.{along_linked, linked_push}
-use Rattle.log_history.proofs.Pushes.{first_lsn_push, is_open_push_other, is_open_push_own}
-use Rattle.log_history.proofs.Pushes.{is_rolling_push, last_lsn_push, pending_push, records_of_push_own}
-use Rattle.log_history.proofs.Steps.{entry_from, entry_of_push_other}
+use Rattle.log_rules.specs.declared.pending_change.PendingChange.{PendingChange}
+use Rattle.log_rules.specs.Linked.{Compensates, GoesOn, IsActive, IsLinked, MayFollow}
+use Rattle.log_rules.specs.Table.{TxnEntry, entry_of}
+use Rattle.log_rules.specs.Transactions.{begun_by, first_lsn, is_abort, is_last, is_open, is_rolling}
+use Rattle.log_rules.specs.Transactions.{last_lsn, last_of, pending, records_of, txn_of, with_pending, without_last}
+use Rattle.log_rules.proofs.Public.{next_is_new, none_before_begin, open_has_begun, some_from_begin, zero_not_open}
+use Rattle.log_rules.proofs.Public.{along_linked, linked_push}
+use Rattle.log_rules.proofs.Public.{first_lsn_push, is_open_push_other, is_open_push_own}
+use Rattle.log_rules.proofs.Public.{is_rolling_push, last_lsn_push, pending_push, records_of_push_own}
+use Rattle.log_rules.proofs.Public.{entry_from, entry_of_push_other}
 use Rattle.loser_undo.specs.Losers.{IsTraced, Leads, LeadsToAbort, StandsAtLsn, before_comp, change_by, way_back}
 use Rattle.loser_undo.proofs.Lost.{last_apart}
 use Rattle.loser_undo.proofs.Rising.{ArePlaced, log_placed}
-use Rattle.log_records.proofs.PageCounts.{stands_in}
+use Rattle.log_records.proofs.Public.{stands_in}
 use Rattle.log_records.specs.Log.{page_count}
 
 -- ---- records that stand

@@ -7,14 +7,14 @@ use Rattle.log_records.specs.declared.limits.TheConstants.{MAX_RECORDS}
 use Rattle.log_records.specs.declared.record.Record.{Record}
 use Rattle.log_records.specs.Image.{AreNumbered, image_from, with_record}
 use Rattle.log_records.specs.Log.{IsLog, IsWithin, Log}
-use Rattle.log_records.proofs.Images.{image_from-append, images-none, numbered-images}
-use Rattle.log_history.specs.Table.{TxnEntry}
-use Rattle.log_history.specs.Transactions.{owed}
+use Rattle.log_records.proofs.Public.{image_from-append, images-none, numbered-images}
+use Rattle.log_rules.specs.Table.{TxnEntry}
+use Rattle.log_rules.specs.Transactions.{owed}
 use Rattle.loser_undo.specs.Losers.{AreLosersOf}
 use Rattle.loser_undo.specs.Recovery.{appended}
 use Rattle.loser_undo.specs.Undo.{after_undo}
 use Rattle.loser_undo.specs.UndoRecords.{HasYielded, UndoView}
-use Rattle.log_records.proofs.PageCounts.{stands_in}
+use Rattle.log_records.proofs.Public.{stands_in}
 use Rattle.loser_undo.proofs.Pages.{undone_count}
 use Rattle.log_records.specs.Log.{page_count}
 

@@ -12,15 +12,15 @@ use Rattle.log_records.specs.declared.record.Record.TheVariants.{Update}
 use Rattle.log_records.specs.Image.{image}
 use Rattle.log_records.specs.Log.{IsLog, Log, StandsAt, lsn_of}
 use Rattle.log_records.specs.Record.{IsBefore, IsChange, IsLsn, IsTxn}
-use Rattle.log_history.specs.declared.pending_change.PendingChange.{PendingChange}
-use Rattle.log_history.specs.Committed.{committed}
-use Rattle.log_history.specs.Linked.{IsLinked, MayFollow, number_in}
-use Rattle.log_history.specs.Transactions.{is_open, last_lsn, last_of, open_in, owed, pending}
-use Rattle.log_history.proofs.AtEnd.{All-last_of, All-pending, last_lsn_is_before, last_pending, lsn_is_lsn, noted}
-use Rattle.log_history.proofs.AtEnd.{open_is_txn, undo_fits, undo_has_no_before, valid_next}
-use Rattle.log_history.proofs.Owned.{HasChange}
-use Rattle.log_history.proofs.Room.{claimed, claimed_push}
-use Rattle.log_history.proofs.Undone.{changes_of_log, number_is_committed, slots_are_committed}
+use Rattle.log_rules.specs.declared.pending_change.PendingChange.{PendingChange}
+use Rattle.log_rules.specs.Committed.{committed}
+use Rattle.log_rules.specs.Linked.{IsLinked, MayFollow, number_in}
+use Rattle.log_rules.specs.Transactions.{is_open, last_lsn, last_of, open_in, owed, pending}
+use Rattle.log_rules.proofs.Public.{All-last_of, All-pending, last_lsn_is_before, last_pending, lsn_is_lsn, noted}
+use Rattle.log_rules.proofs.Public.{open_is_txn, undo_fits, undo_has_no_before, valid_next}
+use Rattle.log_rules.proofs.Public.{HasChange}
+use Rattle.log_rules.proofs.Public.{claimed, claimed_push}
+use Rattle.log_rules.proofs.Public.{changes_of_log, number_is_committed, slots_are_committed}
 use Rattle.loser_undo.specs.Undo.{LostChange, after_undo, comp_of, end_of, is_undone, lost_changes, spent, with_comp}
 use Rattle.loser_undo.specs.Undo.{with_end, taken_back}
 use Rattle.loser_undo.proofs.Committed.{committed_stays}

@@ -16,16 +16,16 @@ use Rattle.log_records.specs.declared.limits.TheConstants.{MAX_OPEN, MAX_RECORDS
 use Rattle.log_records.specs.declared.record.Record.{Record}
 use Rattle.log_records.specs.declared.record.Record.TheVariants.{Comp, End}
 use Rattle.log_records.specs.Log.{IsLog, Log, StandsAt, lsn_of, with_next}
-use Rattle.log_history.specs.declared.pending_change.PendingChange.{PendingChange}
-use Rattle.log_history.specs.declared.txn_state.TxnState.{TxnState}
-use Rattle.log_history.specs.Linked.{IsLinked, MayFollow}
-use Rattle.log_history.specs.Table.{TxnEntry, compensated, entry_of}
-use Rattle.log_history.specs.Transactions.{begun, is_open, last_lsn, last_of, open_in, owed, pending}
-use Rattle.log_history.specs.TxnState.{state_of}
-use Rattle.log_history.proofs.AtEnd.{valid_next}
-use Rattle.log_history.proofs.Begun.{open_has_begun}
-use Rattle.log_history.proofs.Histories.{linked_push}
-use Rattle.log_history.proofs.Room.{needs}
+use Rattle.log_rules.specs.declared.pending_change.PendingChange.{PendingChange}
+use Rattle.txn_table.specs.declared.txn_state.TxnState.{TxnState}
+use Rattle.log_rules.specs.Linked.{IsLinked, MayFollow}
+use Rattle.log_rules.specs.Table.{TxnEntry, compensated, entry_of}
+use Rattle.log_rules.specs.Transactions.{begun, is_open, last_lsn, last_of, open_in, owed, pending}
+use Rattle.txn_table.specs.TxnState.{state_of}
+use Rattle.log_rules.proofs.Public.{valid_next}
+use Rattle.log_rules.proofs.Public.{open_has_begun}
+use Rattle.log_rules.proofs.Public.{linked_push}
+use Rattle.log_rules.proofs.Public.{needs}
 use Rattle.loser_undo.specs.Losers.{AreLosersOf, losers_of}
 use Rattle.loser_undo.specs.Recovery.{appended}
 use Rattle.loser_undo.specs.Undo.{LostChange, after_undo, comp_of, end_of, is_undone, lost_by, lost_changes, spent}

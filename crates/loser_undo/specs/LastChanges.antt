@@ -2,8 +2,8 @@
 use Rattle.std.specs.Prelude.{ℕ, ◌≡◌, ◌<◌, List, Option, slice_get, slice_index_or}
 use Rattle.std.specs.Option.{option_and_then, option_map}
 use Rattle.log_records.specs.declared.limits.TheConstants.{MAX_OPEN}
-use Rattle.log_history.specs.Table.{TxnEntry}
-use Rattle.log_history.specs.Transactions.{last_of}
+use Rattle.log_rules.specs.Table.{TxnEntry}
+use Rattle.log_rules.specs.Transactions.{last_of}
 
 -- that of the one at a place, if it has one
 abbrev pub last_change_at : List TxnEntry → ℕ → Option ℕ

@@ -9,10 +9,10 @@ use Rattle.log_records.specs.declared.record.Record.TheVariants.{Begin, Update, 
 use Rattle.log_records.specs.declared.record.Record.TheVariants.{End, BeginChkpt, ChkptPages}
 use Rattle.log_records.specs.declared.record.Record.TheVariants.{ChkptTxns, EndChkpt, Extend}
 use Rattle.log_records.specs.Log.{lsn_of}
-use Rattle.log_history.specs.declared.pending_change.PendingChange.{PendingChange}
-use Rattle.log_history.specs.Linked.{IsLinked}
-use Rattle.log_history.specs.Table.{TxnEntry, entry_of}
-use Rattle.log_history.specs.Transactions.{first_lsn, is_abort, open_in}
+use Rattle.log_rules.specs.declared.pending_change.PendingChange.{PendingChange}
+use Rattle.log_rules.specs.Linked.{IsLinked}
+use Rattle.log_rules.specs.Table.{TxnEntry, entry_of}
+use Rattle.log_rules.specs.Transactions.{first_lsn, is_abort, open_in}
 
 -- ---- what is asked for
 

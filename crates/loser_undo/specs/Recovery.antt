@@ -7,10 +7,10 @@ use Rattle.page_core.specs.Volume.{AreNumbered}
 use Rattle.log_records.specs.declared.record.Record.{Record}
 use Rattle.log_records.specs.Image.{image_from, redo_all}
 use Rattle.log_records.specs.Log.{IsLog, Log, page_count}
-use Rattle.log_history.specs.Committed.{committed}
-use Rattle.log_history.specs.Linked.{IsLinked}
-use Rattle.log_history.specs.Table.{TxnEntry}
-use Rattle.log_history.specs.Transactions.{open_in, owed}
+use Rattle.log_rules.specs.Committed.{committed}
+use Rattle.log_rules.specs.Linked.{IsLinked}
+use Rattle.log_rules.specs.Table.{TxnEntry}
+use Rattle.log_rules.specs.Transactions.{open_in, owed}
 use Rattle.log_store.specs.declared.master.Master.{Master}
 use Rattle.loser_undo.specs.Losers.{AreLosersOf}
 use Rattle.loser_undo.specs.Undo.{after_undo}

@@ -8,8 +8,8 @@ use Rattle.log_records.specs.declared.record.Record.TheVariants.{Begin, Update, 
 use Rattle.log_records.specs.declared.record.Record.TheVariants.{End, BeginChkpt, ChkptPages}
 use Rattle.log_records.specs.declared.record.Record.TheVariants.{ChkptTxns, EndChkpt, Extend}
 use Rattle.log_records.specs.Log.{lsn_of}
-use Rattle.log_history.specs.declared.pending_change.PendingChange.{PendingChange}
-use Rattle.log_history.specs.Transactions.{is_open, last_lsn, open_in, pending}
+use Rattle.log_rules.specs.declared.pending_change.PendingChange.{PendingChange}
+use Rattle.log_rules.specs.Transactions.{is_open, last_lsn, open_in, pending}
 
 -- ---- what undo finds
 

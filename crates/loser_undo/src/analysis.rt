@@ -1,15 +1,15 @@
 //! The open transactions of a log, with their pending changes.
 
 ghost use Rattle.std.specs.Prelude.{◌≡◌, IfOk};
-ghost use Rattle.log_history.specs.Checkpoint.{IsCompleteCheckpoint};
-ghost use Rattle.log_history.specs.Linked.{IsLinked};
+ghost use Rattle.log_rules.specs.Checkpoint.{IsCompleteCheckpoint};
+ghost use Rattle.log_rules.specs.Linked.{IsLinked};
 ghost use Rattle.loser_undo.specs.Losers.{losers_of};
 
 use crate::tail::open_at_end;
 use crate::trace::trace;
-use log_history::Losers;
 use log_store::{LogImage, Master};
 use std::alloc::{AllocError, Global};
+use txn_table::Losers;
 
 /// The open transactions of a log with their pending changes (the analysis of ARIES, section 6.1).
 /// It reads the log from the BeginChkpt of the complete checkpoint that the master record names.

@@ -3,13 +3,12 @@
 ghost use Rattle.std.specs.Prelude.{◌≡◌, ◌↔◌, ◌+◌, ◌<◌, ◌≤◌, length, map, IfOk, IfErr, IsTrue};
 ghost use Rattle.log_records.specs.Coverage.{resume};
 ghost use Rattle.log_records.specs.declared.limits.TheConstants.{MAX_RECORDS};
-ghost use Rattle.log_history.specs.Checkpoint.{IsCompleteCheckpoint};
-ghost use Rattle.log_history.specs.Transactions.{owed};
+ghost use Rattle.log_rules.specs.Checkpoint.{IsCompleteCheckpoint};
+ghost use Rattle.log_rules.specs.Transactions.{owed};
 ghost use Rattle.log_records.specs.Log.{page_count};
 ghost use Rattle.loser_undo.specs.Recovery.{IsRecovery};
 
 use crate::analysis::losers;
-use log_history::Losers;
 use log_records::{MAX_RECORDS, Record};
 use log_store::{LogImage, Master};
 use page_core::{Lsn, Page};
@@ -17,6 +16,7 @@ use page_redo::redo_pages;
 use std::alloc::Global;
 use std::marker::Model;
 use std::thread::Threads;
+use txn_table::Losers;
 
 /// A log, its master record and its pages after redo (ARIES, section 6): the pages still have the
 /// changes of the transactions that are open at the log's end. Which these are is known too.

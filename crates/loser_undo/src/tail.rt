@@ -3,8 +3,8 @@
 ghost use Rattle.std.specs.Prelude.{ℕ, ◌≡◌, ◌<◌, ◌≤◌, drop, length, IfOk, OnOk, slice_get, Some};
 ghost use Rattle.std.specs.Prelude.{slice_index_or};
 ghost use Rattle.log_records.specs.declared.record.Record.TheVariants.{BeginChkpt};
-ghost use Rattle.log_history.specs.Checkpoint.{IsCompleteCheckpoint};
-ghost use Rattle.log_history.specs.Linked.{IsLinked};
+ghost use Rattle.log_rules.specs.Checkpoint.{IsCompleteCheckpoint};
+ghost use Rattle.log_rules.specs.Linked.{IsLinked};
 ghost use Rattle.log_records.specs.Log.{IsLog, Log, lsn_of};
 ghost use Rattle.loser_undo.specs.Tail.{IsTailOf, open_txns, told, with_txn, without_txn};
 

@@ -5,20 +5,21 @@ ghost use Rattle.std.specs.List.{filter_map};
 ghost use Rattle.std.specs.Option.{option_to_list};
 ghost use Rattle.log_records.specs.declared.record.Record.{Record};
 ghost use Rattle.log_records.specs.Log.{IsLog};
-ghost use Rattle.log_history.specs.Linked.{IsLinked};
-ghost use Rattle.log_history.specs.Table.{entry_of};
-ghost use Rattle.log_history.specs.Transactions.{first_lsn, is_abort, is_open, is_rolling};
-ghost use Rattle.log_history.specs.Transactions.{last_lsn, pending};
-ghost use Rattle.log_history.specs.OpenEntry.{changes_of, entry_view};
+ghost use Rattle.log_rules.specs.Linked.{IsLinked};
+ghost use Rattle.log_rules.specs.Table.{entry_of};
+ghost use Rattle.log_rules.specs.Transactions.{first_lsn, is_abort, is_open, is_rolling};
+ghost use Rattle.log_rules.specs.Transactions.{last_lsn, pending};
+ghost use Rattle.txn_table.specs.OpenEntry.{changes_of, entry_view};
 ghost use Rattle.loser_undo.specs.Losers.{Leads, LeadsToAbort, StandsAtLsn, before_comp};
 ghost use Rattle.loser_undo.specs.Losers.{change_by, way_back};
 
 use crate::tail::{OpenTxn, count_before};
-use log_history::{OpenEntry, Pending, PendingChange};
 use log_records::Record;
+use log_rules::PendingChange;
 use log_store::LogImage;
 use page_core::Lsn;
 use std::alloc::{AllocError, Global};
+use txn_table::{OpenEntry, Pending};
 
 /// What the log has of an open transaction, of which the last record is known.
 pub(crate) fn trace(alloc: Global, log: &LogImage, one: OpenTxn) -> Result<OpenEntry, AllocError>

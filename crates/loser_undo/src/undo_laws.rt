@@ -8,11 +8,11 @@ ghost use Rattle.log_records.specs.declared.limits.TheConstants.{MAX_RECORDS};
 ghost use Rattle.log_records.specs.declared.record.Record.{Record};
 ghost use Rattle.log_records.specs.Image.{image};
 ghost use Rattle.log_records.specs.Log.{IsLog, Log, page_count};
-ghost use Rattle.log_history.specs.Committed.{committed};
-ghost use Rattle.log_history.specs.declared.pending_change.PendingChange.{PendingChange};
-ghost use Rattle.log_history.specs.Linked.{IsLinked, number_in};
-ghost use Rattle.log_history.specs.Savepoints.{stack_at};
-ghost use Rattle.log_history.specs.Transactions.{is_open, open_in, owed, pending};
+ghost use Rattle.log_rules.specs.Committed.{committed};
+ghost use Rattle.log_rules.specs.declared.pending_change.PendingChange.{PendingChange};
+ghost use Rattle.log_rules.specs.Linked.{IsLinked, number_in};
+ghost use Rattle.log_rules.specs.Savepoints.{stack_at};
+ghost use Rattle.log_rules.specs.Transactions.{is_open, open_in, owed, pending};
 ghost use Rattle.loser_undo.specs.Losers.{IsStackAt};
 ghost use Rattle.loser_undo.specs.Undo.{after_undo, lost_changes};
 

@@ -8,14 +8,15 @@ ghost use Rattle.log_records.specs.declared.limits.TheConstants.{MAX_OPEN, MAX_R
 ghost use Rattle.log_records.specs.declared.record.Record.{Record};
 ghost use Rattle.log_records.specs.declared.record.Record.TheVariants.{Comp, End};
 ghost use Rattle.log_records.specs.Log.{Log, lsn_of};
-ghost use Rattle.log_history.specs.Table.{TxnEntry, compensated};
+ghost use Rattle.log_rules.specs.Table.{TxnEntry, compensated};
 ghost use Rattle.loser_undo.specs.LastChanges.{AreLastChanges, last_change_at};
 ghost use Rattle.loser_undo.specs.UndoRecords.{HasYielded, IsNext, YieldsNext};
 
-use log_history::{Losers, PendingChange, TxnState};
 use log_records::{MAX_OPEN, Record};
+use log_rules::PendingChange;
 use page_core::{LSN_STEP, Lsn, undo_of};
 use std::marker::Model;
+use txn_table::{Losers, TxnState};
 
 /// The records that undo appends to a log (ARIES, section 6.3), made one after another; none is
 /// kept. First comes an End for each open transaction that has nothing pending, and then each

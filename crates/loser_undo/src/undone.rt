@@ -5,7 +5,7 @@ ghost use Rattle.std.specs.Prelude.{IsErrAnd, vec_capacity};
 ghost use Rattle.log_records.specs.declared.limits.TheConstants.{MAX_RECORDS};
 ghost use Rattle.log_records.specs.Image.{AreNumbered, image_from};
 ghost use Rattle.log_records.specs.Log.{IsLog, page_count};
-ghost use Rattle.log_history.specs.Transactions.{owed};
+ghost use Rattle.log_rules.specs.Transactions.{owed};
 ghost use Rattle.loser_undo.specs.declared.fault.UndoFault.TheVariants.{LogFull};
 ghost use Rattle.loser_undo.specs.Losers.{AreLosersOf};
 ghost use Rattle.loser_undo.specs.Recovery.{HasCommitted, IsRecovery, IsToUndo, IsWhole, undone};
@@ -14,11 +14,11 @@ ghost use Rattle.loser_undo.specs.Undo.{after_undo};
 use crate::fault::UndoFault;
 use crate::redone::Redone;
 use crate::undo_records::UndoRecords;
-use log_history::Losers;
 use log_records::{Record, redo_on_its_page};
 use log_store::{LogImage, Master};
 use page_core::Page;
 use std::marker::Model;
+use txn_table::Losers;
 
 /// A log, its master record and its pages after undo: no transaction is open.
 #[derive(Drop)]

@@ -2,7 +2,7 @@
 use Rattle.std.proofs.Common.{List}
 use Rattle.page_core.specs.declared.page.Page.{Page}
 use Rattle.copy_audit.specs.Audit.{IsAudited}
-use Rattle.copy_audit.proofs.Audits.{covering_of_audited}
+use Rattle.copy_audit.proofs.Public.{covering_of_audited}
 use Rattle.media_restore.specs.Files.{AreSound, Files, IsRestoredFrom}
 
 pub sound_of_audited : (files : Files) (pages : List Page) → (it : IsRestoredFrom files pages)

@@ -13,21 +13,21 @@ use Rattle.log_records.specs.declared.record.Record.{Record}
 use Rattle.log_records.specs.Coverage.{resume}
 use Rattle.log_records.specs.Image.{image, redo_all}
 use Rattle.log_records.specs.Log.{IsLog, Log, lsn_of, page_count}
-use Rattle.log_records.proofs.PageCounts.{page_count_at-not_more}
-use Rattle.copy_vault.proofs.Chains.{contents_numbered}
+use Rattle.log_records.proofs.Public.{page_count_at-not_more}
+use Rattle.copy_vault.proofs.Public.{contents_numbered}
 use Rattle.log_records.specs.Record.{own_lsn}
 use Rattle.log_records.specs.declared.record.Record.TheVariants.{EndChkpt}
-use Rattle.log_history.specs.Checkpoint.{IsCompleteCheckpoint}
-use Rattle.log_history.specs.Transactions.{owed}
-use Rattle.log_history.proofs.Histories.{linked-take}
+use Rattle.log_rules.specs.Checkpoint.{IsCompleteCheckpoint}
+use Rattle.log_rules.specs.Transactions.{owed}
+use Rattle.log_rules.proofs.Public.{linked-take}
 use Rattle.log_store.specs.declared.master.Master.{Master}
 use Rattle.copy_vault.specs.Chain.{IsChain, IsChainOf, content, contents, last_redo}
 use Rattle.copy_vault.specs.Copy.{CopyView}
 use Rattle.copy_vault.specs.Vault.{CopyState, complete, dropped, reading, state_of}
 use Rattle.copy_coverage.specs.Kept.{IsKeptOf}
 use Rattle.copy_coverage.specs.Retired.{HasRoomForUndo, NamesCheckpoint, IsRetired, RetiredView}
-use Rattle.copy_coverage.proofs.Chains.{restored_of_members}
-use Rattle.copy_coverage.proofs.Kept.{prefix_is_log}
+use Rattle.copy_coverage.proofs.Public.{restored_of_members}
+use Rattle.copy_coverage.proofs.Public.{prefix_is_log}
 use Rattle.media_restore.specs.declared.fault.LoadFault.{LoadFault}
 use Rattle.media_restore.specs.declared.fault.LoadFault.TheVariants.{CutTooShort}
 use Rattle.media_restore.specs.Load.{IsLoaded, copy_refusal, cut_refusal, first_of, forced_count, kept_log}

@@ -4,10 +4,10 @@ use Rattle.std.specs.Prelude.{Option, Some, None, Result, Ok, Err, IfSome, IfOk,
 use Rattle.std.proofs.lemmas.Bool.{cases_lt}
 use Rattle.std.specs.Io.KnownBytes.{Consumes, IsAtEnd}
 use Rattle.std.proofs.lemmas.List.{append-nil, length-append, nil_from_length}
-use Rattle.page_core.proofs.Inputs.{of_all}
+use Rattle.page_core.proofs.Public.{of_all}
 use Rattle.log_store.specs.declared.master.Master.{Master}
 use Rattle.log_store.specs.Master.{SpellsMaster}
-use Rattle.log_store.proofs.Masters.{length-master_bytes}
+use Rattle.log_store.proofs.Public.{length-master_bytes}
 use Rattle.media_restore.specs.declared.files_fault.RestoreFault.{RestoreFault}
 use Rattle.media_restore.specs.declared.files_fault.RestoreFault.TheVariants.{BadHeader}
 use Rattle.media_restore.specs.Files.{NotSpelled}

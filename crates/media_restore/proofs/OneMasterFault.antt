@@ -4,7 +4,7 @@ use Rattle.std.specs.Prelude.{Some}
 use Rattle.log_records.specs.declared.record.Record.{Record}
 use Rattle.log_store.specs.declared.master.Master.{Master}
 use Rattle.log_store.specs.Master.{SpellsMaster}
-use Rattle.log_store.proofs.Masters.{same_master}
+use Rattle.log_store.proofs.Public.{same_master}
 use Rattle.media_restore.specs.Files.{MasterRefused}
 use Rattle.media_restore.specs.declared.files_fault.RestoreFault.{RestoreFault}
 use Rattle.media_restore.specs.declared.files_fault.RestoreFault.TheVariants.{OutOfMemory, LogFull}

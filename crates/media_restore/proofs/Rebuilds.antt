@@ -6,8 +6,8 @@ use Rattle.std.proofs.Math.Seq.{take-length}
 use Rattle.log_records.specs.declared.limits.TheConstants.{MAX_RECORDS}
 use Rattle.log_records.specs.declared.record.Record.{Record}
 use Rattle.log_records.specs.Log.{Log}
-use Rattle.log_history.specs.Transactions.{owed}
-use Rattle.log_history.specs.Work.{work}
+use Rattle.log_rules.specs.Transactions.{owed}
+use Rattle.log_rules.specs.Work.{work}
 use Rattle.log_store.specs.declared.master.Master.{Master}
 use Rattle.copy_vault.specs.Vault.{CopyState, complete, dropped, reading, state_of}
 use Rattle.copy_coverage.specs.Kept.{IsKeptOf}
@@ -15,15 +15,15 @@ use Rattle.copy_coverage.specs.Retired.{HasRoomForUndo, RetiredView}
 use Rattle.loser_undo.specs.declared.fault.UndoFault.{UndoFault}
 use Rattle.loser_undo.specs.declared.fault.UndoFault.TheVariants.{LogFull, OutOfMemory}
 use Rattle.loser_undo.specs.Recovery.{Recovery}
-use Rattle.aries_core.specs.declared.event.Answer.{Answer}
-use Rattle.aries_core.specs.declared.event.Event.{Event}
-use Rattle.aries_core.specs.declared.refusal.Refusal.{Refusal}
-use Rattle.aries_core.specs.Accepted.{accepted}
-use Rattle.aries_core.specs.Catalogue.{CatalogueEntry, catalogue, entry_at, entry_of}
-use Rattle.aries_core.specs.EngineState.{EngineState, log_of, master_record, new_state}
-use Rattle.aries_core.specs.Run.{Run}
-use Rattle.aries_core.proofs.Catalogues.{entry_is}
-use Rattle.aries_core.proofs.Commits.{commits_are_kept}
+use Rattle.engine_calls.specs.declared.event.Answer.{Answer}
+use Rattle.engine_calls.specs.declared.event.Event.{Event}
+use Rattle.engine_calls.specs.declared.refusal.Refusal.{Refusal}
+use Rattle.engine_rules.specs.Accepted.{accepted}
+use Rattle.engine_rules.specs.Catalogue.{CatalogueEntry, catalogue, entry_at, entry_of}
+use Rattle.engine_rules.specs.EngineState.{EngineState, log_of, master_record, new_state}
+use Rattle.engine_rules.specs.Run.{Run}
+use Rattle.engine_rules.proofs.Public.{entry_is}
+use Rattle.engine_rules.proofs.Public.{commits_are_kept}
 use Rattle.media_restore.specs.declared.fault.LoadFault.{LoadFault}
 use Rattle.media_restore.specs.declared.fault.Refused.{Refused}
 use Rattle.media_restore.specs.declared.fault.Refused.TheVariants.{Undo}

@@ -12,10 +12,10 @@ use Rattle.log_records.specs.declared.limits.TheConstants.{MAX_RECORDS}
 use Rattle.log_records.specs.Coverage.{resume}
 use Rattle.log_records.specs.Image.{image, image_from, redo_all}
 use Rattle.log_records.specs.Log.{IsLog, Log, counts_of, page_count}
-use Rattle.log_records.proofs.Coverage.{resume_covering}
-use Rattle.log_records.proofs.Images.{numbered-images}
-use Rattle.log_history.specs.Linked.{IsLinked}
-use Rattle.log_history.specs.Table.{TxnEntry}
+use Rattle.log_records.proofs.Public.{resume_covering}
+use Rattle.log_records.proofs.Public.{numbered-images}
+use Rattle.log_rules.specs.Linked.{IsLinked}
+use Rattle.log_rules.specs.Table.{TxnEntry}
 use Rattle.loser_undo.specs.Losers.{losers_of}
 use Rattle.log_store.specs.declared.fault.LogReadFault.{LogReadFault}
 use Rattle.log_store.specs.declared.fault.LogReadFault.TheVariants as log
@@ -25,12 +25,12 @@ use Rattle.copy_vault.specs.declared.chain_read_fault.ChainReadFault.TheVariants
 use Rattle.copy_vault.specs.Chain.{content, contents, last_redo}
 use Rattle.copy_vault.specs.ChainReading.{IsChainRead}
 use Rattle.copy_vault.specs.Copy.{CopyView}
-use Rattle.copy_vault.proofs.Chains.{contents_numbered}
+use Rattle.copy_vault.proofs.Public.{contents_numbered}
 use Rattle.loser_undo.specs.Recovery.{HasCommitted, Recovery, appended}
-use Rattle.loser_undo.proofs.Pages.{undone_committed, undone_count, undone_whole}
-use Rattle.log_records.proofs.PageCounts.{last_count-counts_of}
+use Rattle.loser_undo.proofs.Public.{undone_committed, undone_count, undone_whole}
+use Rattle.log_records.proofs.Public.{last_count-counts_of}
 use Rattle.page_core.specs.PageCounts.{last_count}
-use Rattle.loser_undo.proofs.Resumed.{numbered_resumed}
+use Rattle.loser_undo.proofs.Public.{numbered_resumed}
 use Rattle.log_changes.specs.Kept.{Kept, kept_of}
 use Rattle.media_restore.specs.declared.files_fault.RestoreFault.{RestoreFault}
 use Rattle.media_restore.specs.declared.files_fault.RestoreFault.TheVariants.{OutOfMemory, LogFull, WriteFault}

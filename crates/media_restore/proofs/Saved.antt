@@ -12,10 +12,10 @@ use Rattle.log_records.specs.Coverage.{Covers, IsPast}
 use Rattle.page_core.specs.declared.format.Format.TheVariants.{Second}
 use Rattle.page_core.specs.PageCounts.{count_below}
 use Rattle.log_records.specs.Log.{IsLog, Log, counts_of, log_bytes, page_count}
-use Rattle.log_records.proofs.PageCounts.{count_below-counts_of, page_count-is_count}
+use Rattle.log_records.proofs.Public.{count_below-counts_of, page_count-is_count}
 use Rattle.copy_coverage.specs.Retired.{IsRetired, RetiredView}
-use Rattle.log_history.specs.Linked.{IsLinked}
-use Rattle.log_history.proofs.Histories.{linked-take}
+use Rattle.log_rules.specs.Linked.{IsLinked}
+use Rattle.log_rules.proofs.Public.{linked-take}
 use Rattle.log_store.specs.declared.master.Master.{Master}
 use Rattle.log_store.specs.Master.{master_bytes}
 use Rattle.copy_vault.specs.declared.copy_id.CopyKind.{CopyKind}
@@ -27,17 +27,17 @@ use Rattle.copy_vault.specs.ChainReading.{AreWithinLog, IsRightChain, SpellCopie
 use Rattle.copy_vault.specs.Copy.{CopyView, IsComplete, PageDecision, decision_at, kept, taken, taken_count}
 use Rattle.copy_vault.specs.Copy.{taken_pages, undecided}
 use Rattle.copy_vault.specs.Vault.{CopyState, HasParent, complete, dropped, state_of}
-use Rattle.copy_vault.proofs.Chains.{some_members}
-use Rattle.copy_vault.proofs.Decisions.{count_within}
+use Rattle.copy_vault.proofs.Public.{some_members}
+use Rattle.copy_vault.proofs.Public.{count_within}
 use Rattle.copy_coverage.specs.Copied.{AreRestorable, IsCovered, StandsOn}
 use Rattle.copy_coverage.specs.Kept.{IsKeptOf}
-use Rattle.copy_coverage.proofs.Chains.{covered_of_members}
-use Rattle.copy_coverage.proofs.Contents.{content_by}
-use Rattle.copy_coverage.proofs.Kept.{covers_kept, kept_count_below, prefix_is_log}
-use Rattle.copy_coverage.proofs.LaterPages.{count_below-not_less, count_below-not_more}
-use Rattle.copy_coverage.proofs.Points.{end_is_record}
-use Rattle.page_redo.proofs.Valid.{valid-past}
-use Rattle.copy_audit.proofs.Audits.{same_copies, same_log_of}
+use Rattle.copy_coverage.proofs.Public.{covered_of_members}
+use Rattle.copy_coverage.proofs.Public.{content_by}
+use Rattle.copy_coverage.proofs.Public.{covers_kept, kept_count_below, prefix_is_log}
+use Rattle.copy_coverage.proofs.Public.{count_below-not_less, count_below-not_more}
+use Rattle.copy_coverage.proofs.Public.{end_is_record}
+use Rattle.page_redo.proofs.Public.{valid-past}
+use Rattle.copy_audit.proofs.Public.{same_copies, same_log_of}
 use Rattle.media_restore.specs.Files.{AreCovering, AreSound, HasParts, IsOfLog, IsOfMaster, IsRestoredFrom}
 use Rattle.media_restore.specs.FilesArchives.{AreOfArchives, end_of}
 use Rattle.media_restore.specs.Saved.{AreLeft, files_of}

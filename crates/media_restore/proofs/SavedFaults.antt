@@ -4,20 +4,20 @@ use Rattle.std.specs.Prelude.{Some}
 use Rattle.log_records.specs.declared.limits.TheConstants.{MAX_RECORDS}
 use Rattle.log_records.specs.declared.record.Record.{Record}
 use Rattle.log_records.specs.Log.{Log, SpellsLog, counts_of, log_bytes}
-use Rattle.log_history.specs.Checkpoint.{IsCompleteCheckpoint}
-use Rattle.log_history.specs.Linked.{IsLinked}
+use Rattle.log_rules.specs.Checkpoint.{IsCompleteCheckpoint}
+use Rattle.log_rules.specs.Linked.{IsLinked}
 use Rattle.log_store.specs.declared.fault.LogReadFault.{LogReadFault}
 use Rattle.log_store.specs.declared.fault.LogReadFault.TheVariants as log
 use Rattle.log_store.specs.declared.master.Master.{Master}
 use Rattle.log_store.specs.Fault as log_fault
 use Rattle.log_store.specs.Master.{SpellsMaster, master_bytes}
-use Rattle.log_store.proofs.Faults.{none_in_log}
-use Rattle.log_store.proofs.Masters.{same_master}
+use Rattle.log_store.proofs.Public.{none_in_log}
+use Rattle.log_store.proofs.Public.{same_master}
 use Rattle.copy_vault.specs.declared.chain_read_fault.ChainReadFault.{ChainReadFault}
 use Rattle.copy_vault.specs.declared.chain_read_fault.ChainReadFault.TheVariants as chain
 use Rattle.copy_vault.specs.ChainReading.{AreNoChain, IsFromOutside, archives_of}
 use Rattle.copy_vault.specs.Copy.{CopyView}
-use Rattle.copy_audit.proofs.Audits.{from_outside, same_log_of}
+use Rattle.copy_audit.proofs.Public.{from_outside, same_log_of}
 use Rattle.media_restore.specs.declared.files_fault.RestoreFault.{RestoreFault}
 use Rattle.media_restore.specs.declared.files_fault.RestoreFault.TheVariants.{BadChain, BadHeader, OutOfMemory}
 use Rattle.media_restore.specs.declared.files_fault.RestoreFault.TheVariants.{ReadFault}

@@ -7,12 +7,12 @@ use Rattle.log_records.specs.Coverage.{resume}
 use Rattle.log_records.specs.Image.{AreNumbered}
 use Rattle.log_records.specs.Log.{Log}
 use Rattle.std.specs.List.{sum_by}
-use Rattle.log_history.specs.Table.{TxnEntry, owed_by_entry}
-use Rattle.log_history.specs.Transactions.{owed}
+use Rattle.log_rules.specs.Table.{TxnEntry, owed_by_entry}
+use Rattle.log_rules.specs.Transactions.{owed}
 use Rattle.loser_undo.specs.Losers.{AreLosersOf}
-use Rattle.loser_undo.proofs.Appends.{owed_few}
-use Rattle.loser_undo.proofs.Held.{owed_of}
-use Rattle.loser_undo.proofs.Resumed.{numbered_resumed}
+use Rattle.loser_undo.proofs.Public.{owed_few}
+use Rattle.loser_undo.proofs.Public.{owed_of}
+use Rattle.loser_undo.proofs.Public.{numbered_resumed}
 use Rattle.log_changes.specs.Kept.{Kept}
 use Rattle.log_changes.specs.Undo.{IsToUndo}
 use Rattle.media_restore.specs.Files.{IsRead, most_records}

@@ -9,18 +9,18 @@ use Rattle.log_records.specs.declared.record.Record.{Record}
 use Rattle.log_records.specs.Coverage.{resume}
 use Rattle.log_records.specs.Image.{image_from, redo_all}
 use Rattle.log_records.specs.Log.{IsLog, Log, SpellsLog, counts_of, log_bytes, page_count}
-use Rattle.log_history.specs.Checkpoint.{IsCompleteCheckpoint}
-use Rattle.log_history.specs.Linked.{IsLinked}
-use Rattle.log_history.specs.Transactions.{open_in}
-use Rattle.log_history.proofs.Completes.{complete_later}
+use Rattle.log_rules.specs.Checkpoint.{IsCompleteCheckpoint}
+use Rattle.log_rules.specs.Linked.{IsLinked}
+use Rattle.log_rules.specs.Transactions.{open_in}
+use Rattle.log_rules.proofs.Public.{complete_later}
 use Rattle.log_store.specs.declared.master.Master.{Master}
 use Rattle.log_changes.specs.Kept.{kept_of}
 use Rattle.copy_vault.specs.ChainReading.{IsChainRead}
 use Rattle.loser_undo.specs.Losers.{losers_of}
 use Rattle.loser_undo.specs.Recovery.{IsRecovery, appended}
 use Rattle.loser_undo.specs.Undo.{after_undo}
-use Rattle.loser_undo.proofs.Pages.{log_and_appended, undone_count}
-use Rattle.loser_undo.proofs.Valid.{undo_closes, undo_is_linked, undone_fits}
+use Rattle.loser_undo.proofs.Public.{log_and_appended, undone_count}
+use Rattle.loser_undo.proofs.Public.{undo_closes, undo_is_linked, undone_fits}
 use Rattle.media_restore.specs.declared.files_fault.RestoreFault.{RestoreFault}
 use Rattle.media_restore.specs.declared.files_fault.RestoreFault.TheVariants.{OutOfMemory, LogFull, WriteFault}
 use Rattle.media_restore.specs.declared.files_fault.RestoreFault.TheVariants.{BadHeader, BadRecord, Torn, ReadFault}

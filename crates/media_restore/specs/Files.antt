@@ -8,10 +8,10 @@ use Rattle.log_records.specs.declared.record.Record.{Record}
 use Rattle.log_records.specs.Coverage.{resume}
 use Rattle.log_records.specs.Image.{image_from, redo_all}
 use Rattle.log_records.specs.Log.{IsLog, Log, page_count}
-use Rattle.log_history.specs.Checkpoint.{IsCompleteCheckpoint}
-use Rattle.log_history.specs.Linked.{IsLinked}
-use Rattle.log_history.specs.Table.{TxnEntry}
-use Rattle.log_history.specs.Transactions.{owed}
+use Rattle.log_rules.specs.Checkpoint.{IsCompleteCheckpoint}
+use Rattle.log_rules.specs.Linked.{IsLinked}
+use Rattle.log_rules.specs.Table.{TxnEntry}
+use Rattle.log_rules.specs.Transactions.{owed}
 use Rattle.log_store.specs.declared.fault.LogReadFault.{LogReadFault}
 use Rattle.log_store.specs.declared.master.Master.{Master}
 use Rattle.log_store.specs.Fault.{Refuses}

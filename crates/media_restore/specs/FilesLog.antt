@@ -5,9 +5,9 @@ use Rattle.page_core.specs.declared.page.Page.{Page}
 use Rattle.page_core.specs.Volume.{SpellsVolume}
 use Rattle.log_records.specs.Image.{redo_all}
 use Rattle.log_records.specs.Log.{Log, SpellsLog, log_bytes, page_count}
-use Rattle.log_history.specs.Checkpoint.{IsCompleteCheckpoint}
-use Rattle.log_history.specs.Linked.{IsLinked}
-use Rattle.log_history.specs.Transactions.{open_in}
+use Rattle.log_rules.specs.Checkpoint.{IsCompleteCheckpoint}
+use Rattle.log_rules.specs.Linked.{IsLinked}
+use Rattle.log_rules.specs.Transactions.{open_in}
 use Rattle.loser_undo.specs.Undo.{after_undo}
 use Rattle.media_restore.specs.declared.files_fault.RestoreFault.{RestoreFault}
 use Rattle.media_restore.specs.declared.files_fault.RestoreFault.TheVariants.{WriteFault}

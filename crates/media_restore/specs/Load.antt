@@ -4,7 +4,7 @@ use Rattle.std.specs.Prelude.{nat_lt, if◌then◌else◌}
 use Rattle.page_core.specs.declared.numbers.TheConstants.{LSN_STEP}
 use Rattle.page_core.specs.declared.page.Page.{Page}
 use Rattle.log_records.specs.Log.{Log}
-use Rattle.log_history.specs.Checkpoint.{IsCompleteCheckpoint}
+use Rattle.log_rules.specs.Checkpoint.{IsCompleteCheckpoint}
 use Rattle.log_store.specs.declared.master.Master.{Master}
 use Rattle.copy_vault.specs.Vault.{CopyState, complete, dropped, reading, state_of}
 use Rattle.copy_coverage.specs.Retired.{RetiredView}

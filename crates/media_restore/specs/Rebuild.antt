@@ -4,21 +4,21 @@ use Rattle.std.specs.List.{All}
 use Rattle.std.specs.Option.{option_map}
 use Rattle.log_records.specs.Image.{redo_all}
 use Rattle.log_records.specs.Log.{Log, page_count}
-use Rattle.log_history.specs.Work.{work}
+use Rattle.log_rules.specs.Work.{work}
 use Rattle.log_store.specs.declared.master.Master.{Master}
 use Rattle.copy_coverage.specs.Kept.{IsKeptOf}
 use Rattle.loser_undo.specs.declared.fault.UndoFault.TheVariants as undo
 use Rattle.loser_undo.specs.Recovery.{HasCommitted, Recovery, undone}
 use Rattle.loser_undo.specs.Undo.{after_undo}
-use Rattle.aries_core.specs.declared.event.Answer.{Answer}
-use Rattle.aries_core.specs.declared.event.Event.{Event}
-use Rattle.aries_core.specs.declared.refusal.Refusal.{Refusal}
-use Rattle.aries_core.specs.Accepted.{accepted}
-use Rattle.aries_core.specs.AnsweredCommits.{StandsIn, answered_commits}
-use Rattle.aries_core.specs.Catalogue.{CatalogueEntry, being_read, is_complete, was_dropped}
-use Rattle.aries_core.specs.Catalogue.{catalogue, entry_at}
-use Rattle.aries_core.specs.EngineState.{EngineState, log_of, master_record, new_state}
-use Rattle.aries_core.specs.Run.{Run}
+use Rattle.engine_calls.specs.declared.event.Answer.{Answer}
+use Rattle.engine_calls.specs.declared.event.Event.{Event}
+use Rattle.engine_calls.specs.declared.refusal.Refusal.{Refusal}
+use Rattle.engine_rules.specs.Accepted.{accepted}
+use Rattle.engine_rules.specs.AnsweredCommits.{StandsIn, answered_commits}
+use Rattle.engine_rules.specs.Catalogue.{CatalogueEntry, being_read, is_complete, was_dropped}
+use Rattle.engine_rules.specs.Catalogue.{catalogue, entry_at}
+use Rattle.engine_rules.specs.EngineState.{EngineState, log_of, master_record, new_state}
+use Rattle.engine_rules.specs.Run.{Run}
 use Rattle.media_restore.specs.declared.fault.LoadFault.{LoadFault}
 use Rattle.media_restore.specs.declared.fault.LoadFault.TheVariants as load
 use Rattle.media_restore.specs.declared.fault.LoadFault.TheVariants.{NoCopy, CopyNotComplete}

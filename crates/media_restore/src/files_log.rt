@@ -5,7 +5,7 @@ ghost use Rattle.log_records.specs.Coverage.{resume};
 ghost use Rattle.log_records.specs.Image.{image_from};
 ghost use Rattle.log_records.specs.Log.{IsLog};
 ghost use Rattle.log_records.specs.declared.limits.TheConstants.{MAX_RECORDS};
-ghost use Rattle.log_history.specs.Checkpoint.{IsCompleteCheckpoint};
+ghost use Rattle.log_rules.specs.Checkpoint.{IsCompleteCheckpoint};
 ghost use Rattle.log_changes.specs.Kept.{kept_of};
 ghost use Rattle.loser_undo.specs.Recovery.{IsRecovery, appended};
 ghost use Rattle.media_restore.specs.Files.{Refused, most_records};

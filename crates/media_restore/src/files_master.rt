@@ -3,7 +3,7 @@
 ghost use Rattle.std.specs.Prelude.{◌≡◌, ◌↔◌, ◌≤◌, IfOk, IfErr, IfSome, IsTrue, None, OnOk, Some};
 ghost use Rattle.page_core.specs.Input.{HasGivenAll};
 ghost use Rattle.log_records.specs.Log.{Log};
-ghost use Rattle.log_history.specs.Linked.{IsLinked};
+ghost use Rattle.log_rules.specs.Linked.{IsLinked};
 ghost use Rattle.log_changes.specs.Kept.{kept_of};
 ghost use Rattle.log_store.specs.Master.{SpellsMaster};
 ghost use Rattle.media_restore.specs.Files.{IsOfMaster, MasterRefused, NotSpelled};

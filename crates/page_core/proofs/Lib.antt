@@ -4,4 +4,5 @@ pub mod Formats
 pub mod Inputs
 pub mod PageBytes
 pub mod Pieces
+pub mod Public
 pub mod Volumes

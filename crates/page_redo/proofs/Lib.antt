@@ -2,6 +2,7 @@ pub mod Counted
 pub mod Listed
 pub mod Parts
 pub mod Placed
+pub mod Public
 pub mod Redone
 pub mod Starts
 pub mod Valid

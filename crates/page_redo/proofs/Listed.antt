@@ -13,7 +13,7 @@ use Rattle.log_records.specs.declared.record.Record.{Record}
 use Rattle.log_records.specs.Coverage.{changes, is_resumed, resume}
 use Rattle.log_records.specs.Image.{image_from, with_change, with_record}
 use Rattle.log_records.specs.Record.{change_of, own_lsn}
-use Rattle.log_records.proofs.Images.{image_from-append, number-with_record}
+use Rattle.log_records.proofs.Public.{image_from-append, number-with_record}
 use Rattle.page_redo.specs.PageRecords.{is_on, numbers_on, records_at}
 use Rattle.page_redo.specs.Redo.{is_above, redone}
 use Rattle.page_redo.proofs.Counted.{records_of_numbers}

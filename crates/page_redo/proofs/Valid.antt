@@ -12,9 +12,9 @@ use Rattle.log_records.specs.declared.record.Record.{Record}
 use Rattle.log_records.specs.Record.{IsChange, IsLsn, IsPageChange, IsRecord, own_lsn}
 use Rattle.log_records.specs.Log.{Log, IsLog, page_count}
 use Rattle.log_records.specs.Image.{with_record, image_from, image, redo_all}
-use Rattle.log_records.proofs.Changes.{changed_fits, valid_change}
-use Rattle.log_records.proofs.Images.{with_record-has}
-use Rattle.log_records.proofs.PageCounts.{page_count-is_count}
+use Rattle.log_records.proofs.Public.{changed_fits, valid_change}
+use Rattle.log_records.proofs.Public.{with_record-has}
+use Rattle.log_records.proofs.Public.{page_count-is_count}
 
 all_replicate : {X : Type 0} (P : X → Type 0) (n : ℕ) (x : X) → P x → AllByRecursion P (replicate n x)
 all_replicate P zero x here = tt

@@ -2,9 +2,9 @@
 use Rattle.std.proofs.Common.{◌≡◌, ℕ, ◌++◌, List, [], ◌∷◌, ap, ◌∙◌, append-nil}
 use Rattle.std.specs.Prelude.{All, Result}
 use Rattle.std.proofs.lemmas.Grind.{flat_map-append}
-use Rattle.aries_core.specs.declared.event.Answer.{Answer}
-use Rattle.aries_core.specs.declared.refusal.Refusal.{Refusal}
-use Rattle.aries_core.specs.Step.{IsByDevice, IsByStore, IsFaultReply}
+use Rattle.engine_calls.specs.declared.event.Answer.{Answer}
+use Rattle.engine_calls.specs.declared.refusal.Refusal.{Refusal}
+use Rattle.engine_rules.specs.Step.{IsByDevice, IsByStore, IsFaultReply}
 use Rattle.event_script.specs.Reply.{line_of_reply}
 use Rattle.script_run.specs.PageLines.{ended}
 use Rattle.script_run.specs.ReplyLines.{reply_lines}

@@ -2,9 +2,9 @@
 use Rattle.std.specs.Prelude.{IfSome, Result, Option, Some, None}
 use Rattle.std.proofs.Common.{◌≡◌, ℕ, List}
 use Rattle.copy_coverage.specs.Retired.{RetiredView}
-use Rattle.aries_core.specs.declared.event.Answer.{Answer}
-use Rattle.aries_core.specs.declared.event.Event.{Event}
-use Rattle.aries_core.specs.declared.refusal.Refusal.{Refusal}
+use Rattle.engine_calls.specs.declared.event.Answer.{Answer}
+use Rattle.engine_calls.specs.declared.event.Event.{Event}
+use Rattle.engine_calls.specs.declared.refusal.Refusal.{Refusal}
 use Rattle.event_script.specs.declared.script.LastRestore.{LastRestore}
 use Rattle.event_script.specs.Read.{IsText}
 use Rattle.event_script.specs.Script.{said_in}

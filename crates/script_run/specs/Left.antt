@@ -2,7 +2,7 @@
 use Rattle.std.specs.Prelude.{◌≡◌}
 use Rattle.std.specs.Option.{option_map}
 use Rattle.copy_coverage.specs.Retired.{RetiredView}
-use Rattle.aries_core.specs.EngineState.{EngineState, log_of, master_record}
+use Rattle.engine_rules.specs.EngineState.{EngineState, log_of, master_record}
 
 -- its log, its last complete checkpoint and its copies, and how far it was forced
 pub record IsLeftBy (e : EngineState) (left : RetiredView) : Type 0 where

@@ -1,8 +1,8 @@
 -- What is printed of replies.
 use Rattle.std.specs.Prelude.{ℕ, List, Result}
 use Rattle.std.specs.List.{flat_map}
-use Rattle.aries_core.specs.declared.event.Answer.{Answer}
-use Rattle.aries_core.specs.declared.refusal.Refusal.{Refusal}
+use Rattle.engine_calls.specs.declared.event.Answer.{Answer}
+use Rattle.engine_calls.specs.declared.refusal.Refusal.{Refusal}
 use Rattle.event_script.specs.Reply.{line_of_reply}
 use Rattle.script_run.specs.PageLines.{ended}
 

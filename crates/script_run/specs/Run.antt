@@ -3,12 +3,12 @@ use Rattle.std.specs.Prelude.{ℕ, ◌≡◌, ◌<◌, All, List, length, take, 
 use Rattle.std.specs.Prelude.{Result}
 use Rattle.std.specs.Io.KnownBytes.{Appends, Keeps}
 use Rattle.copy_coverage.specs.Retired.{RetiredView}
-use Rattle.aries_core.specs.declared.event.Answer.{Answer}
-use Rattle.aries_core.specs.declared.event.Event.{Event}
-use Rattle.aries_core.specs.declared.refusal.Refusal.{Refusal}
-use Rattle.aries_core.specs.EngineState.{EngineState, new_state}
-use Rattle.aries_core.specs.Run.{Run}
-use Rattle.aries_core.specs.Step.{IsByDevice, IsByStore, IsFaultReply}
+use Rattle.engine_calls.specs.declared.event.Answer.{Answer}
+use Rattle.engine_calls.specs.declared.event.Event.{Event}
+use Rattle.engine_calls.specs.declared.refusal.Refusal.{Refusal}
+use Rattle.engine_rules.specs.EngineState.{EngineState, new_state}
+use Rattle.engine_rules.specs.Run.{Run}
+use Rattle.engine_rules.specs.Step.{IsByDevice, IsByStore, IsFaultReply}
 use Rattle.event_script.specs.declared.script.LastRestore.{LastRestore}
 use Rattle.event_script.specs.Read.{GaveNoFault, IsText, Refuses}
 use Rattle.event_script.specs.Script.{said_in}

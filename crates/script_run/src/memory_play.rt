@@ -4,10 +4,10 @@ ghost use Rattle.std.specs.Prelude.{◌≡◌, ◌≤◌, All, IfOk, List, Resul
 ghost use Rattle.std.specs.String.{string_bytes};
 ghost use Rattle.buffer_pool.specs.Pool.{IsFrameCount};
 ghost use Rattle.log_records.specs.Log.{IsPageCount};
-ghost use Rattle.aries_core.specs.declared.event.Answer.{Answer};
-ghost use Rattle.aries_core.specs.declared.refusal.Refusal.{Refusal};
-ghost use Rattle.aries_core.specs.EngineState.{EngineState, new_state};
-ghost use Rattle.aries_core.specs.Run.{Run};
+ghost use Rattle.engine_calls.specs.declared.event.Answer.{Answer};
+ghost use Rattle.engine_calls.specs.declared.refusal.Refusal.{Refusal};
+ghost use Rattle.engine_rules.specs.EngineState.{EngineState, new_state};
+ghost use Rattle.engine_rules.specs.Run.{Run};
 ghost use Rattle.script_run.specs.Left.{IsLeftBy};
 ghost use Rattle.script_run.specs.ReplyLines.{reply_lines};
 ghost use Rattle.script_run.specs.Run.{IsFaultless};

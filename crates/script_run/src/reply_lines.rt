@@ -3,7 +3,7 @@
 ghost use Rattle.std.specs.Prelude.{◌≡◌, ◌++◌, IfSome, Ok, OnOk, codes};
 ghost use Rattle.std.specs.Fmt.{decimal};
 ghost use Rattle.std.specs.String.{string_bytes};
-ghost use Rattle.aries_core.specs.declared.event.Answer.TheVariants.{Logged};
+ghost use Rattle.engine_calls.specs.declared.event.Answer.TheVariants.{Logged};
 ghost use Rattle.event_script.specs.Reply.{line_of_reply};
 ghost use Rattle.script_run.specs.PageLines.{ended};
 

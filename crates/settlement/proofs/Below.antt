@@ -16,11 +16,11 @@ use Rattle.log_records.specs.declared.record.Record.{Record}
 use Rattle.log_records.specs.Image.{image, image_from, redo_all, with_record}
 use Rattle.log_records.specs.Log.{AreWithin, IsLog, IsWithin, Log, lsn_of}
 use Rattle.log_records.specs.Record.{change_of, own_lsn}
-use Rattle.log_records.proofs.Changes.{change_within}
-use Rattle.log_records.proofs.Images.{length-redo_all, no_change, other_page, redo_all-append}
-use Rattle.log_records.proofs.PageCounts.{all_within, page_count-is_count}
-use Rattle.log_history.specs.Linked.{number_in}
-use Rattle.log_history.proofs.Slots.{slots_of_image}
+use Rattle.log_records.proofs.Public.{change_within}
+use Rattle.log_records.proofs.Public.{length-redo_all, no_change, other_page, redo_all-append}
+use Rattle.log_records.proofs.Public.{all_within, page_count-is_count}
+use Rattle.log_rules.specs.Linked.{number_in}
+use Rattle.log_rules.proofs.Public.{slots_of_image}
 use Rattle.settlement.specs.Receipt.{AreInOrder, ComesBehind, below, position}
 use Rattle.settlement.specs.Volume.{AreOfVolume}
 use Rattle.settlement.specs.declared.receipt.Receipt.{Receipt}

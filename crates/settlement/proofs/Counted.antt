@@ -6,7 +6,7 @@ use Rattle.std.proofs.lemmas.List.{get_or_append_left, get_or_push, take_min}
 use Rattle.log_records.specs.declared.record.Record.{Record}
 use Rattle.log_records.specs.Log.{Log, page_count_at}
 use Rattle.log_records.specs.PageCount.{count_behind}
-use Rattle.log_records.proofs.PageCounts.{count_behind-nil}
+use Rattle.log_records.proofs.Public.{count_behind-nil}
 
 -- the count behind one record more
 pub counts_more : (first : ℕ) (rs : List Record) (i : ℕ) (counts : List ℕ) (count : ℕ)

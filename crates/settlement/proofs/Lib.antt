@@ -2,6 +2,7 @@ pub mod Orders
 pub mod Logged
 pub mod Marking
 pub mod Below
+pub mod Public
 pub mod Sessions
 pub mod Changed
 pub mod Counted

@@ -11,8 +11,8 @@ use Rattle.log_records.specs.declared.record.Record.{Record}
 use Rattle.log_records.specs.declared.record.Record.TheVariants as log
 use Rattle.log_records.specs.Log.{lsn_of}
 use Rattle.log_records.specs.Record.{own_lsn}
-use Rattle.log_history.specs.Linked.{number_in}
-use Rattle.log_history.specs.Transactions.{txn_of}
+use Rattle.log_rules.specs.Linked.{number_in}
+use Rattle.log_rules.specs.Transactions.{txn_of}
 use Rattle.settlement.specs.declared.receipt.Receipt.{Receipt}
 use Rattle.settlement.specs.declared.receipt.Receipt.TheVariants.{Changed, Stepped, Read}
 use Rattle.settlement.specs.declared.receipt.TxnStep.{TxnStep}

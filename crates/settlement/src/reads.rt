@@ -8,7 +8,7 @@ ghost use Rattle.std.specs.List.{All};
 ghost use Rattle.page_core.specs.Volume.{AreNumbered, formatted_pages};
 ghost use Rattle.log_records.specs.Image.{redo_all};
 ghost use Rattle.log_records.specs.Log.{AreWithin};
-ghost use Rattle.log_history.specs.Linked.{number_in};
+ghost use Rattle.log_rules.specs.Linked.{number_in};
 ghost use Rattle.settlement.specs.Receipt.{AreInOrder, HoldsAsRead, WasRead, below, position};
 ghost use Rattle.settlement.specs.Volume.{AreOfVolume};
 ghost use Rattle.settlement.specs.declared.receipt.Receipt.{Receipt};

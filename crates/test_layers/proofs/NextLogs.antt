@@ -4,8 +4,8 @@ use Rattle.std.specs.Prelude.{None}
 use Rattle.log_records.specs.declared.record.Record.{Record}
 use Rattle.log_records.specs.Log.{IsLog, Log, StandsAt, lsn_of, page_count, with_next}
 use Rattle.log_records.specs.PageCount.{GivesMore, given_count}
-use Rattle.log_records.proofs.PageCounts.{count_after-none, count_behind-nil, more-none, page_count-push}
-use Rattle.log_history.proofs.AtEnd.{valid_next}
+use Rattle.log_records.proofs.Public.{count_after-none, count_behind-nil, more-none, page_count-push}
+use Rattle.log_rules.proofs.Public.{valid_next}
 
 -- one that gives the volume no page count
 pub next_is_log : (log : Log) (r : Record) → IsLog log → length log.records < 1000000

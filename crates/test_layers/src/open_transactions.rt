@@ -1,11 +1,12 @@
 //! The table of open transactions on short logs, and that each call succeeds. A test is a list of
 //! steps, and one function runs them.
 
-use log_history::{OpenTransactions, PendingChange, TxnState};
 use log_records::{Record, TxnPhase};
+use log_rules::PendingChange;
 use page_core::{Change, ChangeKind, Lsn, PageNo, SlotNo, TxnNo};
 use std::alloc::AllocError;
 use std::process::Abort;
+use txn_table::{OpenTransactions, TxnState};
 
 const PAGE: PageNo = PageNo(7);
 

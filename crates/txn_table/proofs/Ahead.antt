@@ -9,16 +9,16 @@ use Rattle.std.proofs.lemmas.List.{length_push}
 use Rattle.std.proofs.lemmas.List.Folds.{fold-map}
 use Rattle.std.proofs.lemmas.Simd.{map-map}
 use Rattle.log_records.specs.declared.record.Record.{Record}
-use Rattle.log_history.specs.declared.pending_change.PendingChange.{PendingChange}
-use Rattle.log_history.specs.Ahead.{entry_back, entry_with_before, with_changed}
-use Rattle.log_history.specs.Linked.{MayFollow}
-use Rattle.log_history.specs.Table.{TxnEntry, MayNote, Table, entry_after, entry_in, entry_of, holder_in, noted, owed_by_entry}
-use Rattle.log_history.specs.Table.{owed_in, table_of}
-use Rattle.log_history.specs.Transactions.{open_in, owed, pending}
-use Rattle.log_history.proofs.Ahead.{last_before_push, same_kind, without_last_push}
-use Rattle.log_history.proofs.Checks.{entry_in-table_of, may_note, owed_in-table_of}
-use Rattle.log_history.proofs.Filters.{find-map}
-use Rattle.log_history.proofs.Steps.{table_of_push}
+use Rattle.log_rules.specs.declared.pending_change.PendingChange.{PendingChange}
+use Rattle.txn_table.specs.Ahead.{entry_back, entry_with_before, with_changed}
+use Rattle.log_rules.specs.Linked.{MayFollow}
+use Rattle.log_rules.specs.Table.{TxnEntry, MayNote, Table, entry_after, entry_in, entry_of, holder_in, noted, owed_by_entry}
+use Rattle.log_rules.specs.Table.{owed_in, table_of}
+use Rattle.log_rules.specs.Transactions.{open_in, owed, pending}
+use Rattle.txn_table.proofs.PendingAhead.{last_before_push, same_kind, without_last_push}
+use Rattle.log_rules.proofs.Public.{entry_in-table_of, may_note, owed_in-table_of}
+use Rattle.log_rules.proofs.Public.{find-map}
+use Rattle.log_rules.proofs.Public.{table_of_push}
 use Rattle.txn_table.specs.TxnTable.{IsAhead, IsOwed, as_read, update_of}
 use Rattle.txn_table.proofs.Owed.{owed_few, owed_step}
 

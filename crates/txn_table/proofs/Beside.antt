@@ -4,9 +4,9 @@ use Rattle.std.proofs.lemmas.List.{append-nil, length_push}
 use Rattle.log_records.specs.declared.limits.TheConstants.{MAX_RECORDS}
 use Rattle.log_records.specs.declared.record.Record.{Record}
 use Rattle.log_records.specs.declared.record.Record.TheVariants.{Extend}
-use Rattle.log_history.specs.Table.{Table}
-use Rattle.log_history.proofs.Histories.{linked_push}
-use Rattle.log_history.proofs.Steps.{table_of_push}
+use Rattle.log_rules.specs.Table.{Table}
+use Rattle.log_rules.proofs.Public.{linked_push}
+use Rattle.log_rules.proofs.Public.{table_of_push}
 use Rattle.txn_table.specs.Returns.{returns_of}
 use Rattle.txn_table.specs.TxnTable.{IsTableOf}
 use Rattle.txn_table.proofs.Stacks.{returns_push}

@@ -15,11 +15,11 @@ use Rattle.log_records.specs.declared.record.Record.TheVariants.{End, BeginChkpt
 use Rattle.log_records.specs.declared.record.Record.TheVariants.{ChkptPages, ChkptTxns, EndChkpt, Extend}
 use Rattle.log_records.specs.Log.{IsLog, Log, lsn_of}
 use Rattle.log_records.specs.Record.{own_lsn}
-use Rattle.log_history.specs.declared.pending_change.PendingChange.{PendingChange}
-use Rattle.log_history.specs.Linked.{IsLinked}
-use Rattle.log_history.specs.Transactions.{is_rolling, pending}
-use Rattle.log_history.specs.Transactions.{without_last}
-use Rattle.log_history.proofs.Histories.{along_linked}
+use Rattle.log_rules.specs.declared.pending_change.PendingChange.{PendingChange}
+use Rattle.log_rules.specs.Linked.{IsLinked}
+use Rattle.log_rules.specs.Transactions.{is_rolling, pending}
+use Rattle.log_rules.specs.Transactions.{without_last}
+use Rattle.log_rules.proofs.Public.{along_linked}
 use Rattle.txn_table.specs.declared.returns.Return.{Return}
 use Rattle.txn_table.specs.Returns
 use Rattle.txn_table.specs.Returns.{return_of, returns_of}

@@ -20,20 +20,20 @@ use Rattle.log_records.specs.declared.record.Record.TheVariants.{End, BeginChkpt
 use Rattle.log_records.specs.declared.record.Record.TheVariants.{ChkptPages, ChkptTxns, EndChkpt, Extend}
 use Rattle.log_records.specs.Log.{IsLog, Log, lsn_of}
 use Rattle.log_records.specs.Record.{own_lsn}
-use Rattle.log_history.specs.declared.pending_change.PendingChange.{PendingChange}
-use Rattle.log_history.specs.CountUpTo.{AreRising}
-use Rattle.log_history.specs.Linked.{IsLinked, MayFollow}
-use Rattle.log_history.specs.Savepoints.{stack_at, stack_from}
-use Rattle.log_history.specs.Transactions.{begun_by, first_lsn, is_abort, is_last, is_open}
-use Rattle.log_history.specs.Transactions.{is_rolling, pending}
-use Rattle.log_history.specs.Transactions.{pending_from, records_of, txn_of, with_pending}
-use Rattle.log_history.specs.Transactions.{without_last}
-use Rattle.log_history.proofs.Begun.{next_is_new, none_before_begin, open_has_begun}
-use Rattle.log_history.proofs.Begun.{some_from_begin, zero_not_open}
-use Rattle.log_history.proofs.Histories.{along_linked, linked_push}
-use Rattle.log_history.proofs.Pushes.{first_lsn_push, is_open_push_other, is_open_push_own}
-use Rattle.log_history.proofs.Pushes.{is_rolling_push, pending_push}
-use Rattle.log_history.proofs.Pushes.{records_of_push_other, records_of_push_own}
+use Rattle.log_rules.specs.declared.pending_change.PendingChange.{PendingChange}
+use Rattle.txn_table.specs.CountUpTo.{AreRising}
+use Rattle.log_rules.specs.Linked.{IsLinked, MayFollow}
+use Rattle.log_rules.specs.Savepoints.{stack_at, stack_from}
+use Rattle.log_rules.specs.Transactions.{begun_by, first_lsn, is_abort, is_last, is_open}
+use Rattle.log_rules.specs.Transactions.{is_rolling, pending}
+use Rattle.log_rules.specs.Transactions.{pending_from, records_of, txn_of, with_pending}
+use Rattle.log_rules.specs.Transactions.{without_last}
+use Rattle.log_rules.proofs.Public.{next_is_new, none_before_begin, open_has_begun}
+use Rattle.log_rules.proofs.Public.{some_from_begin, zero_not_open}
+use Rattle.log_rules.proofs.Public.{along_linked, linked_push}
+use Rattle.log_rules.proofs.Public.{first_lsn_push, is_open_push_other, is_open_push_own}
+use Rattle.log_rules.proofs.Public.{is_rolling_push, pending_push}
+use Rattle.log_rules.proofs.Public.{records_of_push_other, records_of_push_own}
 use Rattle.txn_table.specs.declared.returns.Return.{Return}
 use Rattle.txn_table.specs.Returns.{return_of, returns_of}
 use Rattle.txn_table.proofs.Stacks.{first_of, returns_push, at_last, stack_push_own}

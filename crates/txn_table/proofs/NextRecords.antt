@@ -4,10 +4,10 @@ use Rattle.std.proofs.Math.Seq.{take-suc}
 use Rattle.std.proofs.lemmas.Bool.{cases_lt}
 use Rattle.std.proofs.lemmas.List.{length-take}
 use Rattle.log_records.specs.declared.record.Record.{Record}
-use Rattle.log_history.specs.Linked.{IsLinked, MayFollow}
-use Rattle.log_history.specs.Table.{Table, table_of}
-use Rattle.log_history.specs.Transactions.{owed}
-use Rattle.log_history.proofs.Histories.{linked-take}
+use Rattle.log_rules.specs.Linked.{IsLinked, MayFollow}
+use Rattle.log_rules.specs.Table.{Table, table_of}
+use Rattle.log_rules.specs.Transactions.{owed}
+use Rattle.log_rules.proofs.Public.{linked-take}
 use Rattle.txn_table.specs.TxnTable.{IsTableOf}
 
 pub with_next : (records : List Record) (i : ℕ) (r : Record) → i < length records → r ≡ get_or records i r

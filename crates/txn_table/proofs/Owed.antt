@@ -6,18 +6,18 @@ use Rattle.std.proofs.Math.Seq.{take-suc}
 use Rattle.log_records.specs.declared.record.Record.{Record}
 use Rattle.log_records.specs.declared.record.Record.TheVariants.{Begin, Update, Comp, Commit, Abort, End, BeginChkpt}
 use Rattle.log_records.specs.declared.record.Record.TheVariants.{ChkptPages, ChkptTxns, EndChkpt, Extend}
-use Rattle.log_history.specs.Linked.{IsLinked, MayFollow}
+use Rattle.log_rules.specs.Linked.{IsLinked, MayFollow}
 use Rattle.std.specs.Prelude.{Option, Some, None, if◌then◌else◌}
 use Rattle.std.specs.Option.{option_map}
-use Rattle.log_history.specs.declared.txn_state.TxnState.{TxnState}
-use Rattle.log_history.specs.TxnState.{state_of}
+use Rattle.txn_table.specs.declared.txn_state.TxnState.{TxnState}
+use Rattle.txn_table.specs.TxnState.{state_of}
 use Rattle.txn_table.proofs.Tables.{state_is}
-use Rattle.log_history.specs.Table.{Table, entry_in, entry_of, noted, owed_in}
-use Rattle.log_history.specs.Transactions.{is_open, owed, owed_by}
-use Rattle.log_history.proofs.Checks.{owed_in-table_of}
-use Rattle.log_history.proofs.Steps.{table_of_push}
-use Rattle.log_history.proofs.Histories.{linked-take}
-use Rattle.log_history.proofs.Room.{claimed, claimed_abort, claimed_aside, claimed_begin, claimed_comp, claimed_push, claimed_update, needs, owed_push_last}
+use Rattle.log_rules.specs.Table.{Table, entry_in, entry_of, noted, owed_in}
+use Rattle.log_rules.specs.Transactions.{is_open, owed, owed_by}
+use Rattle.log_rules.proofs.Public.{owed_in-table_of}
+use Rattle.log_rules.proofs.Public.{table_of_push}
+use Rattle.log_rules.proofs.Public.{linked-take}
+use Rattle.log_rules.proofs.Public.{claimed, claimed_abort, claimed_aside, claimed_begin, claimed_comp, claimed_push, claimed_update, needs, owed_push_last}
 use Rattle.txn_table.specs.TxnTable.{IsOwed, IsTableOf}
 
 -- what the table says is owed is what its log says

@@ -16,11 +16,11 @@ use Rattle.std.proofs.lemmas.Option.{get_or_from_slice_get, slice_get-get_or, sl
 use Rattle.page_core.specs.declared.change.Change.TheVariants.{Add}
 use Rattle.log_records.specs.declared.record.Record.{Record}
 use Rattle.log_records.specs.Log.{IsLog, Log}
-use Rattle.log_history.specs.declared.pending_change.PendingChange.{PendingChange}
-use Rattle.log_history.specs.CountUpTo.{AreRising, IsCountUpTo}
-use Rattle.log_history.specs.Linked.{IsLinked}
-use Rattle.log_history.specs.Savepoints.{lsns_of, savepoint, stack_at}
-use Rattle.log_history.specs.Transactions.{first_lsn, is_open, is_rolling, pending}
+use Rattle.log_rules.specs.declared.pending_change.PendingChange.{PendingChange}
+use Rattle.txn_table.specs.CountUpTo.{AreRising, IsCountUpTo}
+use Rattle.log_rules.specs.Linked.{IsLinked}
+use Rattle.log_rules.specs.Savepoints.{lsns_of, savepoint, stack_at}
+use Rattle.log_rules.specs.Transactions.{first_lsn, is_open, is_rolling, pending}
 use Rattle.txn_table.specs.declared.returns.Return.{Return}
 use Rattle.txn_table.specs.Returns.{returns_of}
 use Rattle.txn_table.proofs.Stacks.{Splits}

@@ -15,12 +15,12 @@ use Rattle.std.proofs.lemmas.List.Elements.{All-take}
 use Rattle.log_records.specs.declared.record.Record.{Record}
 use Rattle.log_records.specs.Log.{lsn_of}
 use Rattle.log_records.specs.Record.{own_lsn}
-use Rattle.log_history.specs.declared.pending_change.PendingChange.{PendingChange}
-use Rattle.log_history.specs.Savepoints.{stack_at, stack_from}
-use Rattle.log_history.specs.Transactions.{pending}
-use Rattle.log_history.specs.Transactions.{pending_from, records_of, txn_of, with_pending}
-use Rattle.log_history.specs.Transactions.{without_last}
-use Rattle.log_history.proofs.Pushes.{records_of_push_other, records_of_push_own}
+use Rattle.log_rules.specs.declared.pending_change.PendingChange.{PendingChange}
+use Rattle.log_rules.specs.Savepoints.{stack_at, stack_from}
+use Rattle.log_rules.specs.Transactions.{pending}
+use Rattle.log_rules.specs.Transactions.{pending_from, records_of, txn_of, with_pending}
+use Rattle.log_rules.specs.Transactions.{without_last}
+use Rattle.log_rules.proofs.Public.{records_of_push_other, records_of_push_own}
 use Rattle.txn_table.specs.declared.returns.Return.{Return}
 use Rattle.txn_table.specs.Returns.{return_of, returns_from, returns_of}
 

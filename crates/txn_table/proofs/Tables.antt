@@ -6,10 +6,10 @@ use Rattle.std.specs.Option.{option_and_then, option_map, option_map_or}
 use Rattle.log_records.specs.declared.record.Record.{Record}
 use Rattle.log_records.specs.declared.record.Record.TheVariants.{Begin, Update, Comp, Commit, Abort, End, BeginChkpt}
 use Rattle.log_records.specs.declared.record.Record.TheVariants.{ChkptPages, ChkptTxns, EndChkpt, Extend}
-use Rattle.log_history.specs.Table.{TxnEntry, Table, entry_in, entry_of, table_of}
-use Rattle.log_history.specs.Transactions.{begun, is_open, last_of, pending, open_in}
-use Rattle.log_history.specs.TxnState.{state_of, next_in}
-use Rattle.log_history.proofs.Checks.{entry_in-table_of}
+use Rattle.log_rules.specs.Table.{TxnEntry, Table, entry_in, entry_of, table_of}
+use Rattle.log_rules.specs.Transactions.{begun, is_open, last_of, pending, open_in}
+use Rattle.txn_table.specs.TxnState.{state_of, next_in}
+use Rattle.log_rules.proofs.Public.{entry_in-table_of}
 use Rattle.txn_table.specs.TxnTable.{IsTableOf, next_open}
 use Rattle.std.specs.List.{All}
 use Rattle.std.proofs.Math.Nat.{min-eq_left, min-eq_right}

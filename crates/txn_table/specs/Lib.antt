@@ -1,3 +1,10 @@
 pub mod Resumed
 pub mod Returns
 pub mod TxnTable
+pub mod Ahead
+pub mod CountUpTo
+pub mod OpenEntry
+pub mod OpenList
+pub mod OpenTransactions
+pub mod Pending
+pub mod TxnState

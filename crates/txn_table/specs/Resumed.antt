@@ -2,7 +2,7 @@
 use Rattle.std.specs.Prelude.{ℕ, ◌+◌, ◌<◌, ◌≤◌, List, length, take}
 use Rattle.log_records.specs.declared.limits.TheConstants.{MAX_RECORDS}
 use Rattle.log_records.specs.declared.record.Record.{Record}
-use Rattle.log_history.specs.Transactions.{owed}
+use Rattle.log_rules.specs.Transactions.{owed}
 use Rattle.txn_table.specs.declared.resumed.TablesFault.{TablesFault}
 use Rattle.txn_table.specs.declared.resumed.TablesFault.TheVariants.{NoRoom, OutOfMemory}
 

@@ -7,7 +7,7 @@ use Rattle.log_records.specs.declared.record.Record.{Record}
 use Rattle.log_records.specs.declared.record.Record.TheVariants.{Begin, Update, Comp, Commit, Abort}
 use Rattle.log_records.specs.declared.record.Record.TheVariants.{End, BeginChkpt, ChkptPages}
 use Rattle.log_records.specs.declared.record.Record.TheVariants.{ChkptTxns, EndChkpt, Extend}
-use Rattle.log_history.specs.Transactions.{is_rolling, pending, without_last}
+use Rattle.log_rules.specs.Transactions.{is_rolling, pending, without_last}
 use Rattle.txn_table.specs.declared.returns.Return.{Return}
 
 -- those of a log, and room for so many

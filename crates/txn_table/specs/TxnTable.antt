@@ -3,11 +3,11 @@ use Rattle.std.specs.Prelude.{ℕ, ◌≡◌, ◌<◌, ◌≤◌, ◌^◌, List,
 use Rattle.log_records.specs.declared.limits.TheConstants.{MAX_RECORDS}
 use Rattle.log_records.specs.declared.record.Record.{Record}
 use Rattle.log_records.specs.declared.record.Record.TheVariants.{Update}
-use Rattle.log_history.specs.declared.pending_change.PendingChange.{PendingChange}
-use Rattle.log_history.specs.Ahead.{with_before}
-use Rattle.log_history.specs.Linked.{IsLinked, MayFollow}
-use Rattle.log_history.specs.Table.{Table, noted, owed_in, table_of}
-use Rattle.log_history.specs.Transactions.{open_in}
+use Rattle.log_rules.specs.declared.pending_change.PendingChange.{PendingChange}
+use Rattle.txn_table.specs.Ahead.{with_before}
+use Rattle.log_rules.specs.Linked.{IsLinked, MayFollow}
+use Rattle.log_rules.specs.Table.{Table, noted, owed_in, table_of}
+use Rattle.log_rules.specs.Transactions.{open_in}
 use Rattle.log_records.specs.Least.{least}
 
 -- the table is that of this linked log

@@ -4,7 +4,7 @@ ghost use Rattle.std.specs.Prelude.{ℕ, ◌≡◌, ◌<◌, ◌∷◌, ◌++◌
 ghost use Rattle.log_records.specs.declared.limits.TheConstants.{MAX_RECORDS};
 ghost use Rattle.log_records.specs.declared.record.Record.{Record};
 ghost use Rattle.log_records.specs.declared.record.Record.TheVariants.{Extend};
-ghost use Rattle.log_history.specs.Table.{Table};
+ghost use Rattle.log_rules.specs.Table.{Table};
 ghost use Rattle.txn_table.specs.Returns.{returns_of};
 ghost use Rattle.txn_table.specs.TxnTable.{IsTableOf};
 

@@ -2,8 +2,8 @@
 
 ghost use Rattle.std.specs.Prelude.{ℕ, ◌≡◌, ◌+◌, ◌<◌, ◌≤◌, length, take, IfErr, IfOk, OnOk};
 ghost use Rattle.log_records.specs.declared.limits.TheConstants.{MAX_RECORDS};
-ghost use Rattle.log_history.specs.Linked.{IsLinked};
-ghost use Rattle.log_history.specs.Transactions.{owed};
+ghost use Rattle.log_rules.specs.Linked.{IsLinked};
+ghost use Rattle.log_rules.specs.Transactions.{owed};
 ghost use Rattle.txn_table.specs.Resumed.{HasRoomAtEach, IsFaultOf};
 ghost use Rattle.txn_table.specs.Returns.{returns_of};
 ghost use Rattle.txn_table.specs.TxnTable.{IsTableOf};

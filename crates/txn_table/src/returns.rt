@@ -6,8 +6,8 @@ ghost use Rattle.std.specs.Prelude.{◌==◌, None, Some, if◌then◌else◌};
 ghost use Rattle.std.specs.Option.{option_to_list};
 ghost use Rattle.log_records.specs.declared.record.Record.{Record};
 ghost use Rattle.log_records.specs.Log.{IsLog, Log};
-ghost use Rattle.log_history.specs.Savepoints.{savepoint};
-ghost use Rattle.log_history.specs.Transactions.{is_open, is_rolling};
+ghost use Rattle.log_rules.specs.Savepoints.{savepoint};
+ghost use Rattle.log_rules.specs.Transactions.{is_open, is_rolling};
 ghost use Rattle.txn_table.specs.Returns.{AreRising, return_of, returns_of};
 ghost use Rattle.txn_table.specs.TxnTable.{IsTableOf};
 

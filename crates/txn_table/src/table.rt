@@ -4,21 +4,23 @@ ghost use Rattle.std.specs.Prelude.{ℕ, ◌≡◌, ◌+◌, ◌<◌, ◌≤◌,
 ghost use Rattle.std.specs.Prelude.{◌-◌, ◌↔◌, OnErr, IsSomeAnd, IsTrue, slice_get, true, min};
 ghost use Rattle.std.specs.Prelude.{if◌then◌else◌, Some, None};
 ghost use Rattle.log_records.specs.declared.record.Record.{Record};
-ghost use Rattle.log_history.specs.CountUpTo.{IsCountUpTo};
-ghost use Rattle.log_history.specs.Growth.{MayGrow};
-ghost use Rattle.log_history.specs.Linked.{MayFollow};
-ghost use Rattle.log_history.specs.Transactions.{begun, holder, is_open, is_rolling, last_of};
-ghost use Rattle.log_history.specs.Transactions.{open_in};
-ghost use Rattle.log_history.specs.Transactions.{owed, owed_by, pending};
-ghost use Rattle.log_history.specs.Table.{entry_of, table_of};
-ghost use Rattle.log_history.specs.TxnState.{state_of};
-ghost use Rattle.log_history.specs.declared.pending_change.PendingChange.{PendingChange};
+ghost use Rattle.txn_table.specs.CountUpTo.{IsCountUpTo};
+ghost use Rattle.log_rules.specs.Growth.{MayGrow};
+ghost use Rattle.log_rules.specs.Linked.{MayFollow};
+ghost use Rattle.log_rules.specs.Transactions.{begun, holder, is_open, is_rolling, last_of};
+ghost use Rattle.log_rules.specs.Transactions.{open_in};
+ghost use Rattle.log_rules.specs.Transactions.{owed, owed_by, pending};
+ghost use Rattle.log_rules.specs.Table.{entry_of, table_of};
+ghost use Rattle.txn_table.specs.TxnState.{state_of};
+ghost use Rattle.log_rules.specs.declared.pending_change.PendingChange.{PendingChange};
 ghost use Rattle.txn_table.specs.Returns.{return_of};
 ghost use Rattle.txn_table.specs.TxnTable.{IsAhead, IsTableOf, as_read, next_open, update_of};
 ghost use Rattle.std.specs.Option.{option_map};
 
+use crate::open_transactions::OpenTransactions;
 use crate::returns::Return;
-use log_history::{OpenTransactions, PendingChange, TxnState};
+use crate::txn_state::TxnState;
+use log_rules::PendingChange;
 use log_records::Record;
 use page_core::{ChangeKind, Lsn, PageNo, SlotNo, TxnNo};
 use std::alloc::{AllocError, Global};
@@ -34,7 +36,7 @@ pub struct TxnTable {
 }
 
 impl Model for TxnTable {
-    ghost use Rattle.log_history.specs.Table.{Table};
+    ghost use Rattle.log_rules.specs.Table.{Table};
 
     ghost Value = { Table };
 

@@ -4,9 +4,9 @@ use Rattle.page_core.specs.declared.page.Page.{Page}
 use Rattle.page_core.specs.Volume.{AreNumbered}
 use Rattle.log_records.specs.Image.{redo_all}
 use Rattle.log_records.specs.Log.{IsLog, IsPageCount, Log, page_count}
-use Rattle.log_records.proofs.Images.{length-redo_all, numbered-redo_all}
-use Rattle.log_records.proofs.PageCounts.{page_count-is_count}
-use Rattle.loser_undo.proofs.Pages.{undone_count}
+use Rattle.log_records.proofs.Public.{length-redo_all, numbered-redo_all}
+use Rattle.log_records.proofs.Public.{page_count-is_count}
+use Rattle.loser_undo.proofs.Public.{undone_count}
 use Rattle.engine_restart.specs.Restart.{undone_log}
 
 pub are_counted : (log now : Log) (pages : List Page) → IsLog log → now ≡ undone_log log

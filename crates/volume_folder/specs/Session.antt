@@ -1,11 +1,11 @@
 -- What an open database answers to a call.
 use Rattle.std.specs.Prelude.{ℕ, ◌≡◌, ◌<◌, List, [], ◌∷◌, ◌++◌, Option, Result, length, take}
 use Rattle.std.specs.Io.KnownBytes.{Appends, Keeps}
-use Rattle.aries_core.specs.EngineState.{EngineView}
-use Rattle.aries_core.specs.Step.{Step}
-use Rattle.aries_core.specs.declared.event.Answer.{Answer}
-use Rattle.aries_core.specs.declared.event.Event.{Event}
-use Rattle.aries_core.specs.declared.refusal.Refusal.{Refusal}
+use Rattle.engine_rules.specs.EngineState.{EngineView}
+use Rattle.engine_rules.specs.Step.{Step}
+use Rattle.engine_calls.specs.declared.event.Answer.{Answer}
+use Rattle.engine_calls.specs.declared.event.Event.{Event}
+use Rattle.engine_calls.specs.declared.refusal.Refusal.{Refusal}
 use Rattle.event_script.specs.Reply.{line_of_reply}
 use Rattle.volume_folder.specs.declared.session.ServeFault.{ServeFault}
 use Rattle.volume_folder.specs.declared.session.ServeFault.TheVariants.{OutOfMemory, ReadFault}

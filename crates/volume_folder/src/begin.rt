@@ -3,7 +3,7 @@
 ghost use Rattle.std.specs.Prelude.{◌≡◌, IfOk};
 ghost use Rattle.buffer_pool.specs.Pool.{IsFrameCount};
 ghost use Rattle.log_records.specs.Log.{IsPageCount};
-ghost use Rattle.aries_core.specs.EngineState.{new_state};
+ghost use Rattle.engine_rules.specs.EngineState.{new_state};
 
 use crate::fault::OpenFault;
 use crate::log_file::make_log;

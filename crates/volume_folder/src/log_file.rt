@@ -1,7 +1,7 @@
 //! The file of a log, and what it has.
 
 ghost use Rattle.std.specs.Prelude.{◌≡◌, IfOk, IfSome};
-ghost use Rattle.log_history.specs.Linked.{IsLinked};
+ghost use Rattle.log_rules.specs.Linked.{IsLinked};
 ghost use Rattle.engine_restart.specs.Restart.{HasLasting};
 ghost use Rattle.file_devices.specs.FileLog.{known_of};
 

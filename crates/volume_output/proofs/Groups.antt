@@ -3,7 +3,7 @@ use Rattle.std.proofs.Common.{◌≡◌, ℕ, ◌+◌, ◌-◌, List, ◌++◌, 
 use Rattle.std.specs.List.{flat_map}
 use Rattle.std.proofs.lemmas.List.{append_assoc, take-append-drop}
 use Rattle.std.proofs.lemmas.List.Concat.{flat_map-append}
-use Rattle.page_core.proofs.Pieces.{grow}
+use Rattle.page_core.proofs.Public.{grow}
 
 -- the items of a group
 abbrev pub group : {X : Type 0} → List X → ℕ → ℕ → List X

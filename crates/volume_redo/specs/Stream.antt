@@ -6,7 +6,7 @@ use Rattle.page_core.specs.FaultName.{fault_line, fault_line_with}
 use Rattle.page_core.specs.declared.fault_name.FaultName.TheVariants as name
 use Rattle.log_store.specs.declared.fault.LogReadFault.{LogReadFault}
 use Rattle.log_store.specs.declared.fault.LogReadFault.TheVariants as log
-use Rattle.log_history.specs.Linked.{IsLinked}
+use Rattle.log_rules.specs.Linked.{IsLinked}
 use Rattle.log_records.specs.Log.{Log, IsLog, SpellsLog, page_count}
 use Rattle.log_records.specs.Image.{redo_all}
 use Rattle.log_store.specs.Fault.{Refuses, GaveNoFault}

@@ -1,8 +1,8 @@
 //! Losers that are found from the last checkpoint on, and redo of each page by a list of its own,
 //! compared with what a second reader finds from a log's start.
 
-ghost use Rattle.log_history.specs.Checkpoint.{IsCompleteCheckpoint};
-ghost use Rattle.log_history.specs.Linked.{IsLinked};
+ghost use Rattle.log_rules.specs.Checkpoint.{IsCompleteCheckpoint};
+ghost use Rattle.log_rules.specs.Linked.{IsLinked};
 ghost use Rattle.std.specs.Prelude.{◌≡◌};
 
 use super::retired;
@@ -13,7 +13,6 @@ use crate::engine::{failing_device, failing_store};
 use crate::rows;
 use aries_core::{Answer, Engine, Event, Setup};
 use copy_coverage::Retired;
-use log_history::Losers;
 use log_records::Record;
 use log_store::{LogImage, Master};
 use loser_undo::losers;
@@ -21,6 +20,7 @@ use page_core::{Lsn, Page, PageNo, SlotNo, TxnNo, formatted_pages};
 use page_redo::{by_page, redo_by_page};
 use std::process::Abort;
 use std::thread::Threads;
+use txn_table::Losers;
 
 /// The last checkpoint of what an engine left.
 fn master_of(rt: &impl Abort, retired: &Retired) -> Master

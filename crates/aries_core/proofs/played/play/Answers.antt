@@ -1,18 +1,18 @@
 use Rattle.std.proofs.Common.{refl, rules, ◌≡◌, ◌<◌, ◌+◌, length, [], ◌∷◌, ◌++◌, arith, take, take_all, subst, sym, ap, ◌∙◌}
 use Rattle.std.specs.Prelude.{Result, Ok, Err, IfErr, IsErrAnd}
 use Rattle.std.proofs.lemmas.List.{length-take, take_more}
-use Rattle.aries_core.specs.declared.event.Event.{Event}
-use Rattle.aries_core.specs.EngineState.{IsFit, EngineView, new_state}
-use Rattle.aries_core.specs.Step.{IsByDevice, IsByStore}
-use Rattle.aries_core.proofs.Calls.{work_of_run}
-use Rattle.aries_core.proofs.Catalogues.{copies_of_run}
-use Rattle.aries_core.proofs.FrameCounts.{frames_of_run}
-use Rattle.aries_core.proofs.PageLaws.{written_of_run}
-use Rattle.aries_core.proofs.Plays.{by_device, by_store, call_on, left_sound, plays_push, run_push, tells_push}
-use Rattle.aries_core.proofs.Plays.{within_push}
+use Rattle.engine_calls.specs.declared.event.Event.{Event}
+use Rattle.engine_rules.specs.EngineState.{IsFit, EngineView, new_state}
+use Rattle.engine_rules.specs.Step.{IsByDevice, IsByStore}
+use Rattle.engine_rules.proofs.Public.{work_of_run}
+use Rattle.engine_rules.proofs.Public.{copies_of_run}
+use Rattle.engine_rules.proofs.Public.{frames_of_run}
+use Rattle.engine_rules.proofs.Public.{written_of_run}
+use Rattle.engine_rules.proofs.Public.{by_device, by_store, call_on, left_sound, plays_push, run_push, tells_push}
+use Rattle.engine_rules.proofs.Public.{within_push}
 use Rattle.aries_core.proofs.played.play.Invariants.{given_storage}
-use Rattle.aries_core.proofs.CkptLaws.{new_is_sized}
-use Rattle.aries_core.specs.CkptReplies.{new_size}
+use Rattle.engine_rules.proofs.Public.{new_is_sized}
+use Rattle.engine_rules.specs.CkptReplies.{new_size}
 use Rattle.aries_core.proofs.played.play.Goals as goal
 
 pub loop-event-preserved : goal.loop-event-preserved

@@ -2,11 +2,11 @@ use Rattle.std.proofs.Common.{◌≡◌, ◌<◌, ◌≤◌, length, take, vec_l
 use Rattle.std.specs.Prelude.{All}
 use Rattle.std.specs.Vec.{vec_capacity}
 use Rattle.log_records.specs.Log.{lsn_of}
-use Rattle.aries_core.specs.EngineState.{new_state}
-use Rattle.aries_core.specs.Run.{Run}
-use Rattle.aries_core.specs.Step.{IsByDevice, IsByStore, IsFaultReply}
-use Rattle.aries_core.specs.Storage.{PlaysOn, Storage}
-use Rattle.aries_core.proofs.Plays.{Tells}
+use Rattle.engine_rules.specs.EngineState.{new_state}
+use Rattle.engine_rules.specs.Run.{Run}
+use Rattle.engine_rules.specs.Step.{IsByDevice, IsByStore, IsFaultReply}
+use Rattle.engine_rules.specs.Storage.{PlaysOn, Storage}
+use Rattle.engine_rules.proofs.Public.{Tells}
 use Rattle.aries_core.proofs.played.play.Given as goal
 
 -- what is seen of the store and the device

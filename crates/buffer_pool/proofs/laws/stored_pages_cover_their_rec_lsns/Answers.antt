@@ -1,5 +1,5 @@
 use Rattle.std.proofs.Common.{◌∙◌, get_or, sym}
-use Rattle.log_records.proofs.Coverage.{clean_is_image, dirty_covers}
+use Rattle.log_records.proofs.Public.{clean_is_image, dirty_covers}
 use Rattle.buffer_pool.specs.Pool.{unwritten, state_at}
 use Rattle.buffer_pool.proofs.Pools.{reached}
 use Rattle.buffer_pool.proofs.laws.stored_pages_cover_their_rec_lsns.Goals as goal

@@ -1,5 +1,5 @@
 use Rattle.std.proofs.Common.{◌∙◌, map}
-use Rattle.page_core.proofs.Inputs.{if_err, on_ok}
+use Rattle.page_core.proofs.Public.{if_err, on_ok}
 use Rattle.copy_vault.specs.ChainRead.{place_list}
 use Rattle.copy_vault.proofs.ChainSteps.{at_hand, hands_row, row_given}
 use Rattle.copy_vault.proofs.cursors.give_each.Goals as goal

@@ -1,5 +1,5 @@
 use Rattle.std.proofs.Common.{map, subst, arith}
-use Rattle.page_core.proofs.Inputs.{if_err, on_ok}
+use Rattle.page_core.proofs.Public.{if_err, on_ok}
 use Rattle.copy_vault.specs.ChainRead.{AreRead}
 use Rattle.copy_vault.proofs.ChainSteps.{first_moment, all_on, on_later}
 use Rattle.copy_vault.proofs.cursors.read_first.Goals as goal

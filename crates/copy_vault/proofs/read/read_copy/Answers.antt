@@ -4,7 +4,7 @@ use Rattle.std.proofs.KnownBytes.{Consumes-trans}
 use Rattle.std.proofs.lemmas.List.{append-nil}
 use Rattle.std.proofs.lemmas.Result.{err_from_is_err_and}
 use Rattle.page_core.specs.declared.page.Page.{Page}
-use Rattle.page_core.proofs.Inputs.{of_all, of_input, of_rest}
+use Rattle.page_core.proofs.Public.{of_all, of_input, of_rest}
 use Rattle.copy_vault.specs.declared.archive_fault.ArchiveFault.TheVariants.{BadArchive}
 use Rattle.copy_vault.specs.Copy.{CopyView, IsComplete, PageDecision}
 use Rattle.copy_vault.specs.Archive.{SpellsCopy, front_bytes, header_bytes}

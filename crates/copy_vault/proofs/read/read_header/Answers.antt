@@ -3,7 +3,7 @@ use Rattle.std.specs.Io.KnownBytes.{Consumes}
 use Rattle.std.proofs.lemmas.List.{length-take, take_all}
 use Rattle.copy_vault.specs.declared.archive_fault.ArchiveFault.TheVariants.{BadArchive}
 use Rattle.copy_vault.specs.ArchiveFault.{Refuses}
-use Rattle.page_core.proofs.Inputs.{of_input}
+use Rattle.page_core.proofs.Public.{of_input}
 use Rattle.copy_vault.proofs.ArchiveReads.{refuses_short, holds_none_short}
 use Rattle.copy_vault.proofs.read.read_header.Goals as goal
 

@@ -4,7 +4,7 @@ use Rattle.std.specs.Io.KnownBytes.{Consumes}
 use Rattle.std.proofs.lemmas.List.{append_assoc, append-nil, nil_from_length, length-take, length-drop, length-append}
 use Rattle.std.proofs.lemmas.List.{take-append-drop}
 use Rattle.std.proofs.lemmas.Result.{err_from_is_err_and}
-use Rattle.page_core.proofs.Inputs.{of_input, if_err, on_ok}
+use Rattle.page_core.proofs.Public.{of_input, if_err, on_ok}
 use Rattle.copy_vault.specs.declared.archive_fault.ArchiveFault.TheVariants.{CountDiffers}
 use Rattle.copy_vault.specs.Copy.{taken_count, taken_pages}
 use Rattle.copy_vault.specs.Archive.{header_bytes}

@@ -1,7 +1,7 @@
 use Rattle.std.proofs.Common.{◌≡◌, ◌<◌, ap, sym, arith, ◌∙◌}
 use Rattle.page_core.specs.PageCounts.{PageCounts, count_below}
 use Rattle.log_records.specs.Log.{counts_of}
-use Rattle.log_records.proofs.PageCounts.{count_below-counts_of}
+use Rattle.log_records.proofs.Public.{count_below-counts_of}
 use Rattle.engine_restart.proofs.Beginnings.{begins}
 use Rattle.engine_restart.proofs.copy_check.begins_in.Goals as goal
 

@@ -1,6 +1,6 @@
 use Rattle.std.proofs.Common.{◌≡◌, length, take, sym, subst, ◌∙◌}
 use Rattle.log_records.specs.Log.{Log, format_in, log_bytes, lsn_of}
-use Rattle.log_records.proofs.Logs.{format_in-header}
+use Rattle.log_records.proofs.Public.{format_in-header}
 use Rattle.page_core.specs.declared.format.Format.TheVariants.{Second}
 use Rattle.engine_restart.proofs.Founds.{header_in_front, in_second, none_some}
 use Rattle.engine_restart.proofs.found.log_in.Goals as goal

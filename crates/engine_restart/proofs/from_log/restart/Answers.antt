@@ -2,7 +2,7 @@ use Rattle.std.proofs.Common.{ap, refl, sym, ◌∙◌}
 use Rattle.page_core.specs.Volume.{formatted_pages}
 use Rattle.log_records.specs.Image.{redo_all}
 use Rattle.log_records.specs.Log.{Log, page_count}
-use Rattle.loser_undo.proofs.Pages.{undone_count}
+use Rattle.loser_undo.proofs.Public.{undone_count}
 use Rattle.engine_restart.proofs.Appending.{stays}
 use Rattle.engine_restart.proofs.Restarts.{all_committed, restarted_alone}
 use Rattle.engine_restart.proofs.from_log.restart.Goals as goal

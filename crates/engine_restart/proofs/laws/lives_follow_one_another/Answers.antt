@@ -1,4 +1,4 @@
-use Rattle.aries_core.specs.EngineState.{log_of}
+use Rattle.engine_rules.specs.EngineState.{log_of}
 use Rattle.engine_restart.proofs.Lives.{commits_stand, last_of, lost_fit, numbers_committed}
 use Rattle.engine_restart.specs.Lives.{last_life}
 use Rattle.engine_restart.proofs.laws.lives_follow_one_another.Goals as goal

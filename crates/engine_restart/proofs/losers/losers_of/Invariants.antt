@@ -1,5 +1,5 @@
 use Rattle.std.proofs.Common.{◌≡◌, take}
-use Rattle.log_history.specs.Table.{table_of}
+use Rattle.log_rules.specs.Table.{table_of}
 use Rattle.engine_restart.proofs.losers.losers_of.Given as goal
 
 -- the records so far are noted

@@ -2,7 +2,7 @@ use Rattle.std.proofs.Common.{List, [], ◌∷◌, append-nil, length, ap, subst
 use Rattle.log_records.specs.declared.record.Record.{Record}
 use Rattle.log_records.specs.Log.{Log, lsn_of, with_next}
 use Rattle.loser_undo.specs.UndoRecords.{HasYielded, UndoView}
-use Rattle.loser_undo.proofs.Undoing.{nothing_yet}
+use Rattle.loser_undo.proofs.Public.{nothing_yet}
 use Rattle.engine_restart.proofs.Appending.{MayBeAppended, all_appended, has_lasting, next_appended, next_may, stays}
 use Rattle.engine_restart.proofs.undo_on_log.append_all.Goals as goal
 

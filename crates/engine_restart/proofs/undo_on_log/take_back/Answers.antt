@@ -1,9 +1,9 @@
 use Rattle.std.proofs.Common.{◌≡◌, ◌+◌, ◌≤◌, ◌<◌, ℕ, length, refl, ap, sym, subst, arith, ◌∙◌}
 use Rattle.log_records.specs.declared.record.Record.{Record}
-use Rattle.log_history.specs.Transactions.{owed}
+use Rattle.log_rules.specs.Transactions.{owed}
 use Rattle.loser_undo.specs.Losers.{AreLosersOf, losers_of}
-use Rattle.loser_undo.proofs.Appends.{owed_few}
-use Rattle.loser_undo.proofs.Held.{owed_of}
+use Rattle.loser_undo.proofs.Public.{owed_few}
+use Rattle.loser_undo.proofs.Public.{owed_of}
 use Rattle.engine_restart.proofs.Appending.{stays}
 use Rattle.engine_restart.proofs.undo_on_log.take_back.Goals as goal
 

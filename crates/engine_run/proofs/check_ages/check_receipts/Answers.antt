@@ -4,8 +4,8 @@ use Rattle.std.proofs.lemmas.List.{take_all}
 use Rattle.settlement.specs.Receipt.{times, written}
 use Rattle.settlement.specs.Sessions.{all_receipts}
 use Rattle.settlement.specs.declared.receipt.Receipt.{Receipt}
-use Rattle.settlement.proofs.Marking.{times-append}
-use Rattle.settlement.proofs.Sessions.{all_more, times_sessions}
+use Rattle.settlement.proofs.Public.{times-append}
+use Rattle.settlement.proofs.Public.{all_more, times_sessions}
 use Rattle.engine_run.proofs.check_ages.check_receipts.Goals as goal
 
 pub returns-in-Err-clause-err : goal.returns-in-Err-clause-err

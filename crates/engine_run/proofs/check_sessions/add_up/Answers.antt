@@ -1,7 +1,7 @@
 use Rattle.std.proofs.Common.{◌≡◌, ap, arith, drop, ◌∙◌}
 use Rattle.std.specs.List.{sum_by}
 use Rattle.settlement.specs.Counts.{changes_in, updates_in}
-use Rattle.settlement.proofs.Changed.{updates_split}
+use Rattle.settlement.proofs.Public.{updates_split}
 use Rattle.engine_run.proofs.check_sessions.add_up.Goals as goal
 
 pub returns-clause-yes : goal.returns-clause-yes

@@ -5,7 +5,7 @@ use Rattle.settlement.specs.Receipt.{written}
 use Rattle.settlement.specs.Session.{AllStand}
 use Rattle.settlement.specs.Sessions.{all_receipts}
 use Rattle.settlement.specs.declared.receipt.Receipt.{Receipt}
-use Rattle.settlement.proofs.Sessions.{all_more, wrong_in}
+use Rattle.settlement.proofs.Public.{all_more, wrong_in}
 use Rattle.engine_run.proofs.check_sessions.check_sessions.Goals as goal
 
 pub returns-in-Err-clause-err : goal.returns-in-Err-clause-err

@@ -3,7 +3,7 @@ use Rattle.std.specs.List.{All, filter_map}
 use Rattle.std.proofs.lemmas.List.{append_assoc, take_all}
 use Rattle.std.proofs.lemmas.List.Elements.{All-more}
 use Rattle.settlement.specs.Sessions.{AreApart}
-use Rattle.settlement.proofs.Sessions.{marked_apart}
+use Rattle.settlement.proofs.Public.{marked_apart}
 use Rattle.engine_run.specs.Given.{AreGiven}
 use Rattle.engine_run.specs.Settled.{WorkStands, begin_of, copies_of, copy_of, evidence}
 use Rattle.engine_run.specs.declared.work.Work.{Work}

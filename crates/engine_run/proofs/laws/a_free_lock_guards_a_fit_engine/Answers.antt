@@ -1,4 +1,4 @@
-use Rattle.aries_core.specs.EngineState.{IsFit, log_of}
+use Rattle.engine_rules.specs.EngineState.{IsFit, log_of}
 use Rattle.engine_run.proofs.laws.a_free_lock_guards_a_fit_engine.Goals as goal
 
 pub returns-clause-restores : goal.returns-clause-restores

@@ -3,7 +3,7 @@ use Rattle.std.specs.List.{filter_map}
 use Rattle.log_records.specs.Log.{lsn_of}
 use Rattle.settlement.specs.Receipt.{written}
 use Rattle.settlement.specs.Sessions.{all_receipts}
-use Rattle.settlement.proofs.Changed.{one_receipt_each}
+use Rattle.settlement.proofs.Public.{one_receipt_each}
 use Rattle.engine_run.proofs.Told.{of_first, records_apart}
 use Rattle.engine_run.specs.Settled.{begin_of}
 use Rattle.engine_run.proofs.laws.each_change_was_answered_once.Goals as goal

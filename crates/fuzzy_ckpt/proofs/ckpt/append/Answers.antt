@@ -1,8 +1,8 @@
 use Rattle.std.proofs.Common.{◌∙◌, ◌∷◌, [], sym, ap, subst}
 use Rattle.log_records.specs.Log.{IsLog, Log, with_next}
-use Rattle.log_records.proofs.GivenNone.{checkpoint_gives_none}
-use Rattle.log_records.proofs.PageCounts.{more-none}
-use Rattle.log_history.proofs.AtEnd.{valid_next}
+use Rattle.log_records.proofs.Public.{checkpoint_gives_none}
+use Rattle.log_records.proofs.Public.{more-none}
+use Rattle.log_rules.proofs.Public.{valid_next}
 use Rattle.fuzzy_ckpt.proofs.ckpt.append.Goals as goal
 
 pub returns-clause-valid : goal.returns-clause-valid

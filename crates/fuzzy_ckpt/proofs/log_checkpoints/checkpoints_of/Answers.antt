@@ -6,9 +6,9 @@ use Rattle.log_records.specs.declared.record.Record.{Record}
 use Rattle.log_records.specs.Log.{lsn_of, page_count_at, page_count_below}
 use Rattle.log_records.specs.PageCount.{count_after, count_behind}
 use Rattle.log_records.specs.Record.{own_lsn}
-use Rattle.log_records.proofs.PageCounts.{count_behind-nil, count_behind-push}
-use Rattle.log_history.specs.Checkpoint.{checkpoint_after, open_checkpoint}
-use Rattle.log_history.specs.Linked.{MayFollow}
+use Rattle.log_records.proofs.Public.{count_behind-nil, count_behind-push}
+use Rattle.log_rules.specs.Checkpoint.{checkpoint_after, open_checkpoint}
+use Rattle.log_rules.specs.Linked.{MayFollow}
 use Rattle.fuzzy_ckpt.specs.LogCheckpoints.{IsLastPoint, gathered_of}
 use Rattle.fuzzy_ckpt.proofs.LastCkpts.{below_record, end_by_next, next_open}
 use Rattle.fuzzy_ckpt.proofs.log_checkpoints.checkpoints_of.Goals as goal

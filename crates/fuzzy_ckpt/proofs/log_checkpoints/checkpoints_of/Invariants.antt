@@ -1,7 +1,7 @@
 use Rattle.std.proofs.Common.{◌≡◌, take}
 use Rattle.std.specs.Option.{option_map}
 use Rattle.log_records.specs.Log.{page_count_at}
-use Rattle.log_history.specs.Checkpoint.{open_checkpoint}
+use Rattle.log_rules.specs.Checkpoint.{open_checkpoint}
 use Rattle.fuzzy_ckpt.specs.Ckpt.{gathered_ckpt}
 use Rattle.fuzzy_ckpt.specs.LogCheckpoints.{IsLastPoint, gathered_of}
 use Rattle.fuzzy_ckpt.proofs.log_checkpoints.checkpoints_of.Given as goal

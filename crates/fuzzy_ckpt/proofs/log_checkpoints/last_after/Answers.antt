@@ -4,8 +4,8 @@ use Rattle.std.specs.Option.{option_map}
 use Rattle.log_records.specs.declared.record.Record.{Record}
 use Rattle.log_records.specs.declared.record.Record.TheVariants.{EndChkpt}
 use Rattle.log_records.specs.Record.{own_lsn}
-use Rattle.log_history.specs.Checkpoint.{open_checkpoint}
-use Rattle.log_history.specs.Linked.{HasOldTxns, MayFollow}
+use Rattle.log_rules.specs.Checkpoint.{open_checkpoint}
+use Rattle.log_rules.specs.Linked.{HasOldTxns, MayFollow}
 use Rattle.fuzzy_ckpt.specs.Ckpt.{gathered_ckpt}
 use Rattle.fuzzy_ckpt.specs.LogCheckpoints.{EndBy, IsLastPoint}
 use Rattle.fuzzy_ckpt.proofs.LastCkpts.{last_end, last_other, open_pages}

@@ -4,7 +4,7 @@ use Rattle.page_core.specs.declared.page.Page.{Page}
 use Rattle.log_records.specs.Image.{AreNumbered, with_record}
 use Rattle.log_records.specs.Log.{IsWithin}
 use Rattle.loser_undo.specs.UndoRecords.{UndoView}
-use Rattle.loser_undo.proofs.Undoing.{IsOnWay, next_counted, next_on_way, next_within, still_numbered, way_begins, way_ends}
+use Rattle.loser_undo.proofs.Public.{IsOnWay, next_counted, next_on_way, next_within, still_numbered, way_begins, way_ends}
 use Rattle.log_changes.proofs.page_undo.undo_open.Goals as goal
 
 pub loop-next-init : goal.loop-next-init

@@ -2,7 +2,7 @@ use Rattle.std.proofs.Common.{◌-◌, List}
 use Rattle.log_records.specs.declared.limits.TheConstants.{MAX_RECORDS}
 use Rattle.log_records.specs.declared.record.Record.{Record}
 use Rattle.log_records.specs.Log.{Log}
-use Rattle.loser_undo.proofs.Undoing.{IsOnWay}
+use Rattle.loser_undo.proofs.Public.{IsOnWay}
 use Rattle.log_changes.specs.Undo.{IsToUndo}
 use Rattle.log_changes.proofs.page_undo.undo_open.Given as goal
 

@@ -1,7 +1,7 @@
 use Rattle.std.proofs.Common.{ap, ◌∙◌}
 use Rattle.log_records.specs.Log.{Log}
 use Rattle.log_front.specs.Front.{IsFrontOf}
-use Rattle.log_store.proofs.Inputs.{at_some}
+use Rattle.log_store.proofs.Public.{at_some}
 use Rattle.log_front.proofs.Cuts.{same_found}
 use Rattle.log_front.proofs.front.read_front.Goals as goal
 

@@ -2,7 +2,7 @@ use Rattle.std.proofs.Common.{◌∙◌}
 use Rattle.std.proofs.lemmas.Result.{err_from_is_err_and}
 use Rattle.log_records.specs.Log.{SpellsLog}
 use Rattle.log_store.specs.Fault.{Refuses}
-use Rattle.log_records.proofs.Logs.{same_log}
+use Rattle.log_records.proofs.Public.{same_log}
 use Rattle.log_store.proofs.Inputs.{at_some, only_outside}
 use Rattle.log_store.proofs.read.read_log.Goals as goal
 

@@ -7,7 +7,7 @@ use Rattle.log_store.specs.declared.fault.LogReadFault.TheVariants.{BadHeader}
 use Rattle.log_records.specs.Log.{SpellsLog, header_in}
 use Rattle.log_store.specs.Fault.{Refuses, IsHeader}
 use Rattle.log_store.proofs.Faults.{first_header}
-use Rattle.page_core.proofs.Inputs.{known_more}
+use Rattle.page_core.proofs.Public.{known_more}
 use Rattle.log_store.proofs.Inputs.{of_input, goes_on_header}
 use Rattle.log_store.proofs.Scans.{of_rest, of_all, gave_more, taken_none}
 use Rattle.log_store.proofs.scan.scan_log.Goals as goal

@@ -1,6 +1,6 @@
 use Rattle.std.proofs.Common.{rules, ℕ, refl, subst, arith}
 use Rattle.log_records.specs.Log.{IsWithin, page_count}
-use Rattle.log_history.proofs.Followed.{gives_more, made_next, may_come, may_follow}
+use Rattle.log_rules.proofs.Public.{gives_more, made_next, may_come, may_follow}
 use Rattle.log_store.proofs.Scans.{pages_are, taken_bad_chain, taken_next, valid_with}
 use Rattle.log_records.specs.Record.{record_bytes}
 use Rattle.log_store.proofs.scan.take_found.Goals as goal

@@ -6,7 +6,7 @@ use Rattle.page_core.specs.declared.format.Format.{Format}
 use Rattle.log_records.specs.declared.record.Record.{Record}
 use Rattle.log_records.specs.Log.{IsOfFormat, Log, StandsAt}
 use Rattle.log_records.specs.Record.{record_bytes}
-use Rattle.log_history.specs.History.{Made}
+use Rattle.log_rules.specs.History.{Made}
 use Rattle.log_store.specs.declared.fault.LogReadFault.{LogReadFault}
 use Rattle.log_store.specs.Fault.{Refuses}
 use Rattle.log_store.specs.Scan.{HasTaken}

@@ -1,5 +1,5 @@
 use Rattle.std.proofs.Common.{◌≡◌, ◌∙◌, ap, sym}
-use Rattle.log_history.specs.Transactions.{is_rolling}
+use Rattle.log_rules.specs.Transactions.{is_rolling}
 use Rattle.loser_undo.specs.Losers.{before_comp}
 use Rattle.loser_undo.proofs.Traced.{comp_earlier, to_abort_end, to_abort_more, to_abort_stands}
 use Rattle.loser_undo.proofs.trace.is_rolling.Goals as goal

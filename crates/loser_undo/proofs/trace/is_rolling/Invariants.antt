@@ -1,5 +1,5 @@
 use Rattle.std.proofs.Common.{ℕ, List}
-use Rattle.log_history.specs.Transactions.{is_rolling}
+use Rattle.log_rules.specs.Transactions.{is_rolling}
 use Rattle.loser_undo.specs.Losers.{LeadsToAbort}
 use Rattle.loser_undo.proofs.trace.is_rolling.Given as goal
 

@@ -1,11 +1,11 @@
 use Rattle.std.proofs.Common.{◌≡◌, ◌∙◌, ◌++◌, ap, sym, subst, List, reverse}
 use Rattle.std.specs.Option.{option_to_list}
 use Rattle.std.proofs.lemmas.List.{reverse-reverse}
-use Rattle.log_history.specs.OpenEntry.{changes_of}
-use Rattle.log_history.specs.Pending.{Pending}
-use Rattle.log_history.specs.declared.pending_change.PendingChange.{PendingChange}
+use Rattle.txn_table.specs.OpenEntry.{changes_of}
+use Rattle.txn_table.specs.Pending.{Pending}
+use Rattle.log_rules.specs.declared.pending_change.PendingChange.{PendingChange}
 use Rattle.log_records.specs.declared.record.Record.{Record}
-use Rattle.log_history.specs.Transactions.{first_lsn, pending}
+use Rattle.log_rules.specs.Transactions.{first_lsn, pending}
 use Rattle.loser_undo.specs.Losers.{change_by}
 use Rattle.loser_undo.proofs.Traced.{IsFound, map_reverse, found_all, found_more, leads_stands, next_earlier}
 use Rattle.loser_undo.proofs.trace.pending_of.Goals as goal

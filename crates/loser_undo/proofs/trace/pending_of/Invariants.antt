@@ -1,6 +1,6 @@
 use Rattle.std.specs.Prelude.{reverse}
-use Rattle.log_history.specs.OpenEntry.{changes_of}
-use Rattle.log_history.specs.Transactions.{first_lsn, pending}
+use Rattle.txn_table.specs.OpenEntry.{changes_of}
+use Rattle.log_rules.specs.Transactions.{first_lsn, pending}
 use Rattle.loser_undo.proofs.Traced.{IsFound}
 use Rattle.loser_undo.proofs.trace.pending_of.Given as goal
 

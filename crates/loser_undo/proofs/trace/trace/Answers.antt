@@ -1,7 +1,7 @@
 use Rattle.std.proofs.Common.{◌≡◌, ◌∙◌, sym, subst}
-use Rattle.log_history.specs.OpenEntry.{changes_of}
-use Rattle.log_history.specs.Table.{TxnEntry, entry_of}
-use Rattle.log_history.specs.Transactions.{first_lsn, is_rolling}
+use Rattle.txn_table.specs.OpenEntry.{changes_of}
+use Rattle.log_rules.specs.Table.{TxnEntry, entry_of}
+use Rattle.log_rules.specs.Transactions.{first_lsn, is_rolling}
 use Rattle.loser_undo.specs.Losers.{Leads, LeadsToAbort}
 use Rattle.loser_undo.proofs.Traced.{all_traced}
 use Rattle.loser_undo.proofs.trace.trace.Goals as goal

@@ -4,9 +4,9 @@ use Rattle.page_core.specs.Volume.{AreNumbered}
 use Rattle.log_records.specs.Image.{image_from}
 use Rattle.log_records.specs.Log.{IsLog, Log, page_count}
 use Rattle.loser_undo.proofs.Pages.{undone_count}
-use Rattle.log_records.proofs.Images.{numbered-images}
-use Rattle.log_history.specs.Linked.{IsLinked}
-use Rattle.log_history.specs.Transactions.{open_in}
+use Rattle.log_records.proofs.Public.{numbered-images}
+use Rattle.log_rules.specs.Linked.{IsLinked}
+use Rattle.log_rules.specs.Transactions.{open_in}
 use Rattle.loser_undo.specs.Undo.{after_undo}
 use Rattle.loser_undo.proofs.Valid.{undo_closes, undo_is_linked, undone_fits}
 use Rattle.loser_undo.proofs.undone.finish.Goals as goal

@@ -1,4 +1,4 @@
-use Rattle.copy_audit.proofs.Audits.{covering_of_audited}
+use Rattle.copy_audit.proofs.Public.{covering_of_audited}
 use Rattle.media_restore.proofs.Audits.{sound_of_audited}
 use Rattle.media_restore.proofs.audit_laws.an_audited_chain_restores_the_log.Goals as goal
 

@@ -3,7 +3,7 @@ use Rattle.std.proofs.KnownBytes.{Consumes-nil}
 use Rattle.std.proofs.lemmas.List.{length-take}
 use Rattle.log_store.specs.declared.master.Master.{Master}
 use Rattle.log_store.specs.Master.{SpellsMaster}
-use Rattle.page_core.proofs.Inputs.{always_ok, if_err, of_input}
+use Rattle.page_core.proofs.Public.{always_ok, if_err, of_input}
 use Rattle.media_restore.specs.FilesStop.{FailsInMaster}
 use Rattle.media_restore.proofs.Masters.{IsFoundIn, found_at_end, none_at_end, none_begins, none_in_nothing}
 use Rattle.media_restore.proofs.Masters.{still_open, still_short}

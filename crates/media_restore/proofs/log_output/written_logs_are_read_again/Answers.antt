@@ -1,6 +1,6 @@
 use Rattle.std.proofs.Common.{subst}
 use Rattle.log_records.specs.Log.{SpellsLog, log_bytes}
-use Rattle.log_records.proofs.Logs.{same_log}
+use Rattle.log_records.proofs.Public.{same_log}
 use Rattle.media_restore.proofs.WithLog.{spelled_log}
 use Rattle.media_restore.proofs.log_output.written_logs_are_read_again.Goals as goal
 

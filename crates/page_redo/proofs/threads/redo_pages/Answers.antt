@@ -5,7 +5,7 @@ use Rattle.std.proofs.lemmas.List.FromFn.{length-map-range_with_len}
 use Rattle.log_records.specs.declared.record.Record.{Record}
 use Rattle.log_records.specs.Coverage.{resume}
 use Rattle.log_records.specs.Log.{Log}
-use Rattle.log_records.proofs.PageCounts.{page_count-is_count}
+use Rattle.log_records.proofs.Public.{page_count-is_count}
 use Rattle.page_redo.specs.PageRecords.{numbers_on}
 use Rattle.page_redo.proofs.Volumes.{resumed_behind, valid_of}
 use Rattle.page_redo.proofs.threads.redo_pages.Goals as goal

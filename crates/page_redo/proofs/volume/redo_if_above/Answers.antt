@@ -4,7 +4,7 @@ use Rattle.log_records.specs.declared.page_change.PageChange.{PageChange}
 use Rattle.log_records.specs.Record.{change_of}
 use Rattle.log_records.specs.Image.{with_record}
 use Rattle.page_redo.specs.Redo.{is_above, redone_by}
-use Rattle.log_records.proofs.Changes.{change_within}
+use Rattle.log_records.proofs.Public.{change_within}
 use Rattle.page_redo.proofs.Volumes.{none_redone, one_redone}
 use Rattle.page_redo.proofs.volume.redo_if_above.Goals as goal
 

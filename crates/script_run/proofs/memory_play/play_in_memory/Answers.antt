@@ -2,12 +2,12 @@ use Rattle.std.proofs.Common.{◌≡◌, ℕ, ◌+◌, ◌<◌, ◌++◌, ◌∙
 use Rattle.std.specs.Prelude.{Result, Ok, Err, IfErr}
 use Rattle.std.proofs.lemmas.List.{length-take, take_more}
 use Rattle.std.proofs.lemmas.List.Elements.{All-nil, All-push}
-use Rattle.aries_core.specs.declared.event.Answer.{Answer}
-use Rattle.aries_core.specs.declared.event.Event.{Event}
-use Rattle.aries_core.specs.declared.refusal.Refusal.{Refusal}
-use Rattle.aries_core.specs.EngineState.{new_state}
-use Rattle.aries_core.specs.Step.{IsByDevice, IsByStore, IsFaultReply}
-use Rattle.aries_core.proofs.Plays.{run_push, within_push}
+use Rattle.engine_calls.specs.declared.event.Answer.{Answer}
+use Rattle.engine_calls.specs.declared.event.Event.{Event}
+use Rattle.engine_calls.specs.declared.refusal.Refusal.{Refusal}
+use Rattle.engine_rules.specs.EngineState.{new_state}
+use Rattle.engine_rules.specs.Step.{IsByDevice, IsByStore, IsFaultReply}
+use Rattle.engine_rules.proofs.Public.{run_push, within_push}
 use Rattle.event_script.specs.Reply.{line_of_reply}
 use Rattle.script_run.specs.PageLines.{ended}
 use Rattle.script_run.proofs.Faultless.{faultless, lines_push}

@@ -2,11 +2,11 @@ use Rattle.std.proofs.Common.{◌≡◌, ◌+◌, ◌*◌, List, length, take}
 use Rattle.std.specs.Prelude.{All, Result}
 use Rattle.std.specs.String.{string_bytes}
 use Rattle.page_core.specs.declared.numbers.TheConstants.{LSN_STEP}
-use Rattle.aries_core.specs.declared.event.Answer.{Answer}
-use Rattle.aries_core.specs.declared.refusal.Refusal.{Refusal}
-use Rattle.aries_core.specs.EngineState.{new_state}
-use Rattle.aries_core.specs.Run.{Run}
-use Rattle.aries_core.specs.Step.{IsByDevice, IsByStore, IsFaultReply}
+use Rattle.engine_calls.specs.declared.event.Answer.{Answer}
+use Rattle.engine_calls.specs.declared.refusal.Refusal.{Refusal}
+use Rattle.engine_rules.specs.EngineState.{new_state}
+use Rattle.engine_rules.specs.Run.{Run}
+use Rattle.engine_rules.specs.Step.{IsByDevice, IsByStore, IsFaultReply}
 use Rattle.script_run.specs.ReplyLines.{reply_lines}
 use Rattle.script_run.proofs.memory_play.play_in_memory.Given as goal
 

@@ -1,8 +1,8 @@
 use Rattle.std.proofs.Common.{ℕ, ◌∙◌, List, subst}
 use Rattle.script_run.specs.Run.{LeavesPart}
-use Rattle.aries_core.specs.declared.event.Event.{Event}
-use Rattle.aries_core.specs.EngineState.{new_state}
-use Rattle.aries_core.specs.Run.{Run}
+use Rattle.engine_calls.specs.declared.event.Event.{Event}
+use Rattle.engine_rules.specs.EngineState.{new_state}
+use Rattle.engine_rules.specs.Run.{Run}
 use Rattle.script_run.proofs.Runs.{not_written, script_of, was_read}
 use Rattle.script_run.proofs.run.run_script.Goals as goal
 

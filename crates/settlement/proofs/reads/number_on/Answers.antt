@@ -2,7 +2,7 @@ use Rattle.std.proofs.Common.{◌≡◌, ◌∙◌, ◌<◌, ◌≤◌, ap, sym,
 use Rattle.std.specs.Option.{is_some}
 use Rattle.std.proofs.lemmas.Bool.{ltb-false, ltb-true}
 use Rattle.page_core.specs.declared.page.Page.{Page}
-use Rattle.log_history.proofs.Followed.{number_of_volume}
+use Rattle.log_rules.proofs.Public.{number_of_volume}
 use Rattle.settlement.proofs.Below.{number_outside, number_past}
 use Rattle.settlement.proofs.reads.number_on.Goals as goal
 

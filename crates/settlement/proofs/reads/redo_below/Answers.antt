@@ -3,7 +3,7 @@ use Rattle.page_core.specs.Volume.{AreNumbered}
 use Rattle.log_records.specs.declared.record.Record.{Record}
 use Rattle.log_records.specs.Image.{redo_all, with_record}
 use Rattle.log_records.specs.Log.{IsWithin}
-use Rattle.log_records.proofs.Images.{length-redo_all, numbered-redo_all}
+use Rattle.log_records.proofs.Public.{length-redo_all, numbered-redo_all}
 use Rattle.settlement.proofs.Below.{redone_more, volume_within}
 use Rattle.settlement.proofs.reads.redo_below.Goals as goal
 

@@ -1,6 +1,6 @@
 use Rattle.std.proofs.Common.{◌≡◌, ◌≤◌, [], arith, subst, sym}
 use Rattle.page_core.specs.declared.page.Page.{Page}
-use Rattle.log_records.proofs.Images.{number-image}
+use Rattle.log_records.proofs.Public.{number-image}
 use Rattle.test_layers.proofs.devices.first_image.Goals as goal
 
 pub returns-clause-past : goal.returns-clause-past

@@ -1,5 +1,5 @@
 use Rattle.std.proofs.Common.{◌≡◌, ◌+◌, ◌≤◌, ◌∙◌, length, take, ap, sym, arith}
-use Rattle.log_history.specs.Transactions.{owed}
+use Rattle.log_rules.specs.Transactions.{owed}
 use Rattle.txn_table.specs.Returns.{returns_of}
 use Rattle.txn_table.proofs.NextRecords.{next_follows, room_next, table_next, with_next}
 use Rattle.txn_table.proofs.resumed.tables_of.Goals as goal

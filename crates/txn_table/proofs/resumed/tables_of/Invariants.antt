@@ -1,5 +1,5 @@
 use Rattle.std.proofs.Common.{◌≡◌, ◌+◌, ◌≤◌, ℕ, length, take}
-use Rattle.log_history.specs.Transactions.{owed}
+use Rattle.log_rules.specs.Transactions.{owed}
 use Rattle.txn_table.specs.Returns.{returns_of}
 use Rattle.txn_table.specs.TxnTable.{IsTableOf}
 use Rattle.txn_table.proofs.resumed.tables_of.Given as goal

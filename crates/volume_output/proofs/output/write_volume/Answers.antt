@@ -3,7 +3,7 @@ use Rattle.std.specs.Io.KnownBytes.{Appends}
 use Rattle.std.proofs.KnownBytes.{Appends-trans}
 use Rattle.std.proofs.lemmas.List.{length-append, length-take, length-drop}
 use Rattle.page_core.specs.Page.{page_bytes, volume_bytes}
-use Rattle.page_core.proofs.Pieces.{into}
+use Rattle.page_core.proofs.Public.{into}
 use Rattle.volume_output.proofs.Groups.{group, further, whole}
 use Rattle.volume_output.proofs.output.write_volume.Goals as goal
 

@@ -1,6 +1,6 @@
 use Rattle.std.proofs.Common.{◌≡◌, refl, ap, ◌∙◌}
-use Rattle.aries_core.specs.declared.event.Event.TheVariants as event
-use Rattle.aries_core.specs.EngineState.{EngineView, end}
+use Rattle.engine_calls.specs.declared.event.Event.TheVariants as event
+use Rattle.engine_rules.specs.EngineState.{EngineView, end}
 use Rattle.aries_core.proofs.engine.Engine.abort.Goals as goal
 
 pub append-requires-clause-called : goal.append-requires-clause-called

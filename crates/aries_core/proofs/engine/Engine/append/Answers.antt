@@ -2,14 +2,14 @@ use Rattle.std.proofs.Common.{◌≡◌, length, sym, ap, subst, ◌∙◌, arit
 use Rattle.std.specs.Prelude.{IfSome, Result, Ok, Err, OnOk, is_err, false}
 use Rattle.buffer_pool.specs.Frames.{IsResident}
 use Rattle.log_records.specs.Record.{change_of}
-use Rattle.log_records.proofs.GivenNone.{transaction_gives_none}
+use Rattle.log_records.proofs.Public.{transaction_gives_none}
 use Rattle.log_records.specs.Log.{Log, StandsAt, lsn_of}
 use Rattle.log_records.specs.Log.{page_count}
-use Rattle.aries_core.specs.Call.{Calls}
-use Rattle.aries_core.specs.EngineState.{EngineState, EngineView, IsConsistent, appended, engine_view, log_of}
+use Rattle.engine_rules.specs.Call.{Calls}
+use Rattle.engine_rules.specs.EngineState.{EngineState, EngineView, IsConsistent, appended, engine_view, log_of}
 use Rattle.aries_core.specs.OpenCkpt.{media_view}
 use Rattle.aries_core.proofs.Appends.{appended_is, kept_next, valid_with}
-use Rattle.aries_core.proofs.Fit.{comes, comes_few}
+use Rattle.engine_rules.proofs.Public.{comes, comes_few}
 use Rattle.aries_core.proofs.engine.Engine.append.Given as given
 use Rattle.aries_core.proofs.engine.Engine.append.Goals as goal
 

@@ -5,15 +5,15 @@ use Rattle.buffer_pool.specs.Frames.{fetched}
 use Rattle.buffer_pool.specs.Pool.{PoolView, is_clean, written_of}
 use Rattle.log_records.specs.Log.{Log, StandsAt, lsn_of}
 use Rattle.log_records.specs.Log.{page_count}
-use Rattle.log_records.proofs.GivenNone.{transaction_gives_none}
-use Rattle.aries_core.specs.Call.{Calls}
-use Rattle.aries_core.specs.EngineState.{EngineState, EngineView, appended, engine_view, log_of, with_page}
-use Rattle.aries_core.specs.EngineState.{volume_pages}
+use Rattle.log_records.proofs.Public.{transaction_gives_none}
+use Rattle.engine_rules.specs.Call.{Calls}
+use Rattle.engine_rules.specs.EngineState.{EngineState, EngineView, appended, engine_view, log_of, with_page}
+use Rattle.engine_rules.specs.EngineState.{volume_pages}
 use Rattle.aries_core.specs.OpenCkpt.{media_view}
 use Rattle.aries_core.proofs.Appends.{after_fetch, appended_is, valid_with}
-use Rattle.aries_core.specs.Asked.{Asks, FailsAsking, page_asked}
+use Rattle.engine_rules.specs.Asked.{Asks, FailsAsking, page_asked}
 use Rattle.aries_core.proofs.Asks.{asks_page, fails_asking, why_failed}
-use Rattle.aries_core.proofs.Fit.{comes, comes_few}
+use Rattle.engine_rules.proofs.Public.{comes, comes_few}
 use Rattle.aries_core.proofs.PoolStates.{fetched_is}
 use Rattle.aries_core.proofs.engine.Engine.append_fetching.Goals as goal
 use Rattle.aries_core.proofs.engine.Engine.append_fetching.Given as given

@@ -1,13 +1,13 @@
 use Rattle.std.proofs.Common.{◌≡◌, ℕ, sym, subst, inl, inr}
 use Rattle.std.specs.Prelude.{Result, Ok, Err, IfErr, MatchResult, OnErr, is_ok}
-use Rattle.aries_core.specs.declared.event.Answer.{Answer}
-use Rattle.aries_core.specs.declared.event.Event.{Event}
-use Rattle.aries_core.specs.declared.event.Event.TheVariants as event
-use Rattle.aries_core.specs.declared.refusal.Refusal.{Refusal}
-use Rattle.aries_core.specs.declared.refusal.Refusal.TheVariants.{CommitUnsure, LogFault}
-use Rattle.aries_core.specs.EngineState.{EngineState}
-use Rattle.aries_core.specs.Step.{Forces, IsAtRepair, IsByDevice, IsByStore, IsUnsure, Step, reply_of}
-use Rattle.aries_core.proofs.Refusals.{commit_not_by_device}
+use Rattle.engine_calls.specs.declared.event.Answer.{Answer}
+use Rattle.engine_calls.specs.declared.event.Event.{Event}
+use Rattle.engine_calls.specs.declared.event.Event.TheVariants as event
+use Rattle.engine_calls.specs.declared.refusal.Refusal.{Refusal}
+use Rattle.engine_calls.specs.declared.refusal.Refusal.TheVariants.{CommitUnsure, LogFault}
+use Rattle.engine_rules.specs.EngineState.{EngineState}
+use Rattle.engine_rules.specs.Step.{Forces, IsAtRepair, IsByDevice, IsByStore, IsUnsure, Step, reply_of}
+use Rattle.engine_rules.proofs.Public.{commit_not_by_device}
 use Rattle.aries_core.proofs.engine.Engine.apply.Goals as goal
 
 -- a call whose answer is put into another type fails as it did

@@ -2,10 +2,10 @@ use Rattle.std.proofs.Common.{◌≡◌, ◌<◌, Bool, true, false, length, ref
 use Rattle.std.specs.Prelude.{None, not}
 use Rattle.std.proofs.lemmas.Bool.{lt-leb}
 use Rattle.log_records.specs.declared.limits.TheConstants.{MAX_OPEN}
-use Rattle.log_history.specs.Transactions.{open_in}
-use Rattle.aries_core.specs.declared.event.Event.TheVariants as event
-use Rattle.aries_core.specs.EngineState.{EngineState, EngineView, end, next_txn}
-use Rattle.aries_core.specs.Refusal.{has_no_room, refusal}
+use Rattle.log_rules.specs.Transactions.{open_in}
+use Rattle.engine_calls.specs.declared.event.Event.TheVariants as event
+use Rattle.engine_rules.specs.EngineState.{EngineState, EngineView, end, next_txn}
+use Rattle.engine_rules.specs.Refusal.{has_no_room, refusal}
 use Rattle.aries_core.proofs.engine.Engine.begin.Goals as goal
 
 begin_none : (s : EngineState) → length (open_in s.log) < 64 → has_no_room s 3 ≡ false → refusal s event.Begin ≡ None

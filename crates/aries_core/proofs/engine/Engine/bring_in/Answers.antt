@@ -1,9 +1,9 @@
-use Rattle.aries_core.specs.EngineState.{volume_pages}
+use Rattle.engine_rules.specs.EngineState.{volume_pages}
 use Rattle.std.proofs.Common.{ap, arith}
 use Rattle.std.proofs.Common.{◌∙◌, subst, sym}
 use Rattle.page_core.specs.Page.{formatted}
-use Rattle.aries_core.specs.Asked.{Asks, FailsAsking, page_asked}
-use Rattle.aries_core.specs.EngineState.{EngineView, engine_view}
+use Rattle.engine_rules.specs.Asked.{Asks, FailsAsking, page_asked}
+use Rattle.engine_rules.specs.EngineState.{EngineView, engine_view}
 use Rattle.aries_core.specs.OpenCkpt.{media_view}
 use Rattle.aries_core.proofs.Asks.{asks_page, fails_asking, said, why_failed}
 use Rattle.aries_core.proofs.engine.Engine.bring_in.Goals as goal

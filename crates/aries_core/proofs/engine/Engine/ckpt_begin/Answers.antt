@@ -1,13 +1,13 @@
 use Rattle.std.proofs.Common.{◌≡◌, sym, ap, subst}
 use Rattle.std.specs.Prelude.{None, Ok, Some}
 use Rattle.fuzzy_ckpt.specs.Ckpt.{CkptView, Phase}
-use Rattle.aries_core.specs.declared.event.Answer.TheVariants as answer
-use Rattle.aries_core.specs.declared.event.Event.TheVariants as event
+use Rattle.engine_calls.specs.declared.event.Answer.TheVariants as answer
+use Rattle.engine_calls.specs.declared.event.Event.TheVariants as event
 use Rattle.aries_core.specs.declared.open_ckpt.OpenCkpt.TheVariants.{Pages}
-use Rattle.aries_core.specs.EngineState.{EngineView, engine_view}
+use Rattle.engine_rules.specs.EngineState.{EngineView, engine_view}
 use Rattle.aries_core.specs.OpenCkpt.{media_view}
-use Rattle.aries_core.specs.Refusal.{refusal}
-use Rattle.aries_core.specs.Step.{Step}
+use Rattle.engine_rules.specs.Refusal.{refusal}
+use Rattle.engine_rules.specs.Step.{Step}
 use Rattle.aries_core.proofs.CkptCalls.{ckpt_begun}
 use Rattle.aries_core.proofs.engine.Engine.ckpt_begin.Goals as goal
 

@@ -3,13 +3,13 @@ use Rattle.std.specs.Prelude.{Err, None, Ok, Some}
 use Rattle.std.specs.Option.{option_map}
 use Rattle.fuzzy_ckpt.specs.Answers.{FailsAs, IsLogFault}
 use Rattle.fuzzy_ckpt.specs.Ckpt.{gathered_ckpt}
-use Rattle.aries_core.specs.declared.event.Answer.TheVariants as answer
-use Rattle.aries_core.specs.declared.event.Event.TheVariants as event
-use Rattle.aries_core.specs.declared.refusal.Refusal.TheVariants.{LogFault}
-use Rattle.aries_core.specs.EngineState.{EngineView, engine_view}
+use Rattle.engine_calls.specs.declared.event.Answer.TheVariants as answer
+use Rattle.engine_calls.specs.declared.event.Event.TheVariants as event
+use Rattle.engine_calls.specs.declared.refusal.Refusal.TheVariants.{LogFault}
+use Rattle.engine_rules.specs.EngineState.{EngineView, engine_view}
 use Rattle.aries_core.specs.OpenCkpt.{media_view, view_of}
-use Rattle.aries_core.specs.Refusal.{refusal}
-use Rattle.aries_core.specs.Step.{Step}
+use Rattle.engine_rules.specs.Refusal.{refusal}
+use Rattle.engine_rules.specs.Step.{Step}
 use Rattle.aries_core.proofs.CkptCalls.{ckpt_ended, ckpt_unforced, session_covered, whole_covered}
 use Rattle.std.proofs.Common.{arith, length}
 use Rattle.std.proofs.lemmas.List.{length-take}

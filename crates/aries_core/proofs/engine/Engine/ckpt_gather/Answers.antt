@@ -1,14 +1,14 @@
 use Rattle.std.proofs.Common.{◌≡◌, sym, ap, subst, ◌∙◌, refl}
 use Rattle.std.specs.Prelude.{Err, None, Ok, Some, if◌then◌else◌}
 use Rattle.std.specs.Option.{option_map}
-use Rattle.aries_core.specs.declared.event.Answer.TheVariants as answer
-use Rattle.aries_core.specs.declared.event.Event.TheVariants as event
-use Rattle.aries_core.specs.declared.refusal.Refusal.TheVariants.{OutOfMemory}
-use Rattle.aries_core.specs.EngineState.{EngineView, engine_view}
-use Rattle.aries_core.specs.Gather.{is_done, left_of}
+use Rattle.engine_calls.specs.declared.event.Answer.TheVariants as answer
+use Rattle.engine_calls.specs.declared.event.Event.TheVariants as event
+use Rattle.engine_calls.specs.declared.refusal.Refusal.TheVariants.{OutOfMemory}
+use Rattle.engine_rules.specs.EngineState.{EngineView, engine_view}
+use Rattle.engine_rules.specs.Gather.{is_done, left_of}
 use Rattle.aries_core.specs.OpenCkpt.{media_view, view_of}
-use Rattle.aries_core.specs.Refusal.{refusal}
-use Rattle.aries_core.specs.Step.{Step, gather_answer}
+use Rattle.engine_rules.specs.Refusal.{refusal}
+use Rattle.engine_rules.specs.Step.{Step, gather_answer}
 use Rattle.aries_core.proofs.CkptCalls.{ckpt_gathered, ckpt_same, gather_takes, session_covered, whole_covered}
 use Rattle.std.proofs.Common.{arith, length}
 use Rattle.std.proofs.lemmas.List.{length-take}

@@ -1,7 +1,7 @@
 use Rattle.std.proofs.Common.{◌≡◌, refl, ap, ◌∙◌}
-use Rattle.aries_core.specs.declared.event.Event.TheVariants as event
+use Rattle.engine_calls.specs.declared.event.Event.TheVariants as event
 use Rattle.log_records.specs.declared.record.Record.{Record}
-use Rattle.aries_core.specs.EngineState.{EngineState, EngineView, appended, end}
+use Rattle.engine_rules.specs.EngineState.{EngineState, EngineView, appended, end}
 use Rattle.aries_core.proofs.engine.Engine.commit.Goals as goal
 
 pub append-requires-clause-called : goal.append-requires-clause-called

@@ -1,10 +1,10 @@
 use Rattle.std.proofs.Common.{subst}
 use Rattle.std.specs.Prelude.{Ok}
-use Rattle.aries_core.specs.declared.event.Answer.TheVariants as answer
-use Rattle.aries_core.specs.declared.event.Event.TheVariants as event
-use Rattle.aries_core.specs.EngineState.{engine_view, with_copies}
+use Rattle.engine_calls.specs.declared.event.Answer.TheVariants as answer
+use Rattle.engine_calls.specs.declared.event.Event.TheVariants as event
+use Rattle.engine_rules.specs.EngineState.{engine_view, with_copies}
 use Rattle.aries_core.specs.OpenCkpt.{media_view}
-use Rattle.aries_core.specs.Step.{Step}
+use Rattle.engine_rules.specs.Step.{Step}
 use Rattle.aries_core.proofs.CopyCalls.{copies_kept, full_step}
 use Rattle.aries_core.proofs.engine.Engine.copy_full.Goals as goal
 use Rattle.aries_core.proofs.engine.Engine.copy_full.Given as given

@@ -5,15 +5,15 @@ use Rattle.log_records.specs.declared.record.Record.TheVariants.{Extend}
 use Rattle.log_records.specs.Log.{Log, lsn_of, with_next}
 use Rattle.buffer_pool.specs.Pool.{PoolView}
 use Rattle.page_store.specs.declared.store.StoreFault.{StoreFault}
-use Rattle.aries_core.specs.declared.event.Answer.TheVariants as answer
-use Rattle.aries_core.specs.declared.event.Event.TheVariants as event
-use Rattle.aries_core.specs.EngineState.{EngineState, EngineView, IsConsistent, end, engine_view, extend_record, log_of}
+use Rattle.engine_calls.specs.declared.event.Answer.TheVariants as answer
+use Rattle.engine_calls.specs.declared.event.Event.TheVariants as event
+use Rattle.engine_rules.specs.EngineState.{EngineState, EngineView, IsConsistent, end, engine_view, extend_record, log_of}
 use Rattle.aries_core.specs.OpenCkpt.{media_view}
-use Rattle.aries_core.specs.Refusal.{refusal}
-use Rattle.aries_core.specs.Step.{Step}
+use Rattle.engine_rules.specs.Refusal.{refusal}
+use Rattle.engine_rules.specs.Step.{Step}
 use Rattle.aries_core.proofs.Extends.{extended_is, kept_extended, unextended_is}
-use Rattle.aries_core.proofs.Growth.{extended, extended_fit}
-use Rattle.aries_core.proofs.Refusals.{extend_passes}
+use Rattle.engine_rules.proofs.Public.{extended, extended_fit}
+use Rattle.engine_rules.proofs.Public.{extend_passes}
 use Rattle.aries_core.proofs.engine.Engine.extend.Given as given
 use Rattle.aries_core.proofs.engine.Engine.extend.Goals as goal
 

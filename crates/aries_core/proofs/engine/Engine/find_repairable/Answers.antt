@@ -1,11 +1,11 @@
 use Rattle.std.proofs.Common.{◌≡◌, ◌<◌, true, false, length, sym, ap, subst, ◌∙◌, arith}
 use Rattle.std.specs.Prelude.{Some, None, is_some}
 use Rattle.copy_vault.specs.Vault.{complete_refusal}
-use Rattle.aries_core.specs.declared.event.Event.TheVariants as event
-use Rattle.aries_core.specs.declared.refusal.Refusal.TheVariants.{WriteBegun}
-use Rattle.aries_core.specs.EngineState.{EngineView, engine_view, image_of, volume_pages}
+use Rattle.engine_calls.specs.declared.event.Event.TheVariants as event
+use Rattle.engine_calls.specs.declared.refusal.Refusal.TheVariants.{WriteBegun}
+use Rattle.engine_rules.specs.EngineState.{EngineView, engine_view, image_of, volume_pages}
 use Rattle.aries_core.specs.OpenCkpt.{media_view}
-use Rattle.aries_core.specs.Refusal.{refusal}
+use Rattle.engine_rules.specs.Refusal.{refusal}
 use Rattle.aries_core.proofs.PoolStates.{image_at, repair_begun, repair_may}
 use Rattle.aries_core.proofs.engine.Engine.find_repairable.Goals as goal
 

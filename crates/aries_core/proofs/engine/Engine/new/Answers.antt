@@ -1,15 +1,15 @@
 use Rattle.std.proofs.Common.{◌∙◌, List, sym, ap, subst, arith}
 use Rattle.log_records.specs.declared.record.Record.{Record}
 use Rattle.log_records.specs.Log.{Log}
-use Rattle.log_history.proofs.Histories.{linked_none}
+use Rattle.log_rules.proofs.Public.{linked_none}
 use Rattle.buffer_pool.specs.Pool.{IsPoolOf}
 use Rattle.txn_table.specs.Returns.{returns_of}
 use Rattle.txn_table.specs.TxnTable.{IsTableOf}
-use Rattle.log_history.specs.Checkpoint.{open_checkpoint}
+use Rattle.log_rules.specs.Checkpoint.{open_checkpoint}
 use Rattle.std.specs.Option.{option_map}
-use Rattle.aries_core.specs.EngineState.{IsFit}
-use Rattle.aries_core.specs.Gather.{pages_left, session_of}
-use Rattle.aries_core.proofs.Fit.{new_is_fit}
+use Rattle.engine_rules.specs.EngineState.{IsFit}
+use Rattle.engine_rules.specs.Gather.{pages_left, session_of}
+use Rattle.engine_rules.proofs.Public.{new_is_fit}
 use Rattle.aries_core.proofs.PoolStates.{new_is}
 use Rattle.aries_core.proofs.engine.Engine.new.Goals as goal
 

@@ -1,9 +1,9 @@
 use Rattle.std.proofs.Common.{ℕ, get_or, sym, ap, subst, ◌∙◌}
 use Rattle.page_core.specs.declared.page.Page.{Page}
 use Rattle.buffer_pool.specs.Frames.{IsResident}
-use Rattle.log_history.specs.Linked.{number_in}
+use Rattle.log_rules.specs.Linked.{number_in}
 use Rattle.log_records.specs.Image.{image}
-use Rattle.aries_core.specs.EngineState.{EngineView, engine_view, log_of}
+use Rattle.engine_rules.specs.EngineState.{EngineView, engine_view, log_of}
 use Rattle.aries_core.specs.OpenCkpt.{media_view}
 use Rattle.aries_core.proofs.engine.Engine.number.Goals as goal
 

@@ -5,21 +5,21 @@ use Rattle.page_core.specs.declared.page.Page.{Page}
 use Rattle.log_records.specs.declared.record.Record.{Record}
 use Rattle.log_records.specs.Coverage.{IsPast}
 use Rattle.log_records.specs.Image.{image}
-use Rattle.log_records.proofs.Images.{number-image}
+use Rattle.log_records.proofs.Public.{number-image}
 use Rattle.log_store.specs.Stores.{ForceFails, Forced}
 use Rattle.log_store.specs.WrittenLog.{WrittenLog, end_up_to}
-use Rattle.aries_core.specs.declared.event.Answer.TheVariants as answer
-use Rattle.aries_core.specs.declared.event.Event.TheVariants as event
-use Rattle.aries_core.specs.declared.refusal.Refusal.{Refusal}
-use Rattle.aries_core.specs.EngineState.{EngineView, engine_view, log_of, page_now}
-use Rattle.aries_core.specs.Refusal.{refusal}
-use Rattle.aries_core.specs.Step.{Forces, IsByStore, Step, reply_of}
-use Rattle.aries_core.specs.Asked.{Asks, FailsAsking, asked}
+use Rattle.engine_calls.specs.declared.event.Answer.TheVariants as answer
+use Rattle.engine_calls.specs.declared.event.Event.TheVariants as event
+use Rattle.engine_calls.specs.declared.refusal.Refusal.{Refusal}
+use Rattle.engine_rules.specs.EngineState.{EngineView, engine_view, log_of, page_now}
+use Rattle.engine_rules.specs.Refusal.{refusal}
+use Rattle.engine_rules.specs.Step.{Forces, IsByStore, Step, reply_of}
+use Rattle.engine_rules.specs.Asked.{Asks, FailsAsking, asked}
 use Rattle.page_store.specs.declared.store.StoreFault.{StoreFault}
 use Rattle.aries_core.specs.OpenCkpt.{media_view}
-use Rattle.aries_core.proofs.Refusals.{repair_passes}
+use Rattle.engine_rules.proofs.Public.{repair_passes}
 use Rattle.aries_core.proofs.Repairs.{done, half_done, not_forced}
-use Rattle.aries_core.specs.declared.refusal.Refusal.TheVariants.{LogFault}
+use Rattle.engine_calls.specs.declared.refusal.Refusal.TheVariants.{LogFault}
 use Rattle.aries_core.proofs.WriteCalls.{Called, force_kept}
 use Rattle.aries_core.proofs.engine.Engine.repair.Goals.{in-Ok, in-Err}
 use Rattle.aries_core.proofs.engine.Engine.repair.Given as given

@@ -3,15 +3,15 @@ use Rattle.std.specs.Option.{option_map}
 use Rattle.page_core.specs.declared.page.Page.{Page}
 use Rattle.log_records.specs.declared.record.Record.{Record}
 use Rattle.log_records.specs.Log.{Log}
-use Rattle.log_history.specs.Checkpoint.{open_checkpoint}
+use Rattle.log_rules.specs.Checkpoint.{open_checkpoint}
 use Rattle.buffer_pool.specs.Pool.{IsPoolOf, clean_pool}
 use Rattle.txn_table.specs.Returns.{returns_of}
 use Rattle.txn_table.specs.TxnTable.{IsTableOf}
 use Rattle.copy_coverage.specs.Retired.{HasRoomForUndo}
-use Rattle.aries_core.specs.EngineState.{EngineState, IsFit, log_of}
-use Rattle.aries_core.specs.Gather.{session_of}
+use Rattle.engine_rules.specs.EngineState.{EngineState, IsFit, log_of}
+use Rattle.engine_rules.specs.Gather.{session_of}
 use Rattle.aries_core.specs.OpenCkpt.{media_view}
-use Rattle.aries_core.proofs.Resuming.{resumed_fit, resumed_is, session_for}
+use Rattle.engine_rules.proofs.Public.{resumed_fit, resumed_is, session_for}
 use Rattle.aries_core.proofs.engine.Engine.resume.Goals as goal
 
 pub returns-clause-state : goal.returns-clause-state

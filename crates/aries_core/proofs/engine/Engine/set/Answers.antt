@@ -1,5 +1,5 @@
 use Rattle.std.proofs.Common.{refl}
-use Rattle.aries_core.specs.declared.event.Event.TheVariants as event
+use Rattle.engine_calls.specs.declared.event.Event.TheVariants as event
 use Rattle.aries_core.proofs.engine.Engine.set.Goals as goal
 
 pub update-requires-clause-called : goal.update-requires-clause-called

@@ -1,27 +1,27 @@
 use Rattle.std.proofs.Common.{arith, ◌≡◌, ◌∙◌, sym, ap, subst, refl}
 use Rattle.std.specs.Prelude.{None, Ok}
-use Rattle.aries_core.specs.declared.event.Event.TheVariants as event
-use Rattle.aries_core.specs.EngineState.{engine_view, log_of}
+use Rattle.engine_calls.specs.declared.event.Event.TheVariants as event
+use Rattle.engine_rules.specs.EngineState.{engine_view, log_of}
 use Rattle.aries_core.specs.OpenCkpt.{media_view}
 use Rattle.copy_vault.specs.Vault.{answer_in, decided, state_of}
-use Rattle.aries_core.specs.Refusal.{refusal}
-use Rattle.aries_core.specs.Step.{Step, reply_of, took_answer}
-use Rattle.aries_core.specs.EngineState.{take_answer}
+use Rattle.engine_rules.specs.Refusal.{refusal}
+use Rattle.engine_rules.specs.Step.{Step, reply_of, took_answer}
+use Rattle.engine_rules.specs.EngineState.{take_answer}
 use Rattle.aries_core.proofs.CopyCalls.{asked_is, copies_kept, take_room, take_step}
 use Rattle.aries_core.proofs.engine.Engine.take.Goals as goal
 use Rattle.aries_core.proofs.engine.Engine.take.Given as given
 use Rattle.aries_core.proofs.engine.Engine.take.Goals.{in-Kept, in-Taken}
 use Rattle.page_core.specs.declared.page.Page.{Page}
 use Rattle.page_core.specs.Page.{formatted}
-use Rattle.buffer_pool.proofs.Fetching.{read_is}
-use Rattle.aries_core.specs.Asked.{Asks, a_page}
-use Rattle.aries_core.specs.EngineState.{EngineView}
+use Rattle.buffer_pool.proofs.Public.{read_is}
+use Rattle.engine_rules.specs.Asked.{Asks, a_page}
+use Rattle.engine_rules.specs.EngineState.{EngineView}
 use Rattle.aries_core.proofs.Asks.{always}
 use Rattle.aries_core.proofs.PoolStates.{page_at}
 use Rattle.std.proofs.Common.{◌<◌, length}
-use Rattle.copy_coverage.proofs.LaterPages.{count_below-not_more}
+use Rattle.copy_coverage.proofs.Public.{count_below-not_more}
 use Rattle.copy_coverage.specs.Copied.{copy_in}
-use Rattle.aries_core.proofs.Refusals.{take_passes}
+use Rattle.engine_rules.proofs.Public.{take_passes}
 
 pub decide-requires-clause-there : goal.decide-requires-clause-there
 decide-requires-clause-there g c =

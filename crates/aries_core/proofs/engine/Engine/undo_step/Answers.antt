@@ -2,13 +2,13 @@ use Rattle.std.proofs.Common.{◌≡◌, ◌<◌, Bool, true, false, refl, sym, 
 use Rattle.std.specs.Prelude.{IfSome, Option, None, Some, if◌then◌else◌}
 use Rattle.std.specs.Option.{option_map}
 use Rattle.log_records.specs.Record.{IsOfTransaction}
-use Rattle.log_history.specs.declared.pending_change.PendingChange.{PendingChange}
-use Rattle.log_history.specs.Transactions.{is_open, last_of, pending}
-use Rattle.aries_core.specs.declared.event.Event.TheVariants as event
-use Rattle.aries_core.specs.EngineState.{EngineView, IsFit, end}
-use Rattle.aries_core.specs.EngineState.{volume_pages}
-use Rattle.aries_core.specs.Refusal.{refusal}
-use Rattle.aries_core.proofs.PageComes.{needed_within}
+use Rattle.log_rules.specs.declared.pending_change.PendingChange.{PendingChange}
+use Rattle.log_rules.specs.Transactions.{is_open, last_of, pending}
+use Rattle.engine_calls.specs.declared.event.Event.TheVariants as event
+use Rattle.engine_rules.specs.EngineState.{EngineView, IsFit, end}
+use Rattle.engine_rules.specs.EngineState.{volume_pages}
+use Rattle.engine_rules.specs.Refusal.{refusal}
+use Rattle.engine_rules.proofs.Public.{needed_within}
 use Rattle.aries_core.proofs.engine.Engine.undo_step.Goals as goal
 
 -- what an open transaction has to take back

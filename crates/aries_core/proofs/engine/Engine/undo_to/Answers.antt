@@ -1,14 +1,14 @@
 use Rattle.std.proofs.Common.{◌≡◌, ◌<◌, sym, ap, subst, ◌∙◌}
 use Rattle.std.specs.Prelude.{IfSome, Option, None, Some}
 use Rattle.std.specs.Option.{option_map}
-use Rattle.log_history.specs.declared.pending_change.PendingChange.{PendingChange}
+use Rattle.log_rules.specs.declared.pending_change.PendingChange.{PendingChange}
 use Rattle.log_records.specs.Record.{IsOfTransaction}
-use Rattle.aries_core.specs.declared.event.Event.TheVariants as event
-use Rattle.aries_core.specs.EngineState.{EngineView, IsFit, comp_record, taken_back}
-use Rattle.aries_core.specs.EngineState.{volume_pages}
-use Rattle.aries_core.specs.Refusal.{refusal}
+use Rattle.engine_calls.specs.declared.event.Event.TheVariants as event
+use Rattle.engine_rules.specs.EngineState.{EngineView, IsFit, comp_record, taken_back}
+use Rattle.engine_rules.specs.EngineState.{volume_pages}
+use Rattle.engine_rules.specs.Refusal.{refusal}
 use Rattle.aries_core.proofs.FetchCalls.{back_passes}
-use Rattle.aries_core.proofs.PageComes.{needed_within}
+use Rattle.engine_rules.proofs.Public.{needed_within}
 use Rattle.aries_core.proofs.engine.Engine.undo_to.Goals as goal
 
 pub append_fetching-requires-clause-called : goal.append_fetching-requires-clause-called

@@ -1,4 +1,4 @@
-use Rattle.aries_core.specs.EngineState.{appended, with_page}
+use Rattle.engine_rules.specs.EngineState.{appended, with_page}
 use Rattle.std.proofs.Common.{◌≡◌, ◌<◌, ◌++◌, ◌∷◌, [], ℕ, length, get_or, refl, sym, ap, subst, ◌∙◌, arith, false, true}
 use Rattle.std.specs.Prelude.{Result, Ok, Err, OnErr, OnOk, is_err}
 use Rattle.page_core.specs.declared.page.Page.{Page}
@@ -9,24 +9,24 @@ use Rattle.log_records.specs.declared.record.Record.{Record}
 use Rattle.log_records.specs.Image.{image}
 use Rattle.log_records.specs.Log.{Log, StandsAt, lsn_of}
 use Rattle.log_records.specs.Log.{page_count}
-use Rattle.log_history.specs.Linked.{number_in}
-use Rattle.log_history.specs.Transactions.{last_lsn}
-use Rattle.aries_core.specs.Call.{Calls}
-use Rattle.aries_core.specs.EngineState.{EngineState, EngineView, IsConsistent, end, engine_view, log_of}
+use Rattle.log_rules.specs.Linked.{number_in}
+use Rattle.log_rules.specs.Transactions.{last_lsn}
+use Rattle.engine_rules.specs.Call.{Calls}
+use Rattle.engine_rules.specs.EngineState.{EngineState, EngineView, IsConsistent, end, engine_view, log_of}
 use Rattle.aries_core.specs.OpenCkpt.{media_view}
 use Rattle.aries_core.proofs.Appends.{after_fetch, appended_is, valid_with}
-use Rattle.aries_core.specs.Asked.{Asks, FailsAsking, page_asked}
+use Rattle.engine_rules.specs.Asked.{Asks, FailsAsking, page_asked}
 use Rattle.aries_core.proofs.Asks.{asks_page, fails_asking, why_failed}
-use Rattle.aries_core.proofs.Fit.{Comes, comes, comes_few}
-use Rattle.aries_core.proofs.Refusals.{slot_passes}
+use Rattle.engine_rules.proofs.Public.{Comes, comes, comes_few}
+use Rattle.engine_rules.proofs.Public.{slot_passes}
 use Rattle.aries_core.proofs.PoolStates.{fetched_is, stayed_is}
-use Rattle.log_history.specs.declared.pending_change.PendingChange.{PendingChange}
-use Rattle.log_history.specs.Ahead.{with_before}
-use Rattle.log_history.specs.Linked.{MayUpdate}
-use Rattle.log_history.specs.Table.{table_of}
+use Rattle.log_rules.specs.declared.pending_change.PendingChange.{PendingChange}
+use Rattle.txn_table.specs.Ahead.{with_before}
+use Rattle.log_rules.specs.Linked.{MayUpdate}
+use Rattle.log_rules.specs.Table.{table_of}
 use Rattle.log_records.specs.declared.record.Record.TheVariants.{Update}
-use Rattle.aries_core.specs.EngineState.{update_record}
-use Rattle.aries_core.specs.EngineState.{volume_pages}
+use Rattle.engine_rules.specs.EngineState.{update_record}
+use Rattle.engine_rules.specs.EngineState.{volume_pages}
 use Rattle.txn_table.specs.TxnTable.{IsAhead}
 use Rattle.aries_core.proofs.engine.Engine.update_fetching.Goals as goal
 use Rattle.aries_core.proofs.Returned.{returns_stay}

@@ -3,13 +3,13 @@ use Rattle.std.specs.Prelude.{None, Result, Ok, Err, OnErr, OnOk, is_err, false,
 use Rattle.page_core.specs.declared.page.Page.{Page}
 use Rattle.buffer_pool.specs.Pool.{state_at, with_state, write_begun}
 use Rattle.log_store.specs.WrittenLog.{end_up_to}
-use Rattle.aries_core.specs.declared.event.Answer.TheVariants as answer
-use Rattle.aries_core.specs.declared.event.Event.TheVariants as event
-use Rattle.aries_core.specs.EngineState.{EngineView, engine_view, log_of}
-use Rattle.aries_core.specs.Refusal.{refusal}
-use Rattle.aries_core.specs.Step.{Step}
+use Rattle.engine_calls.specs.declared.event.Answer.TheVariants as answer
+use Rattle.engine_calls.specs.declared.event.Event.TheVariants as event
+use Rattle.engine_rules.specs.EngineState.{EngineView, engine_view, log_of}
+use Rattle.engine_rules.specs.Refusal.{refusal}
+use Rattle.engine_rules.specs.Step.{Step}
 use Rattle.aries_core.specs.OpenCkpt.{media_view}
-use Rattle.aries_core.proofs.Refusals.{write_begin_passes}
+use Rattle.engine_rules.proofs.Public.{write_begin_passes}
 use Rattle.aries_core.proofs.WriteCalls.{Called, begun, force_kept}
 use Rattle.aries_core.proofs.engine.Engine.write_begin.Given as given
 use Rattle.aries_core.proofs.engine.Engine.write_begin.Goals as goal

@@ -1,16 +1,16 @@
 use Rattle.std.proofs.Common.{◌≡◌, ◌<◌, length, sym, subst, arith}
 use Rattle.std.specs.Prelude.{IfErr, None, OnOk, Result}
 use Rattle.page_core.specs.declared.numbers.Lsn.{Lsn}
-use Rattle.aries_core.specs.declared.event.Answer.TheVariants as answer
-use Rattle.aries_core.specs.declared.event.Event.TheVariants as event
-use Rattle.aries_core.specs.declared.refusal.Refusal.{Refusal}
-use Rattle.aries_core.specs.EngineState.{EngineView, engine_view, log_of}
-use Rattle.aries_core.specs.Refusal.{refusal}
-use Rattle.aries_core.specs.Step.{IsByStore, Step, reply_of}
-use Rattle.aries_core.specs.Asked.{Asks, FailsAsking, asked}
+use Rattle.engine_calls.specs.declared.event.Answer.TheVariants as answer
+use Rattle.engine_calls.specs.declared.event.Event.TheVariants as event
+use Rattle.engine_calls.specs.declared.refusal.Refusal.{Refusal}
+use Rattle.engine_rules.specs.EngineState.{EngineView, engine_view, log_of}
+use Rattle.engine_rules.specs.Refusal.{refusal}
+use Rattle.engine_rules.specs.Step.{IsByStore, Step, reply_of}
+use Rattle.engine_rules.specs.Asked.{Asks, FailsAsking, asked}
 use Rattle.aries_core.proofs.Asks.{asks_to_store, fails_to_store}
 use Rattle.aries_core.specs.OpenCkpt.{media_view}
-use Rattle.aries_core.proofs.Refusals.{write_end_passes}
+use Rattle.engine_rules.proofs.Public.{write_end_passes}
 use Rattle.aries_core.proofs.WriteCalls.{Called, ended, repeated}
 use Rattle.aries_core.proofs.engine.Engine.write_end.Goals.{in-Ok, in-Err}
 use Rattle.aries_core.proofs.engine.Engine.write_end.Given as given

@@ -1,7 +1,7 @@
 use Rattle.std.proofs.Common.{◌≡◌, ◌∙◌, ◌<◌, List, length, set, ap, subst, sym, arith}
 use Rattle.std.specs.Prelude.{None}
 use Rattle.page_core.specs.declared.page.Page.{Page}
-use Rattle.log_records.proofs.Images.{number-image}
+use Rattle.log_records.proofs.Public.{number-image}
 use Rattle.buffer_pool.specs.Pool.{IsPoolOf, PageState, PoolView, is_clean_in, state_at, state_in}
 use Rattle.buffer_pool.proofs.Repaired.{is_idle, pool_half, pool_repaired, state_idle, whole_half, whole_set}
 use Rattle.buffer_pool.proofs.Sought.{others_set, pool_noted}

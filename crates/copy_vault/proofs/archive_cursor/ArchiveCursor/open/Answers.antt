@@ -1,5 +1,5 @@
 use Rattle.std.proofs.Common.{refl, arith}
-use Rattle.page_core.proofs.Inputs.{of_input}
+use Rattle.page_core.proofs.Public.{of_input}
 use Rattle.copy_vault.specs.declared.archive_fault.ArchiveFault.TheVariants as archive
 use Rattle.copy_vault.specs.ArchiveFault.{HasFault, SpellsHeader}
 use Rattle.copy_vault.proofs.ArchiveReads.{refuses_header}

@@ -3,7 +3,7 @@ use Rattle.std.specs.Prelude.{OnOk, IfErr}
 use Rattle.std.proofs.lemmas.List.{length-map}
 use Rattle.copy_vault.specs.declared.vault.VaultEntry.TheVariants as entry
 use Rattle.copy_vault.specs.Vault.{CopyState, VaultView, state_in, drop_refusal, dropped, with_state}
-use Rattle.page_core.proofs.Inputs.{on_ok}
+use Rattle.page_core.proofs.Public.{on_ok}
 use Rattle.copy_vault.proofs.Vaults.{drop_keeps, state_there, set_state}
 use Rattle.copy_vault.proofs.vault.Vault.drop_open.Goals as goal
 

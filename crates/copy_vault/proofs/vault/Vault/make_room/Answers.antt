@@ -3,7 +3,7 @@ use Rattle.std.specs.Prelude.{slice_set}
 use Rattle.copy_vault.specs.Copy.{CopyView}
 use Rattle.copy_vault.specs.Vault.{VaultView, state_in, state_of, room_in}
 use Rattle.copy_vault.specs.declared.vault.VaultEntry.TheVariants as entry
-use Rattle.page_core.proofs.Inputs.{on_ok}
+use Rattle.page_core.proofs.Public.{on_ok}
 use Rattle.copy_vault.proofs.Vaults.{entry_read, vault_read, room_made, is_reading, same_state, was_reading}
 use Rattle.copy_vault.proofs.vault.Vault.make_room.Goals as goal
 

@@ -3,7 +3,7 @@ use Rattle.std.specs.Prelude.{OnOk, IfOk, IfErr}
 use Rattle.std.proofs.lemmas.List.{length-map}
 use Rattle.copy_vault.specs.Vault.{CopyState, VaultView, state_in, state_of, seal_refusal, sealed_in}
 use Rattle.copy_vault.specs.Vault.{taken_in, with_state}
-use Rattle.page_core.proofs.Inputs.{on_ok}
+use Rattle.page_core.proofs.Public.{on_ok}
 use Rattle.copy_vault.proofs.Vaults.{seal_keeps, state_there, set_state}
 use Rattle.copy_vault.proofs.vault.Vault.seal.Goals as goal
 

@@ -2,7 +2,7 @@ use Rattle.std.proofs.Common.{ℕ, ◌≡◌, ◌∙◌, List, ap, subst}
 use Rattle.log_records.specs.declared.record.Record.{Record}
 use Rattle.log_records.specs.Log.{Log}
 use Rattle.copy_vault.specs.Vault.{CopyState}
-use Rattle.aries_core.specs.EngineState.{log_of}
+use Rattle.engine_rules.specs.EngineState.{log_of}
 use Rattle.engine_run.specs.Settled.{IsWrongAt, evidence, evidence_of}
 use Rattle.engine_run.proofs.held.Held.check.Goals as goal
 

@@ -1,6 +1,6 @@
 use Rattle.std.proofs.Common.{subst}
 use Rattle.std.specs.Prelude.{IfErr}
-use Rattle.aries_core.specs.Step.{FailsForcing, Forces, IsByDevice, IsByStore}
+use Rattle.engine_rules.specs.Step.{FailsForcing, Forces, IsByDevice, IsByStore}
 use Rattle.engine_run.proofs.held.Held.repair.Goals as goal
 
 pub returns-clause-forced_first : goal.returns-clause-forced_first

@@ -1,6 +1,6 @@
 use Rattle.std.proofs.Common.{subst}
 use Rattle.std.specs.Prelude.{IfErr}
-use Rattle.aries_core.specs.Step.{FailsForcing, IsByDevice}
+use Rattle.engine_rules.specs.Step.{FailsForcing, IsByDevice}
 use Rattle.engine_run.proofs.held.Held.write_begin.Goals as goal
 
 pub returns-clause-last_call : goal.returns-clause-last_call

@@ -3,7 +3,7 @@ use Rattle.std.specs.Prelude.{IfSome, IsSome}
 use Rattle.log_records.specs.declared.record.Record.TheVariants.{ChkptPages}
 use Rattle.log_records.specs.DirtyPage.{entries_of}
 use Rattle.log_records.specs.Log.{Log, StandsAt, page_count, with_next}
-use Rattle.log_history.specs.Linked.{MayFollow}
+use Rattle.log_rules.specs.Linked.{MayFollow}
 use Rattle.fuzzy_ckpt.specs.Ckpt.{AreCovered, CkptView, IsCkptOf, in_pages, in_txns, pages_ckpt}
 use Rattle.fuzzy_ckpt.specs.Steps.{Gathering, HasRoomForStep, end_of, past_pages}
 use Rattle.fuzzy_ckpt.proofs.Opens.{lowered}

@@ -4,7 +4,7 @@ use Rattle.log_records.specs.declared.record.Record.{Record}
 use Rattle.log_records.specs.Log.{Log, StandsAt, page_count, with_next}
 use Rattle.log_records.specs.Coverage.{Covers}
 use Rattle.log_records.specs.Record.{IsOfCheckpoint}
-use Rattle.log_history.specs.Linked.{MayFollow}
+use Rattle.log_rules.specs.Linked.{MayFollow}
 use Rattle.fuzzy_ckpt.specs.Ckpt.{CkptView, IsCkptOf, Phase, gathered, in_txns, txns_ckpt}
 use Rattle.fuzzy_ckpt.specs.Steps.{Gathering, HasRoomForStep, end_of, txn_record, with_step}
 use Rattle.fuzzy_ckpt.proofs.TxnsSteps.{table_more, table_passed, txns_cover}

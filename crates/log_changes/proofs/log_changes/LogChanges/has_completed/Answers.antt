@@ -2,7 +2,7 @@ use Rattle.std.proofs.Common.{◌≡◌, ◌∙◌, ◌&&◌, true, false, ap, a
 use Rattle.std.specs.List.{list_any}
 use Rattle.std.proofs.lemmas.List.Folds.{list_any_at, list_any_none}
 use Rattle.log_store.specs.declared.master.Master.{Master}
-use Rattle.log_history.proofs.Completes.{complete-of_end, end-of_complete}
+use Rattle.log_rules.proofs.Public.{complete-of_end, end-of_complete}
 use Rattle.log_changes.specs.Kept.{Kept, completed_in}
 use Rattle.log_changes.proofs.Completed.{ended_by, is_named, named_by}
 use Rattle.log_changes.proofs.log_changes.LogChanges.has_completed.Goals as goal

@@ -2,7 +2,7 @@ use Rattle.std.proofs.Common.{List, ℕ, refl, sym, ap, ◌∙◌, arith, lit≤
 use Rattle.std.specs.Prelude.{slice_range}
 use Rattle.std.proofs.lemmas.List.{take_all}
 use Rattle.log_records.specs.Fields.{fields_bytes}
-use Rattle.page_core.proofs.Pieces.{grow}
+use Rattle.page_core.proofs.Public.{grow}
 use Rattle.log_records.proofs.fields.Fields.read.Goals as goal
 
 pub returns-clause-found : goal.returns-clause-found

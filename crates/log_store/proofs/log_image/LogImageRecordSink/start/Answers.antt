@@ -1,5 +1,5 @@
 use Rattle.std.proofs.Common.{arith, sym}
-use Rattle.log_records.proofs.PageCounts.{count_behind-nil}
+use Rattle.log_records.proofs.Public.{count_behind-nil}
 use Rattle.log_store.proofs.log_image.LogImageRecordSink.start.Goals as goal
 
 pub invariant_of-result : goal.invariant_of-result

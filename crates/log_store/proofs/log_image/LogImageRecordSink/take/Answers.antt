@@ -2,7 +2,7 @@ use Rattle.std.proofs.Common.{◌≡◌, ◌∙◌, ◌++◌, [], ◌∷◌, Lis
 use Rattle.log_records.specs.declared.record.Record.{Record}
 use Rattle.log_records.specs.Log.{IsLog, Log, with_next}
 use Rattle.log_records.specs.PageCount.{count_behind}
-use Rattle.log_records.proofs.PageCounts.{count_behind-append}
+use Rattle.log_records.proofs.Public.{count_behind-append}
 use Rattle.log_store.specs.declared.log_image.LogImage.TheInside.{Inside}
 use Rattle.log_store.proofs.log_image.LogImageRecordSink.take.Goals as goal
 use Rattle.log_store.proofs.log_image.LogImageRecordSink.take.Goals.{then-next-eq1+in_ok-push}

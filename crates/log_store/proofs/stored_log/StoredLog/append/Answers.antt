@@ -3,7 +3,7 @@ use Rattle.std.specs.Vec.{vec_capacity, vec_len}
 use Rattle.log_records.specs.declared.record.Record.{Record}
 use Rattle.log_records.specs.Log.{StandsAt, lsn_of, page_count}
 use Rattle.log_records.specs.PageCount.{GivesMore, count_after, count_behind}
-use Rattle.log_records.proofs.PageCounts.{count_behind-push}
+use Rattle.log_records.proofs.Public.{count_behind-push}
 use Rattle.log_store.specs.WrittenLog.{IsWritten, WrittenLog, written_log}
 use Rattle.log_store.proofs.WrittenLogs.{written_push}
 use Rattle.log_store.proofs.stored_log.StoredLog.append.Goals as goal

@@ -1,6 +1,6 @@
 use Rattle.std.proofs.Common.{◌≡◌, ◌∙◌, sym}
 use Rattle.log_records.specs.Log.{header_bytes}
-use Rattle.log_records.proofs.PageCounts.{count_behind-nil}
+use Rattle.log_records.proofs.Public.{count_behind-nil}
 use Rattle.log_store.proofs.WrittenLogs.{written_empty}
 use Rattle.log_store.specs.Stores.{at_the_store, at_the_sync}
 use Rattle.log_store.proofs.stored_log.StoredLog.new.Goals as goal

@@ -1,6 +1,6 @@
 use Rattle.std.proofs.Common.{◌≡◌, ◌+◌, ◌<◌, ℕ, length, ap, subst, sym, ◌∙◌, arith}
 use Rattle.std.proofs.lemmas.Bool.{lt-ltb, ltb-true}
-use Rattle.log_history.specs.Transactions.{owed}
+use Rattle.log_rules.specs.Transactions.{owed}
 use Rattle.loser_undo.specs.Recovery.{Recovery}
 use Rattle.loser_undo.proofs.Appends.{owed_few}
 use Rattle.loser_undo.proofs.Held.{owed_of}

@@ -1,8 +1,8 @@
 use Rattle.std.proofs.Common.{◌≡◌, ◌∙◌, slice_get, subst, sym, Some, None}
 use Rattle.std.specs.Option.{option_and_then, option_map}
 use Rattle.log_records.specs.declared.record.Record.TheVariants.{Comp, End}
-use Rattle.log_history.specs.Transactions.{last_of}
-use Rattle.log_history.specs.TxnState.{state_of}
+use Rattle.log_rules.specs.Transactions.{last_of}
+use Rattle.txn_table.specs.TxnState.{state_of}
 use Rattle.loser_undo.specs.UndoRecords.{UndoView, YieldsNext}
 use Rattle.std.proofs.lemmas.Option.{slice_get_within}
 use Rattle.loser_undo.proofs.Yields.{few_open, has_room, turn_is, yields_comp, yields_end, yields_none}

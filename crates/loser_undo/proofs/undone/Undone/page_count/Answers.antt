@@ -1,5 +1,5 @@
 use Rattle.std.proofs.Common.{arith}
-use Rattle.log_records.proofs.PageCounts.{page_count-is_count}
+use Rattle.log_records.proofs.Public.{page_count-is_count}
 use Rattle.loser_undo.proofs.undone.Undone.page_count.Goals as goal
 
 pub overflow_cast-result : goal.overflow_cast-result

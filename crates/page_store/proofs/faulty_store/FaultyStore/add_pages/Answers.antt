@@ -1,6 +1,6 @@
 use Rattle.std.proofs.Common.{◌≡◌, ◌-◌, ◌++◌, ◌∙◌, None, ap, arith, length, sym}
 use Rattle.std.specs.Prelude.{replicate}
-use Rattle.page_core.proofs.Volumes.{length-grown_to}
+use Rattle.page_core.proofs.Public.{length-grown_to}
 use Rattle.page_store.proofs.Growth.{grown-both}
 use Rattle.page_store.proofs.faulty_store.FaultyStore.add_pages.Goals as goal
 

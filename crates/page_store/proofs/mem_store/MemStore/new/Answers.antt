@@ -1,6 +1,6 @@
 use Rattle.std.proofs.Common.{[], ◌∙◌, ap, arith, length, subst, sym}
 use Rattle.page_core.specs.Volume.{AreNumbered, grown_to}
-use Rattle.page_core.proofs.Volumes.{length-grown_to, new_grown, numbered-formatted_pages}
+use Rattle.page_core.proofs.Public.{length-grown_to, new_grown, numbered-formatted_pages}
 use Rattle.page_store.proofs.mem_store.MemStore.new.Goals as goal
 
 pub returns : goal.returns

@@ -1,5 +1,5 @@
 use Rattle.std.proofs.Common.{◌∙◌, ap, arith, length}
-use Rattle.page_core.proofs.Volumes.{length-grown_to}
+use Rattle.page_core.proofs.Public.{length-grown_to}
 use Rattle.page_store.proofs.mem_store.MemStorePageStore.grow.Goals as goal
 
 pub invariant_of-self : goal.invariant_of-self

@@ -3,7 +3,7 @@ use Rattle.std.proofs.Common.{ℕ}
 use Rattle.std.proofs.lemmas.List.{length_push}
 use Rattle.log_records.specs.declared.record.Record.{Record}
 use Rattle.log_records.specs.PageCount.{count_after, count_behind}
-use Rattle.log_records.proofs.PageCounts.{count_behind-next, count_behind-nil}
+use Rattle.log_records.proofs.Public.{count_behind-next, count_behind-nil}
 use Rattle.settlement.proofs.Counted.{counts_more}
 use Rattle.settlement.proofs.counted_log.CountedLog.new.Goals as goal
 

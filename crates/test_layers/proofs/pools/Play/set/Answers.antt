@@ -4,7 +4,7 @@ use Rattle.page_core.specs.declared.change.Change.TheVariants.{Set}
 use Rattle.log_records.specs.declared.record.Record.{Record}
 use Rattle.log_records.specs.declared.record.Record.TheVariants.{Update}
 use Rattle.log_records.specs.Log.{IsLog, Log, StandsAt, lsn_of, page_count, with_next}
-use Rattle.log_records.proofs.PageCounts.{page_count-is_count}
+use Rattle.log_records.proofs.Public.{page_count-is_count}
 use Rattle.test_layers.proofs.NextLogs.{next_is_log}
 use Rattle.test_layers.proofs.pools.Play.set.Goals as goal
 

@@ -2,12 +2,12 @@ use Rattle.std.proofs.Common.{◌≡◌, ◌∙◌, inl, inr, List, ap, sym, sub
 use Rattle.std.specs.Prelude.{Contains, Some, None, if◌then◌else◌}
 use Rattle.std.proofs.lemmas.Grind.{common_steps}
 use Rattle.std.proofs.lemmas.Option.{same_Some}
-use Rattle.log_history.specs.declared.txn_state.TxnState.{TxnState}
-use Rattle.log_history.specs.Table.{entry_of}
+use Rattle.txn_table.specs.declared.txn_state.TxnState.{TxnState}
+use Rattle.log_rules.specs.Table.{entry_of}
 use Rattle.log_records.specs.declared.record.Record.{Record}
-use Rattle.log_history.specs.Transactions.{is_open}
+use Rattle.log_rules.specs.Transactions.{is_open}
 use Rattle.txn_table.specs.TxnTable.{IsTableOf}
-use Rattle.log_history.specs.TxnState.{state_of}
+use Rattle.txn_table.specs.TxnState.{state_of}
 use Rattle.txn_table.specs.declared.returns.Return.{Return}
 use Rattle.txn_table.specs.Returns.{AreRising, returns_of}
 use Rattle.txn_table.proofs.Comps.{returns_rise}

@@ -1,6 +1,6 @@
 use Rattle.std.proofs.Common.{◌≡◌, length, ap, ◌∙◌, arith}
-use Rattle.log_history.specs.Table.{Table}
-use Rattle.log_history.specs.Transactions.{begun}
+use Rattle.log_rules.specs.Table.{Table}
+use Rattle.log_rules.specs.Transactions.{begun}
 use Rattle.txn_table.proofs.Tables.{begun_few}
 use Rattle.txn_table.proofs.table.TxnTable.begin.Goals as goal
 

@@ -1,7 +1,7 @@
 use Rattle.std.proofs.Common.{ap, ◌∙◌}
 use Rattle.std.specs.Option.{option_map}
-use Rattle.log_history.specs.Table.{Table, entry_in}
-use Rattle.log_history.specs.TxnState.{state_of}
+use Rattle.log_rules.specs.Table.{Table, entry_in}
+use Rattle.txn_table.specs.TxnState.{state_of}
 use Rattle.txn_table.proofs.Tables.{state_is}
 use Rattle.txn_table.proofs.table.TxnTable.entry.Goals as goal
 

@@ -1,9 +1,9 @@
 use Rattle.std.proofs.Common.{◌≡◌, ◌-◌, None, ap, sym, subst, ◌∙◌, arith, slice_get}
 use Rattle.std.specs.Prelude.{MatchOption, Some, IsSomeAnd, IsTrue}
 use Rattle.std.proofs.lemmas.Grind.{common_steps}
-use Rattle.log_history.specs.declared.pending_change.PendingChange.{PendingChange}
-use Rattle.log_history.specs.Table.{TxnEntry, Table, entry_in}
-use Rattle.log_history.specs.Transactions.{pending}
+use Rattle.log_rules.specs.declared.pending_change.PendingChange.{PendingChange}
+use Rattle.log_rules.specs.Table.{TxnEntry, Table, entry_in}
+use Rattle.log_rules.specs.Transactions.{pending}
 use Rattle.txn_table.proofs.Tables.{entry_is}
 use Rattle.txn_table.proofs.table.TxnTable.is_update.Goals as goal
 

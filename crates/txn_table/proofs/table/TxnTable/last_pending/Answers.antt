@@ -1,9 +1,9 @@
 use Rattle.std.proofs.Common.{◌≡◌, ap, ◌∙◌}
 use Rattle.std.specs.Prelude.{Option, Some, None, MatchOption}
 use Rattle.std.specs.Option.{option_and_then}
-use Rattle.log_history.specs.declared.pending_change.PendingChange.{PendingChange}
-use Rattle.log_history.specs.Table.{TxnEntry, Table, entry_in}
-use Rattle.log_history.specs.Transactions.{last_of}
+use Rattle.log_rules.specs.declared.pending_change.PendingChange.{PendingChange}
+use Rattle.log_rules.specs.Table.{TxnEntry, Table, entry_in}
+use Rattle.log_rules.specs.Transactions.{last_of}
 use Rattle.txn_table.proofs.Tables.{last_pending_is}
 use Rattle.txn_table.proofs.table.TxnTable.last_pending.Goals as goal
 

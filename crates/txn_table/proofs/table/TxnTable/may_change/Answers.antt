@@ -1,6 +1,6 @@
 use Rattle.std.proofs.Common.{ap, ◌∙◌}
-use Rattle.log_history.specs.Table.{Table, holder_in}
-use Rattle.log_history.proofs.Checks.{holder_in-table_of}
+use Rattle.log_rules.specs.Table.{Table, holder_in}
+use Rattle.log_rules.proofs.Public.{holder_in-table_of}
 use Rattle.txn_table.proofs.table.TxnTable.may_change.Goals as goal
 
 pub returns : goal.returns

@@ -1,7 +1,7 @@
 use Rattle.std.proofs.Common.{ap, subst, sym, ◌∙◌}
-use Rattle.log_history.specs.Table.{MayNote, Table, noted}
-use Rattle.log_history.proofs.Checks.{may_note}
-use Rattle.log_history.proofs.Steps.{table_of_push}
+use Rattle.log_rules.specs.Table.{MayNote, Table, noted}
+use Rattle.log_rules.proofs.Public.{may_note}
+use Rattle.log_rules.proofs.Public.{table_of_push}
 use Rattle.txn_table.proofs.Owed.{owed_next}
 use Rattle.txn_table.proofs.table.TxnTable.note.Goals as goal
 

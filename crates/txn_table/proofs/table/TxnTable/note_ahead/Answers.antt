@@ -1,5 +1,5 @@
 use Rattle.std.proofs.Common.{◌+◌, ap, subst, sym, ◌∙◌, arith}
-use Rattle.log_history.specs.Table.{MayNote, Table, noted}
+use Rattle.log_rules.specs.Table.{MayNote, Table, noted}
 use Rattle.txn_table.specs.TxnTable.{update_of}
 use Rattle.txn_table.proofs.Ahead.{may_ahead, owed_ahead}
 use Rattle.txn_table.proofs.Owed.{count_is, owed_few}

@@ -1,6 +1,6 @@
 use Rattle.std.proofs.Common.{ap, sym, ◌∙◌, min, ℕ}
 use Rattle.std.proofs.Math.Nat.{min-eq_left}
-use Rattle.log_history.specs.Transactions.{owed_by}
+use Rattle.log_rules.specs.Transactions.{owed_by}
 use Rattle.txn_table.proofs.Owed.{state_is_there, state_owed}
 use Rattle.txn_table.proofs.table.TxnTable.owed_by.Goals as goal
 

@@ -1,7 +1,7 @@
 use Rattle.std.proofs.Common.{ap, subst, ◌∙◌}
 use Rattle.std.specs.Prelude.{IfSome}
-use Rattle.log_history.specs.CountUpTo.{IsCountUpTo}
-use Rattle.log_history.specs.Table.{TxnEntry, Table, entry_in}
+use Rattle.txn_table.specs.CountUpTo.{IsCountUpTo}
+use Rattle.log_rules.specs.Table.{TxnEntry, Table, entry_in}
 use Rattle.txn_table.proofs.Tables.{entry_is}
 use Rattle.txn_table.proofs.table.TxnTable.pending_up_to.Goals as goal
 

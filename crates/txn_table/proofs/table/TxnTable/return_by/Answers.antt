@@ -2,9 +2,9 @@ use Rattle.std.proofs.Common.{◌∙◌, ◌-◌, ap, sym, cond}
 use Rattle.std.specs.Prelude.{None, Some}
 use Rattle.std.specs.Option.{option_map}
 use Rattle.std.proofs.lemmas.Option.{same_Some}
-use Rattle.log_history.specs.declared.txn_state.TxnState.{TxnState}
-use Rattle.log_history.specs.TxnState.{state_of}
-use Rattle.log_history.specs.Table.{Table, entry_in}
+use Rattle.txn_table.specs.declared.txn_state.TxnState.{TxnState}
+use Rattle.txn_table.specs.TxnState.{state_of}
+use Rattle.log_rules.specs.Table.{Table, entry_in}
 use Rattle.txn_table.proofs.Going.{return_at}
 use Rattle.txn_table.proofs.Tables.{entry_is}
 use Rattle.txn_table.proofs.table.TxnTable.return_by.Goals as goal

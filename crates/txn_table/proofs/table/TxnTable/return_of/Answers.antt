@@ -1,8 +1,8 @@
 use Rattle.std.proofs.Common.{◌∙◌, ap, sym, subst, cond}
 use Rattle.std.specs.Prelude.{None, Some}
 use Rattle.log_records.specs.declared.record.Record.TheVariants.{Comp}
-use Rattle.log_history.specs.Linked.{MayFollow}
-use Rattle.log_history.specs.Transactions.{is_rolling, pending}
+use Rattle.log_rules.specs.Linked.{MayFollow}
+use Rattle.log_rules.specs.Transactions.{is_rolling, pending}
 use Rattle.txn_table.specs.Returns.{return_of}
 use Rattle.txn_table.proofs.Comps.{length_without}
 use Rattle.txn_table.proofs.Going.{return_at}

@@ -1,8 +1,8 @@
 use Rattle.std.proofs.Common.{ap, subst, sym, ◌∙◌, arith}
 use Rattle.std.specs.Prelude.{IsSome}
-use Rattle.log_history.specs.Ahead.{entry_with_before, with_changed}
-use Rattle.log_history.specs.Table.{Table, entry_in, owed_in}
-use Rattle.log_history.proofs.Steps.{table_of_push}
+use Rattle.txn_table.specs.Ahead.{entry_with_before, with_changed}
+use Rattle.log_rules.specs.Table.{Table, entry_in, owed_in}
+use Rattle.log_rules.proofs.Public.{table_of_push}
 use Rattle.txn_table.specs.TxnTable.{as_read, update_of}
 use Rattle.txn_table.proofs.Ahead.{open_ahead, settled, settled_owed}
 use Rattle.txn_table.proofs.table.TxnTable.set_before.Goals as goal

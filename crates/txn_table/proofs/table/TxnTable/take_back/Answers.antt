@@ -1,8 +1,8 @@
 use Rattle.std.proofs.Common.{ap, subst, sym, ◌∙◌, arith}
 use Rattle.std.specs.Prelude.{IsSome}
-use Rattle.log_history.specs.Ahead.{entry_back, with_changed}
-use Rattle.log_history.specs.Table.{Table, entry_in, owed_in}
-use Rattle.log_history.proofs.Checks.{owed_in-table_of}
+use Rattle.txn_table.specs.Ahead.{entry_back, with_changed}
+use Rattle.log_rules.specs.Table.{Table, entry_in, owed_in}
+use Rattle.log_rules.proofs.Public.{owed_in-table_of}
 use Rattle.txn_table.proofs.Ahead.{back, count_ahead, open_ahead}
 use Rattle.txn_table.proofs.table.TxnTable.take_back.Goals as goal
 

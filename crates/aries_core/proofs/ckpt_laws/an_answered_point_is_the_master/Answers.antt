@@ -1,5 +1,0 @@
-use Rattle.aries_core.proofs.CkptLaws.{point_is_master}
-use Rattle.aries_core.proofs.ckpt_laws.an_answered_point_is_the_master.Goals as goal
-
-pub returns : goal.returns
-returns c = point_is_master

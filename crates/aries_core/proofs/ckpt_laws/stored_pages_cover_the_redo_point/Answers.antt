@@ -1,5 +1,0 @@
-use Rattle.aries_core.proofs.CkptLaws.{redo_is_covered}
-use Rattle.aries_core.proofs.ckpt_laws.stored_pages_cover_the_redo_point.Goals as goal
-
-pub returns : goal.returns
-returns c = redo_is_covered

@@ -1,8 +1,0 @@
-use Rattle.aries_core.specs.EngineState.{new_state}
-use Rattle.aries_core.proofs.CkptLaws.{master_of_run, new_is_sized}
-use Rattle.aries_core.specs.CkptReplies.{new_size}
-use Rattle.aries_core.proofs.ckpt_laws.the_master_is_the_last_point_answered.Goals as goal
-
-pub returns : goal.returns
-returns c = λ pages frames events replies new run.
-    master_of_run (new_state pages frames) (new_size pages) events replies new (new_is_sized pages frames) run

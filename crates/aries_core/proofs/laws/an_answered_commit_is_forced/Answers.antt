@@ -1,5 +1,0 @@
-use Rattle.aries_core.proofs.Runs.{commit_is_forced}
-use Rattle.aries_core.proofs.laws.an_answered_commit_is_forced.Goals as goal
-
-pub returns : goal.returns
-returns c = commit_is_forced

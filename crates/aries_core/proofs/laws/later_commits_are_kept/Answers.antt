@@ -1,5 +1,0 @@
-use Rattle.aries_core.proofs.Commits.{forced_later, stays_forced, stays_kept}
-use Rattle.aries_core.proofs.laws.later_commits_are_kept.Goals as goal
-
-pub returns : goal.returns
-returns c = record { forced = forced_later; older = stays_forced; kept = stays_kept }

@@ -1,5 +1,0 @@
-use Rattle.aries_core.proofs.Rooms.{past_if_full, room_if_accepted}
-use Rattle.aries_core.proofs.laws.log_full_is_exact.Goals as goal
-
-pub returns : goal.returns
-returns c = record { accepted = room_if_accepted; refused = past_if_full }

@@ -1,5 +1,0 @@
-use Rattle.aries_core.proofs.Runs.{forced_end_of_run}
-use Rattle.aries_core.proofs.laws.the_forced_end_never_falls.Goals as goal
-
-pub returns : goal.returns
-returns c = forced_end_of_run

@@ -1,0 +1,2 @@
+pub mod EventFits
+pub mod Refusal

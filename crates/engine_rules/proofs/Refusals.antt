@@ -1,0 +1,618 @@
+-- What an event that is not refused has passed.
+use Rattle.std.proofs.Common.{◌≡◌, ℕ, ◌+◌, ◌<◌, ◌≤◌, ◌⊎◌, Bool, true, false, ◌&&◌, ◌||◌, not, length, refl, sym, ap, ◌∙◌, inl}
+use Rattle.std.proofs.Common.{inr, subst}
+use Rattle.std.specs.Prelude.{IfSome, Option, Some, None, IsSome, is_none, is_some, nat_le, nat_lt, List, if◌then◌else◌}
+use Rattle.std.specs.Option.{option_map, option_map_or, option_or}
+use Rattle.std.proofs.lemmas.Option.{cond_some, same_Some}
+use Rattle.std.proofs.lemmas.Bool.{not-false, leb-false, ltb-false, ltb-true}
+use Rattle.page_core.specs.declared.change.ChangeKind.{ChangeKind}
+use Rattle.page_core.specs.declared.change.ChangeKind.TheVariants as kind
+use Rattle.buffer_pool.specs.Frames.{is_full, is_resident}
+use Rattle.buffer_pool.specs.Pool.{is_clean}
+use Rattle.page_core.specs.declared.page.Page.{Page}
+use Rattle.page_core.specs.declared.page.TheConstants.{MAX_PAGES, SLOTS}
+use Rattle.log_records.specs.declared.limits.TheConstants.{MAX_OPEN, MAX_RECORDS}
+use Rattle.log_records.specs.declared.record.Record.{Record}
+use Rattle.log_rules.specs.Checkpoint.{Checkpoint, open_checkpoint}
+use Rattle.log_rules.specs.Savepoints.{savepoint}
+use Rattle.log_rules.specs.Transactions.{holder, is_open, is_rolling, last_of, open_in, owed, pending}
+use Rattle.log_rules.specs.declared.pending_change.PendingChange.{PendingChange}
+use Rattle.fuzzy_ckpt.specs.declared.point.Point.{Point}
+use Rattle.copy_vault.specs.declared.fault.CopyFault.{CopyFault}
+use Rattle.copy_vault.specs.declared.copy_id.TheConstants.{MAX_COPIES}
+use Rattle.copy_vault.specs.declared.fault.CopyFault.TheVariants as fault
+use Rattle.copy_vault.specs.declared.fault.CopyFault.TheVariants.{PagesLeft}
+use Rattle.copy_vault.specs.Copy.{CopyView, least_undecided}
+use Rattle.copy_vault.specs.Vault.{CopyState, complete, complete_refusal, drop_refusal, dropped, open_refusal, reading}
+use Rattle.copy_vault.specs.Vault.{seal_refusal, state_of}
+use Rattle.engine_calls.specs.declared.event.Event.{Event}
+use Rattle.engine_calls.specs.declared.event.Event.TheVariants as event
+use Rattle.engine_calls.specs.declared.refusal.Refusal.{Refusal}
+use Rattle.engine_calls.specs.declared.refusal.Refusal.TheVariants.{CkptOpen, CommitUnsure, GatherLeft, LogFault, LogFull, NoCkpt}
+use Rattle.engine_calls.specs.declared.refusal.Refusal.TheVariants.{NoMaster, NoTxn, PageDecided, NoWrite, NotDirty}
+use Rattle.engine_calls.specs.declared.refusal.Refusal.TheVariants.{NotRolling, PageOut, SlotBusy, SlotOut, TooManyTxns}
+use Rattle.engine_calls.specs.declared.refusal.Refusal.TheVariants.{NoSavepoint, NotLarger, PoolFull, TxnRolling, WriteBegun}
+use Rattle.engine_rules.specs.EngineState.{EngineState, gathered_record, image_of, page_needed, rec_lsn_of, taken_back}
+use Rattle.engine_rules.specs.EngineState.{volume_pages}
+use Rattle.engine_rules.specs.Gather.{Left, is_done, none_left, pages_left, txns_left}
+use Rattle.engine_rules.specs.Refusal.{active_refusal, change_refusal, ckpt_refusal, copy_refusal, has_no_room}
+use Rattle.engine_calls.specs.Refusal.{of_vault}
+use Rattle.engine_rules.specs.Refusal.{frame_refusal, or_else, page_refusal, refused_if, refusal, rolling_refusal}
+use Rattle.engine_rules.specs.Refusal.{pages_in}
+
+-- ---- one test, and two
+
+none_of_both : (a b : Option Refusal) → or_else a b ≡ None → (a ≡ None) × (b ≡ None)
+none_of_both None b none = (refl, none)
+none_of_both (Some why) b none = absurd (cc)
+
+not_refused : (test : Bool) (why : Refusal) → refused_if test why ≡ None → test ≡ false
+not_refused false why none = refl
+not_refused true why none = absurd (cc)
+
+not_busy : (o : Option ℕ) → option_map SlotBusy o ≡ None → o ≡ None
+not_busy None none = refl
+not_busy (Some txn) none = absurd (cc)
+
+-- ---- what each refusal tests
+
+-- the transaction is open, and not rolling back
+pub record ActiveIn (s : EngineState) (txn : ℕ) : Type 0 where
+  pub still_open : is_open s.log txn ≡ true
+  pub active : is_rolling s.log txn ≡ false
+
+-- the slot is one of the volume
+pub record SlotIn (s : EngineState) (page slot : ℕ) : Type 0 where
+  pub within : page < volume_pages s
+  pub fits : slot < SLOTS
+
+-- so many records more, owed ones among them, still fit
+abbrev pub HasRoomFor : EngineState → ℕ → Type 0
+HasRoomFor s more = length s.log + owed s.log + more ≤ MAX_RECORDS
+
+pub record ChangePasses (s : EngineState) (txn page slot : ℕ) (kind : ChangeKind) : Type 0 where
+  pub active : ActiveIn s txn
+  pub place : SlotIn s page slot
+  pub free : holder s.log page slot kind txn ≡ None
+  pub room : HasRoomFor s 2
+  pub frame : frame_refusal s page ≡ None
+
+pub record BeginPasses (s : EngineState) : Type 0 where
+  pub few : length (open_in s.log) < MAX_OPEN
+  pub room : HasRoomFor s 3
+
+-- the transaction is open, and rolling back
+pub record RollsIn (s : EngineState) (txn : ℕ) : Type 0 where
+  pub still_open : is_open s.log txn ≡ true
+  pub rolling : is_rolling s.log txn ≡ true
+
+pub active_passes : (s : EngineState) (txn : ℕ) → active_refusal s txn ≡ None → ActiveIn s txn
+active_passes s txn none =
+    let both = none_of_both _ _ none in
+    record { still_open = not-false _ (not_refused _ _ both.0); active = not_refused _ _ both.1 }
+
+pub slot_passes : (s : EngineState) (page slot : ℕ) → page_refusal s page slot ≡ None → SlotIn s page slot
+slot_passes s page slot none =
+    let both = none_of_both _ _ none in
+    record { within = leb-false _ _ (not_refused _ _ both.0); fits = leb-false _ _ (not_refused _ _ both.1) }
+
+has_room : (s : EngineState) (more : ℕ) (why : Refusal) → refused_if (has_no_room s more) why ≡ None → HasRoomFor s more
+has_room s more why none = ltb-false _ _ (not_refused _ why none)
+
+pub change_passes : (s : EngineState) (txn page slot : ℕ) (kind : ChangeKind)
+    → change_refusal s txn page slot kind ≡ None → ChangePasses s txn page slot kind
+change_passes s txn page slot kind none =
+    let active = none_of_both _ _ none in
+    let place = none_of_both _ _ active.1 in
+    let rest = none_of_both _ _ place.1 in
+    let room = none_of_both _ _ rest.1 in
+    record {
+      active = active_passes s txn active.0;
+      place = slot_passes s page slot place.0;
+      free = not_busy _ rest.0;
+      room = has_room s 2 _ room.0;
+      frame = room.1;
+    }
+
+pub read_passes : (s : EngineState) (page slot : ℕ) → refusal s (event.Read page slot) ≡ None → SlotIn s page slot
+read_passes s page slot none = slot_passes s page slot (none_of_both (page_refusal s page slot) _ none).0
+
+pub begin_passes : (s : EngineState) → refusal s event.Begin ≡ None → BeginPasses s
+begin_passes s none =
+    let both = none_of_both _ _ none in
+    record { few = leb-false _ _ (not_refused _ _ both.0); room = has_room s 3 _ both.1 }
+
+-- a page that is not in memory and is not refused finds a frame
+pub frame_passes : (s : EngineState) (page : ℕ) → frame_refusal s page ≡ None → is_resident s.resident page ≡ false
+    → is_full s.frames (is_clean s.log s.written) s.resident ≡ false
+frame_passes s page none absent =
+    ap (λ (b : Bool). not b && is_full s.frames (is_clean s.log s.written) s.resident) (sym absent)
+    ∙ not_refused _ PoolFull none
+
+-- nor is the page that a call needs refused
+pub needed_passes : (s : EngineState) (event : Event) → refusal s event ≡ None
+    → IfSome (page_needed s event) (λ p. frame_refusal s p ≡ None)
+needed_passes s (event.Set txn page slot number) none = (change_passes s txn page slot kind.Set none).frame
+needed_passes s (event.Add txn page slot amount) none = (change_passes s txn page slot kind.Add none).frame
+needed_passes s (event.Read page slot) none = (none_of_both (page_refusal s page slot) _ none).1
+needed_passes s (event.UndoStep txn) none =
+    by_last (last_of (pending s.log txn)) (none_of_both (rolling_refusal s txn) _ none).1
+  where
+    by_last : (o : Option PendingChange) → option_map_or (λ p. frame_refusal s p.page) o None ≡ None
+        → IfSome (option_map (λ p. p.page) o) (λ p. frame_refusal s p ≡ None)
+    by_last None none = tt
+    by_last (Some p) none = none
+needed_passes s (event.UndoTo txn at) none =
+    by_taken (taken_back s txn at)
+    (none_of_both (refused_if (is_none (savepoint s.log txn at)) NoSavepoint) _
+    (none_of_both (active_refusal s txn) _ none).1).1
+  where
+    by_taken : (o : Option PendingChange) → option_map_or (λ p. frame_refusal s p.page) o None ≡ None
+        → IfSome (option_map (λ p. p.page) o) (λ p. frame_refusal s p ≡ None)
+    by_taken None none = tt
+    by_taken (Some p) none = none
+needed_passes s other none = tt
+
+pub undo_passes : (s : EngineState) (txn : ℕ) → refusal s (event.UndoStep txn) ≡ None → RollsIn s txn
+undo_passes s txn none =
+    let rolls = none_of_both (rolling_refusal s txn) _ none in
+    let both = none_of_both _ _ rolls.0 in
+    record { still_open = not-false _ (not_refused _ _ both.0); rolling = not-false _ (not_refused _ _ both.1) }
+
+pub back_passes : (s : EngineState) (txn at : ℕ) → refusal s (event.UndoTo txn at) ≡ None → ActiveIn s txn
+back_passes s txn at none = active_passes s txn (none_of_both (active_refusal s txn) _ none).0
+
+-- ---- a Commit is not refused as unsure
+
+-- the refusal of two tests is one of those that they name
+one_of_both : (first second : Bool) (a b why : Refusal) → or_else (refused_if first a) (refused_if second b) ≡ Some why
+    → (a ≡ why) ⊎ (b ≡ why)
+one_of_both true second a b why some = inl (same_Some a why some)
+one_of_both false true a b why some = inr (same_Some b why some)
+one_of_both false false a b why some = absurd (cc)
+
+pub commit_not_unsure : (s : EngineState) (txn lsn : ℕ) → active_refusal s txn ≡ Some (CommitUnsure lsn) → ⊥
+commit_not_unsure s txn lsn some =
+    elim (one_of_both (not (is_open s.log txn)) (is_rolling s.log txn) NoTxn TxnRolling (CommitUnsure lsn) some) [
+      | inl same ↦ (cc)
+      | inr same ↦ (cc)
+    ]
+
+pub commit_not_by_device : (s : EngineState) (txn : ℕ) → active_refusal s txn ≡ Some LogFault → ⊥
+commit_not_by_device s txn some =
+    elim (one_of_both (not (is_open s.log txn)) (is_rolling s.log txn) NoTxn TxnRolling LogFault some) [
+      | inl same ↦ (cc)
+      | inr same ↦ (cc)
+    ]
+
+-- ---- the log is full
+
+-- the second of two refusals, which the first never is
+second_of_both : (a b : Option Refusal) (why : Refusal) → (a ≡ Some why → ⊥) → or_else a b ≡ Some why
+    → (a ≡ None) × (b ≡ Some why)
+second_of_both None b why never some = (refl, some)
+second_of_both (Some other) b why never some = absurd (never some)
+
+refused_so : (test : Bool) (why other : Refusal) → refused_if test why ≡ Some other → (test ≡ true) × (why ≡ other)
+refused_so test why other some = cond_some test why other some
+
+busy_not_full : (o : Option ℕ) → option_map SlotBusy o ≡ Some LogFull → ⊥
+busy_not_full None some = (cc)
+busy_not_full (Some txn) some = let same = same_Some _ _ some in (cc)
+
+-- a test does not give a refusal that it does not name
+not_of_one : (test : Bool) (a why : Refusal) → (a ≡ why → ⊥) → refused_if test a ≡ Some why → ⊥
+not_of_one test a why not_a some = not_a (refused_so test a why some).1
+
+-- nor do two
+not_of_both : (first second : Bool) (a b why : Refusal) → (a ≡ why → ⊥) → (b ≡ why → ⊥)
+    → or_else (refused_if first a) (refused_if second b) ≡ Some why → ⊥
+not_of_both first second a b why not_a not_b some =
+    elim (one_of_both first second a b why some) [ inl same ↦ not_a same | inr same ↦ not_b same ]
+
+-- a page that finds no frame is refused for that
+frame_not_full : (s : EngineState) (page : ℕ) → frame_refusal s page ≡ Some LogFull → ⊥
+frame_not_full s page full = not_of_one _ PoolFull LogFull (λ same. (cc)) full
+
+-- the first of two refusals, where the second is another one
+full_first : (test : Bool) (b : Option Refusal) → (b ≡ Some LogFull → ⊥)
+    → or_else (refused_if test LogFull) b ≡ Some LogFull → test ≡ true
+full_first true b never full = refl
+full_first false b never full = absurd (never full)
+
+-- a Begin is refused for room alone
+pub begin_full : (s : EngineState) → refusal s event.Begin ≡ Some LogFull
+    → (length (open_in s.log) < MAX_OPEN) × (MAX_RECORDS < length s.log + owed s.log + 3)
+begin_full s full =
+    let few = not_of_one _ TooManyTxns LogFull (λ same. (cc)) in
+    let both = second_of_both (refused_if _ TooManyTxns) _ LogFull few full in
+    (leb-false _ _ (not_refused _ _ both.0), ltb-true _ _ (refused_so _ _ _ both.1).0)
+
+-- and so is a change
+pub change_full : (s : EngineState) (txn page slot : ℕ) (kind : ChangeKind)
+    → change_refusal s txn page slot kind ≡ Some LogFull
+    → ActiveIn s txn × (holder s.log page slot kind txn ≡ None) × (MAX_RECORDS < length s.log + owed s.log + 2)
+change_full s txn page slot kind full =
+    let active = second_of_both (active_refusal s txn) _ LogFull
+    (not_of_both _ _ NoTxn TxnRolling LogFull (λ same. (cc)) (λ same. (cc))) full in
+    let place = second_of_both (page_refusal s page slot) _ LogFull
+    (not_of_both _ _ PageOut SlotOut LogFull (λ same. (cc)) (λ same. (cc))) active.1 in
+    let free = second_of_both (option_map SlotBusy (holder s.log page slot kind txn)) _ LogFull
+    (busy_not_full (holder s.log page slot kind txn)) place.1 in (
+      active_passes s txn active.0,
+      not_busy _ free.0,
+      ltb-true _ _ (full_first (has_no_room s 2) (frame_refusal s page)
+          (frame_not_full s page) free.1),
+    )
+
+-- no other call is
+pub active_not_full : (s : EngineState) (txn : ℕ) → active_refusal s txn ≡ Some LogFull → ⊥
+active_not_full s txn full = not_of_both _ _ NoTxn TxnRolling LogFull (λ same. (cc)) (λ same. (cc)) full
+
+pub read_not_full : (s : EngineState) (page slot : ℕ) → refusal s (event.Read page slot) ≡ Some LogFull → ⊥
+read_not_full s page slot full =
+    frame_not_full s page (second_of_both (page_refusal s page slot) _ LogFull
+    (not_of_both _ _ PageOut SlotOut LogFull (λ same. (cc)) (λ same. (cc))) full).1
+
+pub undo_not_full : (s : EngineState) (txn : ℕ) → refusal s (event.UndoStep txn) ≡ Some LogFull → ⊥
+undo_not_full s txn full =
+    let frame = second_of_both (rolling_refusal s txn) _ LogFull
+    (not_of_both _ _ NoTxn NotRolling LogFull (λ same. (cc)) (λ same. (cc))) full in
+    by_last (last_of (pending s.log txn)) frame.1
+  where
+    by_last : (o : Option PendingChange) → option_map_or (λ p. frame_refusal s p.page) o None ≡ Some LogFull → ⊥
+    by_last None e = (cc)
+    by_last (Some p) e = frame_not_full s p.page e
+
+pub back_not_full : (s : EngineState) (txn at : ℕ) → refusal s (event.UndoTo txn at) ≡ Some LogFull → ⊥
+back_not_full s txn at full =
+    let known = second_of_both (active_refusal s txn) _ LogFull
+    (not_of_both _ _ NoTxn TxnRolling LogFull (λ same. (cc)) (λ same. (cc))) full in
+    let frame = second_of_both (refused_if (is_none (savepoint s.log txn at)) NoSavepoint) _ LogFull
+    (not_of_one _ NoSavepoint LogFull (λ same. (cc))) known.1 in
+    by_taken (taken_back s txn at) frame.1
+  where
+    by_taken : (o : Option PendingChange) → option_map_or (λ p. frame_refusal s p.page) o None ≡ Some LogFull → ⊥
+    by_taken None e = (cc)
+    by_taken (Some p) e = frame_not_full s p.page e
+
+pub write_begin_not_full : (s : EngineState) (page : ℕ) → refusal s (event.WriteBegin page) ≡ Some LogFull → ⊥
+write_begin_not_full s page full =
+    not_of_both _ _ WriteBegun NotDirty LogFull (λ same. (cc)) (λ same. (cc))
+    (second_of_both (refused_if _ PageOut) _ LogFull (not_of_one _ PageOut LogFull (λ same. (cc))) full).1
+
+pub write_end_not_full : (s : EngineState) (page : ℕ) → refusal s (event.WriteEnd page) ≡ Some LogFull → ⊥
+write_end_not_full s page full = not_of_both _ _ PageOut NoWrite LogFull (λ same. (cc)) (λ same. (cc)) full
+
+-- ---- writes of pages
+
+-- a page may be written: it is one of the volume, none of its writes is in progress, and it is dirty
+pub record WriteBegins (s : EngineState) (page : ℕ) : Type 0 where
+  pub within : page < volume_pages s
+  pub free : image_of s page ≡ None
+  pub dirty : is_none (rec_lsn_of s page) ≡ false
+
+-- a write of the page is in progress
+pub record WriteEnds (s : EngineState) (page : ℕ) : Type 0 where
+  pub within : page < volume_pages s
+  pub image : Page
+  pub there : image_of s page ≡ Some image
+
+none_by_test : {X : Type 0} (o : Option X) → is_some o ≡ false → o ≡ None
+none_by_test None no_some = refl
+none_by_test (Some x) no_some = absurd (cc)
+
+some_by_test : {X : Type 0} (o : Option X) → is_none o ≡ false → (x : X) × (o ≡ Some x)
+some_by_test None no_none = absurd (cc)
+some_by_test (Some x) no_none = (x, refl)
+
+pub write_begin_passes : (s : EngineState) (page : ℕ) → refusal s (event.WriteBegin page) ≡ None → WriteBegins s page
+write_begin_passes s page none =
+    let place = none_of_both _ _ none in
+    let rest = none_of_both _ _ place.1 in
+    record {
+      within = leb-false _ _ (not_refused _ _ place.0);
+      free = none_by_test (image_of s page) (not_refused _ _ rest.0);
+      dirty = not_refused _ _ rest.1;
+    }
+
+pub write_end_passes : (s : EngineState) (page : ℕ) → refusal s (event.WriteEnd page) ≡ None → WriteEnds s page
+write_end_passes s page none =
+    let place = none_of_both _ _ none in
+    let some = some_by_test (image_of s page) (not_refused _ _ place.1) in
+    record { within = leb-false _ _ (not_refused _ _ place.0); image = some.0; there = some.1 }
+
+-- ---- checkpoints
+
+-- a checkpoint may begin
+pub record CkptBegins (s : EngineState) : Type 0 where
+  pub idle : open_checkpoint s.log ≡ None
+  pub room : HasRoomFor s 1
+
+-- the gather of the open checkpoint may go on by a step
+pub record GatherGoesOn (s : EngineState) : Type 0 where
+  pub ckpt : Checkpoint
+  pub still_open : open_checkpoint s.log ≡ Some ckpt
+  pub room : (r : Record) → gathered_record s ≡ Some r → HasRoomFor s 1
+
+-- the open checkpoint may end
+pub record CkptEnds (s : EngineState) : Type 0 where
+  pub ckpt : Checkpoint
+  pub still_open : open_checkpoint s.log ≡ Some ckpt
+  pub done : s.left ≡ none_left
+  pub room : HasRoomFor s 1
+
+-- a test that some value passes
+some_passes : {X : Type 0} (o : Option X) (x : X) (other : Bool) → o ≡ Some x → (is_some o && other) ≡ other
+some_passes o x other is = ap (λ p. is_some p && other) is
+
+none_left_if_done : (left : Left) → is_done left ≡ true → left ≡ none_left
+none_left_if_done none_left done = refl
+none_left_if_done pages_left done = cc
+none_left_if_done txns_left done = cc
+
+pub ckpt_begin_passes : (s : EngineState) → refusal s event.CkptBegin ≡ None → CkptBegins s
+ckpt_begin_passes s none =
+    let both = none_of_both _ _ none in
+    record { idle = none_by_test (open_checkpoint s.log) (not_refused _ _ both.0); room = has_room s 1 _ both.1 }
+
+pub gather_passes : (s : EngineState) → refusal s event.CkptGather ≡ None → GatherGoesOn s
+gather_passes s none =
+    let both = none_of_both _ _ none in
+    let some = some_by_test (open_checkpoint s.log) (not_refused _ _ both.0) in
+    record {
+      ckpt = some.0;
+      still_open = some.1;
+      room = λ r made.
+          ltb-false _ _ (sym (some_passes (gathered_record s) r (has_no_room s 1) made) ∙ not_refused _ _ both.1);
+    }
+
+pub ckpt_end_passes : (s : EngineState) → refusal s event.CkptEnd ≡ None → CkptEnds s
+ckpt_end_passes s none =
+    let both = none_of_both _ _ none in
+    let some = some_by_test (open_checkpoint s.log) (not_refused _ _ both.0) in
+    let rest = none_of_both _ _ both.1 in
+    record {
+      ckpt = some.0;
+      still_open = some.1;
+      done = none_left_if_done s.left (not-false _ (not_refused _ _ rest.0));
+      room = has_room s 1 _ rest.1;
+    }
+
+-- they are refused for room
+
+both_hold : (a b : Bool) → (a && b) ≡ true → (a ≡ true) × (b ≡ true)
+both_hold true b is = (refl, is)
+both_hold false b is = cc
+
+some_if : {X : Type 0} (o : Option X) → is_some o ≡ true → (x : X) × (o ≡ Some x)
+some_if None is = cc
+some_if (Some x) is = (x, refl)
+
+pub ckpt_begin_full : (s : EngineState) → refusal s event.CkptBegin ≡ Some LogFull
+    → (open_checkpoint s.log ≡ None) × (MAX_RECORDS < length s.log + owed s.log + 1)
+ckpt_begin_full s full =
+    let both = second_of_both (refused_if _ CkptOpen) _ LogFull (not_of_one _ CkptOpen LogFull (λ same. (cc))) full in
+    (none_by_test (open_checkpoint s.log) (not_refused _ _ both.0), ltb-true _ _ (refused_so _ _ _ both.1).0)
+
+-- a step of a gather that would append a record, and has no room for it
+pub record GatherIsFull (s : EngineState) : Type 0 where
+  pub ckpt : Checkpoint
+  pub still_open : open_checkpoint s.log ≡ Some ckpt
+  pub r : Record
+  pub made : gathered_record s ≡ Some r
+  pub past : MAX_RECORDS < length s.log + owed s.log + 1
+
+pub gather_full : (s : EngineState) → refusal s event.CkptGather ≡ Some LogFull → GatherIsFull s
+gather_full s full =
+    let both = second_of_both (ckpt_refusal s) _ LogFull (not_of_one _ NoCkpt LogFull (λ same. (cc))) full in
+    let some = some_by_test (open_checkpoint s.log) (not_refused _ _ both.0) in
+    let tests = both_hold _ _ (refused_so _ _ _ both.1).0 in
+    let appends = some_if (gathered_record s) tests.0 in
+    record {
+      ckpt = some.0;
+      still_open = some.1;
+      r = appends.0;
+      made = appends.1;
+      past = ltb-true _ _ tests.1;
+    }
+
+-- a checkpoint that could end, and has no room for its EndChkpt
+pub record EndIsFull (s : EngineState) : Type 0 where
+  pub ckpt : Checkpoint
+  pub still_open : open_checkpoint s.log ≡ Some ckpt
+  pub done : s.left ≡ none_left
+  pub past : MAX_RECORDS < length s.log + owed s.log + 1
+
+pub ckpt_end_full : (s : EngineState) → refusal s event.CkptEnd ≡ Some LogFull → EndIsFull s
+ckpt_end_full s full =
+    let both = second_of_both (ckpt_refusal s) _ LogFull (not_of_one _ NoCkpt LogFull (λ same. (cc))) full in
+    let some = some_by_test (open_checkpoint s.log) (not_refused _ _ both.0) in
+    let rest = second_of_both (refused_if _ GatherLeft) _ LogFull (not_of_one _ GatherLeft LogFull (λ same.
+    (cc))) both.1 in
+    record {
+      ckpt = some.0;
+      still_open = some.1;
+      done = none_left_if_done s.left (not-false _ (not_refused _ _ rest.0));
+      past = ltb-true _ _ (refused_so _ _ _ rest.1).0;
+    }
+
+-- ---- growth
+
+-- the volume may have so many pages, which are more than it has
+pub record Extends (s : EngineState) (count : ℕ) : Type 0 where
+  pub more : volume_pages s < count
+  pub few : count ≤ MAX_PAGES
+  pub room : HasRoomFor s 1
+
+neither_holds : (a b : Bool) → (a || b) ≡ false → (a ≡ false) × (b ≡ false)
+neither_holds true b is = cc
+neither_holds false b is = (refl, is)
+
+pub extend_passes : (s : EngineState) (count : ℕ) → refusal s (event.Extend count) ≡ None → Extends s count
+extend_passes s count none =
+    let both = none_of_both _ _ none in
+    let tests = neither_holds _ _ (not_refused _ _ both.0) in
+    record {
+      more = leb-false _ _ tests.0;
+      few = ltb-false _ _ tests.1;
+      room = has_room s 1 _ both.1;
+    }
+
+pub extend_full : (s : EngineState) (count : ℕ) → refusal s (event.Extend count) ≡ Some LogFull
+    → MAX_RECORDS < length s.log + owed s.log + 1
+extend_full s count full =
+    let both = second_of_both (refused_if _ (NotLarger (volume_pages s))) _ LogFull
+    (not_of_one _ (NotLarger (volume_pages s)) LogFull (λ same. (cc))) full in
+    ltb-true _ _ (refused_so _ _ _ both.1).0
+
+-- ---- calls on copies
+
+-- a refusal of the vault is none for want of room in the log
+vault_not_full : (o : Option CopyFault) → option_map of_vault o ≡ Some LogFull → ⊥
+vault_not_full None full = cc
+vault_not_full (Some fault.OutOfMemory) full = cc
+vault_not_full (Some fault.NoCopy) full = cc
+vault_not_full (Some fault.CopyNotOpen) full = cc
+vault_not_full (Some fault.CopyNotComplete) full = cc
+vault_not_full (Some (fault.PagesLeft page)) full = cc
+vault_not_full (Some fault.TooManyCopies) full = cc
+
+take_not_full : (s : EngineState) (copy page : ℕ) → refusal s (event.Take copy page) ≡ Some LogFull → ⊥
+take_not_full s copy page full =
+    not_of_both _ _ PageOut PageDecided LogFull (λ same. (cc)) (λ same. (cc))
+    (second_of_both (copy_refusal s copy) _ LogFull (vault_not_full _) full).1
+
+repair_not_full : (s : EngineState) (copy page : ℕ) → refusal s (event.Repair copy page) ≡ Some LogFull → ⊥
+repair_not_full s copy page full =
+    not_of_both _ _ PageOut WriteBegun LogFull (λ same. (cc)) (λ same. (cc))
+    (second_of_both (option_map of_vault (complete_refusal (state_of s.copies copy))) _ LogFull (vault_not_full _) full).1
+
+abbrev pub IsOfCopies : Event → Type 0
+IsOfCopies event.CopyFull = Unit {0}
+IsOfCopies (event.CopyInc parent) = Unit {0}
+IsOfCopies (event.Take copy page) = Unit {0}
+IsOfCopies (event.Seal copy) = Unit {0}
+IsOfCopies (event.DropCopy copy) = Unit {0}
+IsOfCopies (event.Repair copy page) = Unit {0}
+IsOfCopies other = ⊥
+
+pub copy_not_full : (s : EngineState) (event : Event) → IsOfCopies event → refusal s event ≡ Some LogFull → ⊥
+copy_not_full s event.CopyFull is full =
+    vault_not_full _ (second_of_both (refused_if _ NoMaster) _ LogFull
+    (not_of_one _ NoMaster LogFull (λ same. (cc))) full).1
+copy_not_full s (event.CopyInc parent) is full = vault_not_full _ full
+copy_not_full s (event.Take copy page) is full = take_not_full s copy page full
+copy_not_full s (event.Seal copy) is full = vault_not_full _ full
+copy_not_full s (event.DropCopy copy) is full = vault_not_full _ full
+copy_not_full s (event.Repair copy page) is full = repair_not_full s copy page full
+copy_not_full s event is full = absurd is
+
+-- a copy that is to be read on is being read
+vault_passes : (o : Option CopyFault) → option_map of_vault o ≡ None → o ≡ None
+vault_passes None none = refl
+vault_passes (Some f) none = cc
+
+reading_if_drop : (state : CopyState) → drop_refusal state ≡ None → (copy : CopyView) × (state ≡ reading copy)
+reading_if_drop (reading copy) none = (copy, refl)
+reading_if_drop (complete copy) none = cc
+reading_if_drop dropped none = cc
+
+none_mapped : (f : ℕ → CopyFault) (o : Option ℕ) → option_map f o ≡ None → o ≡ None
+none_mapped f None none = refl
+none_mapped f (Some n) none = cc
+
+reading_if_seal : (state : CopyState) → seal_refusal state ≡ None
+    → (copy : CopyView) × (state ≡ reading copy) × (least_undecided copy.pages ≡ None)
+reading_if_seal (reading copy) none = (copy, refl, none_mapped PagesLeft (least_undecided copy.pages) none)
+reading_if_seal (complete copy) none = cc
+reading_if_seal dropped none = cc
+
+complete_if : (state : CopyState) → complete_refusal state ≡ None → (copy : CopyView) × (state ≡ complete copy)
+complete_if (reading copy) none = cc
+complete_if (complete copy) none = (copy, refl)
+complete_if dropped none = cc
+
+pub drop_passes : (s : EngineState) (copy : ℕ) → copy_refusal s copy ≡ None
+    → (c : CopyView) × (state_of s.copies copy ≡ reading c)
+drop_passes s copy none = reading_if_drop (state_of s.copies copy) (vault_passes _ none)
+
+pub seal_passes : (s : EngineState) (copy : ℕ) → refusal s (event.Seal copy) ≡ None
+    → (c : CopyView) × (state_of s.copies copy ≡ reading c) × (least_undecided c.pages ≡ None)
+seal_passes s copy none = reading_if_seal (state_of s.copies copy) (vault_passes _ none)
+
+or_none : (a b : Option CopyFault) → option_or a b ≡ None → a ≡ None
+or_none None b none = refl
+or_none (Some f) b none = cc
+
+or_none_next : (a b : Option CopyFault) → option_or a b ≡ None → b ≡ None
+or_none_next None b none = none
+or_none_next (Some f) b none = absurd (cc)
+
+few_ids : (copies : List CopyState) → open_refusal copies ≡ None → length copies < MAX_COPIES
+few_ids copies none = by_test (nat_lt (length copies) MAX_COPIES) refl none
+  where
+    by_test : (few : Bool) → nat_lt (length copies) MAX_COPIES ≡ few
+        → (if few then None else Some fault.TooManyCopies) ≡ None → length copies < MAX_COPIES
+    by_test true is e = ltb-true (length copies) MAX_COPIES is
+    by_test false is e = cc
+
+pub inc_passes : (s : EngineState) (parent : ℕ) → refusal s (event.CopyInc parent) ≡ None
+    → (c : CopyView) × (state_of s.copies parent ≡ complete c)
+inc_passes s parent none =
+    complete_if (state_of s.copies parent)
+    (or_none (complete_refusal (state_of s.copies parent)) (open_refusal s.copies) (vault_passes _ none))
+
+pub inc_is_few : (s : EngineState) (parent : ℕ) → refusal s (event.CopyInc parent) ≡ None
+    → length s.copies < MAX_COPIES
+inc_is_few s parent none =
+    few_ids s.copies
+    (or_none_next (complete_refusal (state_of s.copies parent)) (open_refusal s.copies) (vault_passes _ none))
+
+pub record TakePasses (s : EngineState) (copy page : ℕ) : Type 0 where
+  pub view : CopyView
+  pub is_read : state_of s.copies copy ≡ reading view
+  pub within : page < length view.pages
+
+pub take_passes : (s : EngineState) (copy page : ℕ) → refusal s (event.Take copy page) ≡ None → TakePasses s copy page
+take_passes s copy page none =
+    let both = none_of_both (copy_refusal s copy) _ none in
+    let there = drop_passes s copy both.0 in
+    let rest = none_of_both (refused_if (nat_le (pages_in (state_of s.copies copy)) page) PageOut) _ both.1 in
+    record {
+      view = there.0;
+      is_read = there.1;
+      within = subst (λ (state : CopyState). page < pages_in state) there.1 (leb-false _ _ (not_refused _ _ rest.0));
+    }
+
+master_if : (o : Option Point) → is_none o ≡ false → IsSome o
+master_if None e = cc
+master_if (Some point) e = refl
+
+pub full_passes : (s : EngineState) → refusal s event.CopyFull ≡ None → IsSome s.master
+full_passes s none = master_if s.master
+    (not_refused _ _ (none_of_both (refused_if (is_none s.master) NoMaster) _ none).0)
+
+pub full_is_few : (s : EngineState) → refusal s event.CopyFull ≡ None → length s.copies < MAX_COPIES
+full_is_few s none =
+    few_ids s.copies (vault_passes _ (none_of_both (refused_if (is_none s.master) NoMaster) _ none).1)
+
+-- a page may be repaired: the copy is complete, and no write of the page is in progress
+pub record RepairPasses (s : EngineState) (copy page : ℕ) : Type 0 where
+  pub view : CopyView
+  pub is_complete : state_of s.copies copy ≡ complete view
+  pub within : page < volume_pages s
+  pub idle : image_of s page ≡ None
+
+pub repair_passes : (s : EngineState) (copy page : ℕ) → refusal s (event.Repair copy page) ≡ None
+    → RepairPasses s copy page
+repair_passes s copy page none =
+    let both = none_of_both (option_map of_vault (complete_refusal (state_of s.copies copy))) _ none in
+    let there = complete_if (state_of s.copies copy) (vault_passes _ both.0) in
+    let rest = none_of_both (refused_if (nat_le (volume_pages s) page) PageOut) _ both.1 in
+    record {
+      view = there.0;
+      is_complete = there.1;
+      within = leb-false _ _ (not_refused _ _ rest.0);
+      idle = none_by_test (image_of s page) (not_refused _ _ rest.1);
+    }

@@ -1,0 +1,180 @@
+-- The record of an accepted event may stand at the end of the log.
+use Rattle.std.proofs.Common.{◌≡◌, ℕ, ◌^◌, ◌<◌, true, length, refl, subst, arith}
+use Rattle.std.specs.Prelude.{Some, None}
+use Rattle.std.proofs.lemmas.Option.{same_Some}
+use Rattle.std.proofs.lemmas.List.Elements.{All-weaker}
+use Rattle.page_core.specs.declared.change.Change.{Change}
+use Rattle.page_core.specs.declared.change.Change.TheVariants.{Set, Add}
+use Rattle.page_core.specs.declared.change.ChangeKind.TheVariants as kind
+use Rattle.page_core.specs.Change.{kind_of}
+use Rattle.log_rules.specs.declared.pending_change.PendingChange.{PendingChange}
+use Rattle.log_records.specs.declared.limits.TheConstants.{MAX_RECORDS}
+use Rattle.log_records.specs.declared.record.Record.{Record}
+use Rattle.log_records.specs.declared.record.Record.TheVariants as log
+use Rattle.log_rules.specs.Linked.{number_in}
+use Rattle.log_records.specs.Log.{StandsAt}
+use Rattle.log_records.specs.Record.{IsBefore, IsChange, IsLsn, IsRecord, IsTxn}
+use Rattle.log_rules.specs.Transactions.{is_open, last_lsn, last_of, pending}
+use Rattle.engine_calls.specs.declared.event.Event.{Event}
+use Rattle.engine_calls.specs.declared.event.Event.TheVariants as event
+use Rattle.engine_rules.specs.EngineState.{EngineState, IsFit, abort_record, commit_record, comp_record, end, end_record}
+use Rattle.engine_rules.specs.EngineState.{log_of, next_txn, update_record}
+use Rattle.engine_rules.specs.EngineState.{volume_pages}
+use Rattle.engine_calls.specs.EventFits.{EventFits}
+use Rattle.engine_rules.specs.Refusal.{refusal}
+use Rattle.engine_rules.proofs.Follows.{end_record_has, gather_record_has, undo_has}
+use Rattle.log_rules.proofs.Public.{StandsBefore, all_stand, last_lsn_is_before, last_pending, length_begun}
+use Rattle.log_rules.proofs.Public.{lsn_is_lsn, open_is_txn, undo_fits, undo_has_no_before}
+use Rattle.engine_rules.proofs.GatherSteps.{end_ckpt_stands, pages_stand, txn_stand}
+use Rattle.engine_rules.proofs.Numbers.{number_fits}
+use Rattle.engine_rules.proofs.Refusals.{ChangePasses, active_passes, change_passes, ckpt_end_passes, gather_passes}
+use Rattle.engine_rules.proofs.Refusals.{back_passes, extend_passes, undo_passes}
+use Rattle.engine_rules.specs.Call.{record_for}
+use Rattle.engine_rules.proofs.StepsBack.{back_record_has}
+use Rattle.log_records.proofs.Public.{page_count-is_count}
+
+abbrev pub StandsAtEnd : EngineState → Record → Type 0
+StandsAtEnd s r = StandsAt (volume_pages s) (end s) r
+
+-- ---- its parts
+
+end_is_lsn : (s : EngineState) → IsFit s → IsLsn (end s)
+end_is_lsn s fit = lsn_is_lsn (length s.log) fit.valid.count
+
+-- the numbers of a record of an open transaction
+record OpenParts (s : EngineState) (txn : ℕ) : Type 0 where
+  lsn : IsLsn (end s)
+  number : IsTxn txn
+  prev : IsBefore (end s) (last_lsn s.log txn)
+
+open_parts : (s : EngineState) (txn : ℕ) → IsFit s → is_open s.log txn ≡ true → OpenParts s txn
+open_parts s txn fit still_open = record {
+  lsn = end_is_lsn s fit;
+  number = open_is_txn s.log txn fit.linked fit.valid.count still_open;
+  prev = last_lsn_is_before (log_of s) txn fit.valid still_open;
+}
+
+-- ---- each record
+
+begin_stands : (s : EngineState) → IsFit s → StandsAtEnd s (log.Begin (end s) (next_txn s))
+begin_stands s fit = record {
+  lsn = refl;
+  valid = (
+    end_is_lsn s fit,
+    record { first = omega arith; fits = let few = fit.valid.count in omega (arith, length_begun s.log) },
+  );
+  within = tt;
+}
+
+update_stands : (s : EngineState) (txn page slot : ℕ) (change : Change) → IsFit s
+    → ChangePasses s txn page slot (kind_of change) → IsChange change
+    → StandsAtEnd s (update_record s txn page slot change)
+update_stands s txn page slot change fit passes fits =
+    let parts = open_parts s txn fit passes.active.still_open in
+    let within = passes.place.within in
+    record {
+      lsn = refl;
+      valid = (
+        parts.lsn,
+        parts.number,
+        parts.prev,
+        record { page = let most = (page_count-is_count (log_of s) fit.valid).most in omega arith; slot = passes.place.fits; change = fits },
+      );
+      within = within;
+    }
+
+set_fits : (s : EngineState) (page slot number : ℕ) → IsFit s → number < 2 ^ 64
+    → IsChange (Set (number_in s.log page slot) number)
+set_fits s page slot number fit fits =
+    let all = all_stand (log_of s) fit.valid in
+    let before = All-weaker (StandsBefore (volume_pages s) (end s)) IsRecord (λ r stands. stands.valid) s.log all in
+    (number_fits s.log page slot before, fits)
+
+commit_stands : (s : EngineState) (txn : ℕ) → IsFit s → is_open s.log txn ≡ true
+    → StandsAtEnd s (commit_record s txn)
+commit_stands s txn fit still_open =
+    let parts = open_parts s txn fit still_open in
+    record { lsn = refl; valid = (parts.lsn, parts.number, parts.prev); within = tt }
+
+abort_stands : (s : EngineState) (txn : ℕ) → IsFit s → is_open s.log txn ≡ true
+    → StandsAtEnd s (abort_record s txn)
+abort_stands s txn fit still_open =
+    let parts = open_parts s txn fit still_open in
+    record { lsn = refl; valid = (parts.lsn, parts.number, parts.prev); within = tt }
+
+end_stands : (s : EngineState) (txn : ℕ) → IsFit s → is_open s.log txn ≡ true
+    → StandsAtEnd s (end_record s txn)
+end_stands s txn fit still_open =
+    let parts = open_parts s txn fit still_open in
+    record { lsn = refl; valid = (parts.lsn, parts.number, parts.prev); within = tt }
+
+comp_stands : (s : EngineState) (txn : ℕ) (p : PendingChange) → IsFit s → is_open s.log txn ≡ true
+    → last_of (pending s.log txn) ≡ Some p → StandsAtEnd s (comp_record s txn p)
+comp_stands s txn p fit still_open last =
+    let parts = open_parts s txn fit still_open in
+    let change = last_pending (log_of s) txn p fit.valid last in
+    let fits = change.fits in
+    record {
+      lsn = refl;
+      valid = (
+        parts.lsn,
+        parts.number,
+        parts.prev,
+        record { page = fits.page; slot = fits.slot; change = undo_fits p.change fits.change },
+        change.prev,
+        undo_has_no_before p.change,
+      );
+      within = change.within;
+    }
+
+-- ---- the record of an accepted event
+
+pub stands : (s : EngineState) (event : Event) (r : Record) → IsFit s → EventFits event
+    → refusal s event ≡ None → record_for s event ≡ Some r → StandsAtEnd s r
+stands s event.Begin r fit fits none made = subst (StandsAtEnd s) (same_Some _ _ made) (begin_stands s fit)
+stands s (event.Set txn page slot number) r fit fits none made =
+    subst (StandsAtEnd s) (same_Some _ _ made)
+    (update_stands s txn page slot (Set (number_in s.log page slot) number) fit
+    (change_passes s txn page slot kind.Set none) (set_fits s page slot number fit fits))
+stands s (event.Add txn page slot amount) r fit fits none made =
+    subst (StandsAtEnd s) (same_Some _ _ made)
+    (update_stands s txn page slot (Add amount) fit (change_passes s txn page slot kind.Add none) fits)
+stands s (event.Read page slot) r fit fits none made = absurd (cc)
+stands s event.CopyFull r fit fits none made = absurd (cc)
+stands s (event.CopyInc parent) r fit fits none made = absurd (cc)
+stands s (event.Take copy page) r fit fits none made = absurd (cc)
+stands s (event.Seal copy) r fit fits none made = absurd (cc)
+stands s (event.DropCopy copy) r fit fits none made = absurd (cc)
+stands s (event.Repair copy page) r fit fits none made = absurd (cc)
+stands s (event.Commit txn) r fit fits none made =
+    subst (StandsAtEnd s) (same_Some _ _ made) (commit_stands s txn fit (active_passes s txn none).still_open)
+stands s (event.Abort txn) r fit fits none made =
+    subst (StandsAtEnd s) (same_Some _ _ made) (abort_stands s txn fit (active_passes s txn none).still_open)
+stands s (event.UndoStep txn) r fit fits none made =
+    let still_open = (undo_passes s txn none).still_open in
+    undo_has (StandsAtEnd s) s txn r made (λ p last. comp_stands s txn p fit still_open last)
+    (λ no_more. end_stands s txn fit still_open)
+stands s (event.Savepoint txn) r fit fits none made = absurd (cc)
+stands s (event.UndoTo txn at) r fit fits none made =
+    let still_open = (back_passes s txn at none).still_open in
+    back_record_has (StandsAtEnd s) s txn at r made (λ p last. comp_stands s txn p fit still_open last)
+stands s event.Force r fit fits none made = absurd (cc)
+stands s (event.WriteBegin page) r fit fits none made = absurd (cc)
+stands s (event.WriteEnd page) r fit fits none made = absurd (cc)
+stands s event.CkptBegin r fit fits none made =
+    subst (StandsAtEnd s) (same_Some _ _ made) (record { lsn = refl; valid = end_is_lsn s fit; within = tt })
+stands s event.CkptGather r fit fits none made =
+    let room = (gather_passes s none).room r made in
+    let few : length s.log < MAX_RECORDS = omega arith in
+    gather_record_has (StandsAtEnd s) s r none made (λ c pages is finds. pages_stand s c pages fit is finds few)
+    (λ c t is finds. txn_stand s c t fit is finds few)
+stands s (event.Extend count) r fit fits none made =
+    let passes = extend_passes s count none in
+    subst (StandsAtEnd s) (same_Some _ _ made) (record {
+      lsn = refl;
+      valid = (end_is_lsn s fit, record { least = let more = passes.more in omega arith; most = passes.few });
+      within = tt;
+    })
+stands s event.CkptEnd r fit fits none made =
+    let room = (ckpt_end_passes s none).room in
+    end_record_has (StandsAtEnd s) s r none made (λ c is done. end_ckpt_stands s c fit is done (omega arith))

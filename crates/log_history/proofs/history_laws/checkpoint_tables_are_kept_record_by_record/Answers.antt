@@ -1,5 +1,0 @@
-use Rattle.log_history.proofs.CheckpointTables.{checkpoint_table_of_push}
-use Rattle.log_history.proofs.history_laws.checkpoint_tables_are_kept_record_by_record.Goals as goal
-
-pub returns : goal.returns
-returns c = checkpoint_table_of_push

@@ -1,5 +1,0 @@
-use Rattle.log_history.proofs.CheckpointTables.{goes_as_noted}
-use Rattle.log_history.proofs.history_laws.checkpoint_tables_say_what_goes.Goals as goal
-
-pub returns : goal.returns
-returns c = goes_as_noted

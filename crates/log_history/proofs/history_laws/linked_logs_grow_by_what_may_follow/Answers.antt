@@ -1,5 +1,0 @@
-use Rattle.log_history.proofs.Histories.{linked_none, linked_push}
-use Rattle.log_history.proofs.history_laws.linked_logs_grow_by_what_may_follow.Goals as goal
-
-pub returns : goal.returns
-returns c = record { none = linked_none; more = linked_push }

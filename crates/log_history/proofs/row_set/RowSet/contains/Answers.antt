@@ -1,8 +1,0 @@
-use Rattle.std.proofs.Common.{ap, eqb}
-use Rattle.std.proofs.lemmas.Nat.Bits.{shr_and_one}
-use Rattle.log_history.specs.RowSet.{has_row}
-use Rattle.log_history.proofs.row_set.RowSet.contains.Goals as goal
-
-pub returns : goal.returns
-unfolding has_row
-returns c = ap (λ n. eqb n 1) (shr_and_one c.args.self.bits c.args.row)

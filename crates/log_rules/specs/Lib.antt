@@ -1,0 +1,11 @@
+pub mod Transactions
+pub mod Linked
+pub mod Checkpoint
+pub mod Committed
+pub mod Savepoints
+pub mod Growth
+pub mod Work
+pub mod Checked
+pub mod Table
+pub mod CheckpointTable
+pub mod History

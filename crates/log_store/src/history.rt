@@ -1,0 +1,204 @@
+//! Replays a log while it is read. The records so far have led to a state of transactions,
+//! checkpoints and pages, and that state decides whether the next record may follow.
+
+ghost use Rattle.std.specs.Prelude.{◌↔◌, length, IsTrue};
+ghost use Rattle.log_records.specs.Log.{IsWithin};
+ghost use Rattle.log_records.specs.Record.{IsRecord};
+ghost use Rattle.log_rules.specs.History.{NamesNumberOn};
+
+use crate::checkpoints::Checkpoints;
+use log_records::{Record, redo_on_its_page};
+use page_core::{Change, Page, PageNo, SlotNo, formatted_pages, grow_reserved};
+use std::alloc::{AllocError, Global};
+use std::marker::Model;
+use txn_table::OpenTransactions;
+
+/// The state to which the records of a log lead: its open transactions, its checkpoints, and its
+/// pages with the changes of all records (ARIES, sections 3, 5.4 and 6.2).
+#[derive(Drop)]
+pub struct History {
+    txns: OpenTransactions,
+    checkpoints: Checkpoints,
+    pages: Vec<Page>,
+}
+
+impl Model for History {
+    ghost use Rattle.log_rules.specs.History.{Made};
+    ghost use Rattle.log_records.specs.Image.{AreNumbered};
+
+    ghost Value = { Made };
+
+    ghost view = { λ history. record {
+      table = history.txns;
+      checkpoints = history.checkpoints;
+      pages = history.pages.items;
+    } };
+
+    ghost invariant = { λ history. AreNumbered history.pages.items };
+}
+
+impl History {
+    ghost use Rattle.std.specs.Prelude.{ℕ, ◌≡◌, [], length, IfOk, IsTrue, OnErr};
+    ghost use Rattle.log_records.specs.declared.record.Record.TheVariants.{Extend};
+    ghost use Rattle.log_rules.specs.History.{IsMadeOf, MayComeNext, followed};
+    ghost use Rattle.log_records.specs.Log.{IsWithin};
+    ghost use Rattle.log_records.specs.Record.{IsOfCheckpoint, IsOfTransaction, IsRecord};
+
+    /// What the empty log of so many pages makes: no transaction, and formatted pages. An `Err`
+    /// comes where memory for the pages is refused.
+    pub fn start(alloc: Global, pages: u32) -> Result<History, AllocError>
+        ensures { IfOk result (IsMadeOf (record { pages = pages; records = [] })) }
+    {
+        Ok(History {
+            txns: OpenTransactions::new(alloc),
+            checkpoints: Checkpoints::new(alloc),
+            pages: formatted_pages(alloc, pages)?,
+        })
+    }
+
+    /// The pages, in order of their numbers, with the changes of all records so far.
+    pub fn pages(&self) -> &[Page]
+        ensures { result.now ≡ self.now.pages }
+    {
+        &self.pages
+    }
+
+    /// The open transactions after all records so far. The rest is let go.
+    pub fn into_open(self) -> OpenTransactions
+        ensures { result ≡ self.table }
+    {
+        self.txns
+    }
+
+    /// Prefetches what a change of a slot will look at. For a slot that is not there it does
+    /// nothing. What it answers says nothing, but a compiler must keep the look for it.
+    pub fn look(&self, page: PageNo, slot: SlotNo) -> u64 {
+        let seen = match self.pages.get(page.0 as usize) {
+            Some(page) => page.lsn.0 ^ *page.slots.get(slot.0 as usize).unwrap_or(&0),
+            None => 0,
+        };
+        seen ^ self.txns.look(page, slot) as u64
+    }
+
+    /// Takes the next record if it may come next, and answers whether it may. Where it may not,
+    /// nothing changes. An `Err` comes where room for the tables is refused, and changes nothing
+    /// either.
+    #[inline(always)]
+    pub fn follow(&mut self, next: &Record) -> Result<bool, AllocError>
+        requires valid { IsRecord next.now }
+        requires within { IsWithin (length self.old.pages) next.now }
+        ensures taken { IfOk result (λ may. IsTrue may
+            → MayComeNext self.old next.now × (self.new ≡ followed self.old next.now)) }
+        ensures refused { IfOk result (λ may. MayComeNext self.old next.now → IsTrue may) }
+        ensures same { IfOk result (λ may. ¬ IsTrue may → self.new ≡ self.old) }
+        ensures err { OnErr result (self.new ≡ self.old) }
+    {
+        match *next {
+            Record::BeginChkpt { .. }
+            | Record::ChkptPages { .. }
+            | Record::ChkptTxns { .. }
+            | Record::EndChkpt { .. } => self.follow_checkpoint(next),
+            Record::Begin { .. }
+            | Record::Update { .. }
+            | Record::Comp { .. }
+            | Record::Commit { .. }
+            | Record::Abort { .. }
+            | Record::End { .. } => self.follow_transaction(next),
+            Record::Extend { pages, .. } => self.follow_extend(next, pages),
+        }
+    }
+
+    /// The same of an Extend, which gives the volume so many pages.
+    fn follow_extend(&mut self, next: &Record, pages: u32) -> Result<bool, AllocError>
+        requires kind { (lsn : ℕ) × (next.now ≡ Extend lsn pages) }
+        ensures taken { IfOk result (λ may. IsTrue may
+            → MayComeNext self.old next.now × (self.new ≡ followed self.old next.now)) }
+        ensures refused { IfOk result (λ may. MayComeNext self.old next.now → IsTrue may) }
+        ensures same { IfOk result (λ may. ¬ IsTrue may → self.new ≡ self.old) }
+        ensures err { OnErr result (self.new ≡ self.old) }
+    {
+        let present = self.pages.len();
+        if pages as usize <= present {
+            return Ok(false);
+        }
+        self.pages.reserve(pages as usize - present)?;
+        self.checkpoints.note(next)?;
+        grow_reserved(&mut self.pages, pages);
+        Ok(true)
+    }
+
+    /// The same of a checkpoint's record, which changes no page.
+    #[inline(always)]
+    fn follow_checkpoint(&mut self, next: &Record) -> Result<bool, AllocError>
+        requires valid { IsRecord next.now }
+        requires kind { IsOfCheckpoint next.now }
+        ensures taken { IfOk result (λ may. IsTrue may
+            → MayComeNext self.old next.now × (self.new ≡ followed self.old next.now)) }
+        ensures refused { IfOk result (λ may. MayComeNext self.old next.now → IsTrue may) }
+        ensures same { IfOk result (λ may. ¬ IsTrue may → self.new ≡ self.old) }
+        ensures err { OnErr result (self.new ≡ self.old) }
+    {
+        if !self.txns.may_note(next) || !self.checkpoints.may_note(&self.txns, next) {
+            return Ok(false);
+        }
+        self.checkpoints.note(next)?;
+        Ok(true)
+    }
+
+    /// The same of a transaction's record.
+    #[inline(always)]
+    fn follow_transaction(&mut self, next: &Record) -> Result<bool, AllocError>
+        requires valid { IsRecord next.now }
+        requires within { IsWithin (length self.old.pages) next.now }
+        requires kind { IsOfTransaction next.now }
+        ensures taken { IfOk result (λ may. IsTrue may
+            → MayComeNext self.old next.now × (self.new ≡ followed self.old next.now)) }
+        ensures refused { IfOk result (λ may. MayComeNext self.old next.now → IsTrue may) }
+        ensures same { IfOk result (λ may. ¬ IsTrue may → self.new ≡ self.old) }
+        ensures err { OnErr result (self.new ≡ self.old) }
+    {
+        if !names_number_on(&self.pages, next) {
+            return Ok(false);
+        }
+        self.checkpoints.note_page(next)?;
+        match self.txns.note_if_may(next) {
+            Ok(true) => {}
+            refused => {
+                self.checkpoints.take_back();
+                return refused;
+            }
+        }
+        redo_on_its_page(&mut self.pages, next);
+        Ok(true)
+    }
+}
+
+/// Whether a record that replaces a number names the one that is there.
+fn names_number_on(pages: &[Page], next: &Record) -> bool
+    requires valid { IsRecord next.now }
+    requires within { IsWithin (length pages.now) next.now }
+    ensures { IsTrue result ↔ NamesNumberOn pages.now next.now }
+{
+    match *next {
+        Record::Update {
+            page,
+            slot,
+            change: Change::Set { before, .. },
+            ..
+        } => pages[page.0 as usize].slots[slot.0 as usize] == before,
+        Record::Update {
+            change: Change::Add { .. },
+            ..
+        }
+        | Record::Begin { .. }
+        | Record::Comp { .. }
+        | Record::Commit { .. }
+        | Record::Abort { .. }
+        | Record::End { .. }
+        | Record::BeginChkpt { .. }
+        | Record::ChkptPages { .. }
+        | Record::ChkptTxns { .. }
+        | Record::EndChkpt { .. }
+        | Record::Extend { .. } => true,
+    }
+}
