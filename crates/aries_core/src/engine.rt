@@ -26,7 +26,9 @@ ghost use Rattle.engine_calls.specs.declared.event.Event.TheVariants as event;
 use crate::open_ckpt::OpenCkpt;
 use buffer_pool::Pool;
 use copy_vault::Vault;
-use engine_calls::{Answer, Event, Gathered, PlayFault, Refusal, Reply, Setup, SteppedBack, Took, Undone};
+use engine_calls::{
+    Answer, Event, Gathered, PlayFault, Refusal, Reply, Setup, SteppedBack, Took, Undone,
+};
 use fuzzy_ckpt::Point;
 use log_records::{MAX_OPEN, MAX_RECORDS, Record};
 use log_rules::PendingChange;

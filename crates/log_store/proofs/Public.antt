@@ -3,12 +3,9 @@
 -- Which fault is the first.
 pub use Rattle.log_store.proofs.Faults.{StartsWith, break_at, first_chain, first_record}
 pub use Rattle.log_store.proofs.Faults.{first_too_long, first_torn, none_in_log, range_of_front}
-
 -- What a fault of the bytes so far says of the whole input.
 pub use Rattle.log_store.proofs.Inputs.{at_some, refuses_more}
-
 -- The bytes of master records.
 pub use Rattle.log_store.proofs.Masters.{length-master_bytes, same_master}
-
 -- The bytes of a log have one first fault at most.
 pub use Rattle.log_store.proofs.OneFault.{one_first_fault}
