@@ -135,6 +135,7 @@ bank_disks() {
 run_checks() {
     check contracts python3 -- python3 tools/contracts.py --check
     check documents python3 -- python3 tools/check_docs.py
+    check laws python3 -- python3 tools/check_laws.py
     check examples "$program" python3 -- checks/check.sh "$program"
     check day "$program" python3 -- checks/day.sh "$program" build/day
     check memory "$program" python3 rustc -- refuse_memory checks.memory "$program"

@@ -6,14 +6,16 @@ pub use Rattle.buffer_pool.specs as buffer_pool
 pub use Rattle.copy_audit.specs as copy_audit
 pub use Rattle.copy_coverage.specs as copy_coverage
 pub use Rattle.copy_vault.specs as copy_vault
+pub use Rattle.engine_calls.specs as engine_calls
 pub use Rattle.engine_restart.specs as engine_restart
+pub use Rattle.engine_rules.specs as engine_rules
 pub use Rattle.engine_run.specs as engine_run
 pub use Rattle.file_devices.specs as file_devices
 pub use Rattle.fuzzy_ckpt.specs as fuzzy_ckpt
 pub use Rattle.log_changes.specs as log_changes
 pub use Rattle.log_front.specs as log_front
-pub use Rattle.log_history.specs as log_history
 pub use Rattle.log_records.specs as log_records
+pub use Rattle.log_rules.specs as log_rules
 pub use Rattle.log_store.specs as log_store
 pub use Rattle.loser_undo.specs as loser_undo
 pub use Rattle.media_restore.specs as media_restore
