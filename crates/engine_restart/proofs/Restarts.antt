@@ -16,7 +16,7 @@ use Rattle.log_rules.proofs.Public.{number_of_volume}
 use Rattle.loser_undo.specs.Recovery.{HasCommitted}
 use Rattle.loser_undo.specs.Undo.{after_undo}
 use Rattle.loser_undo.proofs.Public.{undo_closes, undo_is_linked, undone_number}
-use Rattle.copy_vault.specs.Copy.{CopyView}
+use Rattle.image_copies.specs.Copy.{CopyView}
 use Rattle.copy_vault.specs.Vault.{CopyState, complete, dropped, reading, state_of}
 use Rattle.copy_coverage.specs.Copied.{AreRestorable}
 use Rattle.engine_rules.specs.Resumed.{MayResume}

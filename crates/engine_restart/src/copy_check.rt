@@ -3,8 +3,8 @@
 ghost use Rattle.std.specs.Prelude.{◌≡◌, ◌↔◌, ◌++◌, [], ◌∷◌, IfErr, IfOk, IfSome, IsTrue, None, OnOk, map};
 ghost use Rattle.std.specs.List.{range_with_len};
 ghost use Rattle.copy_coverage.specs.Copied.{IsPoint};
-ghost use Rattle.copy_vault.specs.Chain.{content};
-ghost use Rattle.copy_vault.specs.Copy.{IsComplete};
+ghost use Rattle.image_copies.specs.Chain.{content};
+ghost use Rattle.image_copies.specs.Copy.{IsComplete};
 ghost use Rattle.log_rules.specs.Linked.{IsLinked};
 ghost use Rattle.log_records.specs.Log.{IsLog, page_count};
 ghost use Rattle.log_records.specs.Record.{IsLsn};

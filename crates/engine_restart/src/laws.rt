@@ -5,7 +5,7 @@ ghost use Rattle.std.specs.List.{All};
 ghost use Rattle.log_records.specs.Image.{redo_all};
 ghost use Rattle.log_records.specs.Log.{page_count};
 ghost use Rattle.loser_undo.specs.Recovery.{HasCommitted};
-ghost use Rattle.copy_vault.specs.Copy.{CopyView};
+ghost use Rattle.image_copies.specs.Copy.{CopyView};
 ghost use Rattle.copy_vault.specs.Vault.{complete, state_of};
 ghost use Rattle.copy_coverage.specs.Copied.{Restores};
 ghost use Rattle.engine_rules.specs.AnsweredCommits.{StandsIn};

@@ -7,14 +7,14 @@ use Rattle.std.proofs.lemmas.List.{length-map, map-append, map-set}
 use Rattle.page_core.specs.declared.page.Page.{Page}
 use Rattle.log_rules.specs.declared.pending_change.PendingChange.{PendingChange}
 use Rattle.log_rules.specs.Transactions.{last_of, pending}
-use Rattle.copy_vault.specs.declared.copy_id.CopyKind.{CopyKind}
-use Rattle.copy_vault.specs.declared.copy_id.CopyKind.TheVariants.{Full, Inc}
-use Rattle.copy_vault.specs.declared.copy_id.Decision.{Decision}
-use Rattle.copy_vault.specs.declared.copy_id.Decision.TheVariants.{Taken, Kept}
-use Rattle.copy_vault.specs.Copy.{answer_of, decided_by, undecided}
+use Rattle.image_copies.specs.declared.copy_id.CopyKind.{CopyKind}
+use Rattle.image_copies.specs.declared.copy_id.CopyKind.TheVariants.{Full, Inc}
+use Rattle.image_copies.specs.declared.copy_id.Decision.{Decision}
+use Rattle.image_copies.specs.declared.copy_id.Decision.TheVariants.{Taken, Kept}
+use Rattle.image_copies.specs.Copy.{answer_of, decided_by, undecided}
 use Rattle.copy_vault.specs.Vault.{CopyState, answer_in, complete, decided_in, dropped, opened, reading, sealed_in}
 use Rattle.copy_vault.specs.Vault.{since_of, state_of, with_state}
-use Rattle.copy_vault.proofs.Public.{map-replicate}
+use Rattle.image_copies.proofs.Public.{map-replicate}
 use Rattle.engine_calls.specs.declared.event.Answer.{Answer}
 use Rattle.engine_calls.specs.declared.event.Answer.TheVariants as answer
 use Rattle.engine_calls.specs.declared.event.Event.{Event}

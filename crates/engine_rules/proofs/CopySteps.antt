@@ -14,10 +14,10 @@ use Rattle.log_records.specs.Coverage.{Covers, IsPast}
 use Rattle.log_rules.specs.declared.pending_change.PendingChange.{PendingChange}
 use Rattle.log_rules.specs.Transactions.{last_of, pending}
 use Rattle.fuzzy_ckpt.specs.declared.point.Point.{Point}
-use Rattle.copy_vault.specs.declared.copy_id.CopyKind.{CopyKind}
-use Rattle.copy_vault.specs.declared.copy_id.CopyKind.TheVariants.{Full, Inc}
-use Rattle.copy_vault.specs.declared.copy_id.TheConstants.{MAX_COPIES}
-use Rattle.copy_vault.specs.Copy.{CopyView}
+use Rattle.image_copies.specs.declared.copy_id.CopyKind.{CopyKind}
+use Rattle.image_copies.specs.declared.copy_id.CopyKind.TheVariants.{Full, Inc}
+use Rattle.image_copies.specs.declared.copy_id.TheConstants.{MAX_COPIES}
+use Rattle.image_copies.specs.Copy.{CopyView}
 use Rattle.copy_vault.specs.Vault.{CopyState, HasParent, complete, decided, dropped, state_of}
 use Rattle.copy_vault.specs.Vault.{opened as opened_with}
 use Rattle.copy_coverage.specs.Copied.{AreCopied, IsPoint, copy_in}

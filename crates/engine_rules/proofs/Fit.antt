@@ -22,7 +22,7 @@ use Rattle.log_rules.specs.Linked.{MayFollow}
 use Rattle.log_rules.specs.Transactions.{owed}
 use Rattle.log_rules.proofs.Public.{linked_none, linked_push}
 use Rattle.log_rules.proofs.Public.{valid_next}
-use Rattle.copy_vault.specs.Copy.{CopyView}
+use Rattle.image_copies.specs.Copy.{CopyView}
 use Rattle.copy_vault.specs.Vault.{complete, dropped, reading, state_of}
 use Rattle.copy_coverage.specs.Copied.{AreCopied, copy_in}
 use Rattle.copy_coverage.proofs.Public.{copied_later}

@@ -19,10 +19,10 @@ use Rattle.log_rules.specs.Transactions.{holder, is_open, is_rolling, last_of, o
 use Rattle.log_rules.specs.declared.pending_change.PendingChange.{PendingChange}
 use Rattle.fuzzy_ckpt.specs.declared.point.Point.{Point}
 use Rattle.copy_vault.specs.declared.fault.CopyFault.{CopyFault}
-use Rattle.copy_vault.specs.declared.copy_id.TheConstants.{MAX_COPIES}
+use Rattle.image_copies.specs.declared.copy_id.TheConstants.{MAX_COPIES}
 use Rattle.copy_vault.specs.declared.fault.CopyFault.TheVariants as fault
 use Rattle.copy_vault.specs.declared.fault.CopyFault.TheVariants.{PagesLeft}
-use Rattle.copy_vault.specs.Copy.{CopyView, least_undecided}
+use Rattle.image_copies.specs.Copy.{CopyView, least_undecided}
 use Rattle.copy_vault.specs.Vault.{CopyState, complete, complete_refusal, drop_refusal, dropped, open_refusal, reading}
 use Rattle.copy_vault.specs.Vault.{seal_refusal, state_of}
 use Rattle.engine_calls.specs.declared.event.Event.{Event}

@@ -3,6 +3,7 @@
 -- `Rattle.imgcopy_engine.specs.page_core.Volume`.
 pub use Rattle.aries_core.specs as aries_core
 pub use Rattle.buffer_pool.specs as buffer_pool
+pub use Rattle.copy_archives.specs as copy_archives
 pub use Rattle.copy_audit.specs as copy_audit
 pub use Rattle.copy_coverage.specs as copy_coverage
 pub use Rattle.copy_vault.specs as copy_vault
@@ -12,6 +13,7 @@ pub use Rattle.engine_rules.specs as engine_rules
 pub use Rattle.engine_run.specs as engine_run
 pub use Rattle.file_devices.specs as file_devices
 pub use Rattle.fuzzy_ckpt.specs as fuzzy_ckpt
+pub use Rattle.image_copies.specs as image_copies
 pub use Rattle.log_changes.specs as log_changes
 pub use Rattle.log_front.specs as log_front
 pub use Rattle.log_records.specs as log_records

@@ -4,8 +4,9 @@ ghost use Rattle.std.specs.Prelude.{◌≡◌, List, map, IfOk, IfErr, OnOk, OnE
 ghost use Rattle.log_records.specs.Coverage.{resume};
 ghost use Rattle.log_records.specs.Image.{redo_all};
 ghost use Rattle.log_records.specs.Log.{page_count};
-ghost use Rattle.copy_vault.specs.Chain.{IsChain, IsChainOf, contents, last_redo};
-ghost use Rattle.copy_vault.specs.Copy.{CopyView};
+ghost use Rattle.image_copies.specs.Chain.{IsChain, contents, last_redo};
+ghost use Rattle.copy_vault.specs.ChainOf.{IsChainOf};
+ghost use Rattle.image_copies.specs.Copy.{CopyView};
 ghost use Rattle.copy_coverage.specs.Kept.{IsKeptOf};
 ghost use Rattle.copy_coverage.specs.Retired.{HasRoomForUndo, IsRetired};
 ghost use Rattle.media_restore.specs.Load.{LoadRefuses, copy_refusal, kept_log, load_refusal};

@@ -1,7 +1,7 @@
 -- The copies that are taken up.
 use Rattle.std.specs.Prelude.{ℕ, ◌≡◌}
 use Rattle.copy_vault.specs.Added.{with_copy}
-use Rattle.copy_vault.specs.Copy.{CopyView}
+use Rattle.image_copies.specs.Copy.{CopyView}
 use Rattle.engine_restart.specs.Added.{MayAdd}
 use Rattle.engine_restart.specs.Restart.{RestartedView}
 

@@ -3,7 +3,7 @@ use Rattle.std.proofs.lemmas.Result.{err_from_is_err_and}
 use Rattle.log_records.specs.Log.{lsn_of}
 use Rattle.log_changes.specs.Kept.{Kept}
 use Rattle.page_core.proofs.Public.{always_ok, if_err}
-use Rattle.copy_vault.specs.ChainReading.{AreNoChain, IsChainRead}
+use Rattle.copy_archives.specs.ChainReading.{AreNoChain, IsChainRead}
 use Rattle.media_restore.specs.Files.{Files, IsOfLog, of_the_archives, of_the_master}
 use Rattle.media_restore.specs.FilesArchives.{end_of}
 use Rattle.media_restore.specs.FilesStop.{IsBehindFiles, behind_all, the_archives, the_log, the_master}

@@ -4,7 +4,7 @@ use Rattle.log_records.specs.Log.{lsn_of}
 use Rattle.log_store.specs.declared.fault.LogReadFault.TheVariants as log
 use Rattle.log_changes.specs.Kept.{Kept}
 use Rattle.page_core.specs.PageCounts.{PageCounts}
-use Rattle.copy_vault.specs.ChainReading.{AreNoChain, IsChainRead}
+use Rattle.copy_archives.specs.ChainReading.{AreNoChain, IsChainRead}
 use Rattle.media_restore.specs.Files.{Files, of_the_archives, of_the_master}
 use Rattle.media_restore.specs.FilesArchives.{end_of}
 use Rattle.media_restore.specs.FilesStop.{the_archives, the_log, the_master}

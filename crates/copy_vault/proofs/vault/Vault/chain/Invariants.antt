@@ -1,7 +1,7 @@
 use Rattle.std.proofs.Common.{reverse}
-use Rattle.copy_vault.specs.Chain.{lent}
+use Rattle.image_copies.specs.Chain.{lent}
 use Rattle.copy_vault.specs.Vault.{IsOfId}
-use Rattle.copy_vault.proofs.Chains.{IsTail}
+use Rattle.copy_vault.proofs.ChainsOf.{IsTail}
 use Rattle.copy_vault.proofs.vault.Vault.chain.Given as goal
 
 abbrev pub invariant-loop-parent : goal.invariant-loop-parent

@@ -1,0 +1,14 @@
+pub mod ArchiveReads
+pub mod ArchiveSteps
+pub mod ChainEnds
+pub mod ChainOnly
+pub mod ChainOpens
+pub mod ChainRows
+pub mod ChainSteps
+pub mod Counts
+pub mod Fronts
+pub mod Headers
+pub mod OneFault
+pub mod Parts
+pub mod Public
+pub mod Writes

@@ -1,6 +1,0 @@
-use Rattle.std.proofs.Common.{◌≡◌, replicate}
-use Rattle.copy_vault.specs.declared.slots.PlacedDecision.TheVariants.{Undecided}
-use Rattle.copy_vault.proofs.slots.Slots.new.Given as goal
-
-abbrev pub invariant-loop : goal.invariant-loop
-invariant-loop l = l.marks.items ≡ replicate l.counter Undecided
