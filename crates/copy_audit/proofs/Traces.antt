@@ -5,8 +5,8 @@ use Rattle.std.specs.Prelude.{Option, Some, None, nat_le, slice_get}
 use Rattle.std.specs.List.{filter, range_with_len}
 use Rattle.std.specs.Option.{option_map_or}
 use Rattle.std.proofs.lemmas.Bool.{cases_lt, eq-eqb, eqb-true, le-leb}
-use Rattle.std.proofs.lemmas.List.{append-nil, append_assoc, get_or_append_left, length-append, take_all, take_more}
-use Rattle.std.proofs.lemmas.List.Elements.{filter_map-append, filter_passes}
+use Rattle.std.proofs.lemmas.List.{append-nil, append_assoc, get_or_append_left, length-append, take_all}
+use Rattle.std.proofs.lemmas.List.Elements.{filter_passes}
 use Rattle.std.proofs.lemmas.Option.{slice_get-get_or}
 use Rattle.std.proofs.lemmas.Slice.Eq.{bytes_eq-Decides}
 use Rattle.std.specs.Bool.{Decides}
@@ -21,8 +21,9 @@ use Rattle.log_records.specs.Image.{image, image_from, with_record}
 use Rattle.log_records.specs.Log.{IsLog, Log}
 use Rattle.log_records.specs.Record.{own_lsn}
 use Rattle.log_records.proofs.Public.{all_redone, at_each, of_each, past_is_named}
-use Rattle.log_records.proofs.Public.{image_from-append}
-use Rattle.page_redo.specs.PageRecords.{first_numbers_on, is_on, number_is_on, numbers_on, records_at}
+use Rattle.page_redo.specs.PageRecords.{first_numbers_on, is_on, number_is_on, numbers_on}
+use Rattle.log_store.specs.PageHistory.{records_at}
+use Rattle.log_store.proofs.Public.{all_more, none_more, some_more}
 use Rattle.page_redo.proofs.Public.{numbers_more, numbers_with, records_of_first}
 use Rattle.copy_audit.specs.declared.trace.Trace.{Trace}
 use Rattle.copy_audit.specs.Trace.{IsReach, IsSeen, IsTraced}
@@ -342,27 +343,14 @@ pub made_step : (rs : List Record) (ns : List ℕ) (page now next : Page) (i n :
     → n ≡ get_or ns i 0 → slice_get rs n ≡ Some r → now ≡ image_from page (records_at rs (take i ns))
     → next ≡ with_record now r → next ≡ image_from page (records_at rs (take (i + 1) ns))
 made_step rs ns page now next i n r lt is at before step =
-    step ∙ ap (λ (q : Page). with_record q r) before
-    ∙ sym (ap (λ (ms : List ℕ). image_from page (records_at rs ms)) (take_more ns i 0 lt)
-    ∙ ap (image_from page) (filter_map-append (slice_get rs) (take i ns) (get_or ns i 0 ∷ [])
-    ∙ ap (λ (xs : List Record). records_at rs (take i ns) ++ xs)
-    (ap (λ (m : ℕ). records_at rs (m ∷ [])) (sym is) ∙ one rs n r at))
-    ∙ image_from-append page (records_at rs (take i ns)) (r ∷ []))
-  where
-    one : (rs : List Record) (n : ℕ) (r : Record) → slice_get rs n ≡ Some r → records_at rs (n ∷ []) ≡ r ∷ []
-    one rs n r at = rw at refl
+    all_more page now next (records_at rs (take i ns)) (records_at rs (take (i + 1) ns)) r
+    (some_more rs ns i n r lt is at) before step
 
 pub made_skip : (rs : List Record) (ns : List ℕ) (page now : Page) (i n : ℕ) → i < length ns → n ≡ get_or ns i 0
     → slice_get rs n ≡ None → now ≡ image_from page (records_at rs (take i ns))
     → now ≡ image_from page (records_at rs (take (i + 1) ns))
 made_skip rs ns page now i n lt is at before =
-    before ∙ sym (ap (λ (ms : List ℕ). image_from page (records_at rs ms)) (take_more ns i 0 lt)
-    ∙ ap (image_from page) (filter_map-append (slice_get rs) (take i ns) (get_or ns i 0 ∷ [])
-    ∙ ap (λ (xs : List Record). records_at rs (take i ns) ++ xs)
-    (ap (λ (m : ℕ). records_at rs (m ∷ [])) (sym is) ∙ none rs n at) ∙ append-nil (records_at rs (take i ns))))
-  where
-    none : (rs : List Record) (n : ℕ) → slice_get rs n ≡ None → records_at rs (n ∷ []) ≡ []
-    none rs n at = rw at refl
+    before ∙ sym (ap (image_from page) (none_more rs ns i n lt is at))
 
 -- ---- whether two pages are the same
 

@@ -8,7 +8,8 @@ use Rattle.page_core.specs.Page.{formatted}
 use Rattle.log_records.specs.declared.record.Record.{Record}
 use Rattle.log_records.specs.Coverage.{Covers, IsPast}
 use Rattle.log_records.specs.Image.{image_from}
-use Rattle.page_redo.specs.PageRecords.{numbers_on, records_at}
+use Rattle.page_redo.specs.PageRecords.{numbers_on}
+use Rattle.log_store.specs.PageHistory.{records_at}
 use Rattle.copy_audit.specs.declared.reach.Reach.{Reach}
 use Rattle.copy_audit.specs.declared.trace.Trace.{Trace}
 

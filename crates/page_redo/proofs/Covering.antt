@@ -10,7 +10,8 @@ use Rattle.log_records.specs.declared.record.Record.{Record}
 use Rattle.log_records.specs.Record.{own_lsn}
 use Rattle.log_records.specs.Log.{Log, IsLog, lsn_of}
 use Rattle.log_records.specs.Image.{with_record, image_from, image}
-use Rattle.page_redo.specs.Redo.{is_above, redone}
+use Rattle.page_redo.specs.Redo.{redone}
+use Rattle.log_store.specs.PageHistory.{is_above}
 use Rattle.log_records.proofs.Public.{changes_or_not, image_from-append, image_from-more, lsn-image}
 use Rattle.page_redo.proofs.Redone.{filter-more, redo-more}
 

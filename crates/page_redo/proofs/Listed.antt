@@ -1,11 +1,9 @@
 -- Redo of a page by the list of its records.
-use Rattle.std.proofs.Common.{◌≡◌, ℕ, ◌+◌, ◌<◌, Bool, true, false, cond, eqb, List, [], ◌∷◌, ◌++◌}
-use Rattle.std.proofs.Common.{length, get_or, take, refl, sym, ap, ◌∙◌, append-nil}
+use Rattle.std.proofs.Common.{◌≡◌, ℕ, ◌+◌, ◌<◌, Bool, true, false, cond, eqb, List, [], ◌∷◌}
+use Rattle.std.proofs.Common.{length, get_or, take, refl, sym, ap, ◌∙◌}
 use Rattle.std.specs.Prelude.{Option, Some, None, ◌&&◌, nat_le, nat_lt, slice_get}
 use Rattle.std.specs.List.{filter}
 use Rattle.std.specs.Option.{option_map_or}
-use Rattle.std.proofs.lemmas.List.{take_more}
-use Rattle.std.proofs.lemmas.List.Elements.{filter-append, filter_map-append}
 use Rattle.page_core.specs.declared.page.Page.{Page}
 use Rattle.page_core.specs.Page.{put}
 use Rattle.log_records.specs.declared.page_change.PageChange.{PageChange}
@@ -13,9 +11,12 @@ use Rattle.log_records.specs.declared.record.Record.{Record}
 use Rattle.log_records.specs.Coverage.{changes, is_resumed, resume}
 use Rattle.log_records.specs.Image.{image_from, with_change, with_record}
 use Rattle.log_records.specs.Record.{change_of, own_lsn}
-use Rattle.log_records.proofs.Public.{image_from-append, number-with_record}
-use Rattle.page_redo.specs.PageRecords.{is_on, numbers_on, records_at}
-use Rattle.page_redo.specs.Redo.{is_above, redone}
+use Rattle.log_records.proofs.Public.{number-with_record}
+use Rattle.page_redo.specs.PageRecords.{is_on, numbers_on}
+use Rattle.log_store.specs.PageHistory.{records_at}
+use Rattle.page_redo.specs.Redo.{redone}
+use Rattle.log_store.specs.PageHistory.{is_above}
+use Rattle.log_store.proofs.Public.{above_more, none_more, some_more}
 use Rattle.page_redo.proofs.Counted.{records_of_numbers}
 
 -- ---- a record that does not change the page
@@ -78,32 +79,13 @@ pub list_step : (page : Page) (lsn : ℕ) (rs : List Record) (numbers : List ℕ
     → b ≡ is_above lsn r → next ≡ cond b (with_record now r) now
     → next ≡ image_from page (filter (is_above lsn) (records_at rs (take (i + 1) numbers)))
 list_step page lsn rs numbers i n r b now next lt is at before test step =
-    step ∙ ap (λ (t : Bool). cond t (with_record now r) now) test
-    ∙ sym (ap (λ (ns : List ℕ). image_from page (filter (is_above lsn) (records_at rs ns))) (take_more numbers i 0 lt)
-    ∙ ap (λ (xs : List Record). image_from page (filter (is_above lsn) xs))
-    (filter_map-append (slice_get rs) (take i numbers) (get_or numbers i 0 ∷ [])
-    ∙ ap (λ (m : ℕ). records_at rs (take i numbers) ++ records_at rs (m ∷ [])) (sym is)
-    ∙ ap (λ (xs : List Record). records_at rs (take i numbers) ++ xs) (one rs n r at))
-    ∙ ap (image_from page) (filter-append (is_above lsn) (records_at rs (take i numbers)) (r ∷ []))
-    ∙ image_from-append page (filter (is_above lsn) (records_at rs (take i numbers))) (filter (is_above lsn) (r ∷ []))
-    ∙ ap (λ (q : Page). image_from q (filter (is_above lsn) (r ∷ []))) (sym before)
-    ∙ moved now r [] (is_above lsn r) ∙ refl)
-  where
-    one : (rs : List Record) (n : ℕ) (r : Record) → slice_get rs n ≡ Some r → records_at rs (n ∷ []) ≡ r ∷ []
-    one rs n r at = rw at refl
+    above_more page now next lsn (records_at rs (take i numbers)) (records_at rs (take (i + 1) numbers)) r b
+    (some_more rs numbers i n r lt is at) before test step
 
 pub list_skip : (page : Page) (lsn : ℕ) (rs : List Record) (numbers : List ℕ) (i n : ℕ) (now : Page)
     → i < length numbers → n ≡ get_or numbers i 0 → slice_get rs n ≡ None
     → now ≡ image_from page (filter (is_above lsn) (records_at rs (take i numbers)))
     → now ≡ image_from page (filter (is_above lsn) (records_at rs (take (i + 1) numbers)))
 list_skip page lsn rs numbers i n now lt is at before =
-    before ∙ sym (ap (λ (ns : List ℕ). image_from page (filter (is_above lsn) (records_at rs ns)))
-    (take_more numbers i 0 lt)
-    ∙ ap (λ (xs : List Record). image_from page (filter (is_above lsn) xs))
-    (filter_map-append (slice_get rs) (take i numbers) (get_or numbers i 0 ∷ [])
-    ∙ ap (λ (m : ℕ). records_at rs (take i numbers) ++ records_at rs (m ∷ [])) (sym is)
-    ∙ ap (λ (xs : List Record). records_at rs (take i numbers) ++ xs) (none rs n at)
-    ∙ append-nil (records_at rs (take i numbers))))
-  where
-    none : (rs : List Record) (n : ℕ) → slice_get rs n ≡ None → records_at rs (n ∷ []) ≡ []
-    none rs n at = rw at refl
+    before ∙ sym (ap (λ (xs : List Record). image_from page (filter (is_above lsn) xs))
+    (none_more rs numbers i n lt is at))

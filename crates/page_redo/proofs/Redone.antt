@@ -8,7 +8,7 @@ use Rattle.page_core.specs.declared.page.Page.{Page}
 use Rattle.log_records.specs.declared.record.Record.{Record}
 use Rattle.log_records.specs.Image.{image_from, with_record}
 use Rattle.log_records.proofs.Public.{image_from-append}
-use Rattle.page_redo.specs.Redo.{is_above}
+use Rattle.log_store.specs.PageHistory.{is_above}
 
 -- one record more is redone if it is above the LSN
 pub filter-more : (lsn : ℕ) (rs : List Record) (i : ℕ) (d : Record) → i < length rs

@@ -20,7 +20,8 @@ use Rattle.log_records.specs.Log.{AreWithin, IsLog, Log, lsn_of, page_count}
 use Rattle.log_records.specs.Record.{change_of, own_lsn}
 use Rattle.log_records.proofs.Public.{stands_in}
 use Rattle.log_records.proofs.Public.{changes_or_not, no_change, number-with_record, other_page}
-use Rattle.page_redo.specs.Redo.{is_above, redone, redone_all, redone_by}
+use Rattle.page_redo.specs.Redo.{redone, redone_all, redone_by}
+use Rattle.log_store.specs.PageHistory.{is_above}
 
 -- ---- one record
 

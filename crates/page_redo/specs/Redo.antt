@@ -1,14 +1,10 @@
 -- Redo by the page's LSN.
-use Rattle.std.specs.Prelude.{ℕ, nat_lt, Bool, List, filter, if◌then◌else◌}
+use Rattle.std.specs.Prelude.{List, filter, if◌then◌else◌}
 use Rattle.std.specs.List.{fold}
 use Rattle.page_core.specs.declared.page.Page.{Page}
 use Rattle.log_records.specs.declared.record.Record.{Record}
-use Rattle.log_records.specs.Record.{own_lsn}
 use Rattle.log_records.specs.Image.{image_from, with_record}
-
--- a record is redone on a page whose LSN is below the record's
-abbrev pub is_above : ℕ → Record → Bool
-is_above lsn r = nat_lt lsn (own_lsn r)
+use Rattle.log_store.specs.PageHistory.{is_above}
 
 -- a page after the redo of these records: just those above the page's LSN, in their order
 abbrev pub redone : Page → List Record → Page

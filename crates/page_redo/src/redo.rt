@@ -1,7 +1,8 @@
 //! Redoes records on pages (ARIES, section 6.2).
 
 ghost use Rattle.std.specs.Prelude.{◌≡◌};
-ghost use Rattle.page_redo.specs.Redo.{is_above, redone};
+ghost use Rattle.page_redo.specs.Redo.{redone};
+ghost use Rattle.log_store.specs.PageHistory.{is_above};
 
 use log_records::Record;
 use page_core::{Lsn, Page};

@@ -5,7 +5,8 @@ ghost use Rattle.std.specs.List.{range_with_len};
 ghost use Rattle.log_records.specs.Coverage.{resume};
 ghost use Rattle.log_records.specs.Image.{AreNumbered};
 ghost use Rattle.log_records.specs.Log.{page_count};
-ghost use Rattle.page_redo.specs.PageRecords.{numbers_on, records_at};
+ghost use Rattle.page_redo.specs.PageRecords.{numbers_on};
+ghost use Rattle.log_store.specs.PageHistory.{records_at};
 ghost use Rattle.page_redo.specs.Redo.{redone};
 
 use crate::page_records::{PageRecords, by_page};

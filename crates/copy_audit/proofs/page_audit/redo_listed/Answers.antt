@@ -4,7 +4,7 @@ use Rattle.std.proofs.lemmas.Option.{slice_get_past, slice_get_read}
 use Rattle.std.proofs.lemmas.Bool.{cases_lt, ltb-false, ltb-true}
 use Rattle.page_core.specs.Page.{formatted}
 use Rattle.log_records.specs.Image.{image_from}
-use Rattle.page_redo.specs.PageRecords.{records_at}
+use Rattle.log_store.specs.PageHistory.{records_at}
 use Rattle.copy_audit.specs.declared.trace.Trace.{Trace}
 use Rattle.copy_audit.proofs.Traces.{made_skip, made_step}
 use Rattle.copy_audit.proofs.page_audit.redo_listed.Goals as goal

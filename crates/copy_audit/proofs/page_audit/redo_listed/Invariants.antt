@@ -1,7 +1,7 @@
 use Rattle.std.proofs.Common.{◌≡◌, ◌-◌, ◌<◌, ◌≤◌, ℕ, length, get_or, take}
 use Rattle.page_core.specs.Page.{formatted}
 use Rattle.log_records.specs.Image.{image_from}
-use Rattle.page_redo.specs.PageRecords.{records_at}
+use Rattle.log_store.specs.PageHistory.{records_at}
 use Rattle.copy_audit.proofs.page_audit.redo_listed.Given as goal
 
 abbrev pub invariant-loop-trace : goal.invariant-loop-trace

@@ -6,7 +6,7 @@ use Rattle.log_records.specs.Log.{Log}
 use Rattle.log_records.proofs.Public.{resume_covering}
 use Rattle.log_records.proofs.Public.{number-image_from}
 use Rattle.image_copies.specs.Chain.{content, last_redo}
-use Rattle.page_redo.specs.Redo.{is_above}
+use Rattle.log_store.specs.PageHistory.{is_above}
 use Rattle.page_redo.proofs.rebuild.rebuild_page.Goals as goal
 
 resumed : (c : goal.After-redo_page) → c.redo_page.new.page

@@ -1,7 +1,7 @@
 use Rattle.std.proofs.Common.{◌≡◌, take}
 use Rattle.std.specs.List.{filter}
 use Rattle.log_records.specs.Image.{image_from}
-use Rattle.page_redo.specs.Redo.{is_above}
+use Rattle.log_store.specs.PageHistory.{is_above}
 use Rattle.page_redo.proofs.redo.redo_page.Given as goal
 
 abbrev pub invariant-loop-record : goal.invariant-loop-record

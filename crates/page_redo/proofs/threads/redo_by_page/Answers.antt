@@ -3,7 +3,8 @@ use Rattle.std.proofs.lemmas.List.{get_or-map, length-map, same_lists}
 use Rattle.std.proofs.lemmas.List.FromFn.{get_or-map-range_with_len}
 use Rattle.page_core.specs.declared.page.Page.{Page}
 use Rattle.log_records.specs.Coverage.{resume}
-use Rattle.page_redo.specs.PageRecords.{numbers_on, records_at}
+use Rattle.page_redo.specs.PageRecords.{numbers_on}
+use Rattle.log_store.specs.PageHistory.{records_at}
 use Rattle.page_redo.specs.Redo.{redone}
 use Rattle.page_redo.proofs.Listed.{redone_list}
 use Rattle.page_redo.proofs.threads.redo_by_page.Goals as goal

@@ -1,8 +1,8 @@
 use Rattle.std.proofs.Common.{◌≡◌, take}
 use Rattle.std.specs.List.{filter}
 use Rattle.log_records.specs.Image.{image_from}
-use Rattle.page_redo.specs.PageRecords.{records_at}
-use Rattle.page_redo.specs.Redo.{is_above}
+use Rattle.log_store.specs.PageHistory.{records_at}
+use Rattle.log_store.specs.PageHistory.{is_above}
 use Rattle.page_redo.proofs.threads.redo_numbered.Given as goal
 
 abbrev pub invariant-loop-number : goal.invariant-loop-number

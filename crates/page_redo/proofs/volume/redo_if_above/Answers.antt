@@ -3,7 +3,8 @@ use Rattle.std.specs.Prelude.{Option, Some, IfSome}
 use Rattle.log_records.specs.declared.page_change.PageChange.{PageChange}
 use Rattle.log_records.specs.Record.{change_of}
 use Rattle.log_records.specs.Image.{with_record}
-use Rattle.page_redo.specs.Redo.{is_above, redone_by}
+use Rattle.page_redo.specs.Redo.{redone_by}
+use Rattle.log_store.specs.PageHistory.{is_above}
 use Rattle.log_records.proofs.Public.{change_within}
 use Rattle.page_redo.proofs.Volumes.{none_redone, one_redone}
 use Rattle.page_redo.proofs.volume.redo_if_above.Goals as goal

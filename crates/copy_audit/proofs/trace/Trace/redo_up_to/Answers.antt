@@ -7,7 +7,8 @@ use Rattle.page_core.specs.Page.{formatted, put}
 use Rattle.log_records.specs.declared.record.Record.TheVariants.{Begin}
 use Rattle.log_records.proofs.Public.{number-image}
 use Rattle.log_changes.specs.Placed.{Placed}
-use Rattle.page_redo.specs.PageRecords.{numbers_on, records_at}
+use Rattle.page_redo.specs.PageRecords.{numbers_on}
+use Rattle.log_store.specs.PageHistory.{records_at}
 use Rattle.copy_audit.proofs.OnPage.{change_is, same_length}
 use Rattle.copy_audit.proofs.Traces.{made_step}
 use Rattle.copy_audit.proofs.trace.Trace.redo_up_to.Goals as goal

@@ -3,7 +3,8 @@ use Rattle.page_core.specs.Page.{formatted}
 use Rattle.log_records.specs.declared.record.Record.{Record}
 use Rattle.log_records.specs.Image.{image_from}
 use Rattle.log_changes.specs.Placed.{Placed}
-use Rattle.page_redo.specs.PageRecords.{numbers_on, records_at}
+use Rattle.page_redo.specs.PageRecords.{numbers_on}
+use Rattle.log_store.specs.PageHistory.{records_at}
 use Rattle.copy_audit.specs.Changes.{AreChangesOf}
 use Rattle.copy_audit.proofs.trace.Trace.redo_up_to.Given as goal
 
