@@ -15,8 +15,9 @@ use file_devices::{FailedFile, FileLog, FileStore};
 use log_front::Cut;
 use log_records::MAX_LOG_BYTES;
 use log_store::LogImage;
-use page_core::zeros;
+use page_core::{FaultName, zeros};
 use std::alloc::{AllocError, Global};
+use std::fmt;
 use std::fs::File;
 use std::thread::Threads;
 use txn_table::TablesFault;
@@ -46,6 +47,23 @@ pub enum ReopenFault {
     Restart(RestartFault),
     /// No engine goes on with the log.
     Tables(TablesFault),
+}
+
+impl fmt::Display for ReopenFault {
+    fn fmt<W: fmt::Write>(&self, f: &mut fmt::Formatter<W>) -> fmt::Result {
+        match self {
+            ReopenFault::OutOfMemory => write!(f, "{}", FaultName::OutOfMemory),
+            ReopenFault::File(why) => write!(f, "{why}"),
+            ReopenFault::Found(why) => write!(f, "{why}"),
+            ReopenFault::Restart(why) => write!(f, "{why}"),
+            ReopenFault::Tables(TablesFault::OutOfMemory) => write!(
+                f,
+                "{}",
+                FaultName::OutOfMemory
+            ),
+            ReopenFault::Tables(TablesFault::NoRoom) => write!(f, "{}", FaultName::LogFull),
+        }
+    }
 }
 
 impl From<AllocError> for ReopenFault {

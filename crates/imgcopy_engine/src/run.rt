@@ -12,8 +12,11 @@ use aries_core::{Engine, PlayFault, Setup};
 use copy_coverage::Retired;
 use engine_run::{MAX_SESSIONS, SettleFault, Shared, Work, settle};
 use log_store::LogDevice;
+use page_core::FaultName;
 use page_store::PageStore;
 use std::alloc::Global;
+use std::error::Error;
+use std::fmt;
 use std::marker::Brand;
 use std::sync::Wait;
 use std::sync::ledger::{Blank, Ledger};
@@ -47,6 +50,19 @@ pub enum RunFault {
     /// The tasks have worked, and what they were answered is not settled, or memory was refused.
     Unsettled(SettleFault),
 }
+
+impl fmt::Display for RunFault {
+    fn fmt<W: fmt::Write>(&self, f: &mut fmt::Formatter<W>) -> fmt::Result {
+        match self {
+            RunFault::NoEngine(why) => write!(f, "no engine: {why}"),
+            RunFault::TooManyTasks => write!(f, "more tasks than an engine has sessions"),
+            RunFault::OutOfMemory => write!(f, "{}", FaultName::OutOfMemory),
+            RunFault::Unsettled(why) => write!(f, "not settled: {why}"),
+        }
+    }
+}
+
+impl Error for RunFault {}
 
 /// Makes a shared engine over a formatted volume, as `Shared::new` does, has each task work in a
 /// thread of its own, with a session of its own, and settles the run. Where no thread can be made,

@@ -1,7 +1,8 @@
 //! Why a transaction was not committed.
 
 use aries_core::Refusal;
-use page_core::{Lsn, TxnNo};
+use page_core::{FaultName, Lsn, TxnNo};
+use std::fmt;
 
 /// Why the work of a transaction ends before its commit.
 #[derive(Clone, Copy, Debug, PartialEq, Eq)]
@@ -23,6 +24,15 @@ impl<E> From<Refusal> for Stop<E> {
     }
 }
 
+impl<E: fmt::Display> fmt::Display for Stop<E> {
+    fn fmt<W: fmt::Write>(&self, f: &mut fmt::Formatter<W>) -> fmt::Result {
+        match self {
+            Stop::Refused(why) => write!(f, "{why}"),
+            Stop::Own(why) => write!(f, "{why}"),
+        }
+    }
+}
+
 /// Why a transaction is not known to be committed.
 #[derive(Clone, Copy, Debug, PartialEq, Eq)]
 pub enum NotDone<E> {
@@ -35,6 +45,17 @@ pub enum NotDone<E> {
     Unsure(Lsn),
     /// It is still open: its rollback met this refusal. `roll_back` goes on with it.
     Left(TxnNo, Refusal),
+}
+
+impl<E: fmt::Display> fmt::Display for NotDone<E> {
+    fn fmt<W: fmt::Write>(&self, f: &mut fmt::Formatter<W>) -> fmt::Result {
+        match self {
+            NotDone::NotBegun(why) => write!(f, "not begun: {why}"),
+            NotDone::Stopped(why) => write!(f, "taken back: {why}"),
+            NotDone::Unsure(lsn) => write!(f, "{} {}", FaultName::CommitUnsure, lsn.0),
+            NotDone::Left(txn, why) => write!(f, "transaction {} is still open: {why}", txn.0),
+        }
+    }
 }
 
 /// A transaction that is committed: what its work has given, and the LSN of its Commit, which is

@@ -12,7 +12,8 @@ use std::thread;
 
 /// Begins a transaction, does its work, and ends it as the work ends: at `Ok` it is committed, and
 /// else all its changes are taken back. Where the work met a slot that is busy, it is tried again,
-/// at most so many times, each time in a transaction of its own.
+/// at most so many times, each time in a transaction of its own. If the slot is busy even then, it
+/// answers `Stopped` with that refusal, as it does with any other one.
 pub fn transact<C: Calls, T: Drop, E: Drop, F: FnMut(&mut C, TxnNo) -> Result<T, Stop<E>>>(
     client: &mut C,
     tries: u32,
