@@ -19,15 +19,12 @@ use Rattle.engine_calls.specs.declared.refusal.Refusal.TheVariants.{OutOfMemory,
 use Rattle.engine_rules.specs.CkptReplies.{VolumeSize, gather_from, new_size, point_from, with_gather, with_point, with_size}
 use Rattle.engine_rules.specs.EngineState.{EngineState, IsFit, IsMasterOf, begin_ckpt_record, effect, end, end_ckpt_record}
 use Rattle.engine_rules.specs.EngineState.{extend_record, log_of, new_state}
-use Rattle.engine_rules.specs.Call.{record_for}
-use Rattle.engine_rules.proofs.Follows.{end_record_has, gather_record_has}
 use Rattle.engine_rules.proofs.Growth.{count_then, growth_failed}
-use Rattle.engine_rules.proofs.NoCounts.{IsNoGrowth, call_gives_none}
+use Rattle.engine_rules.proofs.Makes.{BeginsNoCkpt, IsBeside, IsNoGrowth, Makes, MakesBeginChkpt, gives_none}
 use Rattle.std.specs.Option.{option_map_or}
 use Rattle.log_records.specs.declared.record.Record.{Record}
 use Rattle.log_records.specs.Log.{Log, lsn_of, page_count, page_count_below, with_next}
 use Rattle.log_records.specs.PageCount.{given_count}
-use Rattle.log_records.specs.Record.{IsOfTransaction}
 use Rattle.log_records.proofs.Public.{page_count-same}
 use Rattle.log_records.proofs.Public.{count_behind-nil, page_count_at-append}
 use Rattle.log_rules.specs.Checkpoint.{checkpoint_after}
@@ -37,12 +34,12 @@ use Rattle.engine_rules.specs.Gather.{is_done}
 use Rattle.engine_rules.specs.Refusal.{has_no_room, or_else, refused_if, refusal}
 use Rattle.engine_rules.specs.Run.{Run}
 use Rattle.engine_rules.specs.Step.{Fails, Step}
-use Rattle.engine_rules.proofs.Beside.{IsBeside, keeps_ckpts, of_transaction, open_stays}
+use Rattle.engine_rules.proofs.Beside.{open_stays}
 use Rattle.engine_rules.proofs.Gathers.{PassesPages, PassesTxns, TakesPages, TakesTxn, WasDone, ckpt_end_is, closed_part}
 use Rattle.engine_rules.proofs.Gathers.{gather_case, gather_has, passes_pages, passes_txns, takes_pages, takes_txn}
 use Rattle.engine_rules.proofs.Gathers.{was_done}
 use Rattle.engine_rules.proofs.Refusals.{ckpt_end_passes, gather_passes}
-use Rattle.engine_rules.proofs.Steps.{stays_or_grows}
+use Rattle.engine_rules.proofs.Steps.{stays_or_grows, step_leaves}
 
 -- ---- the master of a fit engine
 
@@ -195,7 +192,7 @@ master_of_step old size event.CkptGather (Err why) new notes (inr both) = same_m
 master_of_step old size event.CkptEnd (Err why) new notes (inl both) = same_master old new old both.1 refl
 master_of_step old size event.CkptEnd (Err why) new notes (inr both) = failed_point old why new both.1
 master_of_step old size event reply new notes step =
-    (keeps_ckpts old event reply new tt step).master ∙ sym (same_if_beside size old.master event reply tt)
+    (step_leaves old event reply new step).3 tt ∙ sym (same_if_beside size old.master event reply tt)
 
 -- a master stays one, or another takes its place
 has_point : (size : VolumeSize) (point : Option Point) (event : Event) (reply : Result Answer Refusal) → IsSome point
@@ -233,19 +230,6 @@ new_is_sized pages frames = record { now = sym (count_behind-nil pages); begun =
 abbrev BeginsNone : Record → Type 0
 BeginsNone (log.BeginChkpt lsn) = ⊥
 BeginsNone other = Unit {0}
-
-not_begin : (r : Record) → IsOfTransaction r → BeginsNone r
-not_begin (log.BeginChkpt lsn) of = absurd of
-not_begin (log.Begin lsn txn) of = tt
-not_begin (log.Update lsn txn prev page slot change) of = tt
-not_begin (log.Comp lsn txn prev undo_next page slot change) of = tt
-not_begin (log.Commit lsn txn prev) of = tt
-not_begin (log.Abort lsn txn prev) of = tt
-not_begin (log.End lsn txn prev) of = tt
-not_begin (log.ChkptPages lsn begin pages) of = tt
-not_begin (log.ChkptTxns lsn begin txn state last undo_next) of = tt
-not_begin (log.EndChkpt lsn begin redo) of = tt
-not_begin (log.Extend lsn count) of = tt
 
 -- it leaves the begin of the open checkpoint, or closes it
 begin_stays : (Q : ℕ → Type 0) (o : Option Checkpoint) (r : Record) → BeginsNone r → IfSome o (λ c. Q c.begin)
@@ -316,40 +300,30 @@ same_sized old new size sized is = record {
       (λ c. (c.begin < lsn_of (length l.records)) × (size.begun ≡ page_count_below l c.begin))) (sym is) sized.begun;
 }
 
--- of an event that begins no checkpoint, and does not grow the volume
-abbrev NoBegin : Event → Type 0
-NoBegin event.CkptBegin = ⊥
-NoBegin (event.Extend count) = ⊥
-NoBegin other = Unit {0}
-
-no_growth : (event : Event) → NoBegin event → IsNoGrowth event
+no_growth : (event : Event) → BeginsNoCkpt event → IsNoGrowth event
 no_growth (event.Extend count) not = not
 no_growth event not = tt
 
-record_begins_none : (s : EngineState) (event : Event) (r : Record) → NoBegin event → refusal s event ≡ None
-    → record_for s event ≡ Some r → BeginsNone r
-record_begins_none s event.CkptBegin r not none made = absurd not
-record_begins_none s (event.Extend count) r not none made = absurd not
-record_begins_none s event.CkptGather r not none made =
-    gather_record_has BeginsNone s r none made (λ c pages is finds. tt) (λ c t is finds. tt)
-record_begins_none s event.CkptEnd r not none made = end_record_has BeginsNone s r none made (λ c is done. tt)
-record_begins_none s event r not none made = not_begin r (of_transaction s event r tt tt made)
+record_begins_none : (s : EngineState) (event : Event) (r : Record) → BeginsNoCkpt event → Makes s event r
+    → BeginsNone r
+record_begins_none s event r not (MakesBeginChkpt ckpt begins passes) = absurd (begins not)
+record_begins_none s event r not other = tt
 
-size_stays : (size : VolumeSize) (event : Event) (reply : Result Answer Refusal) → NoBegin event
+size_stays : (size : VolumeSize) (event : Event) (reply : Result Answer Refusal) → BeginsNoCkpt event
     → with_size size event reply ≡ size
 size_stays size event.CkptBegin reply not = absurd not
 size_stays size (event.Extend count) reply not = absurd not
 size_stays size event reply not = refl
 
 sized_beside : (old : EngineState) (size : VolumeSize) (event : Event) (reply : Result Answer Refusal)
-    (new : EngineState) → NoBegin event → IsSized old size → Step old event reply new
+    (new : EngineState) → BeginsNoCkpt event → IsSized old size → Step old event reply new
     → IsSized new (with_size size event reply)
 sized_beside old size event reply new not sized step =
     subst (IsSized new) (sym (size_stays size event reply not)) (elim (stays_or_grows old event reply new step) [
       | inl stays ↦ same_sized old new size sized (λ i. record { pages = stays.pages i; records = stays.log i })
       | inr grows ↦
-          sized_push old new size grows.r sized (record_begins_none old event grows.r not grows.accepted grows.made)
-          (call_gives_none old event grows.r (no_growth event not) grows.made) (λ i. record { pages = grows.pages i; records = grows.log i })
+          sized_push old new size grows.r sized (record_begins_none old event grows.r not grows.makes)
+          (gives_none old event grows.r (no_growth event not) grows.makes) (λ i. record { pages = grows.pages i; records = grows.log i })
     ])
 
 sized_begun : (old : EngineState) (size : VolumeSize) → IsSized old size
@@ -486,13 +460,12 @@ gather_tells old done reply new tells none given is =
 beside_tells : (old : EngineState) (event : Event) (reply : Result Answer Refusal) (new : EngineState) (done : Bool)
     → IsBeside event → Tells old done → Step old event reply new → Tells new (with_gather done event reply)
 beside_tells old event reply new done beside tells step =
-    let keeps = keeps_ckpts old event reply new beside step in
     let same : open_checkpoint new.log ≡ open_checkpoint old.log = elim (stays_or_grows old event reply new step) [
       | inl stays ↦ ap open_checkpoint stays.log
       | inr grows ↦
-          ap open_checkpoint grows.log ∙ open_stays old event grows.r beside grows.made
+          ap open_checkpoint grows.log ∙ open_stays old event grows.r beside grows.makes
     ] in
-    λ some. ap is_done keeps.left ∙ tells (subst IsSome same some) ∙ sym (untold done event reply beside)
+    λ some. ap is_done ((step_leaves old event reply new step).2 beside) ∙ tells (subst IsSome same some) ∙ sym (untold done event reply beside)
 
 told_step : (old : EngineState) (event : Event) (reply : Result Answer Refusal) (new : EngineState) (done : Bool)
     → Tells old done → Step old event reply new → Tells new (with_gather done event reply)

@@ -20,7 +20,8 @@ use Rattle.engine_rules.specs.AnsweredCommits.{AnsweredCommit, StandsIn, answere
 use Rattle.engine_rules.specs.EngineState.{EngineState, IsFit, end, log_of, new_state}
 use Rattle.engine_rules.specs.Run.{Run}
 use Rattle.engine_rules.specs.Step.{Step}
-use Rattle.engine_rules.proofs.Forces.{EndsAtRecord, forces}
+use Rattle.engine_rules.proofs.Forces.{EndsAtRecord}
+use Rattle.engine_rules.proofs.Steps.{forces}
 use Rattle.engine_rules.proofs.Runs.{commit_is_forced, forced_end_from, forced_end_of_run, log_of_run}
 
 -- the Commit stands in the log, and is forced
@@ -60,7 +61,7 @@ all_forced : (old : EngineState) (events : List Event) (replies : List (Result A
 all_forced old [] [] new ends is = All-nil (IsForcedIn new)
 all_forced old (event ∷ events) (reply ∷ replies) new ends run =
     let mid = run.0 in
-    let ends_now = (forces old event reply mid ends run.1).at_record in
+    let ends_now = (forces old event reply mid ends run.1).0 in
     let grown = log_of_run mid events replies new run.2 in
     let no_less = forced_end_from mid events replies new ends_now run.2 in
     let first = answered_now old event reply mid run.1 in

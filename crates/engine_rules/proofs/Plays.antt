@@ -20,7 +20,8 @@ use Rattle.engine_rules.specs.Step.{FailsForcing, Forces, IsAtRepair, IsByDevice
 use Rattle.engine_rules.specs.Step.{Step}
 use Rattle.engine_rules.specs.Step.{TellsOfFault}
 use Rattle.engine_rules.specs.Storage.{CallOn, CallsDevice, CallsStore, IsStoredOn, PlaysOn, RunOn, Storage}
-use Rattle.engine_rules.proofs.Steps.{stays_or_grows, stored_or_not}
+use Rattle.engine_rules.proofs.Moves.{stored_or_not}
+use Rattle.engine_rules.proofs.Steps.{stays_or_grows}
 
 -- ---- one step more
 

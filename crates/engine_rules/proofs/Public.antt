@@ -15,9 +15,10 @@ pub use Rattle.engine_rules.proofs.Commits.{stays_forced, stays_kept}
 pub use Rattle.engine_rules.proofs.Fit.{Comes, comes, comes_few, comes_with, fit_appended}
 pub use Rattle.engine_rules.proofs.Fit.{fit_of_run, fit_of_step, new_is_fit}
 -- The record of an accepted event may come behind the log.
-pub use Rattle.engine_rules.proofs.Follows.{follows, gather_record_has, none_is_not_some}
+pub use Rattle.engine_rules.proofs.Follows.{follows}
+pub use Rattle.engine_rules.proofs.Makes.{gather_record_has, none_is_not_some}
 -- No step changes how many frames there are.
-pub use Rattle.engine_rules.proofs.FrameCounts.{frames_of_run}
+pub use Rattle.engine_rules.proofs.Runs.{frames_of_run}
 -- What the steps of a gather append, and what is gathered after them.
 pub use Rattle.engine_rules.proofs.GatherSteps.{begun_before, cursor_after_txn, end_ckpt_follows}
 pub use Rattle.engine_rules.proofs.GatherSteps.{first_txn, gathering_of, new_is_session}

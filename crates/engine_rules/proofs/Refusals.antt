@@ -246,15 +246,15 @@ change_full s txn page slot kind full =
     )
 
 -- no other call is
-pub active_not_full : (s : EngineState) (txn : ℕ) → active_refusal s txn ≡ Some LogFull → ⊥
+active_not_full : (s : EngineState) (txn : ℕ) → active_refusal s txn ≡ Some LogFull → ⊥
 active_not_full s txn full = not_of_both _ _ NoTxn TxnRolling LogFull (λ same. (cc)) (λ same. (cc)) full
 
-pub read_not_full : (s : EngineState) (page slot : ℕ) → refusal s (event.Read page slot) ≡ Some LogFull → ⊥
+read_not_full : (s : EngineState) (page slot : ℕ) → refusal s (event.Read page slot) ≡ Some LogFull → ⊥
 read_not_full s page slot full =
     frame_not_full s page (second_of_both (page_refusal s page slot) _ LogFull
     (not_of_both _ _ PageOut SlotOut LogFull (λ same. (cc)) (λ same. (cc))) full).1
 
-pub undo_not_full : (s : EngineState) (txn : ℕ) → refusal s (event.UndoStep txn) ≡ Some LogFull → ⊥
+undo_not_full : (s : EngineState) (txn : ℕ) → refusal s (event.UndoStep txn) ≡ Some LogFull → ⊥
 undo_not_full s txn full =
     let frame = second_of_both (rolling_refusal s txn) _ LogFull
     (not_of_both _ _ NoTxn NotRolling LogFull (λ same. (cc)) (λ same. (cc))) full in
@@ -264,7 +264,7 @@ undo_not_full s txn full =
     by_last None e = (cc)
     by_last (Some p) e = frame_not_full s p.page e
 
-pub back_not_full : (s : EngineState) (txn at : ℕ) → refusal s (event.UndoTo txn at) ≡ Some LogFull → ⊥
+back_not_full : (s : EngineState) (txn at : ℕ) → refusal s (event.UndoTo txn at) ≡ Some LogFull → ⊥
 back_not_full s txn at full =
     let known = second_of_both (active_refusal s txn) _ LogFull
     (not_of_both _ _ NoTxn TxnRolling LogFull (λ same. (cc)) (λ same. (cc))) full in
@@ -276,12 +276,12 @@ back_not_full s txn at full =
     by_taken None e = (cc)
     by_taken (Some p) e = frame_not_full s p.page e
 
-pub write_begin_not_full : (s : EngineState) (page : ℕ) → refusal s (event.WriteBegin page) ≡ Some LogFull → ⊥
+write_begin_not_full : (s : EngineState) (page : ℕ) → refusal s (event.WriteBegin page) ≡ Some LogFull → ⊥
 write_begin_not_full s page full =
     not_of_both _ _ WriteBegun NotDirty LogFull (λ same. (cc)) (λ same. (cc))
     (second_of_both (refused_if _ PageOut) _ LogFull (not_of_one _ PageOut LogFull (λ same. (cc))) full).1
 
-pub write_end_not_full : (s : EngineState) (page : ℕ) → refusal s (event.WriteEnd page) ≡ Some LogFull → ⊥
+write_end_not_full : (s : EngineState) (page : ℕ) → refusal s (event.WriteEnd page) ≡ Some LogFull → ⊥
 write_end_not_full s page full = not_of_both _ _ PageOut NoWrite LogFull (λ same. (cc)) (λ same. (cc)) full
 
 -- ---- writes of pages
@@ -488,25 +488,36 @@ repair_not_full s copy page full =
     not_of_both _ _ PageOut WriteBegun LogFull (λ same. (cc)) (λ same. (cc))
     (second_of_both (option_map of_vault (complete_refusal (state_of s.copies copy))) _ LogFull (vault_not_full _) full).1
 
-abbrev pub IsOfCopies : Event → Type 0
-IsOfCopies event.CopyFull = Unit {0}
-IsOfCopies (event.CopyInc parent) = Unit {0}
-IsOfCopies (event.Take copy page) = Unit {0}
-IsOfCopies (event.Seal copy) = Unit {0}
-IsOfCopies (event.DropCopy copy) = Unit {0}
-IsOfCopies (event.Repair copy page) = Unit {0}
-IsOfCopies other = ⊥
+-- a call that needs no room in the log
+abbrev pub NeedsNoRoom : Event → Type 0
+NeedsNoRoom event.Begin = ⊥
+NeedsNoRoom (event.Set txn page slot number) = ⊥
+NeedsNoRoom (event.Add txn page slot amount) = ⊥
+NeedsNoRoom event.CkptBegin = ⊥
+NeedsNoRoom event.CkptGather = ⊥
+NeedsNoRoom event.CkptEnd = ⊥
+NeedsNoRoom (event.Extend count) = ⊥
+NeedsNoRoom other = Unit {0}
 
-pub copy_not_full : (s : EngineState) (event : Event) → IsOfCopies event → refusal s event ≡ Some LogFull → ⊥
-copy_not_full s event.CopyFull is full =
+pub never_full : (s : EngineState) (event : Event) → NeedsNoRoom event → refusal s event ≡ Some LogFull → ⊥
+never_full s (event.Read page slot) is full = read_not_full s page slot full
+never_full s (event.Commit txn) is full = active_not_full s txn full
+never_full s (event.Abort txn) is full = active_not_full s txn full
+never_full s (event.UndoStep txn) is full = undo_not_full s txn full
+never_full s (event.Savepoint txn) is full = active_not_full s txn full
+never_full s (event.UndoTo txn at) is full = back_not_full s txn at full
+never_full s event.Force is full = cc
+never_full s (event.WriteBegin page) is full = write_begin_not_full s page full
+never_full s (event.WriteEnd page) is full = write_end_not_full s page full
+never_full s event.CopyFull is full =
     vault_not_full _ (second_of_both (refused_if _ NoMaster) _ LogFull
     (not_of_one _ NoMaster LogFull (λ same. (cc))) full).1
-copy_not_full s (event.CopyInc parent) is full = vault_not_full _ full
-copy_not_full s (event.Take copy page) is full = take_not_full s copy page full
-copy_not_full s (event.Seal copy) is full = vault_not_full _ full
-copy_not_full s (event.DropCopy copy) is full = vault_not_full _ full
-copy_not_full s (event.Repair copy page) is full = repair_not_full s copy page full
-copy_not_full s event is full = absurd is
+never_full s (event.CopyInc parent) is full = vault_not_full _ full
+never_full s (event.Take copy page) is full = take_not_full s copy page full
+never_full s (event.Seal copy) is full = vault_not_full _ full
+never_full s (event.DropCopy copy) is full = vault_not_full _ full
+never_full s (event.Repair copy page) is full = repair_not_full s copy page full
+never_full s event is full = absurd is
 
 -- a copy that is to be read on is being read
 vault_passes : (o : Option CopyFault) → option_map of_vault o ≡ None → o ≡ None

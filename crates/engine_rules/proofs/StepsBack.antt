@@ -1,16 +1,13 @@
 -- A step back to a savepoint: it takes the last pending change back, or does nothing.
-use Rattle.std.proofs.Common.{◌≡◌, ℕ, Bool, true, false, cond, length, refl, sym, ap, subst, ◌∙◌}
+use Rattle.std.proofs.Common.{◌≡◌, ℕ, Bool, true, false, cond, length}
 use Rattle.std.specs.Prelude.{Option, Some, None, nat_lt}
-use Rattle.std.specs.Option.{option_and_then, option_map, option_map_or}
-use Rattle.std.proofs.lemmas.Option.{same_Some}
+use Rattle.std.specs.Option.{option_and_then, option_map_or}
 use Rattle.log_rules.specs.declared.pending_change.PendingChange.{PendingChange}
 use Rattle.log_rules.specs.Savepoints.{savepoint}
 use Rattle.log_rules.specs.Transactions.{last_of, pending}
-use Rattle.log_records.specs.declared.record.Record.{Record}
 use Rattle.engine_calls.specs.declared.event.Answer.TheVariants as answer
 use Rattle.engine_calls.specs.declared.event.Event.TheVariants as event
-use Rattle.engine_rules.specs.Call.{record_for}
-use Rattle.engine_rules.specs.EngineState.{EngineState, comp_record, effect, taken_back, undid}
+use Rattle.engine_rules.specs.EngineState.{EngineState, effect, taken_back, undid}
 
 -- what it takes back is the last pending change
 pub taken_is_last : (s : EngineState) (txn at : ℕ) (p : PendingChange) → taken_back s txn at ≡ Some p
@@ -37,15 +34,3 @@ back_has P s txn at same taken = by (taken_back s txn at)
         → P (option_map_or (undid s txn) o (record { answer = answer.Reached; state = s })).state
     by None = same
     by (Some p) = taken p
-
--- what holds of its record
-pub back_record_has : (P : Record → Type 0) (s : EngineState) (txn at : ℕ) (r : Record)
-    → record_for s (event.UndoTo txn at) ≡ Some r
-    → ((p : PendingChange) → last_of (pending s.log txn) ≡ Some p → P (comp_record s txn p)) → P r
-back_record_has P s txn at r made comp = by (taken_back s txn at) refl
-  where
-    by : (o : Option PendingChange) → taken_back s txn at ≡ o → P r
-    by None o = let none : None ≡ Some r = sym (ap (option_map (comp_record s txn)) o) ∙ made in cc
-    by (Some p) o =
-        subst P (same_Some _ _ (sym (ap (option_map (comp_record s txn)) o) ∙ made))
-        (comp p (taken_is_last s txn at p o))
