@@ -1,7 +1,7 @@
 -- The image copies of an engine, as events and replies alone tell of them.
 use Rattle.std.proofs.Common.{◌≡◌, ℕ, zero, suc, ◌+◌, ◌-◌, ◌++◌, List, [], ◌∷◌, length, set, refl, sym, ap, ◌∙◌}
 use Rattle.std.proofs.Common.{arith}
-use Rattle.std.specs.Prelude.{Option, Result, Ok, Err, map}
+use Rattle.std.specs.Prelude.{Option, Result, Ok, map}
 use Rattle.std.proofs.Math.ListN.{get_or-map}
 use Rattle.std.proofs.lemmas.List.{length-map, map-append, map-set}
 use Rattle.page_core.specs.declared.page.Page.{Page}
@@ -25,7 +25,6 @@ use Rattle.engine_rules.specs.EngineState.{EngineState, effect, opened_copy, sto
 use Rattle.engine_rules.specs.Run.{Run}
 use Rattle.engine_rules.specs.Step.{Step}
 use Rattle.engine_rules.proofs.CkptLaws.{IsSized, master_of_step, notes_begun, sized_step}
-use Rattle.engine_rules.proofs.Moves.{LeavesCopies}
 use Rattle.engine_rules.proofs.Steps.{step_leaves}
 use Rattle.fuzzy_ckpt.specs.declared.point.Point.{Point}
 use Rattle.engine_rules.specs.CkptReplies.{VolumeSize, with_point, with_size}
@@ -73,15 +72,6 @@ completes dropped = refl
 
 -- ---- a step
 
-not_answered : (pages : ℕ) (es : List CatalogueEntry) (event : Event) (why : Refusal)
-    → with_copy_event pages es event (Err why) ≡ es
-not_answered pages es event.CopyFull why = refl
-not_answered pages es (event.CopyInc parent) why = refl
-not_answered pages es (event.Take copy page) why = refl
-not_answered pages es (event.Seal copy) why = refl
-not_answered pages es (event.DropCopy copy) why = refl
-not_answered pages es event why = refl
-
 -- the new copies are these
 made : (new state : EngineState) → new ≡ state → entries new.copies ≡ entries state.copies
 made new state is = ap (λ (s : EngineState). entries s.copies) is
@@ -100,10 +90,6 @@ took old copy page answer new given is =
     ∙ ap (λ (a : Answer). with_mark (entry_of state) page (answered_mark a)) (sym given)
     ∙ ap (λ (e : CatalogueEntry). with_mark e page (answered_mark answer)) (sym (entry_is old.copies copy)))
 
-leaves_failed : (event : Event) (why : Refusal) → LeavesCopies event (Err why)
-leaves_failed event.CopyFull why = tt
-leaves_failed event why = tt
-
 pub copies_of_step : (old : EngineState) (event : Event) (reply : Result Answer Refusal) (new : EngineState)
     → Step old event reply new
     → entries new.copies ≡ with_copy_event (pages_of_point old.master) (entries old.copies) event reply
@@ -116,10 +102,7 @@ copies_of_step old (event.Seal copy) (Ok answer) new step =
     (completes (state_of old.copies copy) ∙ ap completed (sym (entry_is old.copies copy)))
 copies_of_step old (event.DropCopy copy) (Ok answer) new step =
     made new _ step.2 ∙ changes old.copies copy dropped was_dropped refl
-copies_of_step old event (Ok answer) new step = ap entries ((step_leaves old event (Ok answer) new step).4 tt)
-copies_of_step old event (Err why) new step =
-    ap entries ((step_leaves old event (Err why) new step).4 (leaves_failed event why))
-    ∙ sym (not_answered (pages_of_point old.master) (entries old.copies) event why)
+copies_of_step old event reply new step = ap entries ((step_leaves old event reply new step).4 tt)
 
 -- the id that a new copy gets
 pub next_id : (old : EngineState) (kind : CopyKind) (id : ℕ)

@@ -21,7 +21,6 @@ use Rattle.engine_rules.specs.EngineState.{EngineState, IsFit, IsMasterOf, begin
 use Rattle.engine_rules.specs.EngineState.{extend_record, log_of, new_state}
 use Rattle.engine_rules.proofs.Growth.{count_then, growth_failed}
 use Rattle.engine_rules.proofs.Makes.{BeginsNoCkpt, IsBeside, IsNoGrowth, Makes, MakesBeginChkpt, gives_none}
-use Rattle.std.specs.Option.{option_map_or}
 use Rattle.log_records.specs.declared.record.Record.{Record}
 use Rattle.log_records.specs.Log.{Log, lsn_of, page_count, page_count_below, with_next}
 use Rattle.log_records.specs.PageCount.{given_count}
@@ -36,7 +35,7 @@ use Rattle.engine_rules.specs.Run.{Run}
 use Rattle.engine_rules.specs.Step.{Fails, Step}
 use Rattle.engine_rules.proofs.Beside.{open_stays}
 use Rattle.engine_rules.proofs.Gathers.{PassesPages, PassesTxns, TakesPages, TakesTxn, WasDone, ckpt_end_is, closed_part}
-use Rattle.engine_rules.proofs.Gathers.{gather_case, gather_has, passes_pages, passes_txns, takes_pages, takes_txn}
+use Rattle.engine_rules.proofs.Gathers.{gather_case, passes_pages, passes_txns, takes_pages, takes_txn}
 use Rattle.engine_rules.proofs.Gathers.{was_done}
 use Rattle.engine_rules.proofs.Refusals.{ckpt_end_passes, gather_passes}
 use Rattle.engine_rules.proofs.Steps.{stays_or_grows, step_leaves}
@@ -132,19 +131,9 @@ unforced_leaves old new (inr both) = unforced_at old new both.1
 
 -- ---- which checkpoint ended last
 
-same_if_beside : (size : VolumeSize) (point : Option Point) (event : Event) (reply : Result Answer Refusal)
-    → IsBeside event → with_point size point event reply ≡ point
-same_if_beside size point event.CkptBegin reply beside = absurd beside
-same_if_beside size point event.CkptGather reply beside = absurd beside
-same_if_beside size point event.CkptEnd reply beside = absurd beside
-same_if_beside size point event reply beside = refl
-
 -- of the open checkpoint, if one is, this is the page count at its begin
 abbrev NotesBegun : EngineState → VolumeSize → Type 0
 NotesBegun s size = (c : Checkpoint) → open_checkpoint s.log ≡ Some c → size.begun ≡ page_count_below (log_of s) c.begin
-
-same_master : (old new state : EngineState) → new ≡ state → state.master ≡ old.master → new.master ≡ old.master
-same_master old new state is same = ap (λ (s : EngineState). s.master) is ∙ same
 
 ended_point : (old : EngineState) (size : VolumeSize) (reply : Answer) (new : EngineState) → NotesBegun old size
     → refusal old event.CkptEnd ≡ None
@@ -159,13 +148,6 @@ ended_point old size reply new notes none given is =
     (sym (notes c passes.still_open))
     ∙ ap (λ (a : Answer). with_point size old.master event.CkptEnd (Ok a)) (sym (given ∙ ap (λ o. o.answer) outcome))
 
-failed_point : (old : EngineState) (why : Refusal) (new : EngineState) → Fails old event.CkptEnd why new
-    → new.master ≡ old.master
-failed_point old OutOfMemory new fails = same_master old new old fails.1 refl
-failed_point old LogFault new fails = same_master old new _ (closed_part old new fails).2.reached.2 refl
-failed_point old StoreFault new fails = absurd fails.0
-failed_point old why new fails = absurd fails
-
 failed_begin : (old : EngineState) (why : Refusal) (new : EngineState) → Fails old event.CkptBegin why new → new ≡ old
 failed_begin old OutOfMemory new fails = fails.1
 failed_begin old StoreFault new fails = absurd fails.0
@@ -179,36 +161,9 @@ failed_gather old why new fails = absurd fails
 pub master_of_step : (old : EngineState) (size : VolumeSize) (event : Event) (reply : Result Answer Refusal)
     (new : EngineState) → NotesBegun old size
     → Step old event reply new → new.master ≡ with_point size old.master event reply
-master_of_step old size event.CkptBegin (Ok reply) new notes step = same_master old new _ step.2 refl
-master_of_step old size event.CkptGather (Ok reply) new notes step =
-    same_master old new _ step.2 (gather_has (λ s. s.master ≡ old.master) old refl (λ left. refl) (λ r left. refl))
-master_of_step old size event.CkptEnd (Ok reply) new notes step = ended_point old size reply new notes step.0 step.1 step.2
-master_of_step old size event.CkptBegin (Err why) new notes (inl both) = same_master old new old both.1 refl
-master_of_step old size event.CkptBegin (Err why) new notes (inr both) = same_master old new old
-    (failed_begin old why new both.1) refl
-master_of_step old size event.CkptGather (Err why) new notes (inl both) = same_master old new old both.1 refl
-master_of_step old size event.CkptGather (Err why) new notes (inr both) = same_master old new old
-    (failed_gather old why new both.1) refl
-master_of_step old size event.CkptEnd (Err why) new notes (inl both) = same_master old new old both.1 refl
-master_of_step old size event.CkptEnd (Err why) new notes (inr both) = failed_point old why new both.1
-master_of_step old size event reply new notes step =
-    (step_leaves old event reply new step).3 tt ∙ sym (same_if_beside size old.master event reply tt)
-
--- a master stays one, or another takes its place
-has_point : (size : VolumeSize) (point : Option Point) (event : Event) (reply : Result Answer Refusal) → IsSome point
-    → IsSome (with_point size point event reply)
-has_point size point event.CkptEnd (Ok (answer.Point begin last redo)) has = refl
-has_point size point event reply has = has
-
-pub master_stays : (old : EngineState) (event : Event) (reply : Result Answer Refusal) (new : EngineState)
-    → Step old event reply new → IsSome old.master → IsSome new.master
-master_stays old event reply new step has =
-    let count = option_map_or (λ c. page_count_below (log_of old) c.begin) (open_checkpoint old.log) 0 in
-    let size : VolumeSize = record { now = 0; begun = count } in
-    subst (λ (o : Option Point). IsSome o)
-    (sym (master_of_step old size event reply new
-    (λ c is. ap (λ o. option_map_or (λ x. page_count_below (log_of old) x.begin) o 0) is) step))
-    (has_point size old.master event reply has)
+master_of_step old size event.CkptEnd (Ok reply) new notes step =
+    ended_point old size reply new notes step.0 step.1 step.2
+master_of_step old size event reply new notes step = (step_leaves old event reply new step).3 tt
 
 -- ---- the page count along a run
 
@@ -240,13 +195,7 @@ begin_stays Q (Some c) (log.ChkptPages lsn begin pages) not has = has
 begin_stays Q None (log.ChkptTxns lsn begin txn state last undo_next) not has = tt
 begin_stays Q (Some c) (log.ChkptTxns lsn begin txn state last undo_next) not has = has
 begin_stays Q o (log.EndChkpt lsn begin redo) not has = tt
-begin_stays Q o (log.Begin lsn txn) not has = has
-begin_stays Q o (log.Update lsn txn prev page slot change) not has = has
-begin_stays Q o (log.Comp lsn txn prev undo_next page slot change) not has = has
-begin_stays Q o (log.Commit lsn txn prev) not has = has
-begin_stays Q o (log.Abort lsn txn prev) not has = has
-begin_stays Q o (log.End lsn txn prev) not has = has
-begin_stays Q o (log.Extend lsn count) not has = has
+begin_stays Q o other not has = has
 
 -- the page count at the begin of the open checkpoint, if one is
 abbrev IsBegunWith : EngineState → VolumeSize → Type 0
@@ -309,22 +258,15 @@ record_begins_none : (s : EngineState) (event : Event) (r : Record) → BeginsNo
 record_begins_none s event r not (MakesBeginChkpt ckpt begins passes) = absurd (begins not)
 record_begins_none s event r not other = tt
 
-size_stays : (size : VolumeSize) (event : Event) (reply : Result Answer Refusal) → BeginsNoCkpt event
-    → with_size size event reply ≡ size
-size_stays size event.CkptBegin reply not = absurd not
-size_stays size (event.Extend count) reply not = absurd not
-size_stays size event reply not = refl
-
 sized_beside : (old : EngineState) (size : VolumeSize) (event : Event) (reply : Result Answer Refusal)
-    (new : EngineState) → BeginsNoCkpt event → IsSized old size → Step old event reply new
-    → IsSized new (with_size size event reply)
-sized_beside old size event reply new not sized step =
-    subst (IsSized new) (sym (size_stays size event reply not)) (elim (stays_or_grows old event reply new step) [
-      | inl stays ↦ same_sized old new size sized (λ i. record { pages = stays.pages i; records = stays.log i })
-      | inr grows ↦
-          sized_push old new size grows.r sized (record_begins_none old event grows.r not grows.makes)
-          (gives_none old event grows.r (no_growth event not) grows.makes) (λ i. record { pages = grows.pages i; records = grows.log i })
-    ])
+    (new : EngineState) → BeginsNoCkpt event → IsSized old size → Step old event reply new → IsSized new size
+sized_beside old size event reply new not sized step = elim (stays_or_grows old event reply new step) [
+  | inl stays ↦ same_sized old new size sized (λ i. record { pages = stays.pages i; records = stays.log i })
+  | inr grows ↦
+      sized_push old new size grows.r sized (record_begins_none old event grows.r not grows.makes)
+      (gives_none old event grows.r (no_growth event not) grows.makes)
+      (λ i. record { pages = grows.pages i; records = grows.log i })
+]
 
 sized_begun : (old : EngineState) (size : VolumeSize) → IsSized old size
     → IsSized (effect old event.CkptBegin).state (record size { begun = size.now })
@@ -402,18 +344,6 @@ end_says s = end_refused (open_checkpoint s.log) (not (is_done s.left)) (has_no_
 abbrev Tells : EngineState → Bool → Type 0
 Tells s done = IsSome (open_checkpoint s.log) → is_done s.left ≡ done
 
-untold : (done : Bool) (event : Event) (reply : Result Answer Refusal) → IsBeside event
-    → with_gather done event reply ≡ done
-untold done event.CkptBegin reply beside = absurd beside
-untold done event.CkptGather reply beside = absurd beside
-untold done event.CkptEnd reply beside = absurd beside
-untold done event reply beside = refl
-
-not_told : (done : Bool) (event : Event) (why : Refusal) → with_gather done event (Err why) ≡ done
-not_told done event.CkptBegin why = refl
-not_told done event.CkptGather why = refl
-not_told done event why = refl
-
 same_tells : (old new : EngineState) (done : Bool) → Tells old done → new ≡ old → Tells new done
 same_tells old new done tells is = subst (λ (s : EngineState). Tells s done) (sym is) tells
 
@@ -458,14 +388,14 @@ gather_tells old done reply new tells none given is =
     ]
 
 beside_tells : (old : EngineState) (event : Event) (reply : Result Answer Refusal) (new : EngineState) (done : Bool)
-    → IsBeside event → Tells old done → Step old event reply new → Tells new (with_gather done event reply)
+    → IsBeside event → Tells old done → Step old event reply new → Tells new done
 beside_tells old event reply new done beside tells step =
     let same : open_checkpoint new.log ≡ open_checkpoint old.log = elim (stays_or_grows old event reply new step) [
       | inl stays ↦ ap open_checkpoint stays.log
       | inr grows ↦
           ap open_checkpoint grows.log ∙ open_stays old event grows.r beside grows.makes
     ] in
-    λ some. ap is_done ((step_leaves old event reply new step).2 beside) ∙ tells (subst IsSome same some) ∙ sym (untold done event reply beside)
+    λ some. ap is_done ((step_leaves old event reply new step).2 beside) ∙ tells (subst IsSome same some)
 
 told_step : (old : EngineState) (event : Event) (reply : Result Answer Refusal) (new : EngineState) (done : Bool)
     → Tells old done → Step old event reply new → Tells new (with_gather done event reply)

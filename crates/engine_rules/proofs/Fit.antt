@@ -244,7 +244,7 @@ moves_fit old event reply new fit fits (Keeps start unseen rest) =
 moves_fit old event reply new fit fits (Adds r start makes stays needs shown rest) =
     rest_fit event reply _ new
     (added_fit old event fit _ r (left_with old.left r) start (made_comes old event r fit fits stays makes) needs) rest
-moves_fit old event reply new fit fits (Completes passes ckpt stays unseen) =
+moves_fit old event reply new fit fits (Completes passes ckpt masters stays unseen) =
     fit_completed old event fit fits stays ckpt passes
 moves_fit old event reply new fit fits (Extends count none grows begins writes shown) = extended_fit old count fit none
 

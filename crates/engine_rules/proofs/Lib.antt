@@ -27,5 +27,4 @@ pub mod Rooms
 pub mod Runs
 pub mod Stands
 pub mod Steps
-pub mod StepsBack
 pub mod Writes

@@ -1,7 +1,7 @@
 -- The record that an accepted call appends, and what the call has passed.
-use Rattle.std.proofs.Common.{◌≡◌, ℕ, ◌^◌, ◌<◌, true, refl, sym, ap, subst, ◌∙◌}
-use Rattle.std.specs.Prelude.{Option, Some, None}
-use Rattle.std.specs.Option.{option_map, option_map_or}
+use Rattle.std.proofs.Common.{◌≡◌, ℕ, ◌^◌, ◌<◌, Bool, true, false, cond, length, refl, sym, ap, subst, ◌∙◌}
+use Rattle.std.specs.Prelude.{Option, Some, None, nat_lt}
+use Rattle.std.specs.Option.{option_and_then, option_map, option_map_or}
 use Rattle.std.proofs.lemmas.Option.{same_Some}
 use Rattle.page_core.specs.declared.change.Change.TheVariants.{Set, Add}
 use Rattle.page_core.specs.declared.change.ChangeKind.TheVariants as kind
@@ -13,6 +13,7 @@ use Rattle.log_records.specs.Record.{IsOfTransaction}
 use Rattle.log_rules.specs.declared.pending_change.PendingChange.{PendingChange}
 use Rattle.log_rules.specs.Checkpoint.{Checkpoint, open_checkpoint}
 use Rattle.log_rules.specs.Linked.{number_in}
+use Rattle.log_rules.specs.Savepoints.{savepoint}
 use Rattle.log_rules.specs.Transactions.{is_open, last_of, pending}
 use Rattle.engine_calls.specs.declared.event.Event.{Event}
 use Rattle.engine_calls.specs.declared.event.Event.TheVariants as event
@@ -28,7 +29,6 @@ use Rattle.engine_rules.proofs.Gathers.{txn_entry, was_done}
 use Rattle.engine_rules.proofs.Refusals.{ActiveIn, BeginPasses, ChangePasses, CkptBegins, Extends, HasRoomFor, RollsIn}
 use Rattle.engine_rules.proofs.Refusals.{active_passes, back_passes, begin_passes, change_passes, ckpt_begin_passes}
 use Rattle.engine_rules.proofs.Refusals.{ckpt_end_passes, extend_passes, gather_passes, undo_passes}
-use Rattle.engine_rules.proofs.StepsBack.{taken_is_last}
 
 -- ---- events that leave something as it is
 
@@ -108,6 +108,22 @@ gather_record_has P s r none made pages txn =
 
 as_made : (s : EngineState) (event : Event) (q r : Record) → Some q ≡ Some r → Makes s event q → Makes s event r
 as_made s event q r same makes = subst (Makes s event) (same_Some q r same) makes
+
+-- what a step back takes back is the last pending change
+pub taken_is_last : (s : EngineState) (txn at : ℕ) (p : PendingChange) → taken_back s txn at ≡ Some p
+    → last_of (pending s.log txn) ≡ Some p
+taken_is_last s txn at p is = by (savepoint s.log txn at) is
+  where
+    by_test : (b : Bool) → cond b (last_of (pending s.log txn)) None ≡ Some p → last_of (pending s.log txn) ≡ Some p
+    by_test true some = some
+    by_test false some = cc
+
+    by : (o : Option ℕ)
+        → option_and_then
+        (λ left. cond (nat_lt left (length (pending s.log txn))) (last_of (pending s.log txn)) None) o ≡ Some p
+        → last_of (pending s.log txn) ≡ Some p
+    by None some = cc
+    by (Some left) some = by_test (nat_lt left (length (pending s.log txn))) some
 
 undo_makes : (s : EngineState) (txn : ℕ) (r : Record) (o : Option PendingChange) → last_of (pending s.log txn) ≡ o
     → RollsIn s txn → Some (option_map_or (comp_record s txn) o (end_record s txn)) ≡ Some r

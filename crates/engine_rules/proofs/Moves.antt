@@ -48,6 +48,11 @@ LeavesWritten (event.Repair copy page) (Ok answer) = ⊥
 LeavesWritten (event.Extend count) (Ok answer) = ⊥
 LeavesWritten event reply = Unit {0}
 
+-- the master
+abbrev pub LeavesMaster : Event → Result Answer Refusal → Type 0
+LeavesMaster event.CkptEnd (Ok answer) = ⊥
+LeavesMaster event reply = Unit {0}
+
 -- the copies
 abbrev pub LeavesCopies : Event → Result Answer Refusal → Type 0
 LeavesCopies event.CopyFull (Ok answer) = ⊥
@@ -116,7 +121,7 @@ pub data Moves (old : EngineState) (call : Event) (reply : Result Answer Refusal
       → IfSome (change_of r) (λ c. from ≡ with_page old c.page) → shown_call call reply ≡ call_of old.log r
       → Rest call reply (gathering (appended from r) (left_with old.left r)) new → Moves old call reply new
   -- the open checkpoint is complete, and becomes the master
-  Completes : (passes : CkptEnds old) → ¬ IsBeside call → IsNoGrowth call → shown_call call reply ≡ None
+  Completes : (passes : CkptEnds old) → ¬ IsBeside call → ¬ LeavesMaster call reply → IsNoGrowth call → shown_call call reply ≡ None
       → Moves old call reply (ckpt_end_effect old passes.ckpt).state
   -- the volume grows
   Extends : (count : ℕ) → refusal old (event.Extend count) ≡ None → ¬ IsNoGrowth call → ¬ BeginsNoCkpt call
@@ -237,7 +242,7 @@ answered old event.CkptGather answer none given = gather_moves old answer none
 answered old event.CkptEnd answer none given =
     let passes = ckpt_end_passes old none in
     subst (Moves old event.CkptEnd (Ok answer)) (sym (ap (λ o. o.state) (ckpt_end_is old passes.ckpt passes.still_open)))
-    (Completes passes (λ beside. beside) tt refl)
+    (Completes passes (λ beside. beside) (λ leaves. leaves) tt refl)
 answered old event.CopyFull answer none given =
     let some = full_passes old none in
     Keeps Here refl (one (Copied _ (λ leaves. leaves)

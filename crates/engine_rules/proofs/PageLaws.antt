@@ -1,6 +1,6 @@
 -- Laws of stored pages, of steps and of whole runs.
-use Rattle.std.proofs.Common.{◌≡◌, ℕ, ◌<◌, List, [], ◌∷◌, length, get_or, refl, sym, ap, ◌∙◌, arith}
-use Rattle.std.specs.Prelude.{Some, None, Result, Ok, Err}
+use Rattle.std.proofs.Common.{◌≡◌, ℕ, ◌<◌, List, [], ◌∷◌, length, get_or, sym, ap, ◌∙◌, arith}
+use Rattle.std.specs.Prelude.{Some, None, Result, Ok}
 use Rattle.page_core.specs.declared.page.Page.{Page}
 use Rattle.log_records.specs.Coverage.{Covers}
 use Rattle.log_records.proofs.Public.{clean_is_image, dirty_covers}
@@ -15,7 +15,6 @@ use Rattle.engine_rules.specs.Refusal.{refusal}
 use Rattle.engine_rules.specs.Run.{Run}
 use Rattle.engine_rules.specs.Step.{Step}
 use Rattle.engine_rules.specs.Written.{with_write, written_from}
-use Rattle.engine_rules.proofs.Moves.{LeavesWritten}
 use Rattle.engine_rules.proofs.Refusals.{write_end_passes}
 use Rattle.engine_rules.proofs.Steps.{step_leaves}
 
@@ -38,15 +37,6 @@ clean_is_stored s p d fit within e =
 
 -- ---- the LSNs of the last writes
 
-not_answered : (written : List ℕ) (event : Event) (why : Refusal) → with_write written event (Err why) ≡ written
-not_answered written (event.WriteEnd page) why = refl
-not_answered written (event.Repair copy page) why = refl
-not_answered written event why = refl
-
-leaves_failed : (event : Event) (why : Refusal) → LeavesWritten event (Err why)
-leaves_failed (event.WriteEnd page) why = tt
-leaves_failed event why = tt
-
 ended_written : (old : EngineState) (page : ℕ) (answer : Answer) (new : EngineState)
     → refusal old (event.WriteEnd page) ≡ None → answer ≡ (effect old (event.WriteEnd page)).answer
     → new ≡ (effect old (event.WriteEnd page)).state
@@ -66,9 +56,7 @@ written_of_step old (event.Repair copy page) (Ok answer) new step =
     ap (λ (s : EngineState). s.written) step.2
     ∙ ap (λ (a : Answer). with_write old.written (event.Repair copy page) (Ok a)) (sym step.1)
 written_of_step old (event.Extend count) (Ok answer) new step = ap (λ (s : EngineState). s.written) step.2
-written_of_step old event (Ok answer) new step = (step_leaves old event (Ok answer) new step).5 tt
-written_of_step old event (Err why) new step =
-    (step_leaves old event (Err why) new step).5 (leaves_failed event why) ∙ sym (not_answered old.written event why)
+written_of_step old event reply new step = (step_leaves old event reply new step).5 tt
 
 pub written_of_run : (old : EngineState) (events : List Event) (replies : List (Result Answer Refusal))
     (new : EngineState) → Run old events replies new → new.written ≡ written_from old.written events replies

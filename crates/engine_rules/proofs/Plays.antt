@@ -3,7 +3,7 @@ use Rattle.std.proofs.Common.{◌≡◌, ◌⊎◌, ℕ, ◌+◌, ◌<◌, ◌�
 use Rattle.std.proofs.Common.{inl, inr}
 use Rattle.std.specs.Prelude.{Result, Ok, Err, All, Any, IfErr, OnOk}
 use Rattle.std.proofs.lemmas.List.{length_push}
-use Rattle.std.proofs.lemmas.List.Elements.{All-nil, All-push, Contains-append_left}
+use Rattle.std.proofs.lemmas.List.Elements.{All-push, Contains-append_left}
 use Rattle.std.proofs.lemmas.List.Quantifiers.{Any-push}
 use Rattle.engine_calls.specs.declared.event.Answer.{Answer}
 use Rattle.engine_calls.specs.declared.event.Event.{Event}
@@ -53,9 +53,6 @@ pub record SomeFault (Of : Refusal → Type 0) (replies : List (Result Answer Re
 -- of one
 abbrev pub Tells : (Refusal → Type 0) → ℕ → List (Result Answer Refusal) → ℕ → Type 0
 Tells Of start replies now = NoFault Of replies start now ⊎ SomeFault Of replies start now
-
-pub tells_none : (Of : Refusal → Type 0) (start now : ℕ) → now ≡ start → Tells Of start [] now
-tells_none Of start now same = inl (record { sound = All-nil (IsSound Of); same = same })
 
 -- what is left as it was has not failed
 pub left_sound : (Of : Refusal → Type 0) {D : Type 0} (failures : D → ℕ) (old new : D) (reply : Result Answer Refusal)
@@ -120,20 +117,6 @@ pub tells_push : (Of : Refusal → Type 0) → ((why : Refusal) → Of why ⊎ (
 tells_push Of decides failures start old new replies reply tells sound no_failure cause =
     tells_next Of start (failures old) (failures new) replies reply (fault_or_sound Of decides reply) tells
     (counts Of failures old new reply sound no_failure cause)
-
-not_both : (Of : Refusal → Type 0) (replies : List (Result Answer Refusal)) → All (IsSound Of) replies
-    → Any (IsFaultReply Of) replies → ⊥
-not_both Of replies sound (k, x, lt, is, bad) = subst (IsSound Of) is (sound k x lt) bad
-
-pub same_if_sound : (Of : Refusal → Type 0) (start now : ℕ) (replies : List (Result Answer Refusal))
-    → Tells Of start replies now → All (λ reply. ¬ IsFaultReply Of reply) replies → now ≡ start
-same_if_sound Of start now replies (inl none) sound = none.same
-same_if_sound Of start now replies (inr some) sound = absurd (not_both Of replies sound some.fault)
-
-pub more_if_fault : (Of : Refusal → Type 0) (start now : ℕ) (replies : List (Result Answer Refusal))
-    → Tells Of start replies now → Any (IsFaultReply Of) replies → start < now
-more_if_fault Of start now replies (inl none) fault = absurd (not_both Of replies none.sound fault)
-more_if_fault Of start now replies (inr some) fault = some.more
 
 -- ---- each call for itself
 

@@ -170,7 +170,7 @@ moves_framed old event reply new fit (Keeps start unseen rest) framed =
 moves_framed old event reply new fit (Adds r start makes stays needs shown rest) framed =
     subst (AreFramed old.frames) (sym (rest_leaves event reply _ new rest).3)
     (changed old.frames _ r (start_framed old _ event fit start framed))
-moves_framed old event reply new fit (Completes passes ckpt stays unseen) framed =
+moves_framed old event reply new fit (Completes passes ckpt masters stays unseen) framed =
     changed old.frames old.resident (end_ckpt_record old passes.ckpt) framed
 moves_framed old event reply new fit (Extends count none grows begins writes shown) framed =
     changed old.frames old.resident (extend_record old count) framed

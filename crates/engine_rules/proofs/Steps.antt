@@ -15,7 +15,7 @@ use Rattle.engine_rules.specs.Step.{Step}
 use Rattle.engine_rules.proofs.Forces.{EndsAtRecord, Forces, all_forces}
 use Rattle.engine_rules.proofs.Makes.{IsBeside, Makes, MakesEndChkpt, MakesExtend, left_stays}
 use Rattle.engine_rules.proofs.Moves.{Adds, Completes, Copied, Done, Ends, Extends, Fetched, Forced, Gathered, GoesOn}
-use Rattle.engine_rules.proofs.Moves.{Here, Keeps, LeavesCopies, LeavesWritten, Moves, Repairs, RepairsHalf, Rest, Start, Stored}
+use Rattle.engine_rules.proofs.Moves.{Here, Keeps, LeavesCopies, LeavesMaster, LeavesWritten, Moves, Repairs, RepairsHalf, Rest, Start, Stored}
 use Rattle.engine_rules.proofs.Moves.{Storing, Then, moves}
 use Rattle.engine_rules.proofs.Refusals.{extend_passes}
 
@@ -61,7 +61,7 @@ rest_leaves event reply s t (Then other rest) = rest_leaves event reply _ t rest
 abbrev pub Leaves : EngineState → Event → Result Answer Refusal → EngineState → Type 0
 Leaves old event reply new =
     (new.frames ≡ old.frames) × (new.pages ≡ old.pages)
-    × (IsBeside event → new.left ≡ old.left) × (IsBeside event → new.master ≡ old.master)
+    × (IsBeside event → new.left ≡ old.left) × (LeavesMaster event reply → new.master ≡ old.master)
     × (LeavesCopies event reply → new.copies ≡ old.copies) × (LeavesWritten event reply → new.written ≡ old.written)
 
 from_start : (old from : EngineState) (event : Event) (reply : Result Answer Refusal) (new : EngineState)
@@ -73,17 +73,17 @@ moves_leave : (old : EngineState) (event : Event) (reply : Result Answer Refusal
     → Moves old event reply new → Leaves old event reply new
 moves_leave old event reply new (Keeps start unseen rest) =
     let (frames, pages, log, resident, master, left, copies, written) = from_start old _ event reply new start rest in
-    (frames, pages, left, λ beside. master, copies, written)
+    (frames, pages, left, λ leaves. master, copies, written)
 moves_leave old event reply new (Adds r Here makes stays needs shown rest) =
     let (frames, pages, log, resident, master, left, copies, written) = rest_leaves event reply _ new rest in
-    (frames, pages, λ beside. left beside ∙ left_stays old event r old.left beside makes, λ beside. master, copies, written)
+    (frames, pages, λ beside. left beside ∙ left_stays old event r old.left beside makes, λ leaves. master, copies, written)
 moves_leave old event reply new (Adds r (Fetched p none page) makes stays needs shown rest) =
     let (frames, pages, log, resident, master, left, copies, written) = rest_leaves event reply _ new rest in
-    (frames, pages, λ beside. left beside ∙ left_stays old event r old.left beside makes, λ beside. master, copies, written)
-moves_leave old event reply new (Completes passes ckpt stays unseen) =
-    (refl, refl, λ beside. absurd (ckpt beside), λ beside. absurd (ckpt beside), λ leaves. refl, λ leaves. refl)
+    (frames, pages, λ beside. left beside ∙ left_stays old event r old.left beside makes, λ leaves. master, copies, written)
+moves_leave old event reply new (Completes passes ckpt masters stays unseen) =
+    (refl, refl, λ beside. absurd (ckpt beside), λ leaves. absurd (masters leaves), λ leaves. refl, λ leaves. refl)
 moves_leave old event reply new (Extends count none grows begins writes shown) =
-    (refl, refl, λ beside. refl, λ beside. refl, λ leaves. refl, λ leaves. absurd (writes leaves))
+    (refl, refl, λ beside. refl, λ leaves. refl, λ leaves. refl, λ leaves. absurd (writes leaves))
 
 pub step_leaves : (old : EngineState) (event : Event) (reply : Result Answer Refusal) (new : EngineState)
     → Step old event reply new → Leaves old event reply new
@@ -111,7 +111,7 @@ moves_force old event reply new ends (Adds r Here makes stays needs shown rest) 
     rest_forces event reply _ new (longer old r ends) rest
 moves_force old event reply new ends (Adds r (Fetched p none page) makes stays needs shown rest) =
     rest_forces event reply _ new (longer old r ends) rest
-moves_force old event reply new ends (Completes passes ckpt stays unseen) =
+moves_force old event reply new ends (Completes passes ckpt masters stays unseen) =
     all_forces (closed old passes.ckpt) (longer old (end_ckpt_record old passes.ckpt) ends)
 moves_force old event reply new ends (Extends count none grows begins writes shown) =
     (longer old (extend_record old count) ends, omega arith)
@@ -147,7 +147,7 @@ moves_log old event reply new (Adds r Here makes stays needs shown rest) =
 moves_log old event reply new (Adds r (Fetched p none page) makes stays needs shown rest) =
     let same = rest_leaves event reply _ new rest in
     inr (record { r = r; makes = makes; pages = same.1; log = same.2; shown = shown })
-moves_log old event reply new (Completes passes ckpt stays unseen) = inr (record {
+moves_log old event reply new (Completes passes ckpt masters stays unseen) = inr (record {
   r = end_ckpt_record old passes.ckpt;
   makes = MakesEndChkpt passes.ckpt ckpt passes.still_open passes.done passes.room;
   pages = refl;
