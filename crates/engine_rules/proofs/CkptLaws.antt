@@ -37,7 +37,7 @@ use Rattle.engine_rules.proofs.Beside.{open_stays}
 use Rattle.engine_rules.proofs.Gathers.{PassesPages, PassesTxns, TakesPages, TakesTxn, WasDone, ckpt_end_is, closed_part}
 use Rattle.engine_rules.proofs.Gathers.{gather_case, passes_pages, passes_txns, takes_pages, takes_txn}
 use Rattle.engine_rules.proofs.Gathers.{was_done}
-use Rattle.engine_rules.proofs.Refusals.{ckpt_end_passes, gather_passes}
+use Rattle.engine_rules.proofs.Refusals.{ckpt_end_passes, end_not_by_device, gather_passes}
 use Rattle.engine_rules.proofs.Steps.{stays_or_grows, step_leaves}
 
 -- ---- the master of a fit engine
@@ -90,18 +90,6 @@ point_is_master old begin at redo new step =
       omega (arith, same_end, forced_is, length_push old.log (end_ckpt_record old c)),
       rw (same_begin, same_end, same_redo) (ap (λ (s : EngineState). s.master) state),
     )
-
--- a refusal of the end is none of the device
-end_not_by_device : (s : EngineState) → refusal s event.CkptEnd ≡ Some LogFault → ⊥
-end_not_by_device s is =
-    by_tests (is_none (open_checkpoint s.log)) (not (is_done s.left)) (has_no_room s 1) is
-  where
-    by_tests : (a b c : Bool)
-        → or_else (refused_if a NoCkpt) (or_else (refused_if b GatherLeft) (refused_if c LogFull)) ≡ Some LogFault → ⊥
-    by_tests true b c is = cc
-    by_tests false true c is = cc
-    by_tests false false true is = cc
-    by_tests false false false is = cc
 
 unforced_at : (old new : EngineState) → Fails old event.CkptEnd LogFault new
     → IsSomeAnd (open_checkpoint old.log) (λ c. (at : ℕ)
