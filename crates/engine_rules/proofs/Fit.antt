@@ -48,7 +48,7 @@ use Rattle.engine_rules.proofs.Growth.{extended_fit, lsn_of_formatted}
 use Rattle.engine_rules.proofs.Rooms.{room_grows, room_push}
 use Rattle.engine_rules.proofs.Stands.{stands}
 use Rattle.engine_rules.proofs.Gathers.{AreGathered}
-use Rattle.engine_rules.proofs.Moves.{Adds, Begun, Completes, Copied, Done, Extends, Fetched, Forced, Gathered, Here, Keeps, Moves}
+use Rattle.engine_rules.proofs.Moves.{Adds, Begun, Completes, Copied, Done, Extends, Fetched, Forced, Gathered, Here, Keeps, Moves, holding}
 use Rattle.engine_rules.proofs.Moves.{Rest, Start, Stored, Then, moves}
 use Rattle.engine_rules.proofs.Refusals.{CkptEnds}
 use Rattle.engine_rules.proofs.PageComes.{dirty_after, fetched_fit, needed_within, page_comes}
@@ -132,12 +132,7 @@ comes_few s r come = let room = come.room in omega (arith, length_push s.log r)
 
 -- with a page more in memory
 pub comes_with : (s : EngineState) (p : ℕ) (r : Record) → Comes s r → Comes (with_page s p) r
-comes_with s p r come = record {
-  of_transaction = come.of_transaction;
-  may_follow = come.may_follow;
-  room = come.room;
-  stands_at = come.stands_at;
-}
+comes_with s p r come = assumption (come)
 
 -- the state with the record of an accepted call at the end of its log
 pub fit_appended : (s : EngineState) (r : Record) → IsFit s → Comes s r
@@ -215,27 +210,24 @@ rest_fit event reply s t fit (Then (Gathered left changes are) rest) =
 
 -- where a record is appended, the page that it changes is in memory
 module _ (old : EngineState) (event : Event) (fit : IsFit old) where
-  start_fit : (from : EngineState) → Start old event from → IsFit from
-  start_fit from Here = fit
-  start_fit from (Fetched p none needs) =
+  start_fit : (pages : List Page) → Start old event pages → IsFit (holding old pages)
+  start_fit pages Here = fit
+  start_fit pages (Fetched p none needs) =
       fetched_fit old p fit
       (subst (λ (o : Option ℕ). IfSome o (λ q. q < volume_pages old)) needs (needed_within old event fit none))
 
-  added_fit : (from : EngineState) (r : Record) (left : Left) → Start old event from → MayCome old r left
-      → IfSome (change_of r) (λ c. from ≡ with_page old c.page) → IsFit (gathering (appended from r) left)
-  added_fit from r left start come needs =
-      fit_with from r left (start_fit from start) (come_from from start)
+  added_fit : (pages : List Page) (r : Record) (left : Left) → Start old event pages → MayCome old r left
+      → IfSome (change_of r) (λ c. pages ≡ (with_page old c.page).resident)
+      → IsFit (gathering (appended (holding old pages) r) left)
+  added_fit pages r left start come needs =
+      fit_with (holding old pages) r left (start_fit pages start) (assumption (come))
       (there (change_of r) (change_within (volume_pages old) r come.stands_at.within) needs)
     where
-      come_from : (s : EngineState) → Start old event s → MayCome s r left
-      come_from s Here = come
-      come_from s (Fetched p none page) = assumption (come)
-
       there : (o : Option PageChange) → IfSome o (λ c. c.page < volume_pages old)
-          → IfSome o (λ c. from ≡ with_page old c.page) → IfSome o (λ c. IsResident from.resident c.page)
+          → IfSome o (λ c. pages ≡ (with_page old c.page).resident) → IfSome o (λ c. IsResident pages c.page)
       there None inside is = tt
       there (Some c) inside is =
-          subst (λ (s : EngineState). IsResident s.resident c.page) (sym is) (page_comes old c.page fit inside)
+          subst (λ (ps : List Page). IsResident ps c.page) (sym is) (page_comes old c.page fit inside)
 
 moves_fit : (old : EngineState) (event : Event) (reply : Result Answer Refusal) (new : EngineState) → IsFit old
     → EventFits event → Moves old event reply new → IsFit new

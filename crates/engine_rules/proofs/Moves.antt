@@ -64,10 +64,15 @@ LeavesCopies event reply = Unit {0}
 
 -- ---- the moves
 
--- the page that the call needs comes into memory, where it needs one
-pub data Start (old : EngineState) (event : Event) : EngineState → Type 0 where
-  Here : Start old event old
-  Fetched : (p : ℕ) → refusal old event ≡ None → page_needed old event ≡ Some p → Start old event (with_page old p)
+-- with these pages in memory
+abbrev pub holding : EngineState → List Page → EngineState
+holding s pages = record s { resident = pages }
+
+-- the pages in memory once the page is there that the call needs, where it needs one
+pub data Start (old : EngineState) (event : Event) : List Page → Type 0 where
+  Here : Start old event old.resident
+  Fetched : (p : ℕ) → refusal old event ≡ None → page_needed old event ≡ Some p
+      → Start old event (with_page old p).resident
 
 -- a page may be stored as it is now: no write of it is in progress, and its changes are forced
 pub record IsIdle (s : EngineState) (page : ℕ) : Type 0 where
@@ -114,12 +119,14 @@ pub data Rest (event : Event) (reply : Result Answer Refusal) : EngineState → 
 
 pub data Moves (old : EngineState) (call : Event) (reply : Result Answer Refusal) : EngineState → Type 0 where
   -- the log stays
-  Keeps : {from new : EngineState} → Start old call from → shown_call call reply ≡ None
-      → Rest call reply from new → Moves old call reply new
+  Keeps : {pages : List Page} {new : EngineState} → Start old call pages → shown_call call reply ≡ None
+      → Rest call reply (holding old pages) new → Moves old call reply new
   -- a record is appended
-  Adds : {from new : EngineState} (r : Record) → Start old call from → Makes old call r → IsNoGrowth call
-      → IfSome (change_of r) (λ c. from ≡ with_page old c.page) → shown_call call reply ≡ call_of old.log r
-      → Rest call reply (gathering (appended from r) (left_with old.left r)) new → Moves old call reply new
+  Adds : {pages : List Page} {new : EngineState} (r : Record) → Start old call pages → Makes old call r
+      → IsNoGrowth call → IfSome (change_of r) (λ c. pages ≡ (with_page old c.page).resident)
+      → shown_call call reply ≡ call_of old.log r
+      → Rest call reply (gathering (appended (holding old pages) r) (left_with old.left r)) new
+      → Moves old call reply new
   -- the open checkpoint is complete, and becomes the master
   Completes : (passes : CkptEnds old) → ¬ IsBeside call → ¬ LeavesMaster call reply → IsNoGrowth call → shown_call call reply ≡ None
       → Moves old call reply (ckpt_end_effect old passes.ckpt).state

@@ -145,10 +145,10 @@ page_framed s p fit within none framed = by_test (is_resident s.resident p) refl
       | inr many ↦ full absent many
     ]
 
-start_framed : (old from : EngineState) (event : Event) → IsFit old → Start old event from
-    → AreFramed old.frames old.resident → AreFramed old.frames from.resident
-start_framed old from event fit Here framed = framed
-start_framed old from event fit (Fetched p none needs) framed =
+start_framed : (old : EngineState) (pages : List Page) (event : Event) → IsFit old → Start old event pages
+    → AreFramed old.frames old.resident → AreFramed old.frames pages
+start_framed old pages event fit Here framed = framed
+start_framed old pages event fit (Fetched p none needs) framed =
     page_framed old p fit
     (subst (λ (o : Option ℕ). IfSome o (λ q. q < volume_pages old)) needs (needed_within old event fit none))
     (subst (λ (o : Option ℕ). IfSome o (λ q. frame_refusal old q ≡ None)) needs (needed_passes old event none)) framed

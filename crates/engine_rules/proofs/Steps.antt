@@ -14,8 +14,8 @@ use Rattle.engine_rules.specs.EngineState.{EngineState, closed, end_ckpt_record,
 use Rattle.engine_rules.specs.Step.{Step}
 use Rattle.engine_rules.proofs.Forces.{EndsAtRecord, Forces, all_forces}
 use Rattle.engine_rules.proofs.Makes.{IsBeside, Makes, MakesEndChkpt, MakesExtend, left_stays}
-use Rattle.engine_rules.proofs.Moves.{Adds, Completes, Copied, Done, Ends, Extends, Fetched, Forced, Gathered, GoesOn}
-use Rattle.engine_rules.proofs.Moves.{Here, Keeps, LeavesCopies, LeavesMaster, LeavesWritten, Moves, Repairs, RepairsHalf, Rest, Start, Stored}
+use Rattle.engine_rules.proofs.Moves.{Adds, Completes, Copied, Done, Ends, Extends, Forced, Gathered, GoesOn}
+use Rattle.engine_rules.proofs.Moves.{Keeps, LeavesCopies, LeavesMaster, LeavesWritten, Moves, Repairs, RepairsHalf, Rest, Stored}
 use Rattle.engine_rules.proofs.Moves.{Storing, Then, moves}
 use Rattle.engine_rules.proofs.Refusals.{extend_passes}
 
@@ -64,20 +64,12 @@ Leaves old event reply new =
     × (IsBeside event → new.left ≡ old.left) × (LeavesMaster event reply → new.master ≡ old.master)
     × (LeavesCopies event reply → new.copies ≡ old.copies) × (LeavesWritten event reply → new.written ≡ old.written)
 
-from_start : (old from : EngineState) (event : Event) (reply : Result Answer Refusal) (new : EngineState)
-    → Start old event from → Rest event reply from new → RestLeaves event reply (record old { resident = from.resident }) new
-from_start old from event reply new Here rest = rest_leaves event reply from new rest
-from_start old from event reply new (Fetched p none needs) rest = rest_leaves event reply from new rest
-
 moves_leave : (old : EngineState) (event : Event) (reply : Result Answer Refusal) (new : EngineState)
     → Moves old event reply new → Leaves old event reply new
 moves_leave old event reply new (Keeps start unseen rest) =
-    let (frames, pages, log, resident, master, left, copies, written) = from_start old _ event reply new start rest in
-    (frames, pages, left, λ leaves. master, copies, written)
-moves_leave old event reply new (Adds r Here makes stays needs shown rest) =
     let (frames, pages, log, resident, master, left, copies, written) = rest_leaves event reply _ new rest in
-    (frames, pages, λ beside. left beside ∙ left_stays old event r old.left beside makes, λ leaves. master, copies, written)
-moves_leave old event reply new (Adds r (Fetched p none page) makes stays needs shown rest) =
+    (frames, pages, left, λ leaves. master, copies, written)
+moves_leave old event reply new (Adds r start makes stays needs shown rest) =
     let (frames, pages, log, resident, master, left, copies, written) = rest_leaves event reply _ new rest in
     (frames, pages, λ beside. left beside ∙ left_stays old event r old.left beside makes, λ leaves. master, copies, written)
 moves_leave old event reply new (Completes passes ckpt masters stays unseen) =
@@ -105,11 +97,8 @@ longer s r (k, le, e) = (k, omega (arith, length_push s.log r), e)
 
 moves_force : (old : EngineState) (event : Event) (reply : Result Answer Refusal) (new : EngineState) → EndsAtRecord old
     → Moves old event reply new → Forces old new
-moves_force old event reply new ends (Keeps Here unseen rest) = rest_forces event reply _ new ends rest
-moves_force old event reply new ends (Keeps (Fetched p none page) unseen rest) = rest_forces event reply _ new ends rest
-moves_force old event reply new ends (Adds r Here makes stays needs shown rest) =
-    rest_forces event reply _ new (longer old r ends) rest
-moves_force old event reply new ends (Adds r (Fetched p none page) makes stays needs shown rest) =
+moves_force old event reply new ends (Keeps start unseen rest) = rest_forces event reply _ new ends rest
+moves_force old event reply new ends (Adds r start makes stays needs shown rest) =
     rest_forces event reply _ new (longer old r ends) rest
 moves_force old event reply new ends (Completes passes ckpt masters stays unseen) =
     all_forces (closed old passes.ckpt) (longer old (end_ckpt_record old passes.ckpt) ends)
@@ -139,12 +128,9 @@ pub record Grows (old : EngineState) (event : Event) (reply : Result Answer Refu
 moves_log : (old : EngineState) (event : Event) (reply : Result Answer Refusal) (new : EngineState)
     → Moves old event reply new → Stays old event reply new ⊎ Grows old event reply new
 moves_log old event reply new (Keeps start unseen rest) =
-    let same = from_start old _ event reply new start rest in
-    inl (record { pages = same.1; log = same.2; unseen = unseen })
-moves_log old event reply new (Adds r Here makes stays needs shown rest) =
     let same = rest_leaves event reply _ new rest in
-    inr (record { r = r; makes = makes; pages = same.1; log = same.2; shown = shown })
-moves_log old event reply new (Adds r (Fetched p none page) makes stays needs shown rest) =
+    inl (record { pages = same.1; log = same.2; unseen = unseen })
+moves_log old event reply new (Adds r start makes stays needs shown rest) =
     let same = rest_leaves event reply _ new rest in
     inr (record { r = r; makes = makes; pages = same.1; log = same.2; shown = shown })
 moves_log old event reply new (Completes passes ckpt masters stays unseen) = inr (record {
