@@ -102,7 +102,7 @@ copies_of_step old (event.Seal copy) (Ok answer) new step =
     (completes (state_of old.copies copy) ∙ ap completed (sym (entry_is old.copies copy)))
 copies_of_step old (event.DropCopy copy) (Ok answer) new step =
     made new _ step.2 ∙ changes old.copies copy dropped was_dropped refl
-copies_of_step old event reply new step = ap entries ((step_leaves old event reply new step).4 tt)
+copies_of_step old event reply new step = ap entries ((step_leaves old event reply new step).copies tt)
 
 -- the id that a new copy gets
 pub next_id : (old : EngineState) (kind : CopyKind) (id : ℕ)

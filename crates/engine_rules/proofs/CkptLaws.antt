@@ -17,7 +17,7 @@ use Rattle.engine_calls.specs.declared.refusal.Refusal.{Refusal}
 use Rattle.engine_calls.specs.declared.refusal.Refusal.TheVariants.{CkptOpen, GatherLeft, LogFault, LogFull, NoCkpt}
 use Rattle.engine_calls.specs.declared.refusal.Refusal.TheVariants.{OutOfMemory, StoreFault}
 use Rattle.engine_rules.specs.CkptReplies.{VolumeSize, gather_from, new_size, point_from, with_gather, with_point, with_size}
-use Rattle.engine_rules.specs.EngineState.{EngineState, IsFit, IsMasterOf, begin_ckpt_record, effect, end, end_ckpt_record}
+use Rattle.engine_rules.specs.EngineState.{EngineState, IsFit, IsMasterOf, Outcome, begin_ckpt_record, effect, end, end_ckpt_record}
 use Rattle.engine_rules.specs.EngineState.{extend_record, log_of, new_state}
 use Rattle.engine_rules.proofs.Growth.{count_then, growth_failed}
 use Rattle.engine_rules.proofs.Makes.{BeginsNoCkpt, IsBeside, IsNoGrowth, Makes, MakesBeginChkpt, gives_none}
@@ -151,7 +151,7 @@ pub master_of_step : (old : EngineState) (size : VolumeSize) (event : Event) (re
     → Step old event reply new → new.master ≡ with_point size old.master event reply
 master_of_step old size event.CkptEnd (Ok reply) new notes step =
     ended_point old size reply new notes step.0 step.1 step.2
-master_of_step old size event reply new notes step = (step_leaves old event reply new step).3 tt
+master_of_step old size event reply new notes step = (step_leaves old event reply new step).master tt
 
 -- ---- the page count along a run
 
@@ -341,9 +341,6 @@ none_tells s done none is = let some = subst IsSome none is in cc
 some_of : (o : Option Checkpoint) (c : Checkpoint) → o ≡ Some c → IsSome o
 some_of o c is = subst IsSome (sym is) refl
 
-abbrev Told : Bool → EngineState → Answer → Type 0
-Told done s a = Tells s (with_gather done event.CkptGather (Ok a))
-
 gather_tells : (old : EngineState) (done : Bool) (reply : Answer) (new : EngineState) → Tells old done
     → refusal old event.CkptGather ≡ None → reply ≡ (effect old event.CkptGather).answer
     → new ≡ (effect old event.CkptGather).state → Tells new (with_gather done event.CkptGather (Ok reply))
@@ -352,27 +349,20 @@ gather_tells old done reply new tells none given is =
     let c = passes.ckpt in
     let open_now = passes.still_open in
     let before = tells (some_of (open_checkpoint old.log) c open_now) in
+    let told : (o : Outcome) → effect old event.CkptGather ≡ o
+    → Tells o.state (with_gather done event.CkptGather (Ok o.answer))
+    → Tells new (with_gather done event.CkptGather (Ok reply)) =
+    λ o outcome. subst₂ (λ s a. Tells s (with_gather done event.CkptGather (Ok a)))
+    (sym (is ∙ ap (λ x. x.state) outcome)) (sym (given ∙ ap (λ x. x.answer) outcome)) in
     elim (gather_case old c) [
       | TakesPages pages finds ↦
-          let does = takes_pages old c pages open_now finds in
-          subst₂ (Told done) (sym (is ∙ ap (λ o. o.state) does.outcome)) (sym (given ∙ ap (λ o. o.answer) does.outcome))
-          (λ some. sym (ap is_done finds.left) ∙ before)
+          told _ (takes_pages old c pages open_now finds).outcome (λ some. sym (ap is_done finds.left) ∙ before)
       | PassesPages finds ↦
-          let does = passes_pages old c open_now finds in
-          subst₂ (Told done) (sym (is ∙ ap (λ o. o.state) does.outcome)) (sym (given ∙ ap (λ o. o.answer) does.outcome))
-          (λ some. sym (ap is_done finds.left) ∙ before)
+          told _ (passes_pages old c open_now finds).outcome (λ some. sym (ap is_done finds.left) ∙ before)
       | TakesTxn t finds ↦
-          let does = takes_txn old c t open_now finds in
-          subst₂ (Told done) (sym (is ∙ ap (λ o. o.state) does.outcome)) (sym (given ∙ ap (λ o. o.answer) does.outcome))
-          (λ some. sym (ap is_done finds.left) ∙ before)
-      | PassesTxns finds ↦
-          let does = passes_txns old c open_now finds in
-          subst₂ (Told done) (sym (is ∙ ap (λ o. o.state) does.outcome)) (sym (given ∙ ap (λ o. o.answer) does.outcome))
-          (λ some. refl)
-      | WasDone left ↦
-          let does = was_done old c open_now left in
-          subst₂ (Told done) (sym (is ∙ ap (λ o. o.state) does.outcome)) (sym (given ∙ ap (λ o. o.answer) does.outcome))
-          (λ some. refl)
+          told _ (takes_txn old c t open_now finds).outcome (λ some. sym (ap is_done finds.left) ∙ before)
+      | PassesTxns finds ↦ told _ (passes_txns old c open_now finds).outcome (λ some. refl)
+      | WasDone left ↦ told _ (was_done old c open_now left).outcome (λ some. refl)
     ]
 
 beside_tells : (old : EngineState) (event : Event) (reply : Result Answer Refusal) (new : EngineState) (done : Bool)
@@ -383,7 +373,7 @@ beside_tells old event reply new done beside tells step =
       | inr grows ↦
           ap open_checkpoint grows.log ∙ open_stays old event grows.r beside grows.makes
     ] in
-    λ some. ap is_done ((step_leaves old event reply new step).2 beside) ∙ tells (subst IsSome same some)
+    λ some. ap is_done ((step_leaves old event reply new step).left beside) ∙ tells (subst IsSome same some)
 
 told_step : (old : EngineState) (event : Event) (reply : Result Answer Refusal) (new : EngineState) (done : Bool)
     → Tells old done → Step old event reply new → Tells new (with_gather done event reply)
@@ -401,10 +391,9 @@ told_step old event.CkptBegin (Err why) new done tells (inr both) = same_tells o
 told_step old event.CkptGather (Err why) new done tells (inl both) = same_tells old new done tells both.1
 told_step old event.CkptGather (Err why) new done tells (inr both) = same_tells old new done tells
     (failed_gather old why new both.1)
+told_step old event.CkptEnd (Err LogFault) new done tells step = none_tells new done (unforced_leaves old new step).1
 told_step old event.CkptEnd (Err why) new done tells (inl both) = same_tells old new done tells both.1
 told_step old event.CkptEnd (Err OutOfMemory) new done tells (inr both) = same_tells old new done tells both.1.1
-told_step old event.CkptEnd (Err LogFault) new done tells (inr both) = none_tells new done
-    (unforced_at old new both.1).1
 told_step old event.CkptEnd (Err StoreFault) new done tells (inr both) = absurd both.1.0
 told_step old event.CkptEnd (Err why) new done tells (inr both) = absurd both.1
 told_step old event reply new done tells step = beside_tells old event reply new done tt tells step

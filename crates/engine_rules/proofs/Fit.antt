@@ -19,7 +19,7 @@ use Rattle.log_records.specs.Log.{IsPageCount, StandsAt, with_next}
 use Rattle.log_records.specs.PageCount.{given_count}
 use Rattle.log_records.specs.declared.page_change.PageChange.{PageChange}
 use Rattle.log_records.proofs.Public.{change_within}
-use Rattle.log_records.specs.Record.{IsOfTransaction, change_of, own_lsn}
+use Rattle.log_records.specs.Record.{IsOfTransaction, change_of}
 use Rattle.log_rules.specs.Linked.{MayFollow}
 use Rattle.log_rules.specs.Transactions.{owed}
 use Rattle.log_rules.proofs.Public.{linked_none, linked_push}
@@ -41,7 +41,7 @@ use Rattle.engine_calls.specs.EventFits.{EventFits}
 use Rattle.engine_rules.specs.Run.{Run}
 use Rattle.engine_rules.specs.Step.{Step}
 use Rattle.engine_rules.proofs.Beside.{HasMaster, gathered_later, master_forced}
-use Rattle.engine_rules.proofs.CkptFits.{made_gathered, master_now, point_is_master}
+use Rattle.engine_rules.proofs.CkptFits.{forced_within, made_gathered, master_now, point_is_master}
 use Rattle.engine_rules.proofs.Follows.{made_follows}
 use Rattle.engine_rules.proofs.Forces.{Forces, all_forces}
 use Rattle.engine_rules.proofs.Growth.{extended_fit, lsn_of_formatted}
@@ -58,12 +58,6 @@ use Rattle.engine_rules.proofs.Makes.{IsBeside, IsNoGrowth, Makes, MakesEndChkpt
 use Rattle.log_records.proofs.Public.{page_count-same, transaction_gives_none}
 
 -- ---- a record is appended
-
-forced_low : (s : EngineState) (r : Record) → IsFit s → own_lsn r ≡ end s → s.forced_end ≤ own_lsn r
-forced_low s r fit own =
-    let le = fit.forced.1 in
-    let at = fit.forced.2 in
-    omega arith
 
 -- what a record is that may be appended, with so much left of the gather
 record MayCome (s : EngineState) (r : Record) (left : Left) : Type 0 where
@@ -96,7 +90,8 @@ fit_with s r left fit come there =
       stable = record { pages = fit.stable.pages; images = fit.stable.images };
       gathered = come.gathered;
       master = master_now s r fit at.lsn;
-      copied = copied_later (log_of s) r s.forced_end s.stored s.copies at.lsn (forced_low s r fit at.lsn) fit.copied;
+      copied = copied_later (log_of s) r s.forced_end s.stored s.copies at.lsn
+          (omega (arith, forced_within s fit, at.lsn)) fit.copied;
       noted = fit.noted;
     }
 

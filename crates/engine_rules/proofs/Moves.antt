@@ -21,7 +21,7 @@ use Rattle.engine_calls.specs.declared.event.Event.TheVariants as event
 use Rattle.engine_calls.specs.declared.refusal.Refusal.{Refusal}
 use Rattle.engine_calls.specs.declared.refusal.Refusal.TheVariants.{CommitUnsure, LogFault, OutOfMemory, StoreFault}
 use Rattle.engine_rules.specs.Accepted.{shown_call}
-use Rattle.engine_rules.specs.EngineState.{EngineState, IsFit, appended, commit_record, begun_write, ckpt_end_effect, closed}
+use Rattle.engine_rules.specs.EngineState.{EngineState, IsFit, Outcome, appended, commit_record, begun_write, ckpt_end_effect, closed}
 use Rattle.engine_rules.specs.EngineState.{comp_record, effect, end, end_ckpt_record, end_record, ended_write, extend_record}
 use Rattle.engine_rules.specs.EngineState.{forced_through, forced_to, gathering, image_of, log_of, page_needed, page_now}
 use Rattle.engine_rules.specs.EngineState.{taken_back, undid, volume_pages, with_copies, with_page, with_stored}
@@ -188,23 +188,24 @@ gather_moves old answer none =
     let passes = gather_passes old none in
     let c = passes.ckpt in
     let is = passes.still_open in
+    let moved : (o : Outcome) → effect old event.CkptGather ≡ o → Moves old event.CkptGather (Ok answer) o.state
+    → Moves old event.CkptGather (Ok answer) (effect old event.CkptGather).state =
+    λ o outcome. subst (λ (x : Outcome). Moves old event.CkptGather (Ok answer) x.state) (sym outcome) in
     elim (gather_case old c) [
       | TakesPages pages finds ↦
           let does = takes_pages old c pages is finds in
-          subst (Moves old event.CkptGather (Ok answer)) (sym (ap (λ o. o.state) does.outcome))
-          (Adds _ Here (makes old event.CkptGather _ none does.made) tt tt refl Done)
+          moved _ does.outcome (Adds _ Here (makes old event.CkptGather _ none does.made) tt tt refl Done)
       | PassesPages finds ↦
-          subst (Moves old event.CkptGather (Ok answer)) (sym (ap (λ o. o.state) (passes_pages old c is finds).outcome))
+          moved _ (passes_pages old c is finds).outcome
           (Keeps Here refl (one (Gathered txns_left (λ b. b) (λ fit. pages_passed old c fit is finds))))
       | TakesTxn t finds ↦
           let does = takes_txn old c t is finds in
-          subst (Moves old event.CkptGather (Ok answer)) (sym (ap (λ o. o.state) does.outcome))
-          (Adds _ Here (makes old event.CkptGather _ none does.made) tt tt refl Done)
+          moved _ does.outcome (Adds _ Here (makes old event.CkptGather _ none does.made) tt tt refl Done)
       | PassesTxns finds ↦
-          subst (Moves old event.CkptGather (Ok answer)) (sym (ap (λ o. o.state) (passes_txns old c is finds).outcome))
+          moved _ (passes_txns old c is finds).outcome
           (Keeps Here refl (one (Gathered none_left (λ b. b) (λ fit. txns_passed old c fit is finds))))
       | WasDone left ↦
-          subst (Moves old event.CkptGather (Ok answer)) (sym (ap (λ o. o.state) (was_done old c is left).outcome))
+          moved _ (was_done old c is left).outcome
           (Keeps Here refl (one (Gathered none_left (λ b. b)
           (λ fit. subst (AreGathered (log_of old) old.stored) left fit.gathered))))
     ]

@@ -56,7 +56,7 @@ written_of_step old (event.Repair copy page) (Ok answer) new step =
     ap (λ (s : EngineState). s.written) step.2
     ∙ ap (λ (a : Answer). with_write old.written (event.Repair copy page) (Ok a)) (sym step.1)
 written_of_step old (event.Extend count) (Ok answer) new step = ap (λ (s : EngineState). s.written) step.2
-written_of_step old event reply new step = (step_leaves old event reply new step).5 tt
+written_of_step old event reply new step = (step_leaves old event reply new step).written tt
 
 pub written_of_run : (old : EngineState) (events : List Event) (replies : List (Result Answer Refusal))
     (new : EngineState) → Run old events replies new → new.written ≡ written_from old.written events replies

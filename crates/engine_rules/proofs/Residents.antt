@@ -30,7 +30,7 @@ use Rattle.engine_rules.proofs.Runs.{frames_of_run}
 use Rattle.engine_rules.proofs.PageComes.{needed_within, number_is}
 use Rattle.engine_rules.proofs.Refusals.{frame_passes, needed_passes}
 use Rattle.engine_rules.proofs.Moves.{Adds, Completes, Extends, Fetched, Here, Keeps, Moves, Start, moves}
-use Rattle.engine_rules.proofs.Steps.{rest_leaves, step_leaves}
+use Rattle.engine_rules.proofs.Steps.{rest_memory, step_leaves}
 
 pub record AreFramed (frames : ℕ) (pages : List Page) : Type 0 where
   pub few : length pages ≤ frames
@@ -165,10 +165,10 @@ changed frames pages r framed = record {
 moves_framed : (old : EngineState) (event : Event) (reply : Result Answer Refusal) (new : EngineState) → IsFit old
     → Moves old event reply new → AreFramed old.frames old.resident → AreFramed old.frames new.resident
 moves_framed old event reply new fit (Keeps start unseen rest) framed =
-    subst (AreFramed old.frames) (sym (rest_leaves event reply _ new rest).3)
+    subst (AreFramed old.frames) (sym (rest_memory event reply _ new rest))
     (start_framed old _ event fit start framed)
 moves_framed old event reply new fit (Adds r start makes stays needs shown rest) framed =
-    subst (AreFramed old.frames) (sym (rest_leaves event reply _ new rest).3)
+    subst (AreFramed old.frames) (sym (rest_memory event reply _ new rest))
     (changed old.frames _ r (start_framed old _ event fit start framed))
 moves_framed old event reply new fit (Completes passes ckpt masters stays unseen) framed =
     changed old.frames old.resident (end_ckpt_record old passes.ckpt) framed
@@ -178,7 +178,7 @@ moves_framed old event reply new fit (Extends count none grows begins writes sho
 framed_step : (old : EngineState) (event : Event) (reply : Result Answer Refusal) (new : EngineState) → IsFit old
     → Step old event reply new → AreFramed old.frames old.resident → AreFramed new.frames new.resident
 framed_step old event reply new fit step framed =
-    subst (λ n. AreFramed n new.resident) (sym (step_leaves old event reply new step).0)
+    subst (λ n. AreFramed n new.resident) (sym (step_leaves old event reply new step).frames)
     (moves_framed old event reply new fit (moves old event reply new step) framed)
 
 framed_run : (old : EngineState) (events : List Event) (replies : List (Result Answer Refusal)) (new : EngineState)

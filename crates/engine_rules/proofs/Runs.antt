@@ -65,7 +65,7 @@ pub frames_of_run : (old : EngineState) (events : List Event) (replies : List (R
     (new : EngineState) → Run old events replies new → new.frames ≡ old.frames
 frames_of_run old [] [] new is = ap (λ (s : EngineState). s.frames) is
 frames_of_run old (event ∷ events) (reply ∷ replies) new run =
-    frames_of_run run.0 events replies new run.2 ∙ (step_leaves old event reply run.0 run.1).0
+    frames_of_run run.0 events replies new run.2 ∙ (step_leaves old event reply run.0 run.1).frames
 frames_of_run old [] (reply ∷ replies) new run = absurd run
 frames_of_run old (event ∷ events) [] new run = absurd run
 

@@ -36,7 +36,7 @@ written_stays s event reply page image written writing (GoesOn ends) leaves = re
 written_stays s event reply page image written writing (Repairs writes idle) leaves = absurd (writes leaves)
 written_stays s event reply page image written writing (RepairsHalf idle) leaves = refl
 
-pub rest_leaves : (event : Event) (reply : Result Answer Refusal) (s t : EngineState) → Rest event reply s t
+rest_leaves : (event : Event) (reply : Result Answer Refusal) (s t : EngineState) → Rest event reply s t
     → RestLeaves event reply s t
 rest_leaves event reply s t Done = (refl, refl, refl, refl, refl, λ b. refl, λ b. refl, λ b. refl)
 rest_leaves event reply s t (Then (Copied copies changes are) rest) =
@@ -58,24 +58,49 @@ rest_leaves event reply s t (Then (Stored page image lsns writing storing) rest)
     )
 rest_leaves event reply s t (Then other rest) = rest_leaves event reply _ t rest
 
-abbrev pub Leaves : EngineState → Event → Result Answer Refusal → EngineState → Type 0
-Leaves old event reply new =
-    (new.frames ≡ old.frames) × (new.pages ≡ old.pages)
-    × (IsBeside event → new.left ≡ old.left) × (LeavesMaster event reply → new.master ≡ old.master)
-    × (LeavesCopies event reply → new.copies ≡ old.copies) × (LeavesWritten event reply → new.written ≡ old.written)
+pub rest_memory : (event : Event) (reply : Result Answer Refusal) (s t : EngineState) → Rest event reply s t
+    → t.resident ≡ s.resident
+rest_memory event reply s t rest = (rest_leaves event reply s t rest).3
+
+pub record Leaves (old : EngineState) (event : Event) (reply : Result Answer Refusal) (new : EngineState) : Type 0 where
+  pub frames : new.frames ≡ old.frames
+  pub pages : new.pages ≡ old.pages
+  pub left : IsBeside event → new.left ≡ old.left
+  pub master : LeavesMaster event reply → new.master ≡ old.master
+  pub copies : LeavesCopies event reply → new.copies ≡ old.copies
+  pub written : LeavesWritten event reply → new.written ≡ old.written
 
 moves_leave : (old : EngineState) (event : Event) (reply : Result Answer Refusal) (new : EngineState)
     → Moves old event reply new → Leaves old event reply new
 moves_leave old event reply new (Keeps start unseen rest) =
     let (frames, pages, log, resident, master, left, copies, written) = rest_leaves event reply _ new rest in
-    (frames, pages, left, λ leaves. master, copies, written)
+    record { frames = frames; pages = pages; left = left; master = λ leaves. master; copies = copies; written = written }
 moves_leave old event reply new (Adds r start makes stays needs shown rest) =
     let (frames, pages, log, resident, master, left, copies, written) = rest_leaves event reply _ new rest in
-    (frames, pages, λ beside. left beside ∙ left_stays old event r old.left beside makes, λ leaves. master, copies, written)
-moves_leave old event reply new (Completes passes ckpt masters stays unseen) =
-    (refl, refl, λ beside. absurd (ckpt beside), λ leaves. absurd (masters leaves), λ leaves. refl, λ leaves. refl)
-moves_leave old event reply new (Extends count none grows begins writes shown) =
-    (refl, refl, λ beside. refl, λ leaves. refl, λ leaves. refl, λ leaves. absurd (writes leaves))
+    record {
+      frames = frames;
+      pages = pages;
+      left = λ beside. left beside ∙ left_stays old event r old.left beside makes;
+      master = λ leaves. master;
+      copies = copies;
+      written = written;
+    }
+moves_leave old event reply new (Completes passes ckpt masters stays unseen) = record {
+  frames = refl;
+  pages = refl;
+  left = λ beside. absurd (ckpt beside);
+  master = λ leaves. absurd (masters leaves);
+  copies = λ leaves. refl;
+  written = λ leaves. refl;
+}
+moves_leave old event reply new (Extends count none grows begins writes shown) = record {
+  frames = refl;
+  pages = refl;
+  left = λ beside. refl;
+  master = λ leaves. refl;
+  copies = λ leaves. refl;
+  written = λ leaves. absurd (writes leaves);
+}
 
 pub step_leaves : (old : EngineState) (event : Event) (reply : Result Answer Refusal) (new : EngineState)
     → Step old event reply new → Leaves old event reply new
